@@ -1,0 +1,17 @@
+-- Whom a client says that it is: credentials(7).
+use Rattle.std.specs.Prelude.{ℕ, ◌==◌, ◌||◌, Bool, length, nat_lt, if◌then◌else◌, Result, Ok, Err}
+use Rattle.std.specs.List.{list_any}
+use Rattle.krs_types.specs.declared.errno.Errno.{Errno}
+use Rattle.krs_types.specs.declared.errno.Errno.TheVariants.{EINVAL}
+use Rattle.krs_types.specs.declared.caller.Caller.{Caller}
+
+-- the gid is the caller's, or one of its groups
+abbrev pub is_of_group : Caller → ℕ → Bool
+is_of_group caller gid = (gid == caller.gid) || list_any (λ g. g == gid) caller.groups
+
+-- at most 32 groups, and neither the uid nor the gid nor a group is 4294967295: profile, callers
+abbrev pub caller_check : Caller → Result (Unit {0}) Errno
+caller_check c =
+    if nat_lt 32 (length c.groups) || ((c.uid == 4294967295) || ((c.gid == 4294967295) || list_any (λ g. g == 4294967295) c.groups))
+    then Err EINVAL
+    else Ok tt

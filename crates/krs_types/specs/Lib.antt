@@ -1,0 +1,7 @@
+pub mod Errno
+pub mod Refusing
+pub mod Caller
+pub mod Perm
+pub mod KeyId
+pub mod Kind
+pub mod Name

@@ -1,0 +1,54 @@
+ghost use Rattle.std.specs.Prelude.{◌≡◌, ◌≤◌, [], length, vec_len, IfOk};
+
+use std::alloc::{AllocError, Global};
+use std::marker::Model;
+
+/// How many bytes a reply carries at most: profile, reply length.
+pub const MAX_BODY: usize = 262_140;
+
+/// The bytes of a payload that a key keeps, or of an answer: 262140 at most.
+#[derive(Debug, Drop)]
+pub struct Body {
+    bytes: Vec<u8>,
+}
+
+impl Model for Body {
+    ghost use Rattle.std.specs.Prelude.{List, ℕ, ◌≤◌, length};
+
+    ghost Value = { List ℕ };
+
+    ghost view = { λ b. b.bytes.items };
+
+    ghost invariant = { λ b. length b.bytes.items ≤ 262140 };
+}
+
+impl Body {
+    pub fn new(bytes: Vec<u8>) -> Self
+        requires { vec_len bytes ≤ 262140 }
+        ensures { result ≡ bytes.items }
+    {
+        Body { bytes }
+    }
+
+    pub fn as_slice(&self) -> &[u8]
+        ensures value { result.now ≡ self.now }
+        ensures bound { length result.now ≤ 262140 }
+    {
+        self.bytes.as_slice()
+    }
+
+    /// Takes all bytes out.
+    pub fn clear(&mut self)
+        ensures { self.new ≡ [] }
+    {
+        self.bytes.clear();
+    }
+
+    /// An equal value.
+    pub fn copy(&self, alloc: Global) -> Result<Body, AllocError>
+        ensures { IfOk result (λ b. b ≡ self.now) }
+    {
+        let bytes = Vec::from_slice(alloc, self.bytes.as_slice())?;
+        Ok(Body { bytes })
+    }
+}

@@ -1,0 +1,80 @@
+ghost use Rattle.std.specs.Prelude.{◌≡◌, ◌==◌};
+ghost use Rattle.std.specs.List.{list_any};
+
+use crate::Errno;
+use std::marker::Model;
+
+/// How many groups a caller names at most: profile, groups.
+const MAX_GROUPS: usize = 32;
+
+/// Stands for no uid and no gid.
+const NO_ID: u32 = 4_294_967_295;
+
+/// The supplementary groups of a caller.
+#[derive(Debug, Drop)]
+pub struct Groups {
+    gids: Vec<u32>,
+}
+
+impl Model for Groups {
+    ghost use Rattle.std.specs.Prelude.{List, ℕ};
+
+    ghost Value = { List ℕ };
+
+    ghost view = { λ g. g.gids.items };
+}
+
+impl Groups {
+    pub fn new(gids: Vec<u32>) -> Self
+        ensures { result ≡ gids.items }
+    {
+        Groups { gids }
+    }
+
+    pub fn as_slice(&self) -> &[u32]
+        ensures { result.now ≡ self.now }
+    {
+        self.gids.as_slice()
+    }
+}
+
+/// Whom a client says that it is: credentials(7).
+#[derive(Debug, Drop)]
+pub struct Caller {
+    pub uid: u32,
+    pub gid: u32,
+    pub groups: Groups,
+}
+
+impl Caller {
+    ghost use Rattle.krs_types.specs.Caller.{is_of_group, caller_check};
+
+    /// Whether a gid is the caller's, or one of its groups.
+    pub fn is_of_group(&self, gid: u32) -> bool
+        ensures { result ≡ is_of_group self.now gid }
+    {
+        gid == self.gid || has(self.groups.as_slice(), gid)
+    }
+
+    /// EINVAL where it names more than 32 groups, or 4294967295 as its uid, its gid or a group. Profile, callers.
+    pub fn check(&self) -> Result<(), Errno>
+        ensures { result ≡ caller_check self.now }
+    {
+        let groups = self.groups.as_slice();
+        if groups.len() > MAX_GROUPS
+            || self.uid == NO_ID
+            || self.gid == NO_ID
+            || has(groups, NO_ID)
+        {
+            return Err(Errno::EINVAL);
+        }
+        Ok(())
+    }
+}
+
+/// Whether a number is among these.
+fn has(numbers: &[u32], number: u32) -> bool
+    ensures { result ≡ list_any (λ n. n == number) numbers.now }
+{
+    numbers.iter().any(|n| *n == number)
+}

@@ -1,0 +1,29 @@
+//! The values of a key store: serials, rights, masks, types of keys, errors, callers, asks and replies, and note records.
+//! A contract sees each text, payload or description as its list of bytes, a serial and a mask as a number.
+#![tactic(auto)]
+
+mod ask;
+mod blob;
+mod body;
+mod caller;
+mod errno;
+mod event;
+mod key_id;
+mod kind;
+mod name;
+mod note;
+mod perm;
+mod rights;
+
+pub use ask::{Answer, Ask, Op, Reply};
+pub use blob::Blob;
+pub use body::Body;
+pub use caller::{Caller, Groups};
+pub use errno::Errno;
+pub use event::Event;
+pub use key_id::{KeyId, Serial};
+pub use kind::{Kind, check_description};
+pub use name::{Desc, Name};
+pub use note::{FilterEntry, KeyEvent, Record};
+pub use perm::Perm;
+pub use rights::Rights;

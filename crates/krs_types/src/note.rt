@@ -1,0 +1,41 @@
+/// What happened to a watched key: uapi linux/watch_queue.h, enum key_notification_subtype.
+#[derive(Clone, Copy, Debug, PartialEq, Eq)]
+pub enum KeyEvent {
+    Instantiated,
+    Updated,
+    Linked,
+    Unlinked,
+    Cleared,
+    Revoked,
+    Invalidated,
+    Setattr,
+}
+
+/// A record of a watch queue: core-api/watch_queue.rst, "Message structure".
+#[derive(Clone, Copy, Debug, PartialEq, Eq)]
+pub enum Record {
+    /// A key note of a watch: the watched key, and the other key of a link, else 0.
+    Key {
+        event: KeyEvent,
+        watch: u8,
+        key: u32,
+        aux: u32,
+    },
+    /// The watch is gone: its key was dropped, or its removal was asked for.
+    Removal {
+        watch: u8,
+        id: u64,
+    },
+    /// Records were dropped behind the one before.
+    Loss,
+}
+
+/// One line of a queue's filter: uapi linux/watch_queue.h, struct watch_notification_type_filter.
+#[derive(Clone, Copy, Debug, PartialEq, Eq)]
+pub struct FilterEntry {
+    pub note_type: u32,
+    pub info_filter: u32,
+    pub info_mask: u32,
+    /// A bit for each subtype: subtype s is bit s % 32 of word s / 32.
+    pub subtypes: [u32; 8],
+}

@@ -1,0 +1,64 @@
+ghost use Rattle.std.specs.Prelude.{◌≡◌};
+ghost use Rattle.krs_types.specs.Perm.{perm_of, granted};
+
+use crate::{Caller, Errno, Rights};
+use bitflags::Flags;
+use std::marker::Model;
+
+/// The bits that a mask may have: six rights for each of its four bytes.
+const ALL: u32 = 0x3f3f_3f3f;
+
+/// The permission mask of a key: from the top a byte each for its possessor, its user, its group and all others.
+/// keyctl(2), KEYCTL_SETPERM.
+#[derive(Clone, Copy, Debug, PartialEq, Eq)]
+pub struct Perm {
+    mask: u32,
+}
+
+impl Model for Perm {
+    ghost use Rattle.std.specs.Prelude.{ℕ, ◌≡◌};
+    ghost use Rattle.std.specs.Int.RustNames.{bit_and};
+
+    ghost Value = { ℕ };
+
+    ghost view = { λ p. p.mask };
+
+    ghost invariant = { λ p. bit_and p.mask 1061109567 ≡ p.mask };
+
+    ghost inverse = { λ n. record { mask = n } };
+}
+
+impl Perm {
+    /// The mask of these bits: EINVAL where one is outside 3f3f3f3f. Profile, mask bits.
+    pub fn from_u32(mask: u32) -> Result<Perm, Errno>
+        ensures { result ≡ perm_of mask }
+    {
+        if mask & ALL != mask {
+            return Err(Errno::EINVAL);
+        }
+        Ok(Perm { mask })
+    }
+
+    pub fn bits(self) -> u32
+        ensures { result ≡ self }
+    {
+        self.mask
+    }
+
+    /// What a caller may do with a key of this mask, uid and gid: the possessor's byte where it possesses the key, and
+    /// exactly one of the other three. keyrings(7), "Possession" and "Access rights"; profile, group byte alone.
+    pub fn grants(self, caller: &Caller, uid: u32, gid: u32, possessed: bool) -> Rights
+        ensures { result.0 ≡ granted self uid gid caller.now possessed }
+    {
+        let [possessor, user, group, other] = self.mask.to_be_bytes();
+        let class = if uid == caller.uid {
+            user
+        } else if caller.is_of_group(gid) {
+            group
+        } else {
+            other
+        };
+        let own = if possessed { possessor } else { 0 };
+        Rights::from_bits_retain(own | class)
+    }
+}
