@@ -1,0 +1,22 @@
+//! Frames on a connection: the cut of a stream of bytes into asks, and the spelling of asks and replies. All numbers are
+//! little-endian: docs/FORMAT.md. A contract sees a feed as the end of its stream so far, and a text, a payload or a body as
+//! its list of bytes.
+#![tactic(auto)]
+
+mod asks;
+mod encode;
+mod fault;
+mod feed;
+mod fields;
+mod framed;
+mod laws;
+mod replies;
+mod shape;
+
+pub use encode::encode_ask;
+pub use fault::WireFault;
+pub use feed::Feed;
+pub use framed::Framed;
+pub use laws::one_spelling;
+pub use replies::{decode_reply, encode_reply};
+pub use shape::Shape;
