@@ -1,11 +1,10 @@
 -- An ask's frame is cut as that ask, and a frame that is cut is that ask's.
-use Rattle.std.proofs.Common.{◌≡◌, ℕ, zero, suc, ◌+◌, ◌-◌, ◌^◌, ◌<◌, ◌≤◌, Bool, true, false, cond, eqb, ltb, ◌||◌, List, [], ◌∷◌, ◌++◌, length, take, drop, Option, Some, None, Result, Ok, Err, refl, sym, ap, subst, ◌∙◌, append_assoc, arith, inl, inr, ◌⊎◌, length-append}
-use Rattle.std.specs.Option.{option_and_then}
-use Rattle.std.specs.Int.{Width, w16, w32, byte_len, from_le_bytes, to_le_bytes}
+use Rattle.std.proofs.Common.{◌≡◌, ℕ, ◌-◌, ◌^◌, ◌<◌, ◌≤◌, Bool, true, false, cond, eqb, ltb, ◌||◌, List, [], ◌∷◌, ◌++◌, length, take, drop, Option, Some, None, Result, Ok, Err, refl, sym, ap, subst, ◌∙◌, append_assoc, arith, inl, inr, ◌⊎◌, length-append}
+use Rattle.std.specs.Int.{w16, w32, to_le_bytes}
 use Rattle.std.proofs.lemmas.Bool.{ltb-false, le-ltb, eqb-true}
 use Rattle.std.proofs.lemmas.List.{take_at, drop_at, append-nil, take-append-drop, length-take}
 use Rattle.krs_wire.specs.declared.fault.WireFault.{WireFault}
-use Rattle.krs_wire.specs.declared.fault.WireFault.TheVariants.{BadLength, BadVersion, BadOp, BadBody, Memory}
+use Rattle.krs_wire.specs.declared.fault.WireFault.TheVariants.{BadVersion}
 use Rattle.krs_types.specs.declared.ask.Ask.{Ask}
 use Rattle.krs_wire.specs.declared.framed.Framed.{Framed}
 use Rattle.krs_types.specs.declared.ask.Op.{Op}
@@ -13,9 +12,9 @@ use Rattle.krs_types.specs.declared.ask.Op.TheVariants.{Hello, Add, Read, Descri
 use Rattle.krs_wire.specs.Field.{Field, number, sized, both, counted, nothing, whole}
 use Rattle.krs_wire.specs.Faulting.{after, or_bad_body}
 use Rattle.krs_wire.specs.Bodies.{id_field, hello_fields, hello_of, add_fields, add_of, read_of, describe_of, leave_of, number_of_op, body_of_op, FitsOp}
-use Rattle.krs_wire.specs.Frame.{End, rest, bad, Frames, front_of, front_by, front_in, is_bad_length, framed_of, framed_by, op_of, head_fields}
+use Rattle.krs_wire.specs.Frame.{rest, Frames, front_of, front_by, front_in, is_bad_length, framed_of, framed_by, op_of, head_fields}
 use Rattle.krs_wire.specs.Spelling.{framed, ask_text, ask_frame, FitsAsk}
-use Rattle.krs_wire.proofs.FieldLemmas.{IsBytes, IsBytes-take, IsExact, Takes, wide16, wide32, number_exact, signed_exact, sized_exact, both_exact, nothing_exact, whole_again, whole_takes}
+use Rattle.krs_wire.proofs.FieldLemmas.{IsBytes, IsBytes-take, IsExact, wide16, wide32, number_exact, signed_exact, sized_exact, both_exact, nothing_exact, whole_again, whole_takes}
 use Rattle.krs_wire.proofs.CountLemmas.{counted_exact}
 use Rattle.krs_wire.proofs.CutLemmas.{IsFront, in_made, in_parts}
 

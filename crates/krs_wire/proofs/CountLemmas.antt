@@ -1,11 +1,11 @@
 -- So many of a field.
-use Rattle.std.proofs.Common.{◌≡◌, ℕ, zero, suc, ◌+◌, ◌-◌, ◌*◌, ◌^◌, ◌<◌, ◌≤◌, List, [], ◌∷◌, ◌++◌, length, Option, Some, None, Result, Ok, Err, refl, sym, ap, subst, ◌∙◌, append_assoc, arith}
+use Rattle.std.proofs.Common.{◌≡◌, ℕ, zero, suc, ◌+◌, ◌-◌, ◌*◌, ◌^◌, ◌<◌, ◌≤◌, List, [], ◌∷◌, ◌++◌, length, Option, Some, None, Ok, Err, refl, sym, ap, subst, ◌∙◌, append_assoc, arith}
 use Rattle.std.specs.List.{flat_map, AllByRecursion}
 use Rattle.std.specs.Option.{option_and_then}
 use Rattle.std.specs.Int.{w32, to_le_bytes}
 use Rattle.std.proofs.lemmas.List.{append-nil}
 use Rattle.krs_wire.specs.declared.fault.WireFault.{WireFault}
-use Rattle.krs_wire.specs.declared.fault.WireFault.TheVariants.{BadBody, Memory}
+use Rattle.krs_wire.specs.declared.fault.WireFault.TheVariants.{BadBody}
 use Rattle.krs_wire.specs.Field.{Field, number, counted, many_read}
 use Rattle.krs_wire.specs.Faulting.{or_bad_body}
 use Rattle.krs_wire.proofs.FieldLemmas.{IsBytes, IsExact, Takes, wide32, number_exact, bind_some, some_is}

@@ -5,7 +5,7 @@ use Rattle.std.proofs.lemmas.List.{drop-drop, append-nil, take-append-le, drop-a
 use Rattle.std.specs.Int.{w32, from_le_bytes}
 use Rattle.krs_wire.specs.declared.framed.Framed.{Framed}
 use Rattle.krs_wire.specs.declared.fault.WireFault.{WireFault}
-use Rattle.krs_wire.specs.declared.fault.WireFault.TheVariants.{BadLength, BadVersion, BadOp, BadBody, Memory}
+use Rattle.krs_wire.specs.declared.fault.WireFault.TheVariants.{BadLength, Memory}
 use Rattle.krs_wire.specs.Faulting.{after}
 use Rattle.krs_wire.specs.Frame.{End, rest, bad, Frames, front_of, front_by, front_in, is_bad_length, framed_of}
 use Rattle.krs_wire.specs.Feeding.{Feeds, GoesOn, Refuses, end_of}

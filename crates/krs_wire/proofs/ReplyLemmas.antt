@@ -1,11 +1,11 @@
 -- A reply's frame is read as that reply, and what is read is that reply's frame.
-use Rattle.std.proofs.Common.{◌≡◌, ℕ, zero, suc, ◌+◌, ◌-◌, ◌^◌, ◌<◌, ◌≤◌, Bool, true, false, cond, eqb, ltb, ◌||◌, List, [], ◌∷◌, ◌++◌, length, take, drop, Option, Some, None, Result, Ok, Err, refl, sym, ap, subst, ◌∙◌, append_assoc, arith, inl, inr, ◌⊎◌, length-append}
+use Rattle.std.proofs.Common.{◌≡◌, ℕ, ◌+◌, ◌^◌, ◌<◌, ◌≤◌, Bool, true, false, cond, eqb, ltb, ◌||◌, List, [], ◌∷◌, ◌++◌, length, take, drop, Option, Some, None, Result, Ok, Err, refl, sym, ap, subst, ◌∙◌, append_assoc, arith, inl, inr, ◌⊎◌, length-append}
 use Rattle.std.specs.Prelude.{IfOk, IfSome, find}
-use Rattle.std.specs.Int.{Width, w16, w32, from_le_bytes, to_le_bytes}
+use Rattle.std.specs.Int.{w32, to_le_bytes}
 use Rattle.std.proofs.lemmas.Bool.{ltb-false, le-ltb, eqb-true}
-use Rattle.std.proofs.lemmas.List.{take_at, drop_at, append-nil, take-append-drop, length-take}
+use Rattle.std.proofs.lemmas.List.{take_at, take-append-drop, length-take}
 use Rattle.krs_wire.specs.declared.fault.WireFault.{WireFault}
-use Rattle.krs_wire.specs.declared.fault.WireFault.TheVariants.{BadLength, BadBody}
+use Rattle.krs_wire.specs.declared.fault.WireFault.TheVariants.{BadLength}
 use Rattle.krs_types.specs.declared.ask.Answer.{Answer}
 use Rattle.krs_types.specs.declared.ask.Answer.TheVariants.{Nothing, Number, Bytes}
 use Rattle.krs_types.specs.declared.errno.Errno.{Errno}
@@ -16,7 +16,7 @@ use Rattle.krs_wire.specs.declared.shape.Shape.TheVariants as shapes
 use Rattle.krs_wire.specs.Field.{number, nothing, whole}
 use Rattle.krs_wire.specs.Faulting.{or_bad_body, after, Gives}
 use Rattle.krs_wire.specs.Reply.{status_of, body_of, reply_frame, errno_of, HasShape, accepted, refused, answer_of, error_of, reply_by, reply_in, reply_front, is_bad_reply_length}
-use Rattle.krs_wire.proofs.FieldLemmas.{IsBytes, IsBytes-take, IsExact, Takes, wide32, number_exact, whole_again, whole_takes, nothing_exact}
+use Rattle.krs_wire.proofs.FieldLemmas.{IsBytes, IsBytes-take, wide32, number_exact, whole_again, whole_takes, nothing_exact}
 
 -- each error is found by its number
 error_again : (shape : Shape) (e : Errno) → reply_by shape (Some (number_of e, [])) ≡ Ok (refused e)

@@ -1,4 +1,5 @@
--- Fields of frames: how each is spelled and how it is read. What fits is read again as it was spelled. docs/FORMAT.md, "Frames".
+-- Fields of frames: how each is spelled and how it is read. What fits is read again as it was spelled. docs/FORMAT.md,
+-- "Fields of bodies".
 use Rattle.std.specs.Prelude.{ℕ, ℤ, FitsSigned, zero, suc, ◌<◌, ◌^◌, ◌==◌, List, [], ◌∷◌, ◌++◌, length, take, drop, Option, Some, None, nat_lt, if◌then◌else◌}
 use Rattle.std.specs.Option.{option_and_then}
 use Rattle.std.specs.List.{flat_map, AllByRecursion}

@@ -1,5 +1,5 @@
--- The cut of a stream of bytes into frames: docs/FORMAT.md, "Frames"; profile, frame faults. It speaks of the whole stream and
--- knows no pieces.
+-- The cut of a stream of bytes into frames: docs/FORMAT.md, "What a stream is cut into". It speaks of the whole stream and
+-- knows no pieces. The faults come in the order of docs/FORMAT.md, "Faults of an ask's frame".
 use Rattle.std.specs.Prelude.{◌≡◌, Bool, ℕ, ◌==◌, ◌||◌, List, [], ◌∷◌, length, take, drop, Option, Some, None, Result, Ok, Err, nat_lt, if◌then◌else◌}
 use Rattle.std.specs.Int.{w16, w32}
 use Rattle.krs_types.specs.declared.ask.Op.{Op}

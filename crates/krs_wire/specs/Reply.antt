@@ -1,5 +1,5 @@
--- The frame of a reply: docs/FORMAT.md, "Frames".
-use Rattle.std.specs.Prelude.{Bool, ℕ, ◌+◌, ◌<◌, ◌≤◌, ◌^◌, ◌==◌, ◌||◌, List, [], ◌++◌, length, take, nat_lt, find, if◌then◌else◌, Option, Some, None, Result, Ok, Err}
+-- The frame of a reply: docs/FORMAT.md, "A reply's frame", "Faults of a reply".
+use Rattle.std.specs.Prelude.{◌≡◌, Bool, ℕ, ◌+◌, ◌<◌, ◌≤◌, ◌^◌, ◌==◌, ◌||◌, List, [], ◌++◌, length, take, nat_lt, find, if◌then◌else◌, Option, Some, None, Result, Ok, Err}
 use Rattle.std.specs.Int.{w32, to_le_bytes}
 use Rattle.krs_types.specs.declared.ask.Answer.{Answer}
 use Rattle.krs_types.specs.declared.ask.Answer.TheVariants.{Nothing, Number, Bytes}
@@ -12,7 +12,7 @@ use Rattle.krs_wire.specs.declared.fault.WireFault.TheVariants.{BadLength, BadBo
 use Rattle.krs_wire.specs.declared.shape.Shape.{Shape}
 use Rattle.krs_wire.specs.declared.shape.Shape.TheVariants as shapes
 use Rattle.krs_wire.specs.Field.{number, nothing, whole}
-use Rattle.krs_wire.specs.Faulting.{or_bad_body, after}
+use Rattle.krs_wire.specs.Faulting.{or_bad_body, after, Gives}
 
 -- 0, or the number of the error
 abbrev pub status_of : Result Answer Errno → ℕ
@@ -26,11 +26,14 @@ body_of (Ok (Number n)) = to_le_bytes w32 n
 body_of (Ok (Bytes bytes)) = bytes
 body_of (Err e) = []
 
--- length, status, body
-abbrev pub reply_frame : Result Answer Errno → List ℕ
-reply_frame reply = to_le_bytes w32 (4 + length (body_of reply)) ++ to_le_bytes w32 (status_of reply) ++ body_of reply
+-- length, status, body; the length counts the bytes that follow it
+abbrev pub frame_of : ℕ → List ℕ → List ℕ
+frame_of status body = to_le_bytes w32 (4 + length body) ++ to_le_bytes w32 status ++ body
 
--- what kind of answer an operation gets: docs/FORMAT.md, "Asks"
+abbrev pub reply_frame : Result Answer Errno → List ℕ
+reply_frame reply = frame_of (status_of reply) (body_of reply)
+
+-- what kind of answer an operation gets: docs/FORMAT.md, "The asks"
 abbrev pub shape_of : Op → Shape
 shape_of (Describe id) = shapes.Bytes
 shape_of (Read id) = shapes.Bytes
@@ -57,7 +60,7 @@ accepted answer = Ok answer
 abbrev pub refused : Errno → Result Answer Errno
 refused e = Err e
 
--- the error of a status, where it has one
+-- the error of a status, where it has one: profile, statuses of replies
 abbrev pub errno_of : ℕ → Option Errno
 errno_of status = find (λ e. number_of e == status) errnos
 
@@ -91,3 +94,12 @@ reply_in shape (Some (n, bytes)) =
 -- the reply at the front of the bytes and how many bytes it takes, or its fault; nothing where it isn't whole
 abbrev pub reply_front : Shape → List ℕ → Result (Option (Result Answer Errno × ℕ)) WireFault
 reply_front shape bytes = reply_in shape ((number w32).read bytes)
+
+-- the first bytes, so many, are the frame of this reply, which is an error or an answer of the kind
+abbrev pub IsAtFront : Shape → List ℕ → Result Answer Errno × ℕ → Type 0
+IsAtFront shape bytes found = (take found.1 bytes ≡ reply_frame found.0) × HasShape shape found.0
+
+-- where the bytes are the frame of such a reply and more, that reply is the answer, unless memory ran out
+abbrev pub Finds : Shape → List ℕ → Result Answer Errno → List ℕ → Result (Option (Result Answer Errno × ℕ)) WireFault → Type 0
+Finds shape bytes reply more result =
+    HasShape shape reply → bytes ≡ reply_frame reply ++ more → Gives (λ found. found) result (Ok (Some (reply, length (reply_frame reply))))

@@ -1,7 +1,9 @@
--- The frame of an ask: docs/FORMAT.md, "Frames".
-use Rattle.std.specs.Prelude.{◌≡◌, ℕ, ◌<◌, ◌≤◌, ◌^◌, List, ◌++◌, length, Some, Ok, slice_index}
+-- The frame of an ask: docs/FORMAT.md, "An ask's frame".
+use Rattle.std.specs.Prelude.{◌≡◌, ◌≢◌, ℕ, ◌<◌, ◌≤◌, ◌^◌, List, ◌++◌, length, Some, Ok, slice_index}
 use Rattle.std.specs.Int.{w32}
 use Rattle.krs_types.specs.declared.ask.Ask.{Ask}
+use Rattle.krs_wire.specs.declared.fault.WireFault.{WireFault}
+use Rattle.krs_wire.specs.declared.fault.WireFault.TheVariants.{BadLength, Memory}
 use Rattle.krs_wire.specs.declared.framed.Framed.{Framed}
 use Rattle.krs_wire.specs.Field.{sized}
 use Rattle.krs_wire.specs.Bodies.{number_of_op, body_of_op, FitsOp}
@@ -16,6 +18,10 @@ ask_text ask = head_fields.spell (1, (number_of_op ask.op, ask.context)) ++ body
 
 abbrev pub ask_frame : Ask → List ℕ
 ask_frame ask = (sized w32).spell (ask_text ask)
+
+-- a refusal for another cause than memory is BadLength, of at least so many bytes
+abbrev pub IsTooLong : ℕ → List ℕ → WireFault → Type 0
+IsTooLong least bytes fault = fault ≢ Memory → (fault ≡ BadLength) × (least ≤ length bytes)
 
 -- what has a frame
 pub record FitsAsk (ask : Ask) : Type 0 where

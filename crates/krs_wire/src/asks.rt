@@ -5,7 +5,7 @@ ghost use Rattle.krs_wire.specs.Faulting.{Gives, or_bad_body};
 ghost use Rattle.krs_wire.specs.Bodies.{add_fields, add_of, describe_of, hello_fields, hello_of, id_field, read_of};
 ghost use Rattle.krs_wire.specs.Frame.{op_of, framed_of, front_of};
 
-use crate::fields::{blob_at, ended, groups_at, i32_at, text_at, u16_at, u32_at};
+use crate::fields::{blob_at, ended, groups_at, id_at, text_at, u16_at, u32_at};
 use crate::{Framed, WireFault};
 use byteorder::{ByteOrder, LittleEndian};
 use krs_types::{Ask, Caller, Op};
@@ -29,7 +29,7 @@ fn add_at(alloc: Global, body: &[u8]) -> Result<Op, WireFault>
     let (type_name, rest) = text_at(alloc, body)?;
     let (desc, rest) = text_at(alloc, rest)?;
     let (payload, rest) = blob_at(alloc, rest)?;
-    let (ring, rest) = i32_at(rest)?;
+    let (ring, rest) = id_at(rest)?;
     let op = Op::Add {
         type_name,
         desc,
@@ -42,14 +42,14 @@ fn add_at(alloc: Global, body: &[u8]) -> Result<Op, WireFault>
 fn read_at(body: &[u8]) -> Result<Op, WireFault>
     ensures { Gives (λ op. op) result (or_bad_body (whole id_field read_of body.now)) }
 {
-    let (id, rest) = i32_at(body)?;
+    let (id, rest) = id_at(body)?;
     ended(Op::Read { id }, rest)
 }
 
 fn describe_at(body: &[u8]) -> Result<Op, WireFault>
     ensures { Gives (λ op. op) result (or_bad_body (whole id_field describe_of body.now)) }
 {
-    let (id, rest) = i32_at(body)?;
+    let (id, rest) = id_at(body)?;
     ended(Op::Describe { id }, rest)
 }
 
@@ -88,7 +88,8 @@ fn framed_at(alloc: Global, frame: &[u8]) -> Result<Framed, WireFault>
 pub(crate) fn front_at(alloc: Global, bytes: &[u8]) -> Result<Option<(Framed, &[u8])>, WireFault>
     ensures exact { Gives (λ o. option_map (λ x. (x.0, x.1.now)) o) result (front_of bytes.now) }
     ensures shorter { IfOk result (λ o. IfSome o (λ x. length x.1.now < length bytes.now)) }
-    ensures part { IfOk result (λ o. IfSome o (λ x. x.1.now ≡ drop (length bytes.now - length x.1.now) bytes.now)) }
+    ensures part { IfOk result (λ o. IfSome o
+        (λ x. x.1.now ≡ drop (length bytes.now - length x.1.now) bytes.now)) }
 {
     if bytes.len() < 4 {
         return Ok(None);

@@ -1,9 +1,8 @@
-ghost use Rattle.std.specs.Prelude.{◌≡◌, ◌≢◌, ◌≤◌, ◌<◌, ◌^◌, ◌++◌, [], ◌∷◌, length, drop, vec_len, IfOk, IfErr, OnOk};
-ghost use Rattle.std.specs.Int.{w16, w32, to_le_bytes, cast_unsigned};
-ghost use Rattle.krs_wire.specs.Field.{sized, counted, number};
-ghost use Rattle.krs_wire.specs.Bodies.{number_of_op, body_of_op, FitsOp, hello_fields, add_fields};
+ghost use Rattle.std.specs.Prelude.{◌≡◌, ◌≤◌, ◌<◌, ◌^◌, ◌++◌, [], ◌∷◌, length, drop, vec_len, IfOk, IfErr, OnOk};
+ghost use Rattle.std.specs.Int.{w16, w32, to_le_bytes};
+ghost use Rattle.krs_wire.specs.Bodies.{number_of_op, body_of_op, FitsOp, id_field, text_field, blob_field, groups_field, hello_fields, hello_parts, add_fields, add_parts};
 ghost use Rattle.krs_wire.specs.Frame.{Frames, rest};
-ghost use Rattle.krs_wire.specs.Spelling.{framed, ask_text, ask_frame};
+ghost use Rattle.krs_wire.specs.Spelling.{framed, ask_text, ask_frame, IsTooLong};
 
 use crate::WireFault;
 use byteorder::{ByteOrder, LittleEndian};
@@ -42,16 +41,16 @@ fn put_u32(out: &mut Vec<u8>, number: u32) -> Result<(), AllocError>
     out.extend_from_slice(&bytes)
 }
 
-fn put_i32(out: &mut Vec<u8>, number: i32) -> Result<(), AllocError>
-    ensures { OnOk result (out.new.items ≡ out.old.items ++ to_le_bytes w32 (cast_unsigned w32 number)) }
+fn put_id(out: &mut Vec<u8>, id: i32) -> Result<(), AllocError>
+    ensures { OnOk result (out.new.items ≡ out.old.items ++ id_field.spell id) }
 {
-    put_u32(out, number.cast_unsigned())
+    put_u32(out, id.cast_unsigned())
 }
 
 fn put_text(out: &mut Vec<u8>, text: &Blob) -> Result<(), WireFault>
-    ensures ok { OnOk result (out.new.items ≡ out.old.items ++ (sized w16).spell text.now) }
+    ensures ok { OnOk result (out.new.items ≡ out.old.items ++ text_field.spell text.now) }
     ensures fits { OnOk result (length text.now < 65536) }
-    ensures long { IfErr result (λ e. e ≢ WireFault.Memory → (e ≡ WireFault.BadLength) × (65536 ≤ length text.now)) }
+    ensures long { IfErr result (IsTooLong 65536 text.now) }
 {
     let bytes = text.as_slice();
     if bytes.len() > 65535 {
@@ -63,9 +62,9 @@ fn put_text(out: &mut Vec<u8>, text: &Blob) -> Result<(), WireFault>
 }
 
 fn put_blob(out: &mut Vec<u8>, blob: &Blob) -> Result<(), WireFault>
-    ensures ok { OnOk result (out.new.items ≡ out.old.items ++ (sized w32).spell blob.now) }
+    ensures ok { OnOk result (out.new.items ≡ out.old.items ++ blob_field.spell blob.now) }
     ensures fits { OnOk result (length blob.now ≤ 65536) }
-    ensures long { IfErr result (λ e. e ≢ WireFault.Memory → (e ≡ WireFault.BadLength) × (65536 < length blob.now)) }
+    ensures long { IfErr result (IsTooLong 65537 blob.now) }
 {
     let bytes = blob.as_slice();
     if bytes.len() > MAX_FRAME {
@@ -77,9 +76,9 @@ fn put_blob(out: &mut Vec<u8>, blob: &Blob) -> Result<(), WireFault>
 }
 
 fn put_groups(out: &mut Vec<u8>, groups: &Groups) -> Result<(), WireFault>
-    ensures ok { OnOk result (out.new.items ≡ out.old.items ++ (counted (number w32)).spell groups.now) }
-    ensures fits { OnOk result ((counted (number w32)).Fits groups.now) }
-    ensures long { IfErr result (λ e. e ≢ WireFault.Memory → (e ≡ WireFault.BadLength) × (65536 ≤ length ((counted (number w32)).spell groups.now))) }
+    ensures ok { OnOk result (out.new.items ≡ out.old.items ++ groups_field.spell groups.now) }
+    ensures fits { OnOk result (groups_field.Fits groups.now) }
+    ensures long { IfErr result (IsTooLong 65536 (groups_field.spell groups.now)) }
 {
     let numbers = groups.as_slice();
     if numbers.len() > MAX_FRAME {
@@ -93,9 +92,10 @@ fn put_groups(out: &mut Vec<u8>, groups: &Groups) -> Result<(), WireFault>
 }
 
 fn put_hello(out: &mut Vec<u8>, caller: &Caller) -> Result<(), WireFault>
-    ensures ok { OnOk result (out.new.items ≡ out.old.items ++ hello_fields.spell (caller.now.uid, (caller.now.gid, caller.now.groups))) }
-    ensures fits { OnOk result (hello_fields.Fits (caller.now.uid, (caller.now.gid, caller.now.groups))) }
-    ensures long { IfErr result (λ e. e ≢ WireFault.Memory → (e ≡ WireFault.BadLength) × (65536 ≤ length (hello_fields.spell (caller.now.uid, (caller.now.gid, caller.now.groups))))) }
+    ensures ok { OnOk result
+        (out.new.items ≡ out.old.items ++ hello_fields.spell (hello_parts caller.now)) }
+    ensures fits { OnOk result (hello_fields.Fits (hello_parts caller.now)) }
+    ensures long { IfErr result (IsTooLong 65536 (hello_fields.spell (hello_parts caller.now))) }
 {
     put_u32(out, caller.uid)?;
     put_u32(out, caller.gid)?;
@@ -109,25 +109,27 @@ fn put_add(
     payload: &Blob,
     ring: i32,
 ) -> Result<(), WireFault>
-    ensures ok { OnOk result (out.new.items ≡ out.old.items ++ add_fields.spell (type_name.now, (desc.now, (payload.now, ring)))) }
-    ensures fits { OnOk result (add_fields.Fits (type_name.now, (desc.now, (payload.now, ring)))) }
-    ensures long { IfErr result (λ e. e ≢ WireFault.Memory → (e ≡ WireFault.BadLength) × (65536 ≤ length (add_fields.spell (type_name.now, (desc.now, (payload.now, ring)))))) }
+    ensures ok { OnOk result
+        (out.new.items ≡ out.old.items ++ add_fields.spell (add_parts type_name.now desc.now payload.now ring)) }
+    ensures fits { OnOk result (add_fields.Fits (add_parts type_name.now desc.now payload.now ring)) }
+    ensures long { IfErr result
+        (IsTooLong 65536 (add_fields.spell (add_parts type_name.now desc.now payload.now ring))) }
 {
     put_text(out, type_name)?;
     put_text(out, desc)?;
     put_blob(out, payload)?;
-    put_i32(out, ring)?;
+    put_id(out, ring)?;
     Ok(())
 }
 
 fn put_body(out: &mut Vec<u8>, op: &Op) -> Result<(), WireFault>
     ensures ok { OnOk result (out.new.items ≡ out.old.items ++ body_of_op op.now) }
     ensures fits { OnOk result (FitsOp op.now) }
-    ensures long { IfErr result (λ e. e ≢ WireFault.Memory → (e ≡ WireFault.BadLength) × (65536 ≤ length (body_of_op op.now))) }
+    ensures long { IfErr result (IsTooLong 65536 (body_of_op op.now)) }
 {
     match op {
-        Op::Describe { id } => put_i32(out, *id)?,
-        Op::Read { id } => put_i32(out, *id)?,
+        Op::Describe { id } => put_id(out, *id)?,
+        Op::Read { id } => put_id(out, *id)?,
         Op::Hello(caller) => put_hello(out, caller)?,
         Op::Leave => (),
         Op::Add {
@@ -145,7 +147,7 @@ fn put_ask(out: &mut Vec<u8>, ask: &Ask) -> Result<(), WireFault>
     ensures ok { OnOk result (out.new.items ≡ out.old.items ++ ask_text ask.now) }
     ensures context { OnOk result (ask.now.context < 256 ^ 4) }
     ensures fits { OnOk result (FitsOp ask.now.op) }
-    ensures long { IfErr result (λ e. e ≢ WireFault.Memory → (e ≡ WireFault.BadLength) × (65536 < length (ask_text ask.now))) }
+    ensures long { IfErr result (IsTooLong 65537 (ask_text ask.now)) }
 {
     put_u16(out, 1)?;
     put_u16(out, operation_number(&ask.op))?;
@@ -166,7 +168,7 @@ pub fn encode_ask(alloc: Global, ask: &Ask) -> Result<Vec<u8>, WireFault>
     ensures frame { IfOk result (λ v. v.items ≡ ask_frame ask.now) }
     ensures cut { IfOk result (λ v. Frames v.items (framed ask.now ∷ []) (rest [])) }
     ensures fits { OnOk result (length (ask_text ask.now) ≤ 65536) }
-    ensures long { IfErr result (λ e. e ≢ WireFault.Memory → (e ≡ WireFault.BadLength) × (65536 < length (ask_text ask.now))) }
+    ensures long { IfErr result (IsTooLong 65537 (ask_text ask.now)) }
 {
     // The length is written once the rest is there.
     let mut out = Vec::new(alloc);

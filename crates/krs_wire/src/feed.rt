@@ -34,7 +34,8 @@ struct Cut {
 }
 
 fn cut_stream(alloc: Global, bytes: &[u8]) -> Result<Cut, WireFault>
-    ensures frames { IfOk result (λ c. Frames bytes.now c.frames.items (end_of c.fault (drop c.taken bytes.now))) }
+    ensures frames { IfOk result
+        (λ c. Frames bytes.now c.frames.items (end_of c.fault (drop c.taken bytes.now))) }
     ensures within { IfOk result (λ c. c.taken ≤ length bytes.now) }
     ensures memory { IfErr result (λ fault. fault ≡ WireFault.Memory) }
     ensures no_memory { IfOk result (λ c. c.fault ≢ Some WireFault.Memory) }
@@ -83,7 +84,8 @@ fn take_in(
     left: &mut Vec<u8>,
     piece: &[u8],
 ) -> Result<(Vec<Framed>, Option<WireFault>), WireFault>
-    ensures frames { IfOk result (λ x. Frames (left.old.items ++ piece.now) x.0.items (end_of x.1 left.new.items)) }
+    ensures frames { IfOk result
+        (λ x. Frames (left.old.items ++ piece.now) x.0.items (end_of x.1 left.new.items)) }
     ensures memory { IfErr result (λ fault. fault ≡ WireFault.Memory) }
     ensures no_memory { IfOk result (λ x. x.1 ≢ Some WireFault.Memory) }
 {
@@ -113,9 +115,9 @@ impl Feed {
         self.fault
     }
 
-    /// Takes the next piece of the stream, and answers the frames that are whole now. A fault behind them shows in `fault`,
-    /// and is what every later piece is answered with. A piece that is refused for want of memory is not taken, and the feed
-    /// has failed.
+    /// Takes the next piece of the stream, and answers the frames that are whole now. A fault behind them shows in
+    /// `fault`, and is what every later piece is answered with. A piece that is refused for want of memory is not taken,
+    /// and the feed has failed.
     pub fn feed(&mut self, piece: &[u8]) -> Result<Vec<Framed>, WireFault>
         ensures frames { IfOk result (λ frames. Feeds self.old piece.now frames.items self.new) }
         ensures refused { IfErr result (Refuses self.old piece.now) }

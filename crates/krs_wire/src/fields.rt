@@ -1,7 +1,8 @@
 // The fields of frames, each read from the front of the bytes, which the reader answers with what follows it.
 ghost use Rattle.std.specs.Prelude.{◌≡◌, ◌==◌, length, if◌then◌else◌};
 ghost use Rattle.std.specs.Int.{w16, w32};
-ghost use Rattle.krs_wire.specs.Field.{number, signed, sized, counted, many_read};
+ghost use Rattle.krs_wire.specs.Bodies.{id_field, text_field, blob_field, groups_field};
+ghost use Rattle.krs_wire.specs.Field.{number, many_read};
 ghost use Rattle.krs_wire.specs.Faulting.{Gives, or_bad_body};
 
 use crate::WireFault;
@@ -29,16 +30,15 @@ pub(crate) fn u32_at(bytes: &[u8]) -> Result<(u32, &[u8]), WireFault>
     Ok((LittleEndian::read_u32(front), rest))
 }
 
-pub(crate) fn i32_at(bytes: &[u8]) -> Result<(i32, &[u8]), WireFault>
-    ensures { Gives (λ x. (x.0, x.1.now)) result (or_bad_body ((signed w32).read bytes.now)) }
+pub(crate) fn id_at(bytes: &[u8]) -> Result<(i32, &[u8]), WireFault>
+    ensures { Gives (λ x. (x.0, x.1.now)) result (or_bad_body (id_field.read bytes.now)) }
 {
     let (number, rest) = u32_at(bytes)?;
     Ok((number.cast_signed(), rest))
 }
 
-/// A text: a length of 16 bits, and that many bytes.
 pub(crate) fn text_at(alloc: Global, bytes: &[u8]) -> Result<(Blob, &[u8]), WireFault>
-    ensures { Gives (λ x. (x.0, x.1.now)) result (or_bad_body ((sized w16).read bytes.now)) }
+    ensures { Gives (λ x. (x.0, x.1.now)) result (or_bad_body (text_field.read bytes.now)) }
 {
     let (len, rest) = u16_at(bytes)?;
     let len = len as usize;
@@ -49,9 +49,8 @@ pub(crate) fn text_at(alloc: Global, bytes: &[u8]) -> Result<(Blob, &[u8]), Wire
     Ok((Blob::from_slice(alloc, text)?, rest))
 }
 
-/// A blob: a length of 32 bits, and that many bytes.
 pub(crate) fn blob_at(alloc: Global, bytes: &[u8]) -> Result<(Blob, &[u8]), WireFault>
-    ensures { Gives (λ x. (x.0, x.1.now)) result (or_bad_body ((sized w32).read bytes.now)) }
+    ensures { Gives (λ x. (x.0, x.1.now)) result (or_bad_body (blob_field.read bytes.now)) }
 {
     let (len, rest) = u32_at(bytes)?;
     let len = len as usize;
@@ -63,7 +62,8 @@ pub(crate) fn blob_at(alloc: Global, bytes: &[u8]) -> Result<(Blob, &[u8]), Wire
 }
 
 fn numbers_at(alloc: Global, count: u32, bytes: &[u8]) -> Result<(Vec<u32>, &[u8]), WireFault>
-    ensures { Gives (λ x. (x.0.items, x.1.now)) result (or_bad_body (many_read (number w32) count bytes.now)) }
+    ensures { Gives (λ x. (x.0.items, x.1.now)) result
+        (or_bad_body (many_read (number w32) count bytes.now)) }
 {
     let mut numbers = Vec::new(alloc);
     let mut rest = bytes;
@@ -79,9 +79,8 @@ fn numbers_at(alloc: Global, count: u32, bytes: &[u8]) -> Result<(Vec<u32>, &[u8
     Ok((numbers, rest))
 }
 
-/// Groups: a count of 32 bits, and that many numbers.
 pub(crate) fn groups_at(alloc: Global, bytes: &[u8]) -> Result<(Groups, &[u8]), WireFault>
-    ensures { Gives (λ x. (x.0, x.1.now)) result (or_bad_body ((counted (number w32)).read bytes.now)) }
+    ensures { Gives (λ x. (x.0, x.1.now)) result (or_bad_body (groups_field.read bytes.now)) }
 {
     let (count, rest) = u32_at(bytes)?;
     let (numbers, rest) = numbers_at(alloc, count, rest)?;

@@ -1,6 +1,5 @@
-//! Frames on a connection: the cut of a stream of bytes into asks, and the spelling of asks and replies. All numbers are
-//! little-endian: docs/FORMAT.md. A contract sees a feed as the end of its stream so far, and a text, a payload or a body as
-//! its list of bytes.
+//! Frames on a connection: the cut of a stream of bytes into asks, and the spelling of asks and replies. docs/FORMAT.md,
+//! "Frames"; profile, own frames. A contract sees a feed as the end of its stream so far.
 #![tactic(auto)]
 
 mod asks;
@@ -20,3 +19,6 @@ pub use framed::Framed;
 pub use laws::one_spelling;
 pub use replies::{decode_reply, encode_reply};
 pub use shape::Shape;
+
+#[cfg(test)]
+mod tests;

@@ -1,10 +1,10 @@
-ghost use Rattle.std.specs.Prelude.{◌≡◌, ◌≤◌, ◌+◌, ◌++◌, ℕ, List, Result, IfOk, IfErr, IfSome, take, length};
-ghost use Rattle.std.specs.Int.{w32, to_le_bytes};
+ghost use Rattle.std.specs.Prelude.{◌≡◌, ◌≤◌, ℕ, List, Result, IfOk, IfErr, IfSome, length};
+ghost use Rattle.std.specs.Int.{w32};
 ghost use Rattle.krs_types.specs.declared.ask.Answer.{Answer};
 ghost use Rattle.krs_types.specs.declared.errno.Errno.{Errno};
 ghost use Rattle.krs_wire.specs.Faulting.{Gives};
 ghost use Rattle.krs_wire.specs.Field.{number};
-ghost use Rattle.krs_wire.specs.Reply.{answer_of, reply_by, reply_front, reply_frame, HasShape, shape_of};
+ghost use Rattle.krs_wire.specs.Reply.{answer_of, frame_of, reply_by, reply_front, reply_frame, shape_of, Finds, IsAtFront};
 
 use crate::fields::{ended, u32_at};
 use crate::{Shape, WireFault};
@@ -12,9 +12,9 @@ use byteorder::{ByteOrder, LittleEndian};
 use krs_types::{Answer, Body, Errno, Op, Reply};
 use std::alloc::Global;
 
-fn frame_of(alloc: Global, status: u32, body: &[u8]) -> Result<Vec<u8>, WireFault>
+fn encode_frame(alloc: Global, status: u32, body: &[u8]) -> Result<Vec<u8>, WireFault>
     requires { length body.now ≤ 262140 }
-    ensures frame { IfOk result (λ v. v.items ≡ to_le_bytes w32 (4 + length body.now) ++ to_le_bytes w32 status ++ body.now) }
+    ensures frame { IfOk result (λ v. v.items ≡ frame_of status body.now) }
     ensures memory { IfErr result (λ fault. fault ≡ WireFault.Memory) }
 {
     let mut head = [0; 8];
@@ -32,14 +32,14 @@ pub fn encode_reply(alloc: Global, reply: &Reply) -> Result<Vec<u8>, WireFault>
     ensures memory { IfErr result (λ fault. fault ≡ WireFault.Memory) }
 {
     match reply {
-        Ok(Answer::Nothing) => frame_of(alloc, 0, &[]),
+        Ok(Answer::Nothing) => encode_frame(alloc, 0, &[]),
         Ok(Answer::Number(number)) => {
             let mut body = [0; 4];
             LittleEndian::write_u32(&mut body, *number);
-            frame_of(alloc, 0, &body)
+            encode_frame(alloc, 0, &body)
         }
-        Ok(Answer::Bytes(bytes)) => frame_of(alloc, 0, bytes.as_slice()),
-        Err(error) => frame_of(alloc, error.number(), &[]),
+        Ok(Answer::Bytes(bytes)) => encode_frame(alloc, 0, bytes.as_slice()),
+        Err(error) => encode_frame(alloc, error.number(), &[]),
     }
 }
 
@@ -104,10 +104,10 @@ pub fn decode_reply(
     ensures exact { Gives (λ found. found) result (reply_front (shape_of op.now) bytes.now) }
 
     // What is found is spelled so.
-    ensures found { IfOk result (λ o. IfSome o (λ x. (take x.1 bytes.now ≡ reply_frame x.0) × HasShape (shape_of op.now) x.0)) }
+    ensures found { IfOk result (λ o. IfSome o (IsAtFront (shape_of op.now) bytes.now)) }
 
     // What is spelled so is found, whatever follows it.
-    ensures only { (reply : Result Answer Errno) (more : List ℕ) → HasShape (shape_of op.now) reply → bytes.now ≡ reply_frame reply ++ more → Gives (λ found. found) result (Ok (Some (reply, length (reply_frame reply)))) }
+    ensures only { (reply : Result Answer Errno) (more : List ℕ) → Finds (shape_of op.now) bytes.now reply more result }
 {
     front_reply(alloc, op, bytes)
 }

@@ -1,7 +1,6 @@
 use Rattle.std.proofs.Common.{◌≡◌, ◌++◌, ◌<◌, ◌^◌, length, take}
 use Rattle.std.specs.Int.{w32, to_le_bytes}
 use Rattle.std.specs.List.{flat_map, AllByRecursion}
-use Rattle.krs_wire.specs.Field.{number}
 use Rattle.krs_wire.proofs.encode.put_groups.Given as goal
 
 abbrev pub invariant-loop-number : goal.invariant-loop-number

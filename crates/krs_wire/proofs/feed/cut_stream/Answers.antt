@@ -1,5 +1,5 @@
-use Rattle.std.proofs.Common.{sym, arith}
-use Rattle.krs_wire.specs.Frame.{rest, bad}
+use Rattle.std.proofs.Common.{sym}
+use Rattle.krs_wire.specs.Frame.{bad}
 use Rattle.krs_wire.proofs.CutLemmas.{continues_end}
 use Rattle.krs_wire.proofs.feed.cut_stream.Goals as goal
 

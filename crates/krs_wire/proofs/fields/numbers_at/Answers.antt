@@ -1,4 +1,4 @@
-use Rattle.std.proofs.Common.{rules, ◌≡◌, ◌++◌, ◌-◌, ◌+◌, List, ℕ, [], ◌∷◌, ap, sym, ◌∙◌, subst, arith, Ok}
+use Rattle.std.proofs.Common.{rules, ◌≡◌, ◌++◌, ◌-◌, ◌+◌, List, ℕ, [], ◌∷◌, ap, sym, subst}
 use Rattle.std.specs.Int.{w32}
 use Rattle.krs_wire.specs.Field.{number, many_read}
 use Rattle.krs_wire.specs.Faulting.{or_bad_body}

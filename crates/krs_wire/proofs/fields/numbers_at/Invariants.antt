@@ -1,4 +1,4 @@
-use Rattle.std.proofs.Common.{◌≡◌, ◌-◌, ◌≤◌}
+use Rattle.std.proofs.Common.{◌≡◌, ◌-◌}
 use Rattle.std.specs.Int.{w32}
 use Rattle.krs_wire.specs.Field.{number, many_read}
 use Rattle.krs_wire.proofs.CountLemmas.{with_front}

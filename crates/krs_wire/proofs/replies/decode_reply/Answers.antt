@@ -1,4 +1,4 @@
-use Rattle.std.proofs.Common.{◌≡◌, List, ℕ, arith, ap, sym, subst, ◌∙◌}
+use Rattle.std.proofs.Common.{arith}
 use Rattle.krs_wire.proofs.ReplyLemmas.{found_by, only_by}
 use Rattle.krs_wire.proofs.replies.decode_reply.Goals as goal
 

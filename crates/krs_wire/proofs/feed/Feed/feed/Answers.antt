@@ -1,8 +1,8 @@
-use Rattle.std.proofs.Common.{rules, ◌≡◌, List, [], ◌++◌, subst, ap, ◌∙◌, sym, length, arith}
+use Rattle.std.proofs.Common.{rules, ◌≡◌, List, [], ◌++◌, subst, sym}
 use Rattle.krs_wire.specs.declared.framed.Framed.{Framed}
 use Rattle.krs_wire.specs.declared.fault.WireFault.{WireFault}
-use Rattle.std.specs.Prelude.{Option, Some}
-use Rattle.krs_wire.specs.Frame.{End, rest, bad, Frames}
+use Rattle.std.specs.Prelude.{Option}
+use Rattle.krs_wire.specs.Frame.{Frames}
 use Rattle.krs_wire.specs.Feeding.{end_of}
 use Rattle.krs_wire.proofs.CutLemmas.{feeds, refuses, is_nothing}
 use Rattle.krs_wire.proofs.feed.Feed.feed.Goals as goal
