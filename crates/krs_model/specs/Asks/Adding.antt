@@ -4,6 +4,7 @@ use Rattle.krs_types.specs.declared.errno.Errno.{Errno}
 use Rattle.krs_types.specs.declared.errno.Errno.TheVariants.{EACCES, ENOSPC, ENODEV}
 use Rattle.krs_types.specs.declared.kind.Kind.{Kind}
 use Rattle.krs_types.specs.declared.kind.Kind.TheVariants.{User, Logon, Keyring}
+use Rattle.krs_types.specs.declared.name.Name.{Name}
 use Rattle.krs_types.specs.declared.context.Context.{Context}
 use Rattle.krs_types.specs.declared.caller.Caller.{Caller}
 use Rattle.krs_types.specs.declared.ask.Answer.TheVariants.{Number}
@@ -12,7 +13,7 @@ use Rattle.krs_types.specs.Rights.{has_all, WRITE}
 use Rattle.krs_types.specs.Kind.{kind_named, checked}
 use Rattle.krs_types.specs.Refusing.{◌>>=◌}
 use Rattle.krs_model.specs.Table.{at, put, alter}
-use Rattle.krs_model.specs.State.{State, Key, Content, Payload}
+use Rattle.krs_model.specs.State.{State, Key, Payload}
 use Rattle.krs_model.specs.Access.{is_alive, rights_on}
 use Rattle.krs_model.specs.Possession.{possessed}
 use Rattle.krs_model.specs.Lookup.{context_of, look_up}
@@ -25,13 +26,13 @@ if_built User = Ok User
 if_built Logon = Err ENODEV
 if_built Keyring = Err ENODEV
 
--- what is asked for is a key that may be made
-unfoldable pub admitted : List ℕ → List ℕ → List ℕ → Result Kind Errno
+-- what is asked for is a key that may be made, and this is its name
+unfoldable pub admitted : List ℕ → List ℕ → List ℕ → Result Name Errno
 admitted type_name desc payload = do
   named ← kind_named type_name
   kind ← if_built named
   fit ← checked kind desc payload
-  Ok kind
+  Ok (record { kind = kind; desc = desc })
 
 -- where an added key goes: it is the new payload of that key, or a new key in that keyring
 pub data Place : Type 0 where
@@ -57,17 +58,17 @@ by_match s c ring links None = if_room s ring links None
 by_match s c ring links (Some found) = over_match s c ring links found (at s.keys found)
 
 -- the keyring may be written, and this is where the key goes in it
-unfoldable pub place_of : State → Context → Kind → List ℕ → ℤ → Result Place Errno
-place_of s c kind desc ring = do
+unfoldable pub place_of : State → Context → Name → ℤ → Result Place Errno
+place_of s c name ring = do
   found ← look_up s c ring (Granted WRITE)
   links ← ring_links found.1.content
-  by_match s c found.0 links (link_named s.keys kind desc links)
+  by_match s c found.0 links (link_named s.keys name links)
 
 -- a key of its maker, with the mask 3f010000: profile, masks of new keys
-abbrev pub new_key : Kind → List ℕ → List ℕ → Caller → Key
-new_key kind desc payload c = record {
-  kind = kind;
-  desc = desc;
+abbrev pub new_key : Name → List ℕ → Caller → Key
+new_key name payload c = record {
+  kind = name.kind;
+  desc = name.desc;
   uid = c.uid;
   gid = c.gid;
   perm = 1057030144;
@@ -81,10 +82,10 @@ new_key kind desc payload c = record {
 abbrev pub updated : List ℕ → Key → Key
 updated payload key = record key { content = Payload payload; expiry = None }
 
-abbrev pub added : State → Context → Kind → List ℕ → List ℕ → Place → State
-added s c kind desc payload (Updated serial) = record s { keys = alter s.keys serial (updated payload) }
-added s c kind desc payload (Made ring) = record s {
-  keys = alter (put s.keys s.next_serial (new_key kind desc payload c.caller)) ring (linking s.keys kind desc s.next_serial);
+abbrev pub added : State → Context → Name → List ℕ → Place → State
+added s c name payload (Updated serial) = record s { keys = alter s.keys serial (updated payload) }
+added s c name payload (Made ring) = record s {
+  keys = alter (put s.keys s.next_serial (new_key name payload c.caller)) ring (linking s.keys name s.next_serial);
   next_serial = s.next_serial + 1;
 }
 
@@ -95,6 +96,6 @@ added_serial s (Made ring) = s.next_serial
 unfoldable pub add : State → ℕ → ℕ → List ℕ → List ℕ → List ℕ → ℤ → Outcome
 add s client context type_name desc payload ring = do
   c ← context_of s client context
-  kind ← admitted type_name desc payload
-  place ← place_of s c kind desc ring
-  Ok (added s c kind desc payload place, Number (added_serial s place))
+  name ← admitted type_name desc payload
+  place ← place_of s c name ring
+  Ok (added s c name payload place, Number (added_serial s place))

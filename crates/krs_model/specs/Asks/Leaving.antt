@@ -1,5 +1,5 @@
 -- LEAVE: the end of all that a client has. It is always accepted.
-use Rattle.std.specs.Prelude.{ℕ, ◌==◌, List, Bool, not, filter}
+use Rattle.std.specs.Prelude.{ℕ, ◌==◌, not, filter}
 use Rattle.std.specs.List.{list_any}
 use Rattle.std.specs.Map.{values_of}
 use Rattle.krs_types.specs.declared.context.Context.{Context}
