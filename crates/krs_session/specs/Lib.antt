@@ -1,0 +1,4 @@
+pub mod Events
+pub mod Session
+pub mod Serving
+pub mod Over
