@@ -1,8 +1,8 @@
 -- How pieces and turns join into a session.
-use Rattle.std.proofs.Common.{◌≡◌, ℕ, ◌+◌, ◌<◌, List, [], ◌∷◌, ◌++◌, refl, sym, ap, subst, ◌∙◌, append_assoc, arith, inl, inr, ◌⊎◌}
+use Rattle.std.proofs.Common.{◌≡◌, ℕ, List, [], ◌∷◌, ◌++◌, refl, sym, ap, subst, ◌∙◌, inl, inr}
 use Rattle.std.proofs.lemmas.List.{append-nil, map-append}
 use Rattle.std.proofs.lemmas.List.Concat.{flat_map-append}
-use Rattle.std.specs.Prelude.{Option, Some, None}
+use Rattle.std.specs.Prelude.{Some, None}
 use Rattle.krs_types.specs.declared.ask.Ask.{Ask}
 use Rattle.krs_types.specs.declared.ask.Op.TheVariants.{Leave}
 use Rattle.krs_types.specs.declared.event.Event.{Event}
@@ -14,8 +14,8 @@ use Rattle.krs_wire.specs.Feeding.{Feeds, Refuses, fault_of}
 use Rattle.krs_wire.specs.Reply.{reply_frame}
 use Rattle.krs_session.specs.declared.ended.Ended.{Ended}
 use Rattle.krs_session.specs.declared.ended.Ended.TheVariants.{Closed, Wire, Read, Write, Memory, Turns}
-use Rattle.krs_session.specs.Events.{asks_of, asks_in, moments_of, session_text, AllOfLane}
-use Rattle.krs_session.specs.Session.{AreFirst, TookFront, Serves, Session}
+use Rattle.krs_session.specs.Events.{asks_of, asks_in, session_text}
+use Rattle.krs_session.specs.Session.{AreFirst, Serves, Session}
 use Rattle.krs_session.specs.Serving.{Asked, PieceServes, FeedsMore, Served, Finished}
 use Rattle.krs_session.proofs.JoinLemmas.{Joins, asked_joins, front_joins}
 

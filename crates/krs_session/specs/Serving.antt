@@ -1,5 +1,5 @@
 -- What the parts of a session did: relations between what its ends, its seat and its clock were before and after.
-use Rattle.std.specs.Prelude.{◌≡◌, ◌+◌, ◌<◌, ℕ, List, [], ◌∷◌, ◌++◌, ◌⊎◌, Option, Some, None}
+use Rattle.std.specs.Prelude.{◌≡◌, ◌+◌, ◌<◌, ℕ, List, [], ◌++◌, ◌⊎◌, Option, Some, None}
 use Rattle.krs_types.specs.declared.event.Event.{Event}
 use Rattle.krs_wire.specs.declared.framed.Framed.{Framed}
 use Rattle.krs_wire.specs.Frame.{End, rest, bad, Frames}

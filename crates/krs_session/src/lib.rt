@@ -19,3 +19,6 @@ pub use gate::{Gate, Point};
 pub use keeper::Keeper;
 pub use over::Over;
 pub use session::run;
+
+#[cfg(test)]
+mod tests;

@@ -67,7 +67,7 @@ fn turn<H, R: Source, W: Sink, S, D: Keeper<S, H>, C: Clock, G: Gate>(
     requires read_failures { R.failures reader.old < u64.MAX }
     ensures served { (bytes : List ℕ) × R.gave reader.old bytes reader.new
         × Served D.leads C.ticked W.took (D.lane_of seat.old)
-            seat.old seat.new clock.old clock.new writer.old writer.new feed.old feed.new bytes result }
+        seat.old seat.new clock.old clock.new writer.old writer.new feed.old feed.new bytes result }
     ensures reads { R.reads reader.new ≡ R.reads reader.old + 1 }
     ensures count { TurnEndsBy (R.empties reader.old) (R.empties reader.new)
         (R.failures reader.old) (R.failures reader.new) (W.failures writer.old) (W.failures writer.new) result }
@@ -156,9 +156,7 @@ pub fn run<H, R: Source, W: Sink, S, D: Keeper<S, H>, C: Clock, G: Gate>(
     ensures ready { D.ready desk.now seat.new }
     ensures lane { D.lane_of seat.new ≡ D.lane_of seat.old }
 {
-    let ended = serve(
-        rt, alloc, reader, writer, desk, seat, clock, gate, turns,
-    );
+    let ended = serve(rt, alloc, reader, writer, desk, seat, clock, gate, turns);
     let leave = Ask {
         context: 0,
         op: Op::Leave,

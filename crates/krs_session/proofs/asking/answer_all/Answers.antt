@@ -1,8 +1,8 @@
-use Rattle.std.proofs.Common.{◌≡◌, List, [], ◌∷◌, ◌++◌, ap, ◌∙◌, subst, refl, ℕ}
+use Rattle.std.proofs.Common.{List, [], ◌∷◌, ap, ◌∙◌, subst, refl, ℕ}
 use Rattle.std.proofs.lemmas.List.{reverse-reverse}
 use Rattle.std.specs.Prelude.{reverse}
 use Rattle.krs_wire.specs.declared.framed.Framed.{Framed}
-use Rattle.krs_session.specs.Serving.{Asked, Answers}
+use Rattle.krs_session.specs.Serving.{Asked}
 use Rattle.krs_session.proofs.JoinLemmas.{answers_more, answers_none, last_first, stops_next}
 use Rattle.krs_session.proofs.asking.answer_all.Goals as goal
 

@@ -1,4 +1,4 @@
-use Rattle.std.proofs.Common.{◌≡◌, length, vec_len}
+use Rattle.std.proofs.Common.{◌≡◌, vec_len}
 use Rattle.std.specs.Prelude.{reverse}
 use Rattle.krs_session.specs.Serving.{Answers, StopsBy}
 use Rattle.krs_session.proofs.asking.answer_all.Given as goal

@@ -1,4 +1,4 @@
-use Rattle.std.proofs.Common.{rules, ◌≡◌, ◌+◌, List, [], ◌∷◌, ◌++◌, sym, ap, ◌∙◌, subst, refl, arith, ℕ}
+use Rattle.std.proofs.Common.{ap, ◌∙◌, refl, arith}
 use Rattle.krs_wire.specs.Feeding.{fault_of}
 use Rattle.krs_session.proofs.PieceLemmas.{so_far_none, so_far_more, so_far_ends}
 use Rattle.krs_session.proofs.session.serve.Goals as goal

@@ -1,5 +1,4 @@
 use Rattle.std.proofs.Common.{[], refl, inr}
-use Rattle.krs_session.specs.Serving.{Served}
 use Rattle.krs_session.proofs.PieceLemmas.{refused_fault, refused_more}
 use Rattle.krs_session.proofs.session.serve_piece.Goals as goal
 

@@ -1,5 +1,4 @@
-use Rattle.std.proofs.Common.{rules, ◌≡◌, List, [], ◌++◌, take, sym, ap, ◌∙◌, subst, refl, arith, ℕ}
-use Rattle.krs_session.specs.Events.{Begins}
+use Rattle.std.proofs.Common.{rules, ◌≡◌, List, [], take, sym, ◌∙◌, subst, refl, arith, ℕ}
 use Rattle.krs_session.proofs.JoinLemmas.{Taken, taken_more, taken_part}
 use Rattle.krs_session.proofs.writing.write_all.Goals as goal
 

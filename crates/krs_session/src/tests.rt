@@ -1,0 +1,166 @@
+mod fakes;
+
+use super::*;
+use fakes::{Chair, Rising, Table, Then, Watching, reader_of, writer_of};
+use krs_wire::WireFault;
+use std::alloc::Global;
+use std::cell::Cell;
+use std::process::Abort;
+use std::test::*;
+
+// HELLO 1000 1000 without groups; ADD user alpha `s3` to -4 in context 1; READ 5 in context 1.
+const ASKS: [u8; 75] = [
+    0x14, 0, 0, 0, 1, 0, 0, 1, 0, 0, 0, 0, 0xe8, 3, 0, 0, 0xe8, 3, 0, 0, 0, 0, 0, 0, //
+    0x1f, 0, 0, 0, 1, 0, 6, 1, 1, 0, 0, 0, 4, 0, 0x75, 0x73, 0x65, 0x72, 5, 0, 0x61, 0x6c, 0x70,
+    0x68, 0x61, 2, 0, 0, 0, 0x73, 0x33, 0xfc, 0xff, 0xff, 0xff, //
+    0x0c, 0, 0, 0, 1, 0, 0x0b, 0, 1, 0, 0, 0, 5, 0, 0, 0,
+];
+
+// Context 1; serial 5; `s3`.
+const REPLIES: [u8; 34] = [
+    8, 0, 0, 0, 0, 0, 0, 0, 1, 0, 0, 0, //
+    8, 0, 0, 0, 0, 0, 0, 0, 5, 0, 0, 0, //
+    6, 0, 0, 0, 0, 0, 0, 0, 0x73, 0x33,
+];
+
+#[derive(Drop)]
+struct Case<'a> {
+    name: &'a str,
+    stream: &'a [u8],
+    // How many bytes the first read gives and each later one, and what the end of the stream is.
+    reads: (usize, usize, Then),
+    // How many bytes a write takes at most, how many all take, and what a write does then.
+    writes: (usize, usize, Then),
+    turns: u64,
+    ended: Ended,
+    asked: u32,
+    written: usize,
+}
+
+fn check(rt: &impl Abort, alloc: Global, case: &Case<'_>) {
+    let (next, later, then) = case.reads;
+    let mut reader = reader_of(case.stream, next, later, then);
+    let (most, room, then) = case.writes;
+    let mut writer = writer_of(alloc, most, room, then);
+    let mut seat = Chair {
+        alloc: alloc,
+        lane: 7,
+        asked: 0,
+        leaves: 0,
+        late: 0,
+        moment: 0,
+    };
+    let mut clock = Rising { at: 100 };
+    let gate = Watching {
+        lane: 7,
+        asked: Cell::new(0),
+        answered: Cell::new(0),
+        wrong: Cell::new(0),
+    };
+    let ended = run(
+        rt,
+        alloc,
+        &mut reader,
+        &mut writer,
+        &Table,
+        &mut seat,
+        &mut clock,
+        &gate,
+        case.turns,
+    );
+    let name = case.name;
+    assert_eq!(rt; ended, case.ended, "{name}");
+    assert_eq!(rt; seat.asked, case.asked, "{name}");
+    assert_eq!(rt; (seat.leaves, seat.late), (1, 0), "{name}");
+    assert_eq!(rt; seat.moment, 99 + u64::from(case.asked), "{name}");
+    assert_eq!(rt;
+        (gate.asked.get(), gate.answered.get()),
+        (case.asked, case.asked),
+        "{name}"
+    );
+    assert_eq!(rt; gate.wrong.get(), 0, "{name}");
+    assert_eq!(rt;
+        Some(writer.text.as_slice()),
+        REPLIES.get(..case.written),
+        "{name}"
+    );
+}
+
+const ALL: (usize, usize, Then) = (4096, 4096, Then::GivesNone);
+
+#[test]
+fn any_pieces(rt: HostRuntime) {
+    for first in 1..=ASKS.len() {
+        check(
+            &rt,
+            rt.alloc(),
+            &Case {
+                name: "in two pieces",
+                stream: &ASKS,
+                reads: (first, ASKS.len(), Then::GivesNone),
+                writes: ALL,
+                turns: 99,
+                ended: Ended::Closed,
+                asked: 4,
+                written: 34,
+            },
+        );
+    }
+}
+
+#[test]
+#[rattlefmt::skip]
+fn ends(rt: HostRuntime) {
+    let closed = Then::GivesNone;
+    let fails = Then::Fails;
+    let bad = Ended::Wire(WireFault::BadLength);
+    let cases = [
+        Case { name: "byte by byte", stream: &ASKS, reads: (1, 1, closed), writes: ALL, turns: 99, ended: Ended::Closed, asked: 4, written: 34 },
+        Case { name: "three bytes a write", stream: &ASKS, reads: ALL, writes: (3, 4096, closed), turns: 99, ended: Ended::Closed, asked: 4, written: 34 },
+        Case { name: "mid-frame", stream: &ASKS[..70], reads: ALL, writes: ALL, turns: 99, ended: Ended::Closed, asked: 3, written: 24 },
+        Case { name: "length 7", stream: &[7, 0, 0, 0], reads: ALL, writes: ALL, turns: 99, ended: bad, asked: 1, written: 0 },
+        Case { name: "length 65537", stream: &[1, 0, 1, 0], reads: (1, 1, closed), writes: ALL, turns: 99, ended: bad, asked: 1, written: 0 },
+        Case { name: "a read fails", stream: &ASKS, reads: (24, 51, fails), writes: ALL, turns: 99, ended: Ended::Read, asked: 4, written: 34 },
+        Case { name: "a write fails", stream: &ASKS, reads: ALL, writes: (4096, 20, fails), turns: 99, ended: Ended::Write, asked: 4, written: 20 },
+        Case { name: "a write takes none", stream: &ASKS, reads: (24, 35, closed), writes: (5, 5, closed), turns: 99, ended: Ended::Write, asked: 2, written: 5 },
+        Case { name: "two turns", stream: &ASKS, reads: (24, 35, closed), writes: ALL, turns: 2, ended: Ended::Turns, asked: 3, written: 24 },
+        Case { name: "no turns", stream: &ASKS, reads: ALL, writes: ALL, turns: 0, ended: Ended::Turns, asked: 1, written: 0 },
+    ];
+    for case in &cases {
+        check(&rt, rt.alloc(), case);
+    }
+}
+
+#[test]
+fn over_memory(rt: HostRuntime) {
+    let mut reader = Over::new(&ASKS[..]);
+    let mut writer = Over::new(Vec::new(rt.alloc()));
+    let mut seat = Chair {
+        alloc: rt.alloc(),
+        lane: 0,
+        asked: 0,
+        leaves: 0,
+        late: 0,
+        moment: 0,
+    };
+    let mut clock = Rising { at: 1 };
+    let gate = Watching {
+        lane: 0,
+        asked: Cell::new(0),
+        answered: Cell::new(0),
+        wrong: Cell::new(0),
+    };
+    let ended = run(
+        &rt,
+        rt.alloc(),
+        &mut reader,
+        &mut writer,
+        &Table,
+        &mut seat,
+        &mut clock,
+        &gate,
+        99,
+    );
+    assert_eq!(rt; ended, Ended::Closed);
+    assert_eq!(rt; writer.into_inner().as_slice(), REPLIES.as_slice());
+}
