@@ -1,5 +1,5 @@
 -- How pieces and turns join into a session.
-use Rattle.std.proofs.Common.{◌≡◌, ℕ, List, [], ◌∷◌, ◌++◌, refl, sym, ap, subst, ◌∙◌, inl, inr}
+use Rattle.std.proofs.Common.{◌≡◌, ◌≤◌, ℕ, ◌+◌, ◌*◌, List, [], ◌∷◌, ◌++◌, length, length-append, refl, sym, ap, subst, ◌∙◌, inl, inr, arith}
 use Rattle.std.proofs.lemmas.List.{append-nil, map-append}
 use Rattle.std.proofs.lemmas.List.Concat.{flat_map-append}
 use Rattle.std.specs.Prelude.{Some, None}
@@ -30,11 +30,12 @@ refused_fault (rest left) piece fault n other r = r.0 other
 refused_fault (bad f) piece fault n other r = absurd cc
 
 -- the session so far, where nothing has ended it
-pub record SoFar {R S C W : Type 0} (gave : R → List ℕ → R → Type 0) (leads : S → List Event → S → Type 0) (ticked : C → List ℕ → C → Type 0) (took : W → List ℕ → W → Type 0) (lane : ℕ) (r0 r1 : R) (s0 s1 : S) (c0 c1 : C) (w0 w1 : W) (f1 : End) : Type 0 where
+pub record SoFar {R S C W : Type 0} (gave : R → List ℕ → R → Type 0) (leads : S → List Event → S → Type 0) (ticked : C → List ℕ → C → Type 0) (took : W → List ℕ → W → Type 0) (lane made : ℕ) (r0 r1 : R) (s0 s1 : S) (c0 c1 : C) (w0 w1 : W) (f1 : End) : Type 0 where
   pub bytes : List ℕ
   pub frames : List Framed
   pub events : List Event
   pub read : gave r0 bytes r1
+  pub size : length bytes ≤ 4096 * made
   pub order : asks_of events ≡ asks_in frames
   pub asked : Asked leads ticked lane s0 s1 c0 c1 events
   pub cut : Frames bytes frames f1
@@ -79,78 +80,48 @@ order_joins xs ys fs gs a b =
 
 module _ {R S C W : Type 0} (gave : R → List ℕ → R → Type 0) (leads : S → List Event → S → Type 0) (ticked : C → List ℕ → C → Type 0) (took : W → List ℕ → W → Type 0)
     (gives : Joins gave) (led : (a b c : S) (p q : List Event) → leads a p b → leads b q c → leads a (p ++ q) c) (ticks : Joins ticked) (takes : Joins took) where
-  pub so_far_more : (lane mid : ℕ) (r0 r1 r2 : R) (s0 s1 s2 : S) (c0 c1 c2 : C) (w0 w1 w2 : W) (f1 f2 : End) (piece : List ℕ) → fault_of f1 ≡ None
-      → SoFar gave leads ticked took lane r0 r1 s0 s1 c0 c1 w0 w1 f1 → gave r1 piece r2 → mid ≡ lane → Served leads ticked took mid s1 s2 c1 c2 w1 w2 f1 f2 piece None → SoFar gave leads ticked took lane r0 r2 s0 s2 c0 c2 w0 w2 f2
-  so_far_more lane mid r0 r1 r2 s0 s1 s2 c0 c1 c2 w0 w1 w2 f1 f2 piece n a g same served =
+  pub so_far_more : (lane made mid : ℕ) (r0 r1 r2 : R) (s0 s1 s2 : S) (c0 c1 c2 : C) (w0 w1 w2 : W) (f1 f2 : End) (piece : List ℕ) → fault_of f1 ≡ None
+      → SoFar gave leads ticked took lane made r0 r1 s0 s1 c0 c1 w0 w1 f1 → gave r1 piece r2 → length piece ≤ 4096 → mid ≡ lane → Served leads ticked took mid s1 s2 c1 c2 w1 w2 f1 f2 piece None → SoFar gave leads ticked took lane (made + 1) r0 r2 s0 s2 c0 c2 w0 w2 f2
+  so_far_more lane made mid r0 r1 r2 s0 s1 s2 c0 c1 c2 w0 w1 w2 f1 f2 piece n a g small same served =
       let b = subst (λ (n : ℕ). Served leads ticked took n s1 s2 c1 c2 w1 w2 f1 f2 piece None) same served in
       record {
         bytes = a.bytes ++ piece;
         frames = a.frames ++ b.frames;
         events = a.events ++ b.events;
         read = gives r0 r1 r2 a.bytes piece a.read g;
+        size = omega (arith, a.size, length-append a.bytes piece);
         order = order_joins a.events b.events a.frames b.frames a.order b.order;
         asked = asked_joins leads ticked lane s0 s1 s2 c0 c1 c2 a.events b.events led ticks a.asked b.asked;
         cut = fed_on f1 f2 a.bytes piece a.frames b.frames n a.cut b.served.0;
         wrote = subst (λ (x : List ℕ). took w0 x w2) (text_joins a.events b.events) (takes w0 w1 w2 (session_text a.events) (session_text b.events) a.wrote b.served.2);
       }
 
-  pub so_far_ends : (lane mid : ℕ) (r0 r1 r2 : R) (s0 s1 s2 : S) (c0 c1 c2 : C) (w0 w1 w2 : W) (f1 f2 : End) (piece : List ℕ) (ended : Ended) → fault_of f1 ≡ None
-      → SoFar gave leads ticked took lane r0 r1 s0 s1 c0 c1 w0 w1 f1 → gave r1 piece r2 → mid ≡ lane → Served leads ticked took mid s1 s2 c1 c2 w1 w2 f1 f2 piece (Some ended) → Finished gave leads ticked took lane r0 r2 s0 s2 c0 c2 w0 w2 ended
-  so_far_ends lane mid r0 r1 r2 s0 s1 s2 c0 c1 c2 w0 w1 w2 f1 f2 piece ended n a g same served =
+  pub so_far_ends : (lane made reads mid : ℕ) (r0 r1 r2 : R) (s0 s1 s2 : S) (c0 c1 c2 : C) (w0 w1 w2 : W) (f1 f2 : End) (piece : List ℕ) (ended : Ended) → fault_of f1 ≡ None
+      → SoFar gave leads ticked took lane made r0 r1 s0 s1 c0 c1 w0 w1 f1 → gave r1 piece r2 → length piece ≤ 4096 → reads ≡ made + 1 → mid ≡ lane → Served leads ticked took mid s1 s2 c1 c2 w1 w2 f1 f2 piece (Some ended) → Finished gave leads ticked took lane reads r0 r2 s0 s2 c0 c2 w0 w2 ended
+  so_far_ends lane made reads mid r0 r1 r2 s0 s1 s2 c0 c1 c2 w0 w1 w2 f1 f2 piece ended n a g small all same served =
       let b = subst (λ (n : ℕ). Served leads ticked took n s1 s2 c1 c2 w1 w2 f1 f2 piece (Some ended)) same served in
       record {
         bytes = a.bytes ++ piece;
         frames = a.frames ++ b.frames;
         events = a.events ++ b.events;
         read = gives r0 r1 r2 a.bytes piece a.read g;
+        size = omega (arith, a.size, length-append a.bytes piece);
         order = order_joins a.events b.events a.frames b.frames a.order b.order;
         asked = asked_joins leads ticked lane s0 s1 s2 c0 c1 c2 a.events b.events led ticks a.asked b.asked;
         served = subst (λ (x : List ℕ). Serves (λ text. took w0 text w2) (a.bytes ++ piece) (a.frames ++ b.frames) x ended) (text_joins a.events b.events)
             (piece_ends took takes w0 w1 w2 f1 f2 a.bytes piece a.frames b.frames (session_text a.events) (session_text b.events) ended n a.cut a.wrote b.served);
       }
 
-  pub so_far_turns : (lane : ℕ) (r0 r1 : R) (s0 s1 : S) (c0 c1 : C) (w0 w1 : W) (f1 : End) → fault_of f1 ≡ None → SoFar gave leads ticked took lane r0 r1 s0 s1 c0 c1 w0 w1 f1 → Finished gave leads ticked took lane r0 r1 s0 s1 c0 c1 w0 w1 Turns
-  so_far_turns lane r0 r1 s0 s1 c0 c1 w0 w1 f1 n a =
-      record {
-        bytes = a.bytes;
-        frames = a.frames;
-        events = a.events;
-        read = a.read;
-        order = a.order;
-        asked = a.asked;
-        served = (whole_cut f1 a.bytes a.frames n a.cut, a.wrote);
-      }
-
-  pub so_far_none : (lane : ℕ) (r : R) (s : S) (c : C) (w : W) (f : End) → gave r [] r → leads s [] s → ticked c [] c → took w [] w → Frames [] [] f → SoFar gave leads ticked took lane r r s s c c w w f
+  pub so_far_none : (lane : ℕ) (r : R) (s : S) (c : C) (w : W) (f : End) → gave r [] r → leads s [] s → ticked c [] c → took w [] w → Frames [] [] f → SoFar gave leads ticked took lane 0 r r s s c c w w f
   so_far_none lane r s c w f a b d e h =
       record {
         bytes = [];
         frames = [];
         events = [];
         read = a;
+        size = omega arith;
         order = refl;
         asked = record { led = b; moments = d; lanes = tt };
         cut = h;
         wrote = e;
-      }
-
-  -- and LEAVE last
-  pub session_of : (lane mid : ℕ) (r0 r1 : R) (s0 s1 s2 : S) (c0 c1 c2 : C) (w0 w1 : W) (ended : Ended) (last : Event) → Finished gave leads ticked took lane r0 r1 s0 s1 c0 c1 w0 w1 ended → mid ≡ lane
-      → Asked leads ticked mid s1 s2 c1 c2 (last ∷ []) → last.ask.op ≡ Leave
-      → Session (λ bytes. gave r0 bytes r1) (λ events. leads s0 events s2) (λ moments. ticked c0 moments c2) (λ text. took w0 text w1) lane ended
-  session_of lane mid r0 r1 s0 s1 s2 c0 c1 c2 w0 w1 ended last a same one leave =
-      let b = subst (λ (n : ℕ). Asked leads ticked n s1 s2 c1 c2 (last ∷ [])) same one in
-      let all = asked_joins leads ticked lane s0 s1 s2 c0 c1 c2 a.events (last ∷ []) led ticks a.asked b in
-      record {
-        bytes = a.bytes;
-        frames = a.frames;
-        events = a.events;
-        last = last;
-        read = a.read;
-        asked = all.led;
-        moments = all.moments;
-        lanes = all.lanes;
-        order = a.order;
-        leave = leave;
-        served = a.served;
       }

@@ -1,5 +1,5 @@
 -- What the parts of a session did: relations between what its ends, its seat and its clock were before and after.
-use Rattle.std.specs.Prelude.{◌≡◌, ◌+◌, ◌<◌, ℕ, List, [], ◌++◌, ◌⊎◌, Option, Some, None}
+use Rattle.std.specs.Prelude.{◌≡◌, ◌+◌, ◌*◌, ◌<◌, ◌≤◌, length, ℕ, List, [], ◌++◌, ◌⊎◌, Option, Some, None}
 use Rattle.krs_types.specs.declared.event.Event.{Event}
 use Rattle.krs_wire.specs.declared.framed.Framed.{Framed}
 use Rattle.krs_wire.specs.Frame.{End, rest, bad, Frames}
@@ -97,12 +97,13 @@ TurnEndsBy e0 e1 r0 r1 w0 w1 (Some Memory) = Unit {0}
 TurnEndsBy e0 e1 r0 r1 w0 w1 (Some (Wire fault)) = Unit {0}
 TurnEndsBy e0 e1 r0 r1 w0 w1 (Some Turns) = ⊥
 
--- a whole session but for its LEAVE
-pub record Finished {R S C W : Type 0} (gave : R → List ℕ → R → Type 0) (leads : S → List Event → S → Type 0) (ticked : C → List ℕ → C → Type 0) (took : W → List ℕ → W → Type 0) (lane : ℕ) (r0 r1 : R) (s0 s1 : S) (c0 c1 : C) (w0 w1 : W) (ended : Ended) : Type 0 where
+-- a whole session but for its LEAVE; a read gives at most 4096 bytes
+pub record Finished {R S C W : Type 0} (gave : R → List ℕ → R → Type 0) (leads : S → List Event → S → Type 0) (ticked : C → List ℕ → C → Type 0) (took : W → List ℕ → W → Type 0) (lane reads : ℕ) (r0 r1 : R) (s0 s1 : S) (c0 c1 : C) (w0 w1 : W) (ended : Ended) : Type 0 where
   pub bytes : List ℕ
   pub frames : List Framed
   pub events : List Event
   pub read : gave r0 bytes r1
+  pub size : length bytes ≤ 4096 * reads
   pub order : asks_of events ≡ asks_in frames
   pub asked : Asked leads ticked lane s0 s1 c0 c1 events
   pub served : Serves (λ text. took w0 text w1) bytes frames (session_text events) ended

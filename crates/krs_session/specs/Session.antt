@@ -1,5 +1,5 @@
 -- What a whole session did: docs/FORMAT.md, "A connection".
-use Rattle.std.specs.Prelude.{◌≡◌, ◌+◌, ◌<◌, ℕ, List, [], ◌∷◌, ◌++◌, ◌⊎◌}
+use Rattle.std.specs.Prelude.{◌≡◌, ◌+◌, ◌*◌, ◌<◌, ◌≤◌, length, ℕ, List, [], ◌∷◌, ◌++◌, ◌⊎◌}
 use Rattle.krs_types.specs.declared.event.Event.{Event}
 use Rattle.krs_types.specs.declared.ask.Op.TheVariants.{Leave}
 use Rattle.krs_wire.specs.declared.framed.Framed.{Framed}
@@ -38,13 +38,14 @@ Serves took bytes frames text Memory = (AreAll bytes frames × TookFront took te
 -- A session over ends, a seat and a clock: `gave` and `took` say which bytes were given and taken, `led` which events lead
 -- from the seat before to the seat after, `ticked` what the clock answered. The events are the asks of the frames in the
 -- bytes given, in order, and then LEAVE; their moments are the clock's answers; what was taken is the frames of their
--- replies, without that of LEAVE.
-pub record Session (gave : List ℕ → Type 0) (led : List Event → Type 0) (ticked : List ℕ → Type 0) (took : List ℕ → Type 0) (lane : ℕ) (ended : Ended) : Type 0 where
+-- replies, without that of LEAVE. A read gives at most 4096 bytes.
+pub record Session (gave : List ℕ → Type 0) (led : List Event → Type 0) (ticked : List ℕ → Type 0) (took : List ℕ → Type 0) (lane reads : ℕ) (ended : Ended) : Type 0 where
   pub bytes : List ℕ
   pub frames : List Framed
   pub events : List Event
   pub last : Event
   pub read : gave bytes
+  pub size : length bytes ≤ 4096 * reads
   pub asked : led (events ++ last ∷ [])
   pub moments : ticked (moments_of (events ++ last ∷ []))
   pub lanes : AllOfLane lane (events ++ last ∷ [])

@@ -1,5 +1,5 @@
 // A session: turns of one read each, and LEAVE.
-ghost use Rattle.std.specs.Prelude.{◌≡◌, ◌≢◌, ◌<◌, ◌+◌, ◌^◌, ℕ, List};
+ghost use Rattle.std.specs.Prelude.{◌≡◌, ◌≢◌, ◌<◌, ◌≤◌, ◌+◌, ◌-◌, ◌^◌, ℕ, List, length};
 ghost use Rattle.krs_wire.specs.Feeding.{fault_of};
 ghost use Rattle.krs_session.specs.Session.{Session, EndsBy};
 ghost use Rattle.krs_session.specs.Serving.{Served, PieceEndsBy, TurnEndsBy, Finished};
@@ -65,7 +65,7 @@ fn turn<H, R: Source, W: Sink, S, D: Keeper<S, H>, C: Clock, G: Gate>(
     requires reads { R.reads reader.old < u64.MAX }
     requires empties { R.empties reader.old < u64.MAX }
     requires read_failures { R.failures reader.old < u64.MAX }
-    ensures served { (bytes : List ℕ) × R.gave reader.old bytes reader.new
+    ensures served { (bytes : List ℕ) × R.gave reader.old bytes reader.new × (length bytes ≤ 4096)
         × Served D.leads C.ticked W.took (D.lane_of seat.old)
         seat.old seat.new clock.old clock.new writer.old writer.new feed.old feed.new bytes result }
     ensures reads { R.reads reader.new ≡ R.reads reader.old + 1 }
@@ -105,6 +105,7 @@ fn serve<H, R: Source, W: Sink, S, D: Keeper<S, H>, C: Clock, G: Gate>(
     requires empties { R.empties reader.old < u64.MAX }
     requires read_failures { R.failures reader.old < u64.MAX }
     ensures finished { Finished R.gave D.leads C.ticked W.took (D.lane_of seat.old)
+        (R.reads reader.new - R.reads reader.old)
         reader.old reader.new seat.old seat.new clock.old clock.new writer.old writer.new result }
     ensures count { EndsBy turns (R.reads reader.old) (R.reads reader.new)
         (R.empties reader.old) (R.empties reader.new) (R.failures reader.old) (R.failures reader.new)
@@ -146,7 +147,8 @@ pub fn run<H, R: Source, W: Sink, S, D: Keeper<S, H>, C: Clock, G: Gate>(
     ensures session { Session (λ bytes. R.gave reader.old bytes reader.new)
         (λ events. D.leads seat.old events seat.new)
         (λ moments. C.ticked clock.old moments clock.new)
-        (λ text. W.took writer.old text writer.new) (D.lane_of seat.old) result }
+        (λ text. W.took writer.old text writer.new)
+        (D.lane_of seat.old) (R.reads reader.new - R.reads reader.old) result }
 
     // Why it ended, by the counts of its ends.
     ensures count { EndsBy turns (R.reads reader.old) (R.reads reader.new)

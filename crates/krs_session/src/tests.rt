@@ -43,7 +43,7 @@ fn check(rt: &impl Abort, alloc: Global, case: &Case<'_>) {
     let (most, room, then) = case.writes;
     let mut writer = writer_of(alloc, most, room, then);
     let mut seat = Chair {
-        alloc: alloc,
+        alloc,
         lane: 7,
         asked: 0,
         leaves: 0,

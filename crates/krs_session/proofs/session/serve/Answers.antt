@@ -21,7 +21,7 @@ returns-in-Some-clause-finished g c =
     let i = c.loop-made.invariant in
     let e = c.in-Some.ensures in
     so_far_ends g.R.Source.gave g.D.Keeper.leads g.C.Clock.ticked g.W.Sink.took g.met.R.Source.joins g.met.D.Keeper.joins g.met.C.Clock.joins g.met.W.Sink.joins
-    _ _ _ _ _ _ _ _ _ _ _ _ _ _ _ _ e.served.0 c.in-Some.ended i.unfailed i.state e.served.1 i.lane e.served.2
+    _ _ _ _ _ _ _ _ _ _ _ _ _ _ _ _ _ _ e.served.0 c.in-Some.ended i.unfailed i.state e.served.1 e.served.2 (omega (arith, e.reads, i.reads)) i.lane e.served.3
 
 pub loop-made-preserved : goal.loop-made-preserved
 loop-made-preserved g c =
@@ -29,8 +29,8 @@ loop-made-preserved g c =
     let e = c.in_default.ensures in
     record {
       state = so_far_more g.R.Source.gave g.D.Keeper.leads g.C.Clock.ticked g.W.Sink.took g.met.R.Source.joins g.met.D.Keeper.joins g.met.C.Clock.joins g.met.W.Sink.joins
-          _ _ _ _ _ _ _ _ _ _ _ _ _ _ _ _ e.served.0 i.unfailed i.state e.served.1 i.lane e.served.2;
-      unfailed = e.served.2.served.1;
+          _ _ _ _ _ _ _ _ _ _ _ _ _ _ _ _ _ e.served.0 i.unfailed i.state e.served.1 e.served.2 i.lane e.served.3;
+      unfailed = e.served.3.served.1;
       reads = omega (arith, e.reads, i.reads);
       empties = e.count.0 ∙ i.empties;
       read_failures = e.count.1 ∙ i.read_failures;
