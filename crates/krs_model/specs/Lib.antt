@@ -4,6 +4,7 @@ pub mod Access
 pub mod Levels
 pub mod Possession
 pub mod Lookup
+pub mod Usable
 pub mod Linking
 pub mod Sweep
 pub mod Outcome

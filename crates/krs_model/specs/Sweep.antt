@@ -36,12 +36,6 @@ pub record PicksHeld (keys : Table Key) (attached : List ℕ) (kept : ℕ → Bo
   pub only : (k : ℕ) → IsSome (at keys k) → kept k ≡ true → IsHeld keys attached k
   pub each : (k : ℕ) → IsHeld keys attached k → IsSome (at keys k) → kept k ≡ true
 
--- just the held keys stay
-pub record KeepsHeld (attached : List ℕ) (old new : Table Key) : Type 0 where
-  pub kept : ℕ → Bool
-  pub picks : PicksHeld old attached kept
-  pub keys : new ≡ filter (λ e. kept e.0) old
-
 -- new is the sweep of old: the held keys stay, and the watches on them
 pub record IsSweep (old new : State) : Type 0 where
   pub kept : ℕ → Bool

@@ -25,6 +25,11 @@ abbrev pub alter : {X : Type 0} → Table X → ℕ → (X → X) → Table X
 alter [] k f = []
 alter (e ∷ es) k f = cond (is_at (nat_cmp k) e.0) ((e.0, f e.1) ∷ es) (e ∷ alter es k f)
 
+-- the map with its values seen through f
+abbrev pub map_values : {X Y : Type 0} → (X → Y) → Table X → Table Y
+map_values f [] = []
+map_values f (e ∷ es) = (e.0, f e.1) ∷ map_values f es
+
 -- nothing is at this number or above it
 abbrev pub IsBelow : {X : Type 0} → Table X → ℕ → Type 0
 IsBelow es n = (k : ℕ) → n ≤ k → at es k ≡ None

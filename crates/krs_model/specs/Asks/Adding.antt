@@ -1,5 +1,5 @@
 -- ADD: a new key in a keyring, or a new payload for the key that stands there. add_key(2).
-use Rattle.std.specs.Prelude.{ℕ, ℤ, ◌+◌, List, nat_lt, if◌then◌else◌, Option, None, Some, false, Result, Ok, Err}
+use Rattle.std.specs.Prelude.{◌≡◌, ℕ, ℤ, ◌+◌, List, nat_lt, if◌then◌else◌, Option, None, Some, false, Result, Ok, Err}
 use Rattle.krs_types.specs.declared.errno.Errno.{Errno}
 use Rattle.krs_types.specs.declared.errno.Errno.TheVariants.{EACCES, ENOSPC, ENODEV}
 use Rattle.krs_types.specs.declared.kind.Kind.{Kind}
@@ -13,7 +13,7 @@ use Rattle.krs_types.specs.Rights.{has_all, WRITE}
 use Rattle.krs_types.specs.Kind.{kind_named, checked}
 use Rattle.krs_types.specs.Refusing.{◌>>=◌}
 use Rattle.krs_model.specs.Table.{at, put, alter}
-use Rattle.krs_model.specs.State.{State, Key, Payload}
+use Rattle.krs_model.specs.State.{State, Key, Content, Payload, Links}
 use Rattle.krs_model.specs.Access.{is_alive, rights_on}
 use Rattle.krs_model.specs.Possession.{possessed}
 use Rattle.krs_model.specs.Lookup.{context_of, look_up}
@@ -78,16 +78,29 @@ new_key name payload c = record {
   content = Payload payload;
 }
 
+-- another payload in the place of the one that is there; a keyring has none
+abbrev pub paid_with : List ℕ → Content → Content
+paid_with payload (Payload old) = Payload payload
+paid_with payload (Links serials) = Links serials
+
 -- another payload, and no expiry any more
 abbrev pub updated : List ℕ → Key → Key
-updated payload key = record key { content = Payload payload; expiry = None }
+updated payload key = record key { content = paid_with payload key.content; expiry = None }
+
+-- a new key of that name under the next serial, linked by that keyring
+abbrev pub made : State → ℕ → Name → Key → State
+made s ring name key = record s {
+  keys = alter (put s.keys s.next_serial key) ring (linking s.keys name s.next_serial);
+  next_serial = s.next_serial + 1;
+}
+
+-- the key at a serial is a keyring
+abbrev pub IsRing : State → ℕ → Type 0
+IsRing s serial = (key : Key) × (at s.keys serial ≡ Some key) × (links : List ℕ) × (key.content ≡ Links links)
 
 abbrev pub added : State → Context → Name → List ℕ → Place → State
 added s c name payload (Updated serial) = record s { keys = alter s.keys serial (updated payload) }
-added s c name payload (Made ring) = record s {
-  keys = alter (put s.keys s.next_serial (new_key name payload c.caller)) ring (linking s.keys name s.next_serial);
-  next_serial = s.next_serial + 1;
-}
+added s c name payload (Made ring) = made s ring name (new_key name payload c.caller)
 
 abbrev pub added_serial : State → Place → ℕ
 added_serial s (Updated serial) = serial

@@ -1,6 +1,5 @@
 -- READ and DESCRIBE: keyctl(2), KEYCTL_READ and KEYCTL_DESCRIBE.
-use Rattle.std.specs.Prelude.{ℕ, ℤ, ◌^◌, ◌-◌, List, [], ◌∷◌, ◌++◌, false, Result, Ok, Err, decimal}
-use Rattle.std.specs.Fmt.{digits, padded_integral, format_spec}
+use Rattle.std.specs.Prelude.{ℕ, ℤ, ◌+◌, ◌/◌, ◌%◌, nat_lt, if◌then◌else◌, List, [], ◌∷◌, ◌++◌, Result, Ok, Err, decimal}
 use Rattle.krs_types.specs.declared.errno.Errno.{Errno}
 use Rattle.krs_types.specs.declared.errno.Errno.TheVariants.{EOPNOTSUPP}
 use Rattle.krs_types.specs.declared.kind.Kind.{Kind}
@@ -28,9 +27,15 @@ read s client context id = do
   bytes ← readable found.1.kind found.1.content
   Ok (s, Bytes bytes)
 
--- eight lower-case hexadecimal digits
+-- a lower-case hexadecimal digit
+abbrev pub hex_digit : ℕ → ℕ
+hex_digit n = if nat_lt n 10 then n + 48 else n + 87
+
+-- eight of them, the highest first
 abbrev pub hex_8 : ℕ → List ℕ
-hex_8 n = padded_integral (format_spec 32 0 4 8 (2 ^ 64 - 1)) false [] (digits 16 false n)
+hex_8 n =
+    hex_digit (n / 268435456 % 16) ∷ hex_digit (n / 16777216 % 16) ∷ hex_digit (n / 1048576 % 16) ∷ hex_digit (n / 65536 % 16)
+    ∷ hex_digit (n / 4096 % 16) ∷ hex_digit (n / 256 % 16) ∷ hex_digit (n / 16 % 16) ∷ hex_digit (n % 16) ∷ []
 
 -- type;uid;gid;perm;description
 abbrev pub description : Key → List ℕ
