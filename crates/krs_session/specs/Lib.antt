@@ -2,3 +2,4 @@ pub mod Events
 pub mod Session
 pub mod Serving
 pub mod Over
+pub mod Legal

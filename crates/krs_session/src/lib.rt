@@ -8,6 +8,7 @@ mod ended;
 mod ends;
 mod gate;
 mod keeper;
+mod one_desk;
 mod over;
 mod session;
 mod writing;
@@ -17,6 +18,7 @@ pub use ended::Ended;
 pub use ends::{Failed, Sink, Source};
 pub use gate::{Gate, Point};
 pub use keeper::Keeper;
+pub use one_desk::{OneDesk, OneSeat};
 pub use over::Over;
 pub use session::run;
 
