@@ -1,10 +1,9 @@
 -- How pieces and turns join into a session.
-use Rattle.std.proofs.Common.{◌≡◌, ◌≤◌, ℕ, ◌+◌, ◌*◌, List, [], ◌∷◌, ◌++◌, length, length-append, refl, sym, ap, subst, ◌∙◌, inl, inr, arith}
+use Rattle.std.proofs.Common.{◌≡◌, ◌≤◌, ℕ, ◌+◌, ◌*◌, List, [], ◌++◌, length, length-append, refl, sym, ap, subst, ◌∙◌, inl, inr, arith}
 use Rattle.std.proofs.lemmas.List.{append-nil, map-append}
 use Rattle.std.proofs.lemmas.List.Concat.{flat_map-append}
 use Rattle.std.specs.Prelude.{Some, None}
 use Rattle.krs_types.specs.declared.ask.Ask.{Ask}
-use Rattle.krs_types.specs.declared.ask.Op.TheVariants.{Leave}
 use Rattle.krs_types.specs.declared.event.Event.{Event}
 use Rattle.krs_wire.specs.declared.framed.Framed.{Framed}
 use Rattle.krs_wire.specs.declared.fault.WireFault.{WireFault}
@@ -15,7 +14,7 @@ use Rattle.krs_wire.specs.Reply.{reply_frame}
 use Rattle.krs_session.specs.declared.ended.Ended.{Ended}
 use Rattle.krs_session.specs.declared.ended.Ended.TheVariants.{Closed, Wire, Read, Write, Memory, Turns}
 use Rattle.krs_session.specs.Events.{asks_of, asks_in, session_text}
-use Rattle.krs_session.specs.Session.{AreFirst, Serves, Session}
+use Rattle.krs_session.specs.Session.{AreFirst, Serves}
 use Rattle.krs_session.specs.Serving.{Asked, PieceServes, FeedsMore, Served, Finished}
 use Rattle.krs_session.proofs.JoinLemmas.{Joins, asked_joins, front_joins}
 

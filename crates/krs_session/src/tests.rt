@@ -1,10 +1,10 @@
 mod fakes;
 
 use super::*;
-use fakes::{Chair, Rising, Table, Then, Watching, reader_of, writer_of};
+use fakes::{Chair, Rising, Table, Then, reader_of, watches, writer_of};
+use krs_store::Store;
 use krs_wire::WireFault;
 use std::alloc::Global;
-use std::cell::Cell;
 use std::process::Abort;
 use std::test::*;
 
@@ -51,12 +51,7 @@ fn check(rt: &impl Abort, alloc: Global, case: &Case<'_>) {
         moment: 0,
     };
     let mut clock = Rising { at: 100 };
-    let gate = Watching {
-        lane: 7,
-        asked: Cell::new(0),
-        answered: Cell::new(0),
-        wrong: Cell::new(0),
-    };
+    let gate = watches(7);
     let ended = run(
         rt,
         alloc,
@@ -89,22 +84,28 @@ fn check(rt: &impl Abort, alloc: Global, case: &Case<'_>) {
 const ALL: (usize, usize, Then) = (4096, 4096, Then::GivesNone);
 
 #[test]
-fn any_pieces(rt: HostRuntime) {
+fn any_two_pieces(rt: HostRuntime) {
     for first in 1..=ASKS.len() {
-        check(
+        let mut reader = reader_of(&ASKS, first, ASKS.len(), Then::GivesNone);
+        let mut writer = Over::new(Vec::new(rt.alloc()));
+        let (desk, mut seat) = OneDesk::open(1, Store::new(rt.alloc()));
+        let mut clock = Rising { at: 100 };
+        let gate = watches(0);
+        let ended = run(
             &rt,
             rt.alloc(),
-            &Case {
-                name: "in two pieces",
-                stream: &ASKS,
-                reads: (first, ASKS.len(), Then::GivesNone),
-                writes: ALL,
-                turns: 99,
-                ended: Ended::Closed,
-                asked: 4,
-                written: 34,
-            },
+            &mut reader,
+            &mut writer,
+            &desk,
+            &mut seat,
+            &mut clock,
+            &gate,
+            99,
         );
+        assert_eq!(rt; ended, Ended::Closed, "cut at {first}");
+        let text = writer.into_inner();
+        assert_eq!(rt; text.as_slice(), REPLIES.as_slice(), "cut at {first}");
+        assert_eq!(rt; gate.answered.get(), 4, "cut at {first}");
     }
 }
 
@@ -135,32 +136,22 @@ fn ends(rt: HostRuntime) {
 fn over_memory(rt: HostRuntime) {
     let mut reader = Over::new(&ASKS[..]);
     let mut writer = Over::new(Vec::new(rt.alloc()));
-    let mut seat = Chair {
-        alloc: rt.alloc(),
-        lane: 0,
-        asked: 0,
-        leaves: 0,
-        late: 0,
-        moment: 0,
-    };
-    let mut clock = Rising { at: 1 };
-    let gate = Watching {
-        lane: 0,
-        asked: Cell::new(0),
-        answered: Cell::new(0),
-        wrong: Cell::new(0),
-    };
+    let (desk, mut seat) = OneDesk::open(1, Store::new(rt.alloc()));
+    let mut clock = Rising { at: 100 };
+    let gate = watches(0);
     let ended = run(
         &rt,
         rt.alloc(),
         &mut reader,
         &mut writer,
-        &Table,
+        &desk,
         &mut seat,
         &mut clock,
         &gate,
         99,
     );
     assert_eq!(rt; ended, Ended::Closed);
-    assert_eq!(rt; writer.into_inner().as_slice(), REPLIES.as_slice());
+    let text = writer.into_inner();
+    assert_eq!(rt; text.as_slice(), REPLIES.as_slice());
+    let _ = desk.close(seat);
 }

@@ -150,6 +150,15 @@ pub(super) struct Watching {
     pub wrong: Cell<u32>,
 }
 
+pub(super) fn watches(lane: u32) -> Watching {
+    Watching {
+        lane,
+        asked: Cell::new(0),
+        answered: Cell::new(0),
+        wrong: Cell::new(0),
+    }
+}
+
 impl Gate for Watching {
     fn pass(&self, lane: u32, at: Point) {
         let asked = self.asked.get();
