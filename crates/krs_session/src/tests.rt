@@ -1,7 +1,14 @@
+ghost use Rattle.std.specs.Prelude.{◌≡◌, ◌++◌, ◌∷◌, [], ℕ, List};
+ghost use Rattle.krs_types.specs.declared.event.Event.{Event};
+ghost use Rattle.krs_model.specs.History.{IsLegal};
+ghost use Rattle.krs_wire.specs.declared.framed.Framed.{Framed};
+ghost use Rattle.krs_session.specs.Events.{asks_of, asks_in, session_text};
+ghost use Rattle.krs_session.specs.Session.{AreWhole};
+
 mod fakes;
 
 use super::*;
-use fakes::{Chair, Rising, Table, Then, reader_of, watches, writer_of};
+use fakes::{Chair, Rising, Table, Then, Watching, reader_of, watches, writer_of};
 use krs_store::Store;
 use krs_wire::WireFault;
 use std::alloc::Global;
@@ -132,26 +139,43 @@ fn ends(rt: HostRuntime) {
     }
 }
 
-#[test]
-fn over_memory(rt: HostRuntime) {
-    let mut reader = Over::new(&ASKS[..]);
-    let mut writer = Over::new(Vec::new(rt.alloc()));
-    let (desk, mut seat) = OneDesk::open(1, Store::new(rt.alloc()));
+// A session over bytes in memory, and what `run` tells of it there: where it was closed, some front of the input is cut
+// into frames, whose asks are those of a legal history, and the output is the text of its replies, without LEAVE's.
+fn converse(
+    rt: &HostRuntime,
+    alloc: Global,
+    input: &[u8],
+    seat: &mut OneSeat,
+    gate: &Watching,
+) -> (Vec<u8>, Ended)
+    ensures { result.1 ≡ Ended.Closed
+        → (front left : List ℕ) × (frames : List Framed) × (events : List Event) × (last : Event)
+        × (input.now ≡ front ++ left) × AreWhole front frames × (asks_of events ≡ asks_in frames)
+        × (result.0.items ≡ session_text events) × IsLegal seat.old (events ++ last ∷ []) seat.new }
+{
+    let mut reader = Over::new(input);
+    let mut writer = Over::new(Vec::new(alloc));
     let mut clock = Rising { at: 100 };
-    let gate = watches(0);
     let ended = run(
-        &rt,
-        rt.alloc(),
+        rt,
+        alloc,
         &mut reader,
         &mut writer,
-        &desk,
-        &mut seat,
+        &OneDesk,
+        seat,
         &mut clock,
-        &gate,
+        gate,
         99,
     );
+    (writer.into_inner(), ended)
+}
+
+#[test]
+fn over_memory(rt: HostRuntime) {
+    let (desk, mut seat) = OneDesk::open(1, Store::new(rt.alloc()));
+    let gate = watches(0);
+    let (text, ended) = converse(&rt, rt.alloc(), &ASKS, &mut seat, &gate);
     assert_eq!(rt; ended, Ended::Closed);
-    let text = writer.into_inner();
     assert_eq!(rt; text.as_slice(), REPLIES.as_slice());
     let _ = desk.close(seat);
 }

@@ -153,3 +153,20 @@ refuses old fault left piece why e none f =
 pub is_nothing : {A : Type 0} (xs : List A) → length xs ≡ 0 → xs ≡ []
 is_nothing [] e = refl
 is_nothing (x ∷ xs) e = absurd (omega (arith, e))
+
+-- ---- one cut
+
+pub cut_again : (bytes : List ℕ) (fs gs : List Framed) (d e : End) → Frames bytes fs d → Frames bytes gs e → (fs ≡ gs) × (d ≡ e)
+cut_again bytes [] [] (rest l) (rest m) h k = (refl, ap rest (h.1 ∙ sym k.1))
+cut_again bytes [] [] (rest l) (bad f) h k = let same = sym h.0 ∙ k in absurd cc
+cut_again bytes [] [] (bad f) (rest m) h k = let same = sym k.0 ∙ h in absurd cc
+cut_again bytes [] [] (bad f) (bad g) h k = let same = sym h ∙ k in (refl, cc)
+cut_again bytes [] (g ∷ gs) (rest l) e h k = let same = sym h.0 ∙ k.1 in absurd cc
+cut_again bytes [] (g ∷ gs) (bad f) e h k = let same = sym h ∙ k.1 in absurd cc
+cut_again bytes (f ∷ fs) [] d (rest m) h k = let same = sym k.0 ∙ h.1 in absurd cc
+cut_again bytes (f ∷ fs) [] d (bad g) h k = let same = sym k ∙ h.1 in absurd cc
+cut_again bytes (f ∷ fs) (g ∷ gs) d e h k =
+    let same = found_is (f, h.0) (g, k.0) (sym h.1 ∙ k.1) in
+    let later = cut_again h.0 fs gs d e h.2 (subst (λ (b : List ℕ). Frames b gs e) (sym (ap (λ (x : Framed × List ℕ). x.1) same)) k.2) in
+    let first : f ≡ g = ap (λ (x : Framed × List ℕ). x.0) same in
+    (ap (λ (x : Framed). x ∷ fs) first ∙ ap (λ (xs : List Framed). g ∷ xs) later.0, later.1)

@@ -7,7 +7,7 @@ use Rattle.krs_wire.specs.declared.fault.WireFault.TheVariants.{BadLength, Memor
 use Rattle.krs_wire.specs.declared.framed.Framed.{Framed}
 use Rattle.krs_wire.specs.Field.{sized}
 use Rattle.krs_wire.specs.Bodies.{number_of_op, body_of_op, FitsOp}
-use Rattle.krs_wire.specs.Frame.{head_fields, front_of}
+use Rattle.krs_wire.specs.Frame.{End, Frames, head_fields, front_of}
 
 abbrev pub framed : Ask → Framed
 framed ask = record { ask = ask }
@@ -36,3 +36,7 @@ SpelledSo bytes framed more = ((i : ℕ) → slice_index bytes i < 256) → fron
 -- what is spelled so is cut, whatever follows it
 abbrev pub ReadAgain : Framed → List ℕ → Type 0
 ReadAgain framed more = FitsAsk framed.ask → front_of (ask_frame framed.ask ++ more) ≡ Ok (Some (framed, more))
+
+-- two cuts of one stream are the same
+abbrev pub CutAlike : List ℕ → List Framed → End → List Framed → End → Type 0
+CutAlike bytes frames end others other = Frames bytes frames end → Frames bytes others other → (frames ≡ others) × (end ≡ other)

@@ -16,7 +16,7 @@ pub use encode::encode_ask;
 pub use fault::WireFault;
 pub use feed::Feed;
 pub use framed::Framed;
-pub use laws::one_spelling;
+pub use laws::{one_cut, one_spelling};
 pub use replies::{decode_reply, encode_reply};
 pub use shape::Shape;
 
