@@ -1,16 +1,15 @@
 -- How what was read, asked and written joins.
-use Rattle.std.proofs.Common.{◌≡◌, ℕ, List, [], ◌∷◌, ◌++◌, take, drop, sym, ap, subst, ◌∙◌, append_assoc}
-use Rattle.std.proofs.lemmas.List.{append-nil, take-append-drop}
-use Rattle.std.proofs.lemmas.List.{map-append, reverse-append}
+use Rattle.std.proofs.Common.{◌≡◌, ℕ, List, [], ◌∷◌, ◌++◌, take, drop, sym, ap, subst, ◌∙◌, append_assoc, refl}
+use Rattle.std.proofs.lemmas.List.{append-nil, map-append, take-append-drop}
 use Rattle.std.proofs.lemmas.List.Concat.{flat_map-append}
-use Rattle.std.specs.Prelude.{Option, Some, None, reverse}
+use Rattle.std.specs.Prelude.{Option, Some, None}
 use Rattle.krs_wire.specs.declared.framed.Framed.{Framed}
 use Rattle.krs_wire.specs.Reply.{reply_frame}
 use Rattle.krs_types.specs.declared.event.Event.{Event}
 use Rattle.krs_types.specs.declared.ask.Ask.{Ask}
 use Rattle.krs_session.specs.declared.ended.Ended.{Ended}
 use Rattle.krs_session.specs.declared.ended.Ended.TheVariants.{Closed, Wire, Read, Write, Memory, Turns}
-use Rattle.krs_session.specs.Events.{Begins, asks_of, asks_in, moments_of, session_text, AllOfLane}
+use Rattle.krs_session.specs.Events.{Begins, asks_in, moments_of, session_text, AllOfLane}
 use Rattle.krs_session.specs.Session.{TookFront}
 use Rattle.krs_session.specs.Serving.{Asked, Wrote, WroteNext, StopsBy, StopsNext, Answers}
 
@@ -97,28 +96,25 @@ stops_next old mid new (Some stop) result a b = subst (λ (r : Option Ended). St
 
 -- ---- one more ask
 
-pub last_first : (left before : List Framed) (framed : Framed) → left ≡ before ++ framed ∷ [] → reverse left ≡ framed ∷ reverse before
-last_first left before framed e = ap (λ (x : List Framed). reverse x) e ∙ reverse-append before (framed ∷ [])
-
 module _ {S C W : Type 0} (leads : S → List Event → S → Type 0) (ticked : C → List ℕ → C → Type 0) (took : W → List ℕ → W → Type 0)
     (led : (a b c : S) (p q : List Event) → leads a p b → leads b q c → leads a (p ++ q) c) (ticks : Joins ticked) (joins : Joins took) where
-  pub answers_more : (lane : ℕ) (s0 s1 s2 : S) (c0 c1 c2 : C) (w0 w1 w2 : W) (frames left more : List Framed) (framed : Framed) (event : Event) (stop result : Option Ended)
-      → Answers leads ticked took lane s0 s1 c0 c1 w0 w1 frames left stop → left ≡ framed ∷ more → event.ask ≡ framed.ask → Asked leads ticked lane s1 s2 c1 c2 (event ∷ [])
-      → WroteNext took w1 w2 (reply_frame event.reply) stop result → Answers leads ticked took lane s0 s2 c0 c2 w0 w2 frames more result
-  answers_more lane s0 s1 s2 c0 c1 c2 w0 w1 w2 frames left more framed event stop result a e same one wrote =
+  pub answers_more : (lane : ℕ) (s0 s1 s2 : S) (c0 c1 c2 : C) (w0 w1 w2 : W) (frames : List Framed) (framed : Framed) (event : Event) (stop result : Option Ended)
+      → Answers leads ticked took lane s0 s1 c0 c1 w0 w1 frames stop → event.ask ≡ framed.ask → Asked leads ticked lane s1 s2 c1 c2 (event ∷ [])
+      → WroteNext took w1 w2 (reply_frame event.reply) stop result → Answers leads ticked took lane s0 s2 c0 c2 w0 w2 (frames ++ framed ∷ []) result
+  answers_more lane s0 s1 s2 c0 c1 c2 w0 w1 w2 frames framed event stop result a same one wrote =
       let text : session_text (a.events ++ event ∷ []) ≡ session_text a.events ++ reply_frame event.reply = flat_map-append (λ (x : Event). reply_frame x.reply) a.events (event ∷ []) ∙ ap (λ (x : List ℕ). session_text a.events ++ x) (append-nil (reply_frame event.reply)) in
       record {
         events = a.events ++ event ∷ [];
-        order = ap (λ (x : List Ask). x ++ asks_in more) (map-append (λ (x : Event). x.ask) a.events (event ∷ [])) ∙ append_assoc (asks_of a.events) (event.ask ∷ []) (asks_in more) ∙ ap (λ (x : Ask). asks_of a.events ++ x ∷ asks_in more) same ∙ ap (λ (x : List Framed). asks_of a.events ++ asks_in x) (sym e) ∙ a.order;
+        order = map-append (λ (x : Event). x.ask) a.events (event ∷ []) ∙ ap (λ (x : List Ask). x ++ event.ask ∷ []) a.order ∙ ap (λ (x : Ask). asks_in frames ++ x ∷ []) same ∙ sym (map-append (λ (x : Framed). x.ask) frames (framed ∷ []));
         asked = asked_joins leads ticked lane s0 s1 s2 c0 c1 c2 a.events (event ∷ []) led ticks a.asked one;
         wrote = subst (λ (x : List ℕ). Wrote took w0 w2 x result) (sym text) (wrote_next took joins w0 w1 w2 (session_text a.events) (reply_frame event.reply) stop result a.wrote wrote);
       }
 
-  pub answers_none : (lane : ℕ) (s0 : S) (c0 : C) (w0 : W) (frames left : List Framed) → leads s0 [] s0 → ticked c0 [] c0 → took w0 [] w0 → left ≡ frames → Answers leads ticked took lane s0 s0 c0 c0 w0 w0 frames left None
-  answers_none lane s0 c0 w0 frames left a b d e =
+  pub answers_none : (lane : ℕ) (s0 : S) (c0 : C) (w0 : W) → leads s0 [] s0 → ticked c0 [] c0 → took w0 [] w0 → Answers leads ticked took lane s0 s0 c0 c0 w0 w0 [] None
+  answers_none lane s0 c0 w0 a b d =
       record {
         events = [];
-        order = ap (λ (x : List Framed). asks_in x) e;
+        order = refl;
         asked = record { led = a; moments = b; lanes = tt };
         wrote = d;
       }

@@ -44,10 +44,10 @@ abbrev pub StopsNext : ℕ → ℕ → Option Ended → Option Ended → Type 0
 StopsNext old new None result = StopsBy old new result
 StopsNext old new (Some stop) result = (new ≡ old) × (result ≡ Some stop)
 
--- the asks of these frames were made but for those left, and the replies were written
-pub record Answers {S C W : Type 0} (leads : S → List Event → S → Type 0) (ticked : C → List ℕ → C → Type 0) (took : W → List ℕ → W → Type 0) (lane : ℕ) (s0 s1 : S) (c0 c1 : C) (w0 w1 : W) (frames left : List Framed) (stop : Option Ended) : Type 0 where
+-- the asks of these frames were made, and the replies were written
+pub record Answers {S C W : Type 0} (leads : S → List Event → S → Type 0) (ticked : C → List ℕ → C → Type 0) (took : W → List ℕ → W → Type 0) (lane : ℕ) (s0 s1 : S) (c0 c1 : C) (w0 w1 : W) (frames : List Framed) (stop : Option Ended) : Type 0 where
   pub events : List Event
-  pub order : asks_of events ++ asks_in left ≡ asks_in frames
+  pub order : asks_of events ≡ asks_in frames
   pub asked : Asked leads ticked lane s0 s1 c0 c1 events
   pub wrote : Wrote took w0 w1 (session_text events) stop
 

@@ -75,15 +75,13 @@ pub(crate) fn answer_all<H, W: Sink, S, D: Keeper<S, H>, C: Clock, G: Gate>(
     requires ready { D.ready desk.now seat.old }
     requires failures { W.failures writer.old < u64.MAX }
     ensures answers { Answers D.leads C.ticked W.took (D.lane_of seat.old)
-        seat.old seat.new clock.old clock.new writer.old writer.new frames.items [] result }
+        seat.old seat.new clock.old clock.new writer.old writer.new frames.items result }
     ensures count { StopsBy (W.failures writer.old) (W.failures writer.new) result }
     ensures ready { D.ready desk.now seat.new }
     ensures lane { D.lane_of seat.new ≡ D.lane_of seat.old }
 {
-    let mut left = frames;
-    left.reverse();
     let mut stop = None;
-    'frames: while let Some(framed) = left.pop() {
+    'frames: for framed in frames {
         stop = answer_one(rt, alloc, writer, desk, seat, clock, gate, framed.ask, stop);
     }
     stop
