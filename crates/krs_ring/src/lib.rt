@@ -1,13 +1,8 @@
-// A library with one function.
+//! A bounded ring of records of a watch queue. One that finds no room is dropped, and the last one kept is marked.
 #![tactic(auto)]
 
-ghost use Rattle.std.specs.Prelude.{◌≡◌};
-ghost use Rattle.krs_ring.specs.Echo.{echo_of};
+mod laws;
+mod ring;
 
-// The `ensures` clause is the contract: what `echo` returns is `echo_of` of its argument, a definition
-// in `specs/Echo.antt`, which a caller's clause can cite too.
-pub fn echo(x: usize) -> usize
-    ensures { result ≡ echo_of x }
-{
-    x
-}
+pub use laws::gives_its_stream;
+pub use ring::NoteRing;
