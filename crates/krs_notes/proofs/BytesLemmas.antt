@@ -27,7 +27,7 @@ header_is t n s w tail ht hn hs hw =
     let h : (s + 256 * w) / 16777216 % 256 ≡ 0 = omega arith in
     rw (a, b, c, d, e, f, g, h) refl
 
-event_small : (e : KeyEvent) → event_number e < 256
+pub event_small : (e : KeyEvent) → event_number e < 256
 event_small Instantiated = omega arith
 event_small Updated = omega arith
 event_small Linked = omega arith

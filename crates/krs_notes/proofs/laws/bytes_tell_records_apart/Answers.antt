@@ -1,5 +1,12 @@
 use Rattle.krs_notes.proofs.BytesLemmas.{none_begins_another}
+use Rattle.krs_notes.proofs.SpellingLemmas.{each_is_spelled, one_spelling}
 use Rattle.krs_notes.proofs.laws.bytes_tell_records_apart.Goals as goal
 
-pub returns : goal.returns
-returns c = none_begins_another
+pub returns-clause-spelled : goal.returns-clause-spelled
+returns-clause-spelled c = each_is_spelled
+
+pub returns-clause-one_spelling : goal.returns-clause-one_spelling
+returns-clause-one_spelling c = one_spelling
+
+pub returns-clause-apart : goal.returns-clause-apart
+returns-clause-apart c = none_begins_another
