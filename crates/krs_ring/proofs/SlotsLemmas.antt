@@ -8,7 +8,8 @@ use Rattle.krs_types.specs.declared.note.Record.{Record}
 use Rattle.krs_types.specs.declared.note.Record.TheVariants.{Key, Removal, Loss}
 use Rattle.krs_model.specs.Notes.Bytes.{is_loss, bytes_of, bytes_of_all}
 use Rattle.krs_model.specs.Notes.Stream.{room_of, loss_if}
-use Rattle.krs_model.specs.Notes.Waiting.{Ring, total_room, with_loss, after_post}
+use Rattle.krs_model.specs.Notes.Waiting.{total_room, with_loss, after_post}
+use Rattle.krs_ring.specs.Ring.{Ring}
 use Rattle.krs_ring.specs.Slots.{notes_of, marked, HasNoLoss}
 use Rattle.krs_ring.specs.View.{ring_of}
 use Rattle.krs_ring.specs.declared.ring.Slot.{Slot}

@@ -6,7 +6,7 @@ use Rattle.krs_types.specs.declared.note.Record.{Record}
 use Rattle.krs_types.specs.declared.note.Record.TheVariants.{Loss}
 use Rattle.krs_model.specs.Notes.Bytes.{is_loss}
 use Rattle.krs_model.specs.Notes.Stream.{Move, Posted, Took, taken, room_of, calls, Verdict, verdicts, begins_with_drop, loss_if, kept_and_losses}
-use Rattle.krs_model.specs.Notes.Waiting.{total_room, ends_with_loss, with_loss, Leads}
+use Rattle.krs_model.specs.Notes.Waiting.{total_room, ends_with_loss, with_loss, MovesTo}
 use Rattle.krs_ring.specs.Laws.{GivesItsStream}
 
 pub total_room-append : (a b : List Record) → total_room (a ++ b) ≡ total_room a + total_room b
@@ -93,7 +93,7 @@ bridge-with_loss waiting next =
 
 -- from any point on, where what waits takes the room of what was kept and not taken
 from_here : (capacity : ℕ) (moves : List Move) (kept before : ℕ) (waiting after : List Record) → 1 ≤ capacity →
-    kept ≡ before + total_room waiting → Leads capacity waiting moves after →
+    kept ≡ before + total_room waiting → MovesTo capacity waiting moves after →
     taken moves ++ after
     ≡ waiting ++ (bridge waiting (verdicts capacity kept (calls before moves)) ++ kept_and_losses (verdicts capacity kept (calls before moves)))
 from_here capacity [] kept before waiting after one e l = sym l ∙ sym (append-nil waiting)
@@ -107,7 +107,7 @@ from_here capacity (Took r ∷ moves) kept before waiting after one e l =
 from_here capacity (Posted r ∷ moves) kept before waiting after one e l =
     let left : total_room waiting ≡ kept - before = omega arith in
     let next : Bool → List Verdict = λ k. verdicts capacity (kept + cond k 1 0) (calls before moves) in
-    elim (ltb (kept - before) capacity) as (λ k. Leads capacity (cond k (waiting ++ r ∷ []) (with_loss waiting)) moves after →
+    elim (ltb (kept - before) capacity) as (λ k. MovesTo capacity (cond k (waiting ++ r ∷ []) (with_loss waiting)) moves after →
     taken moves ++ after
     ≡ waiting ++ (loss_if (cond (not k) (not (ends_lost false waiting)) false)
     ++ cond k (r ∷ (loss_if (begins_with_drop (next k)) ++ kept_and_losses (next k))) (kept_and_losses (next k)))) [
@@ -121,7 +121,7 @@ from_here capacity (Posted r ∷ moves) kept before waiting after one e l =
           ∙ (ap (λ (xs : List Record). with_loss waiting ++ (xs ++ kept_and_losses (next false))) (bridge-with_loss waiting (next false))
           ∙ (ap (λ (xs : List Record). xs ++ kept_and_losses (next false)) (with_loss-append waiting)
           ∙ append_assoc waiting (loss_if (not (ends_lost false waiting))) (kept_and_losses (next false))))
-    ] (subst (λ (n : ℕ). Leads capacity (cond (ltb n capacity) (waiting ++ r ∷ []) (with_loss waiting)) moves after) left l.1)
+    ] (subst (λ (n : ℕ). MovesTo capacity (cond (ltb n capacity) (waiting ++ r ∷ []) (with_loss waiting)) moves after) left l.1)
 
 -- at the start nothing was kept, so no loss is wanted
 pub gives_its_stream : GivesItsStream

@@ -1,7 +1,7 @@
 -- Which waiting list a ring stands for.
 use Rattle.std.specs.Prelude.{◌≤◌, ◌++◌}
 use Rattle.krs_model.specs.Notes.Stream.{loss_if}
-use Rattle.krs_model.specs.Notes.Waiting.{Ring}
+use Rattle.krs_ring.specs.Ring.{Ring}
 use Rattle.krs_ring.specs.Slots.{notes_of, HasNoLoss}
 use Rattle.krs_ring.specs.declared.ring.NoteRing.TheInside.{Inside}
 

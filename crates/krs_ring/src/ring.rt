@@ -1,7 +1,8 @@
 ghost use Rattle.std.specs.Prelude.{◌≡◌, ◌+◌, ◌*◌, ◌≤◌, drop, length, false, slice_get, if◌then◌else◌, IsTrue, IfOk, OnOk, IfErr};
 ghost use Rattle.circular_buffer.specs.Buffer.{buffer};
 ghost use Rattle.krs_model.specs.Notes.Bytes.{is_loss, bytes_of_all};
-ghost use Rattle.krs_model.specs.Notes.Waiting.{is_capacity, empty_ring, total_room, after_post};
+ghost use Rattle.krs_model.specs.Notes.Waiting.{is_capacity, total_room, after_post};
+ghost use Rattle.krs_ring.specs.Ring.{empty_ring};
 ghost use Rattle.krs_ring.specs.Slots.{marked};
 
 use circular_buffer::HeapCircularBuffer;
@@ -28,7 +29,7 @@ pub struct NoteRing {
 }
 
 impl Model for NoteRing {
-    ghost use Rattle.krs_model.specs.Notes.Waiting.{Ring};
+    ghost use Rattle.krs_ring.specs.Ring.{Ring};
 
     ghost Value = { Ring };
 

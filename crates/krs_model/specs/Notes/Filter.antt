@@ -27,7 +27,8 @@ filter_of entries = if is_good_filter entries then Ok entries else Err EINVAL
 abbrev pub has_subtype : FilterEntry → ℕ → Bool
 has_subtype entry s = slice_index entry.subtypes (s / 32) / 2 ^ (s % 32) % 2 == 1
 
--- it asks for this type, all 32 bits counted, for this subtype, and for these bits of info under its mask
+-- it asks for this type, with all its 32 bits (profile, unknown note types), for this subtype, and for the bits of info
+-- that its mask shows
 abbrev pub asks_for : FilterEntry → ℕ → ℕ → ℕ → Bool
 asks_for entry note_type subtype info =
     (entry.note_type == note_type) && (has_subtype entry subtype && (bit_and info entry.info_mask == entry.info_filter))
@@ -36,7 +37,7 @@ asks_for entry note_type subtype info =
 abbrev pub matches : FilterEntry → Record → Bool
 matches entry note = asks_for entry (type_of note) (subtype_of note) (info_of note)
 
--- a key note passes where an entry matches it; a removal or a loss passes every filter: profile, unfiltered records
+-- a key note passes where an entry matches it; a removal or a loss passes every filter: profile, meta records pass
 abbrev pub passes : List FilterEntry → Record → Bool
 passes entries (Key subtype watch key aux) = list_any (λ entry. matches entry (Key subtype watch key aux)) entries
 passes entries (Removal watch id) = true

@@ -16,7 +16,7 @@ taken [] = []
 taken (Posted note ∷ moves) = taken moves
 taken (Took note ∷ moves) = note ∷ taken moves
 
--- the room that a record takes: none for a loss (profile, losses take no room)
+-- the room that a record takes: none for a loss (profile, loss records take no room)
 abbrev pub room_of : Record → ℕ
 room_of note = if is_loss note then 0 else 1
 

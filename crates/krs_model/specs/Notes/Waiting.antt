@@ -5,16 +5,7 @@ use Rattle.krs_types.specs.declared.note.Record.TheVariants.{Loss}
 use Rattle.krs_model.specs.Notes.Bytes.{is_loss}
 use Rattle.krs_model.specs.Notes.Stream.{Move, Posted, Took, room_of}
 
--- what waits, first the one to be read first, and how many records other than losses may wait
-pub record Ring : Type 0 where
-  pub capacity : ℕ
-  pub waiting : List Record
-
--- one in which nothing waits
-abbrev pub empty_ring : ℕ → Ring
-empty_ring capacity = record { capacity = capacity; waiting = [] }
-
--- a queue is asked for with 1 to 512 records, and holds exactly that number: profile, ring sizes
+-- a queue is asked for with 1 to 512 records, and holds exactly that number: profile, exact rings
 abbrev pub is_capacity : ℕ → Bool
 is_capacity capacity = nat_le 1 capacity && nat_le capacity 512
 
@@ -29,7 +20,7 @@ ends_with_loss [] = false
 ends_with_loss (note ∷ []) = is_loss note
 ends_with_loss (note ∷ next ∷ notes) = ends_with_loss (next ∷ notes)
 
--- a loss at the end, unless one is there: profile, losses are told once
+-- a loss at the end, unless one is there: profile, loss records take no room
 abbrev pub with_loss : List Record → List Record
 with_loss waiting = if ends_with_loss waiting then waiting else waiting ++ Loss ∷ []
 
@@ -38,9 +29,9 @@ abbrev pub after_post : ℕ → Record → List Record → List Record
 after_post capacity note waiting = if nat_lt (total_room waiting) capacity then waiting ++ note ∷ [] else with_loss waiting
 
 -- from one waiting list these moves lead to the other. A post is never of a loss, and a reader takes the first that waits
-abbrev pub Leads : ℕ → List Record → List Move → List Record → Type 0
-Leads capacity waiting [] after = waiting ≡ after
-Leads capacity waiting (Posted note ∷ moves) after =
-    (is_loss note ≡ false) × Leads capacity (after_post capacity note waiting) moves after
-Leads capacity waiting (Took note ∷ moves) after =
-    (rest : List Record) × (waiting ≡ note ∷ rest) × Leads capacity rest moves after
+abbrev pub MovesTo : ℕ → List Record → List Move → List Record → Type 0
+MovesTo capacity waiting [] after = waiting ≡ after
+MovesTo capacity waiting (Posted note ∷ moves) after =
+    (is_loss note ≡ false) × MovesTo capacity (after_post capacity note waiting) moves after
+MovesTo capacity waiting (Took note ∷ moves) after =
+    (rest : List Record) × (waiting ≡ note ∷ rest) × MovesTo capacity rest moves after
