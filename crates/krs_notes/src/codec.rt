@@ -123,3 +123,6 @@ fn guess(bytes: &[u8]) -> Option<Record>
         id,
     })
 }
+
+#[cfg(test)]
+mod tests;

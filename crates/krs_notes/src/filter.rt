@@ -114,3 +114,6 @@ fn has_subtype(entry: &FilterEntry, number: u8) -> bool
     let word = entry.subtypes[usize::from(number / 32)];
     (word >> u32::from(number % 32)) % 2 == 1
 }
+
+#[cfg(test)]
+mod tests;

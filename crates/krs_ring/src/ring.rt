@@ -124,3 +124,6 @@ fn mark_last(slots: &mut HeapCircularBuffer<Slot>)
         let _ = slots.push_back(Slot { lost: true, ..slot });
     }
 }
+
+#[cfg(test)]
+mod tests;
