@@ -1,6 +1,5 @@
 -- Bytes of records, taken apart as their reader does it.
-use Rattle.std.proofs.Common.{◌≡◌, ℕ, ◌+◌, ◌*◌, ◌-◌, ◌/◌, ◌%◌, ◌^◌, ◌<◌, ◌≤◌, List, [], ◌∷◌, ◌++◌, length, zero, suc, get_or, refl, sym, ap, ◌∙◌, arith}
-use Rattle.std.specs.List.{All}
+use Rattle.std.proofs.Common.{◌≡◌, ℕ, ◌+◌, ◌*◌, ◌/◌, ◌%◌, ◌<◌, ◌≤◌, List, [], ◌∷◌, ◌++◌, length, zero, suc, get_or, refl, sym, ap, ◌∙◌, arith}
 use Rattle.std.specs.Int.{w32, to_le_bytes, from_le_bytes}
 use Rattle.std.specs.Int.RustNames.{bit_and}
 use Rattle.std.proofs.lemmas.Nat.{from_le_bytes-to_le_bytes_4, le_bytes_4, and_mask}
@@ -8,7 +7,7 @@ use Rattle.std.proofs.lemmas.Nat.Bits.{and_high_mask}
 use Rattle.krs_types.specs.declared.note.Record.{Record}
 use Rattle.krs_types.specs.declared.note.Record.TheVariants.{Key, Removal, Loss}
 use Rattle.krs_model.specs.Notes.Bytes.{type_of, subtype_of, size_of, watch_of, kind_word, info_of, tail_of, bytes_of, Fits}
-use Rattle.krs_notes.specs.Laws.{word_at, Spells, EachIsSpelled, HasOneSpelling}
+use Rattle.krs_notes.specs.Laws.{word_at, EachIsSpelled, HasOneSpelling}
 use Rattle.krs_notes.proofs.BytesLemmas.{event_small}
 
 subtype_small : (r : Record) → subtype_of r < 256

@@ -59,7 +59,7 @@ fn takes_good_entries(rt: HostRuntime) -> Result<(), Fail> {
         assert_eq!(rt;
             Filter::new(one).is_ok(),
             good,
-            "{note_type:x}:{info_filter:x}:{info_mask:x}"
+            "of {note_type:x}:{info_filter:x}:{info_mask:x}"
         );
     }
     Ok(())
@@ -70,7 +70,7 @@ fn takes_1_to_16_entries(rt: HostRuntime) -> Result<(), Fail> {
     for (count, good) in [(0, false), (1, true), (16, true), (17, false)] {
         let entries = vec![in rt.alloc(); entry(1, 0, 0, 2); count]?;
         match Filter::new(entries) {
-            Ok(_) => assert!(rt; good, "{count} entries"),
+            Ok(_) => assert!(rt; good, "of {count} entries"),
             Err(error) => assert!(rt; error == Errno::EINVAL && !good, "{count} entries"),
         }
     }
@@ -86,7 +86,7 @@ fn passes_what_is_asked_for(rt: HostRuntime) -> Result<(), Fail> {
         assert_eq!(rt;
             filter.passes(&update),
             pass,
-            "{note_type:x}:{info_filter:x}:{info_mask:x}:{subtypes:x}"
+            "of {note_type:x}:{info_filter:x}:{info_mask:x}:{subtypes:x}"
         );
         assert!(rt; filter.passes(&Record::Removal { watch: 9, id: 5 }));
         assert!(rt; filter.passes(&Record::Loss));
