@@ -82,9 +82,12 @@ word-is a b c d n ha hb hc hd e = le_bytes_4 (a ∷ b ∷ c ∷ d ∷ []) n refl
 pub one_spelling : HasOneSpelling
 one_spelling r (a ∷ b ∷ c ∷ d ∷ e ∷ f ∷ g ∷ h ∷ rest) small s =
     let kind : kind_word r ≡ word_at (a ∷ b ∷ c ∷ d ∷ []) 0 = let t = s.note_type in let u = s.subtype in omega arith in
-    let info : info_of r ≡ word_at (e ∷ f ∷ g ∷ h ∷ []) 0 = let t = s.info_length in let u = s.info_watch in let v = s.no_more_info in omega arith in
-    let first = word-is a b c d (kind_word r) (small 0 0 (omega arith)) (small 1 0 (omega arith)) (small 2 0 (omega arith)) (small 3 0 (omega arith)) kind in
-    let second = word-is e f g h (info_of r) (small 4 0 (omega arith)) (small 5 0 (omega arith)) (small 6 0 (omega arith)) (small 7 0 (omega arith)) info in
+    let info : info_of r ≡ word_at (e ∷ f ∷ g ∷ h ∷ []) 0 = let t = s.info_length in let u = s.info_watch in
+    let v = s.no_more_info in omega arith in
+    let first = word-is a b c d (kind_word r) (small 0 0 (omega arith)) (small 1 0 (omega arith))
+    (small 2 0 (omega arith)) (small 3 0 (omega arith)) kind in
+    let second = word-is e f g h (info_of r) (small 4 0 (omega arith)) (small 5 0 (omega arith))
+    (small 6 0 (omega arith)) (small 7 0 (omega arith)) info in
     sym (ap (λ (xs : List ℕ). xs ++ (to_le_bytes w32 (info_of r) ++ tail_of r)) first
     ∙ (ap (λ (xs : List ℕ). (a ∷ b ∷ c ∷ d ∷ []) ++ (xs ++ tail_of r)) second
     ∙ ap (λ (xs : List ℕ). a ∷ b ∷ c ∷ d ∷ e ∷ f ∷ g ∷ h ∷ xs) (sym s.tail)))

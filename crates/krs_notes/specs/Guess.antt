@@ -25,7 +25,8 @@ abbrev pub four : List ℕ → ℕ → List ℕ
 four xs i = slice_index xs i ∷ slice_index xs (i + 1) ∷ slice_index xs (i + 2) ∷ slice_index xs (i + 3) ∷ []
 
 abbrev pub eight : List ℕ → ℕ → List ℕ
-eight xs i = slice_index xs i ∷ slice_index xs (i + 1) ∷ slice_index xs (i + 2) ∷ slice_index xs (i + 3) ∷ four xs (i + 4)
+eight xs i =
+    slice_index xs i ∷ slice_index xs (i + 1) ∷ slice_index xs (i + 2) ∷ slice_index xs (i + 3) ∷ four xs (i + 4)
 
 abbrev pub guess : List ℕ → Option Record
 guess xs =
@@ -33,5 +34,6 @@ guess xs =
     else if (slice_index xs 0 == 0) && (slice_index xs 3 == 1) then Some Loss
     else if nat_lt (length xs) 16 then None
     else if slice_index xs 0 == 1 then
-    option_map (λ e. Key e (slice_index xs 5) (from_le_bytes w32 (four xs 8)) (from_le_bytes w32 (four xs 12))) (event_numbered (slice_index xs 3))
+    option_map (λ e. Key e (slice_index xs 5) (from_le_bytes w32 (four xs 8)) (from_le_bytes w32 (four xs 12)))
+    (event_numbered (slice_index xs 3))
     else Some (Removal (slice_index xs 5) (from_le_bytes w64 (eight xs 8)))

@@ -75,8 +75,8 @@ fn removal_bytes(watch: u8, id: u64) -> RecordBytes
     }
 }
 
-/// The record that bytes begin with, and how many bytes it has. Bytes that differ from a record's in anything give none:
-/// another type, subtype, length or bit of info, or too few of them.
+/// The record that bytes begin with, and how many bytes it has. Where they differ from a record's in anything there is
+/// none: in type, subtype, length or another bit of info, or in number.
 pub fn decode(bytes: &[u8]) -> Option<(Record, usize)>
     ensures begins { IfSome result (λ x. Begins (bytes_of x.0) bytes.now × (x.1 ≡ length (bytes_of x.0))) }
     ensures each { (r : Record) → Fits r → Begins (bytes_of r) bytes.now → result ≡ Some (r, length (bytes_of r)) }

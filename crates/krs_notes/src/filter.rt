@@ -38,8 +38,8 @@ impl Model for Filter {
 }
 
 impl Filter {
-    /// EINVAL where there are none or more than 16, or where one asks for a bit of info outside its mask, or has a bit of
-    /// the length in it.
+    /// EINVAL where there are none or more than 16, or where one asks for a bit of info outside its mask, or its mask
+    /// has a bit of the length.
     pub fn new(entries: Vec<FilterEntry>) -> Result<Filter, Errno>
         ensures { result ≡ filter_of entries.items }
     {

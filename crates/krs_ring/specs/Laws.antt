@@ -6,5 +6,6 @@ use Rattle.krs_model.specs.Notes.Waiting.{MovesTo}
 
 -- what was taken, followed by what waits, is the stream
 abbrev pub GivesItsStream : Type 0
-GivesItsStream = (capacity : ℕ) (moves : List Move) (after : List Record) → 1 ≤ capacity → MovesTo capacity [] moves after →
+GivesItsStream =
+    (capacity : ℕ) (moves : List Move) (after : List Record) → 1 ≤ capacity → MovesTo capacity [] moves after →
     taken moves ++ after ≡ stream capacity moves

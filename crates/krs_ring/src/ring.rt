@@ -15,9 +15,9 @@ const MAX_CAPACITY: u32 = 512;
 
 /// A kept record, and whether any were dropped after it.
 #[derive(Clone, Copy, Debug)]
-pub struct Slot {
-    pub(crate) kept: Record,
-    pub(crate) lost: bool,
+struct Slot {
+    kept: Record,
+    lost: bool,
 }
 
 /// What waits for the reader of a queue. A contract sees the capacity and the list, losses in it.
@@ -58,9 +58,9 @@ impl NoteRing {
         if !NoteRing::is_capacity(capacity) {
             return Err(Errno::EINVAL);
         }
-        let slots = HeapCircularBuffer::with_capacity(alloc, capacity as usize).map_err(
-            |_| Errno::ENOMEM,
-        )?;
+        let Ok(slots) = HeapCircularBuffer::with_capacity(alloc, capacity as usize) else {
+            return Err(Errno::ENOMEM);
+        };
         Ok(NoteRing { slots, owed: false })
     }
 

@@ -77,6 +77,10 @@ Fits (Key subtype watch key aux) = (watch < 2 ^ 8) × (key < 2 ^ 32) × (aux < 2
 Fits (Removal watch id) = (watch < 2 ^ 8) × (id < 2 ^ 64)
 Fits Loss = Unit {0}
 
+abbrev pub AllFit : List Record → Type 0
+AllFit [] = Unit {0}
+AllFit (note ∷ notes) = Fits note × AllFit notes
+
 -- these bytes begin with those
 abbrev pub Begins : List ℕ → List ℕ → Type 0
 Begins front bytes = (rest : List ℕ) × (bytes ≡ front ++ rest)

@@ -13,7 +13,8 @@ use Rattle.krs_model.specs.Notes.Bytes.{type_of, subtype_of, info_of}
 
 -- it asks for no bit of info outside its mask, and the mask has none of the length's bits, WATCH_INFO_LENGTH
 abbrev pub is_good_entry : FilterEntry → Bool
-is_good_entry entry = (bit_and entry.info_filter (bit_not w32 entry.info_mask) == 0) && (bit_and entry.info_mask 127 == 0)
+is_good_entry entry =
+    (bit_and entry.info_filter (bit_not w32 entry.info_mask) == 0) && (bit_and entry.info_mask 127 == 0)
 
 -- 1 to 16 such entries
 abbrev pub is_good_filter : List FilterEntry → Bool
@@ -27,13 +28,12 @@ filter_of entries = if is_good_filter entries then Ok entries else Err EINVAL
 abbrev pub has_subtype : FilterEntry → ℕ → Bool
 has_subtype entry s = slice_index entry.subtypes (s / 32) / 2 ^ (s % 32) % 2 == 1
 
--- it asks for this type, with all its 32 bits (profile, unknown note types), for this subtype, and for the bits of info
--- that its mask shows
+-- it asks for this type, of which all 32 bits count, for this subtype, and for these bits of info under its mask
 abbrev pub asks_for : FilterEntry → ℕ → ℕ → ℕ → Bool
 asks_for entry note_type subtype info =
     (entry.note_type == note_type) && (has_subtype entry subtype && (bit_and info entry.info_mask == entry.info_filter))
 
--- it asks for a record like this one
+-- it asks for this record; one that asks for a type that no record has matches nothing: profile, unknown note types
 abbrev pub matches : FilterEntry → Record → Bool
 matches entry note = asks_for entry (type_of note) (subtype_of note) (info_of note)
 

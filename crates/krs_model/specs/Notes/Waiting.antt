@@ -26,9 +26,10 @@ with_loss waiting = if ends_with_loss waiting then waiting else waiting ++ Loss 
 
 -- what waits once a record came: the record last where there is room, else a loss in its place
 abbrev pub after_post : ℕ → Record → List Record → List Record
-after_post capacity note waiting = if nat_lt (total_room waiting) capacity then waiting ++ note ∷ [] else with_loss waiting
+after_post capacity note waiting =
+    if nat_lt (total_room waiting) capacity then waiting ++ note ∷ [] else with_loss waiting
 
--- from one waiting list these moves lead to the other. A post is never of a loss, and a reader takes the first that waits
+-- these moves lead from one waiting list to the other. A post is never of a loss, and a reader takes what waits first
 abbrev pub MovesTo : ℕ → List Record → List Move → List Record → Type 0
 MovesTo capacity waiting [] after = waiting ≡ after
 MovesTo capacity waiting (Posted note ∷ moves) after =

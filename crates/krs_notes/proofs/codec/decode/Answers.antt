@@ -11,8 +11,10 @@ returns-then-starts_with-clause-begins c =
     let bytes = c.args.bytes.now in
     let front = c.as_slice-own.result.now in
     let own : front ≡ bytes_of c.in_ok-note.note = c.as_slice-own.ensures ∙ c.encode-encoded.ensures in
-    let starts = starts_is Decides-eqb bytes front true c.if-starts_with.ensures.value in
-    ((drop (length front) bytes, starts.0 refl ∙ ap (λ (xs : List ℕ). xs ++ drop (length front) bytes) own), ap length own)
+    let starts = starts_is Decides-eqb bytes front true c.if-starts_with.ensures.value in (
+      (drop (length front) bytes, starts.0 refl ∙ ap (λ (xs : List ℕ). xs ++ drop (length front) bytes) own),
+      ap length own,
+    )
 
 pub returns-else-starts_with-clause-each : goal.returns-else-starts_with-clause-each
 returns-else-starts_with-clause-each c = λ r h b.

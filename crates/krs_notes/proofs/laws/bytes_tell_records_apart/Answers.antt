@@ -1,4 +1,4 @@
-use Rattle.krs_notes.proofs.BytesLemmas.{none_begins_another}
+use Rattle.krs_notes.proofs.BytesLemmas.{none_begins_another, are_read_one_way}
 use Rattle.krs_notes.proofs.SpellingLemmas.{each_is_spelled, one_spelling}
 use Rattle.krs_notes.proofs.laws.bytes_tell_records_apart.Goals as goal
 
@@ -10,3 +10,6 @@ returns-clause-one_spelling c = one_spelling
 
 pub returns-clause-apart : goal.returns-clause-apart
 returns-clause-apart c = none_begins_another
+
+pub returns-clause-lists : goal.returns-clause-lists
+returns-clause-lists c = are_read_one_way
