@@ -1,2 +1,2 @@
-//! What a key store is, and what each ask does: definitions over the values of `krs_types`, and no code.
+//! What a key store is, and what each ask does to it: the definitions that every contract above cites.
 #![tactic(auto)]
