@@ -1,0 +1,6 @@
+pub mod Words
+pub mod Reading
+pub mod Number
+pub mod Command
+pub mod Printing
+pub mod Script

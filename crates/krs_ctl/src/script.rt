@@ -1,0 +1,124 @@
+ghost use Rattle.std.specs.Prelude.{◌≡◌, ◌≤◌};
+ghost use Rattle.krs_ctl.specs.Script.{context_after};
+
+use crate::command::{Command, parse};
+use crate::lines::Lines;
+use crate::printer::Printer;
+use crate::stop::Stop;
+use crate::words::{is_comment, words};
+use krs_store::Store;
+use krs_types::{Answer, Ask, Op, Reply};
+use std::alloc::Global;
+use std::io::{Read, Write};
+
+/// How many lines are read at most: profile, script length.
+const MOST_LINES: u32 = 16_777_216;
+
+/// The client number of a script: it has its store for itself.
+const CLIENT: u32 = 0;
+
+/// How a script ended.
+#[derive(Debug, Drop)]
+pub struct ScriptEnd {
+    /// 0; 1 where something was refused or memory was wanting; 2 for usage; 3 where reading or printing failed.
+    pub status: u8,
+    pub store: Store,
+}
+
+/// Runs the lines of a reader on a store, as client 0, and prints a line for each to the writer. What was printed is
+/// written out before a line is waited for.
+pub fn run_script<R: Read + Drop, W: Write>(
+    alloc: Global,
+    reader: R,
+    writer: &mut W,
+    store: Store,
+) -> ScriptEnd
+    ensures { result.status ≤ 3 }
+{
+    let mut script = Script {
+        store,
+        context: 0,
+        moment: 0,
+        refused: false,
+    };
+    let mut printer = Printer::new(alloc, writer);
+    let stopped = script.run(alloc, reader, &mut printer);
+    let status = printer.finish(stopped, script.refused);
+    ScriptEnd {
+        status,
+        store: script.store,
+    }
+}
+
+/// A script between two lines.
+#[derive(Debug, Drop)]
+struct Script {
+    store: Store,
+    context: u32,
+    moment: u64,
+    refused: bool,
+}
+
+impl Script {
+    fn run<R: Read + Drop, W: Write + Drop>(
+        &mut self,
+        alloc: Global,
+        reader: R,
+        printer: &mut Printer<W>,
+    ) -> Result<(), Stop> {
+        let mut lines = Lines::new(alloc, reader)?;
+        for _ in 0..MOST_LINES {
+            if !lines.has_line_at_hand() {
+                printer.write_out()?;
+            }
+            match lines.read()? {
+                Some(line) => self.obey(alloc, line, printer)?,
+                None => return Ok(()),
+            }
+        }
+        Err(Stop::Reading)
+    }
+
+    fn obey<W: Write + Drop>(
+        &mut self,
+        alloc: Global,
+        line: &[u8],
+        printer: &mut Printer<W>,
+    ) -> Result<(), Stop> {
+        if is_comment(line) {
+            return Ok(());
+        }
+        let words = words(alloc, line)?;
+        if words.is_empty() {
+            return Ok(());
+        }
+        let reply = match parse(alloc, words.as_slice())? {
+            Command::Context(context) => {
+                self.context = context;
+                Ok(Answer::Nothing)
+            }
+            Command::Moment(moment) => {
+                self.moment = moment;
+                Ok(Answer::Nothing)
+            }
+            Command::Ask(op) => self.ask(op),
+        };
+        self.refused |= reply.is_err();
+        printer.print(alloc, &reply)
+    }
+
+    fn ask(&mut self, op: Op) -> Reply
+        ensures { self.new.context ≡ context_after self.old.context op result }
+    {
+        let is_hello = matches!(op, Op::Hello(_));
+        let ask = Ask {
+            context: self.context,
+            op,
+        };
+        let reply = self.store.apply(CLIENT, self.moment, ask);
+        if let (true, Ok(Answer::Number(context))) = (is_hello, &reply) {
+            self.context = *context;
+        }
+        reply
+    }
+}
