@@ -1,3 +1,4 @@
 pub mod NumberLemmas
 pub mod WordsLemmas
 pub mod GroupsLemmas
+pub mod LinesLemmas

@@ -6,12 +6,15 @@ mod command;
 mod fault;
 mod lines;
 mod number;
-mod printer;
 mod printing;
 mod program;
 mod script;
 mod stop;
 mod words;
+mod writing;
 
 pub use program::run_program;
 pub use script::{ScriptEnd, run_script};
+
+#[cfg(test)]
+mod tests;

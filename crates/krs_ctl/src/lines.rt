@@ -1,78 +1,40 @@
-ghost use Rattle.std.specs.Prelude.{◌≡◌};
+ghost use Rattle.std.specs.Prelude.{◌≡◌, ◌∷◌, [], true, false, Ok};
+ghost use Rattle.std.specs.Io.Buffered.{reader_remaining};
+ghost use Rattle.std.specs.Io.KnownBytes.{IsAtEnd};
+ghost use Rattle.std.specs.Io.BufRead.{strip_last};
+ghost use Rattle.krs_ctl.specs.Lines.{ReadsLines};
 
 use crate::stop::Stop;
-use std::alloc::Global;
 use std::io::{BufRead, BufReader, ErrorKind, Read};
 
-/// How much is read at once.
-const READ_AHEAD: usize = 65_536;
-
-/// The lines of a reader, of any length and any bytes. A last line needs no newline.
-#[derive(Drop)]
-pub struct Lines<R: Read + Drop> {
-    reader: BufReader<R>,
-    line: Vec<u8>,
+/// Reads the next line, of any length and any bytes, in place of what `line` held, without its newline; whether there
+/// was one. An error of the reader that means want of memory counts as the client's own.
+pub fn read_line<R: Read>(reader: &mut BufReader<R>, line: &mut Vec<u8>) -> Result<bool, Stop>
+    ensures found { result ≡ Ok true → ReadsLines (reader_remaining R.remaining reader.old)
+        (reader_remaining R.remaining reader.new) (line.new.items ∷ []) }
+    ensures end { result ≡ Ok false → IsAtEnd (reader_remaining R.remaining reader.old) }
+{
+    line.clear();
+    match reader.read_until(b'\n', line) {
+        Ok(0) => Ok(false),
+        Ok(_) => {
+            drop_newline(line);
+            Ok(true)
+        }
+        Err(error) if error.kind() == ErrorKind::OutOfMemory => Err(Stop::Memory),
+        Err(_) => Err(Stop::Reading),
+    }
 }
 
-/// What a step of reading a line gave.
-#[derive(Clone, Copy, Debug, PartialEq, Eq)]
-enum Piece {
-    /// The newline was met.
-    Whole,
-    /// More of the line may follow.
-    Part,
-    /// The reader is at its end.
-    End,
+/// Whether the next line is read without asking for more bytes.
+pub fn has_line_at_hand<R: Read>(reader: &BufReader<R>) -> bool {
+    reader.buffer().contains(&b'\n')
 }
 
-impl<R: Read + Drop> Lines<R> {
-    pub fn new(alloc: Global, reader: R) -> Result<Lines<R>, Stop> {
-        match BufReader::with_capacity(alloc, READ_AHEAD, reader) {
-            Ok(reader) => Ok(Lines {
-                reader,
-                line: Vec::new(alloc),
-            }),
-            Err(_) => Err(Stop::Memory),
-        }
-    }
-
-    /// Whether the next line is read without asking the reader for more.
-    pub fn has_line_at_hand(&self) -> bool {
-        self.reader.buffer().contains(&b'\n')
-    }
-
-    /// The next line without its newline, none at the end of the reader.
-    pub fn read(&mut self) -> Result<Option<&[u8]>, Stop> {
-        self.line.clear();
-        for _ in 0..u64::MAX {
-            match self.read_piece()? {
-                Piece::Whole => return Ok(Some(self.line.as_slice())),
-                Piece::Part => {}
-                Piece::End if self.line.is_empty() => return Ok(None),
-                Piece::End => return Ok(Some(self.line.as_slice())),
-            }
-        }
-        Err(Stop::Reading)
-    }
-
-    fn read_piece(&mut self) -> Result<Piece, Stop> {
-        let held = match self.reader.fill_buf() {
-            Ok(held) => held,
-            Err(error) if error.kind() == ErrorKind::Interrupted => return Ok(Piece::Part),
-            Err(_) => return Err(Stop::Reading),
-        };
-        let (piece, taken) = match held.iter().position(|byte| *byte == b'\n') {
-            Some(length) => {
-                self.line.extend_from_slice(&held[..length])?;
-                (Piece::Whole, length + 1)
-            }
-            None => {
-                self.line.extend_from_slice(held)?;
-                let piece = if held.is_empty() { Piece::End } else { Piece::Part };
-                (piece, held.len())
-            }
-        };
-        self.reader.consume(taken);
-        Ok(piece)
+fn drop_newline(line: &mut Vec<u8>)
+    ensures { line.new.items ≡ strip_last 10 line.old.items }
+{
+    if line.last() == Some(&b'\n') {
+        line.pop();
     }
 }

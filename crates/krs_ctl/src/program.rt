@@ -1,4 +1,5 @@
 use crate::script::run_script;
+use crate::writing::{OUT_OF_MEMORY, USAGE, write_text};
 use clap::error::ErrorKind;
 use clap::{Arg, ArgAction, Command, Error};
 use krs_store::Store;
@@ -6,12 +7,6 @@ use std::alloc::{AllocError, Global};
 use std::env::Args;
 use std::io;
 use std::io::{Read, Write};
-
-/// What a client prints where the words that it is given are no command.
-pub const USAGE: &str = "usage\n";
-
-/// What a client prints where its own memory is wanting.
-pub const OUT_OF_MEMORY: &str = "error 12 ENOMEM\n";
 
 const WORDS: &str = "WORD";
 
@@ -97,8 +92,8 @@ fn command_line<'a>(alloc: Global) -> Result<Command<'a>, AllocError> {
 }
 
 fn last_words<W: Write>(output: &mut W, text: &str, status: u8) -> u8 {
-    if output.write_all(text.as_bytes()).is_err() || output.flush().is_err() {
-        return 3;
+    match write_text(output, text.as_bytes()) {
+        Ok(()) => status,
+        Err(_) => 3,
     }
-    status
 }

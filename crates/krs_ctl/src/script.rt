@@ -2,17 +2,20 @@ ghost use Rattle.std.specs.Prelude.{◌≡◌, ◌≤◌};
 ghost use Rattle.krs_ctl.specs.Script.{context_after};
 
 use crate::command::{Command, parse};
-use crate::lines::Lines;
-use crate::printer::Printer;
+use crate::lines::{has_line_at_hand, read_line};
 use crate::stop::Stop;
 use crate::words::{is_comment, words};
+use crate::writing::{finish, print_reply, write_out};
 use krs_store::Store;
 use krs_types::{Answer, Ask, Op, Reply};
 use std::alloc::Global;
-use std::io::{Read, Write};
+use std::io::{BufReader, Read, Write};
 
 /// How many lines are read at most: profile, script length.
 const MOST_LINES: u32 = 16_777_216;
+
+/// How many bytes are read at once.
+const READ_AHEAD: usize = 65_536;
 
 /// The client number of a script: it has its store for itself.
 const CLIENT: u32 = 0;
@@ -41,9 +44,12 @@ pub fn run_script<R: Read + Drop, W: Write>(
         moment: 0,
         refused: false,
     };
-    let mut printer = Printer::new(alloc, writer);
-    let stopped = script.run(alloc, reader, &mut printer);
-    let status = printer.finish(stopped, script.refused);
+    let mut pending = Vec::new(alloc);
+    let stopped = match BufReader::with_capacity(alloc, READ_AHEAD, reader) {
+        Ok(mut reader) => script.run(alloc, &mut reader, writer, &mut pending),
+        Err(_) => Err(Stop::Memory),
+    };
+    let status = finish(writer, &mut pending, stopped, script.refused);
     ScriptEnd {
         status,
         store: script.store,
@@ -60,30 +66,32 @@ struct Script {
 }
 
 impl Script {
-    fn run<R: Read + Drop, W: Write + Drop>(
+    fn run<R: Read, W: Write>(
         &mut self,
         alloc: Global,
-        reader: R,
-        printer: &mut Printer<W>,
+        reader: &mut BufReader<R>,
+        writer: &mut W,
+        pending: &mut Vec<u8>,
     ) -> Result<(), Stop> {
-        let mut lines = Lines::new(alloc, reader)?;
+        let mut line = Vec::new(alloc);
         for _ in 0..MOST_LINES {
-            if !lines.has_line_at_hand() {
-                printer.write_out()?;
+            if !has_line_at_hand(reader) {
+                write_out(writer, pending)?;
             }
-            match lines.read()? {
-                Some(line) => self.obey(alloc, line, printer)?,
-                None => return Ok(()),
+            if !read_line(reader, &mut line)? {
+                return Ok(());
             }
+            self.obey(alloc, line.as_slice(), writer, pending)?;
         }
         Err(Stop::Reading)
     }
 
-    fn obey<W: Write + Drop>(
+    fn obey<W: Write>(
         &mut self,
         alloc: Global,
         line: &[u8],
-        printer: &mut Printer<W>,
+        writer: &mut W,
+        pending: &mut Vec<u8>,
     ) -> Result<(), Stop> {
         if is_comment(line) {
             return Ok(());
@@ -104,7 +112,7 @@ impl Script {
             Command::Ask(op) => self.ask(op),
         };
         self.refused |= reply.is_err();
-        printer.print(alloc, &reply)
+        print_reply(alloc, writer, pending, &reply)
     }
 
     fn ask(&mut self, op: Op) -> Reply
