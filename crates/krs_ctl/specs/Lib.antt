@@ -6,3 +6,4 @@ pub mod Command
 pub mod Printing
 pub mod Script
 pub mod Writing
+pub mod Running

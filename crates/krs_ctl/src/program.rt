@@ -8,12 +8,12 @@ use std::env::Args;
 use std::io;
 use std::io::{Read, Write};
 
-const WORDS: &str = "WORD";
+const WORDS: &str = "COMMAND";
 
 const ABOUT: &str = "A client of a key store that works as Linux's key retention service does: keyrings(7), keyctl(2).";
 
 const WORDS_HELP: &str =
-    "`script`: runs the lines of standard input, one command each, on a store of their own";
+    "script: runs the lines of standard input, one command each, on a store of their own";
 
 const COMMANDS: &str = "\
 Commands of a script, with what an accepted one prints:

@@ -1,5 +1,4 @@
 ghost use Rattle.std.specs.Prelude.{◌≡◌, ◌≤◌};
-ghost use Rattle.krs_ctl.specs.Script.{context_after};
 
 use crate::command::{Command, parse};
 use crate::lines::{has_line_at_hand, read_line};
@@ -66,6 +65,10 @@ struct Script {
 }
 
 impl Script {
+    ghost use Rattle.std.specs.Prelude.{◌≡◌};
+    ghost use Rattle.krs_ctl.specs.Running.{Acts, Asks, ObeysLine};
+    ghost use Rattle.krs_ctl.specs.Writing.{Prints};
+
     fn run<R: Read, W: Write>(
         &mut self,
         alloc: Global,
@@ -92,7 +95,10 @@ impl Script {
         line: &[u8],
         writer: &mut W,
         pending: &mut Vec<u8>,
-    ) -> Result<(), Stop> {
+    ) -> Result<(), Stop>
+        ensures { ObeysLine self.old line.now self.new (Prints (W.contents writer.old)
+            pending.old.items (W.contents writer.new) pending.new.items) result }
+    {
         if is_comment(line) {
             return Ok(());
         }
@@ -100,7 +106,15 @@ impl Script {
         if words.is_empty() {
             return Ok(());
         }
-        let reply = match parse(alloc, words.as_slice())? {
+        let command = parse(alloc, words.as_slice())?;
+        let reply = self.act(command);
+        print_reply(alloc, writer, pending, &reply)
+    }
+
+    fn act(&mut self, command: Command) -> Reply
+        ensures { Acts self.old command result self.new }
+    {
+        match command {
             Command::Context(context) => {
                 self.context = context;
                 Ok(Answer::Nothing)
@@ -110,13 +124,11 @@ impl Script {
                 Ok(Answer::Nothing)
             }
             Command::Ask(op) => self.ask(op),
-        };
-        self.refused |= reply.is_err();
-        print_reply(alloc, writer, pending, &reply)
+        }
     }
 
     fn ask(&mut self, op: Op) -> Reply
-        ensures { self.new.context ≡ context_after self.old.context op result }
+        ensures { Asks self.old op result self.new }
     {
         let is_hello = matches!(op, Op::Hello(_));
         let ask = Ask {
@@ -127,6 +139,7 @@ impl Script {
         if let (true, Ok(Answer::Number(context))) = (is_hello, &reply) {
             self.context = *context;
         }
+        self.refused |= reply.is_err();
         reply
     }
 }
