@@ -1,4 +1,4 @@
-ghost use Rattle.std.specs.Prelude.{◌≡◌, ◌==◌};
+ghost use Rattle.std.specs.Prelude.{◌≡◌, ◌==◌, ◌≤◌, length, OnOk};
 ghost use Rattle.std.specs.List.{list_any};
 ghost use Rattle.krs_types.specs.Kind.{kind_named, kind_name, same_kind, is_bad_text, begins_with, described, described_as, paid, checked};
 
@@ -70,7 +70,9 @@ impl Kind {
     /// description's length and bytes, EPERM of a keyring's that begins with a dot, EINVAL of a logon key's that has no
     /// service before its first colon, EINVAL of the payload. add_key(2), keyrings(7); profile, logon descriptions.
     pub fn check(self, desc: &[u8], payload: &[u8]) -> Result<(), Errno>
-        ensures { result ≡ checked self desc.now payload.now }
+        ensures value { result ≡ checked self desc.now payload.now }
+        ensures desc { OnOk result (length desc.now ≤ 4095) }
+        ensures payload { OnOk result (length payload.now ≤ 32767) }
     {
         check_description(desc)?;
         self.check_own_description(desc)?;
@@ -91,7 +93,8 @@ impl Kind {
 
     /// Whether a payload may be that of a key of this kind: EINVAL.
     pub fn check_payload(self, payload: &[u8]) -> Result<(), Errno>
-        ensures { result ≡ paid self payload.now }
+        ensures value { result ≡ paid self payload.now }
+        ensures bound { OnOk result (length payload.now ≤ 32767) }
     {
         let fits = match self {
             Kind::User | Kind::Logon => !payload.is_empty() && payload.len() <= MAX_PAYLOAD,
@@ -104,7 +107,8 @@ impl Kind {
 /// Whether a description may be a key's: EINVAL where it is empty, longer than 4095 bytes or has a byte 0. Profile, empty
 /// description.
 pub fn check_description(desc: &[u8]) -> Result<(), Errno>
-    ensures { result ≡ described desc.now }
+    ensures value { result ≡ described desc.now }
+    ensures bound { OnOk result (length desc.now ≤ 4095) }
 {
     if is_bad_text(MAX_DESCRIPTION, desc) {
         return Err(Errno::EINVAL);

@@ -29,6 +29,12 @@ impl Model for Perm {
 }
 
 impl Perm {
+    /// The mask of a key that ADD makes: all for its possessor, VIEW for its user. Profile, masks of new keys.
+    pub const OF_KEY: Perm = Perm { mask: 0x3f01_0000 };
+
+    /// The mask of the keyrings of a uid: all but SETATTR for its possessor, all for its user.
+    pub const OF_UID: Perm = Perm { mask: 0x1f3f_0000 };
+
     /// The mask of these bits: EINVAL where one is outside 3f3f3f3f. Profile, mask bits.
     pub fn from_u32(mask: u32) -> Result<Perm, Errno>
         ensures { result ≡ perm_of mask }

@@ -1,4 +1,5 @@
-ghost use Rattle.std.specs.Prelude.{⊤, [], ◌∷◌, codes};
+ghost use Rattle.std.specs.Prelude.{⊤, ◌≡◌, [], ◌∷◌, codes};
+ghost use Rattle.krs_types.specs.Rights.{allows};
 
 use bitflags::{Flag, Flags, bitflag_items};
 
@@ -36,5 +37,31 @@ impl Flags for Rights {
 
     fn from_bits_retain(bits: u8) -> Rights {
         Rights(bits)
+    }
+}
+
+/// Which rights an ask needs of a key that its id names.
+#[derive(Clone, Copy, Debug)]
+pub enum Want {
+    /// All of these.
+    Granted(Rights),
+    /// The first or the second.
+    Either(Rights, Rights),
+    /// READ, or possession with SEARCH: keyctl(2), KEYCTL_READ.
+    ToRead,
+}
+
+impl Want {
+    /// Whether these rights on a key, which is possessed or not, are what is wanted.
+    pub fn allows(self, rights: Rights, possessed: bool) -> bool
+        ensures { result ≡ allows self rights.0 possessed }
+    {
+        match self {
+            Want::Granted(wanted) => rights.contains(wanted),
+            Want::Either(first, second) => rights.contains(first) || rights.contains(second),
+            Want::ToRead => {
+                rights.contains(Rights::READ) || (possessed && rights.contains(Rights::SEARCH))
+            }
+        }
     }
 }

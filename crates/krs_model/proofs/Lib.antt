@@ -1,0 +1,6 @@
+pub mod Tables
+pub mod Lists
+pub mod Levels
+pub mod Sweeps
+pub mod Lookups
+pub mod Sweeping

@@ -1,0 +1,4 @@
+pub mod Hello
+pub mod Adding
+pub mod Reading
+pub mod Leaving

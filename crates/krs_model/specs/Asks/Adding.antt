@@ -1,0 +1,114 @@
+-- ADD: a new key in a keyring, or a new payload for the key that stands there. add_key(2).
+use Rattle.std.specs.Prelude.{◌≡◌, ℕ, ℤ, ◌+◌, List, nat_lt, if◌then◌else◌, Option, None, Some, false, Result, Ok, Err}
+use Rattle.krs_types.specs.declared.errno.Errno.{Errno}
+use Rattle.krs_types.specs.declared.errno.Errno.TheVariants.{EACCES, ENOSPC, ENODEV}
+use Rattle.krs_types.specs.declared.kind.Kind.{Kind}
+use Rattle.krs_types.specs.declared.kind.Kind.TheVariants.{User, Logon, Keyring}
+use Rattle.krs_types.specs.declared.name.Name.{Name}
+use Rattle.krs_types.specs.declared.context.Context.{Context}
+use Rattle.krs_types.specs.declared.caller.Caller.{Caller}
+use Rattle.krs_types.specs.declared.ask.Answer.TheVariants.{Number}
+use Rattle.krs_types.specs.declared.rights.Want.TheVariants.{Granted}
+use Rattle.krs_types.specs.Rights.{has_all, WRITE}
+use Rattle.krs_types.specs.Kind.{kind_named, checked}
+use Rattle.krs_types.specs.Refusing.{◌>>=◌}
+use Rattle.krs_model.specs.Table.{at, put, alter}
+use Rattle.krs_model.specs.State.{State, Key, Content, Payload, Links}
+use Rattle.krs_model.specs.Access.{is_alive, rights_on}
+use Rattle.krs_model.specs.Possession.{possessed}
+use Rattle.krs_model.specs.Lookup.{context_of, look_up}
+use Rattle.krs_model.specs.Linking.{ring_links, link_named, linking, has_room}
+use Rattle.krs_model.specs.Outcome.{Outcome}
+
+-- only user keys can be made so far: the other two types are as if unknown
+abbrev pub if_built : Kind → Result Kind Errno
+if_built User = Ok User
+if_built Logon = Err ENODEV
+if_built Keyring = Err ENODEV
+
+-- what is asked for is a key that may be made, and this is its name
+unfoldable pub admitted : List ℕ → List ℕ → List ℕ → Result Name Errno
+admitted type_name desc payload = do
+  named ← kind_named type_name
+  kind ← if_built named
+  fit ← checked kind desc payload
+  Ok (record { kind = kind; desc = desc })
+
+-- where an added key goes: it is the new payload of that key, or a new key in that keyring
+pub data Place : Type 0 where
+  Updated : ℕ → Place
+  Made : ℕ → Place
+
+-- a new key, where the keyring has room and a serial is left
+abbrev pub if_room : State → ℕ → List ℕ → Option ℕ → Result Place Errno
+if_room s ring links displaced = do
+  room ← has_room links displaced
+  if nat_lt 2147483647 s.next_serial then Err ENOSPC else Ok (Made ring)
+
+-- a match that is alive is updated, where it grants WRITE; one that was revoked or has expired is displaced
+abbrev pub over_match : State → Context → ℕ → List ℕ → ℕ → Option Key → Result Place Errno
+over_match s c ring links found None = if_room s ring links None
+over_match s c ring links found (Some key) =
+    if is_alive s.clock key
+    then (if has_all (rights_on key c.caller (possessed s c found)) WRITE then Ok (Updated found) else Err EACCES)
+    else if_room s ring links (Some found)
+
+abbrev pub by_match : State → Context → ℕ → List ℕ → Option ℕ → Result Place Errno
+by_match s c ring links None = if_room s ring links None
+by_match s c ring links (Some found) = over_match s c ring links found (at s.keys found)
+
+-- the keyring may be written, and this is where the key goes in it
+unfoldable pub place_of : State → Context → Name → ℤ → Result Place Errno
+place_of s c name ring = do
+  found ← look_up s c ring (Granted WRITE)
+  links ← ring_links found.1.content
+  by_match s c found.0 links (link_named s.keys name links)
+
+-- a key of its maker, with the mask 3f010000: profile, masks of new keys
+abbrev pub new_key : Name → List ℕ → Caller → Key
+new_key name payload c = record {
+  kind = name.kind;
+  desc = name.desc;
+  uid = c.uid;
+  gid = c.gid;
+  perm = 1057030144;
+  expiry = None;
+  revoked = false;
+  joined = false;
+  content = Payload payload;
+}
+
+-- another payload in the place of the one that is there; a keyring has none
+abbrev pub paid_with : List ℕ → Content → Content
+paid_with payload (Payload old) = Payload payload
+paid_with payload (Links serials) = Links serials
+
+-- another payload, and no expiry any more
+abbrev pub updated : List ℕ → Key → Key
+updated payload key = record key { content = paid_with payload key.content; expiry = None }
+
+-- a new key of that name under the next serial, linked by that keyring
+abbrev pub made : State → ℕ → Name → Key → State
+made s ring name key = record s {
+  keys = alter (put s.keys s.next_serial key) ring (linking s.keys name s.next_serial);
+  next_serial = s.next_serial + 1;
+}
+
+-- the key at a serial is a keyring
+abbrev pub IsRing : State → ℕ → Type 0
+IsRing s serial = (key : Key) × (at s.keys serial ≡ Some key) × (links : List ℕ) × (key.content ≡ Links links)
+
+abbrev pub added : State → Context → Name → List ℕ → Place → State
+added s c name payload (Updated serial) = record s { keys = alter s.keys serial (updated payload) }
+added s c name payload (Made ring) = made s ring name (new_key name payload c.caller)
+
+abbrev pub added_serial : State → Place → ℕ
+added_serial s (Updated serial) = serial
+added_serial s (Made ring) = s.next_serial
+
+unfoldable pub add : State → ℕ → ℕ → List ℕ → List ℕ → List ℕ → ℤ → Outcome
+add s client context type_name desc payload ring = do
+  c ← context_of s client context
+  name ← admitted type_name desc payload
+  place ← place_of s c name ring
+  Ok (added s c name payload place, Number (added_serial s place))

@@ -1,0 +1,48 @@
+-- READ and DESCRIBE: keyctl(2), KEYCTL_READ and KEYCTL_DESCRIBE.
+use Rattle.std.specs.Prelude.{ℕ, ℤ, ◌+◌, ◌/◌, ◌%◌, nat_lt, if◌then◌else◌, List, [], ◌∷◌, ◌++◌, Result, Ok, Err, decimal}
+use Rattle.krs_types.specs.declared.errno.Errno.{Errno}
+use Rattle.krs_types.specs.declared.errno.Errno.TheVariants.{EOPNOTSUPP}
+use Rattle.krs_types.specs.declared.kind.Kind.{Kind}
+use Rattle.krs_types.specs.declared.kind.Kind.TheVariants.{User, Logon, Keyring}
+use Rattle.krs_types.specs.declared.ask.Answer.TheVariants.{Bytes}
+use Rattle.krs_types.specs.declared.rights.Want.TheVariants.{Granted, ToRead}
+use Rattle.krs_types.specs.Rights.{VIEW}
+use Rattle.krs_types.specs.Kind.{kind_name}
+use Rattle.krs_types.specs.Refusing.{◌>>=◌}
+use Rattle.krs_model.specs.State.{State, Key, Content, Payload, Links}
+use Rattle.krs_model.specs.Lookup.{context_of, look_up}
+use Rattle.krs_model.specs.Outcome.{Outcome}
+
+-- what may be read of a key: of a user key its payload. A logon key is never read, and a keyring not yet
+abbrev pub readable : Kind → Content → Result (List ℕ) Errno
+readable User (Payload bytes) = Ok bytes
+readable User (Links serials) = Err EOPNOTSUPP
+readable Logon content = Err EOPNOTSUPP
+readable Keyring content = Err EOPNOTSUPP
+
+unfoldable pub read : State → ℕ → ℕ → ℤ → Outcome
+read s client context id = do
+  c ← context_of s client context
+  found ← look_up s c id ToRead
+  bytes ← readable found.1.kind found.1.content
+  Ok (s, Bytes bytes)
+
+-- a lower-case hexadecimal digit
+abbrev pub hex_digit : ℕ → ℕ
+hex_digit n = if nat_lt n 10 then n + 48 else n + 87
+
+-- eight of them, the highest first
+abbrev pub hex_8 : ℕ → List ℕ
+hex_8 n =
+    hex_digit (n / 268435456 % 16) ∷ hex_digit (n / 16777216 % 16) ∷ hex_digit (n / 1048576 % 16) ∷ hex_digit (n / 65536 % 16)
+    ∷ hex_digit (n / 4096 % 16) ∷ hex_digit (n / 256 % 16) ∷ hex_digit (n / 16 % 16) ∷ hex_digit (n % 16) ∷ []
+
+-- type;uid;gid;perm;description
+abbrev pub description : Key → List ℕ
+description key = kind_name key.kind ++ (59 ∷ (decimal key.uid ++ (59 ∷ (decimal key.gid ++ (59 ∷ (hex_8 key.perm ++ (59 ∷ key.desc)))))))
+
+unfoldable pub describe : State → ℕ → ℕ → ℤ → Outcome
+describe s client context id = do
+  c ← context_of s client context
+  found ← look_up s c id (Granted VIEW)
+  Ok (s, Bytes (description found.1))

@@ -1,0 +1,13 @@
+pub mod Table
+pub mod State
+pub mod Access
+pub mod Levels
+pub mod Possession
+pub mod Lookup
+pub mod Usable
+pub mod Linking
+pub mod Sweep
+pub mod Outcome
+pub mod Asks
+pub mod Step
+pub mod History

@@ -1,0 +1,65 @@
+-- From a key id to the key that it names, with the right that an ask wants, or the refusal that comes first: keyctl(2),
+-- "ERRORS"; their order: profile, order of look-up.
+use Rattle.std.specs.Prelude.{ℕ, ℤ, ◌==◌, Option, None, Some, Result, Ok, Err, if◌then◌else◌}
+use Rattle.krs_types.specs.declared.errno.Errno.{Errno}
+use Rattle.krs_types.specs.declared.errno.Errno.TheVariants.{ENOKEY, ESRCH, EKEYREVOKED, EKEYEXPIRED, EACCES}
+use Rattle.krs_types.specs.declared.context.Context.{Context}
+use Rattle.krs_types.specs.declared.context.UidRings.{UidRings}
+use Rattle.krs_types.specs.declared.key_id.KeyId.{KeyId}
+use Rattle.krs_types.specs.declared.key_id.KeyId.TheVariants.{Serial, Thread, Process, Session, User, UserSession}
+use Rattle.krs_types.specs.declared.rights.Want.{Want}
+use Rattle.krs_types.specs.Rights.{allows}
+use Rattle.krs_types.specs.KeyId.{key_id_of}
+use Rattle.krs_types.specs.Refusing.{◌>>=◌, or_refuse}
+use Rattle.krs_model.specs.Table.{at}
+use Rattle.krs_model.specs.State.{State, Key}
+use Rattle.krs_model.specs.Access.{rights_on, is_over}
+use Rattle.krs_model.specs.Possession.{possessed, process_ring}
+
+-- the context is the client's
+abbrev pub if_own : ℕ → Context → Result Context Errno
+if_own client c = if c.client == client then Ok c else Err ESRCH
+
+-- the context of that number, where it is the client's: profile, own contexts
+unfoldable pub context_of : State → ℕ → ℕ → Result Context Errno
+context_of s client number = do
+  c ← or_refuse ESRCH (at s.contexts number)
+  if_own client c
+
+abbrev pub user_ring : Option UidRings → Option ℕ
+user_ring None = None
+user_ring (Some rings) = rings.user
+
+abbrev pub user_session_ring : Option UidRings → Option ℕ
+user_session_ring None = None
+user_session_ring (Some rings) = rings.session
+
+-- the serial that a key id stands for
+abbrev pub attachment : State → Context → KeyId → Option ℕ
+attachment s c (Serial n) = Some n
+attachment s c Thread = c.thread
+attachment s c Process = process_ring s c.process
+attachment s c Session = c.session
+attachment s c User = user_ring (at s.uids c.caller.uid)
+attachment s c UserSession = user_session_ring (at s.uids c.caller.uid)
+
+-- the serial of an id: EINVAL where it is no key id, ENOKEY where it stands for none
+unfoldable pub serial_of : State → Context → ℤ → Result ℕ Errno
+serial_of s c id = do
+  named ← key_id_of id
+  or_refuse ENOKEY (attachment s c named)
+
+-- the key may be used: it is not revoked, not expired, and grants what is wanted
+abbrev pub if_usable : State → Context → Want → ℕ → Key → Result (ℕ × Key) Errno
+if_usable s c want serial key =
+    if key.revoked then Err EKEYREVOKED
+    else if is_over s.clock key.expiry then Err EKEYEXPIRED
+    else if allows want (rights_on key c.caller (possessed s c serial)) (possessed s c serial) then Ok (serial, key)
+    else Err EACCES
+
+-- the key that an id names, and its serial
+unfoldable pub look_up : State → Context → ℤ → Want → Result (ℕ × Key) Errno
+look_up s c id want = do
+  serial ← serial_of s c id
+  key ← or_refuse ENOKEY (at s.keys serial)
+  if_usable s c want serial key

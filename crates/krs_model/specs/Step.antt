@@ -1,0 +1,45 @@
+-- One step of a store: an ask that is served at a moment, and its reply.
+use Rattle.std.specs.Prelude.{◌≡◌, ℕ, Result, Ok, Err, ◌⊎◌, Bool, true, false}
+use Rattle.krs_types.specs.declared.errno.Errno.{Errno}
+use Rattle.krs_types.specs.declared.errno.Errno.TheVariants.{ENOMEM}
+use Rattle.krs_types.specs.declared.ask.Answer.{Answer}
+use Rattle.krs_types.specs.declared.ask.Answer.TheVariants.{Nothing}
+use Rattle.krs_types.specs.declared.ask.Op.{Op}
+use Rattle.krs_types.specs.declared.ask.Op.TheVariants.{Hello, Add, Read, Describe, Leave}
+use Rattle.krs_types.specs.declared.event.Event.{Event}
+use Rattle.krs_model.specs.State.{State, raised}
+use Rattle.krs_model.specs.Sweep.{IsSweep}
+use Rattle.krs_model.specs.Outcome.{Outcome}
+use Rattle.krs_model.specs.Asks.Hello.{hello}
+use Rattle.krs_model.specs.Asks.Adding.{add}
+use Rattle.krs_model.specs.Asks.Reading.{read, describe}
+use Rattle.krs_model.specs.Asks.Leaving.{left}
+
+-- what a client's ask in a context comes to
+abbrev pub outcome_of : State → ℕ → ℕ → Op → Outcome
+outcome_of s client context (Hello caller) = hello s client caller
+outcome_of s client context (Add type_name desc payload ring) = add s client context type_name desc payload ring
+outcome_of s client context (Read id) = read s client context id
+outcome_of s client context (Describe id) = describe s client context id
+outcome_of s client context Leave = Ok (left s client, Nothing)
+
+-- Asks that may find no memory. So far every ask but LEAVE counts as one: a look-up's walk takes memory, until keys
+-- have places and a walk has its room beforehand.
+abbrev pub grows : Op → Bool
+grows (Hello caller) = true
+grows (Add type_name desc payload ring) = true
+grows (Read id) = true
+grows (Describe id) = true
+grows Leave = false
+
+-- An accepted ask has its effect, and then the sweep. A refusal leaves everything as it was. Want of memory is lawful for
+-- an ask that may grow; so far also in the place of a refusal, as the walk that finds the refusal may want it.
+abbrev pub Ends : State → Bool → Result Answer Errno → State → Outcome → Type 0
+Ends old growing (Ok answer) new meant = (mid : State) × (meant ≡ Ok (mid, answer)) × IsSweep mid new
+Ends old growing (Err e) new meant = ((meant ≡ Err e) ⊎ ((e ≡ ENOMEM) × (growing ≡ true))) × (new ≡ old)
+
+-- from old to new by one event: its lane is the client. The clock is raised first, whatever comes of the ask
+unfoldable pub Step : State → Event → State → Type 0
+Step old event new =
+    Ends (raised old event.moment) (grows event.ask.op) event.reply new
+    (outcome_of (raised old event.moment) event.lane event.ask.context event.ask.op)

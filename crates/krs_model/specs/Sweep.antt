@@ -1,0 +1,47 @@
+-- Which keys stay at the end of a command: those that an attachment reaches. keyrings(7), "garbage collection".
+use Rattle.std.specs.Prelude.{◌≡◌, ℕ, List, [], ◌++◌, Bool, true, Option, None, Some, IsSome, filter, flat_map}
+use Rattle.std.specs.Option.{option_to_list}
+use Rattle.krs_types.specs.declared.context.Context.{Context}
+use Rattle.krs_types.specs.declared.context.UidRings.{UidRings}
+use Rattle.krs_model.specs.Table.{Table, at}
+use Rattle.krs_model.specs.State.{State, Key}
+use Rattle.krs_model.specs.Possession.{links_of}
+use Rattle.krs_model.specs.Levels.{is_in}
+
+abbrev pub context_roots : Table Context → List ℕ
+context_roots es = flat_map (λ e. option_to_list e.1.thread ++ option_to_list e.1.session) es
+
+abbrev pub process_roots : Table (Option ℕ) → List ℕ
+process_roots es = flat_map (λ e. option_to_list e.1) es
+
+abbrev pub uid_roots : Table UidRings → List ℕ
+uid_roots es = flat_map (λ e. option_to_list e.1.user ++ option_to_list e.1.session) es
+
+-- all attachments
+abbrev pub roots : State → List ℕ
+roots s = context_roots s.contexts ++ (process_roots s.processes ++ uid_roots s.uids)
+
+-- what is linked by the key at a serial
+abbrev pub linked_by : Option Key → List ℕ
+linked_by None = []
+linked_by (Some key) = links_of key.content
+
+-- attached, or linked by a held key
+pub data IsHeld (keys : Table Key) (attached : List ℕ) : ℕ → Type 0 where
+  Attached : (k : ℕ) → is_in k attached ≡ true → IsHeld keys attached k
+  Linked : (j k : ℕ) → IsHeld keys attached j → is_in k (linked_by (at keys j)) ≡ true → IsHeld keys attached k
+
+-- a test of serials that picks just the held ones of the keys that are there
+pub record PicksHeld (keys : Table Key) (attached : List ℕ) (kept : ℕ → Bool) : Type 0 where
+  pub only : (k : ℕ) → IsSome (at keys k) → kept k ≡ true → IsHeld keys attached k
+  pub each : (k : ℕ) → IsHeld keys attached k → IsSome (at keys k) → kept k ≡ true
+
+-- new is the sweep of old: the held keys stay, and the watches on them
+pub record IsSweep (old new : State) : Type 0 where
+  pub kept : ℕ → Bool
+  pub picks : PicksHeld old.keys (roots old) kept
+  pub rest : new ≡ record old { keys = filter (λ e. kept e.0) old.keys; watches = filter (λ w. kept w.0.0) old.watches }
+
+-- every key is held, and every watch is at a held key
+pub record IsSwept (s : State) : Type 0 where
+  pub keys : (k : ℕ) → IsSome (at s.keys k) → IsHeld s.keys (roots s) k

@@ -1,0 +1,16 @@
+-- What a look-up for a right finds.
+use Rattle.std.specs.Prelude.{◌≡◌, ℕ, true, false, Some}
+use Rattle.krs_types.specs.declared.context.Context.{Context}
+use Rattle.krs_types.specs.declared.rights.Want.{Want}
+use Rattle.krs_types.specs.Rights.{allows}
+use Rattle.krs_model.specs.Table.{at}
+use Rattle.krs_model.specs.State.{State, Key}
+use Rattle.krs_model.specs.Access.{is_over, rights_on}
+use Rattle.krs_model.specs.Possession.{possessed}
+
+-- the key is at the serial, was not revoked, has not expired, and grants the context what it wants
+pub record IsUsable (s : State) (c : Context) (want : Want) (found : ℕ × Key) : Type 0 where
+  pub there : at s.keys found.0 ≡ Some found.1
+  pub live : found.1.revoked ≡ false
+  pub running : is_over s.clock found.1.expiry ≡ false
+  pub granted : allows want (rights_on found.1 c.caller (possessed s c found.0)) (possessed s c found.0) ≡ true

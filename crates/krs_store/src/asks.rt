@@ -1,0 +1,5 @@
+//! The asks, one function each, whose contract is its row.
+mod adding;
+mod hello;
+mod leaving;
+mod reading;

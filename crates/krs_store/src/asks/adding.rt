@@ -1,0 +1,191 @@
+ghost use Rattle.std.specs.Prelude.{◌≡◌, ◌≤◌, ◌+◌, ◌||◌, is_some, length, IfOk, OnOk, OnErr};
+ghost use Rattle.krs_model.specs.Table.{alter};
+ghost use Rattle.krs_model.specs.Outcome.{Leads, Gives, Is};
+ghost use Rattle.krs_model.specs.Asks.Adding.{admitted, if_room, by_match, place_of, updated, made, IsRing, add};
+ghost use Rattle.krs_store.specs.Places.{meant, HasSerial};
+ghost use Rattle.krs_store.specs.Links.{serials};
+ghost use Rattle.krs_store.specs.Keys.{seen, maker_key};
+
+use crate::key::{Content, Key};
+use crate::links::Links;
+use crate::tables::Tables;
+use bitflags::Flags;
+use krs_types::{
+    Answer, Blob, Body, Context, Desc, Errno, Fault, Kind, Name, Perm, Rights, Serial, Want,
+};
+use std::alloc::AllocError;
+
+/// How many links a keyring has at most: profile, full keyrings.
+const MAX_LINKS: usize = 65535;
+
+/// The last serial that a key may get: profile, serials run out.
+const LAST_SERIAL: u32 = 2_147_483_647;
+
+/// Where an added key goes.
+pub(crate) enum Place {
+    /// It is the new payload of this key.
+    Update(Serial),
+    /// It is a new key, which this keyring links.
+    Make(Serial),
+}
+
+/// What is asked for is a key that may be made: its kind.
+#[tactic(auto, unfolding(krs_model::specs::Asks::Adding::admitted))]
+fn admitted(type_name: &[u8], desc: &[u8], payload: &[u8]) -> Result<Kind, Errno>
+    ensures name { Is (λ k. record { kind = k; desc = desc.now }) result (admitted type_name.now desc.now payload.now) }
+    ensures desc { OnOk result (length desc.now ≤ 4095) }
+    ensures payload { OnOk result (length payload.now ≤ 32767) }
+{
+    let kind = Kind::named(type_name)?;
+    if !kind.is(Kind::User) {
+        return Err(Errno::ENODEV);
+    }
+    kind.check(desc, payload)?;
+    Ok(kind)
+}
+
+impl Tables {
+    /// A new key in this keyring, where it has room and a serial is left.
+    fn if_room(
+        &self,
+        ring: Serial,
+        links: &Links,
+        displaced: Option<Serial>,
+    ) -> Result<Place, Errno>
+        ensures place { Is meant result (if_room self.now ring (serials links.now) displaced) }
+        ensures serial { IfOk result (HasSerial self.now.next_serial) }
+    {
+        if displaced.is_none() && links.len() >= MAX_LINKS {
+            return Err(Errno::ENFILE);
+        }
+        if self.next_serial > LAST_SERIAL {
+            return Err(Errno::ENOSPC);
+        }
+        Ok(Place::Make(ring))
+    }
+
+    /// A match that is alive is updated, where it grants WRITE; any other is displaced.
+    fn by_match(
+        &self,
+        context: &Context,
+        ring: Serial,
+        links: &Links,
+        found: Option<Serial>,
+    ) -> Result<Place, Fault>
+        ensures place { Gives meant result (by_match self.now context.now ring (serials links.now) found) }
+        ensures serial { IfOk result (HasSerial self.now.next_serial) }
+    {
+        let Some(serial) = found else {
+            return Ok(self.if_room(ring, links, None)?);
+        };
+        let Some(key) = self.key(serial) else {
+            return Ok(self.if_room(ring, links, None)?);
+        };
+        if !key.is_alive(self.clock) {
+            return Ok(self.if_room(ring, links, Some(serial))?);
+        }
+        let possessed = self.possesses(context, serial)?;
+        if !key
+            .grants(&context.caller, possessed)
+            .contains(Rights::WRITE)
+        {
+            return Err(Fault::Refused(Errno::EACCES));
+        }
+        Ok(Place::Update(serial))
+    }
+
+    /// Where a key of this name goes in a keyring that may be written.
+    #[tactic(auto, unfolding(krs_model::specs::Asks::Adding::place_of))]
+    fn place_of(&self, context: &Context, name: &Name, ring: i32) -> Result<Place, Fault>
+        ensures place { Gives meant result (place_of self.now context.now name.now ring) }
+        ensures serial { IfOk result (HasSerial self.now.next_serial) }
+    {
+        let (ring, key) = self.look_up(context, ring, Want::Granted(Rights::WRITE))?;
+        match &key.content {
+            Content::Payload(_) => Err(Fault::Refused(Errno::ENOTDIR)),
+            Content::Links(links) => {
+                self.by_match(context, Serial::new(ring), links, links.find(name))
+            }
+        }
+    }
+
+    /// Another payload for a key, which then has no expiry.
+    fn update(&mut self, serial: Serial, payload: Body)
+        ensures { self.new ≡ record self.old { keys = alter self.old.keys serial (updated payload) } }
+    {
+        self.keys.update(serial, payload);
+    }
+
+    /// A new key that a keyring links, under the next serial.
+    fn make(
+        &mut self,
+        ring: Serial,
+        name: Name,
+        payload: Body,
+        uid: u32,
+        gid: u32,
+    ) -> Result<Serial, AllocError>
+        requires serial { self.old.next_serial ≤ 2147483647 }
+        requires ring { IsRing self.old ring }
+        ensures serial { IfOk result (λ n. n ≡ self.old.next_serial) }
+        ensures ok { OnOk result (self.new ≡ made self.old ring name (seen (maker_key name payload uid gid))) }
+        ensures err { OnErr result (self.new ≡ self.old) }
+    {
+        let serial = Serial::new(self.next_serial);
+        let link = name.copy(self.alloc)?;
+        let key = Key {
+            name,
+            uid,
+            gid,
+            perm: Perm::OF_KEY,
+            expiry: None,
+            revoked: false,
+            joined: false,
+            content: Content::Payload(payload),
+        };
+        let displaced = self.keys.insert_linked(ring, link, serial, key)?;
+        self.next_serial += 1;
+        self.let_go = lets_go(self.let_go, displaced);
+        Ok(serial)
+    }
+
+    /// A new key in a keyring, or a new payload for the key that stands there: add_key(2).
+    #[tactic(auto, unfolding(krs_model::specs::Asks::Adding::add))]
+    pub(crate) fn add(
+        &mut self,
+        client: u32,
+        context: u32,
+        type_name: Blob,
+        desc: Blob,
+        payload: Blob,
+        ring: i32,
+    ) -> Result<Answer, Fault>
+        ensures { Leads self.old result self.new (add self.old client context type_name desc payload ring) }
+    {
+        let context = self.context_of(client, context)?;
+        let kind = admitted(type_name.as_slice(), desc.as_slice(), payload.as_slice())?;
+        let name = Name {
+            kind,
+            desc: Desc::new(desc),
+        };
+        let payload = Body::new(payload.into_vec());
+        match self.place_of(context, &name, ring)? {
+            Place::Update(serial) => {
+                self.update(serial, payload);
+                Ok(Answer::Number(serial.number()))
+            }
+            Place::Make(ring) => {
+                let (uid, gid) = (context.caller.uid, context.caller.gid);
+                let serial = self.make(ring, name, payload, uid, gid)?;
+                Ok(Answer::Number(serial.number()))
+            }
+        }
+    }
+}
+
+/// Whether a key may have been let go of, now that a link displaced this one.
+fn lets_go(before: bool, displaced: Option<Serial>) -> bool
+    ensures { result ≡ (before || is_some displaced) }
+{
+    before || displaced.is_some()
+}

@@ -1,0 +1,14 @@
+//! The key store for one thread: every ask, served in the order of its refusals. A contract sees a `Store` as the
+//! state of the definitions in `krs_model`.
+#![tactic(auto)]
+
+mod asks;
+mod key;
+mod key_table;
+mod links;
+mod store;
+mod sweep;
+mod tables;
+mod walk;
+
+pub use store::Store;

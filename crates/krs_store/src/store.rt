@@ -1,0 +1,64 @@
+ghost use Rattle.std.specs.Prelude.{◌≡◌, ◌≤◌, ◌≢◌};
+ghost use Rattle.krs_types.specs.declared.errno.Errno.TheVariants.{ENOMEM};
+ghost use Rattle.krs_types.specs.declared.ask.Op.TheVariants.{Leave};
+ghost use Rattle.krs_model.specs.State.{starting_at};
+ghost use Rattle.krs_model.specs.Step.{Step};
+ghost use Rattle.krs_store.specs.Told.{event_of};
+
+use crate::tables::Tables;
+use krs_types::{Ask, Errno, Fault, Reply};
+use std::alloc::Global;
+use std::marker::Model;
+
+/// A key store: keyrings(7) for one thread. Between two asks every key is attached, or linked by one that is held.
+#[derive(Drop)]
+pub struct Store {
+    tables: Tables,
+}
+
+impl Model for Store {
+    ghost use Rattle.krs_model.specs.State.{State};
+    ghost use Rattle.krs_model.specs.Sweep.{IsSwept};
+
+    ghost Value = { State };
+
+    ghost view = { λ s. s.tables };
+
+    ghost invariant = { λ s. IsSwept s.tables };
+}
+
+impl Store {
+    /// An empty store.
+    pub fn new(alloc: Global) -> Self
+        ensures { result ≡ starting_at 3 }
+    {
+        Store::starting_at(alloc, 3)
+    }
+
+    /// An empty store that gives this serial next. Above 2147483647 it has none left.
+    pub fn starting_at(alloc: Global, next: u32) -> Self
+        requires { 3 ≤ next }
+        ensures { result ≡ starting_at next }
+    {
+        Store {
+            tables: Tables::starting_at(alloc, next),
+        }
+    }
+
+    /// Serves one ask of a client at a moment, in seconds: one step of the store.
+    #[tactic(auto, unfolding(krs_model::specs::Step::Step))]
+    pub fn apply(&mut self, client: u32, moment: u64, ask: Ask) -> Reply
+        ensures step { Step self.old (event_of client moment ask result) self.new }
+        ensures leave { ask.op ≡ Leave → result ≢ Err ENOMEM }
+    {
+        self.tables.raise(moment);
+        match self.tables.serve(client, ask) {
+            Ok(answer) => {
+                self.tables.sweep();
+                Ok(answer)
+            }
+            Err(Fault::Memory) => Err(Errno::ENOMEM),
+            Err(Fault::Refused(errno)) => Err(errno),
+        }
+    }
+}

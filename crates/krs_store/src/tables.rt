@@ -1,0 +1,185 @@
+ghost use Rattle.std.specs.Prelude.{◌≡◌, ◌≤◌, ◌+◌, Some, IfSome, IfOk, OnOk, OnErr, IsErrOf, true};
+ghost use Rattle.std.specs.Option.{option_map};
+ghost use Rattle.krs_model.specs.Table.{at, put, alter};
+ghost use Rattle.krs_model.specs.State.{starting_at, raised};
+ghost use Rattle.krs_model.specs.Possession.{process_ring};
+ghost use Rattle.krs_model.specs.Lookup.{context_of, serial_of, look_up};
+ghost use Rattle.krs_model.specs.Outcome.{Leads, Gives, Is};
+ghost use Rattle.krs_model.specs.Step.{outcome_of, grows};
+ghost use Rattle.krs_model.specs.Sweep.{IsSweep};
+ghost use Rattle.krs_store.specs.Keys.{seen, FindsByName};
+
+use crate::key::Key;
+use crate::key_table::KeyTable;
+use krs_types::{Answer, Ask, Context, Errno, Fault, KeyId, Op, Serial, UidRings, Want};
+use std::alloc::Global;
+use std::collections::BTreeMap;
+use std::marker::Model;
+
+/// All that a store has. Each ask is a method.
+#[derive(Drop)]
+pub(crate) struct Tables {
+    pub(crate) keys: KeyTable,
+    pub(crate) contexts: BTreeMap<u32, Context>,
+    pub(crate) processes: BTreeMap<u32, Option<Serial>>,
+    pub(crate) uids: BTreeMap<u32, UidRings>,
+    pub(crate) next_serial: u32,
+    pub(crate) next_context: u64,
+    pub(crate) clock: u64,
+    /// Whether a key may have been let go of since the last sweep.
+    pub(crate) let_go: bool,
+    pub(crate) alloc: Global,
+}
+
+impl Model for Tables {
+    ghost use Rattle.krs_model.specs.State.{State};
+
+    ghost Value = { State };
+
+    ghost use Rattle.krs_store.specs.View.{state_of, IsSound};
+
+    ghost view = { state_of };
+
+    ghost invariant = { IsSound };
+}
+
+impl Tables {
+    /// An empty store that gives this serial next.
+    pub(crate) fn starting_at(alloc: Global, next: u32) -> Self
+        requires { 3 ≤ next }
+        ensures { result ≡ starting_at next }
+    {
+        Tables {
+            keys: KeyTable::new(alloc),
+            contexts: BTreeMap::new(alloc),
+            processes: BTreeMap::new(alloc),
+            uids: BTreeMap::new(alloc),
+            next_serial: next,
+            next_context: 1,
+            clock: 0,
+            let_go: false,
+            alloc,
+        }
+    }
+
+    /// The context of that number, where it is the client's.
+    #[tactic(auto, unfolding(krs_model::specs::Lookup::context_of))]
+    pub(crate) fn context_of(&self, client: u32, number: u32) -> Result<&Context, Errno>
+        ensures { Is (λ c. c.now) result (context_of self.now client number) }
+    {
+        match self.contexts.get(&number) {
+            Some(context) if context.client == client => Ok(context),
+            _ => Err(Errno::ESRCH),
+        }
+    }
+
+    /// The keyring of a process.
+    pub(crate) fn process_ring(&self, process: u32) -> Option<Serial>
+        ensures { result ≡ process_ring self.now process }
+    {
+        match self.processes.get(&process) {
+            Some(ring) => *ring,
+            None => None,
+        }
+    }
+
+    /// The serial that an id stands for.
+    #[tactic(auto, unfolding(krs_model::specs::Lookup::serial_of))]
+    fn serial_of(&self, context: &Context, id: i32) -> Result<Serial, Errno>
+        ensures { Is (λ n. n) result (serial_of self.now context.now id) }
+    {
+        let attached = match KeyId::from_i32(id)? {
+            KeyId::Serial(serial) => Some(serial),
+            KeyId::Thread => context.thread,
+            KeyId::Process => self.process_ring(context.process),
+            KeyId::Session => context.session,
+            KeyId::User => match self.uids.get(&context.caller.uid) {
+                Some(rings) => rings.user,
+                None => None,
+            },
+            KeyId::UserSession => match self.uids.get(&context.caller.uid) {
+                Some(rings) => rings.session,
+                None => None,
+            },
+        };
+        attached.ok_or(Errno::ENOKEY)
+    }
+
+    /// The key at a serial.
+    #[tactic(auto, using(krs_model::proofs::Tables::at_map))]
+    pub(crate) fn key(&self, serial: Serial) -> Option<&Key>
+        ensures value { option_map (λ k. seen k.now) result ≡ at self.now.keys serial }
+        ensures named { IfSome result (λ k. FindsByName self.now.keys k.now) }
+    {
+        match self.keys.get(serial) {
+            Some(key) => Some(key),
+            None => None,
+        }
+    }
+
+    /// The key that an id names, where it grants what is wanted.
+    #[tactic(auto, unfolding(krs_model::specs::Lookup::look_up))]
+    pub(crate) fn look_up(
+        &self,
+        context: &Context,
+        id: i32,
+        want: Want,
+    ) -> Result<(u32, &Key), Fault>
+        ensures found { Gives (λ x. (x.0, seen x.1.now)) result (look_up self.now context.now id want) }
+        ensures named { IfOk result (λ x. FindsByName self.now.keys x.1.now) }
+    {
+        let serial = self.serial_of(context, id)?;
+        let key = self.key(serial).ok_or(Errno::ENOKEY)?;
+        if key.revoked {
+            return Err(Fault::Refused(Errno::EKEYREVOKED));
+        }
+        if key.is_over(self.clock) {
+            return Err(Fault::Refused(Errno::EKEYEXPIRED));
+        }
+        let possessed = self.possesses(context, serial)?;
+        if !want.allows(key.grants(&context.caller, possessed), possessed) {
+            return Err(Fault::Refused(Errno::EACCES));
+        }
+        Ok((serial.number(), key))
+    }
+
+    /// One ask in the state that it finds.
+    pub(crate) fn serve(&mut self, client: u32, ask: Ask) -> Result<Answer, Fault>
+        ensures step { Leads self.old result self.new (outcome_of self.old client ask.context ask.op) }
+        ensures memory { IsErrOf result Fault.Memory → grows ask.op ≡ true }
+    {
+        let context = ask.context;
+        match ask.op {
+            Op::Hello(caller) => self.hello(client, caller),
+            Op::Add {
+                type_name,
+                desc,
+                payload,
+                ring,
+            } => self.add(client, context, type_name, desc, payload, ring),
+            Op::Read { id } => self.read(client, context, id),
+            Op::Describe { id } => self.describe(client, context, id),
+            Op::Leave => {
+                self.leave(client);
+                Ok(Answer::Nothing)
+            }
+        }
+    }
+
+    /// The clock is at least at this moment from now on.
+    pub(crate) fn raise(&mut self, moment: u64)
+        ensures { self.new ≡ raised self.old moment }
+    {
+        self.clock = self.clock.max(moment);
+    }
+
+    /// Just the keys stay that are attached, or linked by what stays. Where none was let go of, that is all of them.
+    pub(crate) fn sweep(&mut self)
+        ensures { IsSweep self.old self.new }
+    {
+        if self.let_go {
+            self.keys.sweep(&self.contexts, &self.processes, &self.uids);
+            self.let_go = false;
+        }
+    }
+}
