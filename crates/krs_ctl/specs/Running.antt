@@ -6,8 +6,9 @@ use Rattle.krs_types.specs.declared.errno.Errno.{Errno}
 use Rattle.krs_types.specs.declared.ask.Op.{Op}
 use Rattle.krs_types.specs.declared.ask.Answer.{Answer}
 use Rattle.krs_types.specs.declared.ask.Answer.TheVariants.{Nothing}
-use Rattle.krs_types.specs.declared.event.Event.{Event}
-use Rattle.krs_store.specs.declared.Store.{Store}
+use Rattle.krs_model.specs.State.{State}
+use Rattle.krs_model.specs.Step.{Step}
+use Rattle.krs_store.specs.Told.{event_of}
 use Rattle.krs_ctl.specs.declared.command.Command.{Command}
 use Rattle.krs_ctl.specs.declared.command.Command.TheVariants.{Context, Moment, Ask}
 use Rattle.krs_ctl.specs.declared.script.Script.{Script}
@@ -21,18 +22,10 @@ use Rattle.krs_ctl.specs.Printing.{shown}
 use Rattle.krs_ctl.specs.Script.{context_after, status_of, last_line}
 use Rattle.krs_ctl.specs.Writing.{Prints}
 
-abbrev pub Serves : Store → Event → Store → Type 0
--- one step of a store
-Serves old event new = ⊤
-
--- an ask of a script with its reply: in the current context, at the current moment, as client 0
-abbrev pub event_of : Script → Op → Result Answer Errno → Event
-event_of s op reply =
-    record { lane = 0; moment = s.moment; ask = record { context = s.context; op = op }; reply = reply }
-
--- the store served the ask; an accepted `hello` names the current context; a refusal is remembered
+-- the store served the ask, in the current context, at the current moment, as client 0; an accepted `hello` names the
+-- current context; a refusal is remembered
 pub record Asks (old : Script) (op : Op) (reply : Result Answer Errno) (new : Script) : Type 0 where
-  pub served : Serves old.store (event_of old op reply) new.store
+  pub served : Step old.store (event_of 0 old.moment (record { context = old.context; op = op }) reply) new.store
   pub context : new.context ≡ context_after old.context op reply
   pub moment : new.moment ≡ old.moment
   pub refused : new.refused ≡ (old.refused || is_err reply)
@@ -100,12 +93,12 @@ pub record Runs (input : Option (List ℕ)) (old new : Script) (Printed : List �
   pub prints : stopped ≢ Err Printing → Printed printed
 
 -- the script of a store before its first line
-abbrev pub script_on : Store → Script
+abbrev pub script_on : State → Script
 script_on store = record { store = store; context = 0; moment = 0; refused = false }
 
 -- A whole script: the store that it hands back is the one that its lines lead to, and what was written is what they print
 -- and the last line of a script that stopped, with the status of that; or writing failed.
-pub record EndsScript (input : Option (List ℕ)) (old new : Option (List ℕ)) (store : Store) (end : ScriptEnd) : Type 0 where
+pub record EndsScript (input : Option (List ℕ)) (old new : Option (List ℕ)) (store : State) (end : ScriptEnd) : Type 0 where
   pub lines : List (List ℕ)
   pub text : List ℕ
   pub printed : List ℕ

@@ -1,4 +1,4 @@
-ghost use Rattle.std.specs.Prelude.{◌≡◌, ◌∷◌, [], true, false, Ok};
+ghost use Rattle.std.specs.Prelude.{◌≡◌, ◌⊎◌, ◌∷◌, [], true, false, Ok, IfErr};
 ghost use Rattle.std.specs.Io.Buffered.{reader_remaining};
 ghost use Rattle.std.specs.Io.KnownBytes.{IsAtEnd};
 ghost use Rattle.std.specs.Io.BufRead.{strip_last};
@@ -13,6 +13,7 @@ pub fn read_line<R: Read>(reader: &mut BufReader<R>, line: &mut Vec<u8>) -> Resu
     ensures found { result ≡ Ok true → ReadsLines (reader_remaining R.remaining reader.old)
         (reader_remaining R.remaining reader.new) (line.new.items ∷ []) }
     ensures end { result ≡ Ok false → IsAtEnd (reader_remaining R.remaining reader.old) }
+    ensures causes { IfErr result (λ stop. (stop ≡ Stop.Memory) ⊎ (stop ≡ Stop.Reading)) }
 {
     line.clear();
     match reader.read_until(b'\n', line) {

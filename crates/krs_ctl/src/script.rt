@@ -1,4 +1,6 @@
-ghost use Rattle.std.specs.Prelude.{◌≡◌, ◌≤◌};
+ghost use Rattle.std.specs.Prelude.{◌≡◌, [], OnOk, IfErr};
+ghost use Rattle.krs_ctl.specs.Running.{EndsScript};
+ghost use Rattle.krs_ctl.specs.Writing.{Prints};
 
 use crate::command::{Command, parse};
 use crate::lines::{has_line_at_hand, read_line};
@@ -20,7 +22,7 @@ const READ_AHEAD: usize = 65_536;
 const CLIENT: u32 = 0;
 
 /// How a script ended.
-#[derive(Debug, Drop)]
+#[derive(Drop)]
 pub struct ScriptEnd {
     /// 0; 1 where something was refused or memory was wanting; 2 for usage; 3 where reading or printing failed.
     pub status: u8,
@@ -35,7 +37,7 @@ pub fn run_script<R: Read + Drop, W: Write>(
     writer: &mut W,
     store: Store,
 ) -> ScriptEnd
-    ensures { result.status ≤ 3 }
+    ensures { EndsScript (R.remaining reader) (W.contents writer.old) (W.contents writer.new) store result }
 {
     let mut script = Script {
         store,
@@ -44,10 +46,7 @@ pub fn run_script<R: Read + Drop, W: Write>(
         refused: false,
     };
     let mut pending = Vec::new(alloc);
-    let stopped = match BufReader::with_capacity(alloc, READ_AHEAD, reader) {
-        Ok(mut reader) => script.run(alloc, &mut reader, writer, &mut pending),
-        Err(_) => Err(Stop::Memory),
-    };
+    let stopped = script.run(alloc, reader, writer, &mut pending);
     let status = finish(writer, &mut pending, stopped, script.refused);
     ScriptEnd {
         status,
@@ -55,8 +54,24 @@ pub fn run_script<R: Read + Drop, W: Write>(
     }
 }
 
+/// Writes what waits, unless the next line can be read without asking the reader for more.
+fn write_before_waiting<R: Read, W: Write>(
+    reader: &BufReader<R>,
+    writer: &mut W,
+    pending: &mut Vec<u8>,
+) -> Result<(), Stop>
+    ensures ok { OnOk result (Prints (W.contents writer.old) pending.old.items
+        (W.contents writer.new) pending.new.items []) }
+    ensures causes { IfErr result (λ stop. stop ≡ Stop.Printing) }
+{
+    if has_line_at_hand(reader) {
+        return Ok(());
+    }
+    write_out(writer, pending)
+}
+
 /// A script between two lines.
-#[derive(Debug, Drop)]
+#[derive(Drop)]
 struct Script {
     store: Store,
     context: u32,
@@ -66,21 +81,40 @@ struct Script {
 
 impl Script {
     ghost use Rattle.std.specs.Prelude.{◌≡◌};
-    ghost use Rattle.krs_ctl.specs.Running.{Acts, Asks, ObeysLine};
+    ghost use Rattle.std.specs.Io.Buffered.{reader_remaining};
+    ghost use Rattle.krs_ctl.specs.Running.{Acts, Asks, ObeysLine, Runs};
     ghost use Rattle.krs_ctl.specs.Writing.{Prints};
 
-    fn run<R: Read, W: Write>(
+    fn run<R: Read + Drop, W: Write>(
+        &mut self,
+        alloc: Global,
+        reader: R,
+        writer: &mut W,
+        pending: &mut Vec<u8>,
+    ) -> Result<(), Stop>
+        ensures { Runs (R.remaining reader) self.old self.new (Prints (W.contents writer.old)
+            pending.old.items (W.contents writer.new) pending.new.items) result }
+    {
+        match BufReader::with_capacity(alloc, READ_AHEAD, reader) {
+            Ok(mut reader) => self.run_lines(alloc, &mut reader, writer, pending),
+            Err(_) => Err(Stop::Memory),
+        }
+    }
+
+    fn run_lines<R: Read, W: Write>(
         &mut self,
         alloc: Global,
         reader: &mut BufReader<R>,
         writer: &mut W,
         pending: &mut Vec<u8>,
-    ) -> Result<(), Stop> {
+    ) -> Result<(), Stop>
+        ensures { Runs (reader_remaining R.remaining reader.old) self.old self.new
+            (Prints (W.contents writer.old) pending.old.items (W.contents writer.new) pending.new.items)
+            result }
+    {
         let mut line = Vec::new(alloc);
         for _ in 0..MOST_LINES {
-            if !has_line_at_hand(reader) {
-                write_out(writer, pending)?;
-            }
+            write_before_waiting(reader, writer, pending)?;
             if !read_line(reader, &mut line)? {
                 return Ok(());
             }
