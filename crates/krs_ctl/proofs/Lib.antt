@@ -4,4 +4,3 @@ pub mod GroupsLemmas
 pub mod LinesLemmas
 pub mod RunningLemmas
 pub mod Going
-pub mod Ending
