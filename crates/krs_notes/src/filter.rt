@@ -7,7 +7,7 @@ use crate::subtype::event_number;
 use krs_types::{Errno, FilterEntry, Record};
 use std::marker::Model;
 
-/// How many entries a filter has at most: profile, filter sizes.
+/// How many entries a filter has at most: profile, limits.
 const MAX_ENTRIES: usize = 16;
 
 /// The bits of info that hold a record's length: uapi linux/watch_queue.h, WATCH_INFO_LENGTH.
