@@ -1,0 +1,21 @@
+# The toolchain's command `rt` is on PATH; nothing else is needed.
+
+.PHONY: build run test bench
+
+# Proves and builds the program.
+build:
+	cd crates/keyretain && rt run -- --version >/dev/null
+	mkdir -p bin
+	cp crates/keyretain/out/keyretain bin/keyretain
+
+# A key is made and read back.
+run: build
+	printf 'hello 1000 1000\nadd user alpha s3 @u\nprint 5\nrdescribe 5\n' | bin/keyretain script
+
+# Proves everything from nothing and runs the tests.
+test:
+	rt ci
+
+# Nanoseconds per ask.
+bench:
+	cd crates/krs_bench && rt run -- all

@@ -1,0 +1,16 @@
+//! A client of a key store.
+#![tactic(auto)]
+
+use std::env;
+use std::process::ExitCode;
+
+fn main(rt: HostRuntime) -> ExitCode {
+    let words = env::args(&rt);
+    ExitCode::from(krs_ctl::run_program(
+        rt.alloc(),
+        words,
+        rt.reader(),
+        &mut rt.stdout(),
+        &mut rt.stderr(),
+    ))
+}

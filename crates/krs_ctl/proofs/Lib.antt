@@ -1,0 +1,6 @@
+pub mod NumberLemmas
+pub mod WordsLemmas
+pub mod GroupsLemmas
+pub mod LinesLemmas
+pub mod RunningLemmas
+pub mod Going

@@ -1,0 +1,41 @@
+use Rattle.std.proofs.Common.{◌≡◌, Ok, inr, ap, refl}
+use Rattle.std.proofs.lemmas.Result.{err_from_is_err_and}
+use Rattle.std.specs.Io.Buffered.{reader_remaining}
+use Rattle.krs_ctl.specs.Writing.{Prints}
+use Rattle.krs_ctl.proofs.Going.{Going, going_start, going_same, going_more, runs_at_line, runs_to_end, runs_unread, runs_unwritten}
+use Rattle.krs_ctl.proofs.script.Script.run_lines.Goals as goal
+
+pub loop-init : goal.loop-init
+loop-init g c = going_start _ _ _ _
+
+pub returns-in_err-write_before_waiting : goal.returns-in_err-write_before_waiting
+returns-in_err-write_before_waiting g c =
+    let p = err_from_is_err_and c.from_residual.result c.from_residual.ensures.1 in
+    rw (p.1, p.2, c.in_err-write_before_waiting.ensures.causes) (runs_unwritten _ _ _ _ _ _ c.loop.invariant)
+
+pub returns-in_err-read_line : goal.returns-in_err-read_line
+returns-in_err-read_line g c =
+    let p = err_from_is_err_and c.from_residual-in_err-read_line.result c.from_residual-in_err-read_line.ensures.1 in
+    let going = going_same _ _ _ _ _ _ _ _ _ _ c.loop.invariant c.in_ok-write_before_waiting.ensures.ok in
+    rw (p.1, p.2) (runs_unread _ _ _ _ _ _ c.in_err-read_line.ensures.causes going)
+
+pub returns-then-not-branch : goal.returns-then-not-branch
+returns-then-not-branch g c =
+    let going = going_same _ _ _ _ _ _ _ _ _ _ c.loop.invariant c.in_ok-write_before_waiting.ensures.ok in
+    runs_to_end _ _ _ _ _ going (c.in_ok-read_line.ensures.end (ap Ok c.if-not-branch.true))
+
+pub returns-in_err-obey : goal.returns-in_err-obey
+returns-in_err-obey g c =
+    let p = err_from_is_err_and c.from_residual-in_err-obey.result c.from_residual-in_err-obey.ensures.1 in
+    let going = going_same _ _ _ _ _ _ _ _ _ _ c.loop.invariant c.in_ok-write_before_waiting.ensures.ok in
+    let reads = rw (← c.as_slice.ensures.value) at (c.in_ok-read_line.ensures.found (ap Ok c.if-not-branch.false)) in
+    rw (p.1, p.2) (runs_at_line _ _ _ _ _ _ _ _ _ _ _ _ _ _ going reads c.in_err-obey.ensures)
+
+pub loop-preserved : goal.loop-preserved
+loop-preserved g c =
+    let going = going_same _ _ _ _ _ _ _ _ _ _ c.loop.invariant c.in_ok-write_before_waiting.ensures.ok in
+    let reads = rw (← c.as_slice.ensures.value) at (c.in_ok-read_line.ensures.found (ap Ok c.if-not-branch.false)) in
+    going_more _ _ _ _ _ _ _ _ _ _ _ _ _ _ going reads c.in_ok-obey.ensures.1 c.in_ok-obey.ensures.2
+
+pub returns : goal.returns
+returns g c = runs_unread _ _ _ _ _ _ (inr refl) c.loop.invariant

@@ -1,0 +1,95 @@
+-- The commands of a client, a row each: docs/FORMAT.md, "The client's commands".
+use Rattle.std.specs.Prelude.{ℕ, ◌≡◌, List, [], ◌∷◌, Bool, find, bytes_eq, codes, Option, None, Some, Result, Ok, Err}
+use Rattle.krs_types.specs.declared.ask.Op.{Op}
+use Rattle.krs_types.specs.declared.ask.Op.TheVariants as op
+use Rattle.krs_ctl.specs.declared.command.CommandName.{CommandName}
+use Rattle.krs_ctl.specs.declared.command.CommandName.TheVariants.{Hello, Context, Moment, Add, Print, Rdescribe, Leave}
+use Rattle.krs_ctl.specs.declared.command.Command.{Command}
+use Rattle.krs_ctl.specs.declared.command.Command.TheVariants as command
+use Rattle.krs_ctl.specs.Reading.{◌>>=◌}
+use Rattle.krs_ctl.specs.Number.{u32_of, u64_of, u32s_of, key_of, data_of}
+
+-- the first word of each command
+abbrev pub spelling : CommandName → List ℕ
+spelling Hello = codes "hello"
+spelling Context = codes "context"
+spelling Moment = codes "moment"
+spelling Add = codes "add"
+spelling Print = codes "print"
+spelling Rdescribe = codes "rdescribe"
+spelling Leave = codes "leave"
+
+-- all commands that are built
+abbrev pub command_names : List CommandName
+command_names = Hello ∷ Context ∷ Moment ∷ Add ∷ Print ∷ Rdescribe ∷ Leave ∷ []
+
+-- the command of a first word
+abbrev pub name_of_word : List ℕ → Option CommandName
+name_of_word word = find (λ name. bytes_eq (spelling name) word) command_names
+
+-- `hello UID GID [GROUP ..]`
+abbrev pub hello_of : List (List ℕ) → Option Command
+hello_of (uid ∷ (gid ∷ groups)) = do
+  u ← u32_of uid
+  g ← u32_of gid
+  gs ← u32s_of groups
+  Some (command.Ask (op.Hello (record { uid = u; gid = g; groups = gs })))
+hello_of _ = None
+
+-- `context N`
+abbrev pub context_of : List (List ℕ) → Option Command
+context_of (number ∷ []) = do
+  n ← u32_of number
+  Some (command.Context n)
+context_of _ = None
+
+-- `moment N`
+abbrev pub moment_of : List (List ℕ) → Option Command
+moment_of (number ∷ []) = do
+  n ← u64_of number
+  Some (command.Moment n)
+moment_of _ = None
+
+-- `add TYPE DESC DATA RING`
+abbrev pub add_of : List (List ℕ) → Option Command
+add_of (type_name ∷ (desc ∷ (payload ∷ (ring ∷ [])))) = do
+  bytes ← data_of payload
+  id ← key_of ring
+  Some (command.Ask (op.Add type_name desc bytes id))
+add_of _ = None
+
+-- `print KEY`
+abbrev pub print_of : List (List ℕ) → Option Command
+print_of (key ∷ []) = do
+  id ← key_of key
+  Some (command.Ask (op.Read id))
+print_of _ = None
+
+-- `rdescribe KEY`
+abbrev pub rdescribe_of : List (List ℕ) → Option Command
+rdescribe_of (key ∷ []) = do
+  id ← key_of key
+  Some (command.Ask (op.Describe id))
+rdescribe_of _ = None
+
+-- `leave`
+abbrev pub leave_of : List (List ℕ) → Option Command
+leave_of [] = Some (command.Ask op.Leave)
+leave_of _ = None
+
+-- a command's row
+abbrev pub row_of : CommandName → List (List ℕ) → Option Command
+row_of Hello args = hello_of args
+row_of Context args = context_of args
+row_of Moment args = moment_of args
+row_of Add args = add_of args
+row_of Print args = print_of args
+row_of Rdescribe args = rdescribe_of args
+row_of Leave args = leave_of args
+
+-- the command that a line's words are: none where they are no command, or more or less than it takes
+abbrev pub command_of : List (List ℕ) → Option Command
+command_of [] = None
+command_of (word ∷ args) = do
+  name ← name_of_word word
+  row_of name args

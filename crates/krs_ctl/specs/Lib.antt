@@ -1,0 +1,9 @@
+pub mod Words
+pub mod Lines
+pub mod Reading
+pub mod Number
+pub mod Command
+pub mod Printing
+pub mod Script
+pub mod Writing
+pub mod Running

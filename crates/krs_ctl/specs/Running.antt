@@ -1,0 +1,112 @@
+-- What a script does to its store and what it prints: docs/FORMAT.md, "The client's commands".
+use Rattle.std.specs.Prelude.{ℕ, ◌≡◌, ◌≢◌, ◌⊎◌, ◌==◌, ◌||◌, List, [], ◌∷◌, ◌++◌, Bool, true, false, length, ⊤, MatchBool, IfSome, Option, Some, None, Result, Ok, Err}
+use Rattle.std.specs.Result.{is_err}
+use Rattle.std.specs.Io.KnownBytes.{Appends}
+use Rattle.krs_types.specs.declared.errno.Errno.{Errno}
+use Rattle.krs_types.specs.declared.ask.Op.{Op}
+use Rattle.krs_types.specs.declared.ask.Answer.{Answer}
+use Rattle.krs_types.specs.declared.ask.Answer.TheVariants.{Nothing}
+use Rattle.krs_model.specs.State.{State}
+use Rattle.krs_model.specs.Step.{Step}
+use Rattle.krs_store.specs.Told.{event_of}
+use Rattle.krs_ctl.specs.declared.command.Command.{Command}
+use Rattle.krs_ctl.specs.declared.command.Command.TheVariants.{Context, Moment, Ask}
+use Rattle.krs_ctl.specs.declared.script.Script.{Script}
+use Rattle.krs_ctl.specs.declared.script.ScriptEnd.{ScriptEnd}
+use Rattle.krs_ctl.specs.declared.stop.Stop.{Stop}
+use Rattle.krs_ctl.specs.declared.stop.Stop.TheVariants.{Usage, Memory, Reading, Printing}
+use Rattle.krs_ctl.specs.Words.{words_of, is_comment}
+use Rattle.krs_ctl.specs.Lines.{lines_of, ReadsLines}
+use Rattle.krs_ctl.specs.Command.{command_of}
+use Rattle.krs_ctl.specs.Printing.{shown}
+use Rattle.krs_ctl.specs.Script.{context_after, status_of, last_line}
+use Rattle.krs_ctl.specs.Writing.{Prints}
+
+-- the store served the ask, in the current context, at the current moment, as client 0; an accepted `hello` names the
+-- current context; a refusal is remembered
+pub record Asks (old : Script) (op : Op) (reply : Result Answer Errno) (new : Script) : Type 0 where
+  pub served : Step old.store (event_of 0 old.moment (record { context = old.context; op = op }) reply) new.store
+  pub context : new.context ≡ context_after old.context op reply
+  pub moment : new.moment ≡ old.moment
+  pub refused : new.refused ≡ (old.refused || is_err reply)
+
+-- what a command does; `context` and `moment` ask nothing, and their line is that of an answer without a value
+abbrev pub Acts : Script → Command → Result Answer Errno → Script → Type 0
+Acts old (Context n) reply new = (reply ≡ Ok Nothing) × (new ≡ record old { context = n })
+Acts old (Moment n) reply new = (reply ≡ Ok Nothing) × (new ≡ record old { moment = n })
+Acts old (Ask op) reply new = Asks old op reply new
+
+-- comments and lines without words are skipped
+abbrev pub is_skipped : List ℕ → Bool
+is_skipped line = is_comment line || (length (words_of line) == 0)
+
+-- a line that is a command does it and prints a line; one that is skipped does and prints nothing
+abbrev pub TakesLine : Script → List ℕ → List ℕ → Script → Type 0
+TakesLine old line text new = MatchBool (is_skipped line)
+    ((new ≡ old) × (text ≡ []))
+    ((command : Command) × (reply : Result Answer Errno) × (command_of (words_of line) ≡ Some command)
+        × Acts old command reply new × (text ≡ shown reply ++ 10 ∷ []))
+
+-- lines one after the other, and all that they print
+abbrev pub TakesLines : Script → List (List ℕ) → List ℕ → Script → Type 0
+TakesLines old [] text new = (new ≡ old) × (text ≡ [])
+TakesLines old (line ∷ lines) text new =
+    (mid : Script) × (first : List ℕ) × (rest : List ℕ) × TakesLine old line first mid × (text ≡ first ++ rest)
+    × TakesLines mid lines rest new
+
+-- Where a script stopped: at the end of its lines; before a line that is no command; or, for want of memory and where
+-- reading or printing failed, anywhere. Of a reader that does not tell its bytes this says nothing.
+abbrev pub StopsBehind : Option (List ℕ) → List (List ℕ) → Result (Unit {0}) Stop → Type 0
+StopsBehind input lines (Ok _) = IfSome input (λ bytes. lines_of bytes ≡ lines)
+StopsBehind input lines (Err Usage) = (bad : List ℕ) × (is_skipped bad ≡ false) × (command_of (words_of bad) ≡ None)
+    × IfSome input (λ bytes. (rest : List (List ℕ)) × (lines_of bytes ≡ lines ++ bad ∷ rest))
+StopsBehind input lines (Err Memory) = IfSome input (λ bytes. (rest : List (List ℕ)) × (lines_of bytes ≡ lines ++ rest))
+StopsBehind input lines (Err Reading) = IfSome input (λ bytes. (rest : List (List ℕ)) × (lines_of bytes ≡ lines ++ rest))
+StopsBehind input lines (Err Printing) = IfSome input (λ bytes. (rest : List (List ℕ)) × (lines_of bytes ≡ lines ++ rest))
+
+-- What of the text was printed: all, but that want of memory may have come before the last of it. Of a writer that failed
+-- nothing is known.
+abbrev pub IsPrinted : Result (Unit {0}) Stop → List ℕ → List ℕ → Type 0
+IsPrinted (Ok _) text printed = printed ≡ text
+IsPrinted (Err Usage) text printed = printed ≡ text
+IsPrinted (Err Memory) text printed = (rest : List ℕ) × (text ≡ printed ++ rest)
+IsPrinted (Err Reading) text printed = printed ≡ text
+IsPrinted (Err Printing) text printed = ⊤
+
+-- one line was obeyed, or why not, from one writer and what waits for it to another
+abbrev pub ObeysLine : Script → List ℕ → Script → (List ℕ → Type 0) → Result (Unit {0}) Stop → Type 0
+ObeysLine old line new Printed (Ok _) = (text : List ℕ) × TakesLine old line text new × Printed text
+ObeysLine old line new Printed (Err Usage) =
+    (new ≡ old) × (is_skipped line ≡ false) × (command_of (words_of line) ≡ None) × Printed []
+ObeysLine old line new Printed (Err Memory) = ((new ≡ old) ⊎ ((text : List ℕ) × TakesLine old line text new)) × Printed []
+ObeysLine old line new Printed (Err Reading) = ⊥
+ObeysLine old line new Printed (Err Printing) = (text : List ℕ) × TakesLine old line text new
+
+-- the lines of a reader were obeyed, as far as the script went
+pub record Runs (input : Option (List ℕ)) (old new : Script) (Printed : List ℕ → Type 0) (stopped : Result (Unit {0}) Stop) : Type 0 where
+  pub lines : List (List ℕ)
+  pub text : List ℕ
+  pub printed : List ℕ
+  pub taken : TakesLines old lines text new
+  pub behind : StopsBehind input lines stopped
+  pub shows : IsPrinted stopped text printed
+  pub prints : stopped ≢ Err Printing → Printed printed
+
+-- the script of a store before its first line
+abbrev pub script_on : State → Script
+script_on store = record { store = store; context = 0; moment = 0; refused = false }
+
+-- A whole script: the store that it hands back is the one that its lines lead to, and what was written is what they print
+-- and the last line of a script that stopped, with the status of that; or writing failed.
+pub record EndsScript (input : Option (List ℕ)) (old new : Option (List ℕ)) (store : State) (end : ScriptEnd) : Type 0 where
+  pub lines : List (List ℕ)
+  pub text : List ℕ
+  pub printed : List ℕ
+  pub last : Script
+  pub stopped : Result (Unit {0}) Stop
+  pub taken : TakesLines (script_on store) lines text last
+  pub left : end.store ≡ last.store
+  pub behind : StopsBehind input lines stopped
+  pub shows : IsPrinted stopped text printed
+  pub ends : ((end.status ≡ status_of stopped last.refused) × Appends old new (printed ++ last_line stopped))
+      ⊎ (end.status ≡ 3)

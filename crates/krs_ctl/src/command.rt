@@ -1,0 +1,161 @@
+ghost use Rattle.std.specs.Prelude.{◌≡◌, map};
+ghost use Rattle.krs_ctl.specs.Command.{spelling, name_of_word, hello_of, context_of, moment_of, add_of, print_of, rdescribe_of, leave_of, command_of};
+ghost use Rattle.krs_ctl.specs.Reading.{Reads};
+
+use crate::fault::Fault;
+use crate::number::{data_word, groups_words, key_word, u32_word, u64_word};
+use krs_types::{Blob, Caller, Op};
+use std::alloc::Global;
+
+/// What a line or a single call asks for.
+#[derive(Debug, Drop)]
+pub enum Command {
+    /// The lines that follow are of this context.
+    Context(u32),
+    /// The lines that follow have this moment, in seconds.
+    Moment(u64),
+    /// An ask, whose reply is printed.
+    Ask(Op),
+}
+
+/// The first word of a command.
+#[derive(Clone, Copy, Debug, PartialEq, Eq)]
+pub enum CommandName {
+    Hello,
+    Context,
+    Moment,
+    Add,
+    Print,
+    Rdescribe,
+    Leave,
+}
+
+const COMMAND_NAMES: [CommandName; 7] = [
+    CommandName::Hello,
+    CommandName::Context,
+    CommandName::Moment,
+    CommandName::Add,
+    CommandName::Print,
+    CommandName::Rdescribe,
+    CommandName::Leave,
+];
+
+impl CommandName {
+    /// How it is spelled.
+    pub fn spelling(self) -> &'static str
+        ensures { result.now ≡ spelling self }
+    {
+        match self {
+            CommandName::Hello => "hello",
+            CommandName::Context => "context",
+            CommandName::Moment => "moment",
+            CommandName::Add => "add",
+            CommandName::Print => "print",
+            CommandName::Rdescribe => "rdescribe",
+            CommandName::Leave => "leave",
+        }
+    }
+
+    /// The one that a word spells.
+    pub fn of_word(word: &[u8]) -> Option<CommandName>
+        ensures { result ≡ name_of_word word.now }
+    {
+        COMMAND_NAMES
+            .iter()
+            .copied()
+            .find(|name| name.spelling().as_bytes() == word)
+    }
+}
+
+/// The command that these words are.
+pub fn parse(alloc: Global, words: &[&[u8]]) -> Result<Command, Fault>
+    ensures { Reads result (command_of (map (λ w. w.now) words.now)) }
+{
+    let [word, args @ ..] = words else {
+        return Err(Fault::Usage);
+    };
+    match CommandName::of_word(word).ok_or(Fault::Usage)? {
+        CommandName::Hello => hello(alloc, args),
+        CommandName::Context => context(args),
+        CommandName::Moment => moment(args),
+        CommandName::Add => add(alloc, args),
+        CommandName::Print => print(args),
+        CommandName::Rdescribe => rdescribe(args),
+        CommandName::Leave => leave(args),
+    }
+}
+
+fn hello(alloc: Global, args: &[&[u8]]) -> Result<Command, Fault>
+    ensures { Reads result (hello_of (map (λ w. w.now) args.now)) }
+{
+    let [uid, gid, groups @ ..] = args else {
+        return Err(Fault::Usage);
+    };
+    let uid = u32_word(uid).ok_or(Fault::Usage)?;
+    let gid = u32_word(gid).ok_or(Fault::Usage)?;
+    let groups = groups_words(alloc, groups)?;
+    Ok(Command::Ask(Op::Hello(Caller { uid, gid, groups })))
+}
+
+fn context(args: &[&[u8]]) -> Result<Command, Fault>
+    ensures { Reads result (context_of (map (λ w. w.now) args.now)) }
+{
+    let [number] = args else {
+        return Err(Fault::Usage);
+    };
+    Ok(Command::Context(u32_word(number).ok_or(Fault::Usage)?))
+}
+
+fn moment(args: &[&[u8]]) -> Result<Command, Fault>
+    ensures { Reads result (moment_of (map (λ w. w.now) args.now)) }
+{
+    let [number] = args else {
+        return Err(Fault::Usage);
+    };
+    Ok(Command::Moment(u64_word(number).ok_or(Fault::Usage)?))
+}
+
+fn add(alloc: Global, args: &[&[u8]]) -> Result<Command, Fault>
+    ensures { Reads result (add_of (map (λ w. w.now) args.now)) }
+{
+    let [type_name, desc, payload, ring] = args else {
+        return Err(Fault::Usage);
+    };
+    let payload = data_word(alloc, payload)?;
+    let ring = key_word(ring).ok_or(Fault::Usage)?;
+    Ok(Command::Ask(Op::Add {
+        type_name: Blob::from_slice(alloc, type_name)?,
+        desc: Blob::from_slice(alloc, desc)?,
+        payload,
+        ring,
+    }))
+}
+
+fn print(args: &[&[u8]]) -> Result<Command, Fault>
+    ensures { Reads result (print_of (map (λ w. w.now) args.now)) }
+{
+    let [key] = args else {
+        return Err(Fault::Usage);
+    };
+    let id = key_word(key).ok_or(Fault::Usage)?;
+    Ok(Command::Ask(Op::Read { id }))
+}
+
+fn rdescribe(args: &[&[u8]]) -> Result<Command, Fault>
+    ensures { Reads result (rdescribe_of (map (λ w. w.now) args.now)) }
+{
+    let [key] = args else {
+        return Err(Fault::Usage);
+    };
+    let id = key_word(key).ok_or(Fault::Usage)?;
+    Ok(Command::Ask(Op::Describe { id }))
+}
+
+fn leave(args: &[&[u8]]) -> Result<Command, Fault>
+    ensures { Reads result (leave_of (map (λ w. w.now) args.now)) }
+{
+    let [] = args else {
+        return Err(Fault::Usage);
+    };
+    Ok(Command::Ask(Op::Leave))
+}

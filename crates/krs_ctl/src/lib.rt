@@ -1,0 +1,20 @@
+//! The client of a key store: the commands of a script, what they ask, and what is printed for the replies.
+//! A contract sees a line and a word as lists of bytes.
+#![tactic(auto)]
+
+mod command;
+mod fault;
+mod lines;
+mod number;
+mod printing;
+mod program;
+mod script;
+mod stop;
+mod words;
+mod writing;
+
+pub use program::run_program;
+pub use script::{ScriptEnd, run_script};
+
+#[cfg(test)]
+mod tests;

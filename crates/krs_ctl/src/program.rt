@@ -1,0 +1,99 @@
+use crate::script::run_script;
+use crate::writing::{OUT_OF_MEMORY, USAGE, write_text};
+use clap::error::ErrorKind;
+use clap::{Arg, ArgAction, Command, Error};
+use krs_store::Store;
+use std::alloc::{AllocError, Global};
+use std::env::Args;
+use std::io;
+use std::io::{Read, Write};
+
+const WORDS: &str = "COMMAND";
+
+const ABOUT: &str = "A client of a key store that works as Linux's key retention service does: keyrings(7), keyctl(2).";
+
+const WORDS_HELP: &str =
+    "script: runs the lines of standard input, one command each, on a store of their own";
+
+const COMMANDS: &str = "\
+Commands of a script, with what an accepted one prints:
+  hello UID GID [GROUP ..]      a new context of this caller, from here on the current one: its number
+  context N                     makes another context the current one: ok
+  moment N                      sets the time in seconds of the lines that follow: ok
+  add TYPE DESC DATA RING       a key in a keyring, new or with a new payload: its serial
+  print KEY                     the payload of a key
+  rdescribe KEY                 a key as text: type;uid;gid;perm;description
+  leave                         ends all contexts: ok
+
+KEY and RING are a serial, or @t, @p, @s, @u, @us for the thread, process, session, user and user-session
+keyring. DATA is the word's bytes or, after `hex:`, the bytes that pairs of hexadecimal digits spell. Bytes
+that do not all print are shown as `:hex:` and digits. Empty lines and lines that begin with `#` are skipped.
+A refused command prints its error, as `error 126 ENOKEY`; one that is none prints `usage` and ends the script.
+
+Exit status: 0; 1 if something was refused or memory was wanting; 2 for usage; 3 if reading or printing failed.";
+
+/// The program: from its words, the first of which is its name, and its three ends to its exit status.
+/// Words that are no text are usage.
+pub fn run_program<R: Read + Drop, W: Write, E: Write>(
+    alloc: Global,
+    words: io::Result<Args>,
+    input: R,
+    output: &mut W,
+    errors: &mut E,
+) -> u8 {
+    let words: Vec<String> = match words {
+        Ok(words) => match words.collect(alloc) {
+            Ok(words) => words,
+            Err(_) => return last_words(output, OUT_OF_MEMORY, 1),
+        },
+        Err(error) if error.kind() == io::ErrorKind::OutOfMemory => {
+            return last_words(output, OUT_OF_MEMORY, 1);
+        }
+        Err(_) => return last_words(output, USAGE, 2),
+    };
+    match asks_for_script(alloc, words.as_slice()) {
+        Ok(true) => run_script(alloc, input, output, Store::new(alloc)).status,
+        Ok(false) => last_words(output, USAGE, 2),
+        Err(error) if error.kind() == ErrorKind::OutOfMemory => {
+            last_words(output, OUT_OF_MEMORY, 1)
+        }
+        Err(error) if error.use_stderr() => {
+            let _ = write!(errors, "{error}");
+            2
+        }
+        Err(error) => match write!(output, "{error}") {
+            Ok(()) => 0,
+            Err(_) => 3,
+        },
+    }
+}
+
+/// Whether the words, behind the program's name, are `script` alone. An error is `clap`'s refusal of them, or the
+/// text of `--help` or `--version`.
+fn asks_for_script(alloc: Global, words: &[String]) -> Result<bool, Error> {
+    let matches = command_line(alloc)?.try_get_matches_from(words)?;
+    Ok(match matches.get_strs(WORDS) {
+        Some([word]) => *word == "script",
+        _ => false,
+    })
+}
+
+fn command_line<'a>(alloc: Global) -> Result<Command<'a>, AllocError> {
+    let words = Arg::new(alloc, WORDS)
+        .action(ArgAction::Append)
+        .num_args(0..)
+        .help(WORDS_HELP);
+    Command::new(alloc, "keyretain")
+        .version("0.1.0")
+        .about(ABOUT)
+        .override_usage("keyretain script")
+        .after_help(COMMANDS)
+        .arg(words)
+}
+
+fn last_words<W: Write>(output: &mut W, text: &str, status: u8) -> u8 {
+    match write_text(output, text.as_bytes()) {
+        Ok(()) => status,
+        Err(_) => 3,
+    }
+}

@@ -1,0 +1,179 @@
+ghost use Rattle.std.specs.Prelude.{◌≡◌, [], OnOk, IfErr};
+ghost use Rattle.krs_ctl.specs.Running.{EndsScript};
+ghost use Rattle.krs_ctl.specs.Writing.{Prints};
+
+use crate::command::{Command, parse};
+use crate::lines::{has_line_at_hand, read_line};
+use crate::stop::Stop;
+use crate::words::{is_comment, words};
+use crate::writing::{finish, print_reply, write_out};
+use krs_store::Store;
+use krs_types::{Answer, Ask, Op, Reply};
+use std::alloc::Global;
+use std::io::{BufReader, Read, Write};
+
+/// How many lines are read at most: profile, limits.
+const MOST_LINES: u32 = 16_777_216;
+
+/// How many bytes are read at once.
+const READ_AHEAD: usize = 65_536;
+
+/// The client number of a script: it has its store for itself.
+const CLIENT: u32 = 0;
+
+/// How a script ended.
+#[derive(Drop)]
+pub struct ScriptEnd {
+    /// 0; 1 where something was refused or memory was wanting; 2 for usage; 3 where reading or printing failed.
+    pub status: u8,
+    pub store: Store,
+}
+
+/// Runs the lines of a reader on a store, as client 0, and prints a line for each to the writer. What was printed is
+/// written out before a line is waited for.
+pub fn run_script<R: Read + Drop, W: Write>(
+    alloc: Global,
+    reader: R,
+    writer: &mut W,
+    store: Store,
+) -> ScriptEnd
+    ensures { EndsScript (R.remaining reader) (W.contents writer.old) (W.contents writer.new) store result }
+{
+    let mut script = Script {
+        store,
+        context: 0,
+        moment: 0,
+        refused: false,
+    };
+    let mut pending = Vec::new(alloc);
+    let stopped = script.run(alloc, reader, writer, &mut pending);
+    let status = finish(writer, &mut pending, stopped, script.refused);
+    ScriptEnd {
+        status,
+        store: script.store,
+    }
+}
+
+/// Writes what waits, unless the next line can be read without asking the reader for more.
+fn write_before_waiting<R: Read, W: Write>(
+    reader: &BufReader<R>,
+    writer: &mut W,
+    pending: &mut Vec<u8>,
+) -> Result<(), Stop>
+    ensures ok { OnOk result (Prints (W.contents writer.old) pending.old.items
+        (W.contents writer.new) pending.new.items []) }
+    ensures causes { IfErr result (λ stop. stop ≡ Stop.Printing) }
+{
+    if has_line_at_hand(reader) {
+        return Ok(());
+    }
+    write_out(writer, pending)
+}
+
+/// A script between two lines.
+#[derive(Drop)]
+struct Script {
+    store: Store,
+    context: u32,
+    moment: u64,
+    refused: bool,
+}
+
+impl Script {
+    ghost use Rattle.std.specs.Prelude.{◌≡◌};
+    ghost use Rattle.std.specs.Io.Buffered.{reader_remaining};
+    ghost use Rattle.krs_ctl.specs.Running.{Acts, Asks, ObeysLine, Runs};
+    ghost use Rattle.krs_ctl.specs.Writing.{Prints};
+
+    fn run<R: Read + Drop, W: Write>(
+        &mut self,
+        alloc: Global,
+        reader: R,
+        writer: &mut W,
+        pending: &mut Vec<u8>,
+    ) -> Result<(), Stop>
+        ensures { Runs (R.remaining reader) self.old self.new (Prints (W.contents writer.old)
+            pending.old.items (W.contents writer.new) pending.new.items) result }
+    {
+        match BufReader::with_capacity(alloc, READ_AHEAD, reader) {
+            Ok(mut reader) => self.run_lines(alloc, &mut reader, writer, pending),
+            Err(_) => Err(Stop::Memory),
+        }
+    }
+
+    fn run_lines<R: Read, W: Write>(
+        &mut self,
+        alloc: Global,
+        reader: &mut BufReader<R>,
+        writer: &mut W,
+        pending: &mut Vec<u8>,
+    ) -> Result<(), Stop>
+        ensures { Runs (reader_remaining R.remaining reader.old) self.old self.new
+            (Prints (W.contents writer.old) pending.old.items (W.contents writer.new) pending.new.items)
+            result }
+    {
+        let mut line = Vec::new(alloc);
+        for _ in 0..MOST_LINES {
+            write_before_waiting(reader, writer, pending)?;
+            if !read_line(reader, &mut line)? {
+                return Ok(());
+            }
+            self.obey(alloc, line.as_slice(), writer, pending)?;
+        }
+        Err(Stop::Reading)
+    }
+
+    fn obey<W: Write>(
+        &mut self,
+        alloc: Global,
+        line: &[u8],
+        writer: &mut W,
+        pending: &mut Vec<u8>,
+    ) -> Result<(), Stop>
+        ensures { ObeysLine self.old line.now self.new (Prints (W.contents writer.old)
+            pending.old.items (W.contents writer.new) pending.new.items) result }
+    {
+        if is_comment(line) {
+            return Ok(());
+        }
+        let words = words(alloc, line)?;
+        if words.is_empty() {
+            return Ok(());
+        }
+        let command = parse(alloc, words.as_slice())?;
+        let reply = self.act(command);
+        print_reply(alloc, writer, pending, &reply)
+    }
+
+    fn act(&mut self, command: Command) -> Reply
+        ensures { Acts self.old command result self.new }
+    {
+        match command {
+            Command::Context(context) => {
+                self.context = context;
+                Ok(Answer::Nothing)
+            }
+            Command::Moment(moment) => {
+                self.moment = moment;
+                Ok(Answer::Nothing)
+            }
+            Command::Ask(op) => self.ask(op),
+        }
+    }
+
+    fn ask(&mut self, op: Op) -> Reply
+        ensures { Asks self.old op result self.new }
+    {
+        let is_hello = matches!(op, Op::Hello(_));
+        let ask = Ask {
+            context: self.context,
+            op,
+        };
+        let reply = self.store.apply(CLIENT, self.moment, ask);
+        if let (true, Ok(Answer::Number(context))) = (is_hello, &reply) {
+            self.context = *context;
+        }
+        self.refused |= reply.is_err();
+        reply
+    }
+}

@@ -1,0 +1,46 @@
+ghost use Rattle.std.specs.Prelude.{◌≡◌};
+ghost use Rattle.krs_ctl.specs.declared.stop.Stop.TheVariants.{Memory};
+ghost use Rattle.krs_ctl.specs.Script.{stop_of};
+
+use crate::fault::Fault;
+use std::alloc::{AllocError, AllocFailed};
+
+/// Why a script stops before the end of its lines.
+#[derive(Clone, Copy, Debug, PartialEq, Eq)]
+pub enum Stop {
+    /// A line is no command, or has not the words that its command takes.
+    Usage,
+    /// A growth was refused for want of memory.
+    Memory,
+    /// No line could be read, or as many were read as a script has at most.
+    Reading,
+    /// What was printed could not be written.
+    Printing,
+}
+
+impl From<Fault> for Stop {
+    ghost from_gives = { λ fault stop. stop ≡ stop_of fault };
+
+    fn from(fault: Fault) -> Stop {
+        match fault {
+            Fault::Usage => Stop::Usage,
+            Fault::Memory => Stop::Memory,
+        }
+    }
+}
+
+impl From<AllocError> for Stop {
+    ghost from_gives = { λ _ stop. stop ≡ Memory };
+
+    fn from(_: AllocError) -> Stop {
+        Stop::Memory
+    }
+}
+
+impl<T: Drop> From<AllocFailed<T>> for Stop {
+    ghost from_gives = { λ _ stop. stop ≡ Memory };
+
+    fn from(_: AllocFailed<T>) -> Stop {
+        Stop::Memory
+    }
+}
