@@ -10,6 +10,9 @@ use krs_types::{Ask, Op};
 use krs_wire::{Feed, WireFault};
 use std::alloc::Global;
 
+/// How many bytes a turn reads at most.
+const READ_SIZE: usize = 4096;
+
 /// Cuts a piece of the stream, asks what its frames ask, and writes the replies. What ends the session is the answer.
 fn serve_piece<H, W: Sink, S, D: Keeper<S, H>, C: Clock, G: Gate>(
     rt: &H,
@@ -75,7 +78,7 @@ fn turn<H, R: Source, W: Sink, S, D: Keeper<S, H>, C: Clock, G: Gate>(
     ensures ready { D.ready desk.now seat.new }
     ensures lane { D.lane_of seat.new ≡ D.lane_of seat.old }
 {
-    let mut room = [0u8; 4096];
+    let mut room = [0u8; READ_SIZE];
     match reader.read(&mut room) {
         Err(_) => Some(Ended::Read),
         Ok(n) => {
@@ -126,8 +129,9 @@ fn serve<H, R: Source, W: Sink, S, D: Keeper<S, H>, C: Clock, G: Gate>(
     Ended::Turns
 }
 
-/// Serves a connection to its end. A turn is one read of at most 4096 bytes, and after `turns` turns the session ends. However
-/// it ends, LEAVE is asked last, and its reply is not written.
+/// Serves a connection to its end: docs/FORMAT.md, "A connection". A turn is one read of at most 4096 bytes, and after
+/// `turns` turns the session ends. Each ask takes one answer of the clock, and passes the gate before it goes to the desk and
+/// after its reply is there. However the session ends, LEAVE is asked last in the same way, and its reply is not written.
 pub fn run<H, R: Source, W: Sink, S, D: Keeper<S, H>, C: Clock, G: Gate>(
     rt: &H,
     alloc: Global,

@@ -99,7 +99,8 @@ reply_front shape bytes = reply_in shape ((number w32).read bytes)
 abbrev pub IsAtFront : Shape → List ℕ → Result Answer Errno × ℕ → Type 0
 IsAtFront shape bytes found = (take found.1 bytes ≡ reply_frame found.0) × HasShape shape found.0
 
--- where the bytes are the frame of such a reply and more, that reply is the answer, unless memory ran out
-abbrev pub Finds : Shape → List ℕ → Result Answer Errno → List ℕ → Result (Option (Result Answer Errno × ℕ)) WireFault → Type 0
-Finds shape bytes reply more result =
-    HasShape shape reply → bytes ≡ reply_frame reply ++ more → Gives (λ found. found) result (Ok (Some (reply, length (reply_frame reply))))
+-- where the bytes are the frame of such a reply, whatever follows it, that reply is the answer, unless memory ran out
+abbrev pub Finds : Shape → List ℕ → Result (Option (Result Answer Errno × ℕ)) WireFault → Type 0
+Finds shape bytes result =
+    (reply : Result Answer Errno) (more : List ℕ) → HasShape shape reply → bytes ≡ reply_frame reply ++ more →
+    Gives (λ found. found) result (Ok (Some (reply, length (reply_frame reply))))

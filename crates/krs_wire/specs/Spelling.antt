@@ -29,14 +29,22 @@ pub record FitsAsk (ask : Ask) : Type 0 where
   pub op : FitsOp ask.op
   pub size : length (ask_text ask) ≤ 65536
 
--- the frame that is cut is spelled so
-abbrev pub SpelledSo : List ℕ → Framed → List ℕ → Type 0
-SpelledSo bytes framed more = ((i : ℕ) → slice_index bytes i < 256) → front_of bytes ≡ Ok (Some (framed, more)) → (bytes ≡ ask_frame framed.ask ++ more) × FitsAsk framed.ask
+-- each frame that is cut is that of its ask
+abbrev pub EachCutIsSpelled : Type 0
+EachCutIsSpelled =
+    (bytes : List ℕ) (framed : Framed) (more : List ℕ) → ((i : ℕ) → slice_index bytes i < 256) → front_of bytes ≡ Ok (Some (framed, more)) →
+    (bytes ≡ ask_frame framed.ask ++ more) × FitsAsk framed.ask
 
--- what is spelled so is cut, whatever follows it
-abbrev pub ReadAgain : Framed → List ℕ → Type 0
-ReadAgain framed more = FitsAsk framed.ask → front_of (ask_frame framed.ask ++ more) ≡ Ok (Some (framed, more))
+-- the frame of each ask is cut as that ask, whatever follows it
+abbrev pub EachSpellingIsCut : Type 0
+EachSpellingIsCut = (framed : Framed) (more : List ℕ) → FitsAsk framed.ask → front_of (ask_frame framed.ask ++ more) ≡ Ok (Some (framed, more))
+
+-- each stream is cut in some way
+abbrev pub EachStreamIsCut : Type 0
+EachStreamIsCut = (bytes : List ℕ) → (frames : List Framed) × (end : End) × Frames bytes frames end
 
 -- two cuts of one stream are the same
-abbrev pub CutAlike : List ℕ → List Framed → End → List Framed → End → Type 0
-CutAlike bytes frames end others other = Frames bytes frames end → Frames bytes others other → (frames ≡ others) × (end ≡ other)
+abbrev pub CutsAgree : Type 0
+CutsAgree =
+    (bytes : List ℕ) (frames others : List Framed) (end other : End) → Frames bytes frames end → Frames bytes others other →
+    (frames ≡ others) × (end ≡ other)

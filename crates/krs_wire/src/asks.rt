@@ -6,13 +6,11 @@ ghost use Rattle.krs_wire.specs.Bodies.{add_fields, add_of, describe_of, hello_f
 ghost use Rattle.krs_wire.specs.Frame.{op_of, framed_of, front_of};
 
 use crate::fields::{blob_at, ended, groups_at, id_at, text_at, u16_at, u32_at};
+use crate::framed::{MAX_LENGTH, MIN_LENGTH, VERSION};
 use crate::{Framed, WireFault};
 use byteorder::{ByteOrder, LittleEndian};
 use krs_types::{Ask, Caller, Op};
 use std::alloc::Global;
-
-/// The version of the frames.
-const VERSION: u16 = 1;
 
 fn hello_at(alloc: Global, body: &[u8]) -> Result<Op, WireFault>
     ensures { Gives (λ op. op) result (or_bad_body (whole hello_fields hello_of body.now)) }
@@ -96,7 +94,7 @@ pub(crate) fn front_at(alloc: Global, bytes: &[u8]) -> Result<Option<(Framed, &[
     }
     let (front, rest) = bytes.split_at(4);
     let len = LittleEndian::read_u32(front) as usize;
-    if len < 8 || len > 65536 {
+    if len < MIN_LENGTH || len > MAX_LENGTH {
         return Err(WireFault::BadLength);
     }
     if rest.len() < len {

@@ -5,12 +5,10 @@ ghost use Rattle.krs_wire.specs.Frame.{Frames, rest};
 ghost use Rattle.krs_wire.specs.Spelling.{framed, ask_text, ask_frame, IsTooLong};
 
 use crate::WireFault;
+use crate::framed::{MAX_LENGTH, VERSION};
 use byteorder::{ByteOrder, LittleEndian};
 use krs_types::{Ask, Blob, Caller, Groups, Op};
 use std::alloc::{AllocError, Global};
-
-/// The greatest length of an ask's frame.
-const MAX_FRAME: usize = 65536;
 
 /// The number of an operation on the wire.
 fn operation_number(op: &Op) -> u16
@@ -67,7 +65,7 @@ fn put_blob(out: &mut Vec<u8>, blob: &Blob) -> Result<(), WireFault>
     ensures long { IfErr result (IsTooLong 65537 blob.now) }
 {
     let bytes = blob.as_slice();
-    if bytes.len() > MAX_FRAME {
+    if bytes.len() > MAX_LENGTH {
         return Err(WireFault::BadLength);
     }
     put_u32(out, bytes.len() as u32)?;
@@ -81,7 +79,7 @@ fn put_groups(out: &mut Vec<u8>, groups: &Groups) -> Result<(), WireFault>
     ensures long { IfErr result (IsTooLong 65536 (groups_field.spell groups.now)) }
 {
     let numbers = groups.as_slice();
-    if numbers.len() > MAX_FRAME {
+    if numbers.len() > MAX_LENGTH {
         return Err(WireFault::BadLength);
     }
     put_u32(out, numbers.len() as u32)?;
@@ -149,7 +147,7 @@ fn put_ask(out: &mut Vec<u8>, ask: &Ask) -> Result<(), WireFault>
     ensures fits { OnOk result (FitsOp ask.now.op) }
     ensures long { IfErr result (IsTooLong 65537 (ask_text ask.now)) }
 {
-    put_u16(out, 1)?;
+    put_u16(out, VERSION)?;
     put_u16(out, operation_number(&ask.op))?;
     put_u32(out, ask.context)?;
     put_body(out, &ask.op)
@@ -175,7 +173,7 @@ pub fn encode_ask(alloc: Global, ask: &Ask) -> Result<Vec<u8>, WireFault>
     put_u32(&mut out, 0)?;
     put_ask(&mut out, ask)?;
     let len = out.len() - 4;
-    if len > MAX_FRAME {
+    if len > MAX_LENGTH {
         return Err(WireFault::BadLength);
     }
     set_length(&mut out, len as u32);

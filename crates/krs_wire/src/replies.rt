@@ -1,7 +1,5 @@
-ghost use Rattle.std.specs.Prelude.{◌≡◌, ◌≤◌, ℕ, List, Result, IfOk, IfErr, IfSome, length};
+ghost use Rattle.std.specs.Prelude.{◌≡◌, ◌≤◌, IfOk, IfErr, IfSome, length};
 ghost use Rattle.std.specs.Int.{w32};
-ghost use Rattle.krs_types.specs.declared.ask.Answer.{Answer};
-ghost use Rattle.krs_types.specs.declared.errno.Errno.{Errno};
 ghost use Rattle.krs_wire.specs.Faulting.{Gives};
 ghost use Rattle.krs_wire.specs.Field.{number};
 ghost use Rattle.krs_wire.specs.Reply.{answer_of, frame_of, reply_by, reply_front, reply_frame, shape_of, Finds, IsAtFront};
@@ -11,6 +9,11 @@ use crate::{Shape, WireFault};
 use byteorder::{ByteOrder, LittleEndian};
 use krs_types::{Answer, Body, Errno, Op, Reply};
 use std::alloc::Global;
+
+/// The least and the greatest length of a reply's frame, which counts the bytes behind it.
+const MIN_LENGTH: usize = 4;
+
+const MAX_LENGTH: usize = 262_144;
 
 fn encode_frame(alloc: Global, status: u32, body: &[u8]) -> Result<Vec<u8>, WireFault>
     requires { length body.now ≤ 262140 }
@@ -83,7 +86,7 @@ fn front_reply(alloc: Global, op: &Op, bytes: &[u8]) -> Result<Option<(Reply, us
     }
     let (len, rest) = u32_at(bytes)?;
     let len = len as usize;
-    if len < 4 || len > 262144 {
+    if len < MIN_LENGTH || len > MAX_LENGTH {
         return Err(WireFault::BadLength);
     }
     if rest.len() < len {
@@ -107,7 +110,7 @@ pub fn decode_reply(
     ensures found { IfOk result (λ o. IfSome o (IsAtFront (shape_of op.now) bytes.now)) }
 
     // What is spelled so is found, whatever follows it.
-    ensures only { (reply : Result Answer Errno) (more : List ℕ) → Finds (shape_of op.now) bytes.now reply more result }
+    ensures only { Finds (shape_of op.now) bytes.now result }
 {
     front_reply(alloc, op, bytes)
 }
