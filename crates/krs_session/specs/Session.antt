@@ -1,6 +1,7 @@
 -- What a whole session did: docs/FORMAT.md, "A connection".
 use Rattle.std.specs.Prelude.{◌≡◌, ◌+◌, ◌*◌, ◌<◌, ◌≤◌, length, ℕ, List, [], ◌∷◌, ◌++◌, ◌⊎◌}
 use Rattle.krs_types.specs.declared.event.Event.{Event}
+use Rattle.krs_types.specs.declared.ask.Ask.{Ask}
 use Rattle.krs_types.specs.declared.ask.Op.TheVariants.{Leave}
 use Rattle.krs_wire.specs.declared.framed.Framed.{Framed}
 use Rattle.krs_wire.specs.Frame.{End, rest, bad, Frames}
@@ -35,6 +36,10 @@ Serves took bytes frames text (Wire fault) = Frames bytes frames (bad fault) × 
 Serves took bytes frames text Write = AreAll bytes frames × TookFront took text
 Serves took bytes frames text Memory = (AreAll bytes frames × TookFront took text) ⊎ (AreFirst bytes frames × took text)
 
+-- what is asked last; it looks at no context
+abbrev pub leave : Ask
+leave = record { context = 0; op = Leave }
+
 -- A session over ends, a seat and a clock: `gave` and `took` say which bytes were given and taken, `led` which events lead
 -- from the seat before to the seat after, `ticked` what the clock answered. The events are the asks of the frames in the
 -- bytes given, in order, and then LEAVE; their moments are the clock's answers; what was taken is the frames of their
@@ -50,7 +55,7 @@ pub record Session (gave : List ℕ → Type 0) (led : List Event → Type 0) (t
   pub moments : ticked (moments_of (events ++ last ∷ []))
   pub lanes : AllOfLane lane (events ++ last ∷ [])
   pub order : asks_of events ≡ asks_in frames
-  pub leave : last.ask.op ≡ Leave
+  pub leave : last.ask ≡ leave
   pub served : Serves took bytes frames (session_text events) ended
 
 -- Why a session ended, by what its ends counted before and after: reads into room, those that gave no bytes, failed reads;
