@@ -1,4 +1,6 @@
-use anyhow::{Result, bail, ensure};
+ghost use Rattle.std.specs.Prelude.{◌<◌};
+
+use anyhow::{Result, bail};
 use krs_store::Store;
 use krs_types::{Ask, Blob, Caller, Groups, Op};
 use std::alloc::{AllocError, Global};
@@ -53,8 +55,9 @@ pub fn nanoseconds<R: AllocGlobal + std::rt::Clock>(
     rt: &R,
     operation: Operation,
     count: u32,
-) -> Result<u64> {
-    ensure!(count > 0, "no keys");
+) -> Result<u64>
+    requires { 0 < count }
+{
     if operation != Operation::Add {
         let mut store = stocked(rt.alloc(), count)?;
         let took = timed(rt, &mut store, operation, 0, count, ROUNDS)?;
@@ -79,12 +82,13 @@ fn timed<R: AllocGlobal + std::rt::Clock>(
     from: u32,
     places: u32,
     rounds: u32,
-) -> Result<Duration> {
+) -> Result<Duration>
+    requires { 0 < places }
+{
     let start = Instant::now(rt)?;
-    let mut place = 0;
-    for _ in 0..rounds {
-        ask(store, operation.op(rt.alloc(), from.saturating_add(place))?)?;
-        place = if place.saturating_add(1) < places { place.saturating_add(1) } else { 0 };
+    for round in 0..rounds {
+        let place = from.saturating_add(round % places);
+        ask(store, operation.op(rt.alloc(), place)?)?;
     }
     Ok(start.elapsed(rt)?)
 }
@@ -123,6 +127,9 @@ fn add(alloc: Global, place: u32) -> Result<Op, AllocError> {
 }
 
 fn each(took: Duration, rounds: u32) -> u64 {
-    let nanoseconds = took.as_secs().saturating_mul(1_000_000_000).saturating_add(u64::from(took.subsec_nanos()));
+    let nanoseconds = took
+        .as_secs()
+        .saturating_mul(1_000_000_000)
+        .saturating_add(u64::from(took.subsec_nanos()));
     nanoseconds / u64::from(rounds.max(1))
 }
