@@ -50,14 +50,13 @@ impl Operation {
     }
 }
 
-/// How many nanoseconds an ask takes with that many keys linked in the user keyring.
+/// How many nanoseconds an ask takes with that many keys, at least one, linked in the user keyring.
 pub fn nanoseconds<R: AllocGlobal + std::rt::Clock>(
     rt: &R,
     operation: Operation,
     count: u32,
-) -> Result<u64>
-    requires { 0 < count }
-{
+) -> Result<u64> {
+    let count = count.max(1);
     if operation != Operation::Add {
         let mut store = stocked(rt.alloc(), count)?;
         let took = timed(rt, &mut store, operation, 0, count, ROUNDS)?;
