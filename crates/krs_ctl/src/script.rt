@@ -12,7 +12,7 @@ use krs_types::{Answer, Ask, Op, Reply};
 use std::alloc::Global;
 use std::io::{BufReader, Read, Write};
 
-/// How many lines are read at most: docs/FORMAT.md, "Statuses".
+/// How many lines are read at most: profile, limits.
 const MOST_LINES: u32 = 16_777_216;
 
 /// How many bytes are read at once.
