@@ -84,7 +84,11 @@ fn timed<R: AllocGlobal + std::rt::Clock>(
     let mut place = 0;
     for _ in 0..rounds {
         ask(store, operation.op(rt.alloc(), from.saturating_add(place))?)?;
-        place = if place.saturating_add(1) < places { place.saturating_add(1) } else { 0 };
+        place = if place.saturating_add(1) < places {
+            place.saturating_add(1)
+        } else {
+            0
+        };
     }
     Ok(start.elapsed(rt)?)
 }
@@ -123,6 +127,9 @@ fn add(alloc: Global, place: u32) -> Result<Op, AllocError> {
 }
 
 fn each(took: Duration, rounds: u32) -> u64 {
-    let nanoseconds = took.as_secs().saturating_mul(1_000_000_000).saturating_add(u64::from(took.subsec_nanos()));
+    let nanoseconds = took
+        .as_secs()
+        .saturating_mul(1_000_000_000)
+        .saturating_add(u64::from(took.subsec_nanos()));
     nanoseconds / u64::from(rounds.max(1))
 }

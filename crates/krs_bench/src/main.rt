@@ -26,7 +26,9 @@ links, 10, 1000 and 10000 if left out. Prints nanoseconds per ask, payloads of 3
 fn main(rt: HostRuntime) -> Result<()> {
     let words: Vec<String> = env::args(&rt)?.collect(rt.alloc())?;
     let word = words.get(1).map_or("", |word| word.as_str());
-    let count = words.get(2).and_then(|word| word.as_str().parse::<u32>().ok());
+    let count = words
+        .get(2)
+        .and_then(|word| word.as_str().parse::<u32>().ok());
     let mut is_known = false;
     for operation in OPERATIONS {
         if word == operation.name() || word == "all" {

@@ -30,4 +30,3 @@ shown_refusal e = codes "error " ++ decimal (number_of e) ++ codes " " ++ name_o
 abbrev pub shown : Result Answer Errno → List ℕ
 shown (Ok answer) = shown_answer answer
 shown (Err e) = shown_refusal e
-

@@ -45,7 +45,7 @@ abbrev pub TakesLine : Script → List ℕ → List ℕ → Script → Type 0
 TakesLine old line text new = MatchBool (is_skipped line)
     ((new ≡ old) × (text ≡ []))
     ((command : Command) × (reply : Result Answer Errno) × (command_of (words_of line) ≡ Some command)
-        × Acts old command reply new × (text ≡ shown reply ++ 10 ∷ []))
+    × Acts old command reply new × (text ≡ shown reply ++ 10 ∷ []))
 
 -- lines one after the other, and all that they print
 abbrev pub TakesLines : Script → List (List ℕ) → List ℕ → Script → Type 0

@@ -10,7 +10,8 @@ use std::io::{Read, Write};
 
 const WORDS: &str = "COMMAND";
 
-const ABOUT: &str = "A client of a key store that works as Linux's key retention service does: keyrings(7), keyctl(2).";
+const ABOUT: &str =
+    "A client of a key store that works as Linux's key retention service does: keyrings(7), keyctl(2).";
 
 const WORDS_HELP: &str =
     "script: runs the lines of standard input, one command each, on a store of their own";

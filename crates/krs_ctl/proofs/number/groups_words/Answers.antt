@@ -6,9 +6,9 @@ use Rattle.krs_ctl.proofs.number.groups_words.Goals as goal
 
 pub loop-word-preserved : goal.loop-word-preserved
 loop-word-preserved c = (
-    all_more (λ w. u32_of w.now) c.args.words.now c.loop-word.word-index _ c.in-Some.gid c.loop-word-test.true (sym c.in-Some.ensures) c.loop-word.invariant.0,
-    rw (c.in_ok-push.ensures.items, c.loop-word.invariant.1) (sym (numbers_more (λ w. u32_of w.now) c.args.words.now c.loop-word.word-index _ c.in-Some.gid c.loop-word-test.true (sym c.in-Some.ensures)))
-  )
+  all_more (λ w. u32_of w.now) c.args.words.now c.loop-word.word-index _ c.in-Some.gid c.loop-word-test.true (sym c.in-Some.ensures) c.loop-word.invariant.0,
+  rw (c.in_ok-push.ensures.items, c.loop-word.invariant.1) (sym (numbers_more (λ w. u32_of w.now) c.args.words.now c.loop-word.word-index _ c.in-Some.gid c.loop-word-test.true (sym c.in-Some.ensures))),
+)
 
 pub returns-in_default : goal.returns-in_default
 returns-in_default c =
