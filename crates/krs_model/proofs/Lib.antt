@@ -4,3 +4,5 @@ pub mod Levels
 pub mod Sweeps
 pub mod Lookups
 pub mod Sweeping
+pub mod Steps
+pub mod Rights

@@ -16,7 +16,7 @@ use Rattle.krs_model.specs.State.{State, Key, Content, Payload, Links}
 use Rattle.krs_model.specs.Possession.{links_of}
 use Rattle.krs_model.specs.Levels.{is_in}
 use Rattle.krs_model.specs.Linking.{is_named, link_named, with_link, linking}
-use Rattle.krs_model.specs.Sweep.{IsHeld, Attached, Linked, IsSwept, linked_by, roots, context_roots, process_roots, uid_roots}
+use Rattle.krs_model.specs.Sweep.{IsHeld, Attached, Linked, AllHeld, linked_by, roots, context_roots, process_roots, uid_roots}
 use Rattle.krs_model.specs.Asks.Hello.{with_context, with_uid, uid_ring}
 use Rattle.krs_model.specs.Asks.Adding.{updated, paid_with, made, IsRing}
 use Rattle.krs_model.proofs.Tables.{at_put_same, at_put_other, at_or_apart, at_alter_same, at_alter_other}
@@ -34,18 +34,16 @@ three_on a b c d e f k p q r h =
     (in_one k a (b ++ c) h)
 
 -- one more context, with its process
-pub with_context_swept : (s : State) (client : ℕ) (c : Caller) (session : Option ℕ) → at s.contexts s.next_context ≡ None → at s.processes s.next_context ≡ None → IsSwept s → IsSwept (with_context s client c session)
+pub with_context_swept : (s : State) (client : ℕ) (c : Caller) (session : Option ℕ) → at s.contexts s.next_context ≡ None → at s.processes s.next_context ≡ None → AllHeld s → AllHeld (with_context s client c session)
 with_context_swept s client c session no_context no_process swept =
     let context : Context = record { client = client; process = s.next_context; caller = c; thread = None; session = session } in
     let after = with_context s client c session in
-    record {
-      keys = λ k there. held_on s.keys s.keys (roots s) (roots after)
-          (λ q h. three_on (context_roots s.contexts) (process_roots s.processes) (uid_roots s.uids) (context_roots after.contexts) (process_roots after.processes) (uid_roots s.uids) q
-          (λ i. attached_more (λ (x : Context). option_to_list x.thread ++ option_to_list x.session) s.contexts s.next_context context q no_context i)
-          (λ i. attached_more (λ (o : Option ℕ). option_to_list o) s.processes s.next_context None q no_process i)
-          (λ i. i) h)
-          (λ j q h. h) k (swept.keys k there);
-    }
+    λ k there. held_on s.keys s.keys (roots s) (roots after)
+    (λ q h. three_on (context_roots s.contexts) (process_roots s.processes) (uid_roots s.uids) (context_roots after.contexts) (process_roots after.processes) (uid_roots s.uids) q
+    (λ i. attached_more (λ (x : Context). option_to_list x.thread ++ option_to_list x.session) s.contexts s.next_context context q no_context i)
+    (λ i. attached_more (λ (o : Option ℕ). option_to_list o) s.processes s.next_context None q no_process i)
+    (λ i. i) h)
+    (λ j q h. h) k (swept k there)
 
 links_put : (es : Table Key) (n : ℕ) (v : Key) → at es n ≡ None → LinksStay es (put es n v)
 links_put es n v none j k h =
@@ -57,7 +55,7 @@ there_put es n v k h =
     ⊎_elim (λ (e : k ≡ n). inr e) (λ apart. inl (subst IsSome (at_put_other es n k v apart) h)) (at_or_apart k n)
 
 -- the keyrings of a uid, which attaches both
-pub with_uid_swept : (s : State) (c : Caller) → at s.keys s.next_serial ≡ None → at s.keys (s.next_serial + 1) ≡ None → at s.uids c.uid ≡ None → IsSwept s → IsSwept (with_uid s c None)
+pub with_uid_swept : (s : State) (c : Caller) → at s.keys s.next_serial ≡ None → at s.keys (s.next_serial + 1) ≡ None → at s.uids c.uid ≡ None → AllHeld s → AllHeld (with_uid s c None)
 with_uid_swept s c none none_next no_uid swept =
     let n = s.next_serial in
     let a = uid_ring (codes "_uid.") [] c in
@@ -71,13 +69,11 @@ with_uid_swept s c none none_next no_uid swept =
     let held : (k : ℕ) → IsSome (at s.keys k) → IsHeld after.keys (roots after) k = λ k there. held_on s.keys after.keys (roots s) (roots after)
     (λ q h. three_on (context_roots s.contexts) (process_roots s.processes) (uid_roots s.uids) (context_roots s.contexts) (process_roots s.processes) (uid_roots after.uids) q
     (λ i. i) (λ i. i) (λ i. attached_more g s.uids c.uid rings q no_uid i) h)
-    (λ j q h. links_put one (n + 1) b apart j q (links_put s.keys n a none j q h)) k (swept.keys k there) in
+    (λ j q h. links_put one (n + 1) b apart j q (links_put s.keys n a none j q h)) k (swept k there) in
     let first : is_in n (g rings) ≡ true = rw (same_is n n refl) refl in
     let second : is_in (n + 1) (g rings) ≡ true = or_true (n == (n + 1)) (((n + 1) == (n + 1)) || false) (rw (same_is (n + 1) (n + 1) refl) refl) in
-    record {
-      keys = λ k there. ⊎_elim (λ before. ⊎_elim (λ old. held k old) (λ (e : k ≡ n). Attached k (uids k (subst (λ (z : ℕ). is_in z (g rings) ≡ true) (sym e) first))) (there_put s.keys n a k before))
-          (λ (e : k ≡ n + 1). Attached k (uids k (subst (λ (z : ℕ). is_in z (g rings) ≡ true) (sym e) second))) (there_put one (n + 1) b k there);
-    }
+    λ k there. ⊎_elim (λ before. ⊎_elim (λ old. held k old) (λ (e : k ≡ n). Attached k (uids k (subst (λ (z : ℕ). is_in z (g rings) ≡ true) (sym e) first))) (there_put s.keys n a k before))
+    (λ (e : k ≡ n + 1). Attached k (uids k (subst (λ (z : ℕ). is_in z (g rings) ≡ true) (sym e) second))) (there_put one (n + 1) b k there)
 
 unmapped : (f : Key → Key) (o : Option Key) → IsSome (option_map f o) → IsSome o
 unmapped f None h = h
@@ -102,13 +98,11 @@ paid_links payload (Payload old) k h = h
 paid_links payload (Links links) k h = h
 
 -- another payload for a key
-pub updated_swept : (s : State) (serial : ℕ) (payload : List ℕ) → IsSwept s → IsSwept (record s { keys = alter s.keys serial (updated payload) })
+pub updated_swept : (s : State) (serial : ℕ) (payload : List ℕ) → AllHeld s → AllHeld (record s { keys = alter s.keys serial (updated payload) })
 updated_swept s serial payload swept =
     let after = alter s.keys serial (updated payload) in
-    record {
-      keys = λ k there. held_on s.keys after (roots s) (roots s) (λ q h. h)
-          (links_alter s.keys serial (updated payload) (λ v q is i. paid_links payload v.content q i)) k (swept.keys k (alter_there s.keys serial (updated payload) k there));
-    }
+    λ k there. held_on s.keys after (roots s) (roots s) (λ q h. h)
+    (links_alter s.keys serial (updated payload) (λ v q is i. paid_links payload v.content q i)) k (swept k (alter_there s.keys serial (updated payload) k there))
 
 linked_here : (p : ℕ → Bool) (links : List ℕ) (n : ℕ) → is_in n (with_link p links n) ≡ true
 linked_here p [] n = rw (same_is n n refl) refl
@@ -130,7 +124,7 @@ linked_still p (x ∷ links) n k none h =
     ] none
 
 -- a new key that a keyring links, where this displaces none
-pub made_swept : (s : State) (ring : ℕ) (name : Name) (key : Key) → at s.keys s.next_serial ≡ None → (is : IsRing s ring) → link_named s.keys name is.2 ≡ None → IsSwept s → IsSwept (made s ring name key)
+pub made_swept : (s : State) (ring : ℕ) (name : Name) (key : Key) → at s.keys s.next_serial ≡ None → (is : IsRing s ring) → link_named s.keys name is.2 ≡ None → AllHeld s → AllHeld (made s ring name key)
 made_swept s ring name key none is fresh swept =
     let n = s.next_serial in
     let one = put s.keys n key in
@@ -142,10 +136,8 @@ made_swept s ring name key none is fresh swept =
     let more : (v : Key) (k : ℕ) → at one ring ≡ Some v → is_in k (links_of v.content) ≡ true → is_in k (links_of (f v).content) ≡ true =
     λ v k there i. rw (same v there) (linked_still p is.2 n k fresh (subst (λ (x : Content). is_in k (links_of x) ≡ true) (same v there) i)) in
     let held : (k : ℕ) → IsSome (at s.keys k) → IsHeld after.keys (roots s) k = λ k there. held_on s.keys after.keys (roots s) (roots s) (λ q h. h)
-    (λ j q h. links_alter one ring f more j q (links_put s.keys n key none j q h)) k (swept.keys k there) in
+    (λ j q h. links_alter one ring f more j q (links_put s.keys n key none j q h)) k (swept k there) in
     let ring_there : IsSome (at s.keys ring) = rw is.1 refl in
     let linked : is_in n (linked_by (at after.keys ring)) ≡ true = rw (at_alter_same one ring f, in_one_too, is.3) (linked_here p is.2 n) in
-    record {
-      keys = λ k there. ⊎_elim (λ old. held k old) (λ (e : k ≡ n). subst (IsHeld after.keys (roots s)) (sym e) (Linked ring n (held ring ring_there) linked))
-          (there_put s.keys n key k (alter_there one ring f k there));
-    }
+    λ k there. ⊎_elim (λ old. held k old) (λ (e : k ≡ n). subst (IsHeld after.keys (roots s)) (sym e) (Linked ring n (held ring ring_there) linked))
+    (there_put s.keys n key k (alter_there one ring f k there))

@@ -3,25 +3,35 @@ use Rattle.std.proofs.Common.{◌≡◌, ℕ, List, [], ◌∷◌, ◌++◌, Opt
 use Rattle.std.proofs.lemmas.Option.{none-some}
 use Rattle.std.specs.Ordering.{nat_cmp, match_ordering, is_eq}
 use Rattle.std.specs.declared.cmp.Ordering.TheVariants.{Less, Equal, Greater}
-use Rattle.std.specs.Option.{IsSome}
+use Rattle.std.specs.Option.{IsSome, is_some}
+use Rattle.std.specs.BTreeMap.{is_at}
 use Rattle.std.proofs.lemmas.Bool.{true≢false}
 use Rattle.krs_model.specs.Table.{Table, at, put}
 use Rattle.krs_model.specs.State.{State, Key}
 use Rattle.krs_model.specs.Levels.{is_in}
-use Rattle.krs_model.specs.Sweep.{IsHeld, Attached, Linked, PicksHeld, IsSweep, IsSwept, linked_by, roots}
-use Rattle.krs_model.proofs.Tables.{at_kept}
+use Rattle.krs_model.specs.Sweep.{IsHeld, Attached, Linked, PicksHeld, AllHeld, IsSweep, IsSwept, live_watches, linked_by, roots}
+use Rattle.krs_model.proofs.Tables.{at_kept, is_at_same}
 use Rattle.krs_model.proofs.Levels.{in_left, in_right, in_one}
 
 filter_all : {X : Type 0} (xs : List X) → xs ≡ filter (λ x. true) xs
 filter_all [] = refl
 filter_all (x ∷ xs) = ap (λ ys. x ∷ ys) (filter_all xs)
 
+filter_twice : {X : Type 0} (p : X → Bool) (xs : List X) → filter p (filter p xs) ≡ filter p xs
+filter_twice p [] = refl
+filter_twice p (x ∷ xs) =
+    elim (p x) as (λ b. p x ≡ b → filter p (cond b (x ∷ filter p xs) (filter p xs)) ≡ cond b (x ∷ filter p xs) (filter p xs)) [
+      | true ↦ λ t. rw t (ap (λ ys. x ∷ ys) (filter_twice p xs))
+      | false ↦ λ t. filter_twice p xs
+    ] refl
+
 -- a swept state is its own sweep
 pub swept_sweep : (s : State) → IsSwept s → IsSweep s s
 swept_sweep s swept = record {
   kept = λ k. true;
   picks = record { only = λ k there t. swept.keys k there; each = λ k held there. refl };
-  rest = ap (λ ks. record s { keys = ks }) (filter_all s.keys) ∙ ap (λ ws. record s { keys = filter (λ e. true) s.keys; watches = ws }) (filter_all s.watches);
+  keys = filter_all s.keys;
+  rest = ap (λ ws. record s { watches = ws }) (sym swept.watches);
 }
 
 linking_is_there : (k : ℕ) (o : Option Key) → is_in k (linked_by o) ≡ true → IsSome o
@@ -45,9 +55,18 @@ picked_swept rs old kept picks k h =
     let both = kept_there (kept k) (at old k) (subst IsSome (at_kept kept old k) h) in
     kept_held rs old kept picks k (picks.only k both.1 both.0)
 
+all_held : (old new : State) (keys : Table Key) (watches : List ((ℕ × ℕ) × ℕ)) → new ≡ record old { keys = keys; watches = watches } → ((k : ℕ) → IsSome (at keys k) → IsHeld keys (roots old) k) → AllHeld new
+all_held old new keys watches e held = subst AllHeld (sym e) held
+
 -- a sweep leaves a swept state
 pub sweep_swept : (old new : State) → IsSweep old new → IsSwept new
-sweep_swept old new s = rw s.rest (record { keys = picked_swept (roots old) old.keys s.kept s.picks })
+sweep_swept old new s =
+    let here : (k : ℕ) → IsSome (at new.keys k) → IsHeld new.keys (roots old) k = rw s.keys (picked_swept (roots old) old.keys s.kept s.picks) in
+    let same : new.watches ≡ live_watches new.keys old.watches = ap (λ (t : State). t.watches) s.rest in
+    record {
+      keys = all_held old new new.keys (live_watches new.keys old.watches) s.rest here;
+      watches = ap (live_watches new.keys) same ∙ (filter_twice (λ (w : (ℕ × ℕ) × ℕ). is_some (at new.keys w.0.0)) old.watches ∙ sym same);
+    }
 
 -- with no attachment and no link less, what was held is held
 pub held_on : (old new : Table Key) (before after : List ℕ) → ((k : ℕ) → is_in k before ≡ true → is_in k after ≡ true) → ((j k : ℕ) → is_in k (linked_by (at old j)) ≡ true → is_in k (linked_by (at new j)) ≡ true) → (k : ℕ) → IsHeld old before k → IsHeld new after k
@@ -73,3 +92,40 @@ attached_put {X = X} g (e ∷ es) k v q h =
       | Equal ↦ in_left q (g v) (flat_map (λ d. g d.1) es) h
       | Greater ↦ in_right q (g e.1) (flat_map (λ d. g d.1) (put es k v)) (attached_put g es k v q h)
     ]
+
+-- the entries of a table are there
+abbrev pub AreThere : Table Key → Table Key → Type 0
+AreThere all [] = Unit {0}
+AreThere all (e ∷ es) = IsSome (at all e.0) × AreThere all es
+
+some_either : (b : Bool) (v : Key) (o : Option Key) → IsSome o → IsSome (cond b (Some v) o)
+some_either true v o h = refl
+some_either false v o h = h
+
+there_cons : (d : ℕ × Key) (all es : Table Key) → AreThere all es → AreThere (d ∷ all) es
+there_cons d all [] h = tt
+there_cons d all (e ∷ es) h = (some_either (is_at (nat_cmp e.0) d.0) d.1 (at all e.0) h.0, there_cons d all es h.1)
+
+there_self : (es : Table Key) → AreThere es es
+there_self [] = tt
+there_self (e ∷ es) = (rw (is_at_same e.0) refl, there_cons e es es (there_self es))
+
+same_filter : (p q : ℕ → Bool) (all es : Table Key) → ((k : ℕ) → IsSome (at all k) → p k ≡ q k) → AreThere all es → filter (λ e. p e.0) es ≡ filter (λ e. q e.0) es
+same_filter p q all [] same there = refl
+same_filter p q all (e ∷ es) same there =
+    rw (same e.0 there.0) (elim (q e.0) as (λ b. cond b (e ∷ filter (λ d. p d.0) es) (filter (λ d. p d.0) es) ≡ cond b (e ∷ filter (λ d. q d.0) es) (filter (λ d. q d.0) es)) [
+      | true ↦ ap (λ ds. e ∷ ds) (same_filter p q all es same there.1)
+      | false ↦ same_filter p q all es same there.1
+    ])
+
+both_ways : (a b : Bool) → (a ≡ true → b ≡ true) → (b ≡ true → a ≡ true) → a ≡ b
+both_ways true b f g = sym (f refl)
+both_ways false true f g = g refl
+both_ways false false f g = refl
+
+-- a state has one sweep
+pub one_sweep : (old a b : State) → IsSweep old a → IsSweep old b → a ≡ b
+one_sweep old a b s t =
+    let same : (k : ℕ) → IsSome (at old.keys k) → s.kept k ≡ t.kept k = λ k there. both_ways (s.kept k) (t.kept k) (λ h. t.picks.each k (s.picks.only k there h) there) (λ h. s.picks.each k (t.picks.only k there h) there) in
+    let keys : a.keys ≡ b.keys = s.keys ∙ (same_filter s.kept t.kept old.keys old.keys same (there_self old.keys) ∙ sym t.keys) in
+    s.rest ∙ (ap (λ ks. record old { keys = ks; watches = live_watches ks old.watches }) keys ∙ sym t.rest)

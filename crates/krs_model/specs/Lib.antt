@@ -11,3 +11,5 @@ pub mod Outcome
 pub mod Asks
 pub mod Step
 pub mod History
+pub mod Laws
+pub mod Notes

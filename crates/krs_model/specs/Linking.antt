@@ -34,7 +34,7 @@ linked_content displaced serial (Links links) = Links (with_link displaced links
 abbrev pub linking : Table Key → Name → ℕ → Key → Key
 linking keys name serial ring = record ring { content = linked_content (λ k. is_named name (at keys k)) serial ring.content }
 
--- a keyring that links 65535 keys takes no further one where none is displaced: profile, links of a keyring
+-- a keyring that links 65535 keys takes no further one where none is displaced: profile, full keyrings
 abbrev pub has_room : List ℕ → Option ℕ → Result (Unit {0}) Errno
 has_room links None = if nat_le 65535 (length links) then Err ENFILE else Ok tt
 has_room links (Some displaced) = Ok tt

@@ -1,5 +1,5 @@
 -- From a key id to the key that it names, with the right that an ask wants, or the refusal that comes first: keyctl(2),
--- "ERRORS"; their order: profile, order of look-up.
+-- "ERRORS"; their order: profile, order of a look-up.
 use Rattle.std.specs.Prelude.{ℕ, ℤ, ◌==◌, Option, None, Some, Result, Ok, Err, if◌then◌else◌}
 use Rattle.krs_types.specs.declared.errno.Errno.{Errno}
 use Rattle.krs_types.specs.declared.errno.Errno.TheVariants.{ENOKEY, ESRCH, EKEYREVOKED, EKEYEXPIRED, EACCES}
@@ -20,7 +20,7 @@ use Rattle.krs_model.specs.Possession.{possessed, process_ring}
 abbrev pub if_own : ℕ → Context → Result Context Errno
 if_own client c = if c.client == client then Ok c else Err ESRCH
 
--- the context of that number, where it is the client's: profile, own contexts
+-- the context of that number, where it is the client's: profile, foreign contexts
 unfoldable pub context_of : State → ℕ → ℕ → Result Context Errno
 context_of s client number = do
   c ← or_refuse ESRCH (at s.contexts number)

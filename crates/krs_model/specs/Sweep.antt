@@ -1,5 +1,5 @@
 -- Which keys stay at the end of a command: those that an attachment reaches. keyrings(7), "garbage collection".
-use Rattle.std.specs.Prelude.{◌≡◌, ℕ, List, [], ◌++◌, Bool, true, Option, None, Some, IsSome, filter, flat_map}
+use Rattle.std.specs.Prelude.{◌≡◌, ℕ, List, [], ◌++◌, Bool, true, Option, None, Some, IsSome, is_some, filter, flat_map}
 use Rattle.std.specs.Option.{option_to_list}
 use Rattle.krs_types.specs.declared.context.Context.{Context}
 use Rattle.krs_types.specs.declared.context.UidRings.{UidRings}
@@ -36,12 +36,22 @@ pub record PicksHeld (keys : Table Key) (attached : List ℕ) (kept : ℕ → Bo
   pub only : (k : ℕ) → IsSome (at keys k) → kept k ≡ true → IsHeld keys attached k
   pub each : (k : ℕ) → IsHeld keys attached k → IsSome (at keys k) → kept k ≡ true
 
--- new is the sweep of old: the held keys stay, and the watches on them
+-- every key is held
+abbrev pub AllHeld : State → Type 0
+AllHeld s = (k : ℕ) → IsSome (at s.keys k) → IsHeld s.keys (roots s) k
+
+-- the watches at keys that are there
+abbrev pub live_watches : Table Key → List ((ℕ × ℕ) × ℕ) → List ((ℕ × ℕ) × ℕ)
+live_watches keys watches = filter (λ w. is_some (at keys w.0.0)) watches
+
+-- new is the sweep of old: the held keys stay, and the watches at them
 pub record IsSweep (old new : State) : Type 0 where
   pub kept : ℕ → Bool
   pub picks : PicksHeld old.keys (roots old) kept
-  pub rest : new ≡ record old { keys = filter (λ e. kept e.0) old.keys; watches = filter (λ w. kept w.0.0) old.watches }
+  pub keys : new.keys ≡ filter (λ e. kept e.0) old.keys
+  pub rest : new ≡ record old { keys = new.keys; watches = live_watches new.keys old.watches }
 
--- every key is held, and every watch is at a held key
+-- a state that has been swept: every key is held, and every watch is at a key
 pub record IsSwept (s : State) : Type 0 where
-  pub keys : (k : ℕ) → IsSome (at s.keys k) → IsHeld s.keys (roots s) k
+  pub keys : AllHeld s
+  pub watches : live_watches s.keys s.watches ≡ s.watches

@@ -1,2 +1,10 @@
-//! What a key store is, and what each ask does to it: the definitions that every contract above cites.
+//! What a key store is, and what each ask does to it: the definitions that every contract above cites, in `specs/`. The
+//! functions here have no body to speak of: their contracts are laws of the definitions, in the subject's words.
 #![tactic(auto)]
+
+mod laws;
+
+pub use laws::{
+    a_sweep_is_one_state, a_sweep_sweeps, a_swept_state_stays, look_ups_find_usable_keys,
+    possession_comes_by_links, refusals_change_the_clock_alone, rights_come_from_one_byte,
+};

@@ -19,7 +19,7 @@ use Rattle.krs_model.specs.State as model
 use Rattle.krs_model.specs.Possession.{links_of}
 use Rattle.krs_model.specs.Levels.{is_in}
 use Rattle.krs_model.specs.Linking.{link_named, linking}
-use Rattle.krs_model.specs.Sweep.{IsHeld, Linked, PicksHeld, IsSweep, IsSwept, linked_by, roots}
+use Rattle.krs_model.specs.Sweep.{IsHeld, Linked, PicksHeld, IsSweep, AllHeld, linked_by, roots}
 use Rattle.krs_model.specs.Asks.Hello.{uid_ring, with_uid, with_context}
 use Rattle.krs_model.specs.Lookup.{look_up}
 use Rattle.krs_model.specs.Asks.Adding.{made, IsRing, place_of, by_match}
@@ -50,7 +50,7 @@ pub record IsMade (s : Inside) (new : Table Key) (ring : ℕ) (name : Name) (key
   pub keys : IsBelow new (s.next_serial + 1)
   pub fit : AreFit new
   pub is : record (state_of s) { keys = shown new; next_serial = s.next_serial + 1 } ≡ made (state_of s) ring name (seen key)
-  pub swept : s.let_go ≡ false → displaced_at (put s.keys.keys s.next_serial key) ring name ≡ None → IsSwept (record (state_of s) { keys = shown new; next_serial = s.next_serial + 1 })
+  pub swept : s.let_go ≡ false → displaced_at (put s.keys.keys s.next_serial key) ring name ≡ None → AllHeld (record (state_of s) { keys = shown new; next_serial = s.next_serial + 1 })
 
 entry_named : (names : ℕ → Option Name) (name : Name) (n : ℕ) (content : Content) → names n ≡ Some name → AreNamed names (content_links content) → AreNamed names (content_links (entered name n content))
 entry_named names name n (Payload bytes) there named = named
@@ -139,7 +139,7 @@ sweep_told s new sound sweeps =
     rw sweeps.keys (record {
       keys = λ q h. at_filter_none (λ e. kept e.0) es q (sound.keys q h);
       fit = fit_kept es kept closed sound.fit;
-      sweep = record { kept = kept; picks = sweeps.picks; rest = ap (λ zs. record (state_of s) { keys = zs }) (filter_map_keys seen es kept) };
+      sweep = record { kept = kept; picks = sweeps.picks; keys = filter_map_keys seen es kept; rest = refl };
     })
 
 pub neither : (b d : Bool) → (b || d) ≡ false → (b ≡ false) × (d ≡ false)

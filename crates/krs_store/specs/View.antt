@@ -2,7 +2,7 @@
 use Rattle.std.specs.Prelude.{◌≡◌, [], false}
 use Rattle.krs_model.specs.Table.{IsBelow}
 use Rattle.krs_model.specs.State.{State}
-use Rattle.krs_model.specs.Sweep.{IsSwept}
+use Rattle.krs_model.specs.Sweep.{AllHeld}
 use Rattle.krs_store.specs.declared.tables.Tables.TheInside.{Inside}
 use Rattle.krs_store.specs.Keys.{shown, AreFit}
 
@@ -27,4 +27,4 @@ pub record IsSound (s : Inside) : Type 0 where
   pub contexts : IsBelow s.contexts.entries s.next_context
   pub processes : IsBelow s.processes.entries s.next_context
   pub fit : AreFit s.keys.keys
-  pub swept : s.let_go ≡ false → IsSwept (state_of s)
+  pub swept : s.let_go ≡ false → AllHeld (state_of s)

@@ -12,3 +12,6 @@ mod tables;
 mod walk;
 
 pub use store::Store;
+
+#[cfg(test)]
+mod tests;

@@ -9,7 +9,7 @@ use Rattle.krs_types.specs.declared.caller.Caller.{Caller}
 abbrev pub is_of_group : Caller → ℕ → Bool
 is_of_group caller gid = (gid == caller.gid) || list_any (λ g. g == gid) caller.groups
 
--- at most 32 groups, and neither the uid nor the gid nor a group is 4294967295: profile, callers
+-- at most 32 groups, and neither the uid nor the gid nor a group is 4294967295: profile, believed caller
 abbrev pub caller_check : Caller → Result (Unit {0}) Errno
 caller_check c =
     if nat_lt 32 (length c.groups) || ((c.uid == 4294967295) || ((c.gid == 4294967295) || list_any (λ g. g == 4294967295) c.groups))

@@ -21,7 +21,7 @@ is_bad_text longest text = (length text == 0) || (nat_lt longest (length text) |
 abbrev pub begins_with : List ℕ → ℕ → Bool
 begins_with text byte = nat_lt 0 (length text) && (slice_index text 0 == byte)
 
--- which type a name names: profile, type names
+-- which type a name names: profile, known types
 abbrev pub kind_named : List ℕ → Result Kind Errno
 kind_named name =
     if is_bad_text 31 name then Err EINVAL
@@ -46,7 +46,7 @@ same_kind Keyring Logon = false
 abbrev pub described : List ℕ → Result (Unit {0}) Errno
 described desc = if is_bad_text 4095 desc then Err EINVAL else Ok tt
 
--- a logon key's has a service before its first colon; a keyring's does not begin with a dot: profile, logon descriptions
+-- a logon key's has a service before its first colon; a keyring's does not begin with a dot: profile, logon prefix
 abbrev pub described_as : Kind → List ℕ → Result (Unit {0}) Errno
 described_as User desc = Ok tt
 described_as Logon desc = if list_any (λ b. b == 58) desc && not (begins_with desc 58) then Ok tt else Err EINVAL

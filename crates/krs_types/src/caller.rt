@@ -4,7 +4,7 @@ ghost use Rattle.std.specs.List.{list_any};
 use crate::Errno;
 use std::marker::Model;
 
-/// How many groups a caller names at most: profile, groups.
+/// How many groups a caller names at most: profile, limits.
 const MAX_GROUPS: usize = 32;
 
 /// Stands for no uid and no gid.
@@ -56,7 +56,7 @@ impl Caller {
         gid == self.gid || has(self.groups.as_slice(), gid)
     }
 
-    /// EINVAL where it names more than 32 groups, or 4294967295 as its uid, its gid or a group. Profile, callers.
+    /// EINVAL where it names more than 32 groups, or 4294967295 as its uid, its gid or a group. Profile, believed caller.
     pub fn check(&self) -> Result<(), Errno>
         ensures { result ≡ caller_check self.now }
     {

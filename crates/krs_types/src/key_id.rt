@@ -46,7 +46,7 @@ pub enum KeyId {
 }
 
 impl KeyId {
-    /// What a key id names: EINVAL for 0 and below -5. Profile, key ids.
+    /// What a key id names: EINVAL for 0 and below -5. Profile, known special ids.
     pub fn from_i32(id: i32) -> Result<KeyId, Errno>
         ensures { result ≡ key_id_of id }
     {

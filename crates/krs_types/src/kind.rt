@@ -4,7 +4,7 @@ ghost use Rattle.krs_types.specs.Kind.{kind_named, kind_name, same_kind, is_bad_
 
 use crate::Errno;
 
-/// How long a type's name may be: profile, type names.
+/// How long a type's name may be: profile, known types.
 const MAX_TYPE_NAME: usize = 31;
 
 /// How long a description may be: add_key(2), "EINVAL".
@@ -23,7 +23,7 @@ pub enum Kind {
 
 impl Kind {
     /// The kind of a type's name: EINVAL where it is empty, longer than 31 bytes or has a byte 0, EPERM where it begins
-    /// with a dot, ENODEV where there is no such type. add_key(2); profile, type names.
+    /// with a dot, ENODEV where there is no such type. add_key(2); profile, known types.
     pub fn named(name: &[u8]) -> Result<Kind, Errno>
         ensures { result ≡ kind_named name.now }
     {
@@ -68,7 +68,7 @@ impl Kind {
 
     /// Whether a key of this kind can be made with this description and payload. In this order: EINVAL of the
     /// description's length and bytes, EPERM of a keyring's that begins with a dot, EINVAL of a logon key's that has no
-    /// service before its first colon, EINVAL of the payload. add_key(2), keyrings(7); profile, logon descriptions.
+    /// service before its first colon, EINVAL of the payload. add_key(2), keyrings(7); profile, logon prefix.
     pub fn check(self, desc: &[u8], payload: &[u8]) -> Result<(), Errno>
         ensures value { result ≡ checked self desc.now payload.now }
         ensures desc { OnOk result (length desc.now ≤ 4095) }

@@ -31,3 +31,6 @@ pub use name::{Desc, Name};
 pub use note::{FilterEntry, KeyEvent, Record};
 pub use perm::Perm;
 pub use rights::{Rights, Want};
+
+#[cfg(test)]
+mod tests;

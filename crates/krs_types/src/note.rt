@@ -16,7 +16,7 @@ pub enum KeyEvent {
 pub enum Record {
     /// A key note of a watch: the watched key, and the other key of a link, else 0.
     Key {
-        event: KeyEvent,
+        subtype: KeyEvent,
         watch: u8,
         key: u32,
         aux: u32,

@@ -52,7 +52,7 @@ impl Perm {
     }
 
     /// What a caller may do with a key of this mask, uid and gid: the possessor's byte where it possesses the key, and
-    /// exactly one of the other three. keyrings(7), "Possession" and "Access rights"; profile, group byte alone.
+    /// exactly one of the other three. keyrings(7), "Possession" and "Access rights"; profile, group byte counts alone.
     pub fn grants(self, caller: &Caller, uid: u32, gid: u32, possessed: bool) -> Rights
         ensures { result.0 ≡ granted self uid gid caller.now possessed }
     {

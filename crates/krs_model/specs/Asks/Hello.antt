@@ -18,11 +18,11 @@ use Rattle.krs_model.specs.Outcome.{Outcome}
 abbrev pub context_count : ℕ → Table Context → ℕ
 context_count client contexts = count_by (λ c. c.client == client) (values_of contexts)
 
--- a client has at most 64 contexts: profile, contexts of a client
+-- a client has at most 64 contexts: profile, contexts per client
 abbrev pub has_context_left : State → ℕ → Result (Unit {0}) Errno
 has_context_left s client = if nat_le 64 (context_count client s.contexts) then Err EINVAL else Ok tt
 
--- the context and the two serials that are needed have numbers left: profile, numbers
+-- the context and the two serials that are needed have numbers left: profile, serials run out
 abbrev pub has_numbers : State → Option UidRings → Result (Unit {0}) Errno
 has_numbers s rings = if nat_lt 4294967295 s.next_context || (is_none rings && nat_lt 2147483646 s.next_serial) then Err ENOSPC else Ok tt
 

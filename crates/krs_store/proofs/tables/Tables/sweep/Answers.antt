@@ -1,4 +1,4 @@
-use Rattle.std.proofs.Common.{subst, sym}
+use Rattle.std.proofs.Common.{refl}
 use Rattle.krs_model.specs.State.{State}
 use Rattle.krs_model.specs.Sweep.{IsSweep}
 use Rattle.krs_model.proofs.Sweeps.{swept_sweep, sweep_swept}
@@ -14,7 +14,7 @@ invariant_of-self c =
       contexts = c.self.invariant.contexts;
       processes = c.self.invariant.processes;
       fit = told.fit;
-      swept = λ clean. sweep_swept (state_of c.self.inside) _ told.sweep;
+      swept = λ clean. (sweep_swept (state_of c.self.inside) _ told.sweep).keys;
     }
 
 pub returns-then-self : goal.returns-then-self
@@ -24,4 +24,4 @@ returns-then-self c =
 
 pub returns-else-self : goal.returns-else-self
 returns-else-self c =
-    rw (← c.self.view_is) (swept_sweep (state_of c.self.inside) (c.self.invariant.swept c.if-self.false))
+    rw (← c.self.view_is) (swept_sweep (state_of c.self.inside) (record { keys = c.self.invariant.swept c.if-self.false; watches = refl }))

@@ -1,0 +1,51 @@
+ghost use Rattle.std.specs.Prelude.{◌≡◌, ℕ, ℤ, Ok, IsErr, true, false};
+ghost use Rattle.krs_types.specs.declared.caller.Caller.{Caller};
+ghost use Rattle.krs_types.specs.declared.context.Context.{Context};
+ghost use Rattle.krs_types.specs.declared.event.Event.{Event};
+ghost use Rattle.krs_types.specs.declared.rights.Want.{Want};
+ghost use Rattle.krs_types.specs.Perm.{granted};
+ghost use Rattle.krs_model.specs.State.{State, Key, raised};
+ghost use Rattle.krs_model.specs.Possession.{possessed};
+ghost use Rattle.krs_model.specs.Lookup.{look_up};
+ghost use Rattle.krs_model.specs.Usable.{IsUsable};
+ghost use Rattle.krs_model.specs.Sweep.{IsSweep, IsSwept};
+ghost use Rattle.krs_model.specs.Step.{Step};
+ghost use Rattle.krs_model.specs.History.{IsLegal};
+ghost use Rattle.krs_model.specs.Laws.{ComesByLinks, IsOneByte};
+
+/// A possessed key is an attached keyring, or is linked by a possessed keyring that may be searched: keyrings(7),
+/// "Possession".
+pub fn possession_comes_by_links()
+    ensures { (s : State) (c : Context) (k : ℕ) → possessed s c k ≡ true → ComesByLinks s c k }
+{}
+
+/// Without possession the rights are those of one byte alone: the user's, the group's or the others'. keyrings(7), "Access
+/// rights"; profile, group byte counts alone.
+pub fn rights_come_from_one_byte()
+    ensures { (mask uid gid : ℕ) (caller : Caller) → IsOneByte mask uid gid caller (granted mask uid gid caller false) }
+{}
+
+/// What a look-up for a right finds was not revoked, has not expired, and grants the right.
+pub fn look_ups_find_usable_keys()
+    ensures { (s : State) (c : Context) (id : ℤ) (want : Want) (found : ℕ × Key) → look_up s c id want ≡ Ok found → IsUsable s c want found }
+{}
+
+/// A refusal changes nothing but the clock.
+pub fn refusals_change_the_clock_alone()
+    ensures { (old new : State) (event : Event) → Step old event new → IsErr event.reply → new ≡ raised old event.moment }
+{}
+
+/// A state has one sweep.
+pub fn a_sweep_is_one_state()
+    ensures { (old a b : State) → IsSweep old a → IsSweep old b → a ≡ b }
+{}
+
+/// Sweeping a state that has been swept changes nothing.
+pub fn a_swept_state_stays()
+    ensures { (s new : State) → IsSwept s → IsSweep s new → new ≡ s }
+{}
+
+/// What a sweep leaves has been swept.
+pub fn a_sweep_sweeps()
+    ensures { (old new : State) → IsSweep old new → IsSwept new }
+{}

@@ -1,0 +1,5 @@
+use Rattle.krs_ring.proofs.StreamLemmas.{gives_its_stream}
+use Rattle.krs_ring.proofs.laws.gives_its_stream.Goals as goal
+
+pub returns : goal.returns
+returns c = gives_its_stream

@@ -1,0 +1,5 @@
+pub mod Events
+pub mod Session
+pub mod Serving
+pub mod Over
+pub mod Legal

@@ -1,0 +1,64 @@
+-- What a whole session did: docs/FORMAT.md, "A connection".
+use Rattle.std.specs.Prelude.{◌≡◌, ◌+◌, ◌*◌, ◌<◌, ◌≤◌, length, ℕ, List, [], ◌∷◌, ◌++◌, ◌⊎◌}
+use Rattle.krs_types.specs.declared.event.Event.{Event}
+use Rattle.krs_types.specs.declared.ask.Op.TheVariants.{Leave}
+use Rattle.krs_wire.specs.declared.framed.Framed.{Framed}
+use Rattle.krs_wire.specs.Frame.{End, rest, bad, Frames}
+use Rattle.krs_session.specs.declared.ended.Ended.{Ended}
+use Rattle.krs_session.specs.declared.ended.Ended.TheVariants.{Closed, Wire, Read, Write, Memory, Turns}
+use Rattle.krs_session.specs.Events.{asks_of, asks_in, moments_of, session_text, AllOfLane, Begins}
+
+-- the bytes are cut into these frames, and a rest or a fault
+abbrev pub AreAll : List ℕ → List Framed → Type 0
+AreAll bytes frames = (end : End) × Frames bytes frames end
+
+-- the bytes are cut into these frames and more
+abbrev pub AreFirst : List ℕ → List Framed → Type 0
+AreFirst bytes frames = (more : List Framed) × AreAll bytes (frames ++ more)
+
+-- no fault stands behind these frames
+abbrev pub AreWhole : List ℕ → List Framed → Type 0
+AreWhole bytes frames = (left : List ℕ) × Frames bytes frames (rest left)
+
+-- the front of a text was written
+abbrev pub TookFront : (List ℕ → Type 0) → List ℕ → Type 0
+TookFront took text = (front : List ℕ) × Begins front text × took front
+
+-- Which frames were asked of those in the bytes read, and how much of their replies' text was written, by what ended the
+-- session: all of both, but where a write failed, or memory was refused. Refused for a reply it ends the writing, and refused
+-- to the feed it ends the cut.
+abbrev pub Serves : (List ℕ → Type 0) → List ℕ → List Framed → List ℕ → Ended → Type 0
+Serves took bytes frames text Closed = AreWhole bytes frames × took text
+Serves took bytes frames text Read = AreWhole bytes frames × took text
+Serves took bytes frames text Turns = AreWhole bytes frames × took text
+Serves took bytes frames text (Wire fault) = Frames bytes frames (bad fault) × took text
+Serves took bytes frames text Write = AreAll bytes frames × TookFront took text
+Serves took bytes frames text Memory = (AreAll bytes frames × TookFront took text) ⊎ (AreFirst bytes frames × took text)
+
+-- A session over ends, a seat and a clock: `gave` and `took` say which bytes were given and taken, `led` which events lead
+-- from the seat before to the seat after, `ticked` what the clock answered. The events are the asks of the frames in the
+-- bytes given, in order, and then LEAVE; their moments are the clock's answers; what was taken is the frames of their
+-- replies, without that of LEAVE. A read gives at most 4096 bytes.
+pub record Session (gave : List ℕ → Type 0) (led : List Event → Type 0) (ticked : List ℕ → Type 0) (took : List ℕ → Type 0) (lane reads : ℕ) (ended : Ended) : Type 0 where
+  pub bytes : List ℕ
+  pub frames : List Framed
+  pub events : List Event
+  pub last : Event
+  pub read : gave bytes
+  pub size : length bytes ≤ 4096 * reads
+  pub asked : led (events ++ last ∷ [])
+  pub moments : ticked (moments_of (events ++ last ∷ []))
+  pub lanes : AllOfLane lane (events ++ last ∷ [])
+  pub order : asks_of events ≡ asks_in frames
+  pub leave : last.ask.op ≡ Leave
+  pub served : Serves took bytes frames (session_text events) ended
+
+-- Why a session ended, by what its ends counted before and after: reads into room, those that gave no bytes, failed reads;
+-- failed writes, with those that took none of a piece that isn't empty.
+abbrev pub EndsBy : (turns reads0 reads1 empties0 empties1 failed0 failed1 unwritten0 unwritten1 : ℕ) → Ended → Type 0
+EndsBy turns n0 n1 e0 e1 r0 r1 w0 w1 Turns = n1 ≡ n0 + turns
+EndsBy turns n0 n1 e0 e1 r0 r1 w0 w1 Closed = e0 < e1
+EndsBy turns n0 n1 e0 e1 r0 r1 w0 w1 Read = r0 < r1
+EndsBy turns n0 n1 e0 e1 r0 r1 w0 w1 Write = w0 < w1
+EndsBy turns n0 n1 e0 e1 r0 r1 w0 w1 Memory = Unit {0}
+EndsBy turns n0 n1 e0 e1 r0 r1 w0 w1 (Wire fault) = Unit {0}

@@ -1,0 +1,14 @@
+ghost use Rattle.std.specs.Prelude.{ℕ, List, [], ◌∷◌, ◌++◌};
+
+/// Moments in seconds.
+pub trait Clock {
+    // From the first state to the second these are its answers, in order. A clock of the system tells nothing.
+    ghost ticked: { Self → List ℕ → Self → Type 0 };
+
+    fn now(&mut self) -> u64
+        ensures { ticked self.old (result ∷ []) self.new };
+
+    ghost starts: { (c : Self) → ticked c [] c };
+
+    ghost joins: { (a b c : Self) (xs ys : List ℕ) → ticked a xs b → ticked b ys c → ticked a (xs ++ ys) c };
+}

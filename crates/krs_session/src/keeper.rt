@@ -1,0 +1,32 @@
+ghost use Rattle.std.specs.Prelude.{◌≡◌, ℕ, List, [], ◌∷◌, ◌++◌};
+ghost use Rattle.krs_types.specs.declared.event.Event.{Event};
+ghost use Rattle.krs_session.specs.Events.{event};
+
+use krs_types::{Ask, Reply};
+
+/// A desk, whose seats `S` it answers. `R` is the runtime under which a call may wait.
+pub trait Keeper<S, R> {
+    // What a call asks of the desk and the seat, and keeps.
+    ghost ready: { Self → S → Type 0 };
+
+    // The client number of a seat's asks.
+    ghost lane_of: { S → ℕ };
+
+    // This list of events leads from one seat to another.
+    ghost leads: { S → List Event → S → Type 0 };
+
+    fn lane(&self, seat: &S) -> u32
+        requires { ready self.now seat.now }
+        ensures { result ≡ lane_of seat.now };
+
+    /// The reply to an ask of the seat at a moment, in seconds.
+    fn call(&self, rt: &R, seat: &mut S, moment: u64, ask: Ask) -> Reply
+        requires { ready self.now seat.old }
+        ensures ready { ready self.now seat.new }
+        ensures lane { lane_of seat.new ≡ lane_of seat.old }
+        ensures led { leads seat.old (event (lane_of seat.old) moment ask result ∷ []) seat.new };
+
+    ghost starts: { (s : S) → leads s [] s };
+
+    ghost joins: { (s t u : S) (xs ys : List Event) → leads s xs t → leads t ys u → leads s (xs ++ ys) u };
+}

@@ -1,0 +1,26 @@
+//! One connection: asks in, replies out, and LEAVE last. docs/FORMAT.md, "A connection". The ends of the connection, the
+//! clock and the desk are traits that tell what they gave, took and answered, so `run` says what a whole session did.
+#![tactic(auto)]
+
+mod asking;
+mod clock;
+mod ended;
+mod ends;
+mod gate;
+mod keeper;
+mod one_desk;
+mod over;
+mod session;
+mod writing;
+
+pub use clock::Clock;
+pub use ended::Ended;
+pub use ends::{Failed, Sink, Source};
+pub use gate::{Gate, Point};
+pub use keeper::Keeper;
+pub use one_desk::{OneDesk, OneSeat};
+pub use over::Over;
+pub use session::run;
+
+#[cfg(test)]
+mod tests;

@@ -1,0 +1,172 @@
+// A session: turns of one read each, and LEAVE.
+ghost use Rattle.std.specs.Prelude.{◌≡◌, ◌≢◌, ◌<◌, ◌≤◌, ◌+◌, ◌-◌, ◌^◌, ℕ, List, length};
+ghost use Rattle.krs_wire.specs.Feeding.{fault_of};
+ghost use Rattle.krs_session.specs.Session.{Session, EndsBy};
+ghost use Rattle.krs_session.specs.Serving.{Served, PieceEndsBy, TurnEndsBy, Finished};
+
+use crate::asking::{answer_all, ask_one};
+use crate::{Clock, Ended, Gate, Keeper, Sink, Source};
+use krs_types::{Ask, Op};
+use krs_wire::{Feed, WireFault};
+use std::alloc::Global;
+
+/// How many bytes a turn reads at most.
+const READ_SIZE: usize = 4096;
+
+/// Cuts a piece of the stream, asks what its frames ask, and writes the replies. What ends the session is the answer.
+fn serve_piece<H, W: Sink, S, D: Keeper<S, H>, C: Clock, G: Gate>(
+    rt: &H,
+    alloc: Global,
+    feed: &mut Feed,
+    piece: &[u8],
+    writer: &mut W,
+    desk: &D,
+    seat: &mut S,
+    clock: &mut C,
+    gate: &G,
+) -> Option<Ended>
+    requires unfailed { fault_of feed.old ≡ None }
+    requires ready { D.ready desk.now seat.old }
+    requires failures { W.failures writer.old < u64.MAX }
+    ensures served { Served D.leads C.ticked W.took (D.lane_of seat.old)
+        seat.old seat.new clock.old clock.new writer.old writer.new feed.old feed.new piece.now result }
+    ensures count { PieceEndsBy (W.failures writer.old) (W.failures writer.new) result }
+    ensures not_wire { result ≢ Some (Ended.Wire WireFault.Memory) }
+    ensures ready { D.ready desk.now seat.new }
+    ensures lane { D.lane_of seat.new ≡ D.lane_of seat.old }
+{
+    match feed.feed(piece) {
+        Err(fault) => match fault {
+            WireFault::Memory => Some(Ended::Memory),
+            _ => Some(Ended::Wire(fault)),
+        },
+        Ok(frames) => match answer_all(rt, alloc, writer, desk, seat, clock, gate, frames) {
+            Some(stop) => Some(stop),
+            None => match feed.fault() {
+                None => None,
+                Some(fault) => Some(Ended::Wire(fault)),
+            },
+        },
+    }
+}
+
+/// One read, and what it leads to.
+fn turn<H, R: Source, W: Sink, S, D: Keeper<S, H>, C: Clock, G: Gate>(
+    rt: &H,
+    alloc: Global,
+    feed: &mut Feed,
+    reader: &mut R,
+    writer: &mut W,
+    desk: &D,
+    seat: &mut S,
+    clock: &mut C,
+    gate: &G,
+) -> Option<Ended>
+    requires unfailed { fault_of feed.old ≡ None }
+    requires ready { D.ready desk.now seat.old }
+    requires failures { W.failures writer.old < u64.MAX }
+    requires reads { R.reads reader.old < u64.MAX }
+    requires empties { R.empties reader.old < u64.MAX }
+    requires read_failures { R.failures reader.old < u64.MAX }
+    ensures served { (bytes : List ℕ) × R.gave reader.old bytes reader.new × (length bytes ≤ 4096)
+        × Served D.leads C.ticked W.took (D.lane_of seat.old)
+        seat.old seat.new clock.old clock.new writer.old writer.new feed.old feed.new bytes result }
+    ensures reads { R.reads reader.new ≡ R.reads reader.old + 1 }
+    ensures count { TurnEndsBy (R.empties reader.old) (R.empties reader.new)
+        (R.failures reader.old) (R.failures reader.new) (W.failures writer.old) (W.failures writer.new) result }
+    ensures not_wire { result ≢ Some (Ended.Wire WireFault.Memory) }
+    ensures ready { D.ready desk.now seat.new }
+    ensures lane { D.lane_of seat.new ≡ D.lane_of seat.old }
+{
+    let mut room = [0u8; READ_SIZE];
+    match reader.read(&mut room) {
+        Err(_) => Some(Ended::Read),
+        Ok(n) => {
+            if n == 0 {
+                return Some(Ended::Closed);
+            }
+            serve_piece(rt, alloc, feed, &room[..n], writer, desk, seat, clock, gate)
+        }
+    }
+}
+
+/// Turns until something ends the session.
+fn serve<H, R: Source, W: Sink, S, D: Keeper<S, H>, C: Clock, G: Gate>(
+    rt: &H,
+    alloc: Global,
+    reader: &mut R,
+    writer: &mut W,
+    desk: &D,
+    seat: &mut S,
+    clock: &mut C,
+    gate: &G,
+    turns: u64,
+) -> Ended
+    requires ready { D.ready desk.now seat.old }
+    requires failures { W.failures writer.old < u64.MAX }
+    requires reads { R.reads reader.old + turns < 2 ^ 64 }
+    requires empties { R.empties reader.old < u64.MAX }
+    requires read_failures { R.failures reader.old < u64.MAX }
+    ensures finished { Finished R.gave D.leads C.ticked W.took (D.lane_of seat.old)
+        (R.reads reader.new - R.reads reader.old)
+        reader.old reader.new seat.old seat.new clock.old clock.new writer.old writer.new result }
+    ensures count { EndsBy turns (R.reads reader.old) (R.reads reader.new)
+        (R.empties reader.old) (R.empties reader.new) (R.failures reader.old) (R.failures reader.new)
+        (W.failures writer.old) (W.failures writer.new) result }
+    ensures not_wire { result ≢ Ended.Wire WireFault.Memory }
+    ensures ready { D.ready desk.now seat.new }
+    ensures lane { D.lane_of seat.new ≡ D.lane_of seat.old }
+{
+    let mut feed = Feed::new(alloc);
+    for made in 0..turns {
+        let ended = turn(
+            rt, alloc, &mut feed, reader, writer, desk, seat, clock, gate,
+        );
+        if let Some(ended) = ended {
+            return ended;
+        }
+    }
+    Ended::Turns
+}
+
+/// Serves a connection to its end: docs/FORMAT.md, "A connection". A turn is one read of at most 4096 bytes, and after
+/// `turns` turns the session ends. Each ask takes one answer of the clock, and passes the gate before it goes to the desk and
+/// after its reply is there. However the session ends, LEAVE is asked last in the same way, and its reply is not written.
+pub fn run<H, R: Source, W: Sink, S, D: Keeper<S, H>, C: Clock, G: Gate>(
+    rt: &H,
+    alloc: Global,
+    reader: &mut R,
+    writer: &mut W,
+    desk: &D,
+    seat: &mut S,
+    clock: &mut C,
+    gate: &G,
+    turns: u64,
+) -> Ended
+    requires ready { D.ready desk.now seat.old }
+    requires reads { R.reads reader.old + turns < 2 ^ 64 }
+    requires empties { R.empties reader.old < u64.MAX }
+    requires read_failures { R.failures reader.old < u64.MAX }
+    requires failures { W.failures writer.old < u64.MAX }
+    ensures session { Session (λ bytes. R.gave reader.old bytes reader.new)
+        (λ events. D.leads seat.old events seat.new)
+        (λ moments. C.ticked clock.old moments clock.new)
+        (λ text. W.took writer.old text writer.new)
+        (D.lane_of seat.old) (R.reads reader.new - R.reads reader.old) result }
+
+    // Why it ended, by the counts of its ends.
+    ensures count { EndsBy turns (R.reads reader.old) (R.reads reader.new)
+        (R.empties reader.old) (R.empties reader.new) (R.failures reader.old) (R.failures reader.new)
+        (W.failures writer.old) (W.failures writer.new) result }
+    ensures not_wire { result ≢ Ended.Wire WireFault.Memory }
+    ensures ready { D.ready desk.now seat.new }
+    ensures lane { D.lane_of seat.new ≡ D.lane_of seat.old }
+{
+    let ended = serve(rt, alloc, reader, writer, desk, seat, clock, gate, turns);
+    let leave = Ask {
+        context: 0,
+        op: Op::Leave,
+    };
+    let _ = ask_one(rt, desk, seat, clock, gate, leave);
+    ended
+}

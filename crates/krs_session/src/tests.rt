@@ -1,0 +1,181 @@
+ghost use Rattle.std.specs.Prelude.{◌≡◌, ◌++◌, ◌∷◌, [], ℕ, List};
+ghost use Rattle.krs_types.specs.declared.event.Event.{Event};
+ghost use Rattle.krs_model.specs.History.{IsLegal};
+ghost use Rattle.krs_wire.specs.declared.framed.Framed.{Framed};
+ghost use Rattle.krs_session.specs.Events.{asks_of, asks_in, session_text};
+ghost use Rattle.krs_session.specs.Session.{AreWhole};
+
+mod fakes;
+
+use super::*;
+use fakes::{Chair, Rising, Table, Then, Watching, reader_of, watches, writer_of};
+use krs_store::Store;
+use krs_wire::WireFault;
+use std::alloc::Global;
+use std::process::Abort;
+use std::test::*;
+
+// HELLO 1000 1000 without groups; ADD user alpha `s3` to -4 in context 1; READ 5 in context 1.
+const ASKS: [u8; 75] = [
+    0x14, 0, 0, 0, 1, 0, 0, 1, 0, 0, 0, 0, 0xe8, 3, 0, 0, 0xe8, 3, 0, 0, 0, 0, 0, 0, //
+    0x1f, 0, 0, 0, 1, 0, 6, 1, 1, 0, 0, 0, 4, 0, 0x75, 0x73, 0x65, 0x72, 5, 0, 0x61, 0x6c, 0x70,
+    0x68, 0x61, 2, 0, 0, 0, 0x73, 0x33, 0xfc, 0xff, 0xff, 0xff, //
+    0x0c, 0, 0, 0, 1, 0, 0x0b, 0, 1, 0, 0, 0, 5, 0, 0, 0,
+];
+
+// Context 1; serial 5; `s3`.
+const REPLIES: [u8; 34] = [
+    8, 0, 0, 0, 0, 0, 0, 0, 1, 0, 0, 0, //
+    8, 0, 0, 0, 0, 0, 0, 0, 5, 0, 0, 0, //
+    6, 0, 0, 0, 0, 0, 0, 0, 0x73, 0x33,
+];
+
+#[derive(Drop)]
+struct Case<'a> {
+    name: &'a str,
+    stream: &'a [u8],
+    // How many bytes the first read gives and each later one, and what the end of the stream is.
+    reads: (usize, usize, Then),
+    // How many bytes a write takes at most, how many all take, and what a write does then.
+    writes: (usize, usize, Then),
+    turns: u64,
+    ended: Ended,
+    asked: u32,
+    written: usize,
+}
+
+fn check(rt: &impl Abort, alloc: Global, case: &Case<'_>) {
+    let (next, later, then) = case.reads;
+    let mut reader = reader_of(case.stream, next, later, then);
+    let (most, room, then) = case.writes;
+    let mut writer = writer_of(alloc, most, room, then);
+    let mut seat = Chair {
+        alloc,
+        lane: 7,
+        asked: 0,
+        leaves: 0,
+        late: 0,
+        moment: 0,
+    };
+    let mut clock = Rising { at: 100 };
+    let gate = watches(7);
+    let ended = run(
+        rt,
+        alloc,
+        &mut reader,
+        &mut writer,
+        &Table,
+        &mut seat,
+        &mut clock,
+        &gate,
+        case.turns,
+    );
+    let name = case.name;
+    assert_eq!(rt; ended, case.ended, "{name}");
+    assert_eq!(rt; seat.asked, case.asked, "{name}");
+    assert_eq!(rt; (seat.leaves, seat.late), (1, 0), "{name}");
+    assert_eq!(rt; seat.moment, 99 + u64::from(case.asked), "{name}");
+    assert_eq!(rt;
+        (gate.asked.get(), gate.answered.get()),
+        (case.asked, case.asked),
+        "{name}"
+    );
+    assert_eq!(rt; gate.wrong.get(), 0, "{name}");
+    assert_eq!(rt;
+        Some(writer.text.as_slice()),
+        REPLIES.get(..case.written),
+        "{name}"
+    );
+}
+
+const ALL: (usize, usize, Then) = (4096, 4096, Then::GivesNone);
+
+#[test]
+fn any_two_pieces(rt: HostRuntime) {
+    for first in 1..=ASKS.len() {
+        let mut reader = reader_of(&ASKS, first, ASKS.len(), Then::GivesNone);
+        let mut writer = Over::new(Vec::new(rt.alloc()));
+        let (desk, mut seat) = OneDesk::open(1, Store::new(rt.alloc()));
+        let mut clock = Rising { at: 100 };
+        let gate = watches(0);
+        let ended = run(
+            &rt,
+            rt.alloc(),
+            &mut reader,
+            &mut writer,
+            &desk,
+            &mut seat,
+            &mut clock,
+            &gate,
+            99,
+        );
+        assert_eq!(rt; ended, Ended::Closed, "cut at {first}");
+        let text = writer.into_inner();
+        assert_eq!(rt; text.as_slice(), REPLIES.as_slice(), "cut at {first}");
+        assert_eq!(rt; gate.answered.get(), 4, "cut at {first}");
+    }
+}
+
+#[test]
+#[rattlefmt::skip]
+fn ends(rt: HostRuntime) {
+    let closed = Then::GivesNone;
+    let fails = Then::Fails;
+    let bad = Ended::Wire(WireFault::BadLength);
+    let cases = [
+        Case { name: "byte by byte", stream: &ASKS, reads: (1, 1, closed), writes: ALL, turns: 99, ended: Ended::Closed, asked: 4, written: 34 },
+        Case { name: "three bytes a write", stream: &ASKS, reads: ALL, writes: (3, 4096, closed), turns: 99, ended: Ended::Closed, asked: 4, written: 34 },
+        Case { name: "mid-frame", stream: &ASKS[..70], reads: ALL, writes: ALL, turns: 99, ended: Ended::Closed, asked: 3, written: 24 },
+        Case { name: "length 7", stream: &[7, 0, 0, 0], reads: ALL, writes: ALL, turns: 99, ended: bad, asked: 1, written: 0 },
+        Case { name: "length 65537", stream: &[1, 0, 1, 0], reads: (1, 1, closed), writes: ALL, turns: 99, ended: bad, asked: 1, written: 0 },
+        Case { name: "a read fails", stream: &ASKS, reads: (24, 51, fails), writes: ALL, turns: 99, ended: Ended::Read, asked: 4, written: 34 },
+        Case { name: "a write fails", stream: &ASKS, reads: ALL, writes: (4096, 20, fails), turns: 99, ended: Ended::Write, asked: 4, written: 20 },
+        Case { name: "a write takes none", stream: &ASKS, reads: (24, 35, closed), writes: (5, 5, closed), turns: 99, ended: Ended::Write, asked: 2, written: 5 },
+        Case { name: "two turns", stream: &ASKS, reads: (24, 35, closed), writes: ALL, turns: 2, ended: Ended::Turns, asked: 3, written: 24 },
+        Case { name: "no turns", stream: &ASKS, reads: ALL, writes: ALL, turns: 0, ended: Ended::Turns, asked: 1, written: 0 },
+    ];
+    for case in &cases {
+        check(&rt, rt.alloc(), case);
+    }
+}
+
+// A session over bytes in memory, and what `run` tells of it there: where it was closed, some front of the input is cut
+// into frames, whose asks are those of a legal history, and the output is the text of its replies, without LEAVE's.
+fn converse(
+    rt: &HostRuntime,
+    alloc: Global,
+    input: &[u8],
+    seat: &mut OneSeat,
+    gate: &Watching,
+) -> (Vec<u8>, Ended)
+    ensures { result.1 ≡ Ended.Closed
+        → (front left : List ℕ) × (frames : List Framed) × (events : List Event) × (last : Event)
+        × (input.now ≡ front ++ left) × AreWhole front frames × (asks_of events ≡ asks_in frames)
+        × (result.0.items ≡ session_text events) × IsLegal seat.old (events ++ last ∷ []) seat.new }
+{
+    let mut reader = Over::new(input);
+    let mut writer = Over::new(Vec::new(alloc));
+    let mut clock = Rising { at: 100 };
+    let ended = run(
+        rt,
+        alloc,
+        &mut reader,
+        &mut writer,
+        &OneDesk,
+        seat,
+        &mut clock,
+        gate,
+        99,
+    );
+    (writer.into_inner(), ended)
+}
+
+#[test]
+fn over_memory(rt: HostRuntime) {
+    let (desk, mut seat) = OneDesk::open(1, Store::new(rt.alloc()));
+    let gate = watches(0);
+    let (text, ended) = converse(&rt, rt.alloc(), &ASKS, &mut seat, &gate);
+    assert_eq!(rt; ended, Ended::Closed);
+    assert_eq!(rt; text.as_slice(), REPLIES.as_slice());
+    let _ = desk.close(seat);
+}

@@ -1,0 +1,289 @@
+use crate::Store;
+use krs_types::{Answer, Ask, Blob, Caller, Errno, Groups, Op, Reply};
+use std::alloc::{AllocError, Global};
+use std::process::Abort;
+use std::test::Fail;
+
+/// What an ask is answered with.
+#[derive(Clone, Copy, Debug)]
+enum Want<'a> {
+    Nothing,
+    Number(u32),
+    Bytes(&'a [u8]),
+    Refused(Errno),
+}
+
+fn expect(rt: &impl Abort, reply: Reply, want: Want<'_>, row: &str) {
+    let right = match (reply, want) {
+        (Ok(Answer::Nothing), Want::Nothing) => true,
+        (Ok(Answer::Number(got)), Want::Number(number)) => got == number,
+        (Ok(Answer::Bytes(got)), Want::Bytes(bytes)) => got.as_slice() == bytes,
+        (Err(got), Want::Refused(errno)) => got == errno,
+        _ => false,
+    };
+    assert!(rt; right, "{row}: {want:?}");
+}
+
+fn hello(alloc: Global, uid: u32) -> Ask {
+    let groups = Groups::new(Vec::new(alloc));
+    let caller = Caller {
+        uid,
+        gid: uid,
+        groups,
+    };
+    Ask {
+        context: 0,
+        op: Op::Hello(caller),
+    }
+}
+
+fn add(
+    alloc: Global,
+    type_name: &[u8],
+    desc: &[u8],
+    payload: &[u8],
+    ring: i32,
+) -> Result<Ask, AllocError> {
+    let op = Op::Add {
+        type_name: Blob::from_slice(alloc, type_name)?,
+        desc: Blob::from_slice(alloc, desc)?,
+        payload: Blob::from_slice(alloc, payload)?,
+        ring,
+    };
+    Ok(Ask { context: 1, op })
+}
+
+fn read(context: u32, id: i32) -> Ask {
+    Ask {
+        context,
+        op: Op::Read { id },
+    }
+}
+
+fn describe(context: u32, id: i32) -> Ask {
+    Ask {
+        context,
+        op: Op::Describe { id },
+    }
+}
+
+fn leave() -> Ask {
+    Ask {
+        context: 0,
+        op: Op::Leave,
+    }
+}
+
+#[test]
+fn lengths_and_type_names(rt: HostRuntime) -> Result<(), Fail> {
+    let alloc = rt.alloc();
+    let long = vec![in alloc; b'a'; 32768]?;
+    let long = long.as_slice();
+    assert!(rt; long.len() == 32768);
+    let rows: [(&str, &[u8], &[u8], &[u8], Want<'_>); 10] = [
+        (
+            "longest payload",
+            b"user",
+            b"k",
+            &long[..32767],
+            Want::Number(5),
+        ),
+        (
+            "payload too long",
+            b"user",
+            b"k",
+            long,
+            Want::Refused(Errno::EINVAL),
+        ),
+        (
+            "no payload",
+            b"user",
+            b"k",
+            b"",
+            Want::Refused(Errno::EINVAL),
+        ),
+        (
+            "longest description",
+            b"user",
+            &long[..4095],
+            b"x",
+            Want::Number(6),
+        ),
+        (
+            "description too long",
+            b"user",
+            &long[..4096],
+            b"x",
+            Want::Refused(Errno::EINVAL),
+        ),
+        (
+            "no description",
+            b"user",
+            b"",
+            b"x",
+            Want::Refused(Errno::EINVAL),
+        ),
+        (
+            "type name of 32 bytes",
+            &long[..32],
+            b"k",
+            b"x",
+            Want::Refused(Errno::EINVAL),
+        ),
+        (
+            "type name with a dot",
+            b".x",
+            b"k",
+            b"x",
+            Want::Refused(Errno::EPERM),
+        ),
+        (
+            "type name of 31 bytes",
+            &long[..31],
+            b"k",
+            b"x",
+            Want::Refused(Errno::ENODEV),
+        ),
+        (
+            "not built yet",
+            b"logon",
+            b"a:b",
+            b"x",
+            Want::Refused(Errno::ENODEV),
+        ),
+    ];
+    let mut store = Store::new(alloc);
+    expect(
+        &rt,
+        store.apply(0, 0, hello(alloc, 1000)),
+        Want::Number(1),
+        "hello",
+    );
+    for (row, type_name, desc, payload, want) in rows {
+        let ask = add(alloc, type_name, desc, payload, -4)?;
+        expect(&rt, store.apply(0, 0, ask), want, row);
+    }
+    Ok(())
+}
+
+#[test]
+fn a_key_is_kept_updated_and_left(rt: HostRuntime) -> Result<(), Fail> {
+    let alloc = rt.alloc();
+    let mut store = Store::new(alloc);
+    let described = b"user;1000;1000;3f010000;alpha".as_slice();
+    let ring = b"keyring;2000;2000;1f3f0000;_uid.2000".as_slice();
+    let denied = Want::Refused(Errno::EACCES);
+    let rows: [(u32, Ask, Want<'_>); 17] = [
+        (0, hello(alloc, 1000), Want::Number(1)),
+        (7, hello(alloc, 2000), Want::Number(2)),
+        (
+            0,
+            add(alloc, b"user", b"alpha", b"s3", -4)?,
+            Want::Number(7),
+        ),
+        (0, read(1, 7), Want::Bytes(b"s3")),
+        (0, describe(1, 7), Want::Bytes(described)),
+        (
+            0,
+            add(alloc, b"user", b"alpha", b"t4", -4)?,
+            Want::Number(7),
+        ),
+        (0, read(1, 7), Want::Bytes(b"t4")),
+        (
+            0,
+            add(alloc, b"user", b"beta", b"x", 7)?,
+            Want::Refused(Errno::ENOTDIR),
+        ),
+        (0, read(1, -1), Want::Refused(Errno::ENOKEY)),
+        (0, read(1, 0), Want::Refused(Errno::EINVAL)),
+        (0, read(1, -4), Want::Refused(Errno::EOPNOTSUPP)),
+        (7, read(2, 7), denied),
+        (7, read(1, 7), Want::Refused(Errno::ESRCH)),
+        (0, leave(), Want::Nothing),
+        (0, hello(alloc, 1000), Want::Number(3)),
+        (0, read(3, 7), Want::Refused(Errno::ENOKEY)),
+        (7, describe(2, -4), Want::Bytes(ring)),
+    ];
+    for (client, ask, want) in rows {
+        expect(&rt, store.apply(client, 0, ask), want, "a row");
+    }
+    Ok(())
+}
+
+#[test]
+fn the_last_serials(rt: HostRuntime) -> Result<(), Fail> {
+    let alloc = rt.alloc();
+    let mut store = Store::starting_at(alloc, 2147483646);
+    expect(
+        &rt,
+        store.apply(0, 0, hello(alloc, 1000)),
+        Want::Number(1),
+        "hello",
+    );
+    let ask = add(alloc, b"user", b"k", b"x", -4)?;
+    let none_left = Want::Refused(Errno::ENOSPC);
+    expect(&rt, store.apply(0, 0, ask), none_left, "add");
+    expect(
+        &rt,
+        store.apply(0, 0, hello(alloc, 2000)),
+        none_left,
+        "another uid",
+    );
+    expect(
+        &rt,
+        store.apply(0, 0, hello(alloc, 1000)),
+        Want::Number(2),
+        "the same uid",
+    );
+    let unread = Want::Refused(Errno::EOPNOTSUPP);
+    expect(
+        &rt,
+        store.apply(0, 0, read(1, 2147483646)),
+        unread,
+        "its keyring",
+    );
+    Ok(())
+}
+
+/// One of the asks of a row, made anew where it found no memory itself.
+fn ask_of(alloc: Global, step: u8) -> Result<Ask, AllocError> {
+    match step {
+        0 => Ok(hello(alloc, 1000)),
+        1 => add(alloc, b"user", b"alpha", b"s3", -4),
+        2 => add(alloc, b"user", b"alpha", b"t4", -4),
+        3 => Ok(read(1, 5)),
+        4 => Ok(describe(1, 5)),
+        _ => Ok(leave()),
+    }
+}
+
+/// For a run in which one growth is refused: the ask that it hits answers ENOMEM and changes nothing, and made again it
+/// gives the row's answer.
+#[test]
+fn a_refused_growth_changes_nothing(rt: HostRuntime) -> Result<(), Fail> {
+    let alloc = rt.alloc();
+    let described = b"user;1000;1000;3f010000;alpha".as_slice();
+    let rows = [
+        Want::Number(1),
+        Want::Number(5),
+        Want::Number(5),
+        Want::Bytes(b"t4"),
+        Want::Bytes(described),
+        Want::Nothing,
+    ];
+    let mut store = Store::new(alloc);
+    let mut step = 0u8;
+    for want in rows {
+        let ask = match ask_of(alloc, step) {
+            Ok(ask) => ask,
+            Err(_) => ask_of(alloc, step)?,
+        };
+        let reply = match store.apply(0, 9, ask) {
+            Err(Errno::ENOMEM) => store.apply(0, 9, ask_of(alloc, step)?),
+            reply => reply,
+        };
+        expect(&rt, reply, want, "a step");
+        step = step.saturating_add(1);
+    }
+    Ok(())
+}

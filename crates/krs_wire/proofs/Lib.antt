@@ -1,0 +1,5 @@
+pub mod FieldLemmas
+pub mod CountLemmas
+pub mod CutLemmas
+pub mod AskLemmas
+pub mod ReplyLemmas

@@ -1,0 +1,19 @@
+-- Steps that may end in a fault: the first fault is the answer.
+use Rattle.std.specs.Prelude.{◌≡◌, ◌≢◌, Option, Some, None, Result, Ok, Err}
+use Rattle.krs_wire.specs.declared.fault.WireFault.{WireFault}
+use Rattle.krs_wire.specs.declared.fault.WireFault.TheVariants.{BadBody, Memory}
+
+-- what follows a good step
+abbrev pub after : {A B : Type 0} → (A → Result B WireFault) → Result A WireFault → Result B WireFault
+after f (Ok x) = f x
+after f (Err fault) = Err fault
+
+-- the value, or BadBody where the bytes don't give one
+abbrev pub or_bad_body : {A : Type 0} → Option A → Result A WireFault
+or_bad_body None = Err BadBody
+or_bad_body (Some x) = Ok x
+
+-- what a function answered, seen by `view`, is what reading gives, unless memory ran out
+abbrev pub Gives : {X Y : Type 0} → (X → Y) → Result X WireFault → Result Y WireFault → Type 0
+Gives view (Ok x) read = read ≡ Ok (view x)
+Gives view (Err fault) read = fault ≢ Memory → read ≡ Err fault

@@ -1,0 +1,65 @@
+-- The cut of a stream of bytes into frames: docs/FORMAT.md, "What a stream is cut into". It speaks of the whole stream and
+-- knows no pieces. The faults come in the order of docs/FORMAT.md, "Faults of an ask's frame".
+use Rattle.std.specs.Prelude.{◌≡◌, Bool, ℕ, ◌==◌, ◌||◌, List, [], ◌∷◌, length, take, drop, Option, Some, None, Result, Ok, Err, nat_lt, if◌then◌else◌}
+use Rattle.std.specs.Int.{w16, w32}
+use Rattle.krs_types.specs.declared.ask.Op.{Op}
+use Rattle.krs_wire.specs.declared.fault.WireFault.{WireFault}
+use Rattle.krs_wire.specs.declared.fault.WireFault.TheVariants.{BadLength, BadVersion, BadOp, BadBody}
+use Rattle.krs_wire.specs.declared.framed.Framed.{Framed}
+use Rattle.krs_wire.specs.Field.{Field, number, both, nothing, whole}
+use Rattle.krs_wire.specs.Faulting.{after, or_bad_body}
+use Rattle.krs_wire.specs.Bodies.{id_field, hello_fields, hello_of, add_fields, add_of, read_of, describe_of, leave_of}
+
+-- what a body says for an operation's number
+unfoldable pub op_of : ℕ → List ℕ → Result Op WireFault
+op_of which body =
+    if which == 6 then or_bad_body (whole id_field describe_of body)
+    else if which == 11 then or_bad_body (whole id_field read_of body)
+    else if which == 256 then or_bad_body (whole hello_fields hello_of body)
+    else if which == 261 then or_bad_body (whole nothing leave_of body)
+    else if which == 262 then or_bad_body (whole add_fields add_of body)
+    else Err BadOp
+
+-- version, operation, context
+abbrev pub head_fields : Field (ℕ × (ℕ × ℕ))
+head_fields = both (number w16) (both (number w16) (number w32))
+
+abbrev pub framed_by : Option ((ℕ × (ℕ × ℕ)) × List ℕ) → Result Framed WireFault
+framed_by None = Err BadBody
+framed_by (Some (head, body)) =
+    if head.0 == 1 then after (λ op. Ok (record { ask = record { context = head.1.1; op = op } })) (op_of head.1.0 body)
+    else Err BadVersion
+
+-- what a whole frame says behind its length
+unfoldable pub framed_of : List ℕ → Result Framed WireFault
+framed_of frame = framed_by (head_fields.read frame)
+
+-- the length is outside 8 to 65536
+abbrev pub is_bad_length : ℕ → Bool
+is_bad_length n = nat_lt n 8 || nat_lt 65536 n
+
+-- what stands behind the length of a frame
+abbrev pub front_in : ℕ → List ℕ → Result (Option (Framed × List ℕ)) WireFault
+front_in n bytes =
+    if is_bad_length n then Err BadLength
+    else if nat_lt (length bytes) n then Ok None
+    else after (λ framed. Ok (Some (framed, drop n bytes))) (framed_of (take n bytes))
+
+abbrev pub front_by : Option (ℕ × List ℕ) → Result (Option (Framed × List ℕ)) WireFault
+front_by None = Ok None
+front_by (Some (n, bytes)) = front_in n bytes
+
+-- the frame at the front of a stream with what follows it, or its fault; nothing where no frame is whole yet
+unfoldable pub front_of : List ℕ → Result (Option (Framed × List ℕ)) WireFault
+front_of bytes = front_by ((number w32).read bytes)
+
+-- how a stream ends: with a rest that is the beginning of a frame, or with a fault
+pub data End : Type 0 where
+  rest : List ℕ → End
+  bad : WireFault → End
+
+-- the stream is these whole good frames in order, and then this end
+abbrev pub Frames : List ℕ → List Framed → End → Type 0
+Frames bytes [] (rest left) = (front_of bytes ≡ Ok None) × (left ≡ bytes)
+Frames bytes [] (bad fault) = front_of bytes ≡ Err fault
+Frames bytes (framed ∷ frames) end = (more : List ℕ) × (front_of bytes ≡ Ok (Some (framed, more))) × Frames more frames end

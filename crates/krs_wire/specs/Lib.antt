@@ -1,0 +1,7 @@
+pub mod Field
+pub mod Faulting
+pub mod Bodies
+pub mod Frame
+pub mod Spelling
+pub mod Feeding
+pub mod Reply

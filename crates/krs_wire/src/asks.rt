@@ -1,0 +1,106 @@
+// Asks read from their frames: a function for each operation's body, and the frame at the front of a stream.
+ghost use Rattle.std.specs.Prelude.{◌≡◌, ◌<◌, ◌-◌, drop, IfOk, IfSome, length, option_map};
+ghost use Rattle.krs_wire.specs.Field.{whole};
+ghost use Rattle.krs_wire.specs.Faulting.{Gives, or_bad_body};
+ghost use Rattle.krs_wire.specs.Bodies.{add_fields, add_of, describe_of, hello_fields, hello_of, id_field, read_of};
+ghost use Rattle.krs_wire.specs.Frame.{op_of, framed_of, front_of};
+
+use crate::fields::{blob_at, ended, groups_at, id_at, text_at, u16_at, u32_at};
+use crate::framed::{MAX_LENGTH, MIN_LENGTH, VERSION};
+use crate::{Framed, WireFault};
+use byteorder::{ByteOrder, LittleEndian};
+use krs_types::{Ask, Caller, Op};
+use std::alloc::Global;
+
+fn hello_at(alloc: Global, body: &[u8]) -> Result<Op, WireFault>
+    ensures { Gives (λ op. op) result (or_bad_body (whole hello_fields hello_of body.now)) }
+{
+    let (uid, rest) = u32_at(body)?;
+    let (gid, rest) = u32_at(rest)?;
+    let (groups, rest) = groups_at(alloc, rest)?;
+    ended(Op::Hello(Caller { uid, gid, groups }), rest)
+}
+
+fn add_at(alloc: Global, body: &[u8]) -> Result<Op, WireFault>
+    ensures { Gives (λ op. op) result (or_bad_body (whole add_fields add_of body.now)) }
+{
+    let (type_name, rest) = text_at(alloc, body)?;
+    let (desc, rest) = text_at(alloc, rest)?;
+    let (payload, rest) = blob_at(alloc, rest)?;
+    let (ring, rest) = id_at(rest)?;
+    let op = Op::Add {
+        type_name,
+        desc,
+        payload,
+        ring,
+    };
+    ended(op, rest)
+}
+
+fn read_at(body: &[u8]) -> Result<Op, WireFault>
+    ensures { Gives (λ op. op) result (or_bad_body (whole id_field read_of body.now)) }
+{
+    let (id, rest) = id_at(body)?;
+    ended(Op::Read { id }, rest)
+}
+
+fn describe_at(body: &[u8]) -> Result<Op, WireFault>
+    ensures { Gives (λ op. op) result (or_bad_body (whole id_field describe_of body.now)) }
+{
+    let (id, rest) = id_at(body)?;
+    ended(Op::Describe { id }, rest)
+}
+
+#[tactic(auto, unfolding(crate::specs::Frame::op_of))]
+fn op_at(alloc: Global, which: u16, body: &[u8]) -> Result<Op, WireFault>
+    ensures { Gives (λ op. op) result (op_of which body.now) }
+{
+    match which {
+        6 => describe_at(body),
+        11 => read_at(body),
+        256 => hello_at(alloc, body),
+        261 => ended(Op::Leave, body),
+        262 => add_at(alloc, body),
+        _ => Err(WireFault::BadOp),
+    }
+}
+
+#[tactic(auto, unfolding(crate::specs::Frame::framed_of))]
+fn framed_at(alloc: Global, frame: &[u8]) -> Result<Framed, WireFault>
+    ensures { Gives (λ framed. framed) result (framed_of frame.now) }
+{
+    let (version, rest) = u16_at(frame)?;
+    let (which, rest) = u16_at(rest)?;
+    let (context, body) = u32_at(rest)?;
+    if version != VERSION {
+        return Err(WireFault::BadVersion);
+    }
+    let op = op_at(alloc, which, body)?;
+    Ok(Framed {
+        ask: Ask { context, op },
+    })
+}
+
+/// The frame at the front, and what follows it. None where no frame is whole yet.
+#[tactic(auto, unfolding(crate::specs::Frame::front_of))]
+pub(crate) fn front_at(alloc: Global, bytes: &[u8]) -> Result<Option<(Framed, &[u8])>, WireFault>
+    ensures exact { Gives (λ o. option_map (λ x. (x.0, x.1.now)) o) result (front_of bytes.now) }
+    ensures shorter { IfOk result (λ o. IfSome o (λ x. length x.1.now < length bytes.now)) }
+    ensures part { IfOk result (λ o. IfSome o
+        (λ x. x.1.now ≡ drop (length bytes.now - length x.1.now) bytes.now)) }
+{
+    if bytes.len() < 4 {
+        return Ok(None);
+    }
+    let (front, rest) = bytes.split_at(4);
+    let len = LittleEndian::read_u32(front) as usize;
+    if len < MIN_LENGTH || len > MAX_LENGTH {
+        return Err(WireFault::BadLength);
+    }
+    if rest.len() < len {
+        return Ok(None);
+    }
+    let (frame, more) = rest.split_at(len);
+    let framed = framed_at(alloc, frame)?;
+    Ok(Some((framed, more)))
+}

@@ -1,0 +1,181 @@
+ghost use Rattle.std.specs.Prelude.{◌≡◌, ◌≤◌, ◌<◌, ◌^◌, ◌++◌, [], ◌∷◌, length, drop, vec_len, IfOk, IfErr, OnOk};
+ghost use Rattle.std.specs.Int.{w16, w32, to_le_bytes};
+ghost use Rattle.krs_wire.specs.Bodies.{number_of_op, body_of_op, FitsOp, id_field, text_field, blob_field, groups_field, hello_fields, hello_parts, add_fields, add_parts};
+ghost use Rattle.krs_wire.specs.Frame.{Frames, rest};
+ghost use Rattle.krs_wire.specs.Spelling.{framed, ask_text, ask_frame, IsTooLong};
+
+use crate::WireFault;
+use crate::framed::{MAX_LENGTH, VERSION};
+use byteorder::{ByteOrder, LittleEndian};
+use krs_types::{Ask, Blob, Caller, Groups, Op};
+use std::alloc::{AllocError, Global};
+
+/// The number of an operation on the wire.
+fn operation_number(op: &Op) -> u16
+    ensures { result ≡ number_of_op op.now }
+{
+    match op {
+        Op::Describe { .. } => 6,
+        Op::Read { .. } => 11,
+        Op::Hello(_) => 256,
+        Op::Leave => 261,
+        Op::Add { .. } => 262,
+    }
+}
+
+fn put_u16(out: &mut Vec<u8>, number: u16) -> Result<(), AllocError>
+    ensures { OnOk result (out.new.items ≡ out.old.items ++ to_le_bytes w16 number) }
+{
+    let mut bytes = [0; 2];
+    LittleEndian::write_u16(&mut bytes, number);
+    out.extend_from_slice(&bytes)
+}
+
+fn put_u32(out: &mut Vec<u8>, number: u32) -> Result<(), AllocError>
+    ensures { OnOk result (out.new.items ≡ out.old.items ++ to_le_bytes w32 number) }
+{
+    let mut bytes = [0; 4];
+    LittleEndian::write_u32(&mut bytes, number);
+    out.extend_from_slice(&bytes)
+}
+
+fn put_id(out: &mut Vec<u8>, id: i32) -> Result<(), AllocError>
+    ensures { OnOk result (out.new.items ≡ out.old.items ++ id_field.spell id) }
+{
+    put_u32(out, id.cast_unsigned())
+}
+
+fn put_text(out: &mut Vec<u8>, text: &Blob) -> Result<(), WireFault>
+    ensures ok { OnOk result (out.new.items ≡ out.old.items ++ text_field.spell text.now) }
+    ensures fits { OnOk result (length text.now < 65536) }
+    ensures long { IfErr result (IsTooLong 65536 text.now) }
+{
+    let bytes = text.as_slice();
+    if bytes.len() > 65535 {
+        return Err(WireFault::BadLength);
+    }
+    put_u16(out, bytes.len() as u16)?;
+    out.extend_from_slice(bytes)?;
+    Ok(())
+}
+
+fn put_blob(out: &mut Vec<u8>, blob: &Blob) -> Result<(), WireFault>
+    ensures ok { OnOk result (out.new.items ≡ out.old.items ++ blob_field.spell blob.now) }
+    ensures fits { OnOk result (length blob.now ≤ 65536) }
+    ensures long { IfErr result (IsTooLong 65537 blob.now) }
+{
+    let bytes = blob.as_slice();
+    if bytes.len() > MAX_LENGTH {
+        return Err(WireFault::BadLength);
+    }
+    put_u32(out, bytes.len() as u32)?;
+    out.extend_from_slice(bytes)?;
+    Ok(())
+}
+
+fn put_groups(out: &mut Vec<u8>, groups: &Groups) -> Result<(), WireFault>
+    ensures ok { OnOk result (out.new.items ≡ out.old.items ++ groups_field.spell groups.now) }
+    ensures fits { OnOk result (groups_field.Fits groups.now) }
+    ensures long { IfErr result (IsTooLong 65536 (groups_field.spell groups.now)) }
+{
+    let numbers = groups.as_slice();
+    if numbers.len() > MAX_LENGTH {
+        return Err(WireFault::BadLength);
+    }
+    put_u32(out, numbers.len() as u32)?;
+    for number in numbers {
+        put_u32(out, *number)?;
+    }
+    Ok(())
+}
+
+fn put_hello(out: &mut Vec<u8>, caller: &Caller) -> Result<(), WireFault>
+    ensures ok { OnOk result
+        (out.new.items ≡ out.old.items ++ hello_fields.spell (hello_parts caller.now)) }
+    ensures fits { OnOk result (hello_fields.Fits (hello_parts caller.now)) }
+    ensures long { IfErr result (IsTooLong 65536 (hello_fields.spell (hello_parts caller.now))) }
+{
+    put_u32(out, caller.uid)?;
+    put_u32(out, caller.gid)?;
+    put_groups(out, &caller.groups)
+}
+
+fn put_add(
+    out: &mut Vec<u8>,
+    type_name: &Blob,
+    desc: &Blob,
+    payload: &Blob,
+    ring: i32,
+) -> Result<(), WireFault>
+    ensures ok { OnOk result
+        (out.new.items ≡ out.old.items ++ add_fields.spell (add_parts type_name.now desc.now payload.now ring)) }
+    ensures fits { OnOk result (add_fields.Fits (add_parts type_name.now desc.now payload.now ring)) }
+    ensures long { IfErr result
+        (IsTooLong 65536 (add_fields.spell (add_parts type_name.now desc.now payload.now ring))) }
+{
+    put_text(out, type_name)?;
+    put_text(out, desc)?;
+    put_blob(out, payload)?;
+    put_id(out, ring)?;
+    Ok(())
+}
+
+fn put_body(out: &mut Vec<u8>, op: &Op) -> Result<(), WireFault>
+    ensures ok { OnOk result (out.new.items ≡ out.old.items ++ body_of_op op.now) }
+    ensures fits { OnOk result (FitsOp op.now) }
+    ensures long { IfErr result (IsTooLong 65536 (body_of_op op.now)) }
+{
+    match op {
+        Op::Describe { id } => put_id(out, *id)?,
+        Op::Read { id } => put_id(out, *id)?,
+        Op::Hello(caller) => put_hello(out, caller)?,
+        Op::Leave => (),
+        Op::Add {
+            type_name,
+            desc,
+            payload,
+            ring,
+        } => put_add(out, type_name, desc, payload, *ring)?,
+    }
+    Ok(())
+}
+
+/// What stands behind the length.
+fn put_ask(out: &mut Vec<u8>, ask: &Ask) -> Result<(), WireFault>
+    ensures ok { OnOk result (out.new.items ≡ out.old.items ++ ask_text ask.now) }
+    ensures context { OnOk result (ask.now.context < 256 ^ 4) }
+    ensures fits { OnOk result (FitsOp ask.now.op) }
+    ensures long { IfErr result (IsTooLong 65537 (ask_text ask.now)) }
+{
+    put_u16(out, VERSION)?;
+    put_u16(out, operation_number(&ask.op))?;
+    put_u32(out, ask.context)?;
+    put_body(out, &ask.op)
+}
+
+/// Writes a length over the first four bytes.
+fn set_length(out: &mut Vec<u8>, len: u32)
+    requires { 4 ≤ vec_len out.old }
+    ensures { out.new.items ≡ to_le_bytes w32 len ++ drop 4 out.old.items }
+{
+    LittleEndian::write_u32(out, len);
+}
+
+/// The frame of an ask: BadLength where its length would be above 65536.
+pub fn encode_ask(alloc: Global, ask: &Ask) -> Result<Vec<u8>, WireFault>
+    ensures frame { IfOk result (λ v. v.items ≡ ask_frame ask.now) }
+    ensures cut { IfOk result (λ v. Frames v.items (framed ask.now ∷ []) (rest [])) }
+    ensures fits { OnOk result (length (ask_text ask.now) ≤ 65536) }
+    ensures long { IfErr result (IsTooLong 65537 (ask_text ask.now)) }
+{
+    // The length is written once the rest is there.
+    let mut out = Vec::new(alloc);
+    put_u32(&mut out, 0)?;
+    put_ask(&mut out, ask)?;
+    let len = out.len() - 4;
+    if len > MAX_LENGTH {
+        return Err(WireFault::BadLength);
+    }
+    set_length(&mut out, len as u32);
+    Ok(out)
+}

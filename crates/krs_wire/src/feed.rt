@@ -1,0 +1,147 @@
+ghost use Rattle.std.specs.Prelude.{◌≡◌, ◌≢◌, ◌≤◌, ◌++◌, [], length, drop, IfOk, IfErr, IsSome, vec_len};
+ghost use Rattle.krs_wire.specs.Frame.{Frames, rest, bad};
+ghost use Rattle.krs_wire.specs.Feeding.{end_of, Feeds, Refuses, fault_of};
+
+use crate::asks::front_at;
+use crate::{Framed, WireFault};
+use std::alloc::Global;
+use std::marker::Model;
+
+/// The reading end of a connection: pieces of a stream in, whole frames out. A contract sees how the stream ends so far: in
+/// the beginning of a frame, or in a fault.
+#[derive(Drop)]
+pub struct Feed {
+    alloc: Global,
+    left: Vec<u8>,
+    fault: Option<WireFault>,
+}
+
+impl Model for Feed {
+    ghost use Rattle.krs_wire.specs.Frame.{End};
+    ghost use Rattle.krs_wire.specs.Feeding.{end_of};
+
+    ghost Value = { End };
+
+    ghost view = { λ f. end_of f.fault f.left.items };
+}
+
+/// The frames at the front of some bytes, how many bytes they take, and the fault behind them.
+#[derive(Drop)]
+struct Cut {
+    frames: Vec<Framed>,
+    taken: usize,
+    fault: Option<WireFault>,
+}
+
+fn cut_stream(alloc: Global, bytes: &[u8]) -> Result<Cut, WireFault>
+    ensures frames { IfOk result
+        (λ c. Frames bytes.now c.frames.items (end_of c.fault (drop c.taken bytes.now))) }
+    ensures within { IfOk result (λ c. c.taken ≤ length bytes.now) }
+    ensures memory { IfErr result (λ fault. fault ≡ WireFault.Memory) }
+    ensures no_memory { IfOk result (λ c. c.fault ≢ Some WireFault.Memory) }
+{
+    let mut frames = Vec::new(alloc);
+    let mut after = bytes;
+    'frames: loop {
+        match front_at(alloc, after) {
+            Ok(None) => {
+                return Ok(Cut {
+                    frames,
+                    taken: bytes.len() - after.len(),
+                    fault: None,
+                });
+            }
+            Ok(Some((framed, more))) => {
+                frames.push(framed)?;
+                after = more;
+            }
+            Err(fault) => {
+                return match fault {
+                    WireFault::Memory => Err(fault),
+                    _ => Ok(Cut {
+                        frames,
+                        taken: bytes.len() - after.len(),
+                        fault: Some(fault),
+                    }),
+                };
+            }
+        }
+    }
+}
+
+fn drop_front(bytes: &mut Vec<u8>, count: usize)
+    requires { count ≤ vec_len bytes.old }
+    ensures { bytes.new.items ≡ drop count bytes.old.items }
+{
+    if count > 0 {
+        bytes.drain(..count);
+    }
+}
+
+/// Takes a piece behind what was left, and keeps what is left then.
+fn take_in(
+    alloc: Global,
+    left: &mut Vec<u8>,
+    piece: &[u8],
+) -> Result<(Vec<Framed>, Option<WireFault>), WireFault>
+    ensures frames { IfOk result
+        (λ x. Frames (left.old.items ++ piece.now) x.0.items (end_of x.1 left.new.items)) }
+    ensures memory { IfErr result (λ fault. fault ≡ WireFault.Memory) }
+    ensures no_memory { IfOk result (λ x. x.1 ≢ Some WireFault.Memory) }
+{
+    left.extend_from_slice(piece)?;
+    let cut = cut_stream(alloc, left)?;
+    drop_front(left, cut.taken);
+    Ok((cut.frames, cut.fault))
+}
+
+impl Feed {
+    #[tactic(auto, unfolding(crate::specs::Frame::front_of))]
+    pub fn new(alloc: Global) -> Feed
+        ensures nothing { result ≡ rest [] }
+        ensures empty { Frames [] [] result }
+    {
+        Feed {
+            alloc,
+            left: Vec::new(alloc),
+            fault: None,
+        }
+    }
+
+    /// The fault behind which nothing is read.
+    pub fn fault(&self) -> Option<WireFault>
+        ensures { result ≡ fault_of self.now }
+    {
+        self.fault
+    }
+
+    /// Takes the next piece of the stream, and answers the frames that are whole now. A fault behind them shows in
+    /// `fault`, and is what every later piece is answered with. A piece that is refused for want of memory is not taken,
+    /// and the feed has failed.
+    pub fn feed(&mut self, piece: &[u8]) -> Result<Vec<Framed>, WireFault>
+        ensures frames { IfOk result (λ frames. Feeds self.old piece.now frames.items self.new) }
+        ensures refused { IfErr result (Refuses self.old piece.now) }
+        ensures failed { IfErr result (λ fault. self.new ≡ bad fault) }
+        ensures no_memory { IfOk result (λ frames. fault_of self.new ≢ Some WireFault.Memory) }
+        ensures at_once { IfOk result (λ frames. IsSome (fault_of self.new) → frames.items ≢ []) }
+    {
+        if let Some(fault) = self.fault {
+            return Err(fault);
+        }
+        match take_in(self.alloc, &mut self.left, piece) {
+            Ok((frames, fault)) => {
+                self.fault = fault;
+                if let Some(fault) = fault {
+                    if frames.is_empty() {
+                        return Err(fault);
+                    }
+                }
+                Ok(frames)
+            }
+            Err(fault) => {
+                self.fault = Some(fault);
+                Err(fault)
+            }
+        }
+    }
+}

@@ -1,0 +1,99 @@
+// The fields of frames, each read from the front of the bytes, which the reader answers with what follows it.
+ghost use Rattle.std.specs.Prelude.{◌≡◌, ◌==◌, length, if◌then◌else◌};
+ghost use Rattle.std.specs.Int.{w16, w32};
+ghost use Rattle.krs_wire.specs.Bodies.{id_field, text_field, blob_field, groups_field};
+ghost use Rattle.krs_wire.specs.Field.{number, many_read};
+ghost use Rattle.krs_wire.specs.Faulting.{Gives, or_bad_body};
+
+use crate::WireFault;
+use byteorder::{ByteOrder, LittleEndian};
+use krs_types::{Blob, Groups};
+use std::alloc::Global;
+
+pub(crate) fn u16_at(bytes: &[u8]) -> Result<(u16, &[u8]), WireFault>
+    ensures { Gives (λ x. (x.0, x.1.now)) result (or_bad_body ((number w16).read bytes.now)) }
+{
+    if bytes.len() < 2 {
+        return Err(WireFault::BadBody);
+    }
+    let (front, rest) = bytes.split_at(2);
+    Ok((LittleEndian::read_u16(front), rest))
+}
+
+pub(crate) fn u32_at(bytes: &[u8]) -> Result<(u32, &[u8]), WireFault>
+    ensures { Gives (λ x. (x.0, x.1.now)) result (or_bad_body ((number w32).read bytes.now)) }
+{
+    if bytes.len() < 4 {
+        return Err(WireFault::BadBody);
+    }
+    let (front, rest) = bytes.split_at(4);
+    Ok((LittleEndian::read_u32(front), rest))
+}
+
+pub(crate) fn id_at(bytes: &[u8]) -> Result<(i32, &[u8]), WireFault>
+    ensures { Gives (λ x. (x.0, x.1.now)) result (or_bad_body (id_field.read bytes.now)) }
+{
+    let (number, rest) = u32_at(bytes)?;
+    Ok((number.cast_signed(), rest))
+}
+
+pub(crate) fn text_at(alloc: Global, bytes: &[u8]) -> Result<(Blob, &[u8]), WireFault>
+    ensures { Gives (λ x. (x.0, x.1.now)) result (or_bad_body (text_field.read bytes.now)) }
+{
+    let (len, rest) = u16_at(bytes)?;
+    let len = len as usize;
+    if rest.len() < len {
+        return Err(WireFault::BadBody);
+    }
+    let (text, rest) = rest.split_at(len);
+    Ok((Blob::from_slice(alloc, text)?, rest))
+}
+
+pub(crate) fn blob_at(alloc: Global, bytes: &[u8]) -> Result<(Blob, &[u8]), WireFault>
+    ensures { Gives (λ x. (x.0, x.1.now)) result (or_bad_body (blob_field.read bytes.now)) }
+{
+    let (len, rest) = u32_at(bytes)?;
+    let len = len as usize;
+    if rest.len() < len {
+        return Err(WireFault::BadBody);
+    }
+    let (blob, rest) = rest.split_at(len);
+    Ok((Blob::from_slice(alloc, blob)?, rest))
+}
+
+fn numbers_at(alloc: Global, count: u32, bytes: &[u8]) -> Result<(Vec<u32>, &[u8]), WireFault>
+    ensures { Gives (λ x. (x.0.items, x.1.now)) result
+        (or_bad_body (many_read (number w32) count bytes.now)) }
+{
+    let mut numbers = Vec::new(alloc);
+    let mut rest = bytes;
+    for _ in 0..count {
+        match u32_at(rest) {
+            Err(fault) => return Err(fault),
+            Ok((number, after)) => {
+                numbers.push(number)?;
+                rest = after;
+            }
+        }
+    }
+    Ok((numbers, rest))
+}
+
+pub(crate) fn groups_at(alloc: Global, bytes: &[u8]) -> Result<(Groups, &[u8]), WireFault>
+    ensures { Gives (λ x. (x.0, x.1.now)) result (or_bad_body (groups_field.read bytes.now)) }
+{
+    let (count, rest) = u32_at(bytes)?;
+    let (numbers, rest) = numbers_at(alloc, count, rest)?;
+    Ok((Groups::new(numbers), rest))
+}
+
+/// The value where no bytes are left, else BadBody.
+pub(crate) fn ended<T: Drop>(value: T, rest: &[u8]) -> Result<T, WireFault>
+    ensures { result ≡ (if length rest.now == 0 then Ok value else Err WireFault.BadBody) }
+{
+    if rest.is_empty() {
+        Ok(value)
+    } else {
+        Err(WireFault::BadBody)
+    }
+}

@@ -1,0 +1,24 @@
+//! Frames on a connection: the cut of a stream of bytes into asks, and the spelling of asks and replies. docs/FORMAT.md,
+//! "Frames"; profile, own frames. A contract sees a feed as the end of its stream so far.
+#![tactic(auto)]
+
+mod asks;
+mod encode;
+mod fault;
+mod feed;
+mod fields;
+mod framed;
+mod laws;
+mod replies;
+mod shape;
+
+pub use encode::encode_ask;
+pub use fault::WireFault;
+pub use feed::Feed;
+pub use framed::Framed;
+pub use laws::{one_cut, one_spelling};
+pub use replies::{decode_reply, encode_reply};
+pub use shape::Shape;
+
+#[cfg(test)]
+mod tests;

@@ -1,0 +1,25 @@
+ghost use Rattle.std.specs.Prelude.{◌≡◌};
+ghost use Rattle.krs_wire.specs.Reply.{shape_of};
+
+use krs_types::Op;
+
+/// What kind of answer an accepted ask gets.
+#[derive(Clone, Copy, Debug, PartialEq, Eq)]
+pub enum Shape {
+    Nothing,
+    Number,
+    Bytes,
+}
+
+impl Shape {
+    /// The kind of answer that an operation gets.
+    pub fn of(op: &Op) -> Shape
+        ensures { result ≡ shape_of op.now }
+    {
+        match op {
+            Op::Hello(_) | Op::Add { .. } => Shape::Number,
+            Op::Read { .. } | Op::Describe { .. } => Shape::Bytes,
+            Op::Leave => Shape::Nothing,
+        }
+    }
+}

@@ -1,0 +1,210 @@
+ghost use Rattle.std.specs.Prelude.{◌≤◌, length};
+
+use super::*;
+use krs_types::{Answer, Ask, Blob, Body, Caller, Errno, Groups, Op, Reply};
+use std::alloc::{AllocError, Global};
+use std::process::Abort;
+use std::test::*;
+
+// HELLO 1000 1000 without groups; ADD user alpha `s3` to -4 in context 1; READ 5 in context 1.
+const STREAM: [u8; 75] = [
+    0x14, 0, 0, 0, 1, 0, 0, 1, 0, 0, 0, 0, 0xe8, 3, 0, 0, 0xe8, 3, 0, 0, 0, 0, 0, 0, //
+    0x1f, 0, 0, 0, 1, 0, 6, 1, 1, 0, 0, 0, 4, 0, 0x75, 0x73, 0x65, 0x72, 5, 0, 0x61, 0x6c, 0x70,
+    0x68, 0x61, 2, 0, 0, 0, 0x73, 0x33, 0xfc, 0xff, 0xff, 0xff, //
+    0x0c, 0, 0, 0, 1, 0, 0x0b, 0, 1, 0, 0, 0, 5, 0, 0, 0,
+];
+
+fn hello(alloc: Global) -> Op {
+    Op::Hello(Caller {
+        uid: 1000,
+        gid: 1000,
+        groups: Groups::new(Vec::new(alloc)),
+    })
+}
+
+fn add(alloc: Global) -> Result<Op, AllocError> {
+    Ok(Op::Add {
+        type_name: Blob::from_slice(alloc, b"user")?,
+        desc: Blob::from_slice(alloc, b"alpha")?,
+        payload: Blob::from_slice(alloc, b"s3")?,
+        ring: -4,
+    })
+}
+
+// The frames of these asks, one after the other.
+fn frames_of(alloc: Global, frames: &[Framed], text: &mut Vec<u8>) -> Result<(), WireFault> {
+    for framed in frames {
+        let frame = encode_ask(alloc, &framed.ask)?;
+        text.extend_from_slice(&frame)?;
+    }
+    Ok(())
+}
+
+#[test]
+fn asks_are_spelled(rt: HostRuntime) -> Result<(), Fail> {
+    let mut text = Vec::new(rt.alloc());
+    let asks = [
+        (0, hello(rt.alloc())),
+        (1, add(rt.alloc())?),
+        (1, Op::Read { id: 5 }),
+    ];
+    for (context, op) in asks {
+        let ask = Ask { context, op };
+        text.extend_from_slice(&encode_ask(rt.alloc(), &ask)?)?;
+    }
+    assert_eq!(rt; text.as_slice(), STREAM.as_slice());
+    Ok(())
+}
+
+#[test]
+fn any_two_pieces(rt: HostRuntime) -> Result<(), Fail> {
+    for cut in 0..=STREAM.len() {
+        let (front, back) = STREAM.split_at(cut);
+        let mut feed = Feed::new(rt.alloc());
+        let mut text = Vec::new(rt.alloc());
+        frames_of(rt.alloc(), &feed.feed(front)?, &mut text)?;
+        frames_of(rt.alloc(), &feed.feed(back)?, &mut text)?;
+        assert_eq!(rt; text.as_slice(), STREAM.as_slice(), "cut at {cut}");
+        assert_eq!(rt; feed.fault(), None);
+    }
+    Ok(())
+}
+
+#[test]
+fn faults_of_asks(rt: HostRuntime) -> Result<(), Fail> {
+    let cases: [(&[u8], WireFault); 8] = [
+        (&[7, 0, 0, 0], WireFault::BadLength),
+        (&[1, 0, 1, 0], WireFault::BadLength),
+        (&[8, 0, 0, 0, 2, 0, 5, 1, 0, 0, 0, 0], WireFault::BadVersion),
+        (
+            &[8, 0, 0, 0, 2, 0, 29, 0, 0, 0, 0, 0],
+            WireFault::BadVersion,
+        ),
+        (&[8, 0, 0, 0, 1, 0, 29, 0, 0, 0, 0, 0], WireFault::BadOp),
+        (&[9, 0, 0, 0, 1, 0, 5, 1, 0, 0, 0, 0, 9], WireFault::BadBody),
+        (
+            &[11, 0, 0, 0, 1, 0, 6, 0, 0, 0, 0, 0, 5, 0, 0],
+            WireFault::BadBody,
+        ),
+        (
+            &[10, 0, 0, 0, 1, 0, 6, 1, 0, 0, 0, 0, 4, 0],
+            WireFault::BadBody,
+        ),
+    ];
+    for (bytes, fault) in cases {
+        // Behind a good frame the fault shows afterwards, and is what later pieces are answered with.
+        let mut feed = Feed::new(rt.alloc());
+        let mut text = Vec::from_slice(rt.alloc(), &STREAM[59..])?;
+        text.extend_from_slice(bytes)?;
+        assert_eq!(rt; feed.feed(&text)?.len(), 1, "{bytes:?}");
+        assert_eq!(rt; feed.fault(), Some(fault), "{bytes:?}");
+        assert_eq!(rt; feed.feed(&STREAM).err(), Some(fault), "{bytes:?}");
+
+        let mut feed = Feed::new(rt.alloc());
+        assert_eq!(rt; feed.feed(bytes).err(), Some(fault), "{bytes:?}");
+    }
+    Ok(())
+}
+
+fn bytes_of(alloc: Global, bytes: &[u8]) -> Result<Reply, AllocError>
+    requires { length bytes.now ≤ 262140 }
+{
+    Ok(Ok(Answer::Bytes(Body::new(Vec::from_slice(alloc, bytes)?))))
+}
+
+fn check_reply(
+    rt: &impl Abort,
+    alloc: Global,
+    op: &Op,
+    reply: &Reply,
+    frame: &[u8],
+) -> Result<(), Fail> {
+    assert_eq!(rt; encode_reply(alloc, reply)?.as_slice(), frame);
+    let (found, len) = decode_reply(alloc, op, frame)?.ok_or("no reply")?;
+    assert_eq!(rt; len, frame.len());
+    assert_eq!(rt; encode_reply(alloc, &found)?.as_slice(), frame);
+    let (_, part) = frame.split_last().ok_or("no bytes")?;
+    assert!(rt; decode_reply(alloc, op, part)?.is_none(), "{frame:?}");
+    Ok(())
+}
+
+#[test]
+fn replies_are_spelled_and_read(rt: HostRuntime) -> Result<(), Fail> {
+    let alloc = rt.alloc();
+    let context = Ok(Answer::Number(1));
+    check_reply(
+        &rt,
+        alloc,
+        &hello(alloc),
+        &context,
+        &[8, 0, 0, 0, 0, 0, 0, 0, 1, 0, 0, 0],
+    )?;
+    let serial = Ok(Answer::Number(5));
+    check_reply(
+        &rt,
+        alloc,
+        &add(alloc)?,
+        &serial,
+        &[8, 0, 0, 0, 0, 0, 0, 0, 5, 0, 0, 0],
+    )?;
+    let payload = bytes_of(alloc, b"s3")?;
+    check_reply(
+        &rt,
+        alloc,
+        &Op::Read { id: 5 },
+        &payload,
+        &[6, 0, 0, 0, 0, 0, 0, 0, 0x73, 0x33],
+    )?;
+    check_reply(
+        &rt,
+        alloc,
+        &Op::Leave,
+        &Ok(Answer::Nothing),
+        &[4, 0, 0, 0, 0, 0, 0, 0],
+    )?;
+    check_reply(
+        &rt,
+        alloc,
+        &Op::Leave,
+        &Err(Errno::ENOKEY),
+        &[4, 0, 0, 0, 126, 0, 0, 0],
+    )?;
+    check_reply(
+        &rt,
+        alloc,
+        &Op::Leave,
+        &Err(Errno::EEXIST),
+        &[4, 0, 0, 0, 17, 0, 0, 0],
+    )?;
+    Ok(())
+}
+
+#[test]
+fn faults_of_replies(rt: HostRuntime) -> Result<(), Fail> {
+    let cases: [(Op, &[u8], WireFault); 7] = [
+        (Op::Leave, &[3, 0, 0, 0], WireFault::BadLength),
+        (Op::Leave, &[1, 0, 4, 0], WireFault::BadLength),
+        (Op::Leave, &[4, 0, 0, 0, 4, 0, 0, 0], WireFault::BadBody),
+        (Op::Leave, &[5, 0, 0, 0, 0, 0, 0, 0, 1], WireFault::BadBody),
+        (
+            Op::Leave,
+            &[5, 0, 0, 0, 126, 0, 0, 0, 1],
+            WireFault::BadBody,
+        ),
+        (
+            hello(rt.alloc()),
+            &[4, 0, 0, 0, 0, 0, 0, 0],
+            WireFault::BadBody,
+        ),
+        (
+            hello(rt.alloc()),
+            &[7, 0, 0, 0, 0, 0, 0, 0, 1, 0, 0],
+            WireFault::BadBody,
+        ),
+    ];
+    for (op, bytes, fault) in &cases {
+        let found = decode_reply(rt.alloc(), op, bytes);
+        assert_eq!(rt; found.err(), Some(*fault), "{bytes:?}");
+    }
+    Ok(())
+}
