@@ -2,9 +2,11 @@
 #![tactic(auto)]
 
 mod bench;
+mod session;
 
 use anyhow::Result;
 use bench::{Operation, nanoseconds};
+use session::session_nanoseconds;
 use std::env;
 
 /// How many keys are linked in the keyring.
@@ -20,7 +22,8 @@ const OPERATIONS: [Operation; 4] = [
 const USAGE: &str = "\
 usage: krs_bench OPERATION [COUNT]
 OPERATION is read, describe, add (a new key), update (ADD on a match) or all; COUNT is how many keys the user keyring
-links: 10, 1000 and 10000 in turn if it is 0 or left out. Prints nanoseconds per ask; payloads have 32 bytes.
+links: 10, 1000 and 10000 in turn if it is 0 or left out. Prints nanoseconds per ask of the store, and through a
+session over memory; payloads have 32 bytes.
 ";
 
 fn main(rt: HostRuntime) -> Result<()> {
@@ -54,6 +57,7 @@ fn run_all(rt: &HostRuntime, operation: Operation) -> Result<()> {
 fn run(rt: &HostRuntime, operation: Operation, count: u32) -> Result<()> {
     let name = operation.name();
     let each = nanoseconds(rt, operation, count)?;
-    println!(rt; "{name} with {count} links: {each} ns")?;
+    let in_session = session_nanoseconds(rt, operation, count)?;
+    println!(rt; "{name} with {count} links: {each} ns, through a session {in_session} ns")?;
     Ok(())
 }
