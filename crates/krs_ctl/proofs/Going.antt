@@ -1,13 +1,13 @@
 -- A script between two lines, and how it ends from there.
-use Rattle.std.proofs.Common.{ℕ, ◌≡◌, ◌≢◌, ◌⊎◌, inl, inr, List, [], ◌∷◌, ◌++◌, Option, None, Some, IfSome, Result, Ok, Err, refl, sym, ap, ◌∙◌, append_assoc, append-nil}
-use Rattle.std.specs.Io.KnownBytes.{append_known, Appends, Keeps, IsAtEnd}
-use Rattle.std.proofs.KnownBytes.{Appends-nil, Appends-trans, Appends-kept, append_known-moved}
+use Rattle.std.proofs.Common.{ℕ, ◌≡◌, ◌⊎◌, inl, inr, List, [], ◌∷◌, ◌++◌, Option, None, Some, IfSome, Ok, Err, refl, sym, append_assoc, append-nil}
+use Rattle.std.specs.Io.KnownBytes.{append_known, IsAtEnd}
+use Rattle.std.proofs.KnownBytes.{Appends-nil, Appends-trans}
 use Rattle.krs_ctl.specs.declared.script.Script.{Script}
 use Rattle.krs_ctl.specs.declared.stop.Stop.{Stop}
 use Rattle.krs_ctl.specs.declared.stop.Stop.TheVariants.{Usage, Memory, Reading, Printing}
 use Rattle.krs_ctl.specs.Lines.{lines_of, ReadsLines}
 use Rattle.krs_ctl.specs.Writing.{Prints}
-use Rattle.krs_ctl.specs.Running.{TakesLine, TakesLines, ObeysLine, StopsBehind, Runs}
+use Rattle.krs_ctl.specs.Running.{TakesLine, TakesLines, ObeysLine, Runs}
 use Rattle.krs_ctl.proofs.RunningLemmas.{TakesLines-more}
 
 -- these lines were read and obeyed so far, and this was printed

@@ -1,8 +1,7 @@
 -- The lines of bytes, one after the other.
-use Rattle.std.proofs.Common.{ℕ, ◌≡◌, ◌==◌, ◌<◌, length, IfSome, ◌⊎◌, inl, inr, List, [], ◌∷◌, ◌++◌, Bool, true, false, Option, None, Some, refl, ap, ◌∙◌, arith, if◌then◌else◌}
+use Rattle.std.proofs.Common.{ℕ, ◌≡◌, ◌==◌, ◌<◌, length, IfSome, ◌⊎◌, inl, inr, List, [], ◌∷◌, true, false, Option, None, Some, refl, ap, arith, if◌then◌else◌}
 use Rattle.std.proofs.lemmas.Bool.Decides.{nat_tests}
 use Rattle.std.proofs.lemmas.Grind.{common_steps}
-use Rattle.std.specs.List.{onto_first}
 use Rattle.std.specs.Io.BufRead.{take_through, drop_through, first_piece, strip_last, ends_with_byte, DropsThrough}
 use Rattle.krs_ctl.specs.Lines.{lines_of, ReadsLines}
 

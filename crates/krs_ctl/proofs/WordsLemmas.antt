@@ -1,5 +1,5 @@
 -- Lists of words.
-use Rattle.std.proofs.Common.{ℕ, ◌≡◌, List, [], ◌∷◌, Bool, true, false, map, Option, refl, ap, arith}
+use Rattle.std.proofs.Common.{◌≡◌, List, [], ◌∷◌, Bool, map, Option, refl, arith}
 use Rattle.std.specs.List.{filter, filter_map}
 
 -- a filter that reads each element through f

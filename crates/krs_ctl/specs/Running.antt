@@ -1,5 +1,5 @@
 -- What a script does to its store and what it prints: docs/FORMAT.md, "Lines and words", "Commands" and "Statuses".
-use Rattle.std.specs.Prelude.{ℕ, ◌≡◌, ◌≢◌, ◌⊎◌, ◌==◌, ◌||◌, List, [], ◌∷◌, ◌++◌, Bool, true, false, length, ⊤, MatchBool, IfSome, Option, Some, None, Result, Ok, Err}
+use Rattle.std.specs.Prelude.{ℕ, ◌≡◌, ◌≢◌, ◌⊎◌, ◌==◌, ◌||◌, List, [], ◌∷◌, ◌++◌, Bool, false, length, ⊤, MatchBool, IfSome, Option, Some, None, Result, Ok, Err}
 use Rattle.std.specs.Result.{is_err}
 use Rattle.std.specs.Io.KnownBytes.{Appends}
 use Rattle.krs_types.specs.declared.errno.Errno.{Errno}
@@ -16,11 +16,10 @@ use Rattle.krs_ctl.specs.declared.script.ScriptEnd.{ScriptEnd}
 use Rattle.krs_ctl.specs.declared.stop.Stop.{Stop}
 use Rattle.krs_ctl.specs.declared.stop.Stop.TheVariants.{Usage, Memory, Reading, Printing}
 use Rattle.krs_ctl.specs.Words.{words_of, is_comment}
-use Rattle.krs_ctl.specs.Lines.{lines_of, ReadsLines}
+use Rattle.krs_ctl.specs.Lines.{lines_of}
 use Rattle.krs_ctl.specs.Command.{command_of}
 use Rattle.krs_ctl.specs.Printing.{shown}
 use Rattle.krs_ctl.specs.Script.{context_after, status_of, last_line}
-use Rattle.krs_ctl.specs.Writing.{Prints}
 
 -- the store served the ask, in the current context, at the current moment, as client 0; an accepted `hello` names the
 -- current context; a refusal is remembered

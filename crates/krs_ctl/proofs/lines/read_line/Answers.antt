@@ -1,4 +1,4 @@
-use Rattle.std.proofs.Common.{◌≡◌, ◌<◌, length, IfSome, vec_len, arith}
+use Rattle.std.proofs.Common.{◌≡◌, ◌<◌, length, IfSome, arith}
 use Rattle.std.specs.Io.Buffered.{reader_remaining}
 use Rattle.std.specs.Io.BufRead.{take_through}
 use Rattle.krs_ctl.proofs.LinesLemmas.{ReadsLines-first}

@@ -1,4 +1,4 @@
-use Rattle.std.proofs.Common.{◌≡◌, sym}
+use Rattle.std.proofs.Common.{sym}
 use Rattle.std.proofs.lemmas.List.{take_all}
 use Rattle.krs_ctl.specs.Number.{u32_of}
 use Rattle.krs_ctl.proofs.GroupsLemmas.{all_more, numbers_more, not_all_at, u32s-some, u32s-none}

@@ -1,5 +1,5 @@
 -- What has digits alone is text, and `parse` reads it.
-use Rattle.std.proofs.Common.{◌<◌, length, arith, rules, tests, sym}
+use Rattle.std.proofs.Common.{◌<◌, length, arith, sym}
 use Rattle.std.proofs.lemmas.Bool.Decides.{nat_tests}
 use Rattle.krs_ctl.proofs.NumberLemmas.{IsUtf8-from_digits, below_from_parse}
 use Rattle.krs_ctl.proofs.number.u64_word.Goals as goal

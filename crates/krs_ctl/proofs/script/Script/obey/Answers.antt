@@ -1,4 +1,4 @@
-use Rattle.std.proofs.Common.{◌≡◌, false, sym, Some}
+use Rattle.std.proofs.Common.{◌≡◌, false, Some}
 use Rattle.krs_ctl.specs.Words.{words_of}
 use Rattle.krs_ctl.specs.Command.{command_of}
 use Rattle.krs_ctl.specs.Running.{is_skipped}
