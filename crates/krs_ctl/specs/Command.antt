@@ -1,6 +1,5 @@
 -- The commands of a client, a row each: docs/FORMAT.md, "Commands".
-use Rattle.std.specs.Prelude.{ℕ, ◌≡◌, List, [], ◌∷◌, Bool, find, bytes_eq, codes, Option, None, Some, Result, Ok, Err}
-use Rattle.krs_types.specs.declared.ask.Op.{Op}
+use Rattle.std.specs.Prelude.{ℕ, List, [], ◌∷◌, find, bytes_eq, codes, Option, None, Some}
 use Rattle.krs_types.specs.declared.ask.Op.TheVariants as op
 use Rattle.krs_ctl.specs.declared.command.CommandName.{CommandName}
 use Rattle.krs_ctl.specs.declared.command.CommandName.TheVariants.{Hello, Context, Moment, Add, Print, Rdescribe, Leave}

@@ -9,9 +9,9 @@ use Rattle.krs_ctl.specs.Running.{EndsScript}
 abbrev pub Says : Option (List ℕ) → Option (List ℕ) → List ℕ → ℕ → ℕ → Type 0
 Says old new text wanted status = ((status ≡ wanted) × Appends old new text) ⊎ (status ≡ 3)
 
--- A script ran on a new store, with its status; or, where the words were not `script` alone, usage or want of memory was
--- said, or the text of `--help` or `--version` was written, with status 0, or nothing, with status 2, as what the reader of
--- options refuses is told on standard error. Which of these comes is for tests.
+-- A script ran on a new store, with its status. Or, where the words were not `script` alone: usage or want of memory
+-- was said; or the text of `--help` or `--version` was written, with status 0; or nothing, with status 2, as what the
+-- reader of options refuses is told on standard error. Which of these comes is for tests.
 abbrev pub Answers : Option (List ℕ) → Option (List ℕ) → Option (List ℕ) → ℕ → Type 0
 Answers input old new status =
     ((end : ScriptEnd) × EndsScript input old new (starting_at 3) end × (status ≡ end.status))

@@ -1,10 +1,10 @@
 -- How a script goes on and ends: docs/FORMAT.md, "Lines and words" and "Statuses".
-use Rattle.std.specs.Prelude.{ℕ, ◌≡◌, Bool, true, false, if◌then◌else◌, List, [], codes, Result, Ok, Err}
+use Rattle.std.specs.Prelude.{ℕ, Bool, if◌then◌else◌, List, [], codes, Result, Ok, Err}
 use Rattle.krs_types.specs.declared.errno.Errno.{Errno}
 use Rattle.krs_types.specs.declared.ask.Op.{Op}
 use Rattle.krs_types.specs.declared.ask.Op.TheVariants as op
 use Rattle.krs_types.specs.declared.ask.Answer.{Answer}
-use Rattle.krs_types.specs.declared.ask.Answer.TheVariants.{Nothing, Number, Bytes}
+use Rattle.krs_types.specs.declared.ask.Answer.TheVariants.{Number}
 use Rattle.krs_ctl.specs.declared.no_command.NoCommand.{NoCommand}
 use Rattle.krs_ctl.specs.declared.no_command.NoCommand.TheVariants as no_command
 use Rattle.krs_ctl.specs.declared.stop.Stop.{Stop}
