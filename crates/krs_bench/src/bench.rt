@@ -1,4 +1,4 @@
-use anyhow::{Result, bail, ensure};
+use anyhow::{Result, bail};
 use krs_store::Store;
 use krs_types::{Ask, Blob, Caller, Groups, Op};
 use std::alloc::{AllocError, Global};
@@ -38,7 +38,7 @@ impl Operation {
     }
 
     /// The ask about key `place` of the keyring.
-    fn op(self, alloc: Global, place: u32) -> Result<Op, AllocError> {
+    pub fn op(self, alloc: Global, place: u32) -> Result<Op, AllocError> {
         let id = i32::try_from(place.saturating_add(FIRST)).unwrap_or(i32::MAX);
         match self {
             Operation::Read => Ok(Op::Read { id }),
@@ -48,27 +48,60 @@ impl Operation {
     }
 }
 
-/// How many nanoseconds an ask takes with that many keys linked in the user keyring.
+/// What is timed with that many keys linked: so many batches, each of so many asks on a store of its own.
+#[derive(Clone, Copy)]
+pub struct Workload {
+    pub count: u32,
+    pub batches: u32,
+    pub rounds: u32,
+    /// The asks are about so many keys in turn, from this one on.
+    pub from: u32,
+    pub places: u32,
+}
+
+/// New keys are timed in batches of a tenth of the links, so that the number of links stays near what is asked for.
+pub fn workload_of(operation: Operation, count: u32) -> Workload {
+    let count = count.max(1);
+    if operation != Operation::Add {
+        return Workload {
+            count,
+            batches: 1,
+            rounds: ROUNDS,
+            from: 0,
+            places: count,
+        };
+    }
+    let batch = count.div_ceil(10);
+    Workload {
+        count,
+        batches: NEW_KEYS.div_ceil(batch.max(1)),
+        rounds: batch,
+        from: count,
+        places: batch,
+    }
+}
+
+/// How many nanoseconds an ask takes with that many keys, at least one, linked in the user keyring.
 pub fn nanoseconds<R: AllocGlobal + std::rt::Clock>(
     rt: &R,
     operation: Operation,
     count: u32,
 ) -> Result<u64> {
-    ensure!(count > 0, "no keys");
-    if operation != Operation::Add {
-        let mut store = stocked(rt.alloc(), count)?;
-        let took = timed(rt, &mut store, operation, 0, count, ROUNDS)?;
-        return Ok(each(took, ROUNDS));
-    }
-    let batch = count.div_ceil(10);
-    let batches = NEW_KEYS.div_ceil(batch);
+    let load = workload_of(operation, count);
     let mut took = Duration::ZERO;
-    for _ in 0..batches {
-        let mut store = stocked(rt.alloc(), count)?;
-        let more = timed(rt, &mut store, operation, count, batch, batch)?;
+    for _ in 0..load.batches {
+        let mut store = stocked(rt.alloc(), load.count)?;
+        let more = timed(
+            rt,
+            &mut store,
+            operation,
+            load.from,
+            load.places,
+            load.rounds,
+        )?;
         took = took.saturating_add(more);
     }
-    Ok(each(took, batches.saturating_mul(batch)))
+    Ok(each(took, load.batches.saturating_mul(load.rounds)))
 }
 
 /// Times that many asks, about `places` keys in turn, from `from` on.
@@ -81,16 +114,15 @@ fn timed<R: AllocGlobal + std::rt::Clock>(
     rounds: u32,
 ) -> Result<Duration> {
     let start = Instant::now(rt)?;
-    let mut place = 0;
-    for _ in 0..rounds {
-        ask(store, operation.op(rt.alloc(), from.saturating_add(place))?)?;
-        place = if place.saturating_add(1) < places { place.saturating_add(1) } else { 0 };
+    for round in 0..rounds {
+        let place = from.saturating_add(round.checked_rem(places).unwrap_or(0));
+        ask(store, operation.op(rt.alloc(), place)?)?;
     }
     Ok(start.elapsed(rt)?)
 }
 
 /// A store whose context 1 has that many keys in its user keyring.
-fn stocked(alloc: Global, count: u32) -> Result<Store> {
+pub fn stocked(alloc: Global, count: u32) -> Result<Store> {
     let mut store = Store::new(alloc);
     let groups = Groups::new(Vec::new(alloc));
     let caller = Caller {
@@ -122,7 +154,10 @@ fn add(alloc: Global, place: u32) -> Result<Op, AllocError> {
     })
 }
 
-fn each(took: Duration, rounds: u32) -> u64 {
-    let nanoseconds = took.as_secs().saturating_mul(1_000_000_000).saturating_add(u64::from(took.subsec_nanos()));
+pub fn each(took: Duration, rounds: u32) -> u64 {
+    let nanoseconds = took
+        .as_secs()
+        .saturating_mul(1_000_000_000)
+        .saturating_add(u64::from(took.subsec_nanos()));
     nanoseconds / u64::from(rounds.max(1))
 }

@@ -2,9 +2,11 @@
 #![tactic(auto)]
 
 mod bench;
+mod session;
 
 use anyhow::Result;
 use bench::{Operation, nanoseconds};
+use session::session_nanoseconds;
 use std::env;
 
 /// How many keys are linked in the keyring.
@@ -20,29 +22,34 @@ const OPERATIONS: [Operation; 4] = [
 const USAGE: &str = "\
 usage: krs_bench OPERATION [COUNT]
 OPERATION is read, describe, add (a new key), update (ADD on a match) or all; COUNT is how many keys the user keyring
-links, 10, 1000 and 10000 if left out. Prints nanoseconds per ask, payloads of 32 bytes.
+links: 10, 1000 and 10000 in turn if it is 0 or left out. Prints nanoseconds per ask of the store, and through a
+session over memory; payloads have 32 bytes.
 ";
 
 fn main(rt: HostRuntime) -> Result<()> {
     let words: Vec<String> = env::args(&rt)?.collect(rt.alloc())?;
-    let word = words.get(1).map_or("", |word| word.as_str());
-    let count = words.get(2).and_then(|word| word.as_str().parse::<u32>().ok());
-    let mut is_known = false;
+    let name = words.get(1).map_or("", |word| word.as_str());
+    let count = words.get(2).map_or(Ok(0), |word| word.as_str().parse());
+    let mut is_usage = true;
     for operation in OPERATIONS {
-        if word == operation.name() || word == "all" {
-            is_known = true;
+        if name == operation.name() || name == "all" {
             match count {
-                Some(count) => run(&rt, operation, count)?,
-                None => {
-                    for count in COUNTS {
-                        run(&rt, operation, count)?;
-                    }
-                }
+                Ok(0) => run_all(&rt, operation)?,
+                Ok(count) => run(&rt, operation, count)?,
+                Err(_) => break,
             }
+            is_usage = false;
         }
     }
-    if !is_known {
+    if is_usage {
         rt.print(USAGE)?;
+    }
+    Ok(())
+}
+
+fn run_all(rt: &HostRuntime, operation: Operation) -> Result<()> {
+    for count in COUNTS {
+        run(rt, operation, count)?;
     }
     Ok(())
 }
@@ -50,6 +57,7 @@ fn main(rt: HostRuntime) -> Result<()> {
 fn run(rt: &HostRuntime, operation: Operation, count: u32) -> Result<()> {
     let name = operation.name();
     let each = nanoseconds(rt, operation, count)?;
-    println!(rt; "{name} with {count} links: {each} ns")?;
+    let in_session = session_nanoseconds(rt, operation, count)?;
+    println!(rt; "{name} with {count} links: {each} ns, through a session {in_session} ns")?;
     Ok(())
 }

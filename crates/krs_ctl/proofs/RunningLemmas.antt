@@ -1,5 +1,5 @@
 -- Lines of a script, one after the other.
-use Rattle.std.proofs.Common.{ℕ, ◌≡◌, ◌⊎◌, inl, inr, List, [], ◌∷◌, ◌++◌, Bool, true, false, Option, None, Some, Result, Ok, Err, OnOk, IfErr, refl, sym, ap, ◌∙◌, append_assoc, append-nil, arith, ◌==◌, length, map, Bor}
+use Rattle.std.proofs.Common.{ℕ, ◌≡◌, ◌⊎◌, inl, inr, List, [], ◌∷◌, ◌++◌, false, Some, Result, Ok, Err, OnOk, IfErr, refl, sym, ap, ◌∙◌, append_assoc, append-nil, ◌==◌, length, map, Bor}
 use Rattle.krs_types.specs.declared.errno.Errno.{Errno}
 use Rattle.krs_types.specs.declared.ask.Answer.{Answer}
 use Rattle.krs_ctl.specs.declared.command.Command.{Command}
@@ -13,14 +13,18 @@ use Rattle.krs_ctl.specs.Printing.{shown}
 use Rattle.krs_ctl.specs.Running.{Acts, is_skipped, TakesLine, TakesLines, ObeysLine}
 
 -- a line that is a command, and was obeyed
-TakesLine-command : (old new : Script) (line : List ℕ) (command : Command) (reply : Result Answer Errno) → is_skipped line ≡ false
-    → command_of (words_of line) ≡ Some command → Acts old command reply new → TakesLine old line (shown reply ++ 10 ∷ []) new
+TakesLine-command : (old new : Script) (line : List ℕ) (command : Command) (reply : Result Answer Errno)
+    → is_skipped line ≡ false
+    → command_of (words_of line) ≡ Some command → Acts old command reply new
+    → TakesLine old line (shown reply ++ 10 ∷ []) new
 TakesLine-command old new line command reply kept is acts = rw kept (command, reply, is, acts, refl)
 
 -- what became of such a line, by how its line was printed
-pub ObeysLine-command : (old new : Script) (line : List ℕ) (command : Command) (reply : Result Answer Errno) (Printed : List ℕ → Type 0) (r : Result (Unit {0}) Stop)
+pub ObeysLine-command : (old new : Script) (line : List ℕ) (command : Command) (reply : Result Answer Errno)
+    (Printed : List ℕ → Type 0) (r : Result (Unit {0}) Stop)
     → is_skipped line ≡ false → command_of (words_of line) ≡ Some command → Acts old command reply new
-    → OnOk r (Printed (shown reply ++ 10 ∷ [])) → (r ≡ Err Memory → Printed []) → IfErr r (λ stop. (stop ≡ Memory) ⊎ (stop ≡ Printing))
+    → OnOk r (Printed (shown reply ++ 10 ∷ [])) → (r ≡ Err Memory → Printed [])
+    → IfErr r (λ stop. (stop ≡ Memory) ⊎ (stop ≡ Printing))
     → ObeysLine old line new Printed r
 ObeysLine-command old new line command reply Printed (Ok _) kept is acts ok memory causes =
     (shown reply ++ 10 ∷ [], TakesLine-command old new line command reply kept is acts, ok)
@@ -34,16 +38,25 @@ ObeysLine-command old new line command reply Printed (Err Reading) kept is acts 
     absurd (elim causes [ inl e ↦ cc | inr e ↦ cc ])
 
 -- a line that is no comment and has words
-pub is_skipped-kept : (line : List ℕ) (words : List (Bor (List ℕ))) (n : ℕ) → false ≡ is_comment line → map (λ w. w.now) words ≡ words_of line
+pub is_skipped-kept : (line : List ℕ) (words : List (Bor (List ℕ))) (n : ℕ) → false ≡ is_comment line
+    → map (λ w. w.now) words ≡ words_of line
     → n ≡ length words → false ≡ (n == 0) → is_skipped line ≡ false
 is_skipped-kept line words n kept are count some =
     let counted : length (words_of line) ≡ n = sym (ap length are) ∙ length-map words _ ∙ sym count in
     rw (← kept, counted, ← some) refl
 
 -- one more line
-pub TakesLines-more : (a b c : Script) (lines : List (List ℕ)) (text : List ℕ) (line first : List ℕ) → TakesLines a lines text b → TakesLine b line first c
+pub TakesLines-more : (a b c : Script) (lines : List (List ℕ)) (text : List ℕ) (line first : List ℕ)
+    → TakesLines a lines text b → TakesLine b line first c
     → TakesLines a (lines ++ line ∷ []) (text ++ first) c
 TakesLines-more a b c [] text line first taken takes =
     (c, first, [], rw taken.0 at takes, rw taken.1 (sym (append-nil first)), (refl, refl))
-TakesLines-more a b c (x ∷ xs) text line first (mid, front, rest, one, is, others) takes =
-    (mid, front, rest ++ first, one, rw (is, append_assoc) refl, TakesLines-more mid b c xs rest line first others takes)
+TakesLines-more a b c (x ∷ xs) text line first (mid, front, rest, one, is, others) takes = (
+  mid,
+  front,
+  rest ++ first,
+  one,
+  rw
+      (is, append_assoc) refl,
+  TakesLines-more mid b c xs rest line first others takes,
+)

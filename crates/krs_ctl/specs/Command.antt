@@ -1,12 +1,11 @@
--- The commands of a client, a row each: docs/FORMAT.md, "The client's commands".
-use Rattle.std.specs.Prelude.{ℕ, ◌≡◌, List, [], ◌∷◌, Bool, find, bytes_eq, codes, Option, None, Some, Result, Ok, Err}
-use Rattle.krs_types.specs.declared.ask.Op.{Op}
+-- The commands of a client, a row each: docs/FORMAT.md, "Commands".
+use Rattle.std.specs.Prelude.{ℕ, List, [], ◌∷◌, find, bytes_eq, codes, Option, None, Some}
 use Rattle.krs_types.specs.declared.ask.Op.TheVariants as op
 use Rattle.krs_ctl.specs.declared.command.CommandName.{CommandName}
 use Rattle.krs_ctl.specs.declared.command.CommandName.TheVariants.{Hello, Context, Moment, Add, Print, Rdescribe, Leave}
 use Rattle.krs_ctl.specs.declared.command.Command.{Command}
 use Rattle.krs_ctl.specs.declared.command.Command.TheVariants as command
-use Rattle.krs_ctl.specs.Reading.{◌>>=◌}
+use Rattle.krs_ctl.specs.Parsed.{◌>>=◌}
 use Rattle.krs_ctl.specs.Number.{u32_of, u64_of, u32s_of, key_of, data_of}
 
 -- the first word of each command

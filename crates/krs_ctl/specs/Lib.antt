@@ -1,9 +1,10 @@
 pub mod Words
 pub mod Lines
-pub mod Reading
+pub mod Parsed
 pub mod Number
 pub mod Command
 pub mod Printing
 pub mod Script
 pub mod Writing
 pub mod Running
+pub mod Program

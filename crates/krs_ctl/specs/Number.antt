@@ -1,4 +1,4 @@
--- Numbers, keys and data as words spell them: docs/FORMAT.md, "The client's commands".
+-- Numbers, keys and data as words spell them: docs/FORMAT.md, "Lines and words"; profile, numbers in words.
 use Rattle.std.specs.Prelude.{ℕ, ◌^◌, ℤ, pos, negsuc, ◌&&◌, Bool, List, drop, length, nat_lt, nat_eq, if◌then◌else◌, bytes_eq, codes, Option, None, Some}
 use Rattle.std.specs.List.{list_all, filter_map, starts_with}
 use Rattle.std.specs.Option.{option_map, is_some}

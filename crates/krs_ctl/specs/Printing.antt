@@ -1,4 +1,4 @@
--- What a client prints for a reply: docs/FORMAT.md, "The client's commands".
+-- What is printed for a reply: docs/FORMAT.md, "What is printed".
 use Rattle.std.specs.Prelude.{ℕ, ◌&&◌, List, ◌++◌, Bool, nat_le, if◌then◌else◌, codes, Result, Ok, Err}
 use Rattle.std.specs.List.{list_all}
 use Rattle.std.specs.Fmt.{decimal}
@@ -30,4 +30,3 @@ shown_refusal e = codes "error " ++ decimal (number_of e) ++ codes " " ++ name_o
 abbrev pub shown : Result Answer Errno → List ℕ
 shown (Ok answer) = shown_answer answer
 shown (Err e) = shown_refusal e
-

@@ -1,5 +1,5 @@
--- What a script does to its store and what it prints: docs/FORMAT.md, "The client's commands".
-use Rattle.std.specs.Prelude.{ℕ, ◌≡◌, ◌≢◌, ◌⊎◌, ◌==◌, ◌||◌, List, [], ◌∷◌, ◌++◌, Bool, true, false, length, ⊤, MatchBool, IfSome, Option, Some, None, Result, Ok, Err}
+-- What a script does to its store and what it prints: docs/FORMAT.md, "Lines and words", "Commands" and "Statuses".
+use Rattle.std.specs.Prelude.{ℕ, ◌≡◌, ◌≢◌, ◌⊎◌, ◌==◌, ◌||◌, List, [], ◌∷◌, ◌++◌, Bool, false, length, ⊤, MatchBool, IfSome, Option, Some, None, Result, Ok, Err}
 use Rattle.std.specs.Result.{is_err}
 use Rattle.std.specs.Io.KnownBytes.{Appends}
 use Rattle.krs_types.specs.declared.errno.Errno.{Errno}
@@ -16,11 +16,10 @@ use Rattle.krs_ctl.specs.declared.script.ScriptEnd.{ScriptEnd}
 use Rattle.krs_ctl.specs.declared.stop.Stop.{Stop}
 use Rattle.krs_ctl.specs.declared.stop.Stop.TheVariants.{Usage, Memory, Reading, Printing}
 use Rattle.krs_ctl.specs.Words.{words_of, is_comment}
-use Rattle.krs_ctl.specs.Lines.{lines_of, ReadsLines}
+use Rattle.krs_ctl.specs.Lines.{lines_of}
 use Rattle.krs_ctl.specs.Command.{command_of}
 use Rattle.krs_ctl.specs.Printing.{shown}
 use Rattle.krs_ctl.specs.Script.{context_after, status_of, last_line}
-use Rattle.krs_ctl.specs.Writing.{Prints}
 
 -- the store served the ask, in the current context, at the current moment, as client 0; an accepted `hello` names the
 -- current context; a refusal is remembered
@@ -45,7 +44,7 @@ abbrev pub TakesLine : Script → List ℕ → List ℕ → Script → Type 0
 TakesLine old line text new = MatchBool (is_skipped line)
     ((new ≡ old) × (text ≡ []))
     ((command : Command) × (reply : Result Answer Errno) × (command_of (words_of line) ≡ Some command)
-        × Acts old command reply new × (text ≡ shown reply ++ 10 ∷ []))
+    × Acts old command reply new × (text ≡ shown reply ++ 10 ∷ []))
 
 -- lines one after the other, and all that they print
 abbrev pub TakesLines : Script → List (List ℕ) → List ℕ → Script → Type 0
@@ -54,18 +53,22 @@ TakesLines old (line ∷ lines) text new =
     (mid : Script) × (first : List ℕ) × (rest : List ℕ) × TakesLine old line first mid × (text ≡ first ++ rest)
     × TakesLines mid lines rest new
 
+-- the lines of a reader begin with these; of a reader that does not tell its bytes this says nothing
+abbrev pub BeginsWith : Option (List ℕ) → List (List ℕ) → Type 0
+BeginsWith input lines = IfSome input (λ bytes. (rest : List (List ℕ)) × (lines_of bytes ≡ lines ++ rest))
+
 -- Where a script stopped: at the end of its lines; before a line that is no command; or, for want of memory and where
--- reading or printing failed, anywhere. Of a reader that does not tell its bytes this says nothing.
+-- reading or printing failed, anywhere.
 abbrev pub StopsBehind : Option (List ℕ) → List (List ℕ) → Result (Unit {0}) Stop → Type 0
 StopsBehind input lines (Ok _) = IfSome input (λ bytes. lines_of bytes ≡ lines)
-StopsBehind input lines (Err Usage) = (bad : List ℕ) × (is_skipped bad ≡ false) × (command_of (words_of bad) ≡ None)
-    × IfSome input (λ bytes. (rest : List (List ℕ)) × (lines_of bytes ≡ lines ++ bad ∷ rest))
-StopsBehind input lines (Err Memory) = IfSome input (λ bytes. (rest : List (List ℕ)) × (lines_of bytes ≡ lines ++ rest))
-StopsBehind input lines (Err Reading) = IfSome input (λ bytes. (rest : List (List ℕ)) × (lines_of bytes ≡ lines ++ rest))
-StopsBehind input lines (Err Printing) = IfSome input (λ bytes. (rest : List (List ℕ)) × (lines_of bytes ≡ lines ++ rest))
+StopsBehind input lines (Err Usage) =
+    (bad : List ℕ) × (is_skipped bad ≡ false) × (command_of (words_of bad) ≡ None)
+    × BeginsWith input (lines ++ bad ∷ [])
+StopsBehind input lines (Err Memory) = BeginsWith input lines
+StopsBehind input lines (Err Reading) = BeginsWith input lines
+StopsBehind input lines (Err Printing) = BeginsWith input lines
 
--- What of the text was printed: all, but that want of memory may have come before the last of it. Of a writer that failed
--- nothing is known.
+-- What of the text was printed: all of it; a beginning where memory was wanting; of a writer that failed nothing is known.
 abbrev pub IsPrinted : Result (Unit {0}) Stop → List ℕ → List ℕ → Type 0
 IsPrinted (Ok _) text printed = printed ≡ text
 IsPrinted (Err Usage) text printed = printed ≡ text
@@ -73,17 +76,20 @@ IsPrinted (Err Memory) text printed = (rest : List ℕ) × (text ≡ printed ++ 
 IsPrinted (Err Reading) text printed = printed ≡ text
 IsPrinted (Err Printing) text printed = ⊤
 
--- one line was obeyed, or why not, from one writer and what waits for it to another
+-- What became of one line, and what was printed: it was obeyed; it is no command; memory was wanting, before it or for
+-- what it prints; or writing failed.
 abbrev pub ObeysLine : Script → List ℕ → Script → (List ℕ → Type 0) → Result (Unit {0}) Stop → Type 0
 ObeysLine old line new Printed (Ok _) = (text : List ℕ) × TakesLine old line text new × Printed text
 ObeysLine old line new Printed (Err Usage) =
     (new ≡ old) × (is_skipped line ≡ false) × (command_of (words_of line) ≡ None) × Printed []
-ObeysLine old line new Printed (Err Memory) = ((new ≡ old) ⊎ ((text : List ℕ) × TakesLine old line text new)) × Printed []
+ObeysLine old line new Printed (Err Memory) =
+    ((new ≡ old) ⊎ ((text : List ℕ) × TakesLine old line text new)) × Printed []
 ObeysLine old line new Printed (Err Reading) = ⊥
 ObeysLine old line new Printed (Err Printing) = (text : List ℕ) × TakesLine old line text new
 
--- the lines of a reader were obeyed, as far as the script went
-pub record Runs (input : Option (List ℕ)) (old new : Script) (Printed : List ℕ → Type 0) (stopped : Result (Unit {0}) Stop) : Type 0 where
+-- lines of a reader were obeyed from one script to another, as far as it went, and this was printed
+pub record Runs (input : Option (List ℕ)) (old new : Script) (Printed : List ℕ → Type 0)
+    (stopped : Result (Unit {0}) Stop) : Type 0 where
   pub lines : List (List ℕ)
   pub text : List ℕ
   pub printed : List ℕ
@@ -96,9 +102,10 @@ pub record Runs (input : Option (List ℕ)) (old new : Script) (Printed : List �
 abbrev pub script_on : State → Script
 script_on store = record { store = store; context = 0; moment = 0; refused = false }
 
--- A whole script: the store that it hands back is the one that its lines lead to, and what was written is what they print
--- and the last line of a script that stopped, with the status of that; or writing failed.
-pub record EndsScript (input : Option (List ℕ)) (old new : Option (List ℕ)) (store : State) (end : ScriptEnd) : Type 0 where
+-- A whole script: the store that it hands back is the one that its lines lead to, and what was written is what they
+-- print and the last line of a script that stopped, with the status of that; or writing failed.
+pub record EndsScript (input : Option (List ℕ)) (old new : Option (List ℕ)) (store : State) (end : ScriptEnd)
+    : Type 0 where
   pub lines : List (List ℕ)
   pub text : List ℕ
   pub printed : List ℕ

@@ -1,19 +1,19 @@
--- How a script goes and ends: docs/FORMAT.md, "The client's commands".
-use Rattle.std.specs.Prelude.{ℕ, ◌≡◌, Bool, true, false, if◌then◌else◌, List, [], codes, Result, Ok, Err}
+-- How a script goes on and ends: docs/FORMAT.md, "Lines and words" and "Statuses".
+use Rattle.std.specs.Prelude.{ℕ, Bool, if◌then◌else◌, List, [], codes, Result, Ok, Err}
 use Rattle.krs_types.specs.declared.errno.Errno.{Errno}
 use Rattle.krs_types.specs.declared.ask.Op.{Op}
 use Rattle.krs_types.specs.declared.ask.Op.TheVariants as op
 use Rattle.krs_types.specs.declared.ask.Answer.{Answer}
-use Rattle.krs_types.specs.declared.ask.Answer.TheVariants.{Nothing, Number, Bytes}
-use Rattle.krs_ctl.specs.declared.fault.Fault.{Fault}
-use Rattle.krs_ctl.specs.declared.fault.Fault.TheVariants as fault
+use Rattle.krs_types.specs.declared.ask.Answer.TheVariants.{Number}
+use Rattle.krs_ctl.specs.declared.no_command.NoCommand.{NoCommand}
+use Rattle.krs_ctl.specs.declared.no_command.NoCommand.TheVariants as no_command
 use Rattle.krs_ctl.specs.declared.stop.Stop.{Stop}
 use Rattle.krs_ctl.specs.declared.stop.Stop.TheVariants.{Usage, Memory, Reading, Printing}
 
 -- words that give no command stop the script
-abbrev pub stop_of : Fault → Stop
-stop_of fault.Usage = Usage
-stop_of fault.Memory = Memory
+abbrev pub stop_of : NoCommand → Stop
+stop_of no_command.Usage = Usage
+stop_of no_command.Memory = Memory
 
 -- the status of a script: 0, or 1 where an ask was refused; where it stopped, by its cause
 abbrev pub status_of : Result (Unit {0}) Stop → Bool → ℕ

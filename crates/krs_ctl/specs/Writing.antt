@@ -1,8 +1,7 @@
 -- What a script has printed: what its writer holds, and what still waits to be written to it.
-use Rattle.std.specs.Prelude.{ℕ, ◌≡◌, ◌⊎◌, List, Bool, Option, Result, Ok, Err}
+use Rattle.std.specs.Prelude.{ℕ, ◌≡◌, ◌⊎◌, List, Bool, Option, Result}
 use Rattle.std.specs.Io.KnownBytes.{append_known, Appends}
 use Rattle.krs_ctl.specs.declared.stop.Stop.{Stop}
-use Rattle.krs_ctl.specs.declared.stop.Stop.TheVariants.{Usage, Memory, Reading, Printing}
 use Rattle.krs_ctl.specs.Script.{status_of, last_line}
 
 -- from one writer and what waits for it to another this text was printed

@@ -1,8 +1,8 @@
 ghost use Rattle.std.specs.Prelude.{◌≡◌, map};
 ghost use Rattle.krs_ctl.specs.Command.{spelling, name_of_word, hello_of, context_of, moment_of, add_of, print_of, rdescribe_of, leave_of, command_of};
-ghost use Rattle.krs_ctl.specs.Reading.{Reads};
+ghost use Rattle.krs_ctl.specs.Parsed.{Reads};
 
-use crate::fault::Fault;
+use crate::no_command::NoCommand;
 use crate::number::{data_word, groups_words, key_word, u32_word, u64_word};
 use krs_types::{Blob, Caller, Op};
 use std::alloc::Global;
@@ -68,13 +68,13 @@ impl CommandName {
 }
 
 /// The command that these words are.
-pub fn parse(alloc: Global, words: &[&[u8]]) -> Result<Command, Fault>
+pub fn parse(alloc: Global, words: &[&[u8]]) -> Result<Command, NoCommand>
     ensures { Reads result (command_of (map (λ w. w.now) words.now)) }
 {
     let [word, args @ ..] = words else {
-        return Err(Fault::Usage);
+        return Err(NoCommand::Usage);
     };
-    match CommandName::of_word(word).ok_or(Fault::Usage)? {
+    match CommandName::of_word(word).ok_or(NoCommand::Usage)? {
         CommandName::Hello => hello(alloc, args),
         CommandName::Context => context(args),
         CommandName::Moment => moment(args),
@@ -85,44 +85,44 @@ pub fn parse(alloc: Global, words: &[&[u8]]) -> Result<Command, Fault>
     }
 }
 
-fn hello(alloc: Global, args: &[&[u8]]) -> Result<Command, Fault>
+fn hello(alloc: Global, args: &[&[u8]]) -> Result<Command, NoCommand>
     ensures { Reads result (hello_of (map (λ w. w.now) args.now)) }
 {
     let [uid, gid, groups @ ..] = args else {
-        return Err(Fault::Usage);
+        return Err(NoCommand::Usage);
     };
-    let uid = u32_word(uid).ok_or(Fault::Usage)?;
-    let gid = u32_word(gid).ok_or(Fault::Usage)?;
+    let uid = u32_word(uid).ok_or(NoCommand::Usage)?;
+    let gid = u32_word(gid).ok_or(NoCommand::Usage)?;
     let groups = groups_words(alloc, groups)?;
     Ok(Command::Ask(Op::Hello(Caller { uid, gid, groups })))
 }
 
-fn context(args: &[&[u8]]) -> Result<Command, Fault>
+fn context(args: &[&[u8]]) -> Result<Command, NoCommand>
     ensures { Reads result (context_of (map (λ w. w.now) args.now)) }
 {
     let [number] = args else {
-        return Err(Fault::Usage);
+        return Err(NoCommand::Usage);
     };
-    Ok(Command::Context(u32_word(number).ok_or(Fault::Usage)?))
+    Ok(Command::Context(u32_word(number).ok_or(NoCommand::Usage)?))
 }
 
-fn moment(args: &[&[u8]]) -> Result<Command, Fault>
+fn moment(args: &[&[u8]]) -> Result<Command, NoCommand>
     ensures { Reads result (moment_of (map (λ w. w.now) args.now)) }
 {
     let [number] = args else {
-        return Err(Fault::Usage);
+        return Err(NoCommand::Usage);
     };
-    Ok(Command::Moment(u64_word(number).ok_or(Fault::Usage)?))
+    Ok(Command::Moment(u64_word(number).ok_or(NoCommand::Usage)?))
 }
 
-fn add(alloc: Global, args: &[&[u8]]) -> Result<Command, Fault>
+fn add(alloc: Global, args: &[&[u8]]) -> Result<Command, NoCommand>
     ensures { Reads result (add_of (map (λ w. w.now) args.now)) }
 {
     let [type_name, desc, payload, ring] = args else {
-        return Err(Fault::Usage);
+        return Err(NoCommand::Usage);
     };
     let payload = data_word(alloc, payload)?;
-    let ring = key_word(ring).ok_or(Fault::Usage)?;
+    let ring = key_word(ring).ok_or(NoCommand::Usage)?;
     Ok(Command::Ask(Op::Add {
         type_name: Blob::from_slice(alloc, type_name)?,
         desc: Blob::from_slice(alloc, desc)?,
@@ -131,31 +131,31 @@ fn add(alloc: Global, args: &[&[u8]]) -> Result<Command, Fault>
     }))
 }
 
-fn print(args: &[&[u8]]) -> Result<Command, Fault>
+fn print(args: &[&[u8]]) -> Result<Command, NoCommand>
     ensures { Reads result (print_of (map (λ w. w.now) args.now)) }
 {
     let [key] = args else {
-        return Err(Fault::Usage);
+        return Err(NoCommand::Usage);
     };
-    let id = key_word(key).ok_or(Fault::Usage)?;
+    let id = key_word(key).ok_or(NoCommand::Usage)?;
     Ok(Command::Ask(Op::Read { id }))
 }
 
-fn rdescribe(args: &[&[u8]]) -> Result<Command, Fault>
+fn rdescribe(args: &[&[u8]]) -> Result<Command, NoCommand>
     ensures { Reads result (rdescribe_of (map (λ w. w.now) args.now)) }
 {
     let [key] = args else {
-        return Err(Fault::Usage);
+        return Err(NoCommand::Usage);
     };
-    let id = key_word(key).ok_or(Fault::Usage)?;
+    let id = key_word(key).ok_or(NoCommand::Usage)?;
     Ok(Command::Ask(Op::Describe { id }))
 }
 
-fn leave(args: &[&[u8]]) -> Result<Command, Fault>
+fn leave(args: &[&[u8]]) -> Result<Command, NoCommand>
     ensures { Reads result (leave_of (map (λ w. w.now) args.now)) }
 {
     let [] = args else {
-        return Err(Fault::Usage);
+        return Err(NoCommand::Usage);
     };
     Ok(Command::Ask(Op::Leave))
 }

@@ -3,8 +3,8 @@
 #![tactic(auto)]
 
 mod command;
-mod fault;
 mod lines;
+mod no_command;
 mod number;
 mod printing;
 mod program;

@@ -2,9 +2,9 @@ ghost use Rattle.std.specs.Prelude.{◌≡◌, map};
 ghost use Rattle.std.specs.Char.{is_ascii_digit};
 ghost use Rattle.std.specs.List.{list_all};
 ghost use Rattle.krs_ctl.specs.Number.{u64_of, u32_of, u32s_of, key_of, data_of};
-ghost use Rattle.krs_ctl.specs.Reading.{Reads};
+ghost use Rattle.krs_ctl.specs.Parsed.{Reads};
 
-use crate::fault::Fault;
+use crate::no_command::NoCommand;
 use krs_types::{Blob, Groups};
 use std::alloc::Global;
 
@@ -35,13 +35,13 @@ pub fn u32_word(word: &[u8]) -> Option<u32>
 }
 
 /// The groups that these words name.
-pub fn groups_words(alloc: Global, words: &[&[u8]]) -> Result<Groups, Fault>
+pub fn groups_words(alloc: Global, words: &[&[u8]]) -> Result<Groups, NoCommand>
     ensures { Reads result (u32s_of (map (λ w. w.now) words.now)) }
 {
     let mut gids = Vec::new(alloc);
     for word in words {
         let Some(gid) = u32_word(word) else {
-            return Err(Fault::Usage);
+            return Err(NoCommand::Usage);
         };
         gids.push(gid)?;
     }
@@ -63,15 +63,15 @@ pub fn key_word(word: &[u8]) -> Option<i32>
 }
 
 /// The payload that a word spells.
-pub fn data_word(alloc: Global, word: &[u8]) -> Result<Blob, Fault>
+pub fn data_word(alloc: Global, word: &[u8]) -> Result<Blob, NoCommand>
     ensures { Reads result (data_of word.now) }
 {
     match word.strip_prefix(b"hex:") {
         None => Ok(Blob::from_slice(alloc, word)?),
         Some(digits) => match hex::decode(alloc, digits) {
             Ok(bytes) => Ok(Blob::new(bytes)),
-            Err(hex::FromHexError::OutOfMemory) => Err(Fault::Memory),
-            Err(_) => Err(Fault::Usage),
+            Err(hex::FromHexError::OutOfMemory) => Err(NoCommand::Memory),
+            Err(_) => Err(NoCommand::Usage),
         },
     }
 }

@@ -1,3 +1,5 @@
+ghost use Rattle.krs_ctl.specs.Program.{Answers, Says};
+
 use crate::script::run_script;
 use crate::writing::{OUT_OF_MEMORY, USAGE, write_text};
 use clap::error::ErrorKind;
@@ -10,7 +12,8 @@ use std::io::{Read, Write};
 
 const WORDS: &str = "COMMAND";
 
-const ABOUT: &str = "A client of a key store that works as Linux's key retention service does: keyrings(7), keyctl(2).";
+const ABOUT: &str =
+    "A client of a key store that works as Linux's key retention service does: keyrings(7), keyctl(2).";
 
 const WORDS_HELP: &str =
     "script: runs the lines of standard input, one command each, on a store of their own";
@@ -40,7 +43,9 @@ pub fn run_program<R: Read + Drop, W: Write, E: Write>(
     input: R,
     output: &mut W,
     errors: &mut E,
-) -> u8 {
+) -> u8
+    ensures { Answers (R.remaining input) (W.contents output.old) (W.contents output.new) result }
+{
     let words: Vec<String> = match words {
         Ok(words) => match words.collect(alloc) {
             Ok(words) => words,
@@ -91,7 +96,9 @@ fn command_line<'a>(alloc: Global) -> Result<Command<'a>, AllocError> {
         .arg(words)
 }
 
-fn last_words<W: Write>(output: &mut W, text: &str, status: u8) -> u8 {
+fn last_words<W: Write>(output: &mut W, text: &str, status: u8) -> u8
+    ensures { Says (W.contents output.old) (W.contents output.new) text.now status result }
+{
     match write_text(output, text.as_bytes()) {
         Ok(()) => status,
         Err(_) => 3,

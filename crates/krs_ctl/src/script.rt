@@ -37,7 +37,8 @@ pub fn run_script<R: Read + Drop, W: Write>(
     writer: &mut W,
     store: Store,
 ) -> ScriptEnd
-    ensures { EndsScript (R.remaining reader) (W.contents writer.old) (W.contents writer.new) store result }
+    ensures { EndsScript (R.remaining reader) (W.contents writer.old) (W.contents writer.new)
+        store result }
 {
     let mut script = Script {
         store,

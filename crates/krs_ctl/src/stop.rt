@@ -2,7 +2,7 @@ ghost use Rattle.std.specs.Prelude.{◌≡◌};
 ghost use Rattle.krs_ctl.specs.declared.stop.Stop.TheVariants.{Memory};
 ghost use Rattle.krs_ctl.specs.Script.{stop_of};
 
-use crate::fault::Fault;
+use crate::no_command::NoCommand;
 use std::alloc::{AllocError, AllocFailed};
 
 /// Why a script stops before the end of its lines.
@@ -18,13 +18,13 @@ pub enum Stop {
     Printing,
 }
 
-impl From<Fault> for Stop {
-    ghost from_gives = { λ fault stop. stop ≡ stop_of fault };
+impl From<NoCommand> for Stop {
+    ghost from_gives = { λ cause stop. stop ≡ stop_of cause };
 
-    fn from(fault: Fault) -> Stop {
-        match fault {
-            Fault::Usage => Stop::Usage,
-            Fault::Memory => Stop::Memory,
+    fn from(cause: NoCommand) -> Stop {
+        match cause {
+            NoCommand::Usage => Stop::Usage,
+            NoCommand::Memory => Stop::Memory,
         }
     }
 }

@@ -79,8 +79,14 @@ fn any_bytes(rt: HostRuntime) -> Result<(), Fail> {
         input.push(0)?;
     }
     let mut output = Vec::new(rt.alloc());
-    let end = run_script(rt.alloc(), input.as_slice(), &mut output, Store::new(rt.alloc()));
-    let wanted = "1\nerror 22 EINVAL\n5\n:hex:757365723b313030303b313030303b33663031303030303bff80\n:hex:fe\n";
+    let end = run_script(
+        rt.alloc(),
+        input.as_slice(),
+        &mut output,
+        Store::new(rt.alloc()),
+    );
+    let wanted =
+        "1\nerror 22 EINVAL\n5\n:hex:757365723b313030303b313030303b33663031303030303bff80\n:hex:fe\n";
     assert_eq!(rt; output.as_slice(), wanted.as_bytes());
     assert_eq!(rt; end.status, 1);
     Ok(())
@@ -158,7 +164,12 @@ const ENDS: [(usize, usize, u8, usize); 8] = [
 
 #[test]
 fn a_line_at_a_time(rt: HostRuntime) -> Result<(), Fail> {
-    let lines = ["hello 1000 1000\n", "add user alpha s3 @u\n", "print 5\n", "rdescribe 5\n"];
+    let lines = [
+        "hello 1000 1000\n",
+        "add user alpha s3 @u\n",
+        "print 5\n",
+        "rdescribe 5\n",
+    ];
     for (reads, writes, status, count) in ENDS {
         let written = Cell::new(0);
         let reader = LineByLine {
@@ -173,7 +184,11 @@ fn a_line_at_a_time(rt: HostRuntime) -> Result<(), Fail> {
         };
         let end = run_script(rt.alloc(), reader, &mut writer, Store::new(rt.alloc()));
         assert_eq!(rt; end.status, status, "reads to {reads}, writes to {writes}");
-        assert_eq!(rt; written.get(), count, "reads to {reads}, writes to {writes}");
+        assert_eq!(rt;
+            written.get(),
+            count,
+            "reads to {reads}, writes to {writes}"
+        );
     }
     Ok(())
 }
@@ -224,9 +239,11 @@ fn programs(rt: HostRuntime) -> Result<(), Fail> {
     let alloc = rt.alloc();
     for (words, status, begins, has_errors) in PROGRAMS {
         let mut args = Vec::new(alloc);
-        args.push(String::from_str(alloc, "keyretain")?).map_err(AllocError::from)?;
+        args.push(String::from_str(alloc, "keyretain")?)
+            .map_err(AllocError::from)?;
         for word in words {
-            args.push(String::from_str(alloc, word)?).map_err(AllocError::from)?;
+            args.push(String::from_str(alloc, word)?)
+                .map_err(AllocError::from)?;
         }
         let mut output = Vec::new(alloc);
         let mut errors = Vec::new(alloc);

@@ -41,7 +41,8 @@ pub fn print_reply<W: Write>(
 
 /// Writes all that waits to be written.
 pub fn write_out<W: Write>(writer: &mut W, pending: &mut Vec<u8>) -> Result<(), Stop>
-    ensures ok { OnOk result (Appends (W.contents writer.old) (W.contents writer.new) pending.old.items) }
+    ensures ok { OnOk result (Appends (W.contents writer.old) (W.contents writer.new)
+        pending.old.items) }
     ensures empty { pending.new.items ≡ [] }
     ensures causes { IfErr result (λ stop. stop ≡ Stop.Printing) }
 {

@@ -7,4 +7,4 @@ pub returns : goal.returns
 returns c =
     map_from_collect _ c.collect.ensures.ran
     (YieldsList-from_slice_split _ _ c.args.line.now c.split.ensures.rest c.split.ensures.done c.split.ensures.closure
-        (λ x b q k. search (rules, tests)))
+    (λ x b q k. search (rules, tests)))

@@ -6,5 +6,11 @@ use Rattle.krs_ctl.proofs.words.words.Goals as goal
 
 pub returns : goal.returns
 returns c =
-    let kept = filter_from_retain _ (λ w. not (length w.now == 0)) (λ p x b q k. search (rules, tests)) _ _ _ c.retain.ensures.filtered in
-    rw (kept, map-filter (λ w. w.now) (λ w. not (length w == 0)) c.in_ok-words.words.items, c.in_ok-words.ensures) refl
+    let kept = filter_from_retain _ (λ w. not (length w.now == 0)) (λ p x b q k. search
+    (rules, tests)) _ _ _ c.retain.ensures.filtered in
+    rw (
+      kept,
+      map-filter (λ w. w.now) (λ w. not
+          (length w == 0)) c.in_ok-words.words.items,
+      c.in_ok-words.ensures,
+    ) refl

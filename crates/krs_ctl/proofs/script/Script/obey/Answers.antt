@@ -1,4 +1,4 @@
-use Rattle.std.proofs.Common.{◌≡◌, false, sym, Some}
+use Rattle.std.proofs.Common.{◌≡◌, false, Some}
 use Rattle.krs_ctl.specs.Words.{words_of}
 use Rattle.krs_ctl.specs.Command.{command_of}
 use Rattle.krs_ctl.specs.Running.{is_skipped}
@@ -8,8 +8,9 @@ use Rattle.krs_ctl.proofs.script.Script.obey.Goals as goal
 pub returns : goal.returns
 returns g c =
     let kept : is_skipped c.args.line.now ≡ false =
-        is_skipped-kept c.args.line.now c.in_ok-words.words.items _ c.if-is_comment.ensures c.in_ok-words.ensures c.in_ok-words.words.ok.0 c.if-is_empty.ensures in
+    is_skipped-kept c.args.line.now c.in_ok-words.words.items _ c.if-is_comment.ensures c.in_ok-words.ensures
+    c.in_ok-words.words.ok.0 c.if-is_empty.ensures in
     let is : command_of (words_of c.args.line.now) ≡ Some c.in_ok-command.command =
-        rw (c.as_slice.ensures.value, c.in_ok-words.ensures) at c.in_ok-command.ensures in
-    ObeysLine-command c.args.self.now c.act-reply.new.self c.args.line.now c.in_ok-command.command c.act-reply.result _ c.print_reply.result kept is
-    c.act-reply.ensures c.print_reply.ensures.ok c.print_reply.ensures.memory c.print_reply.ensures.causes
+    rw (c.as_slice.ensures.value, c.in_ok-words.ensures) at c.in_ok-command.ensures in
+    ObeysLine-command c.args.self.now c.act-reply.new.self c.args.line.now c.in_ok-command.command c.act-reply.result _
+    c.print_reply.result kept is c.act-reply.ensures c.print_reply.ensures.ok c.print_reply.ensures.memory c.print_reply.ensures.causes

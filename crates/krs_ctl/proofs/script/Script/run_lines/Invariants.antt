@@ -5,5 +5,7 @@ use Rattle.krs_ctl.proofs.script.Script.run_lines.Given as goal
 
 abbrev pub invariant-loop : goal.invariant-loop
 invariant-loop g l =
-    Going (reader_remaining g.R.Read.remaining l.initial.reader) (reader_remaining g.R.Read.remaining l.reader) l.initial.self l.self
-    (Prints (g.W.Write.contents l.initial.writer) l.initial.pending.items (g.W.Write.contents l.writer) l.pending.items)
+    Going (reader_remaining g.R.Read.remaining l.initial.reader)
+    (reader_remaining g.R.Read.remaining l.reader) l.initial.self l.self
+    (Prints (g.W.Write.contents l.initial.writer) l.initial.pending.items
+    (g.W.Write.contents l.writer) l.pending.items)

@@ -1,7 +1,7 @@
 -- What reading words gives: a value, or none where they are no command.
 use Rattle.std.specs.Prelude.{◌≡◌, ⊤, Option, None, Some, Result, Ok, Err}
-use Rattle.krs_ctl.specs.declared.fault.Fault.{Fault}
-use Rattle.krs_ctl.specs.declared.fault.Fault.TheVariants.{Usage, Memory}
+use Rattle.krs_ctl.specs.declared.no_command.NoCommand.{NoCommand}
+use Rattle.krs_ctl.specs.declared.no_command.NoCommand.TheVariants.{Usage, Memory}
 
 infixl 10 ◌>>=◌
 -- what follows a value; without one the rest is none too
@@ -10,7 +10,7 @@ None >>= f = None
 (Some x) >>= f = f x
 
 -- the answer is the value that is wanted, or usage where none is; want of memory may stand for either
-abbrev pub Reads : {A : Type 0} → Result A Fault → Option A → Type 0
+abbrev pub Reads : {A : Type 0} → Result A NoCommand → Option A → Type 0
 Reads (Ok x) wanted = wanted ≡ Some x
 Reads (Err Usage) wanted = wanted ≡ None
 Reads (Err Memory) wanted = ⊤
