@@ -18,7 +18,8 @@ use Rattle.krs_model.specs.Levels.{is_in}
 use Rattle.krs_model.specs.Linking.{is_named, link_named, with_link, linking}
 use Rattle.krs_model.specs.Sweep.{IsHeld, Attached, Linked, AllHeld, linked_by, roots, context_roots, process_roots, uid_roots}
 use Rattle.krs_model.specs.Asks.Hello.{with_context, with_uid, uid_ring}
-use Rattle.krs_model.specs.Asks.Adding.{updated, paid_with, made, IsRing}
+use Rattle.krs_model.specs.Asks.Adding.{made, IsRing}
+use Rattle.krs_model.specs.Asks.Changing.{updated, paid_with}
 use Rattle.krs_model.proofs.Tables.{at_put_same, at_put_other, at_or_apart, at_alter_same, at_alter_other}
 use Rattle.krs_model.proofs.Levels.{in_left, in_right, in_one, or_true, same_is}
 use Rattle.krs_model.proofs.Sweeps.{held_on, attached_more, attached_put}

@@ -1,4 +1,5 @@
 pub mod Hello
 pub mod Adding
+pub mod Changing
 pub mod Reading
 pub mod Leaving

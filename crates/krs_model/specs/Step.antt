@@ -5,13 +5,14 @@ use Rattle.krs_types.specs.declared.errno.Errno.TheVariants.{ENOMEM}
 use Rattle.krs_types.specs.declared.ask.Answer.{Answer}
 use Rattle.krs_types.specs.declared.ask.Answer.TheVariants.{Nothing}
 use Rattle.krs_types.specs.declared.ask.Op.{Op}
-use Rattle.krs_types.specs.declared.ask.Op.TheVariants.{Hello, Add, Read, Describe, Leave}
+use Rattle.krs_types.specs.declared.ask.Op.TheVariants.{Hello, Add, Update, Revoke, Chown, SetPerm, SetTimeout, Read, Describe, Leave}
 use Rattle.krs_types.specs.declared.event.Event.{Event}
 use Rattle.krs_model.specs.State.{State, raised}
 use Rattle.krs_model.specs.Sweep.{IsSweep}
 use Rattle.krs_model.specs.Outcome.{Outcome}
 use Rattle.krs_model.specs.Asks.Hello.{hello}
 use Rattle.krs_model.specs.Asks.Adding.{add}
+use Rattle.krs_model.specs.Asks.Changing.{update, revoke, chown, set_perm, set_timeout}
 use Rattle.krs_model.specs.Asks.Reading.{read, describe}
 use Rattle.krs_model.specs.Asks.Leaving.{left}
 
@@ -19,6 +20,11 @@ use Rattle.krs_model.specs.Asks.Leaving.{left}
 abbrev pub outcome_of : State → ℕ → ℕ → Op → Outcome
 outcome_of s client context (Hello caller) = hello s client caller
 outcome_of s client context (Add type_name desc payload ring) = add s client context type_name desc payload ring
+outcome_of s client context (Update id payload) = update s client context id payload
+outcome_of s client context (Revoke id) = revoke s client context id
+outcome_of s client context (Chown id uid gid) = chown s client context id uid gid
+outcome_of s client context (SetPerm id mask) = set_perm s client context id mask
+outcome_of s client context (SetTimeout id seconds) = set_timeout s client context id seconds
 outcome_of s client context (Read id) = read s client context id
 outcome_of s client context (Describe id) = describe s client context id
 outcome_of s client context Leave = Ok (left s client, Nothing)
@@ -28,6 +34,11 @@ outcome_of s client context Leave = Ok (left s client, Nothing)
 abbrev pub grows : Op → Bool
 grows (Hello caller) = true
 grows (Add type_name desc payload ring) = true
+grows (Update id payload) = true
+grows (Revoke id) = true
+grows (Chown id uid gid) = true
+grows (SetPerm id mask) = true
+grows (SetTimeout id seconds) = true
 grows (Read id) = true
 grows (Describe id) = true
 grows Leave = false

@@ -19,6 +19,31 @@ pub enum Op {
         payload: Blob,
         ring: i32,
     },
+    /// Another payload for a key: keyctl(2), KEYCTL_UPDATE.
+    Update {
+        id: i32,
+        payload: Blob,
+    },
+    /// The end of a key, for good: keyctl(2), KEYCTL_REVOKE.
+    Revoke {
+        id: i32,
+    },
+    /// Another owner and group of a key. 4294967295 leaves what it stands for: keyctl(2), KEYCTL_CHOWN.
+    Chown {
+        id: i32,
+        uid: u32,
+        gid: u32,
+    },
+    /// Another permission mask of a key: keyctl(2), KEYCTL_SETPERM.
+    SetPerm {
+        id: i32,
+        mask: u32,
+    },
+    /// When the time of a key is over, in seconds from now; never for 0: keyctl(2), KEYCTL_SET_TIMEOUT.
+    SetTimeout {
+        id: i32,
+        seconds: u32,
+    },
     /// The payload of a key: keyctl(2), KEYCTL_READ.
     Read {
         id: i32,

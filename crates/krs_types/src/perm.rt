@@ -32,6 +32,9 @@ impl Perm {
     /// The mask of a key that ADD makes: all for its possessor, VIEW for its user. Profile, masks of new keys.
     pub const OF_KEY: Perm = Perm { mask: 0x3f01_0000 };
 
+    /// The mask of a logon key that ADD makes: all but READ for its possessor, VIEW for its user.
+    pub const OF_LOGON: Perm = Perm { mask: 0x3d01_0000 };
+
     /// The mask of the keyrings of a uid: all but SETATTR for its possessor, all for its user.
     pub const OF_UID: Perm = Perm { mask: 0x1f3f_0000 };
 

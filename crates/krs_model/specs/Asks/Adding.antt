@@ -18,12 +18,13 @@ use Rattle.krs_model.specs.Access.{is_alive, rights_on}
 use Rattle.krs_model.specs.Possession.{possessed}
 use Rattle.krs_model.specs.Lookup.{context_of, look_up}
 use Rattle.krs_model.specs.Linking.{ring_links, link_named, linking, has_room}
+use Rattle.krs_model.specs.Asks.Changing.{changed, updated}
 use Rattle.krs_model.specs.Outcome.{Outcome}
 
--- only user keys can be made so far: the other two types are as if unknown
+-- keyrings can not be made yet: their type is as if unknown
 abbrev pub if_built : Kind → Result Kind Errno
 if_built User = Ok User
-if_built Logon = Err ENODEV
+if_built Logon = Ok Logon
 if_built Keyring = Err ENODEV
 
 -- what is asked for is a key that may be made, and this is its name
@@ -64,28 +65,25 @@ place_of s c name ring = do
   links ← ring_links found.1.content
   by_match s c found.0 links (link_named s.keys name links)
 
--- a key of its maker, with the mask 3f010000: profile, masks of new keys
+-- 3f010000, for a logon key 3d010000: profile, masks of new keys
+abbrev pub first_perm : Kind → ℕ
+first_perm User = 1057030144
+first_perm Logon = 1023475712
+first_perm Keyring = 1057030144
+
+-- a key of its maker
 abbrev pub new_key : Name → List ℕ → Caller → Key
 new_key name payload c = record {
   kind = name.kind;
   desc = name.desc;
   uid = c.uid;
   gid = c.gid;
-  perm = 1057030144;
+  perm = first_perm name.kind;
   expiry = None;
   revoked = false;
   joined = false;
   content = Payload payload;
 }
-
--- another payload in the place of the one that is there; a keyring has none
-abbrev pub paid_with : List ℕ → Content → Content
-paid_with payload (Payload old) = Payload payload
-paid_with payload (Links serials) = Links serials
-
--- another payload, and no expiry any more
-abbrev pub updated : List ℕ → Key → Key
-updated payload key = record key { content = paid_with payload key.content; expiry = None }
 
 -- a new key of that name under the next serial, linked by that keyring
 abbrev pub made : State → ℕ → Name → Key → State
@@ -99,7 +97,7 @@ abbrev pub IsRing : State → ℕ → Type 0
 IsRing s serial = (key : Key) × (at s.keys serial ≡ Some key) × (links : List ℕ) × (key.content ≡ Links links)
 
 abbrev pub added : State → Context → Name → List ℕ → Place → State
-added s c name payload (Updated serial) = record s { keys = alter s.keys serial (updated payload) }
+added s c name payload (Updated serial) = changed s serial (updated payload)
 added s c name payload (Made ring) = made s ring name (new_key name payload c.caller)
 
 abbrev pub added_serial : State → Place → ℕ
