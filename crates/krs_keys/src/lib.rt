@@ -9,3 +9,6 @@ mod sweep;
 pub use key::{Change, Content, Key};
 pub use key_table::KeyTable;
 pub use links::Links;
+
+#[cfg(test)]
+mod tests;

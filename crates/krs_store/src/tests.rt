@@ -67,6 +67,16 @@ fn describe(context: u32, id: i32) -> Ask {
     }
 }
 
+fn update(alloc: Global, id: i32, payload: &[u8]) -> Result<Ask, AllocError> {
+    let payload = Blob::from_slice(alloc, payload)?;
+    Ok(change(Op::Update { id, payload }))
+}
+
+/// An ask of the first context.
+fn change(op: Op) -> Ask {
+    Ask { context: 1, op }
+}
+
 fn leave() -> Ask {
     Ask {
         context: 0,
@@ -146,9 +156,9 @@ fn lengths_and_type_names(rt: HostRuntime) -> Result<(), Fail> {
         ),
         (
             "not built yet",
-            b"logon",
-            b"a:b",
-            b"x",
+            b"keyring",
+            b"a",
+            b"",
             Want::Refused(Errno::ENODEV),
         ),
     ];
@@ -210,6 +220,38 @@ fn a_key_is_kept_updated_and_left(rt: HostRuntime) -> Result<(), Fail> {
     Ok(())
 }
 
+/// Changes of one key, at their moments.
+#[test]
+fn a_key_is_changed(rt: HostRuntime) -> Result<(), Fail> {
+    let alloc = rt.alloc();
+    let mut store = Store::new(alloc);
+    let logon = add(alloc, b"logon", b"afs:k", b"x", -4)?;
+    let described = b"logon;1000;1000;3d010000;afs:k".as_slice();
+    let greatest = u64::MAX;
+    let rows: [(u64, Ask, Want<'_>); 16] = [
+        (0, hello(alloc, 1000), Want::Number(1)),
+        (0, logon, Want::Number(5)),
+        (0, describe(1, 5), Want::Bytes(described)),
+        (0, read(1, 5), Want::Refused(Errno::EOPNOTSUPP)),
+        (0, update(alloc, -4, b"x")?, Want::Refused(Errno::EOPNOTSUPP)),
+        (0, update(alloc, 5, b"")?, Want::Refused(Errno::EINVAL)),
+        (0, add(alloc, b"user", b"a", b"s3", -4)?, Want::Number(6)),
+        (100, change(Op::SetTimeout { id: 6, seconds: 10 }), Want::Nothing),
+        (109, read(1, 6), Want::Bytes(b"s3")),
+        (109, update(alloc, 6, b"t4")?, Want::Nothing),
+        (110, read(1, 6), Want::Bytes(b"t4")),
+        (greatest, change(Op::SetTimeout { id: 6, seconds: 1 }), Want::Nothing),
+        (0, read(1, 6), Want::Refused(Errno::EKEYEXPIRED)),
+        (0, add(alloc, b"user", b"a", b"u5", -4)?, Want::Number(7)),
+        (0, read(1, 6), Want::Refused(Errno::ENOKEY)),
+        (0, read(1, 7), Want::Bytes(b"u5")),
+    ];
+    for (moment, ask, want) in rows {
+        expect(&rt, store.apply(0, moment, ask), want, "a row");
+    }
+    Ok(())
+}
+
 #[test]
 fn the_last_serials(rt: HostRuntime) -> Result<(), Fail> {
     let alloc = rt.alloc();
@@ -253,6 +295,19 @@ fn ask_of(alloc: Global, step: u8) -> Result<Ask, AllocError> {
         2 => add(alloc, b"user", b"alpha", b"t4", -4),
         3 => Ok(read(1, 5)),
         4 => Ok(describe(1, 5)),
+        5 => update(alloc, 5, b"u5"),
+        6 => Ok(change(Op::SetPerm {
+            id: 5,
+            mask: 0x3f01_0001,
+        })),
+        7 => Ok(change(Op::Chown {
+            id: 5,
+            uid: 1000,
+            gid: 1000,
+        })),
+        8 => Ok(change(Op::SetTimeout { id: 5, seconds: 60 })),
+        9 => Ok(change(Op::Revoke { id: 5 })),
+        10 => Ok(read(1, 5)),
         _ => Ok(leave()),
     }
 }
@@ -269,6 +324,12 @@ fn a_refused_growth_changes_nothing(rt: HostRuntime) -> Result<(), Fail> {
         Want::Number(5),
         Want::Bytes(b"t4"),
         Want::Bytes(described),
+        Want::Nothing,
+        Want::Nothing,
+        Want::Nothing,
+        Want::Nothing,
+        Want::Nothing,
+        Want::Refused(Errno::EKEYREVOKED),
         Want::Nothing,
     ];
     let mut store = Store::new(alloc);

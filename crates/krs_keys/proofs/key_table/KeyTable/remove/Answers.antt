@@ -6,4 +6,4 @@ use Rattle.krs_keys.proofs.key_table.KeyTable.remove.Goals as goal
 
 pub invariant_of-self : goal.invariant_of-self
 invariant_of-self c = λ q h. ap (λ zs. at zs q) c.take_out.ensures
-    ∙ at_without_none (unmarked c.self.inside.slots.entries) c.number.result q (c.self.invariant q h)
+    ∙ at_without_none (unmarked c.self.inside.slots.entries) _ q (c.self.invariant q h)

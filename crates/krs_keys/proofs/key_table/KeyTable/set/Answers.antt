@@ -7,4 +7,4 @@ use Rattle.krs_keys.proofs.key_table.KeyTable.set.Goals as goal
 
 pub invariant_of-self : goal.invariant_of-self
 invariant_of-self c = λ q h. ap (λ zs. at zs q) c.change_in.ensures
-    ∙ at_alter_none (unmarked c.self.inside.slots.entries) c.number.result q (changed c.args.change) (c.self.invariant q h)
+    ∙ at_alter_none (unmarked c.self.inside.slots.entries) _ q _ (c.self.invariant q h)
