@@ -11,6 +11,8 @@ ghost use Rattle.krs_model.specs.Usable.{IsUsable};
 ghost use Rattle.krs_model.specs.Sweep.{IsSweep, IsSwept};
 ghost use Rattle.krs_model.specs.Step.{Step};
 ghost use Rattle.krs_model.specs.History.{IsLegal};
+ghost use Rattle.krs_model.specs.Table.{IsBelow};
+ghost use Rattle.krs_model.specs.Revocation.{StaysUnread};
 ghost use Rattle.krs_model.specs.Laws.{ComesByLinks, IsOneByte};
 
 /// A possessed key is an attached keyring, or is linked by a possessed keyring that may be searched: keyrings(7),
@@ -48,4 +50,10 @@ pub fn a_swept_state_stays()
 /// What a sweep leaves has been swept.
 pub fn a_sweep_sweeps()
     ensures { (old new : State) → IsSweep old new → IsSwept new }
+{}
+
+/// No key is read once it was revoked, in any history of a store whose serials not given yet are in no use: keyctl(2),
+/// KEYCTL_REVOKE.
+pub fn revoked_keys_stay_unread()
+    ensures { (start : State) → IsBelow start.keys start.next_serial → StaysUnread start }
 {}
