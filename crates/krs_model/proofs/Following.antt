@@ -77,18 +77,28 @@ with_key_follows s key = record {
   gone = λ k lt h. ap is_gone (at_put_other s.keys s.next_serial k key (apart k s.next_serial lt)) ∙ h;
 }
 
-stays_gone : (f : Key → Key) (o : Option Key) → ((v : Key) → v.revoked ≡ true → (f v).revoked ≡ true) → is_gone o ≡ true → is_gone (option_map f o) ≡ true
+stays_gone :
+    (f : Key → Key) (o : Option Key) → ((v : Key) → v.revoked ≡ true → (f v).revoked ≡ true) → is_gone o ≡ true
+    → is_gone (option_map f o) ≡ true
 stays_gone f None stays h = refl
 stays_gone f (Some v) stays h = stays v h
 
+here_gone :
+    (s : State) (serial k : ℕ) (f : Key → Key) → ((v : Key) → v.revoked ≡ true → (f v).revoked ≡ true) → k ≡ serial
+    → is_gone (at s.keys k) ≡ true → is_gone (at (alter s.keys serial f) k) ≡ true
+here_gone s serial k f stays e h =
+    let there : is_gone (at s.keys serial) ≡ true = subst (λ (z : ℕ). is_gone (at s.keys z) ≡ true) e h in
+    let after = ap is_gone (at_alter_same s.keys serial f) ∙ stays_gone f (at s.keys serial) stays there in
+    subst (λ (z : ℕ). is_gone (at (alter s.keys serial f) z) ≡ true) (sym e) after
+
 -- a change of one key that leaves it revoked where it was
-pub changed_follows : (s : State) (serial : ℕ) (f : Key → Key) → ((v : Key) → v.revoked ≡ true → (f v).revoked ≡ true) → Follows s (changed s serial f)
+pub changed_follows :
+    (s : State) (serial : ℕ) (f : Key → Key) → ((v : Key) → v.revoked ≡ true → (f v).revoked ≡ true)
+    → Follows s (changed s serial f)
 changed_follows s serial f stays = record {
   next = omega arith;
   unused = λ below q le. at_alter_none s.keys serial q f (below q le);
-  gone = λ k lt h. ⊎_elim
-      (λ (e : k ≡ serial). subst (λ (z : ℕ). is_gone (at (alter s.keys serial f) z) ≡ true) (sym e)
-      (ap is_gone (at_alter_same s.keys serial f) ∙ stays_gone f (at s.keys serial) stays (subst (λ (z : ℕ). is_gone (at s.keys z) ≡ true) e h)))
+  gone = λ k lt h. ⊎_elim (λ e. here_gone s serial k f stays e h)
       (λ other. ap is_gone (at_alter_other s.keys serial k f other) ∙ h) (at_or_apart k serial);
 }
 
@@ -103,26 +113,38 @@ sweep_follows old new s =
     record {
       next = omega arith;
       unused = λ below. rw next (below_filter (λ e. s.kept e.0) old.keys new.keys old.next_serial s.keys below);
-      gone = λ k lt h. ap (λ es. is_gone (at es k)) s.keys ∙ (ap is_gone (at_kept s.kept old.keys k) ∙ gone_or_none (s.kept k) (at old.keys k) h);
+      gone = λ k lt h. ap (λ es. is_gone (at es k)) s.keys
+          ∙ (ap is_gone (at_kept s.kept old.keys k) ∙ gone_or_none (s.kept k) (at old.keys k) h);
     }
 
 -- what an ask comes to follows the state, where it is accepted
 pub record Keeps (s : State) (meant : Outcome) : Type 0 where
   pub follows : (new : State) (answer : Answer) → meant ≡ Ok (new, answer) → Follows s new
 
-same_Ok : (x y : State × Answer) (r : Outcome) → r ≡ Ok x → r ≡ Ok y → x ≡ y
-same_Ok x y r g h = cc
+-- a result is one value
+pub same_ok : {A : Type 0} (r : Result A Errno) (x y : A) → r ≡ Ok x → r ≡ Ok y → x ≡ y
+same_ok r x y g h = cc
+
+pub same_state : (r : Outcome) (s t : State) (a b : Answer) → r ≡ Ok (s, a) → r ≡ Ok (t, b) → s ≡ t
+same_state r s t a b g h = ap (λ (x : State × Answer). x.0) (same_ok r (s, a) (t, b) g h)
 
 pub keeps_ok : {s new : State} {answer : Answer} → Follows s new → Keeps s (Ok (new, answer))
-keeps_ok {s} {new} {answer} h = record { follows = λ t a e. subst (Follows s) (ap (λ (x : State × Answer). x.0) (same_Ok (new, answer) (t, a) (Ok (new, answer)) refl e)) h }
+keeps_ok {s} {new} {answer} h = record {
+  follows = λ t a e. subst (Follows s) (same_state (Ok (new, answer)) new t answer a refl e) h;
+}
 
 -- after a test that may refuse
-pub keeps_after : {A : Type 0} {s : State} (r : Result A Errno) (f : A → Outcome) → ((x : A) → Keeps s (f x)) → Keeps s (r >>= f)
+pub keeps_after :
+    {A : Type 0} {s : State} (r : Result A Errno) (f : A → Outcome) → ((x : A) → Keeps s (f x))
+    → Keeps s (r >>= f)
 keeps_after (Ok x) f h = h x
 keeps_after (Err e) f h = record { follows = λ t a no. cc }
 
 -- after a look-up in a context
-pub keeps_found : {s : State} (client context : ℕ) (id : ℤ) (want : Want) (f : Context → (ℕ × Key) → Outcome) → ((c : Context) (found : ℕ × Key) → Keeps s (f c found)) → Keeps s (context_of s client context >>= (λ c. look_up s c id want >>= (λ found. f c found)))
+pub keeps_found :
+    {s : State} (client context : ℕ) (id : ℤ) (want : Want) (f : Context → (ℕ × Key) → Outcome)
+    → ((c : Context) (found : ℕ × Key) → Keeps s (f c found))
+    → Keeps s (context_of s client context >>= (λ c. look_up s c id want >>= (λ found. f c found)))
 keeps_found {s} client context id want f h =
     keeps_after (context_of s client context) _ (λ c. keeps_after (look_up s c id want) (f c) (h c))
 
@@ -136,10 +158,13 @@ with_uid_follows s c None =
     let one = with_key s (uid_ring (codes "_uid.") [] c) in
     let two = with_key one (uid_ring (codes "_uid_ses.") (n ∷ []) c) in
     let next : n + 2 ≡ (n + 1) + 1 = omega arith in
-    follows_trans s one _ (with_key_follows s _) (follows_trans one two _ (with_key_follows one _) (same_follows two _ refl next))
+    let both = follows_trans one two _ (with_key_follows one _) (same_follows two (with_uid s c None) refl next) in
+    follows_trans s one _ (with_key_follows s _) both
 with_uid_follows s c (Some rings) = same_follows s s refl refl
 
-entered_follows : (s : State) (client : ℕ) (c : Caller) (rings : Option UidRings) (session : Option ℕ) → Follows s (with_context (with_uid s c rings) client c session)
+entered_follows :
+    (s : State) (client : ℕ) (c : Caller) (rings : Option UidRings) (session : Option ℕ)
+    → Follows s (with_context (with_uid s c rings) client c session)
 entered_follows s client c rings session =
     let with_rings = with_uid s c rings in
     follows_trans s with_rings _ (with_uid_follows s c rings) (same_follows with_rings _ refl refl)
@@ -152,17 +177,23 @@ hello_follows s client c = search (accepted, entered_follows)
 made_follows : (s : State) (ring : ℕ) (name : Name) (key : Key) → Follows s (made s ring name key)
 made_follows s ring name key =
     let one = with_key s key in
-    follows_trans s one _ (with_key_follows s key) (changed_follows one ring (linking s.keys name s.next_serial) (λ v h. h))
+    let link = linking s.keys name s.next_serial in
+    follows_trans s one _ (with_key_follows s key) (changed_follows one ring link (λ v h. h))
 
-added_follows : (s : State) (c : Context) (name : Name) (payload : List ℕ) (place : Place) → Follows s (added s c name payload place)
+added_follows :
+    (s : State) (c : Context) (name : Name) (payload : List ℕ) (place : Place)
+    → Follows s (added s c name payload place)
 added_follows s c name payload (Updated serial) = changed_follows s serial (updated payload) (λ v h. h)
 added_follows s c name payload (Made ring) = made_follows s ring name (new_key name payload c.caller)
 
-add_follows : (s : State) (client context : ℕ) (type_name desc payload : List ℕ) (ring : ℤ) → Keeps s (add s client context type_name desc payload ring)
+add_follows :
+    (s : State) (client context : ℕ) (type_name desc payload : List ℕ) (ring : ℤ)
+    → Keeps s (add s client context type_name desc payload ring)
 unfolding add
 add_follows s client context type_name desc payload ring = search (accepted, added_follows)
 
-update_follows : (s : State) (client context : ℕ) (id : ℤ) (payload : List ℕ) → Keeps s (update s client context id payload)
+update_follows :
+    (s : State) (client context : ℕ) (id : ℤ) (payload : List ℕ) → Keeps s (update s client context id payload)
 unfolding update
 update_follows s client context id payload = search (accepted, changed_follows)
 
@@ -178,7 +209,8 @@ set_perm_follows : (s : State) (client context : ℕ) (id : ℤ) (mask : ℕ) �
 unfolding set_perm
 set_perm_follows s client context id mask = search (accepted, changed_follows)
 
-set_timeout_follows : (s : State) (client context : ℕ) (id : ℤ) (seconds : ℕ) → Keeps s (set_timeout s client context id seconds)
+set_timeout_follows :
+    (s : State) (client context : ℕ) (id : ℤ) (seconds : ℕ) → Keeps s (set_timeout s client context id seconds)
 unfolding set_timeout
 set_timeout_follows s client context id seconds = search (accepted, changed_follows)
 
@@ -197,7 +229,8 @@ left_follows s client = same_follows s _ refl refl
 -- what any ask comes to follows, where it is accepted
 pub outcome_follows : (s : State) (client context : ℕ) (op : Op) → Keeps s (outcome_of s client context op)
 outcome_follows s client context (Hello caller) = hello_follows s client caller
-outcome_follows s client context (Add type_name desc payload ring) = add_follows s client context type_name desc payload ring
+outcome_follows s client context (Add type_name desc payload ring) =
+    add_follows s client context type_name desc payload ring
 outcome_follows s client context (Update id payload) = update_follows s client context id payload
 outcome_follows s client context (Revoke id) = revoke_follows s client context id
 outcome_follows s client context (Chown id uid gid) = chown_follows s client context id uid gid
@@ -207,22 +240,40 @@ outcome_follows s client context (Read id) = read_follows s client context id
 outcome_follows s client context (Describe id) = describe_follows s client context id
 outcome_follows s client context Leave = keeps_ok (left_follows s client)
 
-end_follows : (old new : State) (growing : Bool) (reply : Result Answer Errno) (meant : Outcome) → Keeps old meant → Ends old growing reply new meant → Follows old new
+pub raised_follows : (s : State) (moment : ℕ) → Follows s (raised s moment)
+raised_follows s moment = same_follows s (raised s moment) refl refl
+
+end_follows :
+    (old new : State) (growing : Bool) (reply : Result Answer Errno) (meant : Outcome) → Keeps old meant
+    → Ends old growing reply new meant → Follows old new
 end_follows old new growing (Ok answer) meant keeps ends =
     follows_trans old ends.0 new (keeps.follows ends.0 answer ends.1) (sweep_follows ends.0 new ends.2)
-end_follows old new growing (Err e) meant keeps ends = subst (Follows old) (sym ends.1) (same_follows old old refl refl)
+end_follows old new growing (Err e) meant keeps ends =
+    subst (Follows old) (sym ends.1) (same_follows old old refl refl)
 
 -- each step follows
 pub step_follows : (old new : State) (event : Event) → Step old event new → Follows old new
 unfolding Step
 step_follows old new event step =
     let up = raised old event.moment in
-    follows_trans old up new (same_follows old up refl refl)
-    (end_follows up new (grows event.ask.op) event.reply _ (outcome_follows up event.lane event.ask.context event.ask.op) step)
+    let keeps = outcome_follows up event.lane event.ask.context event.ask.op in
+    follows_trans old up new (raised_follows old event.moment)
+    (end_follows up new (grows event.ask.op) event.reply _ keeps step)
 
 -- and so does the end of each legal history
 pub legal_follows : (start : State) (events : List Event) (end : State) → IsLegal start events end → Follows start end
 unfolding IsLegal
 legal_follows start [] end legal = subst (Follows start) legal (same_follows start start refl refl)
 legal_follows start (event ∷ events) end legal =
-    follows_trans start legal.0 end (step_follows start legal.0 event legal.1) (legal_follows legal.0 events end legal.2)
+    let next = legal.0 in
+    follows_trans start next end (step_follows start next event legal.1) (legal_follows next events end legal.2)
+
+-- an accepted ask and its sweep leave the serials not given yet in no use
+pub stays_unused :
+    (old up mid new : State) (moment client context : ℕ) (op : Op) (answer : Answer) → up ≡ raised old moment
+    → outcome_of up client context op ≡ Ok (mid, answer) → IsSweep mid new → IsBelow old.keys old.next_serial
+    → IsBelow new.keys new.next_serial
+stays_unused old up mid new moment client context op answer raise came sweep below =
+    let first : Follows old up = subst (Follows old) (sym raise) (raised_follows old moment) in
+    let asked = (outcome_follows up client context op).follows mid answer came in
+    (sweep_follows mid new sweep).unused (asked.unused (first.unused below))

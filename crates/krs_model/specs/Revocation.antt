@@ -30,6 +30,12 @@ Revokes s event serial = IsServed s event Revoke serial
 abbrev pub Reads : State → Event → ℕ → Type 0
 Reads s event serial = IsServed s event Read serial
 
+-- each such accepted ask is of some key
+abbrev pub IsOfKey : (ℤ → Op) → Type 0
+IsOfKey op =
+    (old new : State) (event : Event) (id : ℤ) → Step old event new → event.ask.op ≡ op id → IsOk event.reply
+    → (serial : ℕ) × IsServed old event op serial
+
 -- whatever comes before, between and after, no key is read once it was revoked: KEYCTL_REVOKE
 abbrev pub StaysUnread : State → Type 0
 StaysUnread start =
