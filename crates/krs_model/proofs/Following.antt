@@ -1,6 +1,7 @@
 -- What comes from a state by accepted asks: serials rise, and what is gone stays gone. A further ask costs a lemma of
 -- its own, as `chown_follows`, and a line of `outcome_follows`.
-use Rattle.std.proofs.Common.{◌≡◌, ℕ, ℤ, ◌≤◌, ◌<◌, ◌+◌, List, [], ◌∷◌, Option, Some, None, Bool, true, false, cond, Result, Ok, Err, refl, ap, ◌∙◌, sym, subst, arith, ⊎_elim}
+use Rattle.std.proofs.Common.{◌≡◌, ℕ, ℤ, ◌≤◌, ◌<◌, ◌+◌, List, [], ◌∷◌, Option, Some, None, Bool, true, false, cond}
+use Rattle.std.proofs.Common.{filter, Result, Ok, Err, refl, ap, ◌∙◌, sym, subst, arith, ⊎_elim}
 use Rattle.std.specs.Prelude.{codes}
 use Rattle.std.specs.Option.{option_map}
 use Rattle.std.specs.Cmp.{unsigned_tied}
@@ -15,7 +16,8 @@ use Rattle.krs_types.specs.declared.name.Name.{Name}
 use Rattle.krs_types.specs.declared.rights.Want.{Want}
 use Rattle.krs_types.specs.declared.ask.Answer.{Answer}
 use Rattle.krs_types.specs.declared.ask.Op.{Op}
-use Rattle.krs_types.specs.declared.ask.Op.TheVariants.{Hello, Add, Update, Revoke, Chown, SetPerm, SetTimeout, Read, Describe, Leave}
+use Rattle.krs_types.specs.declared.ask.Op.TheVariants.{Hello, Add, Update, Revoke, Chown, SetPerm, SetTimeout, Read}
+use Rattle.krs_types.specs.declared.ask.Op.TheVariants.{Describe, Leave}
 use Rattle.krs_types.specs.declared.event.Event.{Event}
 use Rattle.krs_types.specs.Refusing.{◌>>=◌}
 use Rattle.krs_model.specs.Table.{at, put, alter, IsBelow}
@@ -31,7 +33,8 @@ use Rattle.krs_model.specs.Asks.Adding.{Place, Updated, Made, add, added, made, 
 use Rattle.krs_model.specs.Asks.Changing.{changed, update, updated, revoke, revoked, chown, set_perm, set_timeout}
 use Rattle.krs_model.specs.Asks.Reading.{read, describe}
 use Rattle.krs_model.specs.Asks.Leaving.{left}
-use Rattle.krs_model.proofs.Tables.{at_put_other, below_put, below_filter, at_or_apart, at_alter_other, at_alter_same, at_alter_none, at_kept}
+use Rattle.krs_model.proofs.Tables.{at_put_other, below_put, below_filter, at_or_apart, at_alter_other}
+use Rattle.krs_model.proofs.Tables.{at_alter_same, at_alter_none, at_kept}
 
 -- no key is there, or a revoked one
 abbrev pub is_gone : Option Key → Bool
@@ -106,16 +109,19 @@ gone_or_none : (b : Bool) (o : Option Key) → is_gone o ≡ true → is_gone (c
 gone_or_none true o h = h
 gone_or_none false o h = refl
 
--- what a sweep takes out is gone
+-- what is taken out by its serial is gone
+pub filtered_follows : (s : State) (kept : ℕ → Bool) → Follows s (record s { keys = filter (λ e. kept e.0) s.keys })
+filtered_follows s kept = record {
+  next = omega arith;
+  unused = below_filter (λ e. kept e.0) s.keys (filter (λ e. kept e.0) s.keys) s.next_serial refl;
+  gone = λ k lt h. ap is_gone (at_kept kept s.keys k) ∙ gone_or_none (kept k) (at s.keys k) h;
+}
+
 pub sweep_follows : (old new : State) → IsSweep old new → Follows old new
 sweep_follows old new s =
+    let less : State = record old { keys = filter (λ e. s.kept e.0) old.keys } in
     let next : new.next_serial ≡ old.next_serial = ap (λ (t : State). t.next_serial) s.rest in
-    record {
-      next = omega arith;
-      unused = λ below. rw next (below_filter (λ e. s.kept e.0) old.keys new.keys old.next_serial s.keys below);
-      gone = λ k lt h. ap (λ es. is_gone (at es k)) s.keys
-          ∙ (ap is_gone (at_kept s.kept old.keys k) ∙ gone_or_none (s.kept k) (at old.keys k) h);
-    }
+    follows_trans old less new (filtered_follows old s.kept) (same_follows less new s.keys next)
 
 -- what an ask comes to follows the state, where it is accepted
 pub record Keeps (s : State) (meant : Outcome) : Type 0 where

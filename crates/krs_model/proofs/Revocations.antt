@@ -1,5 +1,6 @@
 -- A revoked key is not read again, as no key gets its serial.
-use Rattle.std.proofs.Common.{◌≡◌, ℕ, ℤ, ◌≤◌, ◌<◌, Some, Bool, true, false, cond, Result, Ok, Err, refl, ap, ◌∙◌, sym, subst, arith, ⊎_elim}
+use Rattle.std.proofs.Common.{◌≡◌, ℕ, ℤ, ◌≤◌, ◌<◌, Some, Bool, true, false, cond, Result, Ok, Err, refl, ap, ◌∙◌}
+use Rattle.std.proofs.Common.{sym, subst, arith, ⊎_elim}
 use Rattle.std.specs.Option.{option_map}
 use Rattle.std.specs.Result.{IsOk}
 use Rattle.std.proofs.lemmas.Bool.{true≢false, cases_lt}
@@ -29,7 +30,8 @@ use Rattle.krs_model.specs.Asks.Changing.{changed, revoke, revoked}
 use Rattle.krs_model.specs.Asks.Reading.{read, readable}
 use Rattle.krs_model.proofs.Tables.{at_alter_same}
 use Rattle.krs_model.proofs.Lookups.{look_up_usable}
-use Rattle.krs_model.proofs.Following.{is_gone, Follows, same_ok, same_state, raised_follows, sweep_follows, legal_follows}
+use Rattle.krs_model.proofs.Following.{is_gone, Follows, same_ok, same_state, raised_follows, sweep_follows}
+use Rattle.krs_model.proofs.Following.{legal_follows}
 
 chosen :
     (a b d : Bool) (x y : ℕ × Key)
@@ -51,7 +53,8 @@ usable_serial :
     → if_usable s c want serial key ≡ Ok found → (serial, key) ≡ found
 usable_serial s c want serial key found h =
     let mine = possessed s c serial in
-    chosen key.revoked (is_over s.clock key.expiry) (allows want (rights_on key c.caller mine) mine) (serial, key) found h
+    let allowed = allows want (rights_on key c.caller mine) mine in
+    chosen key.revoked (is_over s.clock key.expiry) allowed (serial, key) found h
 
 -- the serial that a look-up answers is the one that the id names
 found_serial :
@@ -59,13 +62,16 @@ found_serial :
     → serial_of s c id ≡ Ok found.0
 unfolding look_up
 found_serial s c id want found h =
-    let if_there : ℕ → Result (ℕ × Key) Errno = λ k. or_refuse ENOKEY (at s.keys k) >>= (λ key. if_usable s c want k key) in
+    let if_there : ℕ → Result (ℕ × Key) Errno =
+    λ k. or_refuse ENOKEY (at s.keys k) >>= (λ key. if_usable s c want k key) in
     let named = bind_ok (serial_of s c id) if_there found h in
     let there = bind_ok (or_refuse ENOKEY (at s.keys named.0)) (if_usable s c want named.0) found named.2 in
     named.1 ∙ ap (λ (x : ℕ × Key). Ok x.0) (usable_serial s c want named.0 there.0 found there.2)
 
--- what an accepted ask has found that begins with a look-up: a key that was not revoked, at the serial that the id names
-pub record Finds {X : Type 0} (s : State) (client context : ℕ) (id : ℤ) (f : (ℕ × Key) → Result X Errno) (x : X) : Type 0 where
+-- what an accepted ask has found that begins with a look-up: a key that was not revoked, at the serial that the id
+-- names
+pub record Finds {X : Type 0} (s : State) (client context : ℕ) (id : ℤ) (f : (ℕ × Key) → Result X Errno) (x : X)
+    : Type 0 where
   pub serial : ℕ
   pub key : Key
   pub names : Names s client context id serial
@@ -194,7 +200,8 @@ revoked_unread start below before old legal revoking mid k step revokes later la
     let unused = (legal_follows start before old legal).unused below in
     let up = raised old revoking.moment in
     let came = accepted_came old mid revoking (Revoke revokes.id) step revokes.asked revokes.accepted in
-    let spent = revoke_spends up came.mid revoking.lane revoking.ask.context revokes.id came.answer k unused revokes.names came.is in
+    let spends = revoke_spends up came.mid revoking.lane revoking.ask.context revokes.id came.answer k in
+    let spent = spends unused revokes.names came.is in
     let swept = spent_follows came.mid mid k (sweep_follows came.mid mid came.sweep) spent in
     let top = raised late reading.moment in
     let spent_late = spent_follows mid late k (legal_follows mid later late legal_later) swept in
