@@ -30,7 +30,7 @@ use Rattle.krs_model.specs.History.{IsLegal}
 use Rattle.krs_model.specs.Asks.Hello.{hello, uid_ring, with_uid, with_context}
 use Rattle.krs_model.specs.Linking.{linking}
 use Rattle.krs_model.specs.Asks.Adding.{Place, Updated, Made, add, added, made, new_key}
-use Rattle.krs_model.specs.Asks.Changing.{changed, update, updated, revoke, revoked, chown, set_perm, set_timeout}
+use Rattle.krs_model.specs.Asks.Changing.{changed, update, updated, revoke, chown, set_perm, set_timeout}
 use Rattle.krs_model.specs.Asks.Reading.{read, describe}
 use Rattle.krs_model.specs.Asks.Leaving.{left}
 use Rattle.krs_model.proofs.Tables.{at_put_other, below_put, below_filter, at_or_apart, at_alter_other}
