@@ -9,7 +9,7 @@ use Rattle.krs_model.specs.Lookup.{context_of, serial_of}
 use Rattle.krs_model.specs.Step.{Step}
 use Rattle.krs_model.specs.History.{IsLegal}
 
--- in this context of the client the id is the serial, or stands for it: keyrings(7), "special key IDs"
+-- in this context of the client the id is the serial, or stands for it: keyctl(2), KEYCTL_GET_KEYRING_ID
 pub record Names (s : State) (client context : ℕ) (id : ℤ) (serial : ℕ) : Type 0 where
   pub whose : Context
   pub own : context_of s client context ≡ Ok whose
