@@ -5,4 +5,6 @@ pub mod Sweeps
 pub mod Lookups
 pub mod Sweeping
 pub mod Steps
+pub mod Following
+pub mod Revocations
 pub mod Rights

@@ -11,5 +11,6 @@ pub mod Outcome
 pub mod Asks
 pub mod Step
 pub mod History
+pub mod Revocation
 pub mod Laws
 pub mod Notes

@@ -1,9 +1,11 @@
 ghost use Rattle.std.specs.Prelude.{◌≡◌, ℕ, ℤ, Ok, IsErr, true, false};
 ghost use Rattle.krs_types.specs.declared.caller.Caller.{Caller};
 ghost use Rattle.krs_types.specs.declared.context.Context.{Context};
+ghost use Rattle.krs_types.specs.declared.ask.Op.TheVariants.{Revoke, Read};
 ghost use Rattle.krs_types.specs.declared.event.Event.{Event};
 ghost use Rattle.krs_types.specs.declared.rights.Want.{Want};
 ghost use Rattle.krs_types.specs.Perm.{granted};
+ghost use Rattle.krs_model.specs.Table.{IsBelow};
 ghost use Rattle.krs_model.specs.State.{State, Key, raised};
 ghost use Rattle.krs_model.specs.Possession.{possessed};
 ghost use Rattle.krs_model.specs.Lookup.{look_up};
@@ -11,6 +13,7 @@ ghost use Rattle.krs_model.specs.Usable.{IsUsable};
 ghost use Rattle.krs_model.specs.Sweep.{IsSweep, IsSwept};
 ghost use Rattle.krs_model.specs.Step.{Step};
 ghost use Rattle.krs_model.specs.History.{IsLegal};
+ghost use Rattle.krs_model.specs.Revocation.{IsOfKey, StaysUnread};
 ghost use Rattle.krs_model.specs.Laws.{ComesByLinks, IsOneByte};
 
 /// A possessed key is an attached keyring, or is linked by a possessed keyring that may be searched: keyrings(7),
@@ -48,4 +51,16 @@ pub fn a_swept_state_stays()
 /// What a sweep leaves has been swept.
 pub fn a_sweep_sweeps()
     ensures { (old new : State) → IsSweep old new → IsSwept new }
+{}
+
+/// Each accepted REVOKE and each accepted READ names a key: keyctl(2).
+pub fn revokes_and_reads_name_a_key()
+    ensures revokes { IsOfKey Revoke }
+    ensures reads { IsOfKey Read }
+{}
+
+/// No key is read once it was revoked, in any history of a store whose serials not given yet are in no use: keyctl(2),
+/// KEYCTL_REVOKE.
+pub fn revoked_keys_stay_unread()
+    ensures { (start : State) → IsBelow start.keys start.next_serial → StaysUnread start }
 {}

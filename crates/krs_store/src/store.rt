@@ -3,6 +3,7 @@ ghost use Rattle.krs_types.specs.declared.errno.Errno.TheVariants.{ENOMEM};
 ghost use Rattle.krs_types.specs.declared.ask.Op.TheVariants.{Leave};
 ghost use Rattle.krs_model.specs.State.{starting_at};
 ghost use Rattle.krs_model.specs.Step.{Step};
+ghost use Rattle.krs_model.specs.Revocation.{StaysUnread};
 ghost use Rattle.krs_store.specs.Told.{event_of};
 
 use crate::tables::Tables;
@@ -10,7 +11,8 @@ use krs_types::{Ask, Errno, Fault, Reply};
 use std::alloc::Global;
 use std::marker::Model;
 
-/// A key store: keyrings(7) for one thread. Between two asks every key is attached, or linked by one that is held.
+/// A key store: keyrings(7) for one thread. Between two asks every key is attached, or linked by one that is held,
+/// and serials not given yet are in no use.
 #[derive(Drop)]
 pub struct Store {
     tables: Tables,
@@ -18,13 +20,13 @@ pub struct Store {
 
 impl Model for Store {
     ghost use Rattle.krs_model.specs.State.{State};
-    ghost use Rattle.krs_model.specs.Sweep.{IsSwept};
+    ghost use Rattle.krs_store.specs.View.{IsSettled};
 
     ghost Value = { State };
 
     ghost view = { λ s. s.tables };
 
-    ghost invariant = { λ s. IsSwept s.tables };
+    ghost invariant = { λ s. IsSettled s.tables };
 }
 
 impl Store {
@@ -60,5 +62,13 @@ impl Store {
             Err(Fault::Memory) => Err(Errno::ENOMEM),
             Err(Fault::Refused(errno)) => Err(errno),
         }
+    }
+
+    /// A law of every store: whatever it is asked from now on, no key is read once it was revoked. keyctl(2),
+    /// KEYCTL_REVOKE.
+    pub fn revoked_keys_are_not_read(&self)
+        ensures { StaysUnread self.now }
+    {
+        let _tables = &self.tables;
     }
 }
