@@ -19,7 +19,7 @@ use Rattle.krs_model.specs.Linking.{is_named, link_named, with_link, linking}
 use Rattle.krs_model.specs.Sweep.{IsHeld, Attached, Linked, AllHeld, linked_by, roots, context_roots, process_roots, uid_roots}
 use Rattle.krs_model.specs.Asks.Hello.{with_context, with_uid, uid_ring}
 use Rattle.krs_model.specs.Asks.Adding.{made, IsRing}
-use Rattle.krs_model.specs.Asks.Changing.{updated, paid_with}
+use Rattle.krs_model.specs.Asks.Changing.{changed}
 use Rattle.krs_model.proofs.Tables.{at_put_same, at_put_other, at_or_apart, at_alter_same, at_alter_other}
 use Rattle.krs_model.proofs.Levels.{in_left, in_right, in_one, or_true, same_is}
 use Rattle.krs_model.proofs.Sweeps.{held_on, attached_more, attached_put}
@@ -94,16 +94,11 @@ links_alter es n f more j k h =
     ⊎_elim (λ (e : j ≡ n). subst (λ (z : ℕ). is_in k (linked_by (at (alter es n f) z)) ≡ true) (sym e) (subst (λ (o : Option Key). is_in k (linked_by o) ≡ true) (sym (at_alter_same es n f)) (linked_more f (at es n) k (λ v there i. more v k there i) (subst (λ (z : ℕ). is_in k (linked_by (at es z)) ≡ true) e h))))
     (λ apart. subst (λ (o : Option Key). is_in k (linked_by o) ≡ true) (sym (at_alter_other es n j f apart)) h) (at_or_apart j n)
 
-paid_links : (payload : List ℕ) (content : Content) (k : ℕ) → is_in k (links_of content) ≡ true → is_in k (links_of (paid_with payload content)) ≡ true
-paid_links payload (Payload old) k h = h
-paid_links payload (Links links) k h = h
-
--- another payload for a key
-pub updated_swept : (s : State) (serial : ℕ) (payload : List ℕ) → AllHeld s → AllHeld (record s { keys = alter s.keys serial (updated payload) })
-updated_swept s serial payload swept =
-    let after = alter s.keys serial (updated payload) in
-    λ k there. held_on s.keys after (roots s) (roots s) (λ q h. h)
-    (links_alter s.keys serial (updated payload) (λ v q is i. paid_links payload v.content q i)) k (swept k (alter_there s.keys serial (updated payload) k there))
+-- a change of one key that leaves all its links
+pub changed_swept : (s : State) (serial : ℕ) (f : Key → Key) → ((v : Key) (q : ℕ) → at s.keys serial ≡ Some v → is_in q (links_of v.content) ≡ true → is_in q (links_of (f v).content) ≡ true) → AllHeld s → AllHeld (changed s serial f)
+changed_swept s serial f left swept =
+    λ k there. held_on s.keys (alter s.keys serial f) (roots s) (roots s) (λ q h. h)
+    (links_alter s.keys serial f left) k (swept k (alter_there s.keys serial f k there))
 
 linked_here : (p : ℕ → Bool) (links : List ℕ) (n : ℕ) → is_in n (with_link p links n) ≡ true
 linked_here p [] n = rw (same_is n n refl) refl

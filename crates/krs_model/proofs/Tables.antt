@@ -172,3 +172,15 @@ at_kept kept es k = lookup-filter-keys (is_at (nat_cmp k)) kept (kept k) (λ q t
 -- two numbers are one, or neither is at the other
 pub at_or_apart : (q k : ℕ) → (q ≡ k) ⊎ (is_at (nat_cmp q) k ≡ false)
 at_or_apart q k = elim (is_at (nat_cmp q) k) as (λ b. is_at (nat_cmp q) k ≡ b → (q ≡ k) ⊎ (b ≡ false)) [ true ↦ λ t. inl (same_at q k t) | false ↦ λ t. inr refl ] refl
+
+-- what is taken out leaves what was not there
+pub at_without_none : {X : Type 0} (es : Table X) (k q : ℕ) → at es q ≡ None → at (without es k) q ≡ None
+at_without_none [] k q h = refl
+at_without_none (e ∷ es) k q h =
+    elim (is_at (nat_cmp q) e.0) as (λ b. is_at (nat_cmp q) e.0 ≡ b → cond b (Some e.1) (at es q) ≡ None → at (without (e ∷ es) k) q ≡ None) [
+      | true ↦ λ t n. cc
+      | false ↦ λ t n. elim (is_at (nat_cmp k) e.0) as (λ d. at (cond d es (e ∷ without es k)) q ≡ None) [
+        | true ↦ n
+        | false ↦ rw t (at_without_none es k q n)
+      ]
+    ] refl h

@@ -1,5 +1,5 @@
 -- What the store's own steps come to in the definitions.
-use Rattle.std.proofs.Common.{◌≡◌, ℕ, ℤ, ◌+◌, ◌≤◌, Ok, length, ◌==◌, ◌||◌, List, [], ◌∷◌, ◌++◌, Option, Some, None, Bool, true, false, filter, refl, ap, ◌∙◌, sym, subst, arith, ◌⊎◌, inl, inr, ⊎_elim}
+use Rattle.std.proofs.Common.{◌≡◌, ℕ, ℤ, ◌+◌, ◌≤◌, Ok, length, ◌==◌, ◌||◌, List, [], ◌∷◌, Option, Some, None, Bool, true, false, refl, ap, ◌∙◌, sym, subst, arith, ⊎_elim}
 use Rattle.std.specs.Prelude.{codes}
 use Rattle.std.specs.Option.{IsSome, is_some, option_map}
 use Rattle.std.proofs.lemmas.Bool.{true≢false}
@@ -19,23 +19,29 @@ use Rattle.krs_model.specs.State as model
 use Rattle.krs_model.specs.Possession.{links_of}
 use Rattle.krs_model.specs.Levels.{is_in}
 use Rattle.krs_model.specs.Linking.{link_named, linking}
-use Rattle.krs_model.specs.Sweep.{IsHeld, Linked, PicksHeld, IsSweep, AllHeld, linked_by, roots}
-use Rattle.krs_model.specs.Asks.Hello.{uid_ring, with_uid, with_context}
+use Rattle.krs_model.specs.Sweep.{IsHeld, Linked, PicksHeld, IsSweep, AllHeld, roots}
+use Rattle.krs_model.specs.Asks.Hello.{uid_ring, with_uid}
 use Rattle.krs_model.specs.Lookup.{look_up}
 use Rattle.krs_model.specs.Asks.Adding.{made, IsRing, place_of, by_match}
-use Rattle.krs_model.proofs.Tables.{at_map, put_map, alter_map, filter_map_keys, below_put, at_put_same, at_put_other, at_or_apart, at_alter_none, at_filter_none}
+use Rattle.krs_model.proofs.Tables.{at_map, put_map, alter_map, filter_map_keys, below_put, at_put_same, at_put_other, at_or_apart}
 use Rattle.krs_model.proofs.Levels.{or_true, same_is}
-use Rattle.krs_model.proofs.Sweeping.{made_swept, with_uid_swept, with_context_swept}
+use Rattle.krs_model.proofs.Sweeping.{changed_swept, made_swept}
 use Rattle.krs_store.specs.declared.tables.Tables.TheInside.{Inside}
-use Rattle.krs_store.specs.declared.key.Key.{Key}
-use Rattle.krs_store.specs.declared.key.Content.{Content}
-use Rattle.krs_store.specs.declared.key.Content.TheVariants.{Payload, Links}
-use Rattle.krs_store.specs.Links.{LinkList, serials, linked_as}
-use Rattle.krs_store.specs.Keys.{seen, seen_content, shown, content_links, name_at, AreNamed, AreFit, with_entry, entered, maker_key, FindsByName, uid_key, displaced_at, displaced_by}
-use Rattle.krs_store.specs.Marks.{Sweeps}
+use Rattle.krs_keys.specs.declared.key.Key.{Key}
+use Rattle.krs_keys.specs.declared.key.Content.{Content}
+use Rattle.krs_keys.specs.declared.key.Content.TheVariants.{Payload, Links}
+use Rattle.krs_keys.specs.Links.{LinkList, serials, linked_as}
+use Rattle.krs_keys.specs.Keys.{seen, seen_content, shown, content_links, name_at, AreNamed, AreFit, with_entry, entered, FindsByName, displaced_at, displaced_by}
+use Rattle.krs_store.specs.Making.{maker_key, uid_key}
+use Rattle.krs_keys.specs.Marks.{Sweeps}
+use Rattle.krs_keys.specs.Table.{Keys, with_key}
+use Rattle.krs_keys.specs.declared.key.Change.{Change}
+use Rattle.krs_keys.specs.Changes.{lets_go, meant_change}
+use Rattle.krs_keys.proofs.ChangesLemmas.{links_left, seen-changed}
+use Rattle.krs_model.specs.Asks.Changing.{changed}
 use Rattle.krs_store.specs.View.{state_of, IsSound}
-use Rattle.krs_store.proofs.KeysLemmas.{seen-with_entry, found_named, serials-content}
-use Rattle.krs_store.proofs.Fitting.{fit_alter, fit_put, fit_kept, named_linked, LinksKept}
+use Rattle.krs_keys.proofs.KeysLemmas.{seen-with_entry, found_named, serials-content}
+use Rattle.krs_keys.proofs.Fitting.{fit_alter, fit_put, fit_kept, named_linked, LinksKept}
 
 -- nothing is shown where nothing is
 pub shown_none : (es : Table Key) (k : ℕ) → at es k ≡ None → at (shown es) k ≡ None
@@ -46,24 +52,23 @@ key_shown None x h = absurd (none-some x h)
 key_shown (Some key) x h = (key, refl, same_Some (seen key) x h)
 
 -- a new key that a keyring links
-pub record IsMade (s : Inside) (new : Table Key) (ring : ℕ) (name : Name) (key : Key) : Type 0 where
-  pub keys : IsBelow new (s.next_serial + 1)
-  pub fit : AreFit new
-  pub is : record (state_of s) { keys = shown new; next_serial = s.next_serial + 1 } ≡ made (state_of s) ring name (seen key)
-  pub swept : s.let_go ≡ false → displaced_at (put s.keys.keys s.next_serial key) ring name ≡ None → AllHeld (record (state_of s) { keys = shown new; next_serial = s.next_serial + 1 })
+pub record IsMade (s : Inside) (new : Keys) (ring : ℕ) (name : Name) (key : Key) : Type 0 where
+  pub fit : AreFit new.keys
+  pub is : record (state_of s) { keys = shown new.keys; next_serial = new.next } ≡ made (state_of s) ring name (seen key)
+  pub swept : s.let_go ≡ false → displaced_at (put s.keys.keys s.keys.next key) ring name ≡ None → AllHeld (record (state_of s) { keys = shown new.keys; next_serial = new.next })
 
 entry_named : (names : ℕ → Option Name) (name : Name) (n : ℕ) (content : Content) → names n ≡ Some name → AreNamed names (content_links content) → AreNamed names (content_links (entered name n content))
 entry_named names name n (Payload bytes) there named = named
 entry_named names name n (Links links) there named = named_linked names name n links there named
 
-pub made_told : (s : Inside) (new : Table Key) (ring : ℕ) (name : Name) (payload : List ℕ) (uid gid : ℕ) → IsSound s → IsRing (state_of s) ring → new ≡ alter (put s.keys.keys s.next_serial (maker_key name payload uid gid)) ring (with_entry name s.next_serial) → IsMade s new ring name (maker_key name payload uid gid)
-made_told s new ring name payload uid gid sound keyring e =
+pub made_told : (s : Inside) (new : Keys) (ring : ℕ) (name : Name) (payload : List ℕ) (uid gid : ℕ) → IsSound s → IsBelow s.keys.keys s.keys.next → IsRing (state_of s) ring → new ≡ record { keys = alter (put s.keys.keys s.keys.next (maker_key name payload uid gid)) ring (with_entry name s.keys.next); next = s.keys.next + 1 } → IsMade s new ring name (maker_key name payload uid gid)
+made_told s new ring name payload uid gid sound unused keyring e =
     let es = s.keys.keys in
-    let n = s.next_serial in
+    let n = s.keys.next in
     let key = maker_key name payload uid gid in
     let one = put es n key in
     let f = with_entry name n in
-    let none : at es n ≡ None = sound.keys n (omega arith) in
+    let none : at es n ≡ None = unused n (omega arith) in
     let fit_one : AreFit one = fit_put es n key none tt sound.fit in
     let name_there : name_at one n ≡ Some name = ap (option_map (λ (k : Key). k.name)) (at_put_same es n key) in
     let is = key_shown (at es ring) keyring.0 (sym (at_map seen es ring) ∙ keyring.1) in
@@ -75,25 +80,24 @@ made_told s new ring name payload uid gid sound keyring e =
     let links : seen_content is.0.content ≡ model.Links keyring.2 = ap (λ (x : model.Key). x.content) is.2 ∙ keyring.3 in
     let found : displaced_at one ring name ≡ link_named (shown es) name keyring.2 = ap (displaced_by name) ring_in_one ∙ (sym (found_named es name (content_links is.0.content) ring_fit) ∙ (ap (link_named (shown es) name) (serials-content is.0.content ∙ ap links_of links))) in
     rw e (record {
-      keys = λ q h. at_alter_none one ring q f (below_put es one n key refl sound.keys q h);
       fit = fit_alter one ring f (λ v. refl) (λ v there. entry_named (name_at one) name n v.content name_there (fit_one ring v there)) fit_one;
       is = ap (λ zs. record (state_of s) { keys = zs; next_serial = n + 1 }) seen_as;
       swept = λ clean fresh. rw seen_as (made_swept (state_of s) ring name (seen key) (shown_none es n none) keyring (sym found ∙ fresh) (sound.swept clean));
     })
 
 -- the first context of a uid, with the uid's keyrings
-pub record IsFirst (s : Inside) (new : Table Key) (c : Caller) : Type 0 where
-  pub keys : IsBelow new (s.next_serial + 2)
-  pub fit : AreFit new
-  pub is : shown new ≡ (with_uid (state_of s) c None).keys
+pub record IsFirst (s : Inside) (new : Keys) (c : Caller) : Type 0 where
+  pub fit : AreFit new.keys
+  pub is : shown new.keys ≡ (with_uid (state_of s) c None).keys
+  pub next : new.next ≡ s.keys.next + 2
 
-pub first_told : (s : Inside) (new : Table Key) (c : Caller) (a b : Key) → IsSound s → a ≡ uid_key (codes "_uid.") [] c → b ≡ uid_key (codes "_uid_ses.") ((a.name, s.next_serial) ∷ []) c → new ≡ put (put s.keys.keys s.next_serial a) (s.next_serial + 1) b → IsFirst s new c
-first_told s new c a b sound ea eb e =
+pub first_told : (s : Inside) (new : Keys) (c : Caller) (a b : Key) → IsSound s → IsBelow s.keys.keys s.keys.next → a ≡ uid_key (codes "_uid.") [] c → b ≡ uid_key (codes "_uid_ses.") ((a.name, s.keys.next) ∷ []) c → new ≡ with_key (with_key s.keys a) b → IsFirst s new c
+first_told s new c a b sound unused ea eb e =
     let es = s.keys.keys in
-    let n = s.next_serial in
+    let n = s.keys.next in
     let one = put es n a in
-    let none : at es n ≡ None = sound.keys n (omega arith) in
-    let below : IsBelow one (n + 1) = below_put es one n a refl sound.keys in
+    let none : at es n ≡ None = unused n (omega arith) in
+    let below : IsBelow one (n + 1) = below_put es one n a refl unused in
     let none_next : at one (n + 1) ≡ None = below (n + 1) (omega arith) in
     let fit_a : AreNamed (name_at one) (content_links a.content) = subst (λ (k : Key). AreNamed (name_at one) (content_links k.content)) (sym ea) tt in
     let fit_one : AreFit one = fit_put es n a none fit_a sound.fit in
@@ -101,14 +105,13 @@ first_told s new c a b sound ea eb e =
     let fit_b : AreNamed (name_at (put one (n + 1) b)) (content_links b.content) =
     subst (λ (k : Key). AreNamed (name_at (put one (n + 1) b)) (content_links k.content)) (sym eb) (stays, tt) in
     rw e (record {
-      keys = λ q h. below_put one (put one (n + 1) b) (n + 1) b refl below q (omega arith);
+      next = omega arith;
       fit = fit_put one (n + 1) b none_next fit_b fit_one;
       is = put_map seen one (n + 1) b ∙ (ap (λ zs. put zs (n + 1) (seen b)) (put_map seen es n a) ∙ (ap (λ (k : Key). put (put (shown es) n (seen k)) (n + 1) (seen b)) ea ∙ ap (λ (k : Key). put (put (shown es) n (uid_ring (codes "_uid.") [] c)) (n + 1) (seen k)) eb));
     })
 
 -- after a sweep
 pub record IsSweptTable (s : Inside) (new : Table Key) : Type 0 where
-  pub keys : IsBelow new s.next_serial
   pub fit : AreFit new
   pub sweep : IsSweep (state_of s) (record (state_of s) { keys = shown new })
 
@@ -137,7 +140,6 @@ sweep_told s new sound sweeps =
     links_kept es rs kept sweeps.picks (content_links key.content) (sound.fit j key there)
     (λ q i. Linked j q held (rw shown_there (subst (λ (zs : List ℕ). is_in q zs ≡ true) (serials-content key.content) i))) in
     rw sweeps.keys (record {
-      keys = λ q h. at_filter_none (λ e. kept e.0) es q (sound.keys q h);
       fit = fit_kept es kept closed sound.fit;
       sweep = record { kept = kept; picks = sweeps.picks; keys = filter_map_keys seen es kept; rest = refl };
     })
@@ -149,6 +151,19 @@ neither false d h = (refl, h)
 pub is_none : {X : Type 0} (o : Option X) → is_some o ≡ false → o ≡ None
 is_none None h = refl
 is_none (Some x) h = absurd (true≢false h)
+
+key_shown_at : (es : Table Key) (k : ℕ) (v : model.Key) → at (shown es) k ≡ Some v → (key : Key) × (at es k ≡ Some key) × (seen key ≡ v)
+key_shown_at es k v h = key_shown (at es k) v (sym (at_map seen es k) ∙ h)
+
+-- a change of one key that lets go of nothing leaves every key held
+pub change_swept : (s : Inside) (k : ℕ) (x : Change) → lets_go x (at s.keys.keys k) ≡ false → AllHeld (state_of s) → AllHeld (changed (state_of s) k (meant_change x))
+change_swept s k x kept swept =
+    changed_swept (state_of s) k (meant_change x)
+    (λ v q there i. let is = key_shown_at s.keys.keys k v there in
+    subst (λ (w : model.Key). is_in q (links_of (meant_change x w).content) ≡ true) is.2
+    (subst (λ (w : model.Key). is_in q (links_of w.content) ≡ true) (seen-changed x is.0)
+    (links_left x is.0 q (ap (lets_go x) (sym is.1) ∙ kept) (subst (λ (w : model.Key). is_in q (links_of w.content) ≡ true) (sym is.2) i))))
+    swept
 
 -- where an added key goes is told by the name that the links have
 pub place_told : (s : model.State) (c : Context) (name : Name) (id : ℤ) (ring : ℕ) (key : Key) (links : LinkList) → look_up s c id (Granted WRITE) ≡ Ok (ring, seen key) → key.content ≡ Links links → FindsByName s.keys key → place_of s c name id ≡ by_match s c ring (serials links) (linked_as links name)

@@ -1,6 +1,4 @@
-pub mod Links
-pub mod Keys
-pub mod Marks
+pub mod Making
 pub mod Places
 pub mod View
 pub mod Told

@@ -1,7 +1,5 @@
 -- Where an added key goes, as the store tells it.
-use Rattle.std.specs.Prelude.{◌≡◌, ℕ, ◌≤◌}
-use Rattle.krs_model.specs.State.{State}
-use Rattle.krs_model.specs.Table.{at}
+use Rattle.std.specs.Prelude.{ℕ, ◌≤◌}
 use Rattle.krs_model.specs.Asks.Adding as model
 use Rattle.krs_store.specs.declared.asks.adding.Place.{Place}
 use Rattle.krs_store.specs.declared.asks.adding.Place.TheVariants.{Update, Make}

@@ -4,7 +4,7 @@ use Rattle.krs_model.specs.Table.{IsBelow}
 use Rattle.krs_model.specs.State.{State}
 use Rattle.krs_model.specs.Sweep.{AllHeld}
 use Rattle.krs_store.specs.declared.tables.Tables.TheInside.{Inside}
-use Rattle.krs_store.specs.Keys.{shown, AreFit}
+use Rattle.krs_keys.specs.Keys.{shown, AreFit}
 
 -- there are no queues and no watches yet
 abbrev pub state_of : Inside → State
@@ -15,7 +15,7 @@ state_of s = record {
   uids = s.uids.entries;
   queues = [];
   watches = [];
-  next_serial = s.next_serial;
+  next_serial = s.keys.next;
   next_context = s.next_context;
   next_queue = 1;
   clock = s.clock;
@@ -23,7 +23,6 @@ state_of s = record {
 
 -- Numbers not given yet are in no use. Each link has the name of its key. Every key is held, where none was let go of.
 pub record IsSound (s : Inside) : Type 0 where
-  pub keys : IsBelow s.keys.keys s.next_serial
   pub contexts : IsBelow s.contexts.entries s.next_context
   pub processes : IsBelow s.processes.entries s.next_context
   pub fit : AreFit s.keys.keys

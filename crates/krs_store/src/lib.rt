@@ -3,11 +3,7 @@
 #![tactic(auto)]
 
 mod asks;
-mod key;
-mod key_table;
-mod links;
 mod store;
-mod sweep;
 mod tables;
 mod walk;
 

@@ -7,10 +7,9 @@ ghost use Rattle.krs_model.specs.Lookup.{context_of, serial_of, look_up};
 ghost use Rattle.krs_model.specs.Outcome.{Leads, Gives, Is};
 ghost use Rattle.krs_model.specs.Step.{outcome_of, grows};
 ghost use Rattle.krs_model.specs.Sweep.{IsSweep};
-ghost use Rattle.krs_store.specs.Keys.{seen, FindsByName};
+ghost use Rattle.krs_keys.specs.Keys.{seen, FindsByName};
 
-use crate::key::Key;
-use crate::key_table::KeyTable;
+use krs_keys::{Key, KeyTable};
 use krs_types::{Answer, Ask, Context, Errno, Fault, KeyId, Op, Serial, UidRings, Want};
 use std::alloc::Global;
 use std::collections::BTreeMap;
@@ -23,7 +22,6 @@ pub(crate) struct Tables {
     pub(crate) contexts: BTreeMap<u32, Context>,
     pub(crate) processes: BTreeMap<u32, Option<Serial>>,
     pub(crate) uids: BTreeMap<u32, UidRings>,
-    pub(crate) next_serial: u32,
     pub(crate) next_context: u64,
     pub(crate) clock: u64,
     /// Whether a key may have been let go of since the last sweep.
@@ -50,11 +48,10 @@ impl Tables {
         ensures { result ≡ starting_at next }
     {
         Tables {
-            keys: KeyTable::new(alloc),
+            keys: KeyTable::starting_at(alloc, next),
             contexts: BTreeMap::new(alloc),
             processes: BTreeMap::new(alloc),
             uids: BTreeMap::new(alloc),
-            next_serial: next,
             next_context: 1,
             clock: 0,
             let_go: false,
@@ -157,6 +154,11 @@ impl Tables {
                 payload,
                 ring,
             } => self.add(client, context, type_name, desc, payload, ring),
+            Op::Update { id, payload } => self.update(client, context, id, payload),
+            Op::Revoke { id } => self.revoke(client, context, id),
+            Op::Chown { id, uid, gid } => self.chown(client, context, id, uid, gid),
+            Op::SetPerm { id, mask } => self.set_perm(client, context, id, mask),
+            Op::SetTimeout { id, seconds } => self.set_timeout(client, context, id, seconds),
             Op::Read { id } => self.read(client, context, id),
             Op::Describe { id } => self.describe(client, context, id),
             Op::Leave => {

@@ -1,15 +1,14 @@
 ghost use Rattle.std.specs.Prelude.{◌≡◌, ◌≤◌, ◌+◌, ◌||◌, is_some, length, IfOk, OnOk, OnErr};
-ghost use Rattle.krs_model.specs.Table.{alter};
 ghost use Rattle.krs_model.specs.Outcome.{Leads, Gives, Is};
-ghost use Rattle.krs_model.specs.Asks.Adding.{admitted, if_room, by_match, place_of, updated, made, IsRing, add};
+ghost use Rattle.krs_model.specs.Asks.Adding.{admitted, if_room, by_match, place_of, first_perm, made, IsRing, add};
 ghost use Rattle.krs_store.specs.Places.{meant, HasSerial};
-ghost use Rattle.krs_store.specs.Links.{serials};
-ghost use Rattle.krs_store.specs.Keys.{seen, maker_key};
+ghost use Rattle.krs_keys.specs.Links.{serials};
+ghost use Rattle.krs_keys.specs.Keys.{seen};
+ghost use Rattle.krs_store.specs.Making.{maker_key};
 
-use crate::key::{Content, Key};
-use crate::links::Links;
 use crate::tables::Tables;
 use bitflags::Flags;
+use krs_keys::{Change, Content, Key, Links};
 use krs_types::{
     Answer, Blob, Body, Context, Desc, Errno, Fault, Kind, Name, Perm, Rights, Serial, Want,
 };
@@ -37,7 +36,7 @@ fn admitted(type_name: &[u8], desc: &[u8], payload: &[u8]) -> Result<Kind, Errno
     ensures payload { OnOk result (length payload.now ≤ 32767) }
 {
     let kind = Kind::named(type_name)?;
-    if !kind.is(Kind::User) {
+    if kind.is(Kind::Keyring) {
         return Err(Errno::ENODEV);
     }
     kind.check(desc, payload)?;
@@ -58,7 +57,7 @@ impl Tables {
         if displaced.is_none() && links.len() >= MAX_LINKS {
             return Err(Errno::ENFILE);
         }
-        if self.next_serial > LAST_SERIAL {
+        if self.keys.next() > LAST_SERIAL {
             return Err(Errno::ENOSPC);
         }
         Ok(Place::Make(ring))
@@ -109,13 +108,6 @@ impl Tables {
         }
     }
 
-    /// Another payload for a key, which then has no expiry.
-    fn update(&mut self, serial: Serial, payload: Body)
-        ensures { self.new ≡ record self.old { keys = alter self.old.keys serial (updated payload) } }
-    {
-        self.keys.update(serial, payload);
-    }
-
     /// A new key that a keyring links, under the next serial.
     fn make(
         &mut self,
@@ -131,22 +123,26 @@ impl Tables {
         ensures ok { OnOk result (self.new ≡ made self.old ring name (seen (maker_key name payload uid gid))) }
         ensures err { OnErr result (self.new ≡ self.old) }
     {
-        let serial = Serial::new(self.next_serial);
+        let serial = Serial::new(self.keys.next());
         let link = name.copy(self.alloc)?;
+        let kind = name.kind;
         let key = Key {
             name,
             uid,
             gid,
-            perm: Perm::OF_KEY,
+            perm: first_perm(kind),
             expiry: None,
             revoked: false,
             joined: false,
             content: Content::Payload(payload),
         };
-        let displaced = self.keys.insert_linked(ring, link, serial, key)?;
-        self.next_serial += 1;
-        self.let_go = lets_go(self.let_go, displaced);
-        Ok(serial)
+        match self.keys.insert_linked(ring, link, key) {
+            Ok(displaced) => {
+                self.let_go = lets_go(self.let_go, displaced);
+                Ok(serial)
+            }
+            Err(_) => Err(AllocError),
+        }
     }
 
     /// A new key in a keyring, or a new payload for the key that stands there: add_key(2).
@@ -171,7 +167,7 @@ impl Tables {
         let payload = Body::new(payload.into_vec());
         match self.place_of(context, &name, ring)? {
             Place::Update(serial) => {
-                self.update(serial, payload);
+                self.change(serial, Change::Payload(payload));
                 Ok(Answer::Number(serial.number()))
             }
             Place::Make(ring) => {
@@ -180,6 +176,16 @@ impl Tables {
                 Ok(Answer::Number(serial.number()))
             }
         }
+    }
+}
+
+/// The mask of a new key: profile, masks of new keys.
+fn first_perm(kind: Kind) -> Perm
+    ensures { result ≡ first_perm kind }
+{
+    match kind {
+        Kind::User | Kind::Keyring => Perm::OF_KEY,
+        Kind::Logon => Perm::OF_LOGON,
     }
 }
 

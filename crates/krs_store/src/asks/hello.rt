@@ -3,12 +3,11 @@ ghost use Rattle.std.specs.BTreeMap.{values};
 ghost use Rattle.krs_model.specs.Table.{at, put, without};
 ghost use Rattle.krs_model.specs.Outcome.{Leads};
 ghost use Rattle.krs_model.specs.Asks.Hello.{hello, uid_ring, with_context, with_uid, first_session};
-ghost use Rattle.krs_store.specs.Keys.{uid_name, named_uid_key, uid_key};
+ghost use Rattle.krs_keys.specs.Table.{with_key};
+ghost use Rattle.krs_store.specs.Making.{uid_name, named_uid_key, uid_key};
 
-use crate::key::{Content, Key};
-use crate::key_table::KeyTable;
-use crate::links::Links;
 use crate::tables::Tables;
+use krs_keys::{Content, Key, KeyTable, Links};
 use krs_types::{
     Answer, Blob, Caller, Context, Desc, Errno, Fault, Kind, Name, Perm, Serial, UidRings,
 };
@@ -108,46 +107,24 @@ fn uid_keys(alloc: Global, caller: &Caller, first: Serial) -> Result<(Key, Key),
     Ok((user, uid_key(session_name, links, caller)))
 }
 
-/// Two keys under consecutive serials. A refusal leaves neither.
-#[tactic(auto, using(krs_model::proofs::Tables::without_put))]
-fn put_two(keys: &mut KeyTable, first: u32, a: Key, b: Key) -> Result<(), AllocError>
-    requires fits { first + 1 < 2 ^ 32 }
-    requires absent { at keys.old.keys first ≡ None }
-    ensures ok { OnOk result (keys.new.keys ≡ put (put keys.old.keys first a) (first + 1) b) }
-    ensures err { OnErr result (keys.new.keys ≡ keys.old.keys) }
-{
-    keys.insert(Serial::new(first), a)?;
-    if keys.insert(Serial::new(first + 1), b).is_err() {
-        keys.remove(Serial::new(first));
-        return Err(AllocError);
-    }
-    Ok(())
-}
-
 /// The two keyrings of a uid, under consecutive serials. A refusal leaves nothing of them.
 #[tactic(auto, using(krs_model::proofs::Tables::without_put))]
 fn put_rings(
     keys: &mut KeyTable,
     uids: &mut BTreeMap<u32, UidRings>,
-    first: u32,
-    a: Key,
-    b: Key,
+    first: Key,
+    second: Key,
     uid: u32,
+    rings: UidRings,
 ) -> Result<(), AllocError>
-    requires fits { first + 1 < 2 ^ 32 }
-    requires absent { at keys.old.keys first ≡ None }
-    requires absent_uid { at uids.old.entries uid ≡ None }
-    ensures keys { OnOk result (keys.new.keys ≡ put (put keys.old.keys first a) (first + 1) b) }
-    ensures uids { OnOk result (uids.new.entries ≡ put uids.old.entries uid (record { user = Some first; session = Some (first + 1) })) }
-    ensures err_keys { OnErr result (keys.new.keys ≡ keys.old.keys) }
+    requires { at uids.old.entries uid ≡ None }
+    ensures keys { OnOk result (keys.new ≡ with_key (with_key keys.old first) second) }
+    ensures uids { OnOk result (uids.new.entries ≡ put uids.old.entries uid rings) }
+    ensures err_keys { OnErr result (keys.new ≡ keys.old) }
     ensures err_uids { OnErr result (uids.new.entries ≡ uids.old.entries) }
 {
-    let rings = UidRings {
-        user: Some(Serial::new(first)),
-        session: Some(Serial::new(first + 1)),
-    };
     put_new(uids, uid, rings)?;
-    if put_two(keys, first, a, b).is_err() {
+    if keys.insert_two(first, second).is_err() {
         take_out(uids, uid);
         return Err(AllocError);
     }
@@ -163,27 +140,25 @@ fn enter_first(
     uids: &mut BTreeMap<u32, UidRings>,
     number: u32,
     context: Context,
-    first: u32,
-    a: Key,
-    b: Key,
+    first: Key,
+    second: Key,
     uid: u32,
+    rings: UidRings,
 ) -> Result<(), AllocError>
-    requires fits { first + 1 < 2 ^ 32 }
-    requires absent { at keys.old.keys first ≡ None }
     requires absent_uid { at uids.old.entries uid ≡ None }
     requires absent_context { at contexts.old.entries number ≡ None }
     requires absent_process { at processes.old.entries number ≡ None }
     ensures contexts { OnOk result (contexts.new.entries ≡ put contexts.old.entries number context) }
     ensures processes { OnOk result (processes.new.entries ≡ put processes.old.entries number None) }
-    ensures keys { OnOk result (keys.new.keys ≡ put (put keys.old.keys first a) (first + 1) b) }
-    ensures uids { OnOk result (uids.new.entries ≡ put uids.old.entries uid (record { user = Some first; session = Some (first + 1) })) }
+    ensures keys { OnOk result (keys.new ≡ with_key (with_key keys.old first) second) }
+    ensures uids { OnOk result (uids.new.entries ≡ put uids.old.entries uid rings) }
     ensures err_contexts { OnErr result (contexts.new.entries ≡ contexts.old.entries) }
     ensures err_processes { OnErr result (processes.new.entries ≡ processes.old.entries) }
-    ensures err_keys { OnErr result (keys.new.keys ≡ keys.old.keys) }
+    ensures err_keys { OnErr result (keys.new ≡ keys.old) }
     ensures err_uids { OnErr result (uids.new.entries ≡ uids.old.entries) }
 {
     enter(contexts, processes, number, context)?;
-    if put_rings(keys, uids, first, a, b, uid).is_err() {
+    if put_rings(keys, uids, first, second, uid, rings).is_err() {
         take_out(contexts, number);
         take_out(processes, number);
         return Err(AllocError);
@@ -227,15 +202,19 @@ impl Tables {
         ensures err { OnErr result (self.new ≡ self.old) }
     {
         let number = self.next_context as u32;
-        let first = self.next_serial;
+        let first = self.keys.next();
         let uid = caller.uid;
         let (user, session) = uid_keys(self.alloc, &caller, Serial::new(first))?;
+        let rings = UidRings {
+            user: Some(Serial::new(first)),
+            session: Some(Serial::new(first + 1)),
+        };
         let context = Context {
             client,
             process: number,
             caller,
             thread: None,
-            session: Some(Serial::new(first + 1)),
+            session: rings.session,
         };
         enter_first(
             &mut self.contexts,
@@ -244,13 +223,12 @@ impl Tables {
             &mut self.uids,
             number,
             context,
-            first,
             user,
             session,
             uid,
+            rings,
         )?;
         self.next_context += 1;
-        self.next_serial += 2;
         Ok(number)
     }
 
@@ -272,7 +250,7 @@ impl Tables {
                 self.open_context(client, caller, session)?
             }
             None => {
-                if self.next_serial > LAST_OF_TWO {
+                if self.keys.next() > LAST_OF_TWO {
                     return Err(Fault::Refused(Errno::ENOSPC));
                 }
                 self.open_first(client, caller)?

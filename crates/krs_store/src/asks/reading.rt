@@ -1,10 +1,10 @@
 ghost use Rattle.std.specs.Prelude.{◌≡◌, ◌<◌, IfOk};
 ghost use Rattle.krs_model.specs.Outcome.{Leads};
 ghost use Rattle.krs_model.specs.Asks.Reading.{read, describe, description, hex_8, hex_digit};
-ghost use Rattle.krs_store.specs.Keys.{seen};
+ghost use Rattle.krs_keys.specs.Keys.{seen};
 
-use crate::key::{Content, Key};
 use crate::tables::Tables;
+use krs_keys::{Content, Key};
 use krs_types::{Answer, Body, Errno, Fault, Kind, Rights, Want};
 use std::alloc::{AllocError, Global};
 

@@ -1,6 +1,5 @@
-use Rattle.std.proofs.Common.{◌≤◌, ◌+◌, ◌++◌, length, arith, length-append}
+use Rattle.std.proofs.Common.{◌≤◌, length, arith, length-append}
 use Rattle.std.specs.Fmt.{decimal}
-use Rattle.std.specs.String.{string_bytes}
 use Rattle.std.proofs.lemmas.Fmt.{length-decimal-le}
 use Rattle.krs_store.proofs.asks.hello.uid_name.Goals as goal
 

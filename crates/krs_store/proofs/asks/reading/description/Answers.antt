@@ -2,7 +2,6 @@ use Rattle.std.proofs.Common.{◌≤◌, ◌≡◌, length, length-append, arith
 use Rattle.std.specs.Fmt.{decimal}
 use Rattle.std.specs.String.{string_bytes}
 use Rattle.std.proofs.lemmas.Fmt.{length-decimal-le}
-use Rattle.krs_types.specs.Kind.{kind_name}
 use Rattle.krs_store.proofs.Telling.{kind_short}
 use Rattle.krs_store.proofs.asks.reading.description.Goals as goal
 

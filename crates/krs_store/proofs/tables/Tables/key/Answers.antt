@@ -1,7 +1,5 @@
 use Rattle.std.proofs.Common.{sym}
-use Rattle.krs_model.specs.State.{State}
-use Rattle.krs_store.specs.Keys.{FindsByName}
-use Rattle.krs_store.proofs.KeysLemmas.{finds_by_name}
+use Rattle.krs_keys.proofs.KeysLemmas.{finds_by_name}
 use Rattle.krs_store.proofs.tables.Tables.key.Goals as goal
 
 pub returns-in-Some-clause-named : goal.returns-in-Some-clause-named

@@ -4,7 +4,6 @@ use Rattle.krs_store.proofs.tables.Tables.leave.Goals as goal
 
 pub invariant_of-self : goal.invariant_of-self
 invariant_of-self c = record {
-  keys = c.self.invariant.keys;
   contexts = below_filter _ _ _ c.self.inside.next_context c.drop_contexts.ensures c.self.invariant.contexts;
   processes = below_filter _ _ _ c.self.inside.next_context c.drop_processes.ensures c.self.invariant.processes;
   fit = c.self.invariant.fit;

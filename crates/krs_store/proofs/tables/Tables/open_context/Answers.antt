@@ -9,7 +9,6 @@ invariant_of-self-2 c =
     let n = c.self.inside.next_context in
     let last : n ≤ n = omega arith in
     record {
-      keys = c.self.invariant.keys;
       contexts = below_put _ _ n _ c.in_ok-enter.ensures.contexts c.self.invariant.contexts;
       processes = below_put _ _ n _ c.in_ok-enter.ensures.processes c.self.invariant.processes;
       fit = c.self.invariant.fit;

@@ -6,8 +6,8 @@ use Rattle.krs_types.specs.Rights.{WRITE}
 use Rattle.krs_model.specs.Lookup.{look_up}
 use Rattle.krs_model.specs.Outcome.{Gives}
 use Rattle.krs_model.specs.Asks.Adding as model
-use Rattle.krs_store.specs.Links.{serials, linked_as}
-use Rattle.krs_store.specs.Keys.{seen}
+use Rattle.krs_keys.specs.Links.{serials, linked_as}
+use Rattle.krs_keys.specs.Keys.{seen}
 use Rattle.krs_store.specs.Places.{meant}
 use Rattle.krs_store.proofs.Telling.{place_told}
 use Rattle.krs_store.proofs.tables.Tables.place_of.Goals as goal

@@ -1,6 +1,4 @@
 use Rattle.std.proofs.Common.{refl}
-use Rattle.krs_model.specs.State.{State}
-use Rattle.krs_model.specs.Sweep.{IsSweep}
 use Rattle.krs_model.proofs.Sweeps.{swept_sweep, sweep_swept}
 use Rattle.krs_store.specs.View.{state_of}
 use Rattle.krs_store.proofs.Telling.{sweep_told}
@@ -8,9 +6,8 @@ use Rattle.krs_store.proofs.tables.Tables.sweep.Goals as goal
 
 pub invariant_of-self : goal.invariant_of-self
 invariant_of-self c =
-    let told = sweep_told c.self.inside c.sweep.new.self.keys c.self.invariant c.sweep.ensures in
+    let told = sweep_told c.self.inside c.sweep.new.self.keys c.self.invariant c.sweep.ensures.keys in
     record {
-      keys = told.keys;
       contexts = c.self.invariant.contexts;
       processes = c.self.invariant.processes;
       fit = told.fit;
@@ -19,8 +16,8 @@ invariant_of-self c =
 
 pub returns-then-self : goal.returns-then-self
 returns-then-self c =
-    let told = sweep_told c.self.inside c.sweep.new.self.keys c.self.invariant c.sweep.ensures in
-    rw (← c.self.view_is) told.sweep
+    let told = sweep_told c.self.inside c.sweep.new.self.keys c.self.invariant c.sweep.ensures.keys in
+    rw (← c.self.view_is, c.sweep.ensures.next) told.sweep
 
 pub returns-else-self : goal.returns-else-self
 returns-else-self c =

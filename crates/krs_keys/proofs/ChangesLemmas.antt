@@ -1,0 +1,75 @@
+-- What a change of a key comes to in the definitions, and which links it leaves.
+use Rattle.std.proofs.Common.{◌≡◌, ℕ, List, [], ◌∷◌, Option, Some, true, false, refl}
+use Rattle.std.proofs.lemmas.Bool.{true≢false}
+use Rattle.krs_types.specs.declared.name.Name.{Name}
+use Rattle.krs_model.specs.Table.{Table, alter}
+use Rattle.krs_model.specs.Possession.{links_of}
+use Rattle.krs_model.specs.Levels.{is_in}
+use Rattle.krs_keys.specs.declared.key.Key.{Key}
+use Rattle.krs_keys.specs.declared.key.Content.{Content}
+use Rattle.krs_keys.specs.declared.key.Content.TheVariants.{Payload, Links}
+use Rattle.krs_keys.specs.declared.key.Change.{Change}
+use Rattle.krs_keys.specs.declared.key.Change.TheVariants as change
+use Rattle.krs_keys.specs.Keys.{content_links, name_at, AreNamed, AreFit, seen, seen_content}
+use Rattle.krs_keys.specs.Changes.{changed, meant_change, paid_with, emptied, lets_go}
+use Rattle.krs_keys.proofs.Fitting.{fit_alter}
+
+paid_seen : (payload : List ℕ) (key : Key) (content : Content) → seen (changed (change.Payload payload) (record key { content = content })) ≡ meant_change (change.Payload payload) (seen (record key { content = content }))
+paid_seen payload key (Payload old) = refl
+paid_seen payload key (Links links) = refl
+
+ended_seen : (key : Key) (content : Content) → seen (changed change.Revoked (record key { content = content })) ≡ meant_change change.Revoked (seen (record key { content = content }))
+ended_seen key (Payload old) = refl
+ended_seen key (Links links) = refl
+
+-- a change, as the definitions see it
+pub seen-changed : (c : Change) (key : Key) → seen (changed c key) ≡ meant_change c (seen key)
+seen-changed (change.Payload payload) key = paid_seen payload key key.content
+seen-changed (change.Mask mask) key = refl
+seen-changed (change.Owner uid gid) key = refl
+seen-changed (change.Expiry expiry) key = refl
+seen-changed change.Revoked key = ended_seen key key.content
+
+pub name-changed : (c : Change) (key : Key) → (changed c key).name ≡ key.name
+name-changed (change.Payload payload) key = refl
+name-changed (change.Mask mask) key = refl
+name-changed (change.Owner uid gid) key = refl
+name-changed (change.Expiry expiry) key = refl
+name-changed change.Revoked key = refl
+
+paid_named : (names : ℕ → Option Name) (payload : List ℕ) (content : Content) → AreNamed names (content_links content) → AreNamed names (content_links (paid_with payload content))
+paid_named names payload (Payload old) named = named
+paid_named names payload (Links links) named = named
+
+emptied_named : (names : ℕ → Option Name) (content : Content) → AreNamed names (content_links (emptied content))
+emptied_named names (Payload old) = tt
+emptied_named names (Links links) = tt
+
+changed_named : (names : ℕ → Option Name) (c : Change) (key : Key) → AreNamed names (content_links key.content) → AreNamed names (content_links (changed c key).content)
+changed_named names (change.Payload payload) key named = paid_named names payload key.content named
+changed_named names (change.Mask mask) key named = named
+changed_named names (change.Owner uid gid) key named = named
+changed_named names (change.Expiry expiry) key named = named
+changed_named names change.Revoked key named = emptied_named names key.content
+
+-- links keep the names of their keys
+pub fit_changed : (keys : Table Key) (k : ℕ) (c : Change) → AreFit keys → AreFit (alter keys k (changed c))
+fit_changed keys k c fit =
+    fit_alter keys k (changed c) (name-changed c) (λ v there. changed_named (name_at keys) c v (fit k v there)) fit
+
+paid_links : (payload : List ℕ) (content : Content) (q : ℕ) → is_in q (links_of (seen_content content)) ≡ true → is_in q (links_of (seen_content (paid_with payload content))) ≡ true
+paid_links payload (Payload old) q h = h
+paid_links payload (Links links) q h = h
+
+ended_links : (key : Key) (content : Content) (q : ℕ) → lets_go change.Revoked (Some (record key { content = content })) ≡ false → is_in q (links_of (seen_content content)) ≡ true → is_in q (links_of (seen_content (emptied content))) ≡ true
+ended_links key (Payload old) q kept h = h
+ended_links key (Links []) q kept h = h
+ended_links key (Links (link ∷ links)) q kept h = absurd (true≢false kept)
+
+-- a change that lets go of nothing leaves every link
+pub links_left : (c : Change) (key : Key) (q : ℕ) → lets_go c (Some key) ≡ false → is_in q (links_of (seen_content key.content)) ≡ true → is_in q (links_of (seen_content (changed c key).content)) ≡ true
+links_left (change.Payload payload) key q kept h = paid_links payload key.content q h
+links_left (change.Mask mask) key q kept h = h
+links_left (change.Owner uid gid) key q kept h = h
+links_left (change.Expiry expiry) key q kept h = h
+links_left change.Revoked key q kept h = ended_links key key.content q kept h

@@ -1,0 +1,48 @@
+-- Changes of a key as it is kept, and as the definitions see them.
+use Rattle.std.specs.Prelude.{ℕ, List, [], ◌∷◌, Bool, true, false, Option, None, Some}
+use Rattle.krs_model.specs.State as model
+use Rattle.krs_model.specs.Asks.Changing as meant
+use Rattle.krs_keys.specs.declared.key.Key.{Key}
+use Rattle.krs_keys.specs.declared.key.Content.{Content}
+use Rattle.krs_keys.specs.declared.key.Content.TheVariants.{Payload, Links}
+use Rattle.krs_keys.specs.declared.key.Change.{Change}
+use Rattle.krs_keys.specs.declared.key.Change.TheVariants as change
+
+-- another payload in the place of the one that is there
+abbrev pub paid_with : List ℕ → Content → Content
+paid_with payload (Payload old) = Payload payload
+paid_with payload (Links links) = Links links
+
+abbrev pub emptied : Content → Content
+emptied (Payload bytes) = Payload []
+emptied (Links links) = Links []
+
+-- the key after a change
+abbrev pub changed : Change → Key → Key
+changed (change.Payload payload) key = record key { content = paid_with payload key.content; expiry = None }
+changed (change.Mask mask) key = record key { perm = mask }
+changed (change.Owner uid gid) key = record key { uid = meant.or_left uid key.uid; gid = meant.or_left gid key.gid }
+changed (change.Expiry expiry) key = record key { expiry = expiry }
+changed change.Revoked key = record key { revoked = true; content = emptied key.content }
+
+-- the change of the definitions
+abbrev pub meant_change : Change → model.Key → model.Key
+meant_change (change.Payload payload) = meant.updated payload
+meant_change (change.Mask mask) = meant.with_perm mask
+meant_change (change.Owner uid gid) = meant.with_owner uid gid
+meant_change (change.Expiry expiry) = meant.with_expiry expiry
+meant_change change.Revoked = meant.revoked
+
+abbrev pub links_some : Content → Bool
+links_some (Payload bytes) = false
+links_some (Links []) = false
+links_some (Links (link ∷ links)) = true
+
+-- a change after which a keyring links less
+abbrev pub lets_go : Change → Option Key → Bool
+lets_go change.Revoked (Some key) = links_some key.content
+lets_go change.Revoked None = false
+lets_go (change.Payload payload) key = false
+lets_go (change.Mask mask) key = false
+lets_go (change.Owner uid gid) key = false
+lets_go (change.Expiry expiry) key = false

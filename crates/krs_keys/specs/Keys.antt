@@ -1,0 +1,72 @@
+-- Keys as they are kept, with the names of their links, and as the definitions see them.
+use Rattle.std.specs.Prelude.{◌≡◌, ℕ, [], ◌∷◌, Option, None, Some}
+use Rattle.std.specs.Option.{option_map}
+use Rattle.krs_types.specs.declared.name.Name.{Name}
+use Rattle.krs_model.specs.Table.{Table, at, map_values}
+use Rattle.krs_model.specs.State as model
+use Rattle.krs_model.specs.Linking.{link_named}
+use Rattle.krs_keys.specs.declared.key.Key.{Key}
+use Rattle.krs_keys.specs.declared.key.Content.{Content}
+use Rattle.krs_keys.specs.declared.key.Content.TheVariants.{Payload, Links}
+use Rattle.krs_keys.specs.Links.{LinkList, linked, linked_as, serials}
+
+-- the named links of a keyring
+abbrev pub content_links : Content → LinkList
+content_links (Payload bytes) = []
+content_links (Links links) = links
+
+abbrev pub seen_content : Content → model.Content
+seen_content (Payload bytes) = model.Payload bytes
+seen_content (Links links) = model.Links (serials links)
+
+-- the key of the definitions
+abbrev pub seen : Key → model.Key
+seen key = record {
+  kind = key.name.kind;
+  desc = key.name.desc;
+  uid = key.uid;
+  gid = key.gid;
+  perm = key.perm;
+  expiry = key.expiry;
+  revoked = key.revoked;
+  joined = key.joined;
+  content = seen_content key.content;
+}
+
+-- the keys of the definitions
+abbrev pub shown : Table Key → Table model.Key
+shown es = map_values seen es
+
+-- what a keyring links, with one link more
+abbrev pub entered : Name → ℕ → Content → Content
+entered name serial (Payload bytes) = Payload bytes
+entered name serial (Links links) = Links (linked links name serial)
+
+-- one more link
+abbrev pub with_entry : Name → ℕ → Key → Key
+with_entry name serial key = record key { content = entered name serial key.content }
+
+-- the name of the key at a serial
+abbrev pub name_at : Table Key → ℕ → Option Name
+name_at keys serial = option_map (λ key. key.name) (at keys serial)
+
+-- each link names a key, under that key's own name
+abbrev pub AreNamed : (ℕ → Option Name) → LinkList → Type 0
+AreNamed names [] = Unit {0}
+AreNamed names (link ∷ links) = (names link.1 ≡ Some link.0) × AreNamed names links
+
+-- every link of every key does
+abbrev pub AreFit : Table Key → Type 0
+AreFit keys = (serial : ℕ) (key : Key) → at keys serial ≡ Some key → AreNamed (name_at keys) (content_links key.content)
+
+-- the serial that a link of that name in a keyring displaces
+abbrev pub displaced_by : Name → Option Key → Option ℕ
+displaced_by name None = None
+displaced_by name (Some key) = linked_as (content_links key.content) name
+
+abbrev pub displaced_at : Table Key → ℕ → Name → Option ℕ
+displaced_at keys ring name = displaced_by name (at keys ring)
+
+-- a link's name finds the key of that name among what a keyring links
+abbrev pub FindsByName : Table model.Key → Key → Type 0
+FindsByName keys key = (name : Name) → link_named keys name (serials (content_links key.content)) ≡ linked_as (content_links key.content) name

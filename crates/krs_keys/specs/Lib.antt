@@ -1,0 +1,5 @@
+pub mod Links
+pub mod Keys
+pub mod Changes
+pub mod Table
+pub mod Marks

@@ -1,0 +1,24 @@
+-- What a table of keys is seen as.
+use Rattle.std.specs.Prelude.{ℕ, ◌+◌, nat_lt, if◌then◌else◌}
+use Rattle.krs_types.specs.declared.errno.Errno.{Errno}
+use Rattle.krs_types.specs.declared.errno.Errno.TheVariants.{ENOSPC, ENOMEM}
+use Rattle.krs_model.specs.Table.{Table, put, map_values}
+use Rattle.krs_keys.specs.declared.key.Key.{Key}
+use Rattle.krs_keys.specs.declared.key_table.Slot.{Slot}
+
+-- the keys by serial, and the serial that comes next
+pub record Keys : Type 0 where
+  pub keys : Table Key
+  pub next : ℕ
+
+-- the keys without their marks
+abbrev pub unmarked : Table Slot → Table Key
+unmarked es = map_values (λ slot. slot.key) es
+
+-- one more key, under the next serial
+abbrev pub with_key : Keys → Key → Keys
+with_key t key = record { keys = put t.keys t.next key; next = t.next + 1 }
+
+-- why that many more keys are refused: no serial is left for them, or there is no memory. Profile, serials run out
+abbrev pub insert_error : ℕ → ℕ → Errno
+insert_error next count = if nat_lt 2147483648 (next + count) then ENOSPC else ENOMEM

@@ -1,0 +1,161 @@
+ghost use Rattle.std.specs.Prelude.{◌≡◌, IfOk, OnOk, OnErr};
+ghost use Rattle.krs_keys.specs.Links.{linked_as, serials};
+ghost use Rattle.krs_keys.specs.Keys.{with_entry, content_links, seen, seen_content};
+ghost use Rattle.krs_keys.specs.Changes.{changed};
+ghost use Rattle.krs_model.specs.Asks.Changing.{or_left};
+ghost use Rattle.krs_model.specs.Possession.{links_of};
+ghost use Rattle.krs_model.specs.Access.{is_over, is_alive, rights_on};
+
+use crate::Links;
+use krs_types::{Body, Caller, Name, Perm, Rights, Serial};
+use std::alloc::AllocError;
+
+/// What a key holds.
+#[derive(Drop)]
+pub enum Content {
+    Payload(Body),
+    Links(Links),
+}
+
+/// A key as it is kept: its links have their names beside them. keyrings(7), "Keys".
+#[derive(Drop)]
+pub struct Key {
+    pub name: Name,
+    pub uid: u32,
+    pub gid: u32,
+    pub perm: Perm,
+    pub expiry: Option<u64>,
+    pub revoked: bool,
+    pub joined: bool,
+    pub content: Content,
+}
+
+/// A change of one key: keyctl(2).
+#[derive(Drop)]
+pub enum Change {
+    /// Another payload, and no expiry any more. A keyring keeps its links.
+    Payload(Body),
+    /// Another permission mask.
+    Mask(Perm),
+    /// Another owner and group. 4294967295 leaves what is there.
+    Owner { uid: u32, gid: u32 },
+    /// When its time is over, if ever.
+    Expiry(Option<u64>),
+    /// The end: neither payload nor links are left.
+    Revoked,
+}
+
+/// Stands for the uid or gid that is there.
+const LEAVE: u32 = 4_294_967_295;
+
+impl Key {
+    /// Whether its time is over.
+    pub fn is_over(&self, clock: u64) -> bool
+        ensures { result ≡ is_over clock self.now.expiry }
+    {
+        match self.expiry {
+            Some(end) => end <= clock,
+            None => false,
+        }
+    }
+
+    /// Neither revoked nor expired.
+    pub fn is_alive(&self, clock: u64) -> bool
+        ensures { result ≡ is_alive clock (seen self.now) }
+    {
+        !self.revoked && !self.is_over(clock)
+    }
+
+    /// What a caller may do with it.
+    pub fn grants(&self, caller: &Caller, possessed: bool) -> Rights
+        ensures { result.0 ≡ rights_on (seen self.now) caller.now possessed }
+    {
+        self.perm.grants(caller, self.uid, self.gid, possessed)
+    }
+
+    /// What it links, with names; nothing where it is no keyring.
+    pub fn entries(&self) -> &[(Name, Serial)]
+        ensures entries { result.now ≡ content_links self.now.content }
+        ensures serials { serials result.now ≡ links_of (seen_content self.now.content) }
+    {
+        match &self.content {
+            Content::Payload(_) => &[],
+            Content::Links(links) => links.as_slice(),
+        }
+    }
+
+    /// Changes it.
+    pub fn change(&mut self, change: Change)
+        ensures { self.new ≡ changed change self.old }
+    {
+        match change {
+            Change::Payload(payload) => {
+                self.content.pay(payload);
+                self.expiry = None;
+            }
+            Change::Mask(perm) => self.perm = perm,
+            Change::Owner { uid, gid } => {
+                self.uid = or_left(uid, self.uid);
+                self.gid = or_left(gid, self.gid);
+            }
+            Change::Expiry(expiry) => self.expiry = expiry,
+            Change::Revoked => {
+                self.revoked = true;
+                self.content.empty();
+            }
+        }
+    }
+
+    /// One more link, where it is a keyring; the serial that it displaces.
+    pub fn link(&mut self, name: Name, serial: Serial) -> Result<Option<Serial>, AllocError>
+        ensures ok { OnOk result (self.new ≡ with_entry name serial self.old) }
+        ensures displaced { IfOk result (λ old. old ≡ linked_as (content_links self.old.content) name) }
+        ensures err { OnErr result (self.new ≡ self.old) }
+    {
+        match &mut self.content {
+            Content::Payload(_) => Ok(None),
+            Content::Links(links) => links.put(name, serial),
+        }
+    }
+}
+
+impl Content {
+    ghost use Rattle.krs_keys.specs.Changes.{paid_with, emptied, links_some};
+
+    /// Another payload in the place of the one that is there.
+    fn pay(&mut self, payload: Body)
+        ensures { self.new ≡ paid_with payload self.old }
+    {
+        match self {
+            Content::Payload(bytes) => *bytes = payload,
+            Content::Links(_) => {}
+        }
+    }
+
+    /// Neither payload nor links.
+    fn empty(&mut self)
+        ensures { self.new ≡ emptied self.old }
+    {
+        match self {
+            Content::Payload(bytes) => bytes.clear(),
+            Content::Links(links) => links.clear(),
+        }
+    }
+
+    /// Whether there is a link.
+    pub fn links_some(&self) -> bool
+        ensures { result ≡ links_some self.now }
+    {
+        match self {
+            Content::Payload(_) => false,
+            Content::Links(links) => links.len() > 0,
+        }
+    }
+}
+
+/// What is asked for, or what is there where that is left.
+fn or_left(asked: u32, there: u32) -> u32
+    ensures { result ≡ or_left asked there }
+{
+    if asked == LEAVE { there } else { asked }
+}

@@ -1,0 +1,11 @@
+//! Keys by serial. A contract sees a `KeyTable` as a finite map from serials to keys, and the serial that comes next.
+#![tactic(auto)]
+
+mod key;
+mod key_table;
+mod links;
+mod sweep;
+
+pub use key::{Change, Content, Key};
+pub use key_table::KeyTable;
+pub use links::Links;

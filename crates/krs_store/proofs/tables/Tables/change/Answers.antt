@@ -1,0 +1,35 @@
+use Rattle.std.proofs.Common.{◌≡◌, ap, sym, ◌∙◌}
+use Rattle.krs_model.specs.Table.{alter}
+use Rattle.krs_model.specs.State.{State}
+use Rattle.krs_model.specs.Asks.Changing.{changed}
+use Rattle.krs_model.proofs.Tables.{alter_map}
+use Rattle.krs_keys.specs.Keys.{seen, shown}
+use Rattle.krs_keys.specs.Changes as keys
+use Rattle.krs_keys.proofs.ChangesLemmas.{fit_changed, seen-changed}
+use Rattle.krs_store.specs.View.{state_of}
+use Rattle.krs_store.proofs.Telling.{neither, change_swept}
+use Rattle.krs_store.proofs.tables.Tables.change.Goals as goal
+
+pub invariant_of-self : goal.invariant_of-self
+invariant_of-self c =
+    let es = c.self.inside.keys.keys in
+    let k = c.args.serial in
+    let x = c.args.change in
+    let same : shown (alter es k (keys.changed x)) ≡ alter (shown es) k (keys.meant_change x) = alter_map seen es k (keys.changed x) (keys.meant_change x) (λ v there. seen-changed x v) in
+    record {
+      contexts = c.self.invariant.contexts;
+      processes = c.self.invariant.processes;
+      fit = rw c.set.ensures (fit_changed es k x c.self.invariant.fit);
+      swept = λ clean. let both = neither c.self.inside.let_go c.lets_go.result (sym c.either-self-inside.ensures ∙ clean) in
+          rw (c.set.ensures, same) (change_swept c.self.inside k x (sym c.lets_go.ensures ∙ both.1) (c.self.invariant.swept both.0));
+    }
+
+pub returns : goal.returns
+returns c =
+    let es = c.self.inside.keys.keys in
+    let k = c.args.serial in
+    let x = c.args.change in
+    let same : shown (alter es k (keys.changed x)) ≡ alter (shown es) k (keys.meant_change x) = alter_map seen es k (keys.changed x) (keys.meant_change x) (λ v there. seen-changed x v) in
+    ap (λ zs. record (state_of c.self.inside) { keys = shown zs.keys; next_serial = zs.next }) c.set.ensures
+    ∙ (ap (λ zs. record (state_of c.self.inside) { keys = zs }) same
+    ∙ ap (λ (s : State). changed s k (keys.meant_change x)) c.self.view_is)

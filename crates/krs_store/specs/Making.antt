@@ -1,0 +1,42 @@
+-- The keys that asks make.
+use Rattle.std.specs.Prelude.{ℕ, List, ◌++◌, None, false, decimal}
+use Rattle.krs_types.specs.declared.kind.Kind.TheVariants.{Keyring}
+use Rattle.krs_types.specs.declared.name.Name.{Name}
+use Rattle.krs_types.specs.declared.caller.Caller.{Caller}
+use Rattle.krs_model.specs.Asks.Adding.{first_perm}
+use Rattle.krs_keys.specs.declared.key.Key.{Key}
+use Rattle.krs_keys.specs.declared.key.Content.TheVariants.{Payload, Links}
+use Rattle.krs_keys.specs.Links.{LinkList}
+
+-- a keyring of a uid
+abbrev pub named_uid_key : Name → LinkList → Caller → Key
+named_uid_key name links c = record {
+  name = name;
+  uid = c.uid;
+  gid = c.gid;
+  perm = 524222464;
+  expiry = None;
+  revoked = false;
+  joined = false;
+  content = Links links;
+}
+
+-- `_uid.N` or `_uid_ses.N`, by its beginning
+abbrev pub uid_name : List ℕ → ℕ → Name
+uid_name prefix uid = record { kind = Keyring; desc = prefix ++ decimal uid }
+
+abbrev pub uid_key : List ℕ → LinkList → Caller → Key
+uid_key prefix links c = named_uid_key (uid_name prefix c.uid) links c
+
+-- a new key of its maker
+abbrev pub maker_key : Name → List ℕ → ℕ → ℕ → Key
+maker_key name payload uid gid = record {
+  name = name;
+  uid = uid;
+  gid = gid;
+  perm = first_perm name.kind;
+  expiry = None;
+  revoked = false;
+  joined = false;
+  content = Payload payload;
+}

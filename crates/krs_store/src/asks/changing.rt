@@ -1,0 +1,159 @@
+ghost use Rattle.std.specs.Prelude.{◌≡◌, ◌||◌};
+ghost use Rattle.krs_model.specs.Outcome.{Leads, Is};
+ghost use Rattle.krs_model.specs.Asks.Changing.{changed, updatable, update, if_owner, set_perm, if_may_own, chown, expiry_after, set_timeout, revoke};
+ghost use Rattle.krs_keys.specs.Keys.{seen};
+ghost use Rattle.krs_keys.specs.Changes.{meant_change};
+
+use crate::tables::Tables;
+use krs_keys::{Change, Key};
+use krs_types::{Answer, Blob, Body, Caller, Errno, Fault, Kind, Perm, Rights, Serial, Want};
+
+/// Stands for the uid or gid that is there.
+const LEAVE: u32 = 4_294_967_295;
+
+impl Tables {
+    /// Changes the key at a serial, and nothing else.
+    pub(crate) fn change(&mut self, serial: Serial, change: Change)
+        ensures { self.new ≡ changed self.old serial (meant_change change) }
+    {
+        self.let_go = either(self.let_go, self.keys.lets_go(serial, &change));
+        self.keys.set(serial, change);
+    }
+
+    /// Another payload for a key: keyctl(2), KEYCTL_UPDATE.
+    #[tactic(auto, unfolding(krs_model::specs::Asks::Changing::update))]
+    pub(crate) fn update(
+        &mut self,
+        client: u32,
+        context: u32,
+        id: i32,
+        payload: Blob,
+    ) -> Result<Answer, Fault>
+        ensures { Leads self.old result self.new (update self.old client context id payload) }
+    {
+        let context = self.context_of(client, context)?;
+        let (serial, key) = self.look_up(context, id, Want::Granted(Rights::WRITE))?;
+        let kind = updatable(key.name.kind)?;
+        kind.check_payload(payload.as_slice())?;
+        let payload = Body::new(payload.into_vec());
+        self.change(Serial::new(serial), Change::Payload(payload));
+        Ok(Answer::Nothing)
+    }
+
+    /// Another permission mask for a key: keyctl(2), KEYCTL_SETPERM.
+    #[tactic(auto, unfolding(krs_model::specs::Asks::Changing::set_perm))]
+    pub(crate) fn set_perm(
+        &mut self,
+        client: u32,
+        context: u32,
+        id: i32,
+        mask: u32,
+    ) -> Result<Answer, Fault>
+        ensures { Leads self.old result self.new (set_perm self.old client context id mask) }
+    {
+        let context = self.context_of(client, context)?;
+        let (serial, key) = self.look_up(context, id, Want::Granted(Rights::SETATTR))?;
+        let perm = Perm::from_u32(mask)?;
+        check_owner(&context.caller, key)?;
+        self.change(Serial::new(serial), Change::Mask(perm));
+        Ok(Answer::Nothing)
+    }
+
+    /// Another owner and group for a key: keyctl(2), KEYCTL_CHOWN.
+    #[tactic(auto, unfolding(krs_model::specs::Asks::Changing::chown))]
+    pub(crate) fn chown(
+        &mut self,
+        client: u32,
+        context: u32,
+        id: i32,
+        uid: u32,
+        gid: u32,
+    ) -> Result<Answer, Fault>
+        ensures { Leads self.old result self.new (chown self.old client context id uid gid) }
+    {
+        let context = self.context_of(client, context)?;
+        let (serial, key) = self.look_up(context, id, Want::Granted(Rights::SETATTR))?;
+        check_chown(&context.caller, uid, gid, key)?;
+        self.change(Serial::new(serial), Change::Owner { uid, gid });
+        Ok(Answer::Nothing)
+    }
+
+    /// When the time of a key is over, in seconds from now: keyctl(2), KEYCTL_SET_TIMEOUT.
+    #[tactic(auto, unfolding(krs_model::specs::Asks::Changing::set_timeout))]
+    pub(crate) fn set_timeout(
+        &mut self,
+        client: u32,
+        context: u32,
+        id: i32,
+        seconds: u32,
+    ) -> Result<Answer, Fault>
+        ensures { Leads self.old result self.new (set_timeout self.old client context id seconds) }
+    {
+        let context = self.context_of(client, context)?;
+        let (serial, _) = self.look_up(context, id, Want::Granted(Rights::SETATTR))?;
+        let expiry = expiry_after(self.clock, seconds);
+        self.change(Serial::new(serial), Change::Expiry(expiry));
+        Ok(Answer::Nothing)
+    }
+
+    /// The end of a key, which stays where it is linked: keyctl(2), KEYCTL_REVOKE.
+    #[tactic(auto, unfolding(krs_model::specs::Asks::Changing::revoke))]
+    pub(crate) fn revoke(&mut self, client: u32, context: u32, id: i32) -> Result<Answer, Fault>
+        ensures { Leads self.old result self.new (revoke self.old client context id) }
+    {
+        let context = self.context_of(client, context)?;
+        let want = Want::Either(Rights::WRITE, Rights::SETATTR);
+        let (serial, _) = self.look_up(context, id, want)?;
+        self.change(Serial::new(serial), Change::Revoked);
+        Ok(Answer::Nothing)
+    }
+}
+
+fn either(before: bool, after: bool) -> bool
+    ensures { result ≡ (before || after) }
+{
+    before || after
+}
+
+/// EOPNOTSUPP for a keyring.
+fn updatable(kind: Kind) -> Result<Kind, Errno>
+    ensures { result ≡ updatable kind }
+{
+    match kind {
+        Kind::User | Kind::Logon => Ok(kind),
+        Kind::Keyring => Err(Errno::EOPNOTSUPP),
+    }
+}
+
+/// Whether the caller may set the mask: EACCES.
+fn check_owner(caller: &Caller, key: &Key) -> Result<(), Errno>
+    ensures { Is (λ _. seen key.now) result (if_owner caller.now (seen key.now)) }
+{
+    if caller.uid == 0 || caller.uid == key.uid {
+        return Ok(());
+    }
+    Err(Errno::EACCES)
+}
+
+/// Whether the caller may give the key to this uid and gid: EACCES.
+fn check_chown(caller: &Caller, uid: u32, gid: u32, key: &Key) -> Result<(), Errno>
+    ensures { Is (λ _. seen key.now) result (if_may_own caller.now uid gid (seen key.now)) }
+{
+    let same_uid = uid == LEAVE || uid == key.uid;
+    let own_gid = gid == LEAVE || gid == key.gid || caller.is_of_group(gid);
+    if caller.uid == 0 || (same_uid && own_gid) {
+        return Ok(());
+    }
+    Err(Errno::EACCES)
+}
+
+/// When the time is over that begins at this moment: none for 0 seconds, else at most `u64::MAX`.
+/// Profile, far timeouts.
+fn expiry_after(clock: u64, seconds: u32) -> Option<u64>
+    ensures { result ≡ expiry_after clock seconds }
+{
+    if seconds == 0 {
+        return None;
+    }
+    Some(clock.saturating_add(u64::from(seconds)))
+}
