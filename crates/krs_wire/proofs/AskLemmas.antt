@@ -30,8 +30,11 @@ hello_exact = both_exact (number w32) (both (number w32) (counted (number w32)))
 update_exact : IsExact update_fields
 update_exact = both_exact id_field (sized w32) id_exact (sized_exact w32 wide32)
 
+two_exact : IsExact (both (number w32) (number w32))
+two_exact = both_exact (number w32) (number w32) (number_exact w32 wide32) (number_exact w32 wide32)
+
 chown_exact : IsExact chown_fields
-chown_exact = both_exact id_field (both (number w32) (number w32)) id_exact (both_exact (number w32) (number w32) (number_exact w32 wide32) (number_exact w32 wide32))
+chown_exact = both_exact id_field (both (number w32) (number w32)) id_exact two_exact
 
 id_number_exact : IsExact id_number_fields
 id_number_exact = both_exact id_field (number w32) id_exact (number_exact w32 wide32)
@@ -45,7 +48,8 @@ op_again (Update id payload) h = ap or_bad_body (whole_again update_fields updat
 op_again (Revoke id) h = ap or_bad_body (whole_again id_field id_exact revoke_of id h)
 op_again (Chown id uid gid) h = ap or_bad_body (whole_again chown_fields chown_exact chown_of (id, (uid, gid)) h)
 op_again (SetPerm id mask) h = ap or_bad_body (whole_again id_number_fields id_number_exact set_perm_of (id, mask) h)
-op_again (SetTimeout id seconds) h = ap or_bad_body (whole_again id_number_fields id_number_exact set_timeout_of (id, seconds) h)
+op_again (SetTimeout id seconds) h =
+    ap or_bad_body (whole_again id_number_fields id_number_exact set_timeout_of (id, seconds) h)
 op_again (Describe id) h = ap or_bad_body (whole_again id_field id_exact describe_of id h)
 op_again (Read id) h = ap or_bad_body (whole_again id_field id_exact read_of id h)
 op_again (Hello caller) h = ap or_bad_body (whole_again hello_fields hello_exact hello_of (caller.uid, (caller.gid, caller.groups)) h)
@@ -127,8 +131,11 @@ row_takes f make no-of exact numbered spelled fitting which body op bytes test e
     subst (λ (o : Op). OpTakes which body o) t.3 made
 
 -- a row of the table, or what the rows behind it say
-row_or : {A : Type 0} (f : Field A) (make : A → Op) (no-of : ℕ) → IsExact f → ((x : A) → number_of_op (make x) ≡ no-of) → ((x : A) → body_of_op (make x) ≡ f.spell x) → ((x : A) → f.Fits x → FitsOp (make x))
-    → (which : ℕ) (body : List ℕ) (op : Op) (others : Result Op WireFault) → IsBytes body → (others ≡ Ok op → OpTakes which body op)
+row_or : {A : Type 0} (f : Field A) (make : A → Op) (no-of : ℕ) → IsExact f
+    → ((x : A) → number_of_op (make x) ≡ no-of) → ((x : A) → body_of_op (make x) ≡ f.spell x)
+    → ((x : A) → f.Fits x → FitsOp (make x))
+    → (which : ℕ) (body : List ℕ) (op : Op) (others : Result Op WireFault) → IsBytes body
+    → (others ≡ Ok op → OpTakes which body op)
     → cond (eqb which no-of) (or_bad_body (whole f make body)) others ≡ Ok op → OpTakes which body op
 row_or f make no-of exact numbered spelled fitting which body op others bytes behind e =
     elim (chosen (eqb which no-of) _ _ _ e) [
@@ -148,7 +155,8 @@ op_takes which body op bytes =
     row_or id_number_fields set_perm_of 5 id_number_exact (λ x. refl) (λ x. refl) (λ x k. k) which body op _ bytes (
     row_or id_field describe_of 6 id_exact (λ x. refl) (λ x. refl) (λ x k. k) which body op _ bytes (
     row_or id_field read_of 11 id_exact (λ x. refl) (λ x. refl) (λ x k. k) which body op _ bytes (
-    row_or id_number_fields set_timeout_of 15 id_number_exact (λ x. refl) (λ x. refl) (λ x k. k) which body op _ bytes (
+    row_or id_number_fields set_timeout_of 15
+    id_number_exact (λ x. refl) (λ x. refl) (λ x k. k) which body op _ bytes (
     row_or hello_fields hello_of 256 hello_exact (λ x. refl) (λ x. refl) (λ x k. k) which body op _ bytes (
     row_or nothing leave_of 261 nothing_exact (λ x. refl) (λ x. refl) (λ x k. k) which body op _ bytes (
     row_or add_fields add_of 262 add_exact (λ x. refl) (λ x. refl) (λ x k. k) which body op _ bytes (

@@ -13,5 +13,6 @@ returns c =
     let first : c.put_id.new.out.items ≡ out ++ id = search rules in
     let second : c.put_u32.new.out.items ≡ c.put_id.new.out.items ++ uid = search rules in
     let third : OnOk c.put_u32-2.result (c.put_u32-2.new.out.items ≡ c.put_u32.new.out.items ++ gid) = search rules in
-    let before : c.put_u32.new.out.items ≡ out ++ (id ++ uid) = second ∙ ap (λ (bytes : List ℕ). bytes ++ uid) first ∙ append_assoc out id uid in
+    let before : c.put_u32.new.out.items ≡ out ++ (id ++ uid) =
+    second ∙ ap (λ (bytes : List ℕ). bytes ++ uid) first ∙ append_assoc out id uid in
     then_put c.put_u32-2.result out (id ++ uid) gid c.put_u32.new.out.items c.put_u32-2.new.out.items before third
