@@ -1,4 +1,5 @@
 pub mod NumberLemmas
+pub mod HexadecimalLemmas
 pub mod WordsLemmas
 pub mod GroupsLemmas
 pub mod LinesLemmas

@@ -2,11 +2,11 @@
 use Rattle.std.specs.Prelude.{ℕ, List, [], ◌∷◌, find, bytes_eq, codes, Option, None, Some}
 use Rattle.krs_types.specs.declared.ask.Op.TheVariants as op
 use Rattle.krs_ctl.specs.declared.command.CommandName.{CommandName}
-use Rattle.krs_ctl.specs.declared.command.CommandName.TheVariants.{Hello, Context, Moment, Add, Print, Rdescribe, Leave}
+use Rattle.krs_ctl.specs.declared.command.CommandName.TheVariants.{Hello, Context, Moment, Add, Update, Print, Rdescribe, Revoke, Chown, Chgrp, SetPerm, Timeout, Leave}
 use Rattle.krs_ctl.specs.declared.command.Command.{Command}
 use Rattle.krs_ctl.specs.declared.command.Command.TheVariants as command
 use Rattle.krs_ctl.specs.Parsed.{◌>>=◌}
-use Rattle.krs_ctl.specs.Number.{u32_of, u64_of, u32s_of, key_of, data_of}
+use Rattle.krs_ctl.specs.Number.{u32_of, u64_of, u32s_of, hexadecimal_of, key_of, data_of}
 
 -- the first word of each command
 abbrev pub spelling : CommandName → List ℕ
@@ -14,13 +14,21 @@ spelling Hello = codes "hello"
 spelling Context = codes "context"
 spelling Moment = codes "moment"
 spelling Add = codes "add"
+spelling Update = codes "update"
 spelling Print = codes "print"
 spelling Rdescribe = codes "rdescribe"
+spelling Revoke = codes "revoke"
+spelling Chown = codes "chown"
+spelling Chgrp = codes "chgrp"
+spelling SetPerm = codes "setperm"
+spelling Timeout = codes "timeout"
 spelling Leave = codes "leave"
 
 -- all commands that are built
 abbrev pub command_names : List CommandName
-command_names = Hello ∷ Context ∷ Moment ∷ Add ∷ Print ∷ Rdescribe ∷ Leave ∷ []
+command_names =
+    Hello ∷ Context ∷ Moment ∷ Add ∷ Update ∷ Print ∷ Rdescribe ∷ Revoke ∷ Chown ∷ Chgrp ∷ SetPerm ∷ Timeout ∷ Leave
+    ∷ []
 
 -- the command of a first word
 abbrev pub name_of_word : List ℕ → Option CommandName
@@ -57,6 +65,14 @@ add_of (type_name ∷ (desc ∷ (payload ∷ (ring ∷ [])))) = do
   Some (command.Ask (op.Add type_name desc bytes id))
 add_of _ = None
 
+-- `update KEY DATA`
+abbrev pub update_of : List (List ℕ) → Option Command
+update_of (key ∷ (payload ∷ [])) = do
+  bytes ← data_of payload
+  id ← key_of key
+  Some (command.Ask (op.Update id bytes))
+update_of _ = None
+
 -- `print KEY`
 abbrev pub print_of : List (List ℕ) → Option Command
 print_of (key ∷ []) = do
@@ -71,6 +87,49 @@ rdescribe_of (key ∷ []) = do
   Some (command.Ask (op.Describe id))
 rdescribe_of _ = None
 
+-- `revoke KEY`
+abbrev pub revoke_of : List (List ℕ) → Option Command
+revoke_of (key ∷ []) = do
+  id ← key_of key
+  Some (command.Ask (op.Revoke id))
+revoke_of _ = None
+
+-- a uid or gid that leaves what is there: keyctl(2), KEYCTL_CHOWN
+abbrev pub left_as_it_is : ℕ
+left_as_it_is = 4294967295
+
+-- `chown KEY UID`
+abbrev pub chown_of : List (List ℕ) → Option Command
+chown_of (key ∷ (uid ∷ [])) = do
+  id ← key_of key
+  u ← u32_of uid
+  Some (command.Ask (op.Chown id u left_as_it_is))
+chown_of _ = None
+
+-- `chgrp KEY GID`
+abbrev pub chgrp_of : List (List ℕ) → Option Command
+chgrp_of (key ∷ (gid ∷ [])) = do
+  id ← key_of key
+  g ← u32_of gid
+  Some (command.Ask (op.Chown id left_as_it_is g))
+chgrp_of _ = None
+
+-- `setperm KEY MASK`
+abbrev pub setperm_of : List (List ℕ) → Option Command
+setperm_of (key ∷ (mask ∷ [])) = do
+  id ← key_of key
+  m ← hexadecimal_of mask
+  Some (command.Ask (op.SetPerm id m))
+setperm_of _ = None
+
+-- `timeout KEY SECONDS`
+abbrev pub timeout_of : List (List ℕ) → Option Command
+timeout_of (key ∷ (seconds ∷ [])) = do
+  id ← key_of key
+  s ← u32_of seconds
+  Some (command.Ask (op.SetTimeout id s))
+timeout_of _ = None
+
 -- `leave`
 abbrev pub leave_of : List (List ℕ) → Option Command
 leave_of [] = Some (command.Ask op.Leave)
@@ -82,8 +141,14 @@ row_of Hello args = hello_of args
 row_of Context args = context_of args
 row_of Moment args = moment_of args
 row_of Add args = add_of args
+row_of Update args = update_of args
 row_of Print args = print_of args
 row_of Rdescribe args = rdescribe_of args
+row_of Revoke args = revoke_of args
+row_of Chown args = chown_of args
+row_of Chgrp args = chgrp_of args
+row_of SetPerm args = setperm_of args
+row_of Timeout args = timeout_of args
 row_of Leave args = leave_of args
 
 -- the command that a line's words are: none where they are no command, or more or less than it takes

@@ -1,9 +1,9 @@
 -- Numbers, keys and data as words spell them: docs/FORMAT.md, "Lines and words"; profile, numbers in words.
-use Rattle.std.specs.Prelude.{ℕ, ◌^◌, ℤ, pos, negsuc, ◌&&◌, Bool, List, drop, length, nat_lt, nat_eq, if◌then◌else◌, bytes_eq, codes, Option, None, Some}
+use Rattle.std.specs.Prelude.{ℕ, ◌^◌, ℤ, pos, negsuc, ◌&&◌, Bool, List, drop, length, nat_lt, nat_le, nat_eq, if◌then◌else◌, bytes_eq, codes, Option, None, Some}
 use Rattle.std.specs.List.{list_all, filter_map, starts_with}
 use Rattle.std.specs.Option.{option_map, is_some}
 use Rattle.std.specs.Result.{result_ok}
-use Rattle.std.specs.Char.{is_ascii_digit}
+use Rattle.std.specs.Char.{is_ascii_digit, is_ascii_hexdigit}
 use Rattle.std.specs.Str.Parse.{digits_value}
 use Rattle.hex.specs.Hex.{decode_of}
 
@@ -27,6 +27,14 @@ u64_of = number_below (2 ^ 64)
 -- every word is a number of 32 bits
 abbrev pub u32s_of : List (List ℕ) → Option (List ℕ)
 u32s_of words = if list_all (λ word. is_some (u32_of word)) words then Some (filter_map u32_of words) else None
+
+-- one to eight hexadecimal digits of either case, leading zeros counted, and nothing else
+abbrev pub is_hexadecimal : List ℕ → Bool
+is_hexadecimal word = nat_lt 0 (length word) && nat_le (length word) 8 && list_all is_ascii_hexdigit word
+
+-- a hexadecimal number, as masks are
+abbrev pub hexadecimal_of : List ℕ → Option ℕ
+hexadecimal_of word = if is_hexadecimal word then Some (digits_value 16 word) else None
 
 -- a key or keyring: a serial, or the special ids -1 to -5 by the names that keyctl(1) gives them
 abbrev pub key_of : List ℕ → Option ℤ

@@ -1,11 +1,14 @@
 ghost use Rattle.std.specs.Prelude.{◌≡◌, map};
-ghost use Rattle.krs_ctl.specs.Command.{spelling, name_of_word, hello_of, context_of, moment_of, add_of, print_of, rdescribe_of, leave_of, command_of};
+ghost use Rattle.krs_ctl.specs.Command.{spelling, name_of_word, hello_of, context_of, moment_of, add_of, update_of, print_of, rdescribe_of, revoke_of, chown_of, chgrp_of, setperm_of, timeout_of, leave_of, command_of};
 ghost use Rattle.krs_ctl.specs.Parsed.{Reads};
 
 use crate::no_command::NoCommand;
-use crate::number::{data_word, groups_words, key_word, u32_word, u64_word};
+use crate::number::{data_word, groups_words, hexadecimal_word, key_word, u32_word, u64_word};
 use krs_types::{Blob, Caller, Op};
 use std::alloc::Global;
+
+/// A uid or gid that leaves what is there: keyctl(2), KEYCTL_CHOWN.
+const LEFT_AS_IT_IS: u32 = 4_294_967_295;
 
 /// What a line or a single call asks for.
 #[derive(Debug, Drop)]
@@ -25,18 +28,30 @@ pub enum CommandName {
     Context,
     Moment,
     Add,
+    Update,
     Print,
     Rdescribe,
+    Revoke,
+    Chown,
+    Chgrp,
+    SetPerm,
+    Timeout,
     Leave,
 }
 
-const COMMAND_NAMES: [CommandName; 7] = [
+const COMMAND_NAMES: [CommandName; 13] = [
     CommandName::Hello,
     CommandName::Context,
     CommandName::Moment,
     CommandName::Add,
+    CommandName::Update,
     CommandName::Print,
     CommandName::Rdescribe,
+    CommandName::Revoke,
+    CommandName::Chown,
+    CommandName::Chgrp,
+    CommandName::SetPerm,
+    CommandName::Timeout,
     CommandName::Leave,
 ];
 
@@ -50,8 +65,14 @@ impl CommandName {
             CommandName::Context => "context",
             CommandName::Moment => "moment",
             CommandName::Add => "add",
+            CommandName::Update => "update",
             CommandName::Print => "print",
             CommandName::Rdescribe => "rdescribe",
+            CommandName::Revoke => "revoke",
+            CommandName::Chown => "chown",
+            CommandName::Chgrp => "chgrp",
+            CommandName::SetPerm => "setperm",
+            CommandName::Timeout => "timeout",
             CommandName::Leave => "leave",
         }
     }
@@ -79,8 +100,14 @@ pub fn parse(alloc: Global, words: &[&[u8]]) -> Result<Command, NoCommand>
         CommandName::Context => context(args),
         CommandName::Moment => moment(args),
         CommandName::Add => add(alloc, args),
+        CommandName::Update => update(alloc, args),
         CommandName::Print => print(args),
         CommandName::Rdescribe => rdescribe(args),
+        CommandName::Revoke => revoke(args),
+        CommandName::Chown => chown(args),
+        CommandName::Chgrp => chgrp(args),
+        CommandName::SetPerm => setperm(args),
+        CommandName::Timeout => timeout(args),
         CommandName::Leave => leave(args),
     }
 }
@@ -131,6 +158,17 @@ fn add(alloc: Global, args: &[&[u8]]) -> Result<Command, NoCommand>
     }))
 }
 
+fn update(alloc: Global, args: &[&[u8]]) -> Result<Command, NoCommand>
+    ensures { Reads result (update_of (map (λ w. w.now) args.now)) }
+{
+    let [key, data] = args else {
+        return Err(NoCommand::Usage);
+    };
+    let payload = data_word(alloc, data)?;
+    let id = key_word(key).ok_or(NoCommand::Usage)?;
+    Ok(Command::Ask(Op::Update { id, payload }))
+}
+
 fn print(args: &[&[u8]]) -> Result<Command, NoCommand>
     ensures { Reads result (print_of (map (λ w. w.now) args.now)) }
 {
@@ -149,6 +187,62 @@ fn rdescribe(args: &[&[u8]]) -> Result<Command, NoCommand>
     };
     let id = key_word(key).ok_or(NoCommand::Usage)?;
     Ok(Command::Ask(Op::Describe { id }))
+}
+
+fn revoke(args: &[&[u8]]) -> Result<Command, NoCommand>
+    ensures { Reads result (revoke_of (map (λ w. w.now) args.now)) }
+{
+    let [key] = args else {
+        return Err(NoCommand::Usage);
+    };
+    let id = key_word(key).ok_or(NoCommand::Usage)?;
+    Ok(Command::Ask(Op::Revoke { id }))
+}
+
+fn chown(args: &[&[u8]]) -> Result<Command, NoCommand>
+    ensures { Reads result (chown_of (map (λ w. w.now) args.now)) }
+{
+    let [key, owner] = args else {
+        return Err(NoCommand::Usage);
+    };
+    let id = key_word(key).ok_or(NoCommand::Usage)?;
+    let uid = u32_word(owner).ok_or(NoCommand::Usage)?;
+    let gid = LEFT_AS_IT_IS;
+    Ok(Command::Ask(Op::Chown { id, uid, gid }))
+}
+
+fn chgrp(args: &[&[u8]]) -> Result<Command, NoCommand>
+    ensures { Reads result (chgrp_of (map (λ w. w.now) args.now)) }
+{
+    let [key, group] = args else {
+        return Err(NoCommand::Usage);
+    };
+    let id = key_word(key).ok_or(NoCommand::Usage)?;
+    let uid = LEFT_AS_IT_IS;
+    let gid = u32_word(group).ok_or(NoCommand::Usage)?;
+    Ok(Command::Ask(Op::Chown { id, uid, gid }))
+}
+
+fn setperm(args: &[&[u8]]) -> Result<Command, NoCommand>
+    ensures { Reads result (setperm_of (map (λ w. w.now) args.now)) }
+{
+    let [key, mask] = args else {
+        return Err(NoCommand::Usage);
+    };
+    let id = key_word(key).ok_or(NoCommand::Usage)?;
+    let mask = hexadecimal_word(mask).ok_or(NoCommand::Usage)?;
+    Ok(Command::Ask(Op::SetPerm { id, mask }))
+}
+
+fn timeout(args: &[&[u8]]) -> Result<Command, NoCommand>
+    ensures { Reads result (timeout_of (map (λ w. w.now) args.now)) }
+{
+    let [key, seconds] = args else {
+        return Err(NoCommand::Usage);
+    };
+    let id = key_word(key).ok_or(NoCommand::Usage)?;
+    let seconds = u32_word(seconds).ok_or(NoCommand::Usage)?;
+    Ok(Command::Ask(Op::SetTimeout { id, seconds }))
 }
 
 fn leave(args: &[&[u8]]) -> Result<Command, NoCommand>

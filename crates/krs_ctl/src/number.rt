@@ -1,7 +1,7 @@
 ghost use Rattle.std.specs.Prelude.{◌≡◌, map};
-ghost use Rattle.std.specs.Char.{is_ascii_digit};
+ghost use Rattle.std.specs.Char.{is_ascii_digit, is_ascii_hexdigit};
 ghost use Rattle.std.specs.List.{list_all};
-ghost use Rattle.krs_ctl.specs.Number.{u64_of, u32_of, u32s_of, key_of, data_of};
+ghost use Rattle.krs_ctl.specs.Number.{u64_of, u32_of, u32s_of, hexadecimal_of, key_of, data_of};
 ghost use Rattle.krs_ctl.specs.Parsed.{Reads};
 
 use crate::no_command::NoCommand;
@@ -32,6 +32,25 @@ pub fn u32_word(word: &[u8]) -> Option<u32>
     ensures { result ≡ u32_of word.now }
 {
     u32::try_from(u64_word(word)?).ok()
+}
+
+/// A hexadecimal number of at most eight digits.
+pub fn hexadecimal_word(word: &[u8]) -> Option<u32>
+    ensures { result ≡ hexadecimal_of word.now }
+{
+    if word.is_empty() || word.len() > 8 || !has_hexadecimal_digits_alone(word) {
+        return None;
+    }
+    match str::from_utf8(word) {
+        Ok(text) => u32::from_str_radix(text, 16).ok(),
+        Err(_) => None,
+    }
+}
+
+fn has_hexadecimal_digits_alone(word: &[u8]) -> bool
+    ensures { result ≡ list_all is_ascii_hexdigit word.now }
+{
+    word.iter().all(|byte| byte.is_ascii_hexdigit())
 }
 
 /// The groups that these words name.

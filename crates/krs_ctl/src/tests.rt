@@ -7,6 +7,8 @@ use std::io;
 use std::io::{ErrorKind, Read, Write};
 use std::test::Fail;
 
+mod changes;
+
 const ALPHA: &str = "hello 1000 1000\nadd user alpha s3 @u\nprint 5\nrdescribe 5\n";
 
 /// A script, what it prints, and its status.
@@ -31,7 +33,7 @@ const SCRIPTS: [(&str, &str, u8); 12] = [
 
 /// Lines that are no command, or not the words that it takes.
 #[rattlefmt::skip]
-const FAULTS: [&str; 36] = [
+const FAULTS: [&str; 71] = [
     "prin 5", "printx 5", "Print 5", "print", "print 5 6", "print x", "print 5x", "print -1", "print +5", "print 0x5",
     "print 2147483648", "print @x", "print @", "print @us5", "print 5\r", "print\t5",
     "hello", "hello 1000", "hello 1000 x", "hello 4294967296 0", "hello 0 0 1 -2",
@@ -39,6 +41,13 @@ const FAULTS: [&str; 36] = [
     "moment", "moment 18446744073709551616", "moment 1 2", "moment 1.0",
     "add user a x", "add user a x @u 5", "add user a hex:0 @u", "add user a hex:0g @u", "add user a x @v",
     "leave 1", "rdescribe",
+    "update", "update 5", "update 5 x y", "update @x y", "update 5 hex:0", "Update 5 x",
+    "revoke", "revoke 5 6", "revoke x",
+    "chown", "chown 5", "chown 5 1 2", "chown 5 -1", "chown 5 4294967296", "chown @x 1", "chown 5 0x1",
+    "chgrp", "chgrp 5", "chgrp 5 1 2", "chgrp 5 x", "chgrp 5 4294967296",
+    "setperm", "setperm 5", "setperm 5 1 2", "setperm 5 3f0100010", "setperm 5 000000001", "setperm 5 0x1",
+    "setperm 5 +1", "setperm 5 -1", "setperm 5 3g",
+    "timeout", "timeout 5", "timeout 5 1 2", "timeout 5 4294967296", "timeout 5 a",
 ];
 
 fn script(alloc: Global, input: &str) -> Result<(String, u8), Fail> {

@@ -30,6 +30,26 @@ const REPLIES: [u8; 34] = [
     6, 0, 0, 0, 0, 0, 0, 0, 0x73, 0x33,
 ];
 
+// In context 1, behind HELLO and ADD: UPDATE of 5 to `s4`; CHOWN of 5 to uid 1000, the gid left; SETPERM of 5 to 3f010001;
+// SET_TIMEOUT of 5 to 10 seconds; READ of 5; REVOKE of 5; READ of 5.
+const CHANGES: [u8; 134] = [
+    0x12, 0, 0, 0, 1, 0, 2, 0, 1, 0, 0, 0, 5, 0, 0, 0, 2, 0, 0, 0, 0x73, 0x34, //
+    0x14, 0, 0, 0, 1, 0, 4, 0, 1, 0, 0, 0, 5, 0, 0, 0, 0xe8, 3, 0, 0, 0xff, 0xff, 0xff, 0xff, //
+    0x10, 0, 0, 0, 1, 0, 5, 0, 1, 0, 0, 0, 5, 0, 0, 0, 1, 0, 1, 0x3f, //
+    0x10, 0, 0, 0, 1, 0, 0x0f, 0, 1, 0, 0, 0, 5, 0, 0, 0, 10, 0, 0, 0, //
+    0x0c, 0, 0, 0, 1, 0, 0x0b, 0, 1, 0, 0, 0, 5, 0, 0, 0, //
+    0x0c, 0, 0, 0, 1, 0, 3, 0, 1, 0, 0, 0, 5, 0, 0, 0, //
+    0x0c, 0, 0, 0, 1, 0, 0x0b, 0, 1, 0, 0, 0, 5, 0, 0, 0,
+];
+
+// Nothing, four times; `s4`; nothing; EKEYREVOKED.
+const CHANGED: [u8; 58] = [
+    4, 0, 0, 0, 0, 0, 0, 0, 4, 0, 0, 0, 0, 0, 0, 0, //
+    4, 0, 0, 0, 0, 0, 0, 0, 4, 0, 0, 0, 0, 0, 0, 0, //
+    6, 0, 0, 0, 0, 0, 0, 0, 0x73, 0x34, //
+    4, 0, 0, 0, 0, 0, 0, 0, 4, 0, 0, 0, 0x80, 0, 0, 0,
+];
+
 #[derive(Drop)]
 struct Case<'a> {
     name: &'a str,
@@ -178,4 +198,19 @@ fn over_memory(rt: HostRuntime) {
     assert_eq!(rt; ended, Ended::Closed);
     assert_eq!(rt; text.as_slice(), REPLIES.as_slice());
     let _ = desk.close(seat);
+}
+
+#[test]
+fn keys_are_changed(rt: HostRuntime) -> Result<(), Fail> {
+    let mut stream = Vec::from_slice(rt.alloc(), &ASKS[..59])?;
+    stream.extend_from_slice(&CHANGES)?;
+    let mut replies = Vec::from_slice(rt.alloc(), &REPLIES[..24])?;
+    replies.extend_from_slice(&CHANGED)?;
+    let (desk, mut seat) = OneDesk::open(1, Store::new(rt.alloc()));
+    let gate = watches(0);
+    let (text, ended) = converse(&rt, rt.alloc(), &stream, &mut seat, &gate);
+    assert_eq!(rt; ended, Ended::Closed);
+    assert_eq!(rt; text.as_slice(), replies.as_slice());
+    let _ = desk.close(seat);
+    Ok(())
 }

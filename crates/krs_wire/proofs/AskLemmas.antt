@@ -4,14 +4,14 @@ use Rattle.std.specs.Int.{w16, w32, to_le_bytes}
 use Rattle.std.proofs.lemmas.Bool.{ltb-false, le-ltb, eqb-true}
 use Rattle.std.proofs.lemmas.List.{take_at, drop_at, append-nil, take-append-drop, length-take}
 use Rattle.krs_wire.specs.declared.fault.WireFault.{WireFault}
-use Rattle.krs_wire.specs.declared.fault.WireFault.TheVariants.{BadVersion}
+use Rattle.krs_wire.specs.declared.fault.WireFault.TheVariants.{BadVersion, BadOp}
 use Rattle.krs_types.specs.declared.ask.Ask.{Ask}
 use Rattle.krs_wire.specs.declared.framed.Framed.{Framed}
 use Rattle.krs_types.specs.declared.ask.Op.{Op}
-use Rattle.krs_types.specs.declared.ask.Op.TheVariants.{Hello, Add, Read, Describe, Leave}
+use Rattle.krs_types.specs.declared.ask.Op.TheVariants.{Hello, Add, Update, Revoke, Chown, SetPerm, SetTimeout, Read, Describe, Leave}
 use Rattle.krs_wire.specs.Field.{Field, number, sized, both, counted, nothing, whole}
 use Rattle.krs_wire.specs.Faulting.{after, or_bad_body}
-use Rattle.krs_wire.specs.Bodies.{id_field, hello_fields, hello_of, add_fields, add_of, read_of, describe_of, leave_of, number_of_op, body_of_op, FitsOp}
+use Rattle.krs_wire.specs.Bodies.{id_field, hello_fields, hello_of, add_fields, add_of, update_fields, update_of, revoke_of, chown_fields, chown_of, id_number_fields, set_perm_of, set_timeout_of, read_of, describe_of, leave_of, number_of_op, body_of_op, FitsOp}
 use Rattle.krs_wire.specs.Frame.{rest, Frames, front_of, front_by, front_in, is_bad_length, framed_of, framed_by, op_of, head_fields}
 use Rattle.krs_wire.specs.Spelling.{framed, ask_text, ask_frame, FitsAsk}
 use Rattle.krs_wire.proofs.FieldLemmas.{IsBytes, IsBytes-take, IsExact, wide16, wide32, number_exact, signed_exact, sized_exact, both_exact, nothing_exact, whole_again, whole_takes}
@@ -27,11 +27,29 @@ add_exact = both_exact (sized w16) (both (sized w16) (both (sized w32) id_field)
 hello_exact : IsExact hello_fields
 hello_exact = both_exact (number w32) (both (number w32) (counted (number w32))) (number_exact w32 wide32) (both_exact (number w32) (counted (number w32)) (number_exact w32 wide32) (counted_exact (number w32) (number_exact w32 wide32)))
 
+update_exact : IsExact update_fields
+update_exact = both_exact id_field (sized w32) id_exact (sized_exact w32 wide32)
+
+two_exact : IsExact (both (number w32) (number w32))
+two_exact = both_exact (number w32) (number w32) (number_exact w32 wide32) (number_exact w32 wide32)
+
+chown_exact : IsExact chown_fields
+chown_exact = both_exact id_field (both (number w32) (number w32)) id_exact two_exact
+
+id_number_exact : IsExact id_number_fields
+id_number_exact = both_exact id_field (number w32) id_exact (number_exact w32 wide32)
+
 head_exact : IsExact head_fields
 head_exact = both_exact (number w16) (both (number w16) (number w32)) (number_exact w16 wide16) (both_exact (number w16) (number w32) (number_exact w16 wide16) (number_exact w32 wide32))
 
 op_again : (op : Op) → FitsOp op → op_of (number_of_op op) (body_of_op op) ≡ Ok op
 unfolding op_of
+op_again (Update id payload) h = ap or_bad_body (whole_again update_fields update_exact update_of (id, payload) h)
+op_again (Revoke id) h = ap or_bad_body (whole_again id_field id_exact revoke_of id h)
+op_again (Chown id uid gid) h = ap or_bad_body (whole_again chown_fields chown_exact chown_of (id, (uid, gid)) h)
+op_again (SetPerm id mask) h = ap or_bad_body (whole_again id_number_fields id_number_exact set_perm_of (id, mask) h)
+op_again (SetTimeout id seconds) h =
+    ap or_bad_body (whole_again id_number_fields id_number_exact set_timeout_of (id, seconds) h)
 op_again (Describe id) h = ap or_bad_body (whole_again id_field id_exact describe_of id h)
 op_again (Read id) h = ap or_bad_body (whole_again id_field id_exact read_of id h)
 op_again (Hello caller) h = ap or_bad_body (whole_again hello_fields hello_exact hello_of (caller.uid, (caller.gid, caller.groups)) h)
@@ -39,6 +57,11 @@ op_again Leave h = ap or_bad_body (whole_again nothing nothing_exact leave_of tt
 op_again (Add type_name desc payload ring) h = ap or_bad_body (whole_again add_fields add_exact add_of (type_name, (desc, (payload, ring))) h)
 
 op_small : (op : Op) → number_of_op op < 256 ^ 2
+op_small (Update id payload) = omega arith
+op_small (Revoke id) = omega arith
+op_small (Chown id uid gid) = omega arith
+op_small (SetPerm id mask) = omega arith
+op_small (SetTimeout id seconds) = omega arith
 op_small (Describe id) = omega arith
 op_small (Read id) = omega arith
 op_small (Hello caller) = omega arith
@@ -87,6 +110,9 @@ chosen : {A : Type 0} (b : Bool) (x y z : A) → cond b x y ≡ z → ((b ≡ tr
 chosen true x y z e = inl (refl, e)
 chosen false x y z e = inr (refl, e)
 
+abbrev no_op : Result Op WireFault
+no_op = Err BadOp
+
 record OpTakes (which : ℕ) (body : List ℕ) (op : Op) : Type 0 where
   number : which ≡ number_of_op op
   body-is : body ≡ body_of_op op
@@ -104,25 +130,37 @@ row_takes f make no-of exact numbered spelled fitting which body op bytes test e
     let made : OpTakes which body (make t.0) = record { number = eqb-true _ _ test ∙ sym (numbered t.0); body-is = t.1 ∙ sym (spelled t.0); fits = fitting t.0 t.2 } in
     subst (λ (o : Op). OpTakes which body o) t.3 made
 
+-- a row of the table, or what the rows behind it say
+row_or : {A : Type 0} (f : Field A) (make : A → Op) (no-of : ℕ) → IsExact f
+    → ((x : A) → number_of_op (make x) ≡ no-of) → ((x : A) → body_of_op (make x) ≡ f.spell x)
+    → ((x : A) → f.Fits x → FitsOp (make x))
+    → (which : ℕ) (body : List ℕ) (op : Op) (others : Result Op WireFault) → IsBytes body
+    → (others ≡ Ok op → OpTakes which body op)
+    → cond (eqb which no-of) (or_bad_body (whole f make body)) others ≡ Ok op → OpTakes which body op
+row_or f make no-of exact numbered spelled fitting which body op others bytes behind e =
+    elim (chosen (eqb which no-of) _ _ _ e) [
+      | inl h ↦ row_takes f make no-of exact numbered spelled fitting which body op bytes h.0 h.1
+      | inr h ↦ behind h.1
+    ]
+
+no_row : (which : ℕ) (body : List ℕ) (op : Op) → no_op ≡ Ok op → OpTakes which body op
+no_row which body op e = absurd cc
+
 op_takes : (which : ℕ) (body : List ℕ) (op : Op) → IsBytes body → op_of which body ≡ Ok op → OpTakes which body op
 unfolding op_of
-op_takes which body op bytes e =
-    elim (chosen (eqb which 6) _ _ _ e) [
-      | inl h ↦ row_takes id_field describe_of 6 id_exact (λ x. refl) (λ x. refl) (λ x k. k) which body op bytes h.0 h.1
-      | inr f ↦ elim (chosen (eqb which 11) _ _ _ f.1) [
-        | inl h ↦ row_takes id_field read_of 11 id_exact (λ x. refl) (λ x. refl) (λ x k. k) which body op bytes h.0 h.1
-        | inr g ↦ elim (chosen (eqb which 256) _ _ _ g.1) [
-          | inl h ↦ row_takes hello_fields hello_of 256 hello_exact (λ x. refl) (λ x. refl) (λ x k. k) which body op bytes h.0 h.1
-          | inr i ↦ elim (chosen (eqb which 261) _ _ _ i.1) [
-            | inl h ↦ row_takes nothing leave_of 261 nothing_exact (λ x. refl) (λ x. refl) (λ x k. k) which body op bytes h.0 h.1
-            | inr j ↦ elim (chosen (eqb which 262) _ _ _ j.1) [
-              | inl h ↦ row_takes add_fields add_of 262 add_exact (λ x. refl) (λ x. refl) (λ x k. k) which body op bytes h.0 h.1
-              | inr k ↦ absurd (let m = k.1 in cc)
-            ]
-          ]
-        ]
-      ]
-    ]
+op_takes which body op bytes =
+    row_or update_fields update_of 2 update_exact (λ x. refl) (λ x. refl) (λ x k. k) which body op _ bytes (
+    row_or id_field revoke_of 3 id_exact (λ x. refl) (λ x. refl) (λ x k. k) which body op _ bytes (
+    row_or chown_fields chown_of 4 chown_exact (λ x. refl) (λ x. refl) (λ x k. k) which body op _ bytes (
+    row_or id_number_fields set_perm_of 5 id_number_exact (λ x. refl) (λ x. refl) (λ x k. k) which body op _ bytes (
+    row_or id_field describe_of 6 id_exact (λ x. refl) (λ x. refl) (λ x k. k) which body op _ bytes (
+    row_or id_field read_of 11 id_exact (λ x. refl) (λ x. refl) (λ x k. k) which body op _ bytes (
+    row_or id_number_fields set_timeout_of 15
+    id_number_exact (λ x. refl) (λ x. refl) (λ x k. k) which body op _ bytes (
+    row_or hello_fields hello_of 256 hello_exact (λ x. refl) (λ x. refl) (λ x k. k) which body op _ bytes (
+    row_or nothing leave_of 261 nothing_exact (λ x. refl) (λ x. refl) (λ x k. k) which body op _ bytes (
+    row_or add_fields add_of 262 add_exact (λ x. refl) (λ x. refl) (λ x k. k) which body op _ bytes (
+    no_row which body op))))))))))
 
 after_ok : {A B : Type 0} (f : A → Result B WireFault) (r : Result A WireFault) (y : B) → after f r ≡ Ok y → (x : A) × (r ≡ Ok x) × (f x ≡ Ok y)
 after_ok f (Ok x) y e = (x, refl, e)

@@ -3,3 +3,4 @@ pub mod CountLemmas
 pub mod CutLemmas
 pub mod AskLemmas
 pub mod ReplyLemmas
+pub mod PutLemmas

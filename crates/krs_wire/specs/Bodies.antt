@@ -4,7 +4,7 @@ use Rattle.std.specs.Prelude.{ℕ, ℤ, List}
 use Rattle.std.specs.Int.{w16, w32}
 use Rattle.krs_types.specs.declared.caller.Caller.{Caller}
 use Rattle.krs_types.specs.declared.ask.Op.{Op}
-use Rattle.krs_types.specs.declared.ask.Op.TheVariants.{Hello, Add, Read, Describe, Leave}
+use Rattle.krs_types.specs.declared.ask.Op.TheVariants.{Hello, Add, Update, Revoke, Chown, SetPerm, SetTimeout, Read, Describe, Leave}
 use Rattle.krs_wire.specs.Field.{Field, number, signed, sized, both, counted, nothing}
 
 -- an id of a key: 32 bits, signed
@@ -43,6 +43,42 @@ add_of a = Add a.0 a.1.0 a.1.1.0 a.1.1.1
 abbrev pub add_parts : (type_name desc payload : List ℕ) → ℤ → List ℕ × (List ℕ × (List ℕ × ℤ))
 add_parts type_name desc payload ring = (type_name, (desc, (payload, ring)))
 
+-- id, payload
+abbrev pub update_fields : Field (ℤ × List ℕ)
+update_fields = both id_field blob_field
+
+abbrev pub update_of : ℤ × List ℕ → Op
+update_of a = Update a.0 a.1
+
+abbrev pub update_parts : ℤ → (payload : List ℕ) → ℤ × List ℕ
+update_parts id payload = (id, payload)
+
+abbrev pub revoke_of : ℤ → Op
+revoke_of id = Revoke id
+
+-- id, uid, gid
+abbrev pub chown_fields : Field (ℤ × (ℕ × ℕ))
+chown_fields = both id_field (both (number w32) (number w32))
+
+abbrev pub chown_of : ℤ × (ℕ × ℕ) → Op
+chown_of a = Chown a.0 a.1.0 a.1.1
+
+abbrev pub chown_parts : ℤ → (uid gid : ℕ) → ℤ × (ℕ × ℕ)
+chown_parts id uid gid = (id, (uid, gid))
+
+-- an id and a number of 32 bits: a mask, or seconds
+abbrev pub id_number_fields : Field (ℤ × ℕ)
+id_number_fields = both id_field (number w32)
+
+abbrev pub id_number_parts : ℤ → ℕ → ℤ × ℕ
+id_number_parts id n = (id, n)
+
+abbrev pub set_perm_of : ℤ × ℕ → Op
+set_perm_of a = SetPerm a.0 a.1
+
+abbrev pub set_timeout_of : ℤ × ℕ → Op
+set_timeout_of a = SetTimeout a.0 a.1
+
 abbrev pub read_of : ℤ → Op
 read_of id = Read id
 
@@ -54,24 +90,39 @@ leave_of _ = Leave
 
 -- the number of an operation
 abbrev pub number_of_op : Op → ℕ
+number_of_op (Update id payload) = 2
+number_of_op (Revoke id) = 3
+number_of_op (Chown id uid gid) = 4
+number_of_op (SetPerm id mask) = 5
 number_of_op (Describe id) = 6
 number_of_op (Read id) = 11
+number_of_op (SetTimeout id seconds) = 15
 number_of_op (Hello caller) = 256
 number_of_op Leave = 261
 number_of_op (Add type_name desc payload ring) = 262
 
 -- the bytes of its body
 abbrev pub body_of_op : Op → List ℕ
+body_of_op (Update id payload) = update_fields.spell (update_parts id payload)
+body_of_op (Revoke id) = id_field.spell id
+body_of_op (Chown id uid gid) = chown_fields.spell (chown_parts id uid gid)
+body_of_op (SetPerm id mask) = id_number_fields.spell (id_number_parts id mask)
 body_of_op (Describe id) = id_field.spell id
 body_of_op (Read id) = id_field.spell id
+body_of_op (SetTimeout id seconds) = id_number_fields.spell (id_number_parts id seconds)
 body_of_op (Hello caller) = hello_fields.spell (hello_parts caller)
 body_of_op Leave = nothing.spell tt
 body_of_op (Add type_name desc payload ring) = add_fields.spell (add_parts type_name desc payload ring)
 
 -- what its body can spell
 abbrev pub FitsOp : Op → Type 0
+FitsOp (Update id payload) = update_fields.Fits (update_parts id payload)
+FitsOp (Revoke id) = id_field.Fits id
+FitsOp (Chown id uid gid) = chown_fields.Fits (chown_parts id uid gid)
+FitsOp (SetPerm id mask) = id_number_fields.Fits (id_number_parts id mask)
 FitsOp (Describe id) = id_field.Fits id
 FitsOp (Read id) = id_field.Fits id
+FitsOp (SetTimeout id seconds) = id_number_fields.Fits (id_number_parts id seconds)
 FitsOp (Hello caller) = hello_fields.Fits (hello_parts caller)
 FitsOp Leave = nothing.Fits tt
 FitsOp (Add type_name desc payload ring) = add_fields.Fits (add_parts type_name desc payload ring)

@@ -8,13 +8,18 @@ use Rattle.krs_wire.specs.declared.fault.WireFault.TheVariants.{BadLength, BadVe
 use Rattle.krs_wire.specs.declared.framed.Framed.{Framed}
 use Rattle.krs_wire.specs.Field.{Field, number, both, nothing, whole}
 use Rattle.krs_wire.specs.Faulting.{after, or_bad_body}
-use Rattle.krs_wire.specs.Bodies.{id_field, hello_fields, hello_of, add_fields, add_of, read_of, describe_of, leave_of}
+use Rattle.krs_wire.specs.Bodies.{id_field, hello_fields, hello_of, add_fields, add_of, update_fields, update_of, revoke_of, chown_fields, chown_of, id_number_fields, set_perm_of, set_timeout_of, read_of, describe_of, leave_of}
 
 -- what a body says for an operation's number
 unfoldable pub op_of : ℕ → List ℕ → Result Op WireFault
 op_of which body =
-    if which == 6 then or_bad_body (whole id_field describe_of body)
+    if which == 2 then or_bad_body (whole update_fields update_of body)
+    else if which == 3 then or_bad_body (whole id_field revoke_of body)
+    else if which == 4 then or_bad_body (whole chown_fields chown_of body)
+    else if which == 5 then or_bad_body (whole id_number_fields set_perm_of body)
+    else if which == 6 then or_bad_body (whole id_field describe_of body)
     else if which == 11 then or_bad_body (whole id_field read_of body)
+    else if which == 15 then or_bad_body (whole id_number_fields set_timeout_of body)
     else if which == 256 then or_bad_body (whole hello_fields hello_of body)
     else if which == 261 then or_bad_body (whole nothing leave_of body)
     else if which == 262 then or_bad_body (whole add_fields add_of body)

@@ -4,7 +4,7 @@ use Rattle.std.specs.Int.{w32, to_le_bytes}
 use Rattle.krs_types.specs.declared.ask.Answer.{Answer}
 use Rattle.krs_types.specs.declared.ask.Answer.TheVariants.{Nothing, Number, Bytes}
 use Rattle.krs_types.specs.declared.ask.Op.{Op}
-use Rattle.krs_types.specs.declared.ask.Op.TheVariants.{Hello, Add, Read, Describe, Leave}
+use Rattle.krs_types.specs.declared.ask.Op.TheVariants.{Hello, Add, Update, Revoke, Chown, SetPerm, SetTimeout, Read, Describe, Leave}
 use Rattle.krs_types.specs.declared.errno.Errno.{Errno}
 use Rattle.krs_types.specs.Errno.{number_of, errnos}
 use Rattle.krs_wire.specs.declared.fault.WireFault.{WireFault}
@@ -35,8 +35,13 @@ reply_frame reply = frame_of (status_of reply) (body_of reply)
 
 -- what kind of answer an operation gets: docs/FORMAT.md, "The asks"
 abbrev pub shape_of : Op → Shape
+shape_of (Update id payload) = shapes.Nothing
+shape_of (Revoke id) = shapes.Nothing
+shape_of (Chown id uid gid) = shapes.Nothing
+shape_of (SetPerm id mask) = shapes.Nothing
 shape_of (Describe id) = shapes.Bytes
 shape_of (Read id) = shapes.Bytes
+shape_of (SetTimeout id seconds) = shapes.Nothing
 shape_of (Hello caller) = shapes.Number
 shape_of Leave = shapes.Nothing
 shape_of (Add type_name desc payload ring) = shapes.Number

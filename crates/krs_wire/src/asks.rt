@@ -2,7 +2,7 @@
 ghost use Rattle.std.specs.Prelude.{◌≡◌, ◌<◌, ◌-◌, drop, IfOk, IfSome, length, option_map};
 ghost use Rattle.krs_wire.specs.Field.{whole};
 ghost use Rattle.krs_wire.specs.Faulting.{Gives, or_bad_body};
-ghost use Rattle.krs_wire.specs.Bodies.{add_fields, add_of, describe_of, hello_fields, hello_of, id_field, read_of};
+ghost use Rattle.krs_wire.specs.Bodies.{add_fields, add_of, chown_fields, chown_of, describe_of, hello_fields, hello_of, id_field, id_number_fields, read_of, revoke_of, set_perm_of, set_timeout_of, update_fields, update_of};
 ghost use Rattle.krs_wire.specs.Frame.{op_of, framed_of, front_of};
 
 use crate::fields::{blob_at, ended, groups_at, id_at, text_at, u16_at, u32_at};
@@ -37,6 +37,46 @@ fn add_at(alloc: Global, body: &[u8]) -> Result<Op, WireFault>
     ended(op, rest)
 }
 
+fn update_at(alloc: Global, body: &[u8]) -> Result<Op, WireFault>
+    ensures { Gives (λ op. op) result (or_bad_body (whole update_fields update_of body.now)) }
+{
+    let (id, rest) = id_at(body)?;
+    let (payload, rest) = blob_at(alloc, rest)?;
+    ended(Op::Update { id, payload }, rest)
+}
+
+fn revoke_at(body: &[u8]) -> Result<Op, WireFault>
+    ensures { Gives (λ op. op) result (or_bad_body (whole id_field revoke_of body.now)) }
+{
+    let (id, rest) = id_at(body)?;
+    ended(Op::Revoke { id }, rest)
+}
+
+fn chown_at(body: &[u8]) -> Result<Op, WireFault>
+    ensures { Gives (λ op. op) result (or_bad_body (whole chown_fields chown_of body.now)) }
+{
+    let (id, rest) = id_at(body)?;
+    let (uid, rest) = u32_at(rest)?;
+    let (gid, rest) = u32_at(rest)?;
+    ended(Op::Chown { id, uid, gid }, rest)
+}
+
+fn set_perm_at(body: &[u8]) -> Result<Op, WireFault>
+    ensures { Gives (λ op. op) result (or_bad_body (whole id_number_fields set_perm_of body.now)) }
+{
+    let (id, rest) = id_at(body)?;
+    let (mask, rest) = u32_at(rest)?;
+    ended(Op::SetPerm { id, mask }, rest)
+}
+
+fn set_timeout_at(body: &[u8]) -> Result<Op, WireFault>
+    ensures { Gives (λ op. op) result (or_bad_body (whole id_number_fields set_timeout_of body.now)) }
+{
+    let (id, rest) = id_at(body)?;
+    let (seconds, rest) = u32_at(rest)?;
+    ended(Op::SetTimeout { id, seconds }, rest)
+}
+
 fn read_at(body: &[u8]) -> Result<Op, WireFault>
     ensures { Gives (λ op. op) result (or_bad_body (whole id_field read_of body.now)) }
 {
@@ -56,8 +96,13 @@ fn op_at(alloc: Global, which: u16, body: &[u8]) -> Result<Op, WireFault>
     ensures { Gives (λ op. op) result (op_of which body.now) }
 {
     match which {
+        2 => update_at(alloc, body),
+        3 => revoke_at(body),
+        4 => chown_at(body),
+        5 => set_perm_at(body),
         6 => describe_at(body),
         11 => read_at(body),
+        15 => set_timeout_at(body),
         256 => hello_at(alloc, body),
         261 => ended(Op::Leave, body),
         262 => add_at(alloc, body),

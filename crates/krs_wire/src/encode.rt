@@ -1,6 +1,6 @@
 ghost use Rattle.std.specs.Prelude.{◌≡◌, ◌≤◌, ◌<◌, ◌^◌, ◌++◌, [], ◌∷◌, length, drop, vec_len, IfOk, IfErr, OnOk};
 ghost use Rattle.std.specs.Int.{w16, w32, to_le_bytes};
-ghost use Rattle.krs_wire.specs.Bodies.{number_of_op, body_of_op, FitsOp, id_field, text_field, blob_field, groups_field, hello_fields, hello_parts, add_fields, add_parts};
+ghost use Rattle.krs_wire.specs.Bodies.{number_of_op, body_of_op, FitsOp, id_field, text_field, blob_field, groups_field, hello_fields, hello_parts, add_fields, add_parts, update_fields, update_parts, chown_fields, chown_parts, id_number_fields, id_number_parts};
 ghost use Rattle.krs_wire.specs.Frame.{Frames, rest};
 ghost use Rattle.krs_wire.specs.Spelling.{framed, ask_text, ask_frame, IsTooLong};
 
@@ -15,8 +15,13 @@ fn operation_number(op: &Op) -> u16
     ensures { result ≡ number_of_op op.now }
 {
     match op {
+        Op::Update { .. } => 2,
+        Op::Revoke { .. } => 3,
+        Op::Chown { .. } => 4,
+        Op::SetPerm { .. } => 5,
         Op::Describe { .. } => 6,
         Op::Read { .. } => 11,
+        Op::SetTimeout { .. } => 15,
         Op::Hello(_) => 256,
         Op::Leave => 261,
         Op::Add { .. } => 262,
@@ -120,14 +125,46 @@ fn put_add(
     Ok(())
 }
 
+fn put_update(out: &mut Vec<u8>, id: i32, payload: &Blob) -> Result<(), WireFault>
+    ensures ok { OnOk result
+        (out.new.items ≡ out.old.items ++ update_fields.spell (update_parts id payload.now)) }
+    ensures fits { OnOk result (update_fields.Fits (update_parts id payload.now)) }
+    ensures long { IfErr result (IsTooLong 65536 (update_fields.spell (update_parts id payload.now))) }
+{
+    put_id(out, id)?;
+    put_blob(out, payload)
+}
+
+fn put_chown(out: &mut Vec<u8>, id: i32, uid: u32, gid: u32) -> Result<(), AllocError>
+    ensures { OnOk result
+        (out.new.items ≡ out.old.items ++ chown_fields.spell (chown_parts id uid gid)) }
+{
+    put_id(out, id)?;
+    put_u32(out, uid)?;
+    put_u32(out, gid)
+}
+
+fn put_id_number(out: &mut Vec<u8>, id: i32, number: u32) -> Result<(), AllocError>
+    ensures { OnOk result
+        (out.new.items ≡ out.old.items ++ id_number_fields.spell (id_number_parts id number)) }
+{
+    put_id(out, id)?;
+    put_u32(out, number)
+}
+
 fn put_body(out: &mut Vec<u8>, op: &Op) -> Result<(), WireFault>
     ensures ok { OnOk result (out.new.items ≡ out.old.items ++ body_of_op op.now) }
     ensures fits { OnOk result (FitsOp op.now) }
     ensures long { IfErr result (IsTooLong 65536 (body_of_op op.now)) }
 {
     match op {
+        Op::Update { id, payload } => put_update(out, *id, payload)?,
+        Op::Revoke { id } => put_id(out, *id)?,
+        Op::Chown { id, uid, gid } => put_chown(out, *id, *uid, *gid)?,
+        Op::SetPerm { id, mask } => put_id_number(out, *id, *mask)?,
         Op::Describe { id } => put_id(out, *id)?,
         Op::Read { id } => put_id(out, *id)?,
+        Op::SetTimeout { id, seconds } => put_id_number(out, *id, *seconds)?,
         Op::Hello(caller) => put_hello(out, caller)?,
         Op::Leave => (),
         Op::Add {

@@ -19,6 +19,8 @@ impl Shape {
         match op {
             Op::Hello(_) | Op::Add { .. } => Shape::Number,
             Op::Read { .. } | Op::Describe { .. } => Shape::Bytes,
+            Op::Update { .. } | Op::Revoke { .. } | Op::Chown { .. } => Shape::Nothing,
+            Op::SetPerm { .. } | Op::SetTimeout { .. } => Shape::Nothing,
             Op::Leave => Shape::Nothing,
         }
     }

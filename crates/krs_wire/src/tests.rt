@@ -14,6 +14,18 @@ const STREAM: [u8; 75] = [
     0x0c, 0, 0, 0, 1, 0, 0x0b, 0, 1, 0, 0, 0, 5, 0, 0, 0,
 ];
 
+// In context 1: UPDATE of 5 to `s4`; REVOKE of -4; CHOWN of 5 to uid 1000, the gid left; SETPERM of 5 to 3f010001;
+// SET_TIMEOUT of 5 to 10 seconds.
+const CHANGES: [u8; 102] = [
+    0x12, 0, 0, 0, 1, 0, 2, 0, 1, 0, 0, 0, 5, 0, 0, 0, 2, 0, 0, 0, 0x73, 0x34, //
+    0x0c, 0, 0, 0, 1, 0, 3, 0, 1, 0, 0, 0, 0xfc, 0xff, 0xff, 0xff, //
+    0x14, 0, 0, 0, 1, 0, 4, 0, 1, 0, 0, 0, 5, 0, 0, 0, 0xe8, 3, 0, 0, 0xff, 0xff, 0xff, 0xff, //
+    0x10, 0, 0, 0, 1, 0, 5, 0, 1, 0, 0, 0, 5, 0, 0, 0, 1, 0, 1, 0x3f, //
+    0x10, 0, 0, 0, 1, 0, 0x0f, 0, 1, 0, 0, 0, 5, 0, 0, 0, 10, 0, 0, 0,
+];
+
+const STREAMS: [&[u8]; 2] = [&STREAM, &CHANGES];
+
 fn hello(alloc: Global) -> Op {
     Op::Hello(Caller {
         uid: 1000,
@@ -29,6 +41,24 @@ fn add(alloc: Global) -> Result<Op, AllocError> {
         payload: Blob::from_slice(alloc, b"s3")?,
         ring: -4,
     })
+}
+
+fn changes(alloc: Global) -> Result<[Op; 5], AllocError> {
+    let payload = Blob::from_slice(alloc, b"s4")?;
+    Ok([
+        Op::Update { id: 5, payload },
+        Op::Revoke { id: -4 },
+        Op::Chown {
+            id: 5,
+            uid: 1000,
+            gid: 4_294_967_295,
+        },
+        Op::SetPerm {
+            id: 5,
+            mask: 0x3f01_0001,
+        },
+        Op::SetTimeout { id: 5, seconds: 10 },
+    ])
 }
 
 // The frames of these asks, one after the other.
@@ -53,18 +83,40 @@ fn asks_are_spelled(rt: HostRuntime) -> Result<(), Fail> {
         text.extend_from_slice(&encode_ask(rt.alloc(), &ask)?)?;
     }
     assert_eq!(rt; text.as_slice(), STREAM.as_slice());
+    text.clear();
+    for op in changes(rt.alloc())? {
+        let ask = Ask { context: 1, op };
+        text.extend_from_slice(&encode_ask(rt.alloc(), &ask)?)?;
+    }
+    assert_eq!(rt; text.as_slice(), CHANGES.as_slice());
     Ok(())
 }
 
 #[test]
 fn any_two_pieces(rt: HostRuntime) -> Result<(), Fail> {
-    for cut in 0..=STREAM.len() {
-        let (front, back) = STREAM.split_at(cut);
+    for stream in STREAMS {
+        for cut in 0..=stream.len() {
+            let (front, back) = stream.split_at(cut);
+            let mut feed = Feed::new(rt.alloc());
+            let mut text = Vec::new(rt.alloc());
+            frames_of(rt.alloc(), &feed.feed(front)?, &mut text)?;
+            frames_of(rt.alloc(), &feed.feed(back)?, &mut text)?;
+            assert_eq!(rt; text.as_slice(), stream, "cut at {cut}");
+            assert_eq!(rt; feed.fault(), None);
+        }
+    }
+    Ok(())
+}
+
+#[test]
+fn a_byte_at_a_time(rt: HostRuntime) -> Result<(), Fail> {
+    for stream in STREAMS {
         let mut feed = Feed::new(rt.alloc());
         let mut text = Vec::new(rt.alloc());
-        frames_of(rt.alloc(), &feed.feed(front)?, &mut text)?;
-        frames_of(rt.alloc(), &feed.feed(back)?, &mut text)?;
-        assert_eq!(rt; text.as_slice(), STREAM.as_slice(), "cut at {cut}");
+        for byte in stream {
+            frames_of(rt.alloc(), &feed.feed(&[*byte])?, &mut text)?;
+        }
+        assert_eq!(rt; text.as_slice(), stream);
         assert_eq!(rt; feed.fault(), None);
     }
     Ok(())
@@ -72,7 +124,7 @@ fn any_two_pieces(rt: HostRuntime) -> Result<(), Fail> {
 
 #[test]
 fn faults_of_asks(rt: HostRuntime) -> Result<(), Fail> {
-    let cases: [(&[u8], WireFault); 8] = [
+    let cases: [(&[u8], WireFault); 11] = [
         (&[7, 0, 0, 0], WireFault::BadLength),
         (&[1, 0, 1, 0], WireFault::BadLength),
         (&[8, 0, 0, 0, 2, 0, 5, 1, 0, 0, 0, 0], WireFault::BadVersion),
@@ -88,6 +140,24 @@ fn faults_of_asks(rt: HostRuntime) -> Result<(), Fail> {
         ),
         (
             &[10, 0, 0, 0, 1, 0, 6, 1, 0, 0, 0, 0, 4, 0],
+            WireFault::BadBody,
+        ),
+        (
+            &[
+                17, 0, 0, 0, 1, 0, 2, 0, 0, 0, 0, 0, 5, 0, 0, 0, 2, 0, 0, 0, 0x73,
+            ],
+            WireFault::BadBody,
+        ),
+        (
+            &[
+                16, 0, 0, 0, 1, 0, 4, 0, 0, 0, 0, 0, 5, 0, 0, 0, 0xe8, 3, 0, 0,
+            ],
+            WireFault::BadBody,
+        ),
+        (
+            &[
+                16, 0, 0, 0, 1, 0, 3, 0, 0, 0, 0, 0, 5, 0, 0, 0, 0xe8, 3, 0, 0,
+            ],
             WireFault::BadBody,
         ),
     ];
@@ -155,13 +225,12 @@ fn replies_are_spelled_and_read(rt: HostRuntime) -> Result<(), Fail> {
         &payload,
         &[6, 0, 0, 0, 0, 0, 0, 0, 0x73, 0x33],
     )?;
-    check_reply(
-        &rt,
-        alloc,
-        &Op::Leave,
-        &Ok(Answer::Nothing),
-        &[4, 0, 0, 0, 0, 0, 0, 0],
-    )?;
+    let nothing = Ok(Answer::Nothing);
+    let bare = [4, 0, 0, 0, 0, 0, 0, 0];
+    check_reply(&rt, alloc, &Op::Leave, &nothing, &bare)?;
+    for op in &changes(alloc)? {
+        check_reply(&rt, alloc, op, &nothing, &bare)?;
+    }
     check_reply(
         &rt,
         alloc,
@@ -181,7 +250,7 @@ fn replies_are_spelled_and_read(rt: HostRuntime) -> Result<(), Fail> {
 
 #[test]
 fn faults_of_replies(rt: HostRuntime) -> Result<(), Fail> {
-    let cases: [(Op, &[u8], WireFault); 7] = [
+    let cases: [(Op, &[u8], WireFault); 8] = [
         (Op::Leave, &[3, 0, 0, 0], WireFault::BadLength),
         (Op::Leave, &[1, 0, 4, 0], WireFault::BadLength),
         (Op::Leave, &[4, 0, 0, 0, 4, 0, 0, 0], WireFault::BadBody),
@@ -189,6 +258,11 @@ fn faults_of_replies(rt: HostRuntime) -> Result<(), Fail> {
         (
             Op::Leave,
             &[5, 0, 0, 0, 126, 0, 0, 0, 1],
+            WireFault::BadBody,
+        ),
+        (
+            Op::Revoke { id: 5 },
+            &[8, 0, 0, 0, 0, 0, 0, 0, 1, 0, 0, 0],
             WireFault::BadBody,
         ),
         (

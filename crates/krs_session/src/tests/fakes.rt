@@ -215,6 +215,8 @@ impl<R> Keeper<Chair, R> for Table {
                 _ => Err(Errno::ENOMEM),
             },
             Op::Describe { .. } => Err(Errno::ENOKEY),
+            Op::Update { .. } | Op::Revoke { .. } | Op::Chown { .. } => Ok(Answer::Nothing),
+            Op::SetPerm { .. } | Op::SetTimeout { .. } => Ok(Answer::Nothing),
             Op::Leave => {
                 seat.leaves = seat.leaves.wrapping_add(1);
                 Ok(Answer::Nothing)
