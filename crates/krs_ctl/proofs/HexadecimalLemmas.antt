@@ -16,21 +16,26 @@ use Rattle.krs_ctl.specs.Number.{hexadecimal_of}
 digit_facts : (c : ℕ) → is_ascii_hexdigit c ≡ true → (digit_value c < 16) × (c < 128) × (c ≢ 43)
 digit_facts c digit = grind (arith, nat_tests)
 
-first_and_others : (a b : Bool) → (a && b) ≡ true → (a ≡ true) × (b ≡ true)
-first_and_others true b both = (refl, both)
-first_and_others false b both = absurd cc
+both_tests : (a b : Bool) → (a && b) ≡ true → (a ≡ true) × (b ≡ true)
+both_tests true b both = (refl, both)
+both_tests false b both = absurd cc
+
+-- the first digit, and the others
+split : (c : ℕ) (cs : List ℕ) → list_all is_ascii_hexdigit (c ∷ cs) ≡ true
+    → (is_ascii_hexdigit c ≡ true) × (list_all is_ascii_hexdigit cs ≡ true)
+split c cs digits = both_tests (is_ascii_hexdigit c) (list_all is_ascii_hexdigit cs) digits
 
 -- digits in the words of std
 all_digits : (word : List ℕ) → list_all is_ascii_hexdigit word ≡ true → AllDigits 16 word
 all_digits [] digits = tt
 all_digits (c ∷ cs) digits =
-    let both = first_and_others (is_ascii_hexdigit c) (list_all is_ascii_hexdigit cs) digits in
+    let both = split c cs digits in
     ((digit_facts c both.0).0, all_digits cs both.1)
 
 each_ascii : (word : List ℕ) → list_all is_ascii_hexdigit word ≡ true → (i : ℕ) → get_or word i 0 < 128
 each_ascii [] digits i = omega arith
-each_ascii (c ∷ cs) digits zero = (digit_facts c (first_and_others (is_ascii_hexdigit c) (list_all is_ascii_hexdigit cs) digits).0).1
-each_ascii (c ∷ cs) digits (suc i) = each_ascii cs (first_and_others (is_ascii_hexdigit c) (list_all is_ascii_hexdigit cs) digits).1 i
+each_ascii (c ∷ cs) digits zero = (digit_facts c (split c cs digits).0).1
+each_ascii (c ∷ cs) digits (suc i) = each_ascii cs (split c cs digits).1 i
 
 -- digits are text
 pub IsUtf8-from_hexadecimal : (word : List ℕ) → list_all is_ascii_hexdigit word ≡ true → IsUtf8 word
@@ -38,10 +43,11 @@ IsUtf8-from_hexadecimal word digits = IsUtf8-from_ascii word (each_ascii word di
 
 no_plus : (word : List ℕ) → list_all is_ascii_hexdigit word ≡ true → get_or word 0 0 ≢ 43
 no_plus [] digits = λ is. cc
-no_plus (c ∷ cs) digits = (digit_facts c (first_and_others (is_ascii_hexdigit c) (list_all is_ascii_hexdigit cs) digits).0).2
+no_plus (c ∷ cs) digits = (digit_facts c (split c cs digits).0).2
 
 -- eight digits are a number of 32 bits
-below_eight : (word : List ℕ) → length word ≤ 8 → list_all is_ascii_hexdigit word ≡ true → digits_value 16 word < 2 ^ 32
+below_eight : (word : List ℕ) → length word ≤ 8 → list_all is_ascii_hexdigit word ≡ true
+    → digits_value 16 word < 2 ^ 32
 below_eight word short digits =
     let below : digits_value 16 word < 16 ^ length word = digits_value-lt 16 word (all_digits word digits) in
     let most : 16 ^ length word ≤ 16 ^ 8 = pow-le-pow_right (omega arith) short in
@@ -52,7 +58,8 @@ from_OkIff : {E : Type 0} (word : List ℕ) (r : Result ℕ E) → 0 < length wo
     → OkIff r (IsNumeral 16 word × (digits_value 16 word < 2 ^ 32)) (digits_value 16 word)
     → result_ok r ≡ hexadecimal_of word
 from_OkIff word (Ok x) some short digits h = grind (arith, nat_tests, h.1)
-from_OkIff word (Err e) some short digits h = absurd (h ((some, all_digits word digits), below_eight word short digits))
+from_OkIff word (Err e) some short digits h =
+    absurd (h ((some, all_digits word digits), below_eight word short digits))
 
 -- what `from_str_radix` reads of digits
 pub hexadecimal_from_radix : {E : Type 0} (word : List ℕ) (r : Result ℕ E) → 0 < length word → length word ≤ 8

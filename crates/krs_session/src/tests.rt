@@ -30,8 +30,8 @@ const REPLIES: [u8; 34] = [
     6, 0, 0, 0, 0, 0, 0, 0, 0x73, 0x33,
 ];
 
-// In context 1, behind HELLO and ADD: UPDATE of 5 to `s4`; CHOWN of 5 to uid 1000, the gid left; SETPERM of 5 to 3f010001;
-// SET_TIMEOUT of 5 to 10 seconds; READ of 5; REVOKE of 5; READ of 5.
+// In context 1, behind HELLO and ADD: UPDATE of 5 to `s4`; CHOWN of 5 to uid 1000, the gid left; SETPERM of 5 to
+// 3f010001; SET_TIMEOUT of 5 to 10 seconds; READ of 5; REVOKE of 5; READ of 5.
 const CHANGES: [u8; 134] = [
     0x12, 0, 0, 0, 1, 0, 2, 0, 1, 0, 0, 0, 5, 0, 0, 0, 2, 0, 0, 0, 0x73, 0x34, //
     0x14, 0, 0, 0, 1, 0, 4, 0, 1, 0, 0, 0, 5, 0, 0, 0, 0xe8, 3, 0, 0, 0xff, 0xff, 0xff, 0xff, //

@@ -48,7 +48,7 @@ const ONE_CLASS_BYTE: [(&str, &str); 10] = [
     ("rdescribe 5", "user;1000;100;3f010001;alpha"),
 ];
 
-/// A timeout is taken away, by 0 or by UPDATE; an owner, a group and a mask that are refused; a revoked key is displaced.
+/// A timeout is taken away, by 0 or by UPDATE; an owner, a group and a mask are refused; a revoked key is displaced.
 #[rattlefmt::skip]
 const TIMEOUTS_OWNERS_MASKS: [(&str, &str); 19] = [
     ("hello 1000 1000", "1"),
