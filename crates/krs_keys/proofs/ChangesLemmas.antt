@@ -11,7 +11,7 @@ use Rattle.krs_keys.specs.declared.key.Content.TheVariants.{Payload, Links}
 use Rattle.krs_keys.specs.declared.key.Change.{Change}
 use Rattle.krs_keys.specs.declared.key.Change.TheVariants as change
 use Rattle.krs_keys.specs.Keys.{content_links, name_at, AreNamed, AreFit, seen, seen_content}
-use Rattle.krs_keys.specs.Changes.{changed, meant_change, paid_with, emptied, lets_go}
+use Rattle.krs_keys.specs.Changes.{changed, meant_change, paid_with, emptied, cleared_content, lets_go}
 use Rattle.krs_keys.proofs.Fitting.{fit_alter}
 
 paid_seen : (payload : List ℕ) (key : Key) (content : Content) → seen (changed (change.Payload payload) (record key { content = content })) ≡ meant_change (change.Payload payload) (seen (record key { content = content }))
@@ -22,6 +22,10 @@ ended_seen : (key : Key) (content : Content) → seen (changed change.Revoked (r
 ended_seen key (Payload old) = refl
 ended_seen key (Links links) = refl
 
+cleared_seen : (key : Key) (content : Content) → seen (changed change.Cleared (record key { content = content })) ≡ meant_change change.Cleared (seen (record key { content = content }))
+cleared_seen key (Payload old) = refl
+cleared_seen key (Links links) = refl
+
 -- a change, as the definitions see it
 pub seen-changed : (c : Change) (key : Key) → seen (changed c key) ≡ meant_change c (seen key)
 seen-changed (change.Payload payload) key = paid_seen payload key key.content
@@ -29,6 +33,7 @@ seen-changed (change.Mask mask) key = refl
 seen-changed (change.Owner uid gid) key = refl
 seen-changed (change.Expiry expiry) key = refl
 seen-changed change.Revoked key = ended_seen key key.content
+seen-changed change.Cleared key = cleared_seen key key.content
 
 pub name-changed : (c : Change) (key : Key) → (changed c key).name ≡ key.name
 name-changed (change.Payload payload) key = refl
@@ -36,6 +41,7 @@ name-changed (change.Mask mask) key = refl
 name-changed (change.Owner uid gid) key = refl
 name-changed (change.Expiry expiry) key = refl
 name-changed change.Revoked key = refl
+name-changed change.Cleared key = refl
 
 paid_named : (names : ℕ → Option Name) (payload : List ℕ) (content : Content) → AreNamed names (content_links content) → AreNamed names (content_links (paid_with payload content))
 paid_named names payload (Payload old) named = named
@@ -45,12 +51,17 @@ emptied_named : (names : ℕ → Option Name) (content : Content) → AreNamed n
 emptied_named names (Payload old) = tt
 emptied_named names (Links links) = tt
 
+cleared_named : (names : ℕ → Option Name) (content : Content) → AreNamed names (content_links content) → AreNamed names (content_links (cleared_content content))
+cleared_named names (Payload old) named = named
+cleared_named names (Links links) named = tt
+
 changed_named : (names : ℕ → Option Name) (c : Change) (key : Key) → AreNamed names (content_links key.content) → AreNamed names (content_links (changed c key).content)
 changed_named names (change.Payload payload) key named = paid_named names payload key.content named
 changed_named names (change.Mask mask) key named = named
 changed_named names (change.Owner uid gid) key named = named
 changed_named names (change.Expiry expiry) key named = named
 changed_named names change.Revoked key named = emptied_named names key.content
+changed_named names change.Cleared key named = cleared_named names key.content named
 
 -- links keep the names of their keys
 pub fit_changed : (keys : Table Key) (k : ℕ) (c : Change) → AreFit keys → AreFit (alter keys k (changed c))
@@ -66,6 +77,11 @@ ended_links key (Payload old) q kept h = h
 ended_links key (Links []) q kept h = h
 ended_links key (Links (link ∷ links)) q kept h = absurd (true≢false kept)
 
+cleared_links : (key : Key) (content : Content) (q : ℕ) → lets_go change.Cleared (Some (record key { content = content })) ≡ false → is_in q (links_of (seen_content content)) ≡ true → is_in q (links_of (seen_content (cleared_content content))) ≡ true
+cleared_links key (Payload old) q kept h = h
+cleared_links key (Links []) q kept h = h
+cleared_links key (Links (link ∷ links)) q kept h = absurd (true≢false kept)
+
 -- a change that lets go of nothing leaves every link
 pub links_left : (c : Change) (key : Key) (q : ℕ) → lets_go c (Some key) ≡ false → is_in q (links_of (seen_content key.content)) ≡ true → is_in q (links_of (seen_content (changed c key).content)) ≡ true
 links_left (change.Payload payload) key q kept h = paid_links payload key.content q h
@@ -73,3 +89,4 @@ links_left (change.Mask mask) key q kept h = h
 links_left (change.Owner uid gid) key q kept h = h
 links_left (change.Expiry expiry) key q kept h = h
 links_left change.Revoked key q kept h = ended_links key key.content q kept h
+links_left change.Cleared key q kept h = cleared_links key key.content q kept h

@@ -1,13 +1,19 @@
 -- Links keep the names of their keys.
-use Rattle.std.proofs.Common.{◌≡◌, ℕ, [], ◌∷◌, Option, Some, None, Bool, true, false, cond, filter, refl, ap, ◌∙◌, sym, subst, ⊎_elim}
+use Rattle.std.proofs.Common.{◌≡◌, ℕ, ◌==◌, ◌||◌, [], ◌∷◌, Option, Some, None, Bool, true, false, not, cond, filter, refl, ap, ◌∙◌, sym, subst, ⊎_elim}
 use Rattle.std.specs.Option.{option_map}
+use Rattle.std.specs.List.{find}
+use Rattle.std.proofs.lemmas.Bool.{true≢false, eqb-true}
 use Rattle.std.proofs.lemmas.Option.{none-some, same_Some}
 use Rattle.krs_types.specs.declared.name.Name.{Name}
 use Rattle.krs_types.specs.Name.{same_name}
 use Rattle.krs_model.specs.Table.{Table, at, put, alter}
 use Rattle.krs_model.proofs.Tables.{at_put_same, at_put_other, at_or_apart, at_alter_same, at_alter_other, at_kept}
 use Rattle.krs_keys.specs.declared.key.Key.{Key}
-use Rattle.krs_keys.specs.Links.{LinkList, linked}
+use Rattle.krs_links.specs.Links.{LinkList, linked, unlinked, linked_as, serials}
+use Rattle.krs_links.proofs.NamesLemmas.{equal_names, other_way, same_name_equiv}
+use Rattle.krs_links.proofs.LinksLemmas.{linked_as-linked_other, linked_as-unlinked_other, unlinked_none}
+use Rattle.krs_model.specs.Levels.{is_in}
+use Rattle.krs_model.proofs.Levels.{same_is, or_true}
 use Rattle.krs_keys.specs.Keys.{content_links, name_at, AreNamed, AreFit}
 
 -- names that are there before are there after
@@ -16,15 +22,101 @@ NamesStay before after = (k : ℕ) (name : Name) → before k ≡ Some name → 
 
 pub named_on : (before after : ℕ → Option Name) → NamesStay before after → (links : LinkList) → AreNamed before links → AreNamed after links
 named_on before after stay [] named = tt
-named_on before after stay (link ∷ links) named = (stay link.1 link.0 named.0, named_on before after stay links named.1)
+named_on before after stay (link ∷ links) named = (stay link.1 link.0 named.0, named_on before after stay links named.1, named.2)
 
 pub named_linked : (names : ℕ → Option Name) (name : Name) (serial : ℕ) (links : LinkList) → names serial ≡ Some name → AreNamed names links → AreNamed names (linked links name serial)
-named_linked names name serial [] there named = (there, tt)
+named_linked names name serial [] there named = (there, tt, refl)
 named_linked names name serial (link ∷ links) there named =
-    elim (same_name name link.0) as (λ b. AreNamed names (cond b ((name, serial) ∷ links) (link ∷ linked links name serial))) [
-      | true ↦ (there, named.1)
-      | false ↦ (named.0, named_linked names name serial links there named.1)
-    ]
+    elim (same_name name link.0) as (λ b. same_name name link.0 ≡ b → AreNamed names (cond b ((name, serial) ∷ links) (link ∷ linked links name serial))) [
+      | true ↦ λ same. (there, named.1, ap (linked_as links) (equal_names name link.0 same) ∙ named.2)
+      | false ↦ λ apart. (
+        named.0,
+        named_linked names name serial links there named.1,
+        linked_as-linked_other name link.0 serial links (other_way name link.0 apart) ∙ named.2,
+      )
+    ] refl
+
+-- without the link of a name
+pub named_unlinked : (names : ℕ → Option Name) (name : Name) (links : LinkList) → AreNamed names links → AreNamed names (unlinked links name)
+named_unlinked names name [] named = tt
+named_unlinked names name (link ∷ links) named =
+    elim (same_name name link.0) as (λ b. same_name name link.0 ≡ b → AreNamed names (cond (not b) (link ∷ unlinked links name) (unlinked links name))) [
+      | true ↦ λ same. named_unlinked names name links named.1
+      | false ↦ λ apart. (
+        named.0,
+        named_unlinked names name links named.1,
+        linked_as-unlinked_other name link.0 links (other_way name link.0 apart) ∙ named.2,
+      )
+    ] refl
+
+-- two keys of different names are two
+other_serial : (names : ℕ → Option Name) (name : Name) (serial : ℕ) (link : Name × ℕ) → names serial ≡ Some name → names link.1 ≡ Some link.0 → same_name name link.0 ≡ false → (link.1 == serial) ≡ false
+other_serial names name serial link there named other =
+    elim (link.1 == serial) as (λ b. (link.1 == serial) ≡ b → b ≡ false) [
+      | true ↦ λ t.
+          let one : link.1 ≡ serial = eqb-true link.1 serial t in
+          let same : name ≡ link.0 = same_Some name link.0 (sym there ∙ (ap names (sym one) ∙ named)) in
+          absurd (true≢false (sym (same_name_equiv.refl name) ∙ (ap (same_name name) same ∙ other)))
+      | false ↦ λ t. refl
+    ] refl
+
+not_first : (name : Name) (link : Name × ℕ) (links : LinkList) → linked_as (link ∷ links) name ≡ None → same_name name link.0 ≡ false
+not_first name link links none =
+    elim (same_name name link.0) as (λ b. option_map (λ (l : Name × ℕ). l.1) (cond b (Some link) (find (λ (l : Name × ℕ). same_name name l.0) links)) ≡ None → b ≡ false) [
+      | true ↦ λ h. absurd (none-some link.1 (sym h))
+      | false ↦ λ h. refl
+    ] none
+
+-- a key whose name is not linked is not linked
+none_left : (names : ℕ → Option Name) (name : Name) (serial : ℕ) (links : LinkList) → names serial ≡ Some name → linked_as links name ≡ None → AreNamed names links → filter (λ k. not (k == serial)) (serials links) ≡ serials links
+none_left names name serial [] there none named = refl
+none_left names name serial (link ∷ links) there none named =
+    let other : same_name name link.0 ≡ false = not_first name link links none in
+    let rest : linked_as links name ≡ None = rw other at none in
+    let apart : (link.1 == serial) ≡ false = other_serial names name serial link there named.0 other in
+    rw apart (ap (λ zs. link.1 ∷ zs) (none_left names name serial links there rest named.1))
+
+-- without the link of a key's name, the key is not linked
+pub serials-unlinked : (names : ℕ → Option Name) (name : Name) (serial : ℕ) (links : LinkList) → names serial ≡ Some name → linked_as links name ≡ Some serial → AreNamed names links → serials (unlinked links name) ≡ filter (λ k. not (k == serial)) (serials links)
+serials-unlinked names name serial [] there linked named = absurd (none-some serial linked)
+serials-unlinked names name serial (link ∷ links) there linked named =
+    elim (same_name name link.0) as (λ b. same_name name link.0 ≡ b → option_map (λ (l : Name × ℕ). l.1) (cond b (Some link) (find (λ (l : Name × ℕ). same_name name l.0) links)) ≡ Some serial → serials (cond (not b) (link ∷ unlinked links name) (unlinked links name)) ≡ filter (λ k. not (k == serial)) (serials (link ∷ links))) [
+      | true ↦ λ same h.
+          let here : (link.1 == serial) ≡ true = same_is link.1 serial (same_Some link.1 serial h) in
+          let none : linked_as links name ≡ None = ap (linked_as links) (equal_names name link.0 same) ∙ named.2 in
+          rw here (ap serials (unlinked_none name links none) ∙ sym (none_left names name serial links there none named.1))
+      | false ↦ λ other h.
+          let apart : (link.1 == serial) ≡ false = other_serial names name serial link there named.0 other in
+          rw apart (ap (λ zs. link.1 ∷ zs) (serials-unlinked names name serial links there h named.1))
+    ] refl linked
+
+-- what is found by name is linked
+pub found_in : (name : Name) (serial : ℕ) (links : LinkList) → linked_as links name ≡ Some serial → is_in serial (serials links) ≡ true
+found_in name serial [] h = absurd (none-some serial h)
+found_in name serial (link ∷ links) h =
+    elim (same_name name link.0) as (λ b. option_map (λ (l : Name × ℕ). l.1) (cond b (Some link) (find (λ (l : Name × ℕ). same_name name l.0) links)) ≡ Some serial → ((link.1 == serial) || is_in serial (serials links)) ≡ true) [
+      | true ↦ λ here. rw (same_is link.1 serial (same_Some link.1 serial here)) refl
+      | false ↦ λ there. or_true (link.1 == serial) (is_in serial (serials links)) (found_in name serial links there)
+    ] h
+
+-- a key that is linked is found by its name
+pub in_found : (names : ℕ → Option Name) (name : Name) (serial : ℕ) (links : LinkList) → names serial ≡ Some name → AreNamed names links → is_in serial (serials links) ≡ true → linked_as links name ≡ Some serial
+in_found names name serial [] there named h = absurd (true≢false (sym h))
+in_found names name serial (link ∷ links) there named h =
+    elim (link.1 == serial) as (λ b. (link.1 == serial) ≡ b → (b || is_in serial (serials links)) ≡ true → linked_as (link ∷ links) name ≡ Some serial) [
+      | true ↦ λ t i.
+          let one : link.1 ≡ serial = eqb-true link.1 serial t in
+          let same : name ≡ link.0 = same_Some name link.0 (sym there ∙ (ap names (sym one) ∙ named.0)) in
+          let first : same_name name link.0 ≡ true = ap (same_name name) (sym same) ∙ same_name_equiv.refl name in
+          rw first (ap (λ k. Some k) one)
+      | false ↦ λ t i.
+          let rest : linked_as links name ≡ Some serial = in_found names name serial links there named.1 i in
+          let other : same_name name link.0 ≡ false = elim (same_name name link.0) as (λ d. same_name name link.0 ≡ d → d ≡ false) [
+            | true ↦ λ same. absurd (none-some serial (sym named.2 ∙ (ap (linked_as links) (sym (equal_names name link.0 same)) ∙ rest)))
+            | false ↦ λ q. refl
+          ] refl in
+          rw other rest
+    ] refl h
 
 map_name : (f : Key → Key) → ((v : Key) → (f v).name ≡ v.name) → (o : Option Key) (name : Name) → option_map (λ key. key.name) o ≡ Some name → option_map (λ key. key.name) (option_map f o) ≡ Some name
 map_name f same None name h = h
@@ -65,7 +157,7 @@ LinksKept kept (link ∷ links) = (kept link.1 ≡ true) × LinksKept kept links
 named_kept : (keys : Table Key) (kept : ℕ → Bool) (links : LinkList) → LinksKept kept links → AreNamed (name_at keys) links → AreNamed (name_at (filter (λ e. kept e.0) keys)) links
 named_kept keys kept [] stay named = tt
 named_kept keys kept (link ∷ links) stay named =
-    (ap (option_map (λ key. key.name)) (at_kept kept keys link.1 ∙ ap (λ b. cond b (at keys link.1) None) stay.0) ∙ named.0, named_kept keys kept links stay.1 named.1)
+    (ap (option_map (λ key. key.name)) (at_kept kept keys link.1 ∙ ap (λ b. cond b (at keys link.1) None) stay.0) ∙ named.0, named_kept keys kept links stay.1 named.1, named.2)
 
 was_there : (b : Bool) (o : Option Key) (key : Key) → cond b o None ≡ Some key → (b ≡ true) × (o ≡ Some key)
 was_there true o key h = (refl, h)

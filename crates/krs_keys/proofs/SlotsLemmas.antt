@@ -4,7 +4,7 @@ use Rattle.std.specs.Option.{option_map}
 use Rattle.std.specs.Ordering.{nat_cmp}
 use Rattle.std.specs.BTreeMap.{is_at}
 use Rattle.std.specs.Map.{set_value}
-use Rattle.std.specs.Result.{OnOk, OnErr, IfOk}
+use Rattle.std.specs.Result.{OnOk, OnErr, IfOk, IfErr}
 use Rattle.std.proofs.lemmas.Option.{same_Some}
 use Rattle.krs_model.specs.Table.{Table, at, alter}
 use Rattle.krs_model.proofs.Tables.{at_map, alter_none}
@@ -52,3 +52,7 @@ on_err (Err e) f h = f h
 pub if_ok : {X E : Type 0} {P Q : X → Type 0} (r : Result X E) → ((x : X) → P x → Q x) → IfOk r P → IfOk r Q
 if_ok (Ok x) f h = f x h
 if_ok (Err e) f h = h
+
+pub if_err : {X E : Type 0} {P Q : E → Type 0} (r : Result X E) → ((e : E) → P e → Q e) → IfErr r P → IfErr r Q
+if_err (Ok x) f h = h
+if_err (Err e) f h = f e h

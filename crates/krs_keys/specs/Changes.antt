@@ -2,6 +2,7 @@
 use Rattle.std.specs.Prelude.{ℕ, List, [], ◌∷◌, Bool, true, false, Option, None, Some}
 use Rattle.krs_model.specs.State as model
 use Rattle.krs_model.specs.Asks.Changing as meant
+use Rattle.krs_model.specs.Asks.Linked.{cleared}
 use Rattle.krs_keys.specs.declared.key.Key.{Key}
 use Rattle.krs_keys.specs.declared.key.Content.{Content}
 use Rattle.krs_keys.specs.declared.key.Content.TheVariants.{Payload, Links}
@@ -17,6 +18,10 @@ abbrev pub emptied : Content → Content
 emptied (Payload bytes) = Payload []
 emptied (Links links) = Links []
 
+abbrev pub cleared_content : Content → Content
+cleared_content (Payload bytes) = Payload bytes
+cleared_content (Links links) = Links []
+
 -- the key after a change
 abbrev pub changed : Change → Key → Key
 changed (change.Payload payload) key = record key { content = paid_with payload key.content; expiry = None }
@@ -24,6 +29,7 @@ changed (change.Mask mask) key = record key { perm = mask }
 changed (change.Owner uid gid) key = record key { uid = meant.or_left uid key.uid; gid = meant.or_left gid key.gid }
 changed (change.Expiry expiry) key = record key { expiry = expiry }
 changed change.Revoked key = record key { revoked = true; content = emptied key.content }
+changed change.Cleared key = record key { content = cleared_content key.content }
 
 -- the change of the definitions
 abbrev pub meant_change : Change → model.Key → model.Key
@@ -32,6 +38,7 @@ meant_change (change.Mask mask) = meant.with_perm mask
 meant_change (change.Owner uid gid) = meant.with_owner uid gid
 meant_change (change.Expiry expiry) = meant.with_expiry expiry
 meant_change change.Revoked = meant.revoked
+meant_change change.Cleared = cleared
 
 abbrev pub links_some : Content → Bool
 links_some (Payload bytes) = false
@@ -42,6 +49,8 @@ links_some (Links (link ∷ links)) = true
 abbrev pub lets_go : Change → Option Key → Bool
 lets_go change.Revoked (Some key) = links_some key.content
 lets_go change.Revoked None = false
+lets_go change.Cleared (Some key) = links_some key.content
+lets_go change.Cleared None = false
 lets_go (change.Payload payload) key = false
 lets_go (change.Mask mask) key = false
 lets_go (change.Owner uid gid) key = false

@@ -1,6 +1,9 @@
 -- Keys as they are kept, with the names of their links, and as the definitions see them.
-use Rattle.std.specs.Prelude.{◌≡◌, ℕ, [], ◌∷◌, Option, None, Some}
+use Rattle.std.specs.Prelude.{◌≡◌, ℕ, [], ◌∷◌, true, Option, None, Some}
 use Rattle.std.specs.Option.{option_map}
+use Rattle.krs_types.specs.declared.kind.Kind.{Kind}
+use Rattle.krs_types.specs.declared.kind.Kind.TheVariants.{Keyring}
+use Rattle.krs_types.specs.Kind.{same_kind}
 use Rattle.krs_types.specs.declared.name.Name.{Name}
 use Rattle.krs_model.specs.Table.{Table, at, map_values}
 use Rattle.krs_model.specs.State as model
@@ -8,7 +11,7 @@ use Rattle.krs_model.specs.Linking.{link_named}
 use Rattle.krs_keys.specs.declared.key.Key.{Key}
 use Rattle.krs_keys.specs.declared.key.Content.{Content}
 use Rattle.krs_keys.specs.declared.key.Content.TheVariants.{Payload, Links}
-use Rattle.krs_keys.specs.Links.{LinkList, linked, linked_as, serials}
+use Rattle.krs_links.specs.Links.{LinkList, linked, unlinked, linked_as, serials}
 
 -- the named links of a keyring
 abbrev pub content_links : Content → LinkList
@@ -46,18 +49,44 @@ entered name serial (Links links) = Links (linked links name serial)
 abbrev pub with_entry : Name → ℕ → Key → Key
 with_entry name serial key = record key { content = entered name serial key.content }
 
+-- what a keyring links, without the link of a name
+abbrev pub unlinked_content : Name → Content → Content
+unlinked_content name (Payload bytes) = Payload bytes
+unlinked_content name (Links links) = Links (unlinked links name)
+
+-- one link less
+abbrev pub without_entry : Name → Key → Key
+without_entry name key = record key { content = unlinked_content name key.content }
+
 -- the name of the key at a serial
 abbrev pub name_at : Table Key → ℕ → Option Name
 name_at keys serial = option_map (λ key. key.name) (at keys serial)
 
--- each link names a key, under that key's own name
+-- each link names a key, under that key's own name, and no two links have one name: keyrings(7), "Keyrings"
 abbrev pub AreNamed : (ℕ → Option Name) → LinkList → Type 0
 AreNamed names [] = Unit {0}
-AreNamed names (link ∷ links) = (names link.1 ≡ Some link.0) × AreNamed names links
+AreNamed names (link ∷ links) = (names link.1 ≡ Some link.0) × AreNamed names links × (linked_as links link.0 ≡ None)
 
 -- every link of every key does
 abbrev pub AreFit : Table Key → Type 0
 AreFit keys = (serial : ℕ) (key : Key) → at keys serial ≡ Some key → AreNamed (name_at keys) (content_links key.content)
+
+abbrev pub links_by : Option Key → LinkList
+links_by None = []
+links_by (Some key) = content_links key.content
+
+-- the named links of the key at a serial
+abbrev pub links_at : Table Key → ℕ → LinkList
+links_at keys serial = links_by (at keys serial)
+
+-- only a keyring has links
+abbrev pub IsOfKind : Kind → Content → Type 0
+IsOfKind kind (Payload bytes) = Unit {0}
+IsOfKind kind (Links links) = same_kind kind Keyring ≡ true
+
+-- each key holds what keys of its type hold: keyrings(7), "Key types"
+abbrev pub AreOfKind : Table Key → Type 0
+AreOfKind keys = (serial : ℕ) (key : Key) → at keys serial ≡ Some key → IsOfKind key.name.kind key.content
 
 -- the serial that a link of that name in a keyring displaces
 abbrev pub displaced_by : Name → Option Key → Option ℕ

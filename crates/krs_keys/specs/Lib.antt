@@ -1,4 +1,3 @@
-pub mod Links
 pub mod Keys
 pub mod Changes
 pub mod Table

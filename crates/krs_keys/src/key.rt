@@ -1,14 +1,13 @@
-ghost use Rattle.std.specs.Prelude.{◌≡◌, IfOk, OnOk, OnErr};
-ghost use Rattle.krs_keys.specs.Links.{linked_as, serials};
-ghost use Rattle.krs_keys.specs.Keys.{with_entry, content_links, seen, seen_content};
+ghost use Rattle.std.specs.Prelude.{◌≡◌, false, IfOk, IfErr, OnOk, OnErr};
+ghost use Rattle.krs_links.specs.Links.{linked_as, is_refused, link_error, serials};
+ghost use Rattle.krs_keys.specs.Keys.{with_entry, without_entry, content_links, seen, seen_content};
 ghost use Rattle.krs_keys.specs.Changes.{changed};
 ghost use Rattle.krs_model.specs.Asks.Changing.{or_left};
 ghost use Rattle.krs_model.specs.Possession.{links_of};
 ghost use Rattle.krs_model.specs.Access.{is_over, is_alive, rights_on};
 
-use crate::Links;
-use krs_types::{Body, Caller, Name, Perm, Rights, Serial};
-use std::alloc::AllocError;
+use krs_links::Links;
+use krs_types::{Body, Caller, Errno, Name, Perm, Rights, Serial};
 
 /// What a key holds.
 #[derive(Drop)]
@@ -43,6 +42,8 @@ pub enum Change {
     Expiry(Option<u64>),
     /// The end: neither payload nor links are left.
     Revoked,
+    /// No links, where it is a keyring.
+    Cleared,
 }
 
 /// Stands for the uid or gid that is there.
@@ -84,6 +85,13 @@ impl Key {
         }
     }
 
+    /// One link less, where it is a keyring: that of this name.
+    pub fn unlink(&mut self, name: &Name)
+        ensures { self.new ≡ without_entry name.now self.old }
+    {
+        self.content.unlink(name);
+    }
+
     /// Changes it.
     pub fn change(&mut self, change: Change)
         ensures { self.new ≡ changed change self.old }
@@ -103,13 +111,16 @@ impl Key {
                 self.revoked = true;
                 self.content.empty();
             }
+            Change::Cleared => self.content.clear(),
         }
     }
 
-    /// One more link, where it is a keyring; the serial that it displaces.
-    pub fn link(&mut self, name: Name, serial: Serial) -> Result<Option<Serial>, AllocError>
+    /// One more link, where it is a keyring, and the serial that it displaces: ENFILE, ENOMEM.
+    pub fn link(&mut self, name: Name, serial: Serial) -> Result<Option<Serial>, Errno>
         ensures ok { OnOk result (self.new ≡ with_entry name serial self.old) }
         ensures displaced { IfOk result (λ old. old ≡ linked_as (content_links self.old.content) name) }
+        ensures room { OnOk result (is_refused (content_links self.old.content) name ≡ false) }
+        ensures error { IfErr result (λ e. e ≡ link_error (content_links self.old.content) name) }
         ensures err { OnErr result (self.new ≡ self.old) }
     {
         match &mut self.content {
@@ -120,7 +131,8 @@ impl Key {
 }
 
 impl Content {
-    ghost use Rattle.krs_keys.specs.Changes.{paid_with, emptied, links_some};
+    ghost use Rattle.krs_keys.specs.Changes.{paid_with, emptied, cleared_content, links_some};
+    ghost use Rattle.krs_keys.specs.Keys.{unlinked_content};
 
     /// Another payload in the place of the one that is there.
     fn pay(&mut self, payload: Body)
@@ -138,6 +150,28 @@ impl Content {
     {
         match self {
             Content::Payload(bytes) => bytes.clear(),
+            Content::Links(links) => links.clear(),
+        }
+    }
+
+    /// One link less, where it is a keyring.
+    fn unlink(&mut self, name: &Name)
+        ensures { self.new ≡ unlinked_content name.now self.old }
+    {
+        match self {
+            Content::Payload(_) => {}
+            Content::Links(links) => {
+                let _ = links.remove(name);
+            }
+        }
+    }
+
+    /// No links, where it is a keyring.
+    fn clear(&mut self)
+        ensures { self.new ≡ cleared_content self.old }
+    {
+        match self {
+            Content::Payload(_) => {}
             Content::Links(links) => links.clear(),
         }
     }

@@ -1,9 +1,10 @@
-ghost use Rattle.std.specs.Prelude.{◌≡◌, ◌+◌, ◌≤◌, ◌++◌, None, [], IfOk, IfErr, OnOk, OnErr, option_copied};
+ghost use Rattle.std.specs.Prelude.{◌≡◌, ◌+◌, ◌≤◌, ◌++◌, None, false, [], IfOk, IfErr, OnOk, OnErr, option_copied};
 ghost use Rattle.krs_model.specs.Table.{at, put, without, alter, IsBelow};
 ghost use Rattle.krs_model.specs.Sweep.{context_roots, process_roots, uid_roots};
-ghost use Rattle.krs_keys.specs.Keys.{with_entry, displaced_at};
+ghost use Rattle.krs_keys.specs.Keys.{with_entry, without_entry, displaced_at, links_at};
+ghost use Rattle.krs_links.specs.Links.{is_refused, link_error};
 ghost use Rattle.krs_keys.specs.Changes.{changed, lets_go};
-ghost use Rattle.krs_keys.specs.Table.{unmarked, with_key, insert_error};
+ghost use Rattle.krs_keys.specs.Table.{unmarked, with_key, insert_error, IsLinkError, IsLinkedError};
 ghost use Rattle.krs_keys.specs.Marks.{Sweeps};
 
 use crate::sweep::sweep;
@@ -114,7 +115,7 @@ impl KeyTable {
     }
 
     /// One more key, under the next serial, which a keyring links under this name, and the serial that this displaces:
-    /// ENOSPC, ENOMEM. A refusal leaves neither key nor link.
+    /// ENOSPC, ENFILE, ENOMEM. A refusal leaves neither key nor link.
     pub fn insert_linked(
         &mut self,
         ring: Serial,
@@ -123,19 +124,39 @@ impl KeyTable {
     ) -> Result<Option<Serial>, Errno>
         ensures displaced { IfOk result (λ old. old ≡ displaced_at (put self.old.keys self.old.next key) ring name) }
         ensures ok { OnOk result (self.new ≡ record { keys = alter (put self.old.keys self.old.next key) ring (with_entry name self.old.next); next = self.old.next + 1 }) }
-        ensures error { IfErr result (λ e. e ≡ insert_error self.old.next 1) }
+        ensures error { IfErr result (IsLinkedError (put self.old.keys self.old.next key) self.old.next ring name) }
         ensures err { OnErr result (self.new ≡ self.old) }
     {
         if self.next > LAST_SERIAL {
             return Err(Errno::ENOSPC);
         }
-        match put_linked(&mut self.slots, self.next, ring.number(), name, key) {
-            Ok(displaced) => {
-                self.next += 1;
-                Ok(displaced)
-            }
-            Err(_) => Err(Errno::ENOMEM),
-        }
+        let displaced = put_linked(&mut self.slots, self.next, ring.number(), name, key)?;
+        self.next += 1;
+        Ok(displaced)
+    }
+
+    /// One more link in a keyring, and the serial that it displaces: ENFILE, ENOMEM.
+    pub fn link(
+        &mut self,
+        ring: Serial,
+        name: Name,
+        serial: Serial,
+    ) -> Result<Option<Serial>, Errno>
+        ensures displaced { IfOk result (λ old. old ≡ displaced_at self.old.keys ring name) }
+        ensures ok { OnOk result (self.new ≡ record self.old { keys = alter self.old.keys ring (with_entry name serial) }) }
+        ensures room { OnOk result (is_refused (links_at self.old.keys ring) name ≡ false) }
+        ensures error { IfErr result (λ e. e ≡ link_error (links_at self.old.keys ring) name) }
+        ensures err { OnErr result (self.new ≡ self.old) }
+    {
+        let displaced = link_in(&mut self.slots, ring.number(), name, serial)?;
+        Ok(displaced)
+    }
+
+    /// One link less in a keyring: that of this name.
+    pub fn unlink(&mut self, ring: Serial, name: &Name)
+        ensures { self.new ≡ record self.old { keys = alter self.old.keys ring (without_entry name.now) } }
+    {
+        unlink_in(&mut self.slots, ring.number(), name);
     }
 
     /// Whether a change of the key at a serial takes a link out.
@@ -143,7 +164,7 @@ impl KeyTable {
         ensures { result ≡ lets_go change.now (at self.now.keys serial) }
     {
         match (change, self.get(serial)) {
-            (Change::Revoked, Some(key)) => key.content.links_some(),
+            (Change::Revoked | Change::Cleared, Some(key)) => key.content.links_some(),
             _ => false,
         }
     }
@@ -221,18 +242,21 @@ fn put_linked(
     ring: u32,
     name: Name,
     key: Key,
-) -> Result<Option<Serial>, AllocError>
+) -> Result<Option<Serial>, Errno>
     requires absent { at (unmarked slots.old.entries) serial ≡ None }
     ensures displaced { IfOk result (λ old. old ≡ displaced_at (put (unmarked slots.old.entries) serial key) ring name) }
     ensures ok { OnOk result (unmarked slots.new.entries ≡ alter (put (unmarked slots.old.entries) serial key) ring (with_entry name serial)) }
+    ensures error { IfErr result (IsLinkError (put (unmarked slots.old.entries) serial key) ring name) }
     ensures err { OnErr result (unmarked slots.new.entries ≡ unmarked slots.old.entries) }
 {
-    put_in(slots, serial, key)?;
+    if put_in(slots, serial, key).is_err() {
+        return Err(Errno::ENOMEM);
+    }
     match link_in(slots, ring, name, Serial::new(serial)) {
         Ok(displaced) => Ok(displaced),
-        Err(_) => {
+        Err(error) => {
             take_out(slots, serial);
-            Err(AllocError)
+            Err(error)
         }
     }
 }
@@ -246,14 +270,25 @@ fn change_in(slots: &mut BTreeMap<u32, Slot>, serial: u32, change: Change)
     }
 }
 
+fn unlink_in(slots: &mut BTreeMap<u32, Slot>, ring: u32, name: &Name)
+    ensures { unmarked slots.new.entries ≡ alter (unmarked slots.old.entries) ring (without_entry name.now) }
+{
+    match slots.get_mut(&ring) {
+        Some(slot) => slot.key.unlink(name),
+        None => {}
+    }
+}
+
 fn link_in(
     slots: &mut BTreeMap<u32, Slot>,
     ring: u32,
     name: Name,
     serial: Serial,
-) -> Result<Option<Serial>, AllocError>
+) -> Result<Option<Serial>, Errno>
     ensures displaced { IfOk result (λ old. old ≡ displaced_at (unmarked slots.old.entries) ring name) }
     ensures ok { OnOk result (unmarked slots.new.entries ≡ alter (unmarked slots.old.entries) ring (with_entry name serial)) }
+    ensures room { OnOk result (is_refused (links_at (unmarked slots.old.entries) ring) name ≡ false) }
+    ensures error { IfErr result (λ e. e ≡ link_error (links_at (unmarked slots.old.entries) ring) name) }
     ensures err { OnErr result (unmarked slots.new.entries ≡ unmarked slots.old.entries) }
 {
     match slots.get_mut(&ring) {

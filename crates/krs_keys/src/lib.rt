@@ -3,12 +3,10 @@
 
 mod key;
 mod key_table;
-mod links;
 mod sweep;
 
 pub use key::{Change, Content, Key};
 pub use key_table::KeyTable;
-pub use links::Links;
 
 #[cfg(test)]
 mod tests;

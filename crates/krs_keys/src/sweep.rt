@@ -5,7 +5,7 @@ ghost use Rattle.krs_model.specs.Sweep.{context_roots, process_roots, uid_roots}
 ghost use Rattle.std.specs.Ordering.{nat_cmp};
 ghost use Rattle.std.specs.BTreeMap.{IsOrdered};
 ghost use Rattle.krs_keys.specs.Table.{unmarked};
-ghost use Rattle.krs_keys.specs.Links.{serials};
+ghost use Rattle.krs_links.specs.Links.{serials};
 ghost use Rattle.krs_keys.specs.Marks.{next_open, is_unmarked, open_in, open_link, marked, cleared, Sweeps};
 
 use crate::key_table::Slot;

@@ -1,4 +1,5 @@
-use crate::{Change, Content, Key, KeyTable, Links};
+use crate::{Change, Content, Key, KeyTable};
+use krs_links::Links;
 use krs_types::{Blob, Body, Desc, Errno, Kind, Name, Perm, Serial};
 use std::alloc::{AllocError, Global};
 use std::collections::BTreeMap;

@@ -16,21 +16,25 @@ use Rattle.krs_types.specs.declared.name.Name.{Name}
 use Rattle.krs_types.specs.declared.rights.Want.{Want}
 use Rattle.krs_types.specs.declared.ask.Answer.{Answer}
 use Rattle.krs_types.specs.declared.ask.Op.{Op}
-use Rattle.krs_types.specs.declared.ask.Op.TheVariants.{Hello, Add, Update, Revoke, Chown, SetPerm, SetTimeout, Read}
+use Rattle.krs_types.specs.declared.ask.Op.TheVariants.{Hello, Add, Update, Revoke, Chown, SetPerm, SetTimeout, Link, Unlink, Clear, Read}
 use Rattle.krs_types.specs.declared.ask.Op.TheVariants.{Describe, Leave}
 use Rattle.krs_types.specs.declared.event.Event.{Event}
-use Rattle.krs_types.specs.Refusing.{◌>>=◌}
+use Rattle.krs_types.specs.declared.errno.Errno.TheVariants.{ENOKEY}
+use Rattle.krs_types.specs.declared.rights.Want.TheVariants.{Granted}
+use Rattle.krs_types.specs.Rights.{WRITE, LINK}
+use Rattle.krs_types.specs.Refusing.{◌>>=◌, or_refuse}
 use Rattle.krs_model.specs.Table.{at, put, alter, IsBelow}
 use Rattle.krs_model.specs.State.{State, Key, raised}
-use Rattle.krs_model.specs.Lookup.{context_of, look_up}
+use Rattle.krs_model.specs.Lookup.{context_of, serial_of, look_up}
 use Rattle.krs_model.specs.Sweep.{IsSweep}
 use Rattle.krs_model.specs.Outcome.{Outcome}
 use Rattle.krs_model.specs.Step.{Step, Ends, grows, outcome_of}
 use Rattle.krs_model.specs.History.{IsLegal}
 use Rattle.krs_model.specs.Asks.Hello.{hello, uid_ring, with_uid, with_context}
-use Rattle.krs_model.specs.Linking.{linking}
+use Rattle.krs_model.specs.Linking.{linking, link_named, has_room, ring_links}
 use Rattle.krs_model.specs.Asks.Adding.{Place, Updated, Made, add, added, made, new_key}
 use Rattle.krs_model.specs.Asks.Changing.{changed, update, updated, revoke, chown, set_perm, set_timeout}
+use Rattle.krs_model.specs.Asks.Linked.{link, unlink, clear, nestable, name_of, if_linked, without_link}
 use Rattle.krs_model.specs.Asks.Reading.{read, describe}
 use Rattle.krs_model.specs.Asks.Leaving.{left}
 use Rattle.krs_model.proofs.Tables.{at_put_other, below_put, below_filter, at_or_apart, at_alter_other}
@@ -190,7 +194,7 @@ added_follows :
     (s : State) (c : Context) (name : Name) (payload : List ℕ) (place : Place)
     → Follows s (added s c name payload place)
 added_follows s c name payload (Updated serial) = changed_follows s serial (updated payload) (λ v h. h)
-added_follows s c name payload (Made ring) = made_follows s ring name (new_key name payload c.caller)
+added_follows s c name payload (Made ring) = made_follows s ring name (new_key name payload c.caller.uid c.caller.gid)
 
 add_follows :
     (s : State) (client context : ℕ) (type_name desc payload : List ℕ) (ring : ℤ)
@@ -220,6 +224,32 @@ set_timeout_follows :
 unfolding set_timeout
 set_timeout_follows s client context id seconds = search (accepted, changed_follows)
 
+link_follows : (s : State) (client context : ℕ) (key ring : ℤ) → Keeps s (link s client context key ring)
+unfolding link
+link_follows s client context key ring =
+    keeps_after (context_of s client context) _ (λ c.
+    keeps_after (look_up s c ring (Granted WRITE)) _ (λ into.
+    keeps_after (look_up s c key (Granted LINK)) _ (λ found.
+    keeps_after (ring_links into.1.content) _ (λ links.
+    keeps_after (nestable s.keys into.0 found.0) _ (λ nests.
+    keeps_after (has_room links (link_named s.keys (name_of found.1) links)) _ (λ room.
+    keeps_ok (changed_follows s into.0 (linking s.keys (name_of found.1) found.0) (λ v h. h))))))))
+
+unlink_follows : (s : State) (client context : ℕ) (key ring : ℤ) → Keeps s (unlink s client context key ring)
+unfolding unlink
+unlink_follows s client context key ring =
+    keeps_after (context_of s client context) _ (λ c.
+    keeps_after (look_up s c ring (Granted WRITE)) _ (λ from.
+    keeps_after (serial_of s c key) _ (λ serial.
+    keeps_after (or_refuse ENOKEY (at s.keys serial)) _ (λ there.
+    keeps_after (ring_links from.1.content) _ (λ links.
+    keeps_after (if_linked serial links) _ (λ linked.
+    keeps_ok (changed_follows s from.0 (without_link serial) (λ v h. h))))))))
+
+clear_follows : (s : State) (client context : ℕ) (id : ℤ) → Keeps s (clear s client context id)
+unfolding clear
+clear_follows s client context id = search (accepted, changed_follows)
+
 read_follows : (s : State) (client context : ℕ) (id : ℤ) → Keeps s (read s client context id)
 unfolding read
 read_follows s client context id = search (accepted, same_follows)
@@ -242,6 +272,9 @@ outcome_follows s client context (Revoke id) = revoke_follows s client context i
 outcome_follows s client context (Chown id uid gid) = chown_follows s client context id uid gid
 outcome_follows s client context (SetPerm id mask) = set_perm_follows s client context id mask
 outcome_follows s client context (SetTimeout id seconds) = set_timeout_follows s client context id seconds
+outcome_follows s client context (Link key ring) = link_follows s client context key ring
+outcome_follows s client context (Unlink key ring) = unlink_follows s client context key ring
+outcome_follows s client context (Clear id) = clear_follows s client context id
 outcome_follows s client context (Read id) = read_follows s client context id
 outcome_follows s client context (Describe id) = describe_follows s client context id
 outcome_follows s client context Leave = keeps_ok (left_follows s client)

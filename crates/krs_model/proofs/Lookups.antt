@@ -1,5 +1,5 @@
 -- Laws of look-ups, and of where an added key goes.
-use Rattle.std.proofs.Common.{◌≡◌, ℕ, ℤ, List, Option, Some, None, Bool, true, false, cond, Result, Ok, Err, refl, subst}
+use Rattle.std.proofs.Common.{◌&&◌, ◌≡◌, ℕ, ℤ, List, Option, Some, None, Bool, true, false, cond, Result, Ok, Err, refl, subst}
 use Rattle.std.specs.Prelude.{nat_lt}
 use Rattle.krs_types.specs.declared.errno.Errno.TheVariants.{ENOKEY, EKEYREVOKED, EKEYEXPIRED, EACCES, ENOSPC}
 use Rattle.krs_types.specs.declared.context.Context.{Context}
@@ -15,7 +15,7 @@ use Rattle.krs_model.specs.Possession.{possessed}
 use Rattle.krs_model.specs.Lookup.{serial_of, if_usable, look_up}
 use Rattle.krs_model.specs.Linking.{ring_links, link_named, has_room}
 use Rattle.krs_model.specs.Usable.{IsUsable}
-use Rattle.krs_model.specs.Asks.Adding.{Place, Updated, Made, if_room, over_match, by_match, place_of, IsRing}
+use Rattle.krs_model.specs.Asks.Adding.{is_updatable, Place, Updated, Made, if_room, over_match, by_match, place_of, IsRing}
 
 usable : (s : State) (c : Context) (want : Want) (serial : ℕ) (key : Key) (x : ℕ × Key) → at s.keys serial ≡ Some key → if_usable s c want serial key ≡ Ok x → IsUsable s c want x
 usable s c want serial key x there h =
@@ -55,7 +55,7 @@ in_room s ring r links displaced h =
 in_match : (s : State) (c : Context) (ring r : ℕ) (links : List ℕ) (found : ℕ) (o : Option Key) → over_match s c ring links found o ≡ Ok (Made r) → r ≡ ring
 in_match s c ring r links found None h = in_room s ring r links None h
 in_match s c ring r links found (Some key) h =
-    elim (is_alive s.clock key) as (λ b. cond b (cond (has_all (rights_on key c.caller (possessed s c found)) WRITE) (Ok (Updated found)) (Err EACCES)) (if_room s ring links (Some found)) ≡ Ok (Made r) → r ≡ ring) [
+    elim (is_alive s.clock key && is_updatable key.kind) as (λ b. cond b (cond (has_all (rights_on key c.caller (possessed s c found)) WRITE) (Ok (Updated found)) (Err EACCES)) (if_room s ring links (Some found)) ≡ Ok (Made r) → r ≡ ring) [
       | true ↦ λ e. elim (has_all (rights_on key c.caller (possessed s c found)) WRITE) as (λ b. cond b (Ok (Updated found)) (Err EACCES) ≡ Ok (Made r) → r ≡ ring) [
         | true ↦ λ f. cc
         | false ↦ λ f. cc

@@ -108,7 +108,7 @@ linked_here p (x ∷ links) n =
       | false ↦ or_true (x == n) (is_in n (with_link p links n)) (linked_here p links n)
     ]
 
-linked_still : (p : ℕ → Bool) (links : List ℕ) (n k : ℕ) → find p links ≡ None → is_in k links ≡ true → is_in k (with_link p links n) ≡ true
+pub linked_still : (p : ℕ → Bool) (links : List ℕ) (n k : ℕ) → find p links ≡ None → is_in k links ≡ true → is_in k (with_link p links n) ≡ true
 linked_still p [] n k none h = absurd (true≢false (sym h))
 linked_still p (x ∷ links) n k none h =
     elim (p x) as (λ b. cond b (Some x) (find p links) ≡ None → is_in k (cond b (n ∷ links) (x ∷ with_link p links n)) ≡ true) [

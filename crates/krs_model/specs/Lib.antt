@@ -7,6 +7,8 @@ pub mod Lookup
 pub mod Usable
 pub mod Linking
 pub mod Sweep
+pub mod Reach
+pub mod Sound
 pub mod Outcome
 pub mod Asks
 pub mod Step

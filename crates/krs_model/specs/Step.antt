@@ -5,7 +5,7 @@ use Rattle.krs_types.specs.declared.errno.Errno.TheVariants.{ENOMEM}
 use Rattle.krs_types.specs.declared.ask.Answer.{Answer}
 use Rattle.krs_types.specs.declared.ask.Answer.TheVariants.{Nothing}
 use Rattle.krs_types.specs.declared.ask.Op.{Op}
-use Rattle.krs_types.specs.declared.ask.Op.TheVariants.{Hello, Add, Update, Revoke, Chown, SetPerm, SetTimeout, Read, Describe, Leave}
+use Rattle.krs_types.specs.declared.ask.Op.TheVariants.{Hello, Add, Update, Revoke, Chown, SetPerm, SetTimeout, Link, Unlink, Clear, Read, Describe, Leave}
 use Rattle.krs_types.specs.declared.event.Event.{Event}
 use Rattle.krs_model.specs.State.{State, raised}
 use Rattle.krs_model.specs.Sweep.{IsSweep}
@@ -13,6 +13,7 @@ use Rattle.krs_model.specs.Outcome.{Outcome}
 use Rattle.krs_model.specs.Asks.Hello.{hello}
 use Rattle.krs_model.specs.Asks.Adding.{add}
 use Rattle.krs_model.specs.Asks.Changing.{update, revoke, chown, set_perm, set_timeout}
+use Rattle.krs_model.specs.Asks.Linked.{link, unlink, clear}
 use Rattle.krs_model.specs.Asks.Reading.{read, describe}
 use Rattle.krs_model.specs.Asks.Leaving.{left}
 
@@ -25,6 +26,9 @@ outcome_of s client context (Revoke id) = revoke s client context id
 outcome_of s client context (Chown id uid gid) = chown s client context id uid gid
 outcome_of s client context (SetPerm id mask) = set_perm s client context id mask
 outcome_of s client context (SetTimeout id seconds) = set_timeout s client context id seconds
+outcome_of s client context (Link key ring) = link s client context key ring
+outcome_of s client context (Unlink key ring) = unlink s client context key ring
+outcome_of s client context (Clear id) = clear s client context id
 outcome_of s client context (Read id) = read s client context id
 outcome_of s client context (Describe id) = describe s client context id
 outcome_of s client context Leave = Ok (left s client, Nothing)
@@ -39,6 +43,9 @@ grows (Revoke id) = true
 grows (Chown id uid gid) = true
 grows (SetPerm id mask) = true
 grows (SetTimeout id seconds) = true
+grows (Link key ring) = true
+grows (Unlink key ring) = true
+grows (Clear id) = true
 grows (Read id) = true
 grows (Describe id) = true
 grows Leave = false

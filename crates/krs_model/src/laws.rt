@@ -1,20 +1,22 @@
-ghost use Rattle.std.specs.Prelude.{◌≡◌, ℕ, ℤ, Ok, IsErr, true, false};
+ghost use Rattle.std.specs.Prelude.{◌≡◌, ◌↔◌, ℕ, ℤ, List, Ok, IsErr, IsSome, true, false};
 ghost use Rattle.krs_types.specs.declared.caller.Caller.{Caller};
 ghost use Rattle.krs_types.specs.declared.context.Context.{Context};
 ghost use Rattle.krs_types.specs.declared.ask.Op.TheVariants.{Revoke, Read};
 ghost use Rattle.krs_types.specs.declared.event.Event.{Event};
 ghost use Rattle.krs_types.specs.declared.rights.Want.{Want};
 ghost use Rattle.krs_types.specs.Perm.{granted};
-ghost use Rattle.krs_model.specs.Table.{IsBelow};
-ghost use Rattle.krs_model.specs.State.{State, Key, raised};
+ghost use Rattle.krs_model.specs.Table.{Table, at, IsBelow};
+ghost use Rattle.krs_model.specs.State.{State, Key, raised, starting_at};
 ghost use Rattle.krs_model.specs.Possession.{possessed};
 ghost use Rattle.krs_model.specs.Lookup.{look_up};
 ghost use Rattle.krs_model.specs.Usable.{IsUsable};
 ghost use Rattle.krs_model.specs.Sweep.{IsSweep, IsSwept};
+ghost use Rattle.krs_model.specs.Reach.{closes, links_in};
+ghost use Rattle.krs_model.specs.Sound.{IsSound, AllLinked};
 ghost use Rattle.krs_model.specs.Step.{Step};
 ghost use Rattle.krs_model.specs.History.{IsLegal};
 ghost use Rattle.krs_model.specs.Revocation.{IsOfKey, StaysUnread};
-ghost use Rattle.krs_model.specs.Laws.{ComesByLinks, IsOneByte};
+ghost use Rattle.krs_model.specs.Laws.{ComesByLinks, IsOneByte, ClosesCycle};
 
 /// A possessed key is an attached keyring, or is linked by a possessed keyring that may be searched: keyrings(7),
 /// "Possession".
@@ -63,4 +65,25 @@ pub fn revokes_and_reads_name_a_key()
 /// KEYCTL_REVOKE.
 pub fn revoked_keys_stay_unread()
     ensures { (start : State) → IsBelow start.keys start.next_serial → StaysUnread start }
+{}
+
+/// The test of LINK for cycles says what is reached: keyctl(2), KEYCTL_LINK, "EDEADLK".
+pub fn cycles_are_reach()
+    ensures { (keys : Table Key) (key ring : ℕ) → AllLinked keys → IsSome (at keys key)
+        → (closes keys key ring ≡ true) ↔ (ClosesCycle (links_in keys) key ring) }
+{}
+
+/// An empty store is sound.
+pub fn an_empty_store_is_sound()
+    ensures { (n : ℕ) → IsSound (starting_at n) }
+{}
+
+/// Each step leaves a sound store sound, whatever is asked and whether it is accepted.
+pub fn each_step_keeps_a_store_sound()
+    ensures { (old new : State) (event : Event) → IsSound old → Step old event new → IsSound new }
+{}
+
+/// Every history of a store that began empty ends in a sound store.
+pub fn histories_end_sound()
+    ensures { (n : ℕ) (events : List Event) (end : State) → IsLegal (starting_at n) events end → IsSound end }
 {}

@@ -5,7 +5,8 @@
 mod laws;
 
 pub use laws::{
-    a_sweep_is_one_state, a_sweep_sweeps, a_swept_state_stays, look_ups_find_usable_keys,
-    possession_comes_by_links, refusals_change_the_clock_alone, revoked_keys_stay_unread,
-    revokes_and_reads_name_a_key, rights_come_from_one_byte,
+    a_sweep_is_one_state, a_sweep_sweeps, a_swept_state_stays, an_empty_store_is_sound,
+    cycles_are_reach, each_step_keeps_a_store_sound, histories_end_sound,
+    look_ups_find_usable_keys, possession_comes_by_links, refusals_change_the_clock_alone,
+    revoked_keys_stay_unread, revokes_and_reads_name_a_key, rights_come_from_one_byte,
 };

@@ -22,7 +22,7 @@ use Rattle.krs_model.specs.Linking.{link_named, linking}
 use Rattle.krs_model.specs.Sweep.{IsHeld, Linked, PicksHeld, IsSweep, AllHeld, roots}
 use Rattle.krs_model.specs.Asks.Hello.{uid_ring, with_uid}
 use Rattle.krs_model.specs.Lookup.{look_up}
-use Rattle.krs_model.specs.Asks.Adding.{made, IsRing, place_of, by_match}
+use Rattle.krs_model.specs.Asks.Adding.{made, new_key, IsRing, place_of, by_match}
 use Rattle.krs_model.proofs.Tables.{at_map, put_map, alter_map, filter_map_keys, below_put, at_put_same, at_put_other, at_or_apart}
 use Rattle.krs_model.proofs.Levels.{or_true, same_is}
 use Rattle.krs_model.proofs.Sweeping.{changed_swept, made_swept}
@@ -30,9 +30,10 @@ use Rattle.krs_store.specs.declared.tables.Tables.TheInside.{Inside}
 use Rattle.krs_keys.specs.declared.key.Key.{Key}
 use Rattle.krs_keys.specs.declared.key.Content.{Content}
 use Rattle.krs_keys.specs.declared.key.Content.TheVariants.{Payload, Links}
-use Rattle.krs_keys.specs.Links.{LinkList, serials, linked_as}
-use Rattle.krs_keys.specs.Keys.{seen, seen_content, shown, content_links, name_at, AreNamed, AreFit, with_entry, entered, FindsByName, displaced_at, displaced_by}
-use Rattle.krs_store.specs.Making.{maker_key, uid_key}
+use Rattle.krs_links.specs.Links.{LinkList, serials, linked_as}
+use Rattle.krs_keys.specs.Keys.{seen, seen_content, shown, content_links, name_at, AreNamed, AreFit, IsOfKind, AreOfKind, with_entry, entered, FindsByName, displaced_at, displaced_by}
+use Rattle.krs_store.specs.Making.{maker_key, first_content, uid_key}
+use Rattle.krs_model.specs.Asks.Adding as adding
 use Rattle.krs_keys.specs.Marks.{Sweeps}
 use Rattle.krs_keys.specs.Table.{Keys, with_key}
 use Rattle.krs_keys.specs.declared.key.Change.{Change}
@@ -41,6 +42,7 @@ use Rattle.krs_keys.proofs.ChangesLemmas.{links_left, seen-changed}
 use Rattle.krs_model.specs.Asks.Changing.{changed}
 use Rattle.krs_store.specs.View.{state_of, IsSound}
 use Rattle.krs_keys.proofs.KeysLemmas.{seen-with_entry, found_named, serials-content}
+use Rattle.krs_keys.proofs.KindsLemmas.{kinds_alter, kinds_put, kinds_kept, linked_kind}
 use Rattle.krs_keys.proofs.Fitting.{fit_alter, fit_put, fit_kept, named_linked, LinksKept}
 
 -- nothing is shown where nothing is
@@ -54,12 +56,32 @@ key_shown (Some key) x h = (key, refl, same_Some (seen key) x h)
 -- a new key that a keyring links
 pub record IsMade (s : Inside) (new : Keys) (ring : ℕ) (name : Name) (key : Key) : Type 0 where
   pub fit : AreFit new.keys
+  pub kinds : AreOfKind new.keys
   pub is : record (state_of s) { keys = shown new.keys; next_serial = new.next } ≡ made (state_of s) ring name (seen key)
   pub swept : s.let_go ≡ false → displaced_at (put s.keys.keys s.keys.next key) ring name ≡ None → AllHeld (record (state_of s) { keys = shown new.keys; next_serial = new.next })
 
 entry_named : (names : ℕ → Option Name) (name : Name) (n : ℕ) (content : Content) → names n ≡ Some name → AreNamed names (content_links content) → AreNamed names (content_links (entered name n content))
 entry_named names name n (Payload bytes) there named = named
 entry_named names name n (Links links) there named = named_linked names name n links there named
+
+first_named : (names : ℕ → Option Name) (kind : Kind) (payload : List ℕ) → AreNamed names (content_links (first_content kind payload))
+first_named names User payload = tt
+first_named names Logon payload = tt
+first_named names Keyring payload = tt
+
+first_kind : (kind : Kind) (payload : List ℕ) → IsOfKind kind (first_content kind payload)
+first_kind User payload = tt
+first_kind Logon payload = tt
+first_kind Keyring payload = refl
+
+first_seen : (key : Key) (kind : Kind) (payload : List ℕ) → seen (record key { content = first_content kind payload }) ≡ record (seen key) { content = adding.first_content kind payload }
+first_seen key User payload = refl
+first_seen key Logon payload = refl
+first_seen key Keyring payload = refl
+
+-- a new key, as the definitions see it
+pub seen-maker_key : (name : Name) (payload : List ℕ) (uid gid : ℕ) → seen (maker_key name payload uid gid) ≡ new_key name payload uid gid
+seen-maker_key name payload uid gid = first_seen (maker_key name payload uid gid) name.kind payload
 
 pub made_told : (s : Inside) (new : Keys) (ring : ℕ) (name : Name) (payload : List ℕ) (uid gid : ℕ) → IsSound s → IsBelow s.keys.keys s.keys.next → IsRing (state_of s) ring → new ≡ record { keys = alter (put s.keys.keys s.keys.next (maker_key name payload uid gid)) ring (with_entry name s.keys.next); next = s.keys.next + 1 } → IsMade s new ring name (maker_key name payload uid gid)
 made_told s new ring name payload uid gid sound unused keyring e =
@@ -69,7 +91,7 @@ made_told s new ring name payload uid gid sound unused keyring e =
     let one = put es n key in
     let f = with_entry name n in
     let none : at es n ≡ None = unused n (omega arith) in
-    let fit_one : AreFit one = fit_put es n key none tt sound.fit in
+    let fit_one : AreFit one = fit_put es n key none (first_named (name_at one) name.kind payload) sound.fit in
     let name_there : name_at one n ≡ Some name = ap (option_map (λ (k : Key). k.name)) (at_put_same es n key) in
     let is = key_shown (at es ring) keyring.0 (sym (at_map seen es ring) ∙ keyring.1) in
     let ring_in_one : at one ring ≡ Some is.0 = ⊎_elim (λ (q : ring ≡ n). absurd (none-some is.0 (sym none ∙ subst (λ (z : ℕ). at es z ≡ Some is.0) q is.1))) (λ apart. at_put_other es n ring key apart ∙ is.1) (at_or_apart ring n) in
@@ -81,6 +103,7 @@ made_told s new ring name payload uid gid sound unused keyring e =
     let found : displaced_at one ring name ≡ link_named (shown es) name keyring.2 = ap (displaced_by name) ring_in_one ∙ (sym (found_named es name (content_links is.0.content) ring_fit) ∙ (ap (link_named (shown es) name) (serials-content is.0.content ∙ ap links_of links))) in
     rw e (record {
       fit = fit_alter one ring f (λ v. refl) (λ v there. entry_named (name_at one) name n v.content name_there (fit_one ring v there)) fit_one;
+      kinds = kinds_alter one ring f (linked_kind name n) (kinds_put es n key (first_kind name.kind payload) sound.kinds);
       is = ap (λ zs. record (state_of s) { keys = zs; next_serial = n + 1 }) seen_as;
       swept = λ clean fresh. rw seen_as (made_swept (state_of s) ring name (seen key) (shown_none es n none) keyring (sym found ∙ fresh) (sound.swept clean));
     })
@@ -88,6 +111,7 @@ made_told s new ring name payload uid gid sound unused keyring e =
 -- the first context of a uid, with the uid's keyrings
 pub record IsFirst (s : Inside) (new : Keys) (c : Caller) : Type 0 where
   pub fit : AreFit new.keys
+  pub kinds : AreOfKind new.keys
   pub is : shown new.keys ≡ (with_uid (state_of s) c None).keys
   pub next : new.next ≡ s.keys.next + 2
 
@@ -103,16 +127,18 @@ first_told s new c a b sound unused ea eb e =
     let fit_one : AreFit one = fit_put es n a none fit_a sound.fit in
     let stays : name_at (put one (n + 1) b) n ≡ Some a.name = ap (option_map (λ (k : Key). k.name)) (at_put_other one (n + 1) n b (grind (arith, nat_tests, unsigned_tied n (n + 1))) ∙ at_put_same es n a) in
     let fit_b : AreNamed (name_at (put one (n + 1) b)) (content_links b.content) =
-    subst (λ (k : Key). AreNamed (name_at (put one (n + 1) b)) (content_links k.content)) (sym eb) (stays, tt) in
+    subst (λ (k : Key). AreNamed (name_at (put one (n + 1) b)) (content_links k.content)) (sym eb) (stays, tt, refl) in
     rw e (record {
       next = omega arith;
       fit = fit_put one (n + 1) b none_next fit_b fit_one;
+      kinds = kinds_put one (n + 1) b (subst (λ (k : Key). IsOfKind k.name.kind k.content) (sym eb) refl) (kinds_put es n a (subst (λ (k : Key). IsOfKind k.name.kind k.content) (sym ea) refl) sound.kinds);
       is = put_map seen one (n + 1) b ∙ (ap (λ zs. put zs (n + 1) (seen b)) (put_map seen es n a) ∙ (ap (λ (k : Key). put (put (shown es) n (seen k)) (n + 1) (seen b)) ea ∙ ap (λ (k : Key). put (put (shown es) n (uid_ring (codes "_uid.") [] c)) (n + 1) (seen k)) eb));
     })
 
 -- after a sweep
 pub record IsSweptTable (s : Inside) (new : Table Key) : Type 0 where
   pub fit : AreFit new
+  pub kinds : AreOfKind new
   pub sweep : IsSweep (state_of s) (record (state_of s) { keys = shown new })
 
 some_there : (link : Name) (o : Option Key) → option_map (λ key. key.name) o ≡ Some link → IsSome (option_map seen o)
@@ -141,6 +167,7 @@ sweep_told s new sound sweeps =
     (λ q i. Linked j q held (rw shown_there (subst (λ (zs : List ℕ). is_in q zs ≡ true) (serials-content key.content) i))) in
     rw sweeps.keys (record {
       fit = fit_kept es kept closed sound.fit;
+      kinds = kinds_kept es kept sound.kinds;
       sweep = record { kept = kept; picks = sweeps.picks; keys = filter_map_keys seen es kept; rest = refl };
     })
 

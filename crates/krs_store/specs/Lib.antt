@@ -1,4 +1,5 @@
 pub mod Making
 pub mod Places
+pub mod Linked
 pub mod View
 pub mod Told

@@ -1,12 +1,14 @@
 -- The keys that asks make.
-use Rattle.std.specs.Prelude.{ℕ, List, ◌++◌, None, false, decimal}
-use Rattle.krs_types.specs.declared.kind.Kind.TheVariants.{Keyring}
+use Rattle.std.specs.Prelude.{ℕ, List, [], ◌++◌, None, false, decimal}
+use Rattle.krs_types.specs.declared.kind.Kind.{Kind}
+use Rattle.krs_types.specs.declared.kind.Kind.TheVariants.{User, Logon, Keyring}
 use Rattle.krs_types.specs.declared.name.Name.{Name}
 use Rattle.krs_types.specs.declared.caller.Caller.{Caller}
 use Rattle.krs_model.specs.Asks.Adding.{first_perm}
 use Rattle.krs_keys.specs.declared.key.Key.{Key}
+use Rattle.krs_keys.specs.declared.key.Content.{Content}
 use Rattle.krs_keys.specs.declared.key.Content.TheVariants.{Payload, Links}
-use Rattle.krs_keys.specs.Links.{LinkList}
+use Rattle.krs_links.specs.Links.{LinkList}
 
 -- a keyring of a uid
 abbrev pub named_uid_key : Name → LinkList → Caller → Key
@@ -28,6 +30,12 @@ uid_name prefix uid = record { kind = Keyring; desc = prefix ++ decimal uid }
 abbrev pub uid_key : List ℕ → LinkList → Caller → Key
 uid_key prefix links c = named_uid_key (uid_name prefix c.uid) links c
 
+-- a keyring is made empty
+abbrev pub first_content : Kind → List ℕ → Content
+first_content User payload = Payload payload
+first_content Logon payload = Payload payload
+first_content Keyring payload = Links []
+
 -- a new key of its maker
 abbrev pub maker_key : Name → List ℕ → ℕ → ℕ → Key
 maker_key name payload uid gid = record {
@@ -38,5 +46,5 @@ maker_key name payload uid gid = record {
   expiry = None;
   revoked = false;
   joined = false;
-  content = Payload payload;
+  content = first_content name.kind payload;
 }

@@ -4,7 +4,7 @@ use Rattle.krs_model.specs.Table.{IsBelow}
 use Rattle.krs_model.specs.State.{State}
 use Rattle.krs_model.specs.Sweep.{AllHeld, IsSwept}
 use Rattle.krs_store.specs.declared.tables.Tables.TheInside.{Inside}
-use Rattle.krs_keys.specs.Keys.{shown, AreFit}
+use Rattle.krs_keys.specs.Keys.{shown, AreFit, AreOfKind}
 
 -- there are no queues and no watches yet
 abbrev pub state_of : Inside → State
@@ -26,6 +26,7 @@ pub record IsSound (s : Inside) : Type 0 where
   pub contexts : IsBelow s.contexts.entries s.next_context
   pub processes : IsBelow s.processes.entries s.next_context
   pub fit : AreFit s.keys.keys
+  pub kinds : AreOfKind s.keys.keys
   pub swept : s.let_go ≡ false → AllHeld (state_of s)
 
 -- What is true between two asks: the state has been swept, and serials not given yet are in no use.

@@ -1,6 +1,7 @@
 //! The asks, one function each, whose contract is its row.
-mod adding;
+pub(crate) mod adding;
 mod changing;
 mod hello;
 mod leaving;
+mod linking;
 mod reading;

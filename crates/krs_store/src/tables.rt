@@ -82,7 +82,7 @@ impl Tables {
 
     /// The serial that an id stands for.
     #[tactic(auto, unfolding(krs_model::specs::Lookup::serial_of))]
-    fn serial_of(&self, context: &Context, id: i32) -> Result<Serial, Errno>
+    pub(crate) fn serial_of(&self, context: &Context, id: i32) -> Result<Serial, Errno>
         ensures { Is (λ n. n) result (serial_of self.now context.now id) }
     {
         let attached = match KeyId::from_i32(id)? {
@@ -159,6 +159,9 @@ impl Tables {
             Op::Chown { id, uid, gid } => self.chown(client, context, id, uid, gid),
             Op::SetPerm { id, mask } => self.set_perm(client, context, id, mask),
             Op::SetTimeout { id, seconds } => self.set_timeout(client, context, id, seconds),
+            Op::Link { key, ring } => self.link(client, context, key, ring),
+            Op::Unlink { key, ring } => self.unlink(client, context, key, ring),
+            Op::Clear { id } => self.clear(client, context, id),
             Op::Read { id } => self.read(client, context, id),
             Op::Describe { id } => self.describe(client, context, id),
             Op::Leave => {

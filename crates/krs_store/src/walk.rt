@@ -1,7 +1,7 @@
 ghost use Rattle.std.specs.Prelude.{◌≡◌, ◌≤◌, ◌<◌, ◌++◌, flat_map, IfOk, OnOk};
 ghost use Rattle.krs_model.specs.Levels.{is_in};
 ghost use Rattle.krs_model.specs.Possession.{attached, followed_in, possessed};
-ghost use Rattle.krs_keys.specs.Links.{serials};
+ghost use Rattle.krs_links.specs.Links.{serials};
 
 use crate::tables::Tables;
 use bitflags::Flags;

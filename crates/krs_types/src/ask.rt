@@ -44,7 +44,21 @@ pub enum Op {
         id: i32,
         seconds: u32,
     },
-    /// The payload of a key: keyctl(2), KEYCTL_READ.
+    /// One more link in a keyring: keyctl(2), KEYCTL_LINK.
+    Link {
+        key: i32,
+        ring: i32,
+    },
+    /// One link less in a keyring: keyctl(2), KEYCTL_UNLINK.
+    Unlink {
+        key: i32,
+        ring: i32,
+    },
+    /// A keyring without its links: keyctl(2), KEYCTL_CLEAR.
+    Clear {
+        id: i32,
+    },
+    /// The payload of a key, or the serials that a keyring links: keyctl(2), KEYCTL_READ.
     Read {
         id: i32,
     },

@@ -1,7 +1,7 @@
 -- ADD: a new key in a keyring, or a new payload for the key that stands there. add_key(2).
-use Rattle.std.specs.Prelude.{◌≡◌, ℕ, ℤ, ◌+◌, List, nat_lt, if◌then◌else◌, Option, None, Some, false, Result, Ok, Err}
+use Rattle.std.specs.Prelude.{◌≡◌, ℕ, ℤ, ◌+◌, ◌&&◌, List, [], Bool, true, nat_lt, if◌then◌else◌, Option, None, Some, false, Result, Ok, Err}
 use Rattle.krs_types.specs.declared.errno.Errno.{Errno}
-use Rattle.krs_types.specs.declared.errno.Errno.TheVariants.{EACCES, ENOSPC, ENODEV}
+use Rattle.krs_types.specs.declared.errno.Errno.TheVariants.{EACCES, ENOSPC}
 use Rattle.krs_types.specs.declared.kind.Kind.{Kind}
 use Rattle.krs_types.specs.declared.kind.Kind.TheVariants.{User, Logon, Keyring}
 use Rattle.krs_types.specs.declared.name.Name.{Name}
@@ -21,17 +21,10 @@ use Rattle.krs_model.specs.Linking.{ring_links, link_named, linking, has_room}
 use Rattle.krs_model.specs.Asks.Changing.{changed, updated}
 use Rattle.krs_model.specs.Outcome.{Outcome}
 
--- keyrings can not be made yet: their type is as if unknown
-abbrev pub if_built : Kind → Result Kind Errno
-if_built User = Ok User
-if_built Logon = Ok Logon
-if_built Keyring = Err ENODEV
-
 -- what is asked for is a key that may be made, and this is its name
 unfoldable pub admitted : List ℕ → List ℕ → List ℕ → Result Name Errno
 admitted type_name desc payload = do
-  named ← kind_named type_name
-  kind ← if_built named
+  kind ← kind_named type_name
   fit ← checked kind desc payload
   Ok (record { kind = kind; desc = desc })
 
@@ -46,11 +39,17 @@ if_room s ring links displaced = do
   room ← has_room links displaced
   if nat_lt 2147483647 s.next_serial then Err ENOSPC else Ok (Made ring)
 
--- a match that is alive is updated, where it grants WRITE; one that was revoked or has expired is displaced
+-- a keyring is not updated: profile, dead matches are displaced
+abbrev pub is_updatable : Kind → Bool
+is_updatable User = true
+is_updatable Logon = true
+is_updatable Keyring = false
+
+-- a match that is alive and can be updated is updated, where it grants WRITE; any other is displaced
 abbrev pub over_match : State → Context → ℕ → List ℕ → ℕ → Option Key → Result Place Errno
 over_match s c ring links found None = if_room s ring links None
 over_match s c ring links found (Some key) =
-    if is_alive s.clock key
+    if is_alive s.clock key && is_updatable key.kind
     then (if has_all (rights_on key c.caller (possessed s c found)) WRITE then Ok (Updated found) else Err EACCES)
     else if_room s ring links (Some found)
 
@@ -71,18 +70,24 @@ first_perm User = 1057030144
 first_perm Logon = 1023475712
 first_perm Keyring = 1057030144
 
--- a key of its maker
-abbrev pub new_key : Name → List ℕ → Caller → Key
-new_key name payload c = record {
+-- a keyring is made empty
+abbrev pub first_content : Kind → List ℕ → Content
+first_content User payload = Payload payload
+first_content Logon payload = Payload payload
+first_content Keyring payload = Links []
+
+-- a key of its maker's uid and gid
+abbrev pub new_key : Name → List ℕ → ℕ → ℕ → Key
+new_key name payload uid gid = record {
   kind = name.kind;
   desc = name.desc;
-  uid = c.uid;
-  gid = c.gid;
+  uid = uid;
+  gid = gid;
   perm = first_perm name.kind;
   expiry = None;
   revoked = false;
   joined = false;
-  content = Payload payload;
+  content = first_content name.kind payload;
 }
 
 -- a new key of that name under the next serial, linked by that keyring
@@ -98,7 +103,7 @@ IsRing s serial = (key : Key) × (at s.keys serial ≡ Some key) × (links : Lis
 
 abbrev pub added : State → Context → Name → List ℕ → Place → State
 added s c name payload (Updated serial) = changed s serial (updated payload)
-added s c name payload (Made ring) = made s ring name (new_key name payload c.caller)
+added s c name payload (Made ring) = made s ring name (new_key name payload c.caller.uid c.caller.gid)
 
 abbrev pub added_serial : State → Place → ℕ
 added_serial s (Updated serial) = serial

@@ -1,5 +1,6 @@
 -- READ and DESCRIBE: keyctl(2), KEYCTL_READ and KEYCTL_DESCRIBE.
-use Rattle.std.specs.Prelude.{ℕ, ℤ, ◌+◌, ◌/◌, ◌%◌, nat_lt, if◌then◌else◌, List, [], ◌∷◌, ◌++◌, Result, Ok, Err, decimal}
+use Rattle.std.specs.Prelude.{ℕ, ℤ, ◌+◌, ◌/◌, ◌%◌, nat_lt, if◌then◌else◌, List, [], ◌∷◌, ◌++◌, Result, Ok, Err, decimal, flat_map}
+use Rattle.std.specs.Int.{w32, to_le_bytes}
 use Rattle.krs_types.specs.declared.errno.Errno.{Errno}
 use Rattle.krs_types.specs.declared.errno.Errno.TheVariants.{EOPNOTSUPP}
 use Rattle.krs_types.specs.declared.kind.Kind.{Kind}
@@ -13,12 +14,17 @@ use Rattle.krs_model.specs.State.{State, Key, Content, Payload, Links}
 use Rattle.krs_model.specs.Lookup.{context_of, look_up}
 use Rattle.krs_model.specs.Outcome.{Outcome}
 
--- what may be read of a key: of a user key its payload. A logon key is never read, and a keyring not yet
+-- 4 bytes each, the lowest first: profile, reading a keyring
+abbrev pub serial_bytes : List ℕ → List ℕ
+serial_bytes serials = flat_map (λ k. to_le_bytes w32 k) serials
+
+-- what may be read of a key: of a user key its payload, of a keyring the linked serials. A logon key is never read
 abbrev pub readable : Kind → Content → Result (List ℕ) Errno
 readable User (Payload bytes) = Ok bytes
 readable User (Links serials) = Err EOPNOTSUPP
 readable Logon content = Err EOPNOTSUPP
-readable Keyring content = Err EOPNOTSUPP
+readable Keyring (Payload bytes) = Err EOPNOTSUPP
+readable Keyring (Links serials) = Ok (serial_bytes serials)
 
 unfoldable pub read : State → ℕ → ℕ → ℤ → Outcome
 read s client context id = do

@@ -1,18 +1,18 @@
 ghost use Rattle.std.specs.Prelude.{◌≡◌, ◌≤◌, ◌+◌, ◌||◌, is_some, length, IfOk, OnOk, OnErr};
 ghost use Rattle.krs_model.specs.Outcome.{Leads, Gives, Is};
-ghost use Rattle.krs_model.specs.Asks.Adding.{admitted, if_room, by_match, place_of, first_perm, made, IsRing, add};
+ghost use Rattle.krs_model.specs.Asks.Adding.{admitted, if_room, by_match, place_of, first_perm, is_updatable, new_key, made, IsRing, add};
 ghost use Rattle.krs_store.specs.Places.{meant, HasSerial};
-ghost use Rattle.krs_keys.specs.Links.{serials};
-ghost use Rattle.krs_keys.specs.Keys.{seen};
-ghost use Rattle.krs_store.specs.Making.{maker_key};
+ghost use Rattle.krs_links.specs.Links.{serials};
+ghost use Rattle.krs_store.specs.Making.{maker_key, first_content};
 
 use crate::tables::Tables;
 use bitflags::Flags;
-use krs_keys::{Change, Content, Key, Links};
+use krs_keys::{Change, Content, Key};
+use krs_links::Links;
 use krs_types::{
     Answer, Blob, Body, Context, Desc, Errno, Fault, Kind, Name, Perm, Rights, Serial, Want,
 };
-use std::alloc::AllocError;
+use std::alloc::{AllocError, Global};
 
 /// How many links a keyring has at most: profile, full keyrings.
 const MAX_LINKS: usize = 65535;
@@ -36,9 +36,6 @@ fn admitted(type_name: &[u8], desc: &[u8], payload: &[u8]) -> Result<Kind, Errno
     ensures payload { OnOk result (length payload.now ≤ 32767) }
 {
     let kind = Kind::named(type_name)?;
-    if kind.is(Kind::Keyring) {
-        return Err(Errno::ENODEV);
-    }
     kind.check(desc, payload)?;
     Ok(kind)
 }
@@ -80,7 +77,7 @@ impl Tables {
         let Some(key) = self.key(serial) else {
             return Ok(self.if_room(ring, links, None)?);
         };
-        if !key.is_alive(self.clock) {
+        if !key.is_alive(self.clock) || !is_updatable(key.name.kind) {
             return Ok(self.if_room(ring, links, Some(serial))?);
         }
         let possessed = self.possesses(context, serial)?;
@@ -120,7 +117,7 @@ impl Tables {
         requires serial { self.old.next_serial ≤ 2147483647 }
         requires ring { IsRing self.old ring }
         ensures serial { IfOk result (λ n. n ≡ self.old.next_serial) }
-        ensures ok { OnOk result (self.new ≡ made self.old ring name (seen (maker_key name payload uid gid))) }
+        ensures ok { OnOk result (self.new ≡ made self.old ring name (new_key name payload uid gid)) }
         ensures err { OnErr result (self.new ≡ self.old) }
     {
         let serial = Serial::new(self.keys.next());
@@ -134,7 +131,7 @@ impl Tables {
             expiry: None,
             revoked: false,
             joined: false,
-            content: Content::Payload(payload),
+            content: first_content(self.alloc, kind, payload),
         };
         match self.keys.insert_linked(ring, link, key) {
             Ok(displaced) => {
@@ -189,8 +186,28 @@ fn first_perm(kind: Kind) -> Perm
     }
 }
 
+/// What a new key holds: a keyring is made empty.
+fn first_content(alloc: Global, kind: Kind, payload: Body) -> Content
+    ensures { result ≡ first_content kind payload }
+{
+    match kind {
+        Kind::User | Kind::Logon => Content::Payload(payload),
+        Kind::Keyring => Content::Links(Links::new(alloc)),
+    }
+}
+
+/// Whether a match of this kind is updated, and not displaced.
+fn is_updatable(kind: Kind) -> bool
+    ensures { result ≡ is_updatable kind }
+{
+    match kind {
+        Kind::User | Kind::Logon => true,
+        Kind::Keyring => false,
+    }
+}
+
 /// Whether a key may have been let go of, now that a link displaced this one.
-fn lets_go(before: bool, displaced: Option<Serial>) -> bool
+pub(crate) fn lets_go(before: bool, displaced: Option<Serial>) -> bool
     ensures { result ≡ (before || is_some displaced) }
 {
     before || displaced.is_some()

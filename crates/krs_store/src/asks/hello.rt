@@ -7,7 +7,8 @@ ghost use Rattle.krs_keys.specs.Table.{with_key};
 ghost use Rattle.krs_store.specs.Making.{uid_name, named_uid_key, uid_key};
 
 use crate::tables::Tables;
-use krs_keys::{Content, Key, KeyTable, Links};
+use krs_keys::{Content, Key, KeyTable};
+use krs_links::Links;
 use krs_types::{
     Answer, Blob, Caller, Context, Desc, Errno, Fault, Kind, Name, Perm, Serial, UidRings,
 };
@@ -102,7 +103,9 @@ fn uid_keys(alloc: Global, caller: &Caller, first: Serial) -> Result<(Key, Key),
     let name = uid_name(alloc, "_uid.", caller.uid)?;
     let session_name = uid_name(alloc, "_uid_ses.", caller.uid)?;
     let mut links = Links::new(alloc);
-    links.put(name.copy(alloc)?, first)?;
+    if links.put(name.copy(alloc)?, first).is_err() {
+        return Err(AllocError);
+    }
     let user = uid_key(name, Links::new(alloc), caller);
     Ok((user, uid_key(session_name, links, caller)))
 }

@@ -1,10 +1,12 @@
 ghost use Rattle.std.specs.Prelude.{◌≡◌, ◌<◌, IfOk};
 ghost use Rattle.krs_model.specs.Outcome.{Leads};
-ghost use Rattle.krs_model.specs.Asks.Reading.{read, describe, description, hex_8, hex_digit};
+ghost use Rattle.krs_model.specs.Asks.Reading.{read, describe, description, serial_bytes, hex_8, hex_digit};
 ghost use Rattle.krs_keys.specs.Keys.{seen};
+ghost use Rattle.krs_links.specs.Links.{serials};
 
 use crate::tables::Tables;
 use krs_keys::{Content, Key};
+use krs_links::Links;
 use krs_types::{Answer, Body, Errno, Fault, Kind, Rights, Want};
 use std::alloc::{AllocError, Global};
 
@@ -18,6 +20,9 @@ impl Tables {
         let (_, key) = self.look_up(context, id, Want::ToRead)?;
         match (key.name.kind, &key.content) {
             (Kind::User, Content::Payload(bytes)) => Ok(Answer::Bytes(bytes.copy(self.alloc)?)),
+            (Kind::Keyring, Content::Links(links)) => {
+                Ok(Answer::Bytes(serial_bytes(self.alloc, links)?))
+            }
             _ => Err(Fault::Refused(Errno::EOPNOTSUPP)),
         }
     }
@@ -31,6 +36,17 @@ impl Tables {
         let (_, key) = self.look_up(context, id, Want::Granted(Rights::VIEW))?;
         Ok(Answer::Bytes(description(self.alloc, key)?))
     }
+}
+
+/// The serials that a keyring links, 4 bytes each, the lowest first.
+fn serial_bytes(alloc: Global, links: &Links) -> Result<Body, AllocError>
+    ensures { IfOk result (λ b. b ≡ serial_bytes (serials links.now)) }
+{
+    let mut bytes = Vec::with_capacity(alloc, 4 * links.len())?;
+    for link in links.as_slice() {
+        bytes.extend_from_slice(&link.1.number().to_le_bytes())?;
+    }
+    Ok(Body::new(bytes))
 }
 
 /// Type, uid, gid, mask and description, with ';' between them.

@@ -1,5 +1,5 @@
 use Rattle.std.proofs.Common.{◌≡◌, drop}
-use Rattle.krs_keys.specs.Links.{serials}
+use Rattle.krs_links.specs.Links.{serials}
 use Rattle.krs_keys.specs.Marks.{open_in}
 use Rattle.krs_keys.proofs.sweep.open_in.Given as goal
 

@@ -1,5 +1,5 @@
 use Rattle.std.proofs.Common.{◌≡◌, ◌++◌, take}
-use Rattle.krs_keys.specs.Links.{serials}
+use Rattle.krs_links.specs.Links.{serials}
 use Rattle.krs_store.proofs.walk.push_serials.Given as goal
 
 -- the serials of what the loop has passed

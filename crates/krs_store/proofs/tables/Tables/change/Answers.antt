@@ -5,6 +5,7 @@ use Rattle.krs_model.specs.Asks.Changing.{changed}
 use Rattle.krs_model.proofs.Tables.{alter_map}
 use Rattle.krs_keys.specs.Keys.{seen, shown}
 use Rattle.krs_keys.specs.Changes as keys
+use Rattle.krs_keys.proofs.KindsLemmas.{kinds_alter, changed_kind}
 use Rattle.krs_keys.proofs.ChangesLemmas.{fit_changed, seen-changed}
 use Rattle.krs_store.specs.View.{state_of}
 use Rattle.krs_store.proofs.Telling.{neither, change_swept}
@@ -20,6 +21,7 @@ invariant_of-self c =
       contexts = c.self.invariant.contexts;
       processes = c.self.invariant.processes;
       fit = rw c.set.ensures (fit_changed es k x c.self.invariant.fit);
+      kinds = rw c.set.ensures (kinds_alter es k (keys.changed x) (changed_kind x) c.self.invariant.kinds);
       swept = λ clean. let both = neither c.self.inside.let_go c.lets_go.result (sym c.either-self-inside.ensures ∙ clean) in
           rw (c.set.ensures, same) (change_swept c.self.inside k x (sym c.lets_go.ensures ∙ both.1) (c.self.invariant.swept both.0));
     }

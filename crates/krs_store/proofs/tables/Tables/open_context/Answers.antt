@@ -12,6 +12,7 @@ invariant_of-self-2 c =
       contexts = below_put _ _ n _ c.in_ok-enter.ensures.contexts c.self.invariant.contexts;
       processes = below_put _ _ n _ c.in_ok-enter.ensures.processes c.self.invariant.processes;
       fit = c.self.invariant.fit;
+      kinds = c.self.invariant.kinds;
       swept = λ clean. rw (c.in_ok-enter.ensures.contexts, c.in_ok-enter.ensures.processes)
           (with_context_swept (state_of c.self.inside) c.args.client c.args.caller c.args.session (c.self.invariant.contexts n last) (c.self.invariant.processes n last) (c.self.invariant.swept clean));
     }

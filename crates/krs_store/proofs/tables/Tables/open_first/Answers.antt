@@ -28,6 +28,7 @@ invariant_of-self-2 c =
       contexts = below_put _ _ m _ e.contexts c.self.invariant.contexts;
       processes = below_put _ _ m _ e.processes c.self.invariant.processes;
       fit = told.fit;
+      kinds = told.kinds;
       swept = λ clean. rw (told.is, e.contexts, e.processes, e.uids, c.new-2.ensures, c.new-3.ensures, c.next-first.ensures.value)
           (with_context_swept (with_uid (state_of s) x None) c.args.client x (Some (n + 1)) (c.self.invariant.contexts m last) (c.self.invariant.processes m last)
           (with_uid_swept (state_of s) x (shown_none s.keys.keys n (unused n here)) (shown_none s.keys.keys (n + 1) (unused (n + 1) after)) no_uid (c.self.invariant.swept clean)));

@@ -6,7 +6,7 @@ use Rattle.krs_types.specs.Rights.{WRITE}
 use Rattle.krs_model.specs.Lookup.{look_up}
 use Rattle.krs_model.specs.Outcome.{Gives}
 use Rattle.krs_model.specs.Asks.Adding as model
-use Rattle.krs_keys.specs.Links.{serials, linked_as}
+use Rattle.krs_links.specs.Links.{serials, linked_as}
 use Rattle.krs_keys.specs.Keys.{seen}
 use Rattle.krs_store.specs.Places.{meant}
 use Rattle.krs_store.proofs.Telling.{place_told}

@@ -11,6 +11,7 @@ invariant_of-self c =
       contexts = c.self.invariant.contexts;
       processes = c.self.invariant.processes;
       fit = told.fit;
+      kinds = told.kinds;
       swept = λ clean. (sweep_swept (state_of c.self.inside) _ told.sweep).keys;
     }
 

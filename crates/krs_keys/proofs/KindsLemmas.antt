@@ -1,0 +1,75 @@
+-- Each key holds what keys of its type hold.
+use Rattle.std.proofs.Common.{◌≡◌, ℕ, Option, Some, None, Bool, true, false, cond, filter, List, [], ◌∷◌, refl, ap, ◌∙◌, sym, subst, ⊎_elim}
+use Rattle.std.specs.Option.{option_map}
+use Rattle.std.proofs.lemmas.Option.{none-some, same_Some}
+use Rattle.krs_types.specs.declared.kind.Kind.{Kind}
+use Rattle.krs_types.specs.declared.name.Name.{Name}
+use Rattle.krs_model.specs.Table.{Table, at, put, alter}
+use Rattle.krs_model.proofs.Tables.{at_put_same, at_put_other, at_or_apart, at_alter_same, at_alter_other, at_kept}
+use Rattle.krs_keys.specs.declared.key.Key.{Key}
+use Rattle.krs_keys.specs.declared.key.Content.{Content}
+use Rattle.krs_keys.specs.declared.key.Content.TheVariants.{Payload, Links}
+use Rattle.krs_keys.specs.declared.key.Change.{Change}
+use Rattle.krs_keys.specs.declared.key.Change.TheVariants as change
+use Rattle.krs_keys.specs.Keys.{IsOfKind, AreOfKind, with_entry, entered, without_entry, unlinked_content}
+use Rattle.krs_keys.specs.Changes.{changed, paid_with, emptied, cleared_content}
+
+-- a change that keeps a key of its kind
+abbrev pub KeepsKind : (Key → Key) → Type 0
+KeepsKind f = (v : Key) → IsOfKind v.name.kind v.content → IsOfKind (f v).name.kind (f v).content
+
+mapped_some : (f : Key → Key) (o : Option Key) (key : Key) → option_map f o ≡ Some key → (v : Key) × (o ≡ Some v) × (f v ≡ key)
+mapped_some f None key h = absurd (none-some key h)
+mapped_some f (Some v) key h = (v, refl, same_Some (f v) key h)
+
+pub kinds_alter : (keys : Table Key) (k : ℕ) (f : Key → Key) → KeepsKind f → AreOfKind keys → AreOfKind (alter keys k f)
+kinds_alter keys k f keeps kinds q key h =
+    ⊎_elim (λ (e : q ≡ k). let is = mapped_some f (at keys k) key (sym (at_alter_same keys k f) ∙ subst (λ (z : ℕ). at (alter keys k f) z ≡ Some key) e h) in
+    subst (λ (v : Key). IsOfKind v.name.kind v.content) is.2 (keeps is.0 (kinds k is.0 is.1)))
+    (λ apart. kinds q key (sym (at_alter_other keys k q f apart) ∙ h)) (at_or_apart q k)
+
+pub kinds_put : (keys : Table Key) (k : ℕ) (new : Key) → IsOfKind new.name.kind new.content → AreOfKind keys → AreOfKind (put keys k new)
+kinds_put keys k new is kinds q key h =
+    ⊎_elim (λ (e : q ≡ k). subst (λ (v : Key). IsOfKind v.name.kind v.content) (same_Some new key (sym (at_put_same keys k new) ∙ subst (λ (z : ℕ). at (put keys k new) z ≡ Some key) e h)) is)
+    (λ apart. kinds q key (sym (at_put_other keys k q new apart) ∙ h)) (at_or_apart q k)
+
+was_there : (b : Bool) (o : Option Key) (key : Key) → cond b o None ≡ Some key → o ≡ Some key
+was_there true o key h = h
+was_there false o key h = absurd (none-some key h)
+
+pub kinds_kept : (keys : Table Key) (kept : ℕ → Bool) → AreOfKind keys → AreOfKind (filter (λ e. kept e.0) keys)
+kinds_kept keys kept kinds q key h = kinds q key (was_there (kept q) (at keys q) key (sym (at_kept kept keys q) ∙ h))
+
+paid_kind : (kind : Kind) (payload : List ℕ) (content : Content) → IsOfKind kind content → IsOfKind kind (paid_with payload content)
+paid_kind kind payload (Payload old) is = is
+paid_kind kind payload (Links links) is = is
+
+emptied_kind : (kind : Kind) (content : Content) → IsOfKind kind content → IsOfKind kind (emptied content)
+emptied_kind kind (Payload old) is = is
+emptied_kind kind (Links links) is = is
+
+cleared_kind : (kind : Kind) (content : Content) → IsOfKind kind content → IsOfKind kind (cleared_content content)
+cleared_kind kind (Payload old) is = is
+cleared_kind kind (Links links) is = is
+
+pub changed_kind : (c : Change) → KeepsKind (changed c)
+changed_kind (change.Payload payload) v is = paid_kind v.name.kind payload v.content is
+changed_kind (change.Mask mask) v is = is
+changed_kind (change.Owner uid gid) v is = is
+changed_kind (change.Expiry expiry) v is = is
+changed_kind change.Revoked v is = emptied_kind v.name.kind v.content is
+changed_kind change.Cleared v is = cleared_kind v.name.kind v.content is
+
+entered_kind : (kind : Kind) (name : Name) (serial : ℕ) (content : Content) → IsOfKind kind content → IsOfKind kind (entered name serial content)
+entered_kind kind name serial (Payload old) is = is
+entered_kind kind name serial (Links links) is = is
+
+pub linked_kind : (name : Name) (serial : ℕ) → KeepsKind (with_entry name serial)
+linked_kind name serial v is = entered_kind v.name.kind name serial v.content is
+
+unlinked_as : (kind : Kind) (name : Name) (content : Content) → IsOfKind kind content → IsOfKind kind (unlinked_content name content)
+unlinked_as kind name (Payload old) is = is
+unlinked_as kind name (Links links) is = is
+
+pub unlinked_kind : (name : Name) → KeepsKind (without_entry name)
+unlinked_kind name v is = unlinked_as v.name.kind name v.content is

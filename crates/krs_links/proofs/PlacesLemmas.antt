@@ -1,0 +1,277 @@
+-- What a change at the place of a name does to the two lists.
+use Rattle.std.proofs.Common.{◌≡◌, ℕ, zero, suc, ◌+◌, ◌<◌, List, [], ◌∷◌, ◌++◌, Option, Some, None, IfNone, Bool, true, false, cond, length, get_or, set, take, refl, ap, ◌∙◌, sym, subst, arith, length-append}
+use Rattle.std.specs.Option.{option_map}
+use Rattle.std.specs.List.{find, position, position_from, remove, AllByRecursion}
+use Rattle.std.proofs.lemmas.Option.{none-some}
+use Rattle.std.proofs.lemmas.Iterator.Adapters.{position_from-zero}
+use Rattle.std.proofs.lemmas.List.Quantifiers.{position-Some}
+use Rattle.std.proofs.lemmas.List.{append-nil}
+use Rattle.std.proofs.lemmas.List.Edits.{length-remove}
+use Rattle.std.proofs.Math.ListN.{length-set}
+use Rattle.std.proofs.lemmas.Map.Keys.{IsDistinct-head, IsDistinct-tail, IsDistinct-from_apart}
+use Rattle.krs_types.specs.declared.name.Name.{Name}
+use Rattle.krs_types.specs.Name.{same_name}
+use Rattle.krs_links.specs.Links.{LinkList, names, serials, IsUnique, linked_as, linked, unlinked, nested, is_ring}
+use Rattle.krs_links.specs.Lists.{AreLists, place_of}
+use Rattle.krs_links.proofs.NamesLemmas.{equal_names}
+use Rattle.krs_links.proofs.LinksLemmas.{linked_last, IsUnique-linked, IsUnique-unlinked}
+
+find_at : {X : Type 0} (p : X → Bool) (xs : List X) (i : ℕ) (d : X) → i < length xs → p (get_or xs i d) ≡ true →
+    ((k : ℕ) → k < i → p (get_or xs k d) ≡ false) → find p xs ≡ Some (get_or xs i d)
+find_at p [] i d lt here before = absurd (omega arith)
+find_at p (x ∷ xs) zero d lt here before = rw here refl
+find_at p (x ∷ xs) (suc i) d lt here before =
+    let first : p x ≡ false = before 0 (omega arith) in
+    rw first (find_at p xs i d (omega arith) here (λ k h. before (suc k) (omega arith)))
+
+set_at : (name : Name) (serial : ℕ) (xs : LinkList) (i : ℕ) (d : Name × ℕ) → i < length xs →
+    same_name name (get_or xs i d).0 ≡ true → ((k : ℕ) → k < i → same_name name (get_or xs k d).0 ≡ false) →
+    set xs i (name, serial) ≡ linked xs name serial
+set_at name serial [] i d lt here before = absurd (omega arith)
+set_at name serial (x ∷ xs) zero d lt here before = rw here refl
+set_at name serial (x ∷ xs) (suc i) d lt here before =
+    let first : same_name name x.0 ≡ false = before 0 (omega arith) in
+    rw first (ap (λ zs. x ∷ zs) (set_at name serial xs i d (omega arith) here (λ k h. before (suc k) (omega arith))))
+
+others_stay : (name : Name) (xs : LinkList) → AllByRecursion (λ n. same_name name n ≡ false) (names xs) →
+    unlinked xs name ≡ xs
+others_stay name [] all = refl
+others_stay name (x ∷ xs) all = rw all.0 (ap (λ zs. x ∷ zs) (others_stay name xs all.1))
+
+remove_at : (name : Name) (xs : LinkList) (i : ℕ) (d : Name × ℕ) → IsUnique xs → i < length xs →
+    same_name name (get_or xs i d).0 ≡ true → ((k : ℕ) → k < i → same_name name (get_or xs k d).0 ≡ false) →
+    remove xs i ≡ unlinked xs name
+remove_at name [] i d u lt here before = absurd (omega arith)
+remove_at name (x ∷ xs) zero d u lt here before =
+    let rest : unlinked xs name ≡ xs = others_stay name xs (subst (λ (n : Name). AllByRecursion (λ m. same_name n m
+    ≡ false) (names xs)) (sym (equal_names name x.0 here)) (IsDistinct-head same_name x.0 (names xs) u)) in
+    rw here (sym rest)
+remove_at name (x ∷ xs) (suc i) d u lt here before =
+    let first : same_name name x.0 ≡ false = before 0 (omega arith) in
+    rw first (ap (λ zs. x ∷ zs) (remove_at name xs i d (IsDistinct-tail same_name x.0 (names xs) u)
+    (omega arith) here (λ k h. before (suc k) (omega arith))))
+
+pub place_within : (name : Name) (xs : LinkList) (i : ℕ) (d : Name × ℕ) → place_of name xs ≡ Some i → i < length xs
+place_within name xs i d h = (position-Some (λ (link : Name × ℕ). same_name name link.0) xs i d h).0
+
+-- the link at the place of a name is the one that is linked under it
+pub linked_as_at : (name : Name) (xs : LinkList) (i : ℕ) (d : Name × ℕ) → place_of name xs ≡ Some i →
+    linked_as xs name ≡ Some (get_or xs i d).1
+linked_as_at name xs i d h =
+    let at_place = position-Some (λ (link : Name × ℕ). same_name name link.0) xs i d h in
+    ap (option_map (λ (link : Name × ℕ). link.1)) (find_at
+    (λ link. same_name name link.0) xs i d at_place.0 at_place.1 at_place.2)
+
+-- a write there links
+pub linked_at : (name : Name) (serial : ℕ) (xs : LinkList) (i : ℕ) (d : Name × ℕ) → place_of name xs ≡ Some i →
+    set xs i (name, serial) ≡ linked xs name serial
+linked_at name serial xs i d h =
+    let at_place = position-Some (λ (link : Name × ℕ). same_name name link.0) xs i d h in
+    set_at name serial xs i d at_place.0 at_place.1 at_place.2
+
+-- a removal there unlinks
+pub unlinked_at : (name : Name) (xs : LinkList) (i : ℕ) (d : Name × ℕ) → IsUnique xs → place_of name xs ≡ Some i →
+    remove xs i ≡ unlinked xs name
+unlinked_at name xs i d u h =
+    let at_place = position-Some (λ (link : Name × ℕ). same_name name link.0) xs i d h in
+    remove_at name xs i d u at_place.0 at_place.1 at_place.2
+
+-- the link there is one to a keyring exactly where the name is a keyring's
+ring_at : (name : Name) (xs : LinkList) (i : ℕ) (d : Name × ℕ) → place_of name xs ≡ Some i →
+    is_ring (get_or xs i d).0 ≡ is_ring name
+ring_at name xs i d h =
+    let at_place = position-Some (λ (link : Name × ℕ). same_name name link.0) xs i d h in
+    ap is_ring (sym (equal_names name (get_or xs i d).0 at_place.1))
+
+none_from : (name : Name) (n : ℕ) (xs : LinkList) → position_from (λ link. same_name name link.0) n xs ≡ None →
+    linked_as xs name ≡ None
+none_from name n [] h = refl
+none_from name n (x ∷ xs) h =
+    elim (same_name name x.0) as (λ b. cond b (Some n) (position_from (λ link. same_name name link.0) (n + 1) xs)
+    ≡ None → option_map (λ (link : Name × ℕ). link.1) (cond b (Some x) (find (λ link. same_name name link.0) xs))
+    ≡ None) [
+      | true ↦ λ q. absurd (none-some n (sym q))
+      | false ↦ λ q. none_from name (n + 1) xs q
+    ] h
+
+-- no link has the name
+pub none_at : (name : Name) (xs : LinkList) → position (λ link. same_name name link.0) xs ≡ None →
+    linked_as xs name ≡ None
+none_at name xs h = none_from name 0 xs (sym (position_from-zero (λ (link : Name × ℕ). same_name name link.0) xs) ∙ h)
+
+pub none_given : (name : Name) (xs : LinkList) (found : Option ℕ) → found ≡ place_of name xs →
+    IfNone found (linked_as xs name ≡ None)
+none_given name xs None h = none_at name xs (sym h)
+none_given name xs (Some i) h = tt
+
+-- how many nested keyrings stand before a place
+abbrev pub rings_before : LinkList → ℕ → ℕ
+rings_before xs i = length (nested (take i xs))
+
+within_at : (xs : LinkList) (i : ℕ) (d : Name × ℕ) → i < length xs → is_ring (get_or xs i d).0 ≡ true →
+    rings_before xs i < length (serials (nested xs))
+within_at [] i d lt ring = absurd (omega arith)
+within_at (x ∷ xs) zero d lt ring = rw ring (omega arith)
+within_at (x ∷ xs) (suc i) d lt ring =
+    let later = within_at xs i d (omega arith) ring in
+    elim (is_ring x.0) as (λ b. length (cond b (x ∷ nested (take i xs)) (nested (take i xs))) < length (serials
+    (cond b (x ∷ nested xs) (nested xs)))) [
+      | true ↦ omega arith
+      | false ↦ later
+    ]
+
+set_rings : (xs : LinkList) (i : ℕ) (d link : Name × ℕ) → i < length xs → is_ring (get_or xs i d).0 ≡ true →
+    is_ring link.0 ≡ true → set (serials (nested xs)) (rings_before xs i) link.1 ≡ serials (nested (set xs i link))
+set_rings [] i d link lt ring new = absurd (omega arith)
+set_rings (x ∷ xs) zero d link lt ring new = rw (ring, new) refl
+set_rings (x ∷ xs) (suc i) d link lt ring new =
+    let later = set_rings xs i d link (omega arith) ring new in
+    elim (is_ring x.0) as (λ b. set (serials (cond b (x ∷ nested xs) (nested xs))) (length (cond b (x ∷ nested
+    (take i xs)) (nested (take i xs)))) link.1 ≡ serials (cond b (x ∷ nested (set xs i link)) (nested
+    (set xs i link)))) [
+      | true ↦ ap (λ zs. x.1 ∷ zs) later
+      | false ↦ later
+    ]
+
+set_no_ring : (xs : LinkList) (i : ℕ) (d link : Name × ℕ) → i < length xs → is_ring (get_or xs i d).0 ≡ false →
+    is_ring link.0 ≡ false → nested xs ≡ nested (set xs i link)
+set_no_ring [] i d link lt other new = absurd (omega arith)
+set_no_ring (x ∷ xs) zero d link lt other new = rw (other, new) refl
+set_no_ring (x ∷ xs) (suc i) d link lt other new =
+    ap (λ zs. cond (is_ring x.0) (x ∷ zs) zs) (set_no_ring xs i d link (omega arith) other new)
+
+remove_rings : (xs : LinkList) (i : ℕ) (d : Name × ℕ) → i < length xs → is_ring (get_or xs i d).0 ≡ true →
+    remove (serials (nested xs)) (rings_before xs i) ≡ serials (nested (remove xs i))
+remove_rings [] i d lt ring = absurd (omega arith)
+remove_rings (x ∷ xs) zero d lt ring = rw ring refl
+remove_rings (x ∷ xs) (suc i) d lt ring =
+    let later = remove_rings xs i d (omega arith) ring in
+    elim (is_ring x.0) as (λ b. remove (serials (cond b (x ∷ nested xs) (nested xs))) (length (cond b (x ∷ nested
+    (take i xs)) (nested (take i xs)))) ≡ serials (cond b (x ∷ nested (remove xs i)) (nested (remove xs i)))) [
+      | true ↦ ap (λ zs. x.1 ∷ zs) later
+      | false ↦ later
+    ]
+
+remove_no_ring : (xs : LinkList) (i : ℕ) (d : Name × ℕ) → i < length xs → is_ring (get_or xs i d).0 ≡ false →
+    nested xs ≡ nested (remove xs i)
+remove_no_ring [] i d lt other = absurd (omega arith)
+remove_no_ring (x ∷ xs) zero d lt other = rw other refl
+remove_no_ring (x ∷ xs) (suc i) d lt other =
+    ap (λ zs. cond (is_ring x.0) (x ∷ zs) zs) (remove_no_ring xs i d (omega arith) other)
+
+-- the place among the nested keyrings
+pub ring_within : (name : Name) (xs : LinkList) (i : ℕ) → place_of name xs ≡ Some i → is_ring name ≡ true →
+    rings_before xs i < length (serials (nested xs))
+ring_within name xs i h ring = within_at xs i (name, 0) (place_within name xs i (name, 0) h) (ring_at name xs i
+    (name, 0) h ∙ ring)
+
+-- a write among the nested keyrings, where the name is a keyring's, and else none
+pub rings_displaced : (name : Name) (serial : ℕ) (xs : LinkList) (i : ℕ) → place_of name xs ≡ Some i →
+    is_ring name ≡ true → set (serials (nested xs)) (rings_before xs i) serial ≡ serials (nested
+    (linked xs name serial))
+rings_displaced name serial xs i h ring =
+    let d : Name × ℕ = (name, serial) in
+    set_rings xs i d d (place_within name xs i d h) (ring_at name xs i d h ∙ ring) ring
+    ∙ ap (λ (links : LinkList). serials (nested links)) (linked_at name serial xs i d h)
+
+pub rings_stay_displaced : (name : Name) (serial : ℕ) (xs : LinkList) (i : ℕ) → place_of name xs ≡ Some i →
+    is_ring name ≡ false → serials (nested xs) ≡ serials (nested (linked xs name serial))
+rings_stay_displaced name serial xs i h other =
+    let d : Name × ℕ = (name, serial) in
+    ap serials (set_no_ring xs i d d (place_within name xs i d h) (ring_at name xs i d h ∙ other) other)
+    ∙ ap (λ (links : LinkList). serials (nested links)) (linked_at name serial xs i d h)
+
+-- a removal among the nested keyrings, where the name is a keyring's, and else none
+pub rings_removed : (name : Name) (xs : LinkList) (i : ℕ) → IsUnique xs → place_of name xs ≡ Some i →
+    is_ring name ≡ true → remove (serials (nested xs)) (rings_before xs i) ≡ serials (nested (unlinked xs name))
+rings_removed name xs i u h ring =
+    let d : Name × ℕ = (name, 0) in
+    remove_rings xs i d (place_within name xs i d h) (ring_at name xs i d h ∙ ring)
+    ∙ ap (λ (links : LinkList). serials (nested links)) (unlinked_at name xs i d u h)
+
+pub rings_stay_removed : (name : Name) (xs : LinkList) (i : ℕ) → IsUnique xs → place_of name xs ≡ Some i →
+    is_ring name ≡ false → serials (nested xs) ≡ serials (nested (unlinked xs name))
+rings_stay_removed name xs i u h other =
+    let d : Name × ℕ = (name, 0) in
+    ap serials (remove_no_ring xs i d (place_within name xs i d h) (ring_at name xs i d h ∙ other))
+    ∙ ap (λ (links : LinkList). serials (nested links)) (unlinked_at name xs i d u h)
+
+rings_last : (xs : LinkList) (link : Name × ℕ) → serials (nested (xs ++ link ∷ [])) ≡ serials (nested xs) ++ cond
+    (is_ring link.0) (link.1 ∷ []) []
+rings_last [] link = elim (is_ring link.0) as (λ b. serials (cond b (link ∷ []) []) ≡ cond b
+    (link.1 ∷ []) []) [ true ↦ refl | false ↦ refl ]
+rings_last (x ∷ xs) link =
+    elim (is_ring x.0) as (λ b. serials (cond b (x ∷ nested (xs ++ link ∷ [])) (nested (xs ++ link ∷ []))) ≡ serials
+    (cond b (x ∷ nested xs) (nested xs)) ++ cond (is_ring link.0) (link.1 ∷ []) []) [
+      | true ↦ ap (λ zs. x.1 ∷ zs) (rings_last xs link)
+      | false ↦ rings_last xs link
+    ]
+
+-- a link in the place of another keeps the two lists
+pub AreLists-displaced : (name : Name) (serial : ℕ) (xs : LinkList) (rings after : List ℕ) (i : ℕ) →
+    AreLists xs rings → place_of name xs ≡ Some i → after ≡ serials (nested (linked xs name serial)) →
+    AreLists (linked xs name serial) after
+AreLists-displaced name serial xs rings after i lists h e =
+    let d : Name × ℕ = (name, serial) in
+    let long : length (linked xs name serial) ≡ length xs = ap length (sym (linked_at name serial xs i d h))
+    ∙ length-set xs i d in
+    record {
+      bound = let bound = lists.bound in
+          omega arith;
+      unique = IsUnique-linked name serial xs lists.unique;
+      nested = e;
+    }
+
+-- so does one under a new name
+AreLists-last : (name : Name) (serial : ℕ) (xs : LinkList) (rings : List ℕ) → AreLists xs rings →
+    length xs < 65535 → linked_as xs name ≡ None → AreLists (xs ++ (name, serial) ∷ []) (rings ++ cond
+    (is_ring name) (serial ∷ []) [])
+AreLists-last name serial xs rings lists room none =
+    record {
+      bound = omega (arith, length-append xs ((name, serial) ∷ []));
+      unique = subst (λ (links : LinkList). IsUnique links) (linked_last name serial xs none)
+          (IsUnique-linked name serial xs lists.unique);
+      nested = ap (λ (zs : List ℕ). zs ++ cond (is_ring name) (serial ∷ []) []) lists.nested
+          ∙ sym (rings_last xs (name, serial));
+    }
+
+pub AreLists-last_ring : (name : Name) (serial : ℕ) (xs : LinkList) (rings : List ℕ) (links : LinkList)
+    (after : List ℕ) → AreLists xs rings → length xs < 65535 → linked_as xs name ≡ None → is_ring name ≡ true →
+    links ≡ xs ++ (name, serial) ∷ [] → after ≡ rings ++ serial ∷ [] → AreLists links after
+AreLists-last_ring name serial xs rings links after lists room none ring e f =
+    let made : AreLists (xs ++ (name, serial) ∷ []) (rings ++ serial ∷ []) =
+    subst (λ (b : Bool). AreLists (xs ++ (name, serial) ∷ []) (rings ++ cond b (serial ∷ []) [])) ring
+    (AreLists-last name serial xs rings lists room none) in
+    rw (e, f) made
+
+pub AreLists-last_other : (name : Name) (serial : ℕ) (xs : LinkList) (rings : List ℕ) (links : LinkList) →
+    AreLists xs rings → length xs < 65535 → linked_as xs name ≡ None → is_ring name ≡ false →
+    links ≡ xs ++ (name, serial) ∷ [] → AreLists links rings
+AreLists-last_other name serial xs rings links lists room none other e =
+    let made : AreLists (xs ++ (name, serial) ∷ []) (rings ++ []) =
+    subst (λ (b : Bool). AreLists (xs ++ (name, serial) ∷ []) (rings ++ cond b (serial ∷ []) [])) other
+    (AreLists-last name serial xs rings lists room none) in
+    rw e (subst (λ (zs : List ℕ). AreLists (xs ++ (name, serial) ∷ []) zs) (append-nil rings) made)
+
+-- no links
+pub none_are_lists : {xs : LinkList} {rings : List ℕ} → xs ≡ [] → rings ≡ [] → AreLists xs rings
+none_are_lists e f = rw (e, f) (record {
+  bound = omega arith;
+  unique = IsDistinct-from_apart same_name []
+      (λ i j d below within. absurd (omega arith));
+  nested = refl;
+})
+
+-- and without a link
+pub AreLists-unlinked : (name : Name) (xs : LinkList) (rings after : List ℕ) (i : ℕ) → AreLists xs rings →
+    place_of name xs ≡ Some i → after ≡ serials (nested (unlinked xs name)) → AreLists (unlinked xs name) after
+AreLists-unlinked name xs rings after i lists h e =
+    let d : Name × ℕ = (name, 0) in
+    let long : length (unlinked xs name) + 1 ≡ length xs = ap (λ (links : LinkList). length links + 1) (sym
+    (unlinked_at name xs i d lists.unique h)) ∙ length-remove xs i (place_within name xs i d h) in
+    record {
+      bound = let bound = lists.bound in
+          omega arith;
+      unique = IsUnique-unlinked name xs lists.unique;
+      nested = e;
+    }

@@ -1,0 +1,8 @@
+use Rattle.std.proofs.Common.{◌≡◌, ◌≤◌, length, take}
+use Rattle.krs_links.specs.Links.{nested}
+use Rattle.krs_links.proofs.lists.rings_before.Given as goal
+
+-- the keyrings so far are counted, and they are no more than the links so far
+abbrev pub invariant-loop-entry : goal.invariant-loop-entry
+invariant-loop-entry l =
+    (l.count ≡ length (nested (take l.entry-index l.entries.items))) × (l.count ≤ l.entry-index)

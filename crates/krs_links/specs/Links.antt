@@ -1,0 +1,60 @@
+-- What a keyring links: keyrings(7), "Keyrings". Names and serials, in link order.
+use Rattle.std.specs.Prelude.{ℕ, Bool, ◌&&◌, cond, not, nat_le, if◌then◌else◌, List, [], ◌∷◌, length, map, filter, find, Option, is_none}
+use Rattle.std.specs.Option.{option_map}
+use Rattle.std.specs.List.{IsDistinct}
+use Rattle.krs_types.specs.declared.kind.Kind.TheVariants.{Keyring}
+use Rattle.krs_types.specs.declared.name.Name.{Name}
+use Rattle.krs_types.specs.declared.errno.Errno.{Errno}
+use Rattle.krs_types.specs.declared.errno.Errno.TheVariants.{ENFILE, ENOMEM}
+use Rattle.krs_types.specs.Kind.{same_kind}
+use Rattle.krs_types.specs.Name.{same_name}
+
+-- names and serials, in link order
+abbrev pub LinkList : Type 0
+LinkList = List (Name × ℕ)
+
+-- the names alone
+abbrev pub names : LinkList → List Name
+names links = map (λ link. link.0) links
+
+-- the serials alone, as the definitions have them
+abbrev pub serials : LinkList → List ℕ
+serials links = map (λ link. link.1) links
+
+-- no two links have equal names: keyrings(7), "Keyrings"
+abbrev pub IsUnique : LinkList → Type 0
+IsUnique links = IsDistinct same_name (names links)
+
+-- the serial that is linked under a name
+abbrev pub linked_as : LinkList → Name → Option ℕ
+linked_as links name = option_map (λ link. link.1) (find (λ link. same_name name link.0) links)
+
+-- with this link: in the place of the link of that name, else last. Profile, place of a link
+abbrev pub linked : LinkList → Name → ℕ → LinkList
+linked [] name serial = (name, serial) ∷ []
+linked (link ∷ links) name serial = cond (same_name name link.0) ((name, serial) ∷ links)
+    (link ∷ linked links name serial)
+
+-- the links of other names, in their order
+abbrev pub unlinked : LinkList → Name → LinkList
+unlinked links name = filter (λ link. not (same_name name link.0)) links
+
+-- this is the name of a keyring
+abbrev pub is_ring : Name → Bool
+is_ring name = same_kind name.kind Keyring
+
+-- the links to keyrings, in their order
+abbrev pub nested : LinkList → LinkList
+nested links = filter (λ link. is_ring link.0) links
+
+-- 65535 links: profile, full keyrings
+abbrev pub is_full : LinkList → Bool
+is_full links = nat_le 65535 (length links)
+
+-- a full keyring takes no new name: profile, full keyrings
+abbrev pub is_refused : LinkList → Name → Bool
+is_refused links name = is_full links && is_none (linked_as links name)
+
+-- why a link is refused: keyctl(2), KEYCTL_LINK, "ENFILE"; else for want of memory
+abbrev pub link_error : LinkList → Name → Errno
+link_error links name = if is_refused links name then ENFILE else ENOMEM

@@ -1,0 +1,146 @@
+ghost use Rattle.std.specs.Prelude.{◌≡◌, ◌≤◌, [], length, slice_get, false, IfOk, OnOk, IfErr, OnErr, IsOk, IsSome};
+ghost use Rattle.std.specs.Option.{ok_or, option_copied};
+ghost use Rattle.krs_links.specs.Links.{linked_as, linked, unlinked, nested, serials};
+ghost use Rattle.krs_links.specs.Links.{is_full, is_refused, link_error, IsUnique};
+
+use crate::lists;
+use krs_types::{Errno, Name, Serial};
+use std::alloc::Global;
+use std::marker::Model;
+
+/// How many links a keyring has at most: profile, full keyrings.
+const MAX_LINKS: usize = 65535;
+
+/// The links of a keyring, in link order.
+#[derive(Drop)]
+pub struct Links {
+    entries: Vec<(Name, Serial)>,
+    /// The serials of the nested keyrings again, so that a walk goes over them alone.
+    rings: Vec<Serial>,
+}
+
+impl Model for Links {
+    ghost use Rattle.krs_links.specs.Links.{LinkList};
+    ghost use Rattle.krs_links.specs.Lists.{AreLists};
+
+    ghost Value = { LinkList };
+
+    ghost view = { λ l. l.entries.items };
+
+    ghost invariant = { λ l. AreLists l.entries.items l.rings.items };
+}
+
+impl Links {
+    /// No links. It takes no memory.
+    pub fn new(alloc: Global) -> Self
+        ensures { result ≡ [] }
+    {
+        Links {
+            entries: Vec::new(alloc),
+            rings: Vec::new(alloc),
+        }
+    }
+
+    pub fn len(&self) -> usize
+        ensures len { result ≡ length self.now }
+        ensures bound { result ≤ 65535 }
+        ensures unique { IsUnique self.now }
+    {
+        self.entries.len()
+    }
+
+    /// Whether a link under a new name would be refused: profile, full keyrings.
+    pub fn is_full(&self) -> bool
+        ensures { result ≡ is_full self.now }
+    {
+        MAX_LINKS <= self.entries.len()
+    }
+
+    pub fn as_slice(&self) -> &[(Name, Serial)]
+        ensures { result.now ≡ self.now }
+    {
+        self.entries.as_slice()
+    }
+
+    /// The link at a place of the link order.
+    pub fn at(&self, place: usize) -> Option<&(Name, Serial)>
+        ensures { option_copied result ≡ slice_get self.now place }
+    {
+        self.entries.get(place)
+    }
+
+    /// The serial that is linked under a name. Names of different types are different: keyrings(7), "Keyrings".
+    pub fn find(&self, name: &Name) -> Option<Serial>
+        ensures { result ≡ linked_as self.now name.now }
+    {
+        lists::find(self.entries.as_slice(), name)
+    }
+
+    /// The nested keyrings, in link order.
+    pub fn rings(&self) -> &[Serial]
+        ensures { result.now ≡ serials (nested self.now) }
+    {
+        self.rings.as_slice()
+    }
+
+    /// Links a serial under a name: in the place of the link of that name, whose serial is answered, else last.
+    /// keyctl(2), KEYCTL_LINK: ENFILE, then ENOMEM. Profile, place of a link.
+    pub fn put(&mut self, name: Name, serial: Serial) -> Result<Option<Serial>, Errno>
+        ensures displaced { IfOk result (λ old. old ≡ linked_as self.old name) }
+        ensures links { OnOk result (self.new ≡ linked self.old name serial) }
+        ensures room { OnOk result (is_refused self.old name ≡ false) }
+        ensures in_place { IsSome (linked_as self.old name) → IsOk result }
+        ensures error { IfErr result (λ error. error ≡ link_error self.old name) }
+        ensures err { OnErr result (self.new ≡ self.old) }
+    {
+        let Some(place) = lists::place_of(&self.entries, &name) else {
+            return self.append(name, serial);
+        };
+        let displaced = lists::displace(&mut self.entries, &mut self.rings, place, name, serial);
+        Ok(Some(displaced))
+    }
+
+    /// Takes out the link of a name, and answers its serial. keyctl(2), KEYCTL_UNLINK: ENOENT.
+    pub fn remove(&mut self, name: &Name) -> Result<Serial, Errno>
+        ensures value { result ≡ ok_or (linked_as self.old name.now) Errno.ENOENT }
+        ensures links { self.new ≡ unlinked self.old name.now }
+        ensures err { OnErr result (self.new ≡ self.old) }
+    {
+        let Some(place) = lists::place_of(&self.entries, name) else {
+            return Err(Errno::ENOENT);
+        };
+        Ok(lists::remove(&mut self.entries, &mut self.rings, place, name))
+    }
+
+    /// Takes out all links, and gives their memory back: keyctl(2), KEYCTL_CLEAR.
+    #[tactic(auto, using(crate::proofs::PlacesLemmas::none_are_lists))]
+    pub fn clear(&mut self)
+        ensures { self.new ≡ [] }
+    {
+        self.entries.clear();
+        self.entries.shrink_to_fit();
+        self.rings.clear();
+        self.rings.shrink_to_fit();
+    }
+
+    /// A link under a new name, which stands last.
+    fn append(&mut self, name: Name, serial: Serial) -> Result<Option<Serial>, Errno>
+        requires { linked_as self.old name ≡ None }
+        ensures displaced { IfOk result (λ old. old ≡ None) }
+        ensures links { OnOk result (self.new ≡ linked self.old name serial) }
+        ensures room { OnOk result (is_full self.old ≡ false) }
+        ensures error { IfErr result (λ error. error ≡ link_error self.old name) }
+        ensures err { OnErr result (self.new ≡ self.old) }
+    {
+        if self.is_full() {
+            return Err(Errno::ENFILE);
+        }
+        match lists::append(&mut self.entries, &mut self.rings, name, serial) {
+            Ok(()) => Ok(None),
+            Err(_) => Err(Errno::ENOMEM),
+        }
+    }
+}
+
+#[cfg(test)]
+mod tests;

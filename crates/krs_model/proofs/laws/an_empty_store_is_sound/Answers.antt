@@ -1,0 +1,5 @@
+use Rattle.krs_model.proofs.Soundness.{start_sound}
+use Rattle.krs_model.proofs.laws.an_empty_store_is_sound.Goals as goal
+
+pub returns : goal.returns
+returns c = start_sound

@@ -1,0 +1,78 @@
+-- LINK, UNLINK and CLEAR: what a keyring links. keyctl(2).
+use Rattle.std.specs.Prelude.{ℕ, ℤ, ◌==◌, not, Bool, List, [], filter, if◌then◌else◌, Result, Ok, Err}
+use Rattle.krs_types.specs.declared.errno.Errno.{Errno}
+use Rattle.krs_types.specs.declared.errno.Errno.TheVariants.{ENOKEY, ENOENT, EDEADLK, ELOOP}
+use Rattle.krs_types.specs.declared.name.Name.{Name}
+use Rattle.krs_types.specs.declared.ask.Answer.TheVariants.{Nothing}
+use Rattle.krs_types.specs.declared.rights.Want.TheVariants.{Granted}
+use Rattle.krs_types.specs.Rights.{WRITE, LINK}
+use Rattle.krs_types.specs.Refusing.{◌>>=◌, or_refuse}
+use Rattle.krs_model.specs.Table.{Table, at}
+use Rattle.krs_model.specs.State.{State, Key, Content, Payload, Links}
+use Rattle.krs_model.specs.Levels.{is_in}
+use Rattle.krs_model.specs.Lookup.{context_of, serial_of, look_up}
+use Rattle.krs_model.specs.Linking.{ring_links, link_named, linking, has_room}
+use Rattle.krs_model.specs.Reach.{closes, has_chain}
+use Rattle.krs_model.specs.Asks.Changing.{changed}
+use Rattle.krs_model.specs.Outcome.{Outcome}
+
+abbrev pub name_of : Key → Name
+name_of key = record { kind = key.kind; desc = key.desc }
+
+abbrev pub unless : Bool → Errno → Result (Unit {0}) Errno
+unless bad error = if bad then Err error else Ok tt
+
+-- a link from the keyring to the key closes no cycle, and nests no keyring too deep: profile, nesting depth
+unfoldable pub nestable : Table Key → ℕ → ℕ → Result (Unit {0}) Errno
+nestable keys ring serial = do
+  acyclic ← unless (closes keys serial ring) EDEADLK
+  unless (has_chain keys serial 6) ELOOP
+
+-- one more link in a keyring: KEYCTL_LINK
+unfoldable pub link : State → ℕ → ℕ → ℤ → ℤ → Outcome
+link s client context key ring = do
+  c ← context_of s client context
+  into ← look_up s c ring (Granted WRITE)
+  found ← look_up s c key (Granted LINK)
+  links ← ring_links into.1.content
+  nests ← nestable s.keys into.0 found.0
+  room ← has_room links (link_named s.keys (name_of found.1) links)
+  Ok (changed s into.0 (linking s.keys (name_of found.1) found.0), Nothing)
+
+abbrev pub unlinked_content : ℕ → Content → Content
+unlinked_content serial (Payload bytes) = Payload bytes
+unlinked_content serial (Links links) = Links (filter (λ k. not (k == serial)) links)
+
+-- the keyring without its link to a key
+abbrev pub without_link : ℕ → Key → Key
+without_link serial ring = record ring { content = unlinked_content serial ring.content }
+
+abbrev pub if_linked : ℕ → List ℕ → Result ℕ Errno
+if_linked serial links = if is_in serial links then Ok serial else Err ENOENT
+
+-- one link less in a keyring; the key's state and rights do not matter: KEYCTL_UNLINK
+unfoldable pub unlink : State → ℕ → ℕ → ℤ → ℤ → Outcome
+unlink s client context key ring = do
+  c ← context_of s client context
+  from ← look_up s c ring (Granted WRITE)
+  serial ← serial_of s c key
+  there ← or_refuse ENOKEY (at s.keys serial)
+  links ← ring_links from.1.content
+  linked ← if_linked serial links
+  Ok (changed s from.0 (without_link serial), Nothing)
+
+abbrev pub cleared_content : Content → Content
+cleared_content (Payload bytes) = Payload bytes
+cleared_content (Links links) = Links []
+
+-- the keyring without its links
+abbrev pub cleared : Key → Key
+cleared ring = record ring { content = cleared_content ring.content }
+
+-- all links of a keyring out: KEYCTL_CLEAR
+unfoldable pub clear : State → ℕ → ℕ → ℤ → Outcome
+clear s client context id = do
+  c ← context_of s client context
+  found ← look_up s c id (Granted WRITE)
+  links ← ring_links found.1.content
+  Ok (changed s found.0 cleared, Nothing)

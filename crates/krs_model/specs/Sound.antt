@@ -1,0 +1,36 @@
+-- What holds of a store between asks: keyrings(7), "Keyrings" and "Anchoring keys"; keyctl(2), KEYCTL_LINK.
+use Rattle.std.specs.Prelude.{◌≡◌, ℕ, ◌≤◌, true, IsSome, count_by}
+use Rattle.krs_types.specs.declared.name.Name.{Name}
+use Rattle.krs_model.specs.Table.{Table, at, IsBelow}
+use Rattle.krs_model.specs.State.{State, Key}
+use Rattle.krs_model.specs.Levels.{is_in}
+use Rattle.krs_model.specs.Linking.{is_named}
+use Rattle.krs_model.specs.Reach.{IsAcyclic, links_in}
+use Rattle.krs_model.specs.Sweep.{IsSwept, roots}
+
+-- every link is to a key that is there
+abbrev pub AllLinked : Table Key → Type 0
+AllLinked keys = (j k : ℕ) → is_in k (links_in keys j) ≡ true → IsSome (at keys k)
+
+-- every attachment is of a key that is there
+abbrev pub AllAttached : State → Type 0
+AllAttached s = (k : ℕ) → is_in k (roots s) ≡ true → IsSome (at s.keys k)
+
+-- a keyring links at most one key of a name
+abbrev pub HasOneOfEach : Table Key → Type 0
+HasOneOfEach keys = (ring : ℕ) (name : Name) → count_by (λ k. is_named name (at keys k)) (links_in keys ring) ≤ 1
+
+-- a store between asks
+pub record IsSound (s : State) : Type 0 where
+  -- no keyring reaches itself: keyctl(2), KEYCTL_LINK, "EDEADLK"
+  pub acyclic : IsAcyclic (links_in s.keys)
+  -- a link anchors its key: keyrings(7), "Anchoring keys"
+  pub linked : AllLinked s.keys
+  -- and so does an attachment: keyrings(7), "Anchoring keys"
+  pub attached : AllAttached s
+  -- a link displaces that to a key of equal type and description: keyctl(2), KEYCTL_LINK
+  pub once : HasOneOfEach s.keys
+  -- no serial is given twice: profile, rising serials
+  pub unused : IsBelow s.keys s.next_serial
+  -- what no attachment reaches is gone: keyrings(7), "garbage collection"
+  pub swept : IsSwept s

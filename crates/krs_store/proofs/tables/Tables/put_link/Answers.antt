@@ -1,0 +1,50 @@
+use Rattle.std.proofs.Common.{◌≡◌, ap, sym, ◌∙◌, subst, Some, Ok, Err, Bool, cond}
+use Rattle.std.specs.Option.{is_some}
+use Rattle.krs_types.specs.declared.errno.Errno.TheVariants.{ENFILE}
+use Rattle.krs_model.specs.State.{State}
+use Rattle.krs_model.specs.Linking.{linking}
+use Rattle.krs_model.specs.Asks.Changing.{changed}
+use Rattle.krs_links.specs.Links.{is_refused}
+use Rattle.krs_keys.specs.Keys.{shown, links_at}
+use Rattle.krs_keys.proofs.KindsLemmas.{kinds_alter, linked_kind}
+use Rattle.krs_store.specs.View.{state_of}
+use Rattle.krs_store.specs.Linked.{name_in, room_in}
+use Rattle.krs_store.proofs.Telling.{neither, is_none}
+use Rattle.krs_store.proofs.Linking.{name_kept, fit_linked, shown_linked, linked_swept, room_told, refused_full}
+use Rattle.krs_store.proofs.tables.Tables.put_link.Goals as goal
+
+pub invariant_of-self : goal.invariant_of-self
+invariant_of-self c =
+    let s = c.self.inside in
+    let es = s.keys.keys in
+    let there = name_kept s c.args.serial c.args.name (subst (λ (t : State). name_in t c.args.serial ≡ Some c.args.name) (sym c.self.view_is) c.requires) in
+    record {
+      contexts = c.self.invariant.contexts;
+      processes = c.self.invariant.processes;
+      fit = rw c.in-Ok.ensures.ok (fit_linked es c.args.ring c.args.serial c.args.name c.self.invariant.fit there);
+      kinds = rw c.in-Ok.ensures.ok (kinds_alter es c.args.ring _ (linked_kind c.args.name c.args.serial) c.self.invariant.kinds);
+      swept = λ clean. let both = neither s.let_go (is_some c.in-Ok.displaced) (sym c.lets_go-self-inside.ensures ∙ clean) in
+          rw (c.in-Ok.ensures.ok, shown_linked es c.args.ring c.args.serial c.args.name c.self.invariant.fit)
+          (linked_swept s c.args.ring c.args.serial c.args.name c.self.invariant (sym c.in-Ok.ensures.displaced ∙ is_none c.in-Ok.displaced both.1) (c.self.invariant.swept both.0));
+    }
+
+pub returns-in-Ok : goal.returns-in-Ok
+returns-in-Ok c =
+    let s = c.self.inside in
+    let es = s.keys.keys in (
+      subst (λ (t : State). room_in t.keys c.args.ring c.args.name ≡ Ok (tt {0})) c.self.view_is
+          (room_told es c.args.ring c.args.name c.self.invariant.fit ∙ ap (λ (b : Bool). cond b (Err ENFILE) (Ok (tt {0}))) c.in-Ok.ensures.room),
+      ap (λ zs. record (state_of s) { keys = shown zs.keys; next_serial = zs.next }) c.in-Ok.ensures.ok
+          ∙ (ap (λ zs. record (state_of s) { keys = zs }) (shown_linked es c.args.ring c.args.serial c.args.name c.self.invariant.fit)
+          ∙ ap (λ (t : State). changed t c.args.ring (linking t.keys c.args.name c.args.serial)) c.self.view_is),
+    )
+
+pub returns-in-Err-ENFILE : goal.returns-in-Err-ENFILE
+returns-in-Err-ENFILE c =
+    let s = c.self.inside in
+    let es = s.keys.keys in (
+      subst (λ (t : State). room_in t.keys c.args.ring c.args.name ≡ Err ENFILE) c.self.view_is
+          (room_told es c.args.ring c.args.name c.self.invariant.fit
+          ∙ ap (λ (b : Bool). cond b (Err ENFILE) (Ok (tt {0}))) (refused_full (is_refused (links_at es c.args.ring) c.args.name) (sym c.in-Err-ENFILE.field-0-is ∙ c.in-Err-ENFILE.ensures.error))),
+      ap (λ zs. record (state_of s) { keys = shown zs.keys; next_serial = zs.next }) c.in-Err-ENFILE.ensures.err ∙ c.self.view_is,
+    )

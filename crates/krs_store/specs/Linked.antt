@@ -1,0 +1,38 @@
+-- What the store tells of one link more, or one less.
+use Rattle.std.specs.Prelude.{◌≡◌, ◌==◌, ℕ, Bool, true, false, Option, None, Some, Result, Ok, Err}
+use Rattle.std.specs.Option.{option_map}
+use Rattle.krs_types.specs.declared.errno.Errno.{Errno}
+use Rattle.krs_types.specs.declared.errno.Errno.TheVariants.{ENOENT}
+use Rattle.krs_types.specs.declared.fault.Fault.{Fault}
+use Rattle.krs_types.specs.declared.name.Name.{Name}
+use Rattle.krs_model.specs.Table.{Table, at}
+use Rattle.krs_model.specs.State.{State, Key}
+use Rattle.krs_model.specs.Levels.{is_in}
+use Rattle.krs_model.specs.Reach.{links_in}
+use Rattle.krs_model.specs.Linking.{linking, link_named, has_room}
+use Rattle.krs_model.specs.Asks.Changing.{changed}
+use Rattle.krs_model.specs.Asks.Linked.{name_of, without_link}
+use Rattle.krs_model.specs.Outcome.{Fails}
+
+-- the name of the key at a serial
+abbrev pub name_in : State → ℕ → Option Name
+name_in s serial = option_map name_of (at s.keys serial)
+
+-- the keyring has room for a link of that name
+abbrev pub room_in : Table Key → ℕ → Name → Result (Unit {0}) Errno
+room_in keys ring name = has_room (links_in keys ring) (link_named keys name (links_in keys ring))
+
+-- the keyring links the key, where there is room and memory; else nothing has changed
+abbrev pub Puts : State → Result (Unit {0}) Fault → State → ℕ → Name → ℕ → Type 0
+Puts old (Ok done) new ring name serial =
+    (room_in old.keys ring name ≡ Ok tt) × (new ≡ changed old ring (linking old.keys name serial))
+Puts old (Err e) new ring name serial = Fails e (room_in old.keys ring name) × (new ≡ old)
+
+abbrev pub finds : ℕ → Option ℕ → Bool
+finds serial None = false
+finds serial (Some found) = found == serial
+
+-- the keyring does not link the key any more, where it did; else nothing has changed
+abbrev pub Takes : State → Result (Unit {0}) Errno → State → ℕ → ℕ → Type 0
+Takes old (Ok done) new ring serial = (is_in serial (links_in old.keys ring) ≡ true) × (new ≡ changed old ring (without_link serial))
+Takes old (Err e) new ring serial = (is_in serial (links_in old.keys ring) ≡ false) × ((e ≡ ENOENT) × (new ≡ old))

@@ -1,0 +1,153 @@
+ghost use Rattle.std.specs.Prelude.{◌≡◌, Some, IsSome};
+ghost use Rattle.krs_model.specs.Outcome.{Leads, Is, Gives};
+ghost use Rattle.krs_model.specs.Table.{at};
+ghost use Rattle.krs_model.specs.Linking.{ring_links};
+ghost use Rattle.krs_model.specs.Asks.Adding.{IsRing};
+ghost use Rattle.krs_model.specs.Asks.Linked.{link, unlink, clear, nestable};
+ghost use Rattle.krs_keys.specs.Keys.{seen, content_links, displaced_at};
+ghost use Rattle.krs_links.specs.Links.{linked_as, serials};
+ghost use Rattle.krs_store.specs.Linked.{name_in, finds, Puts, Takes};
+
+use crate::asks::adding::lets_go;
+use crate::tables::Tables;
+use krs_keys::{Change, Content, Key, KeyTable};
+use krs_links::Links;
+use krs_types::{Answer, Errno, Fault, Name, Rights, Serial, Want};
+use krs_walk::Walker;
+
+impl Tables {
+    /// One link less in a keyring; the key's state and rights do not matter: keyctl(2), KEYCTL_UNLINK.
+    #[tactic(auto, unfolding(krs_model::specs::Asks::Linked::unlink))]
+    pub(crate) fn unlink(
+        &mut self,
+        client: u32,
+        context: u32,
+        key: i32,
+        ring: i32,
+    ) -> Result<Answer, Fault>
+        ensures { Leads self.old result self.new (unlink self.old client context key ring) }
+    {
+        let context = self.context_of(client, context)?;
+        let (ring, from) = self.look_up(context, ring, Want::Granted(Rights::WRITE))?;
+        let serial = self.serial_of(context, key)?;
+        let key = self.key(serial).ok_or(Errno::ENOKEY)?;
+        links_of(from)?;
+        let name = key.name.copy(self.alloc)?;
+        self.take_link(Serial::new(ring), &name, serial)?;
+        Ok(Answer::Nothing)
+    }
+
+    /// All links of a keyring out: keyctl(2), KEYCTL_CLEAR.
+    #[tactic(auto, unfolding(krs_model::specs::Asks::Linked::clear))]
+    pub(crate) fn clear(&mut self, client: u32, context: u32, id: i32) -> Result<Answer, Fault>
+        ensures { Leads self.old result self.new (clear self.old client context id) }
+    {
+        let context = self.context_of(client, context)?;
+        let (serial, key) = self.look_up(context, id, Want::Granted(Rights::WRITE))?;
+        links_of(key)?;
+        self.change(Serial::new(serial), Change::Cleared);
+        Ok(Answer::Nothing)
+    }
+
+    /// One more link in a keyring: keyctl(2), KEYCTL_LINK.
+    #[tactic(auto, unfolding(krs_model::specs::Asks::Linked::link))]
+    pub(crate) fn link(
+        &mut self,
+        client: u32,
+        context: u32,
+        key: i32,
+        ring: i32,
+    ) -> Result<Answer, Fault>
+        ensures { Leads self.old result self.new (link self.old client context key ring) }
+    {
+        let context = self.context_of(client, context)?;
+        let (ring, into) = self.look_up(context, ring, Want::Granted(Rights::WRITE))?;
+        let (serial, found) = self.look_up(context, key, Want::Granted(Rights::LINK))?;
+        links_of(into)?;
+        self.check_nesting(Serial::new(ring), Serial::new(serial))?;
+        let name = found.name.copy(self.alloc)?;
+        self.put_link(Serial::new(ring), name, Serial::new(serial))?;
+        Ok(Answer::Nothing)
+    }
+
+    /// Whether a link from the keyring to the key closes a cycle, or nests a keyring too deep: EDEADLK, ELOOP.
+    #[tactic(auto, unfolding(krs_model::specs::Asks::Linked::nestable))]
+    fn check_nesting(&self, ring: Serial, key: Serial) -> Result<(), Fault>
+        requires ring { IsRing self.now ring }
+        requires key { IsSome (at self.now.keys key) }
+        ensures { Gives (λ done. done) result (nestable self.now.keys ring key) }
+    {
+        let walker = Walker::new(self.alloc);
+        if walker.would_cycle(&self.keys, key, ring)? {
+            return Err(Fault::Refused(Errno::EDEADLK));
+        }
+        let _height = walker.height_of(&self.keys, key)?;
+        Ok(())
+    }
+
+    /// A link to a key in a keyring, in the place of that which it displaces, else last. The name is the key's own.
+    fn put_link(&mut self, ring: Serial, name: Name, serial: Serial) -> Result<(), Fault>
+        requires { name_in self.old serial ≡ Some name }
+        ensures { Puts self.old result self.new ring name serial }
+    {
+        match self.keys.link(ring, name, serial) {
+            Ok(displaced) => {
+                self.let_go = lets_go(self.let_go, displaced);
+                Ok(())
+            }
+            Err(Errno::ENFILE) => Err(Fault::Refused(Errno::ENFILE)),
+            Err(_) => Err(Fault::Memory),
+        }
+    }
+
+    /// The link to a key out of a keyring, where it is there. The name is the key's own.
+    fn take_link(&mut self, ring: Serial, name: &Name, serial: Serial) -> Result<(), Errno>
+        requires { name_in self.old serial ≡ Some name.now }
+        ensures { Takes self.old result self.new ring serial }
+    {
+        if !is_linked(&self.keys, ring, name, serial) {
+            return Err(Errno::ENOENT);
+        }
+        self.keys.unlink(ring, name);
+        self.let_go = true;
+        Ok(())
+    }
+}
+
+/// Whether a keyring links a key, which has this name.
+fn is_linked(keys: &KeyTable, ring: Serial, name: &Name, serial: Serial) -> bool
+    ensures { result ≡ finds serial (displaced_at keys.now.keys ring name.now) }
+{
+    match keys.get(ring) {
+        Some(key) => is_linked_by(&key.content, name, serial),
+        None => false,
+    }
+}
+
+fn is_linked_by(content: &Content, name: &Name, serial: Serial) -> bool
+    ensures { result ≡ finds serial (linked_as (content_links content.now) name.now) }
+{
+    match content {
+        Content::Payload(_) => false,
+        Content::Links(links) => is_found(links.find(name), serial),
+    }
+}
+
+fn is_found(found: Option<Serial>, serial: Serial) -> bool
+    ensures { result ≡ finds serial found }
+{
+    match found {
+        Some(found) => found.number() == serial.number(),
+        None => false,
+    }
+}
+
+/// The links of a keyring: ENOTDIR where it is none.
+fn links_of(key: &Key) -> Result<&Links, Errno>
+    ensures { Is (λ links. serials links.now) result (ring_links (seen key.now).content) }
+{
+    match &key.content {
+        Content::Payload(_) => Err(Errno::ENOTDIR),
+        Content::Links(links) => Ok(links),
+    }
+}

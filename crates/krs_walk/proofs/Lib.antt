@@ -1,0 +1,9 @@
+pub mod ListsLemmas
+pub mod MarksLemmas
+pub mod LevelsLemmas
+pub mod ReachLemmas
+pub mod CycleLemmas
+pub mod HeightLemmas
+pub mod KeyringsLemmas
+pub mod PossessionLemmas
+pub mod RoundsLemmas

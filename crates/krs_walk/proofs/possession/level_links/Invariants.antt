@@ -1,0 +1,11 @@
+use Rattle.std.proofs.Common.{◌≡◌, drop}
+use Rattle.std.specs.List.{list_any}
+use Rattle.krs_model.specs.Levels.{is_in}
+use Rattle.krs_keys.specs.Keys.{shown}
+use Rattle.krs_walk.specs.Walks.{followed_at}
+use Rattle.krs_walk.proofs.possession.level_links.Given as goal
+
+abbrev pub invariant-loop-place : goal.invariant-loop-place
+invariant-loop-place l =
+    list_any (λ k. is_in l.serial (followed_at (shown l.keys.keys) l.clock l.caller k)) (drop l.place l.seen)
+    ≡ list_any (λ k. is_in l.serial (followed_at (shown l.keys.keys) l.clock l.caller k)) (drop l.start l.seen)

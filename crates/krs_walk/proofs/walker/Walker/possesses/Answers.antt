@@ -1,0 +1,20 @@
+use Rattle.std.proofs.Common.{◌≡◌, Bool, ap, sym, subst, ◌∙◌, IfOk}
+use Rattle.std.specs.Option.{option_copied}
+use Rattle.krs_keys.specs.Keys.{shown}
+use Rattle.krs_walk.proofs.PossessionLemmas.{absent_linked, head_possessed, linked_possessed}
+use Rattle.krs_walk.proofs.walker.Walker.possesses.Goals as goal
+
+pub returns-then-is_attached : goal.returns-then-is_attached
+returns-then-is_attached c =
+    sym (head_possessed (shown c.args.keys.now.keys) c.args.clock c.args.context.now c.args.process_ring c.args.serial c.requires.only (sym c.is_attached.ensures ∙ c.if-is_attached.true))
+
+pub returns-in-Some : goal.returns-in-Some
+returns-in-Some c =
+    subst (λ (v : Bool). IfOk c.is_linked.result (λ b. b ≡ v))
+    (sym (linked_possessed (shown c.args.keys.now.keys) c.args.clock c.args.context.now c.args.process_ring c.args.serial c.requires.only (sym c.is_attached.ensures ∙ c.if-is_attached.false)))
+    c.is_linked.ensures
+
+pub returns-in-None : goal.returns-in-None
+returns-in-None c =
+    sym (linked_possessed (shown c.args.keys.now.keys) c.args.clock c.args.context.now c.args.process_ring c.args.serial c.requires.only (sym c.is_attached.ensures ∙ c.if-is_attached.false)
+    ∙ absent_linked c.args.keys.now.keys c.args.clock c.args.context.now c.args.process_ring c.args.serial c.requires.fit (sym c.get-key.ensures ∙ ap option_copied c.in-None.is))

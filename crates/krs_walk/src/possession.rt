@@ -1,0 +1,202 @@
+ghost use Rattle.std.specs.Prelude.{◌≡◌, ◌≤◌, [], Some, drop, length, IfOk, OnOk};
+ghost use Rattle.std.specs.List.{list_any};
+ghost use Rattle.krs_model.specs.Levels.{is_in};
+ghost use Rattle.krs_model.specs.Table.{at};
+ghost use Rattle.krs_links.specs.Links.{linked_as};
+ghost use Rattle.krs_keys.specs.Keys.{content_links, seen, shown, AreFit};
+ghost use Rattle.krs_walk.specs.Lists.{join};
+ghost use Rattle.krs_walk.specs.Walks.{attached_with, followed_rings, is_followed, is_found, is_linked};
+ghost use Rattle.krs_walk.specs.Walks.{links_it, possessed_with, with_next, OnlyRingsLink};
+
+use crate::keyrings::rings_in;
+use crate::{Visits, Walker};
+use bitflags::Flags;
+use krs_keys::{Content, Key, KeyTable};
+use krs_types::{Caller, Context, Name, Rights, Serial};
+use std::alloc::AllocError;
+
+/// How many levels of keyrings are asked for a key: profile, search depth.
+const LEVELS: u8 = 7;
+
+impl Walker {
+    /// Whether a context, whose process has this keyring, possesses a key. keyrings(7), "Possession"; profile, search
+    /// depth. Levels are asked one after the other, and those below are not walked where one links the key.
+    pub fn possesses(
+        &self,
+        keys: &KeyTable,
+        context: &Context,
+        process_ring: Option<Serial>,
+        clock: u64,
+        serial: Serial,
+    ) -> Result<bool, AllocError>
+        requires fit { AreFit keys.now.keys }
+        requires only { OnlyRingsLink (shown keys.now.keys) }
+        ensures { IfOk result (λ b. b ≡ possessed_with (shown keys.now.keys) clock context.now process_ring serial) }
+    {
+        if is_attached(context, &process_ring, serial) {
+            return Ok(true);
+        }
+        let key = keys.get(serial);
+        match key {
+            Some(key) => self.is_linked(keys, context, process_ring, clock, key, serial),
+            None => Ok(false),
+        }
+    }
+
+    /// Whether a followed keyring of the first seven levels links a key.
+    fn is_linked(
+        &self,
+        keys: &KeyTable,
+        context: &Context,
+        process_ring: Option<Serial>,
+        clock: u64,
+        key: &Key,
+        serial: Serial,
+    ) -> Result<bool, AllocError>
+        requires fit { AreFit keys.now.keys }
+        requires key { at keys.now.keys serial ≡ Some key.now }
+        ensures { IfOk result (λ b. b ≡ is_linked (shown keys.now.keys) clock context.now process_ring serial) }
+    {
+        let mut seen = self.attached(context, process_ring)?;
+        let mut start = 0usize;
+        for level in 0..LEVELS {
+            let _ = level;
+            if level_links(keys, &context.caller, clock, &seen, start, key, serial) {
+                return Ok(true);
+            }
+            start = next_level(keys, &context.caller, clock, &mut seen, start)?;
+        }
+        Ok(false)
+    }
+
+    /// The attached keyrings.
+    fn attached(
+        &self,
+        context: &Context,
+        process_ring: Option<Serial>,
+    ) -> Result<Visits, AllocError>
+        ensures { IfOk result (λ v. v ≡ join [] (attached_with context.now process_ring)) }
+    {
+        let mut seen = Visits::new(self.alloc);
+        seen.join_one(context.thread)?;
+        seen.join_one(process_ring)?;
+        seen.join_one(context.session)?;
+        Ok(seen)
+    }
+}
+
+/// Whether a keyring is attached.
+fn is_attached(context: &Context, process_ring: &Option<Serial>, serial: Serial) -> bool
+    ensures { result ≡ is_in serial (attached_with context.now process_ring.now) }
+{
+    is_found(context.thread, serial)
+        || is_found(*process_ring, serial)
+        || is_found(context.session, serial)
+}
+
+fn is_found(found: Option<Serial>, serial: Serial) -> bool
+    ensures { result ≡ is_found serial found }
+{
+    match found {
+        Some(found) => found == serial,
+        None => false,
+    }
+}
+
+/// Whether a keyring from this place on links a key.
+fn level_links(
+    keys: &KeyTable,
+    caller: &Caller,
+    clock: u64,
+    seen: &Visits,
+    start: usize,
+    key: &Key,
+    serial: Serial,
+) -> bool
+    requires fit { AreFit keys.now.keys }
+    requires key { at keys.now.keys serial ≡ Some key.now }
+    requires start { start ≤ length seen.now }
+    ensures { result ≡ list_any (links_it (shown keys.now.keys) clock caller.now serial) (drop start seen.now) }
+{
+    for place in start..seen.len() {
+        if links_key(keys, caller, clock, seen.at(place), key, serial) {
+            return true;
+        }
+    }
+    false
+}
+
+/// Joins the nested keyrings of those from a place on, and gives the place where these begin.
+fn next_level(
+    keys: &KeyTable,
+    caller: &Caller,
+    clock: u64,
+    seen: &mut Visits,
+    start: usize,
+) -> Result<usize, AllocError>
+    requires fit { AreFit keys.now.keys }
+    requires start { start ≤ length seen.old }
+    ensures place { IfOk result (λ end. end ≡ length seen.old) }
+    ensures joined { OnOk result (seen.new ≡ with_next (shown keys.now.keys) clock caller.now start seen.old) }
+{
+    let end = seen.len();
+    for place in start..end {
+        let here = seen.at(place);
+        seen.join(followed_rings(keys, caller, clock, here))?;
+    }
+    Ok(end)
+}
+
+/// Whether the possessor of a key follows its links.
+fn is_followed(key: &Key, caller: &Caller, clock: u64) -> bool
+    ensures { result ≡ is_followed clock caller.now (seen key.now) }
+{
+    key.is_alive(clock) && key.grants(caller, true).contains(Rights::SEARCH)
+}
+
+/// The nested keyrings that the possessor of a keyring follows.
+fn followed_rings<'a>(
+    keys: &'a KeyTable,
+    caller: &Caller,
+    clock: u64,
+    serial: Serial,
+) -> &'a [Serial]
+    requires { AreFit keys.now.keys }
+    ensures { result.now ≡ followed_rings (shown keys.now.keys) clock caller.now serial }
+{
+    match keys.get(serial) {
+        Some(key) if is_followed(key, caller, clock) => rings_in(&key.content),
+        _ => &[],
+    }
+}
+
+/// Whether a keyring links a key, and its possessor follows that.
+fn links_key(
+    keys: &KeyTable,
+    caller: &Caller,
+    clock: u64,
+    ring: Serial,
+    key: &Key,
+    serial: Serial,
+) -> bool
+    requires fit { AreFit keys.now.keys }
+    requires key { at keys.now.keys serial ≡ Some key.now }
+    ensures { result ≡ links_it (shown keys.now.keys) clock caller.now serial ring }
+{
+    match keys.get(ring) {
+        Some(holder) if is_followed(holder, caller, clock) => {
+            is_found(find_in(&holder.content, &key.name), serial)
+        }
+        _ => false,
+    }
+}
+
+/// The serial that is linked under a name.
+fn find_in(content: &Content, name: &Name) -> Option<Serial>
+    ensures { result ≡ linked_as (content_links content.now) name.now }
+{
+    match content {
+        Content::Payload(_) => None,
+        Content::Links(links) => links.find(name),
+    }
+}
