@@ -1,2 +1,3 @@
 pub mod Telling
 pub mod Linking
+pub mod Served
