@@ -1,10 +1,9 @@
 -- What one link more, or one less, comes to in the definitions.
-use Rattle.std.proofs.Common.{◌≡◌, ℕ, ◌==◌, ◌&&◌, List, [], ◌∷◌, Option, Some, None, Bool, true, false, not, cond, Result, Ok, Err, length, zero, suc, take, ◌*◌, ◌≤◌, length-append, arith, refl, ap, ◌∙◌, sym, subst}
-use Rattle.std.specs.Option.{is_none, option_map}
+use Rattle.std.proofs.Common.{◌≡◌, ℕ, ◌&&◌, List, [], ◌∷◌, Option, Some, None, Bool, true, false, cond, Ok, Err, length, zero, suc, take, ◌*◌, ◌≤◌, length-append, arith, refl, ap, ◌∙◌, sym, subst}
+use Rattle.std.specs.Option.{option_map}
 use Rattle.std.specs.Prelude.{nat_le}
 use Rattle.std.proofs.lemmas.Bool.{true≢false, eqb-true}
 use Rattle.std.proofs.lemmas.Option.{none-some, same_Some}
-use Rattle.krs_types.specs.declared.errno.Errno.{Errno}
 use Rattle.krs_types.specs.declared.errno.Errno.TheVariants.{ENFILE, ENOMEM}
 use Rattle.krs_types.specs.declared.name.Name.{Name}
 use Rattle.krs_types.specs.declared.kind.Kind.{Kind}
@@ -22,7 +21,7 @@ use Rattle.krs_model.specs.Asks.Linked.{name_of, without_link}
 use Rattle.krs_model.proofs.Tables.{at_map, alter_map}
 use Rattle.krs_model.proofs.Levels.{same_is}
 use Rattle.krs_model.proofs.Sweeping.{changed_swept, linked_still}
-use Rattle.krs_links.specs.Links.{LinkList, linked_as, unlinked, serials, is_refused, is_full}
+use Rattle.krs_links.specs.Links.{LinkList, linked_as, serials, is_refused}
 use Rattle.krs_keys.specs.declared.key.Key.{Key}
 use Rattle.krs_keys.specs.declared.key.Content.{Content}
 use Rattle.krs_keys.specs.declared.key.Content.TheVariants.{Payload, Links}

@@ -1,12 +1,11 @@
 -- LINK and UNLINK, from what the store has looked up to what they come to.
-use Rattle.std.proofs.Common.{◌≡◌, ℕ, ℤ, List, Option, None, Some, FitsSigned, to_z, of_z, Result, Ok, Err, true, false, refl, ap, ◌∙◌, sym, subst, cond}
-use Rattle.std.specs.Option.{IsSome, option_map}
+use Rattle.std.proofs.Common.{◌≡◌, ℕ, ℤ, List, Option, None, Some, FitsSigned, to_z, of_z, Result, Ok, Err, refl, ap, ◌∙◌, sym, subst}
+use Rattle.std.specs.Option.{IsSome}
 use Rattle.std.specs.Int.{w32}
 use Rattle.std.proofs.lemmas.Int.{to_z-of_z}
 use Rattle.std.proofs.lemmas.Bool.{true≢false}
 use Rattle.krs_types.specs.declared.errno.Errno.{Errno}
-use Rattle.krs_types.specs.declared.errno.Errno.TheVariants.{ENOKEY, ENOENT}
-use Rattle.krs_types.specs.declared.ask.Answer.{Answer}
+use Rattle.krs_types.specs.declared.errno.Errno.TheVariants.{ENOKEY}
 use Rattle.krs_types.specs.declared.ask.Answer.TheVariants.{Nothing}
 use Rattle.krs_types.specs.declared.context.Context.{Context}
 use Rattle.krs_types.specs.declared.fault.Fault.{Fault}
@@ -15,20 +14,19 @@ use Rattle.krs_types.specs.declared.rights.Want.{Want}
 use Rattle.krs_types.specs.declared.rights.Want.TheVariants.{Granted}
 use Rattle.krs_types.specs.Rights.{WRITE, LINK}
 use Rattle.krs_types.specs.Refusing.{◌>>=◌, or_refuse}
-use Rattle.krs_model.specs.Table.{Table, at}
+use Rattle.krs_model.specs.Table.{at}
 use Rattle.krs_model.specs.State.{State, Key, Content, Payload, Links}
 use Rattle.krs_model.specs.Possession.{links_of}
-use Rattle.krs_model.specs.Levels.{is_in}
 use Rattle.krs_model.specs.Sweep.{linked_by}
 use Rattle.krs_model.specs.Reach.{links_in}
 use Rattle.krs_model.specs.Linking.{ring_links, linking}
 use Rattle.krs_model.specs.Lookup.{context_of, serial_of, look_up}
-use Rattle.krs_model.specs.Outcome.{Leads, Fails}
+use Rattle.krs_model.specs.Outcome.{Fails}
 use Rattle.krs_model.specs.Asks.Adding.{IsRing}
 use Rattle.krs_model.specs.Asks.Changing.{changed}
 use Rattle.krs_model.specs.Asks.Linked.{name_of, nestable, link, unlink, if_linked, without_link}
 use Rattle.krs_model.proofs.Lookups.{look_up_usable}
-use Rattle.krs_store.specs.Linked.{name_in, room_in, Puts, Takes}
+use Rattle.krs_store.specs.Linked.{room_in, Puts, Takes}
 
 -- a keyring that was looked up
 pub record IsFoundRing (s : State) (ring : ℕ × Key) : Type 0 where

@@ -5,7 +5,6 @@
 mod asks;
 mod store;
 mod tables;
-mod walk;
 
 pub use store::Store;
 

@@ -2,7 +2,7 @@ ghost use Rattle.std.specs.Prelude.{◌≡◌, ◌≤◌, ◌+◌, Some, IfSome,
 ghost use Rattle.std.specs.Option.{option_map};
 ghost use Rattle.krs_model.specs.Table.{at, put, alter};
 ghost use Rattle.krs_model.specs.State.{starting_at, raised};
-ghost use Rattle.krs_model.specs.Possession.{process_ring};
+ghost use Rattle.krs_model.specs.Possession.{process_ring, possessed};
 ghost use Rattle.krs_model.specs.Lookup.{context_of, serial_of, look_up};
 ghost use Rattle.krs_model.specs.Outcome.{Leads, Gives, Is};
 ghost use Rattle.krs_model.specs.Step.{outcome_of, grows};
@@ -11,7 +11,8 @@ ghost use Rattle.krs_keys.specs.Keys.{seen, FindsByName};
 
 use krs_keys::{Key, KeyTable};
 use krs_types::{Answer, Ask, Context, Errno, Fault, KeyId, Op, Serial, UidRings, Want};
-use std::alloc::Global;
+use krs_walk::Walker;
+use std::alloc::{AllocError, Global};
 use std::collections::BTreeMap;
 use std::marker::Model;
 
@@ -78,6 +79,15 @@ impl Tables {
             Some(ring) => *ring,
             None => None,
         }
+    }
+
+    /// Whether a context possesses a key: keyrings(7), "Possession".
+    #[tactic(auto, unfolding(krs_model::specs::Possession::possessed))]
+    pub(crate) fn possesses(&self, context: &Context, serial: Serial) -> Result<bool, AllocError>
+        ensures { IfOk result (λ b. b ≡ possessed self.now context.now serial) }
+    {
+        let ring = self.process_ring(context.process);
+        Walker::new(self.alloc).possesses(&self.keys, context, ring, self.clock, serial)
     }
 
     /// The serial that an id stands for.

@@ -1,5 +1,4 @@
-use Rattle.std.proofs.Common.{◌≤◌, ◌≡◌, ◌*◌, ◌∙◌, length, take, ap, arith, subst}
-use Rattle.krs_model.specs.Asks.Reading.{serial_bytes}
+use Rattle.std.proofs.Common.{◌≤◌, ◌≡◌, ◌*◌, ◌∙◌, length, take, ap, arith}
 use Rattle.krs_links.specs.Links.{LinkList, serials}
 use Rattle.krs_store.proofs.Linking.{length-serial_bytes, length-taken}
 use Rattle.krs_store.proofs.asks.reading.serial_bytes.Goals as goal

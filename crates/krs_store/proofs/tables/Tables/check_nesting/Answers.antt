@@ -4,7 +4,6 @@ use Rattle.krs_keys.specs.Keys.{shown}
 use Rattle.krs_model.specs.State.{State}
 use Rattle.krs_model.specs.Asks.Adding.{IsRing}
 use Rattle.krs_model.specs.Asks.Linked.{nestable}
-use Rattle.krs_store.specs.View.{state_of}
 use Rattle.krs_store.proofs.Linking.{only_rings, is_keyring}
 use Rattle.krs_store.proofs.tables.Tables.check_nesting.Goals as goal
 

@@ -1,7 +1,6 @@
-use Rattle.std.proofs.Common.{◌≡◌, ap, sym, ◌∙◌, subst, refl, ℕ, Some, Ok, Err}
+use Rattle.std.proofs.Common.{◌≡◌, sym, refl, ℕ, Ok, Err}
 use Rattle.std.proofs.lemmas.Result.{err_from_is_err_and}
-use Rattle.krs_model.specs.State.{State, Key}
-use Rattle.krs_model.specs.Outcome.{Fails}
+use Rattle.krs_model.specs.State.{Key}
 use Rattle.krs_model.specs.Asks.Linked.{name_of, nestable}
 use Rattle.krs_keys.specs.Keys.{seen}
 use Rattle.krs_store.specs.Linked.{Puts}

@@ -1,4 +1,4 @@
-use Rattle.std.proofs.Common.{◌≡◌, sym, rules, ℕ, Ok, Err, Some}
+use Rattle.std.proofs.Common.{sym, rules, ℕ, Ok, Err}
 use Rattle.std.specs.Option.{IsSome}
 use Rattle.std.proofs.lemmas.Result.{err_from_is_err_and}
 use Rattle.krs_model.specs.Table.{at}
