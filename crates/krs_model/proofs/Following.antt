@@ -306,13 +306,3 @@ legal_follows start [] end legal = subst (Follows start) legal (same_follows sta
 legal_follows start (event ∷ events) end legal =
     let next = legal.0 in
     follows_trans start next end (step_follows start next event legal.1) (legal_follows next events end legal.2)
-
--- an accepted ask and its sweep leave the serials not given yet in no use
-pub stays_unused :
-    (old up mid new : State) (moment client context : ℕ) (op : Op) (answer : Answer) → up ≡ raised old moment
-    → outcome_of up client context op ≡ Ok (mid, answer) → IsSweep mid new → IsBelow old.keys old.next_serial
-    → IsBelow new.keys new.next_serial
-stays_unused old up mid new moment client context op answer raise came sweep below =
-    let first : Follows old up = subst (Follows old) (sym raise) (raised_follows old moment) in
-    let asked = (outcome_follows up client context op).follows mid answer came in
-    (sweep_follows mid new sweep).unused (asked.unused (first.unused below))

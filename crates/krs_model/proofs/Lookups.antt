@@ -1,5 +1,5 @@
 -- Laws of look-ups, and of where an added key goes.
-use Rattle.std.proofs.Common.{◌&&◌, ◌≡◌, ℕ, ℤ, List, Option, Some, None, Bool, true, false, cond, Result, Ok, Err, refl, subst}
+use Rattle.std.proofs.Common.{◌&&◌, ◌≡◌, ℕ, ℤ, List, Option, Some, None, true, false, cond, Ok, Err, refl, subst}
 use Rattle.std.specs.Prelude.{nat_lt}
 use Rattle.krs_types.specs.declared.errno.Errno.TheVariants.{ENOKEY, EKEYREVOKED, EKEYEXPIRED, EACCES, ENOSPC}
 use Rattle.krs_types.specs.declared.context.Context.{Context}
@@ -9,13 +9,13 @@ use Rattle.krs_types.specs.declared.rights.Want.TheVariants.{Granted}
 use Rattle.krs_types.specs.Rights.{allows, has_all, WRITE}
 use Rattle.krs_types.specs.Refusing.{◌>>=◌, or_refuse}
 use Rattle.krs_model.specs.Table.{at}
-use Rattle.krs_model.specs.State.{State, Key, Content, Payload, Links}
+use Rattle.krs_model.specs.State.{State, Key, Payload, Links}
 use Rattle.krs_model.specs.Access.{is_over, is_alive, rights_on}
 use Rattle.krs_model.specs.Possession.{possessed}
 use Rattle.krs_model.specs.Lookup.{serial_of, if_usable, look_up}
 use Rattle.krs_model.specs.Linking.{ring_links, link_named, has_room}
 use Rattle.krs_model.specs.Usable.{IsUsable}
-use Rattle.krs_model.specs.Asks.Adding.{is_updatable, Place, Updated, Made, if_room, over_match, by_match, place_of, IsRing}
+use Rattle.krs_model.specs.Asks.Adding.{is_updatable, Updated, Made, if_room, over_match, by_match, place_of, IsRing}
 
 usable : (s : State) (c : Context) (want : Want) (serial : ℕ) (key : Key) (x : ℕ × Key) → at s.keys serial ≡ Some key → if_usable s c want serial key ≡ Ok x → IsUsable s c want x
 usable s c want serial key x there h =

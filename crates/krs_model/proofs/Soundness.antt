@@ -33,7 +33,7 @@ use Rattle.krs_model.specs.Lookup.{context_of, serial_of, look_up}
 use Rattle.krs_model.specs.Linking.{is_named, link_named, has_room, ring_links}
 use Rattle.krs_model.specs.Reach.{Reaches, Directly, Further, links_in}
 use Rattle.krs_model.specs.History.{IsLegal}
-use Rattle.krs_model.specs.Sweep.{IsSwept, context_roots, process_roots, uid_roots}
+use Rattle.krs_model.specs.Sweep.{IsSweep, IsSwept, context_roots, process_roots, uid_roots}
 use Rattle.krs_model.specs.Sound.{IsSound, AllAttached}
 use Rattle.krs_model.specs.Outcome.{Outcome}
 use Rattle.krs_model.specs.Step.{Step, Ends, grows, outcome_of}
@@ -333,7 +333,7 @@ stands_sound s stands swept = record {
 }
 
 -- the clock alone
-raised_sound : (s : State) (moment : ℕ) → IsSound s → IsSound (raised s moment)
+pub raised_sound : (s : State) (moment : ℕ) → IsSound s → IsSound (raised s moment)
 raised_sound s moment sound =
     let up = raised s moment in
     stands_sound up (same_stands s up refl refl sound.attached (sound_stands s sound))
@@ -355,6 +355,15 @@ step_sound old new event sound step =
     let raise = raised_sound old event.moment sound in
     let sustains = outcome_stands up event.lane event.ask.context event.ask.op (sound_stands up raise) in
     end_sound up new (grows event.ask.op) event.reply _ raise sustains step
+
+-- what an accepted ask leaves, once it is swept, is sound
+pub served_sound :
+    (old up mid new : State) (moment client context : ℕ) (op : Op) (answer : Answer) → IsSound old
+    → up ≡ raised old moment → outcome_of up client context op ≡ Ok (mid, answer) → IsSweep mid new → IsSound new
+served_sound old up mid new moment client context op answer sound raise meant sweep =
+    let above : IsSound up = subst IsSound (sym raise) (raised_sound old moment sound) in
+    end_sound up new true (Ok answer) _ above (outcome_stands up client context op (sound_stands up above))
+    (mid, meant, sweep)
 
 not_linked : (a b : ℕ) → Reaches (λ k. []) a b → ⊥
 not_linked _ _ (Directly a b h) = true≢false (sym h)

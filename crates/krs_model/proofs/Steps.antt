@@ -1,5 +1,5 @@
 -- Laws of steps.
-use Rattle.std.proofs.Common.{◌≡◌, ℕ, Bool, Result, Ok, Err, sym}
+use Rattle.std.proofs.Common.{◌≡◌, Bool, Result, Ok, Err, sym}
 use Rattle.std.specs.Result.{IsErr}
 use Rattle.std.proofs.lemmas.Bool.{true≢false}
 use Rattle.krs_types.specs.declared.errno.Errno.{Errno}

@@ -1,6 +1,6 @@
 -- What leaves every key held: a further context, the keyrings of a uid, another payload, one more link.
-use Rattle.std.proofs.Common.{◌≡◌, ℕ, ◌+◌, ◌==◌, ◌||◌, List, [], ◌∷◌, ◌++◌, Option, Some, None, Bool, true, false, cond, flat_map, refl, ap, ◌∙◌, sym, subst, arith, ◌⊎◌, inl, inr, ⊎_elim}
-use Rattle.std.specs.Prelude.{decimal, codes}
+use Rattle.std.proofs.Common.{◌≡◌, ℕ, ◌+◌, ◌==◌, ◌||◌, List, [], ◌∷◌, ◌++◌, Option, Some, None, Bool, true, false, cond, refl, ap, ◌∙◌, sym, subst, arith, ◌⊎◌, inl, inr, ⊎_elim}
+use Rattle.std.specs.Prelude.{codes}
 use Rattle.std.specs.Option.{IsSome, option_map, option_to_list}
 use Rattle.std.specs.List.{find}
 use Rattle.std.proofs.lemmas.Bool.{true≢false}
@@ -12,7 +12,7 @@ use Rattle.krs_types.specs.declared.context.UidRings.{UidRings}
 use Rattle.krs_types.specs.declared.caller.Caller.{Caller}
 use Rattle.krs_types.specs.declared.name.Name.{Name}
 use Rattle.krs_model.specs.Table.{Table, at, put, alter}
-use Rattle.krs_model.specs.State.{State, Key, Content, Payload, Links}
+use Rattle.krs_model.specs.State.{State, Key, Content, Links}
 use Rattle.krs_model.specs.Possession.{links_of}
 use Rattle.krs_model.specs.Levels.{is_in}
 use Rattle.krs_model.specs.Linking.{is_named, link_named, with_link, linking}
@@ -20,7 +20,7 @@ use Rattle.krs_model.specs.Sweep.{IsHeld, Attached, Linked, AllHeld, linked_by, 
 use Rattle.krs_model.specs.Asks.Hello.{with_context, with_uid, uid_ring}
 use Rattle.krs_model.specs.Asks.Adding.{made, IsRing}
 use Rattle.krs_model.specs.Asks.Changing.{changed}
-use Rattle.krs_model.proofs.Tables.{at_put_same, at_put_other, at_or_apart, at_alter_same, at_alter_other}
+use Rattle.krs_model.proofs.Tables.{at_put_other, at_or_apart, at_alter_same, at_alter_other}
 use Rattle.krs_model.proofs.Levels.{in_left, in_right, in_one, or_true, same_is}
 use Rattle.krs_model.proofs.Sweeps.{held_on, attached_more, attached_put}
 

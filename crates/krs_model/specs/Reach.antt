@@ -1,5 +1,5 @@
 -- What is reached along links, and how deep keyrings are nested: keyctl(2), KEYCTL_LINK, "EDEADLK" and "ELOOP".
-use Rattle.std.specs.Prelude.{◌≡◌, ℕ, ◌==◌, ◌||◌, List, [], ◌∷◌, Bool, true, false, Option, None, Some, length, filter}
+use Rattle.std.specs.Prelude.{◌≡◌, ℕ, List, [], ◌∷◌, Bool, true, false, Option, None, Some, length, filter}
 use Rattle.krs_types.specs.declared.kind.Kind.TheVariants.{Keyring}
 use Rattle.krs_types.specs.Kind.{same_kind}
 use Rattle.krs_model.specs.Table.{Table, at}

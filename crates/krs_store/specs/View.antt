@@ -2,7 +2,7 @@
 use Rattle.std.specs.Prelude.{◌≡◌, [], false}
 use Rattle.krs_model.specs.Table.{IsBelow}
 use Rattle.krs_model.specs.State.{State}
-use Rattle.krs_model.specs.Sweep.{AllHeld, IsSwept}
+use Rattle.krs_model.specs.Sweep.{AllHeld}
 use Rattle.krs_store.specs.declared.tables.Tables.TheInside.{Inside}
 use Rattle.krs_keys.specs.Keys.{shown, AreFit, AreOfKind}
 
@@ -28,8 +28,3 @@ pub record IsSound (s : Inside) : Type 0 where
   pub fit : AreFit s.keys.keys
   pub kinds : AreOfKind s.keys.keys
   pub swept : s.let_go ≡ false → AllHeld (state_of s)
-
--- What is true between two asks: the state has been swept, and serials not given yet are in no use.
-pub record IsSettled (s : State) : Type 0 where
-  pub swept : IsSwept s
-  pub unused : IsBelow s.keys s.next_serial

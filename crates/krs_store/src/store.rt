@@ -11,8 +11,9 @@ use krs_types::{Ask, Errno, Fault, Reply};
 use std::alloc::Global;
 use std::marker::Model;
 
-/// A key store: keyrings(7) for one thread. Between two asks every key is attached, or linked by one that is held,
-/// and serials not given yet are in no use.
+/// A key store: keyrings(7) for one thread. Between two asks it is sound: no keyring reaches itself, a keyring has one
+/// link for a type and description, links and attachments are of keys that are there, and every key is attached or
+/// linked by one that is held.
 #[derive(Drop)]
 pub struct Store {
     tables: Tables,
@@ -20,13 +21,13 @@ pub struct Store {
 
 impl Model for Store {
     ghost use Rattle.krs_model.specs.State.{State};
-    ghost use Rattle.krs_store.specs.View.{IsSettled};
+    ghost use Rattle.krs_model.specs.Sound.{IsSound};
 
     ghost Value = { State };
 
     ghost view = { λ s. s.tables };
 
-    ghost invariant = { λ s. IsSettled s.tables };
+    ghost invariant = { λ s. IsSound s.tables };
 }
 
 impl Store {

@@ -6,7 +6,6 @@ use Rattle.krs_types.specs.declared.kind.Kind.{Kind}
 use Rattle.krs_types.specs.declared.kind.Kind.TheVariants.{User, Logon, Keyring}
 use Rattle.krs_types.specs.declared.name.Name.{Name}
 use Rattle.krs_types.specs.declared.context.Context.{Context}
-use Rattle.krs_types.specs.declared.caller.Caller.{Caller}
 use Rattle.krs_types.specs.declared.ask.Answer.TheVariants.{Number}
 use Rattle.krs_types.specs.declared.rights.Want.TheVariants.{Granted}
 use Rattle.krs_types.specs.Rights.{has_all, WRITE}

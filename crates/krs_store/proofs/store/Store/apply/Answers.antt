@@ -1,11 +1,15 @@
-use Rattle.krs_model.proofs.Sweeps.{sweep_swept}
-use Rattle.krs_model.proofs.Following.{stays_unused}
+use Rattle.std.proofs.Common.{◌≡◌, sym, ◌∙◌, subst}
+use Rattle.krs_model.specs.Sound.{IsSound}
+use Rattle.krs_model.proofs.Soundness.{served_sound, raised_sound}
 use Rattle.krs_store.proofs.store.Store.apply.Goals as goal
 
 pub invariant_of-self : goal.invariant_of-self
-invariant_of-self c =
-    let unused = c.self.invariant.unused in
-    record {
-      swept = sweep_swept _ _ c.sweep.ensures;
-      unused = stays_unused _ _ _ _ _ _ _ _ _ c.raise.ensures c.in-Ok.ensures.step c.sweep.ensures unused;
-    }
+invariant_of-self c = served_sound _ _ _ _ _ _ _ _ _ c.self.invariant c.raise.ensures c.in-Ok.ensures.step c.sweep.ensures
+
+pub invariant_of-self-in-Err-Memory : goal.invariant_of-self-in-Err-Memory
+invariant_of-self-in-Err-Memory c =
+    subst IsSound (sym (c.in-Err-Memory.ensures.step.1 ∙ c.raise.ensures)) (raised_sound c.self.inside.tables c.args.moment c.self.invariant)
+
+pub invariant_of-self-in-Err-Refused : goal.invariant_of-self-in-Err-Refused
+invariant_of-self-in-Err-Refused c =
+    subst IsSound (sym (c.in-Err-Refused.ensures.step.1 ∙ c.raise.ensures)) (raised_sound c.self.inside.tables c.args.moment c.self.invariant)
