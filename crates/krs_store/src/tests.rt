@@ -90,7 +90,7 @@ fn lengths_and_type_names(rt: HostRuntime) -> Result<(), Fail> {
     let long = vec![in alloc; b'a'; 32768]?;
     let long = long.as_slice();
     assert!(rt; long.len() == 32768);
-    let rows: [(&str, &[u8], &[u8], &[u8], Want<'_>); 10] = [
+    let rows: [(&str, &[u8], &[u8], &[u8], Want<'_>); 11] = [
         (
             "longest payload",
             b"user",
@@ -154,12 +154,13 @@ fn lengths_and_type_names(rt: HostRuntime) -> Result<(), Fail> {
             b"x",
             Want::Refused(Errno::ENODEV),
         ),
+        ("a keyring", b"keyring", b"a", b"", Want::Number(7)),
         (
-            "not built yet",
+            "a keyring with a payload",
             b"keyring",
-            b"a",
-            b"",
-            Want::Refused(Errno::ENODEV),
+            b"b",
+            b"x",
+            Want::Refused(Errno::EINVAL),
         ),
     ];
     let mut store = Store::new(alloc);
@@ -206,7 +207,7 @@ fn a_key_is_kept_updated_and_left(rt: HostRuntime) -> Result<(), Fail> {
         ),
         (0, read(1, -1), Want::Refused(Errno::ENOKEY)),
         (0, read(1, 0), Want::Refused(Errno::EINVAL)),
-        (0, read(1, -4), Want::Refused(Errno::EOPNOTSUPP)),
+        (0, read(1, -4), Want::Bytes(&[7, 0, 0, 0])),
         (7, read(2, 7), denied),
         (7, read(1, 7), Want::Refused(Errno::ESRCH)),
         (0, leave(), Want::Nothing),
@@ -294,13 +295,79 @@ fn the_last_serials(rt: HostRuntime) -> Result<(), Fail> {
         Want::Number(2),
         "the same uid",
     );
-    let unread = Want::Refused(Errno::EOPNOTSUPP);
     expect(
         &rt,
-        store.apply(0, 0, read(1, 2147483646)),
-        unread,
+        store.apply(0, 0, read(1, -4)),
+        Want::Bytes(&[]),
         "its keyring",
     );
+    expect(
+        &rt,
+        store.apply(0, 0, read(1, -5)),
+        Want::Bytes(&[0xfe, 0xff, 0xff, 0x7f]),
+        "its session keyring",
+    );
+    Ok(())
+}
+
+/// The asks of the test of keyrings, by their number.
+fn ring_ask_of(alloc: Global, step: u8) -> Result<Ask, AllocError> {
+    match step {
+        0 => Ok(hello(alloc, 1000)),
+        1 => add(alloc, b"keyring", b"a", b"", -4),
+        2 => add(alloc, b"user", b"k", b"one", 5),
+        3 => add(alloc, b"keyring", b"b", b"", 5),
+        4 => add(alloc, b"user", b"k", b"two", 7),
+        5 => Ok(change(Op::Link { key: 5, ring: 7 })),
+        6 => Ok(change(Op::Link { key: 5, ring: 5 })),
+        7 => Ok(change(Op::Link { key: 5, ring: 6 })),
+        8 => Ok(change(Op::Unlink { key: 7, ring: 6 })),
+        9 => Ok(change(Op::Clear { id: 6 })),
+        10 => Ok(change(Op::Unlink { key: 6, ring: 7 })),
+        11 => Ok(change(Op::Link { key: 8, ring: 5 })),
+        12 => Ok(change(Op::Unlink { key: 8, ring: 5 })),
+        13 => Ok(change(Op::Clear { id: 7 })),
+        14 => Ok(read(1, 5)),
+        15 => Ok(read(1, 6)),
+        16 => Ok(read(1, 7)),
+        _ => Ok(read(1, 8)),
+    }
+}
+
+/// Two keyrings and their links: an ask, and what it is answered with. A link displaces that of its type and
+/// description, and what no keyring links any more is gone.
+#[test]
+fn keyrings_link_keys(rt: HostRuntime) -> Result<(), Fail> {
+    let alloc = rt.alloc();
+    let mut store = Store::new(alloc);
+    let gone = Want::Refused(Errno::ENOKEY);
+    let no_ring = Want::Refused(Errno::ENOTDIR);
+    let rows: [(u8, Want<'_>); 20] = [
+        (0, Want::Number(1)),
+        (1, Want::Number(5)),
+        (2, Want::Number(6)),
+        (3, Want::Number(7)),
+        (4, Want::Number(8)),
+        (5, Want::Refused(Errno::EDEADLK)),
+        (6, Want::Refused(Errno::EDEADLK)),
+        (7, no_ring),
+        (8, no_ring),
+        (9, no_ring),
+        (10, Want::Refused(Errno::ENOENT)),
+        (11, Want::Nothing),
+        (14, Want::Bytes(&[8, 0, 0, 0, 7, 0, 0, 0])),
+        (15, gone),
+        (17, Want::Bytes(b"two")),
+        (12, Want::Nothing),
+        (17, Want::Bytes(b"two")),
+        (13, Want::Nothing),
+        (17, gone),
+        (16, Want::Bytes(&[])),
+    ];
+    for (step, want) in rows {
+        let ask = ring_ask_of(alloc, step)?;
+        expect(&rt, store.apply(0, 0, ask), want, "a row");
+    }
     Ok(())
 }
 
@@ -323,8 +390,13 @@ fn ask_of(alloc: Global, step: u8) -> Result<Ask, AllocError> {
             gid: 1000,
         })),
         8 => Ok(change(Op::SetTimeout { id: 5, seconds: 60 })),
-        9 => Ok(change(Op::Revoke { id: 5 })),
-        10 => Ok(read(1, 5)),
+        9 => add(alloc, b"keyring", b"a", b"", -4),
+        10 => Ok(change(Op::Link { key: 5, ring: 6 })),
+        11 => Ok(read(1, 6)),
+        12 => Ok(change(Op::Unlink { key: 5, ring: 6 })),
+        13 => Ok(change(Op::Clear { id: 6 })),
+        14 => Ok(change(Op::Revoke { id: 5 })),
+        15 => Ok(read(1, 5)),
         _ => Ok(leave()),
     }
 }
@@ -343,6 +415,11 @@ fn a_refused_growth_changes_nothing(rt: HostRuntime) -> Result<(), Fail> {
         Want::Bytes(described),
         Want::Nothing,
         Want::Nothing,
+        Want::Nothing,
+        Want::Nothing,
+        Want::Number(6),
+        Want::Nothing,
+        Want::Bytes(&[5, 0, 0, 0]),
         Want::Nothing,
         Want::Nothing,
         Want::Nothing,

@@ -11,7 +11,7 @@ use krs_types::{Answer, Body, Errno, Fault, Kind, Rights, Want};
 use std::alloc::{AllocError, Global};
 
 impl Tables {
-    /// The payload of a key: keyctl(2), KEYCTL_READ.
+    /// The payload of a key, or what a keyring links: keyctl(2), KEYCTL_READ.
     #[tactic(auto, unfolding(krs_model::specs::Asks::Reading::read))]
     pub(crate) fn read(&self, client: u32, context: u32, id: i32) -> Result<Answer, Fault>
         ensures { Leads self.now result self.now (read self.now client context id) }
