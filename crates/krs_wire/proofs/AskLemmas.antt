@@ -8,10 +8,10 @@ use Rattle.krs_wire.specs.declared.fault.WireFault.TheVariants.{BadVersion, BadO
 use Rattle.krs_types.specs.declared.ask.Ask.{Ask}
 use Rattle.krs_wire.specs.declared.framed.Framed.{Framed}
 use Rattle.krs_types.specs.declared.ask.Op.{Op}
-use Rattle.krs_types.specs.declared.ask.Op.TheVariants.{Hello, Add, Update, Revoke, Chown, SetPerm, SetTimeout, Read, Describe, Leave}
+use Rattle.krs_types.specs.declared.ask.Op.TheVariants.{Hello, Add, Update, Revoke, Chown, SetPerm, SetTimeout, Link, Unlink, Clear, Read, Describe, Leave}
 use Rattle.krs_wire.specs.Field.{Field, number, sized, both, counted, nothing, whole}
 use Rattle.krs_wire.specs.Faulting.{after, or_bad_body}
-use Rattle.krs_wire.specs.Bodies.{id_field, hello_fields, hello_of, add_fields, add_of, update_fields, update_of, revoke_of, chown_fields, chown_of, id_number_fields, set_perm_of, set_timeout_of, read_of, describe_of, leave_of, number_of_op, body_of_op, FitsOp}
+use Rattle.krs_wire.specs.Bodies.{id_field, hello_fields, hello_of, add_fields, add_of, update_fields, update_of, revoke_of, chown_fields, chown_of, id_number_fields, set_perm_of, set_timeout_of, link_fields, link_of, unlink_of, clear_of, read_of, describe_of, leave_of, number_of_op, body_of_op, FitsOp}
 use Rattle.krs_wire.specs.Frame.{rest, Frames, front_of, front_by, front_in, is_bad_length, framed_of, framed_by, op_of, head_fields}
 use Rattle.krs_wire.specs.Spelling.{framed, ask_text, ask_frame, FitsAsk}
 use Rattle.krs_wire.proofs.FieldLemmas.{IsBytes, IsBytes-take, IsExact, wide16, wide32, number_exact, signed_exact, sized_exact, both_exact, nothing_exact, whole_again, whole_takes}
@@ -39,6 +39,9 @@ chown_exact = both_exact id_field (both (number w32) (number w32)) id_exact two_
 id_number_exact : IsExact id_number_fields
 id_number_exact = both_exact id_field (number w32) id_exact (number_exact w32 wide32)
 
+link_exact : IsExact link_fields
+link_exact = both_exact id_field id_field id_exact id_exact
+
 head_exact : IsExact head_fields
 head_exact = both_exact (number w16) (both (number w16) (number w32)) (number_exact w16 wide16) (both_exact (number w16) (number w32) (number_exact w16 wide16) (number_exact w32 wide32))
 
@@ -51,6 +54,9 @@ op_again (SetPerm id mask) h = ap or_bad_body (whole_again id_number_fields id_n
 op_again (SetTimeout id seconds) h =
     ap or_bad_body (whole_again id_number_fields id_number_exact set_timeout_of (id, seconds) h)
 op_again (Describe id) h = ap or_bad_body (whole_again id_field id_exact describe_of id h)
+op_again (Clear id) h = ap or_bad_body (whole_again id_field id_exact clear_of id h)
+op_again (Link key ring) h = ap or_bad_body (whole_again link_fields link_exact link_of (key, ring) h)
+op_again (Unlink key ring) h = ap or_bad_body (whole_again link_fields link_exact unlink_of (key, ring) h)
 op_again (Read id) h = ap or_bad_body (whole_again id_field id_exact read_of id h)
 op_again (Hello caller) h = ap or_bad_body (whole_again hello_fields hello_exact hello_of (caller.uid, (caller.gid, caller.groups)) h)
 op_again Leave h = ap or_bad_body (whole_again nothing nothing_exact leave_of tt h)
@@ -63,6 +69,9 @@ op_small (Chown id uid gid) = omega arith
 op_small (SetPerm id mask) = omega arith
 op_small (SetTimeout id seconds) = omega arith
 op_small (Describe id) = omega arith
+op_small (Clear id) = omega arith
+op_small (Link key ring) = omega arith
+op_small (Unlink key ring) = omega arith
 op_small (Read id) = omega arith
 op_small (Hello caller) = omega arith
 op_small Leave = omega arith
@@ -154,13 +163,16 @@ op_takes which body op bytes =
     row_or chown_fields chown_of 4 chown_exact (λ x. refl) (λ x. refl) (λ x k. k) which body op _ bytes (
     row_or id_number_fields set_perm_of 5 id_number_exact (λ x. refl) (λ x. refl) (λ x k. k) which body op _ bytes (
     row_or id_field describe_of 6 id_exact (λ x. refl) (λ x. refl) (λ x k. k) which body op _ bytes (
+    row_or id_field clear_of 7 id_exact (λ x. refl) (λ x. refl) (λ x k. k) which body op _ bytes (
+    row_or link_fields link_of 8 link_exact (λ x. refl) (λ x. refl) (λ x k. k) which body op _ bytes (
+    row_or link_fields unlink_of 9 link_exact (λ x. refl) (λ x. refl) (λ x k. k) which body op _ bytes (
     row_or id_field read_of 11 id_exact (λ x. refl) (λ x. refl) (λ x k. k) which body op _ bytes (
     row_or id_number_fields set_timeout_of 15
     id_number_exact (λ x. refl) (λ x. refl) (λ x k. k) which body op _ bytes (
     row_or hello_fields hello_of 256 hello_exact (λ x. refl) (λ x. refl) (λ x k. k) which body op _ bytes (
     row_or nothing leave_of 261 nothing_exact (λ x. refl) (λ x. refl) (λ x k. k) which body op _ bytes (
     row_or add_fields add_of 262 add_exact (λ x. refl) (λ x. refl) (λ x k. k) which body op _ bytes (
-    no_row which body op))))))))))
+    no_row which body op)))))))))))))
 
 after_ok : {A B : Type 0} (f : A → Result B WireFault) (r : Result A WireFault) (y : B) → after f r ≡ Ok y → (x : A) × (r ≡ Ok x) × (f x ≡ Ok y)
 after_ok f (Ok x) y e = (x, refl, e)

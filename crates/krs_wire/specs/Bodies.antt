@@ -4,7 +4,7 @@ use Rattle.std.specs.Prelude.{ℕ, ℤ, List}
 use Rattle.std.specs.Int.{w16, w32}
 use Rattle.krs_types.specs.declared.caller.Caller.{Caller}
 use Rattle.krs_types.specs.declared.ask.Op.{Op}
-use Rattle.krs_types.specs.declared.ask.Op.TheVariants.{Hello, Add, Update, Revoke, Chown, SetPerm, SetTimeout, Read, Describe, Leave}
+use Rattle.krs_types.specs.declared.ask.Op.TheVariants.{Hello, Add, Update, Revoke, Chown, SetPerm, SetTimeout, Link, Unlink, Clear, Read, Describe, Leave}
 use Rattle.krs_wire.specs.Field.{Field, number, signed, sized, both, counted, nothing}
 
 -- an id of a key: 32 bits, signed
@@ -79,6 +79,22 @@ set_perm_of a = SetPerm a.0 a.1
 abbrev pub set_timeout_of : ℤ × ℕ → Op
 set_timeout_of a = SetTimeout a.0 a.1
 
+-- a key's id, and a keyring's
+abbrev pub link_fields : Field (ℤ × ℤ)
+link_fields = both id_field id_field
+
+abbrev pub link_parts : (key ring : ℤ) → ℤ × ℤ
+link_parts key ring = (key, ring)
+
+abbrev pub link_of : ℤ × ℤ → Op
+link_of a = Link a.0 a.1
+
+abbrev pub unlink_of : ℤ × ℤ → Op
+unlink_of a = Unlink a.0 a.1
+
+abbrev pub clear_of : ℤ → Op
+clear_of id = Clear id
+
 abbrev pub read_of : ℤ → Op
 read_of id = Read id
 
@@ -95,6 +111,9 @@ number_of_op (Revoke id) = 3
 number_of_op (Chown id uid gid) = 4
 number_of_op (SetPerm id mask) = 5
 number_of_op (Describe id) = 6
+number_of_op (Clear id) = 7
+number_of_op (Link key ring) = 8
+number_of_op (Unlink key ring) = 9
 number_of_op (Read id) = 11
 number_of_op (SetTimeout id seconds) = 15
 number_of_op (Hello caller) = 256
@@ -108,6 +127,9 @@ body_of_op (Revoke id) = id_field.spell id
 body_of_op (Chown id uid gid) = chown_fields.spell (chown_parts id uid gid)
 body_of_op (SetPerm id mask) = id_number_fields.spell (id_number_parts id mask)
 body_of_op (Describe id) = id_field.spell id
+body_of_op (Clear id) = id_field.spell id
+body_of_op (Link key ring) = link_fields.spell (link_parts key ring)
+body_of_op (Unlink key ring) = link_fields.spell (link_parts key ring)
 body_of_op (Read id) = id_field.spell id
 body_of_op (SetTimeout id seconds) = id_number_fields.spell (id_number_parts id seconds)
 body_of_op (Hello caller) = hello_fields.spell (hello_parts caller)
@@ -121,6 +143,9 @@ FitsOp (Revoke id) = id_field.Fits id
 FitsOp (Chown id uid gid) = chown_fields.Fits (chown_parts id uid gid)
 FitsOp (SetPerm id mask) = id_number_fields.Fits (id_number_parts id mask)
 FitsOp (Describe id) = id_field.Fits id
+FitsOp (Clear id) = id_field.Fits id
+FitsOp (Link key ring) = link_fields.Fits (link_parts key ring)
+FitsOp (Unlink key ring) = link_fields.Fits (link_parts key ring)
 FitsOp (Read id) = id_field.Fits id
 FitsOp (SetTimeout id seconds) = id_number_fields.Fits (id_number_parts id seconds)
 FitsOp (Hello caller) = hello_fields.Fits (hello_parts caller)

@@ -8,7 +8,7 @@ use Rattle.krs_wire.specs.declared.fault.WireFault.TheVariants.{BadLength, BadVe
 use Rattle.krs_wire.specs.declared.framed.Framed.{Framed}
 use Rattle.krs_wire.specs.Field.{Field, number, both, nothing, whole}
 use Rattle.krs_wire.specs.Faulting.{after, or_bad_body}
-use Rattle.krs_wire.specs.Bodies.{id_field, hello_fields, hello_of, add_fields, add_of, update_fields, update_of, revoke_of, chown_fields, chown_of, id_number_fields, set_perm_of, set_timeout_of, read_of, describe_of, leave_of}
+use Rattle.krs_wire.specs.Bodies.{id_field, hello_fields, hello_of, add_fields, add_of, update_fields, update_of, revoke_of, chown_fields, chown_of, id_number_fields, set_perm_of, set_timeout_of, link_fields, link_of, unlink_of, clear_of, read_of, describe_of, leave_of}
 
 -- what a body says for an operation's number
 unfoldable pub op_of : ℕ → List ℕ → Result Op WireFault
@@ -18,6 +18,9 @@ op_of which body =
     else if which == 4 then or_bad_body (whole chown_fields chown_of body)
     else if which == 5 then or_bad_body (whole id_number_fields set_perm_of body)
     else if which == 6 then or_bad_body (whole id_field describe_of body)
+    else if which == 7 then or_bad_body (whole id_field clear_of body)
+    else if which == 8 then or_bad_body (whole link_fields link_of body)
+    else if which == 9 then or_bad_body (whole link_fields unlink_of body)
     else if which == 11 then or_bad_body (whole id_field read_of body)
     else if which == 15 then or_bad_body (whole id_number_fields set_timeout_of body)
     else if which == 256 then or_bad_body (whole hello_fields hello_of body)

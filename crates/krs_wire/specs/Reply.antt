@@ -4,7 +4,7 @@ use Rattle.std.specs.Int.{w32, to_le_bytes}
 use Rattle.krs_types.specs.declared.ask.Answer.{Answer}
 use Rattle.krs_types.specs.declared.ask.Answer.TheVariants.{Nothing, Number, Bytes}
 use Rattle.krs_types.specs.declared.ask.Op.{Op}
-use Rattle.krs_types.specs.declared.ask.Op.TheVariants.{Hello, Add, Update, Revoke, Chown, SetPerm, SetTimeout, Read, Describe, Leave}
+use Rattle.krs_types.specs.declared.ask.Op.TheVariants.{Hello, Add, Update, Revoke, Chown, SetPerm, SetTimeout, Link, Unlink, Clear, Read, Describe, Leave}
 use Rattle.krs_types.specs.declared.errno.Errno.{Errno}
 use Rattle.krs_types.specs.Errno.{number_of, errnos}
 use Rattle.krs_wire.specs.declared.fault.WireFault.{WireFault}
@@ -40,6 +40,9 @@ shape_of (Revoke id) = shapes.Nothing
 shape_of (Chown id uid gid) = shapes.Nothing
 shape_of (SetPerm id mask) = shapes.Nothing
 shape_of (Describe id) = shapes.Bytes
+shape_of (Clear id) = shapes.Nothing
+shape_of (Link key ring) = shapes.Nothing
+shape_of (Unlink key ring) = shapes.Nothing
 shape_of (Read id) = shapes.Bytes
 shape_of (SetTimeout id seconds) = shapes.Nothing
 shape_of (Hello caller) = shapes.Number

@@ -2,7 +2,7 @@
 ghost use Rattle.std.specs.Prelude.{◌≡◌, ◌<◌, ◌-◌, drop, IfOk, IfSome, length, option_map};
 ghost use Rattle.krs_wire.specs.Field.{whole};
 ghost use Rattle.krs_wire.specs.Faulting.{Gives, or_bad_body};
-ghost use Rattle.krs_wire.specs.Bodies.{add_fields, add_of, chown_fields, chown_of, describe_of, hello_fields, hello_of, id_field, id_number_fields, read_of, revoke_of, set_perm_of, set_timeout_of, update_fields, update_of};
+ghost use Rattle.krs_wire.specs.Bodies.{add_fields, add_of, chown_fields, chown_of, clear_of, describe_of, hello_fields, hello_of, id_field, id_number_fields, link_fields, link_of, read_of, revoke_of, set_perm_of, set_timeout_of, unlink_of, update_fields, update_of};
 ghost use Rattle.krs_wire.specs.Frame.{op_of, framed_of, front_of};
 
 use crate::fields::{blob_at, ended, groups_at, id_at, text_at, u16_at, u32_at};
@@ -77,6 +77,29 @@ fn set_timeout_at(body: &[u8]) -> Result<Op, WireFault>
     ended(Op::SetTimeout { id, seconds }, rest)
 }
 
+fn clear_at(body: &[u8]) -> Result<Op, WireFault>
+    ensures { Gives (λ op. op) result (or_bad_body (whole id_field clear_of body.now)) }
+{
+    let (id, rest) = id_at(body)?;
+    ended(Op::Clear { id }, rest)
+}
+
+fn link_at(body: &[u8]) -> Result<Op, WireFault>
+    ensures { Gives (λ op. op) result (or_bad_body (whole link_fields link_of body.now)) }
+{
+    let (key, rest) = id_at(body)?;
+    let (ring, rest) = id_at(rest)?;
+    ended(Op::Link { key, ring }, rest)
+}
+
+fn unlink_at(body: &[u8]) -> Result<Op, WireFault>
+    ensures { Gives (λ op. op) result (or_bad_body (whole link_fields unlink_of body.now)) }
+{
+    let (key, rest) = id_at(body)?;
+    let (ring, rest) = id_at(rest)?;
+    ended(Op::Unlink { key, ring }, rest)
+}
+
 fn read_at(body: &[u8]) -> Result<Op, WireFault>
     ensures { Gives (λ op. op) result (or_bad_body (whole id_field read_of body.now)) }
 {
@@ -101,6 +124,9 @@ fn op_at(alloc: Global, which: u16, body: &[u8]) -> Result<Op, WireFault>
         4 => chown_at(body),
         5 => set_perm_at(body),
         6 => describe_at(body),
+        7 => clear_at(body),
+        8 => link_at(body),
+        9 => unlink_at(body),
         11 => read_at(body),
         15 => set_timeout_at(body),
         256 => hello_at(alloc, body),

@@ -1,6 +1,6 @@
 ghost use Rattle.std.specs.Prelude.{◌≡◌, ◌≤◌, ◌<◌, ◌^◌, ◌++◌, [], ◌∷◌, length, drop, vec_len, IfOk, IfErr, OnOk};
 ghost use Rattle.std.specs.Int.{w16, w32, to_le_bytes};
-ghost use Rattle.krs_wire.specs.Bodies.{number_of_op, body_of_op, FitsOp, id_field, text_field, blob_field, groups_field, hello_fields, hello_parts, add_fields, add_parts, update_fields, update_parts, chown_fields, chown_parts, id_number_fields, id_number_parts};
+ghost use Rattle.krs_wire.specs.Bodies.{number_of_op, body_of_op, FitsOp, id_field, text_field, blob_field, groups_field, hello_fields, hello_parts, add_fields, add_parts, update_fields, update_parts, chown_fields, chown_parts, id_number_fields, id_number_parts, link_fields, link_parts};
 ghost use Rattle.krs_wire.specs.Frame.{Frames, rest};
 ghost use Rattle.krs_wire.specs.Spelling.{framed, ask_text, ask_frame, IsTooLong};
 
@@ -20,6 +20,9 @@ fn operation_number(op: &Op) -> u16
         Op::Chown { .. } => 4,
         Op::SetPerm { .. } => 5,
         Op::Describe { .. } => 6,
+        Op::Clear { .. } => 7,
+        Op::Link { .. } => 8,
+        Op::Unlink { .. } => 9,
         Op::Read { .. } => 11,
         Op::SetTimeout { .. } => 15,
         Op::Hello(_) => 256,
@@ -152,6 +155,14 @@ fn put_id_number(out: &mut Vec<u8>, id: i32, number: u32) -> Result<(), AllocErr
     put_u32(out, number)
 }
 
+fn put_link(out: &mut Vec<u8>, key: i32, ring: i32) -> Result<(), AllocError>
+    ensures { OnOk result
+        (out.new.items ≡ out.old.items ++ link_fields.spell (link_parts key ring)) }
+{
+    put_id(out, key)?;
+    put_id(out, ring)
+}
+
 fn put_body(out: &mut Vec<u8>, op: &Op) -> Result<(), WireFault>
     ensures ok { OnOk result (out.new.items ≡ out.old.items ++ body_of_op op.now) }
     ensures fits { OnOk result (FitsOp op.now) }
@@ -163,6 +174,9 @@ fn put_body(out: &mut Vec<u8>, op: &Op) -> Result<(), WireFault>
         Op::Chown { id, uid, gid } => put_chown(out, *id, *uid, *gid)?,
         Op::SetPerm { id, mask } => put_id_number(out, *id, *mask)?,
         Op::Describe { id } => put_id(out, *id)?,
+        Op::Clear { id } => put_id(out, *id)?,
+        Op::Link { key, ring } => put_link(out, *key, *ring)?,
+        Op::Unlink { key, ring } => put_link(out, *key, *ring)?,
         Op::Read { id } => put_id(out, *id)?,
         Op::SetTimeout { id, seconds } => put_id_number(out, *id, *seconds)?,
         Op::Hello(caller) => put_hello(out, caller)?,

@@ -21,6 +21,7 @@ impl Shape {
             Op::Read { .. } | Op::Describe { .. } => Shape::Bytes,
             Op::Update { .. } | Op::Revoke { .. } | Op::Chown { .. } => Shape::Nothing,
             Op::SetPerm { .. } | Op::SetTimeout { .. } => Shape::Nothing,
+            Op::Clear { .. } | Op::Link { .. } | Op::Unlink { .. } => Shape::Nothing,
             Op::Leave => Shape::Nothing,
         }
     }

@@ -24,7 +24,14 @@ const CHANGES: [u8; 102] = [
     0x10, 0, 0, 0, 1, 0, 0x0f, 0, 1, 0, 0, 0, 5, 0, 0, 0, 10, 0, 0, 0,
 ];
 
-const STREAMS: [&[u8]; 2] = [&STREAM, &CHANGES];
+// In context 1: LINK of 6 to 5; UNLINK of 5 from -4; CLEAR of 5.
+const KEYRINGS: [u8; 56] = [
+    0x10, 0, 0, 0, 1, 0, 8, 0, 1, 0, 0, 0, 6, 0, 0, 0, 5, 0, 0, 0, //
+    0x10, 0, 0, 0, 1, 0, 9, 0, 1, 0, 0, 0, 5, 0, 0, 0, 0xfc, 0xff, 0xff, 0xff, //
+    0x0c, 0, 0, 0, 1, 0, 7, 0, 1, 0, 0, 0, 5, 0, 0, 0,
+];
+
+const STREAMS: [&[u8]; 3] = [&STREAM, &CHANGES, &KEYRINGS];
 
 fn hello(alloc: Global) -> Op {
     Op::Hello(Caller {
@@ -61,6 +68,14 @@ fn changes(alloc: Global) -> Result<[Op; 5], AllocError> {
     ])
 }
 
+fn keyrings() -> [Op; 3] {
+    [
+        Op::Link { key: 6, ring: 5 },
+        Op::Unlink { key: 5, ring: -4 },
+        Op::Clear { id: 5 },
+    ]
+}
+
 // The frames of these asks, one after the other.
 fn frames_of(alloc: Global, frames: &[Framed], text: &mut Vec<u8>) -> Result<(), WireFault> {
     for framed in frames {
@@ -89,6 +104,12 @@ fn asks_are_spelled(rt: HostRuntime) -> Result<(), Fail> {
         text.extend_from_slice(&encode_ask(rt.alloc(), &ask)?)?;
     }
     assert_eq!(rt; text.as_slice(), CHANGES.as_slice());
+    text.clear();
+    for op in keyrings() {
+        let ask = Ask { context: 1, op };
+        text.extend_from_slice(&encode_ask(rt.alloc(), &ask)?)?;
+    }
+    assert_eq!(rt; text.as_slice(), KEYRINGS.as_slice());
     Ok(())
 }
 
@@ -124,7 +145,7 @@ fn a_byte_at_a_time(rt: HostRuntime) -> Result<(), Fail> {
 
 #[test]
 fn faults_of_asks(rt: HostRuntime) -> Result<(), Fail> {
-    let cases: [(&[u8], WireFault); 11] = [
+    let cases: [(&[u8], WireFault); 14] = [
         (&[7, 0, 0, 0], WireFault::BadLength),
         (&[1, 0, 1, 0], WireFault::BadLength),
         (&[8, 0, 0, 0, 2, 0, 5, 1, 0, 0, 0, 0], WireFault::BadVersion),
@@ -158,6 +179,20 @@ fn faults_of_asks(rt: HostRuntime) -> Result<(), Fail> {
             &[
                 16, 0, 0, 0, 1, 0, 3, 0, 0, 0, 0, 0, 5, 0, 0, 0, 0xe8, 3, 0, 0,
             ],
+            WireFault::BadBody,
+        ),
+        (
+            &[12, 0, 0, 0, 1, 0, 8, 0, 0, 0, 0, 0, 6, 0, 0, 0],
+            WireFault::BadBody,
+        ),
+        (
+            &[
+                17, 0, 0, 0, 1, 0, 9, 0, 0, 0, 0, 0, 6, 0, 0, 0, 5, 0, 0, 0, 0,
+            ],
+            WireFault::BadBody,
+        ),
+        (
+            &[16, 0, 0, 0, 1, 0, 7, 0, 0, 0, 0, 0, 6, 0, 0, 0, 5, 0, 0, 0],
             WireFault::BadBody,
         ),
     ];
@@ -231,6 +266,9 @@ fn replies_are_spelled_and_read(rt: HostRuntime) -> Result<(), Fail> {
     for op in &changes(alloc)? {
         check_reply(&rt, alloc, op, &nothing, &bare)?;
     }
+    for op in &keyrings() {
+        check_reply(&rt, alloc, op, &nothing, &bare)?;
+    }
     check_reply(
         &rt,
         alloc,
@@ -250,7 +288,7 @@ fn replies_are_spelled_and_read(rt: HostRuntime) -> Result<(), Fail> {
 
 #[test]
 fn faults_of_replies(rt: HostRuntime) -> Result<(), Fail> {
-    let cases: [(Op, &[u8], WireFault); 8] = [
+    let cases: [(Op, &[u8], WireFault); 9] = [
         (Op::Leave, &[3, 0, 0, 0], WireFault::BadLength),
         (Op::Leave, &[1, 0, 4, 0], WireFault::BadLength),
         (Op::Leave, &[4, 0, 0, 0, 4, 0, 0, 0], WireFault::BadBody),
@@ -263,6 +301,11 @@ fn faults_of_replies(rt: HostRuntime) -> Result<(), Fail> {
         (
             Op::Revoke { id: 5 },
             &[8, 0, 0, 0, 0, 0, 0, 0, 1, 0, 0, 0],
+            WireFault::BadBody,
+        ),
+        (
+            Op::Link { key: 6, ring: 5 },
+            &[8, 0, 0, 0, 0, 0, 0, 0, 6, 0, 0, 0],
             WireFault::BadBody,
         ),
         (
