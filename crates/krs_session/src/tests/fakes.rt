@@ -217,6 +217,7 @@ impl<R> Keeper<Chair, R> for Table {
             Op::Describe { .. } => Err(Errno::ENOKEY),
             Op::Update { .. } | Op::Revoke { .. } | Op::Chown { .. } => Ok(Answer::Nothing),
             Op::SetPerm { .. } | Op::SetTimeout { .. } => Ok(Answer::Nothing),
+            Op::Link { .. } | Op::Unlink { .. } | Op::Clear { .. } => Ok(Answer::Nothing),
             Op::Leave => {
                 seat.leaves = seat.leaves.wrapping_add(1);
                 Ok(Answer::Nothing)
