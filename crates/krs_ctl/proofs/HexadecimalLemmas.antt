@@ -1,5 +1,5 @@
 -- Hexadecimal numbers.
-use Rattle.std.proofs.Common.{ℕ, zero, suc, ◌≡◌, ◌≢◌, ◌<◌, ◌≤◌, ◌^◌, ◌*◌, ◌∷◌, [], List, Bool, true, false, ◌&&◌, get_or, length, Result, Ok, Err, refl, arith}
+use Rattle.std.proofs.Common.{ℕ, zero, suc, ◌≡◌, ◌≢◌, ◌<◌, ◌≤◌, ◌^◌, ◌∷◌, [], List, Bool, true, false, ◌&&◌, get_or, length, Result, Ok, Err, refl, arith}
 use Rattle.std.proofs.lemmas.Bool.Decides.{nat_tests}
 use Rattle.std.proofs.lemmas.Str.{IsUtf8-from_ascii}
 use Rattle.std.proofs.lemmas.Str.Parse.{without_leading_plus_none}
@@ -9,7 +9,7 @@ use Rattle.std.specs.Char.{is_ascii_hexdigit, digit_value}
 use Rattle.std.specs.List.{list_all}
 use Rattle.std.specs.Result.{OkIff, result_ok}
 use Rattle.std.specs.Str.{IsUtf8}
-use Rattle.std.specs.Str.Parse.{AllDigits, digits_value, without_leading_plus, IsNumeral, ParsesUnsigned}
+use Rattle.std.specs.Str.Parse.{AllDigits, digits_value, IsNumeral, ParsesUnsigned}
 use Rattle.krs_ctl.specs.Number.{hexadecimal_of}
 
 -- a digit is below sixteen, is ASCII, and is no plus

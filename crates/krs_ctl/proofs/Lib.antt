@@ -4,4 +4,5 @@ pub mod WordsLemmas
 pub mod GroupsLemmas
 pub mod LinesLemmas
 pub mod RunningLemmas
+pub mod SerialsLemmas
 pub mod Going

@@ -1,7 +1,6 @@
 -- Lines of a script, one after the other.
 use Rattle.std.proofs.Common.{ℕ, ◌≡◌, ◌⊎◌, inl, inr, List, [], ◌∷◌, ◌++◌, false, Some, Result, Ok, Err, OnOk, IfErr, refl, sym, ap, ◌∙◌, append_assoc, append-nil, ◌==◌, length, map, Bor}
-use Rattle.krs_types.specs.declared.errno.Errno.{Errno}
-use Rattle.krs_types.specs.declared.ask.Answer.{Answer}
+use Rattle.krs_ctl.specs.declared.output.Output.{Output}
 use Rattle.krs_ctl.specs.declared.command.Command.{Command}
 use Rattle.krs_ctl.specs.declared.script.Script.{Script}
 use Rattle.krs_ctl.specs.declared.stop.Stop.{Stop}
@@ -13,28 +12,28 @@ use Rattle.krs_ctl.specs.Printing.{shown}
 use Rattle.krs_ctl.specs.Running.{Acts, is_skipped, TakesLine, TakesLines, ObeysLine}
 
 -- a line that is a command, and was obeyed
-TakesLine-command : (old new : Script) (line : List ℕ) (command : Command) (reply : Result Answer Errno)
+TakesLine-command : (old new : Script) (line : List ℕ) (command : Command) (output : Output)
     → is_skipped line ≡ false
-    → command_of (words_of line) ≡ Some command → Acts old command reply new
-    → TakesLine old line (shown reply ++ 10 ∷ []) new
-TakesLine-command old new line command reply kept is acts = rw kept (command, reply, is, acts, refl)
+    → command_of (words_of line) ≡ Some command → Acts old command output new
+    → TakesLine old line (shown output ++ 10 ∷ []) new
+TakesLine-command old new line command output kept is acts = rw kept (command, output, is, acts, refl)
 
 -- what became of such a line, by how its line was printed
-pub ObeysLine-command : (old new : Script) (line : List ℕ) (command : Command) (reply : Result Answer Errno)
+pub ObeysLine-command : (old new : Script) (line : List ℕ) (command : Command) (output : Output)
     (Printed : List ℕ → Type 0) (r : Result (Unit {0}) Stop)
-    → is_skipped line ≡ false → command_of (words_of line) ≡ Some command → Acts old command reply new
-    → OnOk r (Printed (shown reply ++ 10 ∷ [])) → (r ≡ Err Memory → Printed [])
+    → is_skipped line ≡ false → command_of (words_of line) ≡ Some command → Acts old command output new
+    → OnOk r (Printed (shown output ++ 10 ∷ [])) → (r ≡ Err Memory → Printed [])
     → IfErr r (λ stop. (stop ≡ Memory) ⊎ (stop ≡ Printing))
     → ObeysLine old line new Printed r
-ObeysLine-command old new line command reply Printed (Ok _) kept is acts ok memory causes =
-    (shown reply ++ 10 ∷ [], TakesLine-command old new line command reply kept is acts, ok)
-ObeysLine-command old new line command reply Printed (Err Memory) kept is acts ok memory causes =
-    (inr (shown reply ++ 10 ∷ [], TakesLine-command old new line command reply kept is acts), memory refl)
-ObeysLine-command old new line command reply Printed (Err Printing) kept is acts ok memory causes =
-    (shown reply ++ 10 ∷ [], TakesLine-command old new line command reply kept is acts)
-ObeysLine-command old new line command reply Printed (Err Usage) kept is acts ok memory causes =
+ObeysLine-command old new line command output Printed (Ok _) kept is acts ok memory causes =
+    (shown output ++ 10 ∷ [], TakesLine-command old new line command output kept is acts, ok)
+ObeysLine-command old new line command output Printed (Err Memory) kept is acts ok memory causes =
+    (inr (shown output ++ 10 ∷ [], TakesLine-command old new line command output kept is acts), memory refl)
+ObeysLine-command old new line command output Printed (Err Printing) kept is acts ok memory causes =
+    (shown output ++ 10 ∷ [], TakesLine-command old new line command output kept is acts)
+ObeysLine-command old new line command output Printed (Err Usage) kept is acts ok memory causes =
     absurd (elim causes [ inl e ↦ cc | inr e ↦ cc ])
-ObeysLine-command old new line command reply Printed (Err Reading) kept is acts ok memory causes =
+ObeysLine-command old new line command output Printed (Err Reading) kept is acts ok memory causes =
     absurd (elim causes [ inl e ↦ cc | inr e ↦ cc ])
 
 -- a line that is no comment and has words

@@ -2,7 +2,7 @@
 use Rattle.std.specs.Prelude.{ℕ, List, [], ◌∷◌, find, bytes_eq, codes, Option, None, Some}
 use Rattle.krs_types.specs.declared.ask.Op.TheVariants as op
 use Rattle.krs_ctl.specs.declared.command.CommandName.{CommandName}
-use Rattle.krs_ctl.specs.declared.command.CommandName.TheVariants.{Hello, Context, Moment, Add, Update, Print, Rdescribe, Revoke, Chown, Chgrp, SetPerm, Timeout, Leave}
+use Rattle.krs_ctl.specs.declared.command.CommandName.TheVariants.{Hello, Context, Moment, Add, Newring, Update, Print, Rlist, Rdescribe, Revoke, Clear, Chown, Chgrp, SetPerm, Timeout, Link, Unlink, Leave}
 use Rattle.krs_ctl.specs.declared.command.Command.{Command}
 use Rattle.krs_ctl.specs.declared.command.Command.TheVariants as command
 use Rattle.krs_ctl.specs.Parsed.{◌>>=◌}
@@ -14,21 +14,26 @@ spelling Hello = codes "hello"
 spelling Context = codes "context"
 spelling Moment = codes "moment"
 spelling Add = codes "add"
+spelling Newring = codes "newring"
 spelling Update = codes "update"
 spelling Print = codes "print"
+spelling Rlist = codes "rlist"
 spelling Rdescribe = codes "rdescribe"
 spelling Revoke = codes "revoke"
+spelling Clear = codes "clear"
 spelling Chown = codes "chown"
 spelling Chgrp = codes "chgrp"
 spelling SetPerm = codes "setperm"
 spelling Timeout = codes "timeout"
+spelling Link = codes "link"
+spelling Unlink = codes "unlink"
 spelling Leave = codes "leave"
 
 -- all commands that are built
 abbrev pub command_names : List CommandName
 command_names =
-    Hello ∷ Context ∷ Moment ∷ Add ∷ Update ∷ Print ∷ Rdescribe ∷ Revoke ∷ Chown ∷ Chgrp ∷ SetPerm ∷ Timeout ∷ Leave
-    ∷ []
+    Hello ∷ Context ∷ Moment ∷ Add ∷ Newring ∷ Update ∷ Print ∷ Rlist ∷ Rdescribe ∷ Revoke ∷ Clear ∷ Chown ∷ Chgrp ∷ SetPerm
+    ∷ Timeout ∷ Link ∷ Unlink ∷ Leave ∷ []
 
 -- the command of a first word
 abbrev pub name_of_word : List ℕ → Option CommandName
@@ -65,6 +70,13 @@ add_of (type_name ∷ (desc ∷ (payload ∷ (ring ∷ [])))) = do
   Some (command.Ask (op.Add type_name desc bytes id))
 add_of _ = None
 
+-- `newring DESC RING`: a keyring is made without bytes
+abbrev pub newring_of : List (List ℕ) → Option Command
+newring_of (desc ∷ (ring ∷ [])) = do
+  id ← key_of ring
+  Some (command.Ask (op.Add (codes "keyring") desc [] id))
+newring_of _ = None
+
 -- `update KEY DATA`
 abbrev pub update_of : List (List ℕ) → Option Command
 update_of (key ∷ (payload ∷ [])) = do
@@ -80,6 +92,13 @@ print_of (key ∷ []) = do
   Some (command.Ask (op.Read id))
 print_of _ = None
 
+-- `rlist KEY`
+abbrev pub rlist_of : List (List ℕ) → Option Command
+rlist_of (key ∷ []) = do
+  id ← key_of key
+  Some (command.Rlist id)
+rlist_of _ = None
+
 -- `rdescribe KEY`
 abbrev pub rdescribe_of : List (List ℕ) → Option Command
 rdescribe_of (key ∷ []) = do
@@ -93,6 +112,13 @@ revoke_of (key ∷ []) = do
   id ← key_of key
   Some (command.Ask (op.Revoke id))
 revoke_of _ = None
+
+-- `clear RING`
+abbrev pub clear_of : List (List ℕ) → Option Command
+clear_of (ring ∷ []) = do
+  id ← key_of ring
+  Some (command.Ask (op.Clear id))
+clear_of _ = None
 
 -- a uid or gid that leaves what is there: keyctl(2), KEYCTL_CHOWN
 abbrev pub left_as_it_is : ℕ
@@ -130,6 +156,22 @@ timeout_of (key ∷ (seconds ∷ [])) = do
   Some (command.Ask (op.SetTimeout id s))
 timeout_of _ = None
 
+-- `link KEY RING`
+abbrev pub link_of : List (List ℕ) → Option Command
+link_of (key ∷ (ring ∷ [])) = do
+  id ← key_of key
+  into ← key_of ring
+  Some (command.Ask (op.Link id into))
+link_of _ = None
+
+-- `unlink KEY RING`
+abbrev pub unlink_of : List (List ℕ) → Option Command
+unlink_of (key ∷ (ring ∷ [])) = do
+  id ← key_of key
+  from ← key_of ring
+  Some (command.Ask (op.Unlink id from))
+unlink_of _ = None
+
 -- `leave`
 abbrev pub leave_of : List (List ℕ) → Option Command
 leave_of [] = Some (command.Ask op.Leave)
@@ -141,14 +183,19 @@ row_of Hello args = hello_of args
 row_of Context args = context_of args
 row_of Moment args = moment_of args
 row_of Add args = add_of args
+row_of Newring args = newring_of args
 row_of Update args = update_of args
 row_of Print args = print_of args
+row_of Rlist args = rlist_of args
 row_of Rdescribe args = rdescribe_of args
 row_of Revoke args = revoke_of args
+row_of Clear args = clear_of args
 row_of Chown args = chown_of args
 row_of Chgrp args = chgrp_of args
 row_of SetPerm args = setperm_of args
 row_of Timeout args = timeout_of args
+row_of Link args = link_of args
+row_of Unlink args = unlink_of args
 row_of Leave args = leave_of args
 
 -- the command that a line's words are: none where they are no command, or more or less than it takes

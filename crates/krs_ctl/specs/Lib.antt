@@ -4,6 +4,7 @@ pub mod Parsed
 pub mod Number
 pub mod Command
 pub mod Printing
+pub mod Listing
 pub mod Script
 pub mod Writing
 pub mod Running

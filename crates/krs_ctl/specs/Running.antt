@@ -1,16 +1,19 @@
 -- What a script does to its store and what it prints: docs/FORMAT.md, "Lines and words", "Commands" and "Statuses".
-use Rattle.std.specs.Prelude.{ℕ, ◌≡◌, ◌≢◌, ◌⊎◌, ◌==◌, ◌||◌, List, [], ◌∷◌, ◌++◌, Bool, false, length, ⊤, MatchBool, IfSome, Option, Some, None, Result, Ok, Err}
+use Rattle.std.specs.Prelude.{ℕ, ℤ, ◌≡◌, ◌≢◌, ◌⊎◌, ◌==◌, ◌||◌, List, [], ◌∷◌, ◌++◌, Bool, false, length, ⊤, MatchBool, IfSome, Option, Some, None, Result, Ok, Err}
 use Rattle.std.specs.Result.{is_err}
 use Rattle.std.specs.Io.KnownBytes.{Appends}
 use Rattle.krs_types.specs.declared.errno.Errno.{Errno}
 use Rattle.krs_types.specs.declared.ask.Op.{Op}
+use Rattle.krs_types.specs.declared.ask.Op.TheVariants as op
 use Rattle.krs_types.specs.declared.ask.Answer.{Answer}
-use Rattle.krs_types.specs.declared.ask.Answer.TheVariants.{Nothing}
+use Rattle.krs_types.specs.declared.ask.Answer.TheVariants.{Nothing, Number, Bytes}
 use Rattle.krs_model.specs.State.{State}
 use Rattle.krs_model.specs.Step.{Step}
 use Rattle.krs_store.specs.Told.{event_of}
 use Rattle.krs_ctl.specs.declared.command.Command.{Command}
-use Rattle.krs_ctl.specs.declared.command.Command.TheVariants.{Context, Moment, Ask}
+use Rattle.krs_ctl.specs.declared.command.Command.TheVariants.{Context, Moment, Ask, Rlist}
+use Rattle.krs_ctl.specs.declared.output.Output.{Output}
+use Rattle.krs_ctl.specs.declared.output.Output.TheVariants.{Reply}
 use Rattle.krs_ctl.specs.declared.script.Script.{Script}
 use Rattle.krs_ctl.specs.declared.script.ScriptEnd.{ScriptEnd}
 use Rattle.krs_ctl.specs.declared.stop.Stop.{Stop}
@@ -19,21 +22,40 @@ use Rattle.krs_ctl.specs.Words.{words_of, is_comment}
 use Rattle.krs_ctl.specs.Lines.{lines_of}
 use Rattle.krs_ctl.specs.Command.{command_of}
 use Rattle.krs_ctl.specs.Printing.{shown}
+use Rattle.krs_ctl.specs.Listing.{listing}
 use Rattle.krs_ctl.specs.Script.{context_after, status_of, last_line}
 
--- the store served the ask, in the current context, at the current moment, as client 0; an accepted `hello` names the
--- current context; a refusal is remembered
-pub record Asks (old : Script) (op : Op) (reply : Result Answer Errno) (new : Script) : Type 0 where
-  pub served : Step old.store (event_of 0 old.moment (record { context = old.context; op = op }) reply) new.store
-  pub context : new.context ≡ context_after old.context op reply
+-- the store served the ask, in the current context, at the current moment, as client 0
+abbrev pub Serves : Script → Op → Result Answer Errno → State → Type 0
+Serves old asked reply store =
+    Step old.store (event_of 0 old.moment (record { context = old.context; op = asked }) reply) store
+
+-- an ask whose reply is shown: an accepted `hello` names the current context; a refusal is remembered
+pub record Asks (old : Script) (asked : Op) (reply : Result Answer Errno) (new : Script) : Type 0 where
+  pub served : Serves old asked reply new.store
+  pub context : new.context ≡ context_after old.context asked reply
   pub moment : new.moment ≡ old.moment
   pub refused : new.refused ≡ (old.refused || is_err reply)
 
--- what a command does; `context` and `moment` ask nothing, and their line is that of an answer without a value
-abbrev pub Acts : Script → Command → Result Answer Errno → Script → Type 0
-Acts old (Context n) reply new = (reply ≡ Ok Nothing) × (new ≡ record old { context = n })
-Acts old (Moment n) reply new = (reply ≡ Ok Nothing) × (new ≡ record old { moment = n })
-Acts old (Ask op) reply new = Asks old op reply new
+-- an ask whose reply is not shown: the store is all that it changes
+abbrev pub AsksUnseen : Script → Op → Result Answer Errno → Script → Type 0
+AsksUnseen old asked reply new = Serves old asked reply new.store × (new ≡ record old { store = new.store })
+
+-- what follows a READ: where it was accepted, DESCRIBE, unseen, which tells how the bytes are shown
+abbrev pub ListsBy : Script → ℤ → Result Answer Errno → Output → Script → Type 0
+ListsBy old id (Ok (Bytes bytes)) output new =
+    (described : Result Answer Errno) × AsksUnseen old (op.Describe id) described new × (output ≡ listing bytes described)
+ListsBy old id (Ok Nothing) output new = (output ≡ Reply (Ok Nothing)) × (new ≡ old)
+ListsBy old id (Ok (Number n)) output new = (output ≡ Reply (Ok (Number n))) × (new ≡ old)
+ListsBy old id (Err e) output new = (output ≡ Reply (Err e)) × (new ≡ old)
+
+-- what a command does and comes to; `context` and `moment` ask nothing, and their line is that of an answer without a value
+abbrev pub Acts : Script → Command → Output → Script → Type 0
+Acts old (Context n) output new = (output ≡ Reply (Ok Nothing)) × (new ≡ record old { context = n })
+Acts old (Moment n) output new = (output ≡ Reply (Ok Nothing)) × (new ≡ record old { moment = n })
+Acts old (Ask asked) output new = (reply : Result Answer Errno) × (output ≡ Reply reply) × Asks old asked reply new
+Acts old (Rlist id) output new =
+    (reply : Result Answer Errno) × (mid : Script) × Asks old (op.Read id) reply mid × ListsBy mid id reply output new
 
 -- comments and lines without words are skipped
 abbrev pub is_skipped : List ℕ → Bool
@@ -43,8 +65,8 @@ is_skipped line = is_comment line || (length (words_of line) == 0)
 abbrev pub TakesLine : Script → List ℕ → List ℕ → Script → Type 0
 TakesLine old line text new = MatchBool (is_skipped line)
     ((new ≡ old) × (text ≡ []))
-    ((command : Command) × (reply : Result Answer Errno) × (command_of (words_of line) ≡ Some command)
-    × Acts old command reply new × (text ≡ shown reply ++ 10 ∷ []))
+    ((command : Command) × (output : Output) × (command_of (words_of line) ≡ Some command)
+    × Acts old command output new × (text ≡ shown output ++ 10 ∷ []))
 
 -- lines one after the other, and all that they print
 abbrev pub TakesLines : Script → List (List ℕ) → List ℕ → Script → Type 0

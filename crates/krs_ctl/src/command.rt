@@ -1,5 +1,5 @@
 ghost use Rattle.std.specs.Prelude.{◌≡◌, map};
-ghost use Rattle.krs_ctl.specs.Command.{spelling, name_of_word, hello_of, context_of, moment_of, add_of, update_of, print_of, rdescribe_of, revoke_of, chown_of, chgrp_of, setperm_of, timeout_of, leave_of, command_of};
+ghost use Rattle.krs_ctl.specs.Command.{spelling, name_of_word, hello_of, context_of, moment_of, add_of, newring_of, update_of, print_of, rlist_of, rdescribe_of, revoke_of, clear_of, chown_of, chgrp_of, setperm_of, timeout_of, link_of, unlink_of, leave_of, command_of};
 ghost use Rattle.krs_ctl.specs.Parsed.{Reads};
 
 use crate::no_command::NoCommand;
@@ -19,6 +19,8 @@ pub enum Command {
     Moment(u64),
     /// An ask, whose reply is printed.
     Ask(Op),
+    /// The payload of the key, or the serials that it links where it is a keyring.
+    Rlist(i32),
 }
 
 /// The first word of a command.
@@ -28,30 +30,40 @@ pub enum CommandName {
     Context,
     Moment,
     Add,
+    Newring,
     Update,
     Print,
+    Rlist,
     Rdescribe,
     Revoke,
+    Clear,
     Chown,
     Chgrp,
     SetPerm,
     Timeout,
+    Link,
+    Unlink,
     Leave,
 }
 
-const COMMAND_NAMES: [CommandName; 13] = [
+const COMMAND_NAMES: [CommandName; 18] = [
     CommandName::Hello,
     CommandName::Context,
     CommandName::Moment,
     CommandName::Add,
+    CommandName::Newring,
     CommandName::Update,
     CommandName::Print,
+    CommandName::Rlist,
     CommandName::Rdescribe,
     CommandName::Revoke,
+    CommandName::Clear,
     CommandName::Chown,
     CommandName::Chgrp,
     CommandName::SetPerm,
     CommandName::Timeout,
+    CommandName::Link,
+    CommandName::Unlink,
     CommandName::Leave,
 ];
 
@@ -65,14 +77,19 @@ impl CommandName {
             CommandName::Context => "context",
             CommandName::Moment => "moment",
             CommandName::Add => "add",
+            CommandName::Newring => "newring",
             CommandName::Update => "update",
             CommandName::Print => "print",
+            CommandName::Rlist => "rlist",
             CommandName::Rdescribe => "rdescribe",
             CommandName::Revoke => "revoke",
+            CommandName::Clear => "clear",
             CommandName::Chown => "chown",
             CommandName::Chgrp => "chgrp",
             CommandName::SetPerm => "setperm",
             CommandName::Timeout => "timeout",
+            CommandName::Link => "link",
+            CommandName::Unlink => "unlink",
             CommandName::Leave => "leave",
         }
     }
@@ -100,14 +117,19 @@ pub fn parse(alloc: Global, words: &[&[u8]]) -> Result<Command, NoCommand>
         CommandName::Context => context(args),
         CommandName::Moment => moment(args),
         CommandName::Add => add(alloc, args),
+        CommandName::Newring => newring(alloc, args),
         CommandName::Update => update(alloc, args),
         CommandName::Print => print(args),
+        CommandName::Rlist => rlist(args),
         CommandName::Rdescribe => rdescribe(args),
         CommandName::Revoke => revoke(args),
+        CommandName::Clear => clear(args),
         CommandName::Chown => chown(args),
         CommandName::Chgrp => chgrp(args),
         CommandName::SetPerm => setperm(args),
         CommandName::Timeout => timeout(args),
+        CommandName::Link => link(args),
+        CommandName::Unlink => unlink(args),
         CommandName::Leave => leave(args),
     }
 }
@@ -158,6 +180,21 @@ fn add(alloc: Global, args: &[&[u8]]) -> Result<Command, NoCommand>
     }))
 }
 
+fn newring(alloc: Global, args: &[&[u8]]) -> Result<Command, NoCommand>
+    ensures { Reads result (newring_of (map (λ w. w.now) args.now)) }
+{
+    let [desc, ring] = args else {
+        return Err(NoCommand::Usage);
+    };
+    let ring = key_word(ring).ok_or(NoCommand::Usage)?;
+    Ok(Command::Ask(Op::Add {
+        type_name: Blob::from_slice(alloc, b"keyring")?,
+        desc: Blob::from_slice(alloc, desc)?,
+        payload: Blob::from_slice(alloc, b"")?,
+        ring,
+    }))
+}
+
 fn update(alloc: Global, args: &[&[u8]]) -> Result<Command, NoCommand>
     ensures { Reads result (update_of (map (λ w. w.now) args.now)) }
 {
@@ -179,6 +216,16 @@ fn print(args: &[&[u8]]) -> Result<Command, NoCommand>
     Ok(Command::Ask(Op::Read { id }))
 }
 
+fn rlist(args: &[&[u8]]) -> Result<Command, NoCommand>
+    ensures { Reads result (rlist_of (map (λ w. w.now) args.now)) }
+{
+    let [key] = args else {
+        return Err(NoCommand::Usage);
+    };
+    let id = key_word(key).ok_or(NoCommand::Usage)?;
+    Ok(Command::Rlist(id))
+}
+
 fn rdescribe(args: &[&[u8]]) -> Result<Command, NoCommand>
     ensures { Reads result (rdescribe_of (map (λ w. w.now) args.now)) }
 {
@@ -197,6 +244,16 @@ fn revoke(args: &[&[u8]]) -> Result<Command, NoCommand>
     };
     let id = key_word(key).ok_or(NoCommand::Usage)?;
     Ok(Command::Ask(Op::Revoke { id }))
+}
+
+fn clear(args: &[&[u8]]) -> Result<Command, NoCommand>
+    ensures { Reads result (clear_of (map (λ w. w.now) args.now)) }
+{
+    let [ring] = args else {
+        return Err(NoCommand::Usage);
+    };
+    let id = key_word(ring).ok_or(NoCommand::Usage)?;
+    Ok(Command::Ask(Op::Clear { id }))
 }
 
 fn chown(args: &[&[u8]]) -> Result<Command, NoCommand>
@@ -243,6 +300,28 @@ fn timeout(args: &[&[u8]]) -> Result<Command, NoCommand>
     let id = key_word(key).ok_or(NoCommand::Usage)?;
     let seconds = u32_word(seconds).ok_or(NoCommand::Usage)?;
     Ok(Command::Ask(Op::SetTimeout { id, seconds }))
+}
+
+fn link(args: &[&[u8]]) -> Result<Command, NoCommand>
+    ensures { Reads result (link_of (map (λ w. w.now) args.now)) }
+{
+    let [key, ring] = args else {
+        return Err(NoCommand::Usage);
+    };
+    let key = key_word(key).ok_or(NoCommand::Usage)?;
+    let ring = key_word(ring).ok_or(NoCommand::Usage)?;
+    Ok(Command::Ask(Op::Link { key, ring }))
+}
+
+fn unlink(args: &[&[u8]]) -> Result<Command, NoCommand>
+    ensures { Reads result (unlink_of (map (λ w. w.now) args.now)) }
+{
+    let [key, ring] = args else {
+        return Err(NoCommand::Usage);
+    };
+    let key = key_word(key).ok_or(NoCommand::Usage)?;
+    let ring = key_word(ring).ok_or(NoCommand::Usage)?;
+    Ok(Command::Ask(Op::Unlink { key, ring }))
 }
 
 fn leave(args: &[&[u8]]) -> Result<Command, NoCommand>

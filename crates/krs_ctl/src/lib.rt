@@ -4,8 +4,10 @@
 
 mod command;
 mod lines;
+mod listing;
 mod no_command;
 mod number;
+mod output;
 mod printing;
 mod program;
 mod script;

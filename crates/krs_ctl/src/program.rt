@@ -24,14 +24,19 @@ Commands of a script, with what an accepted one prints:
   context N                     makes another context the current one: ok
   moment N                      sets the time in seconds of the lines that follow: ok
   add TYPE DESC DATA RING       a key in a keyring, new or with a new payload: its serial
+  newring DESC RING             a new keyring in a keyring: its serial
   update KEY DATA               another payload for a key: ok
   print KEY                     the payload of a key
+  rlist KEY                     the serials that a keyring links, or the payload of another key
   rdescribe KEY                 a key as text: type;uid;gid;perm;description
   revoke KEY                    ends a key for good: ok
+  clear RING                    takes all links out of a keyring: ok
   chown KEY UID                 another owner of a key: ok
   chgrp KEY GID                 another group of a key: ok
   setperm KEY MASK              another permission mask of a key, in hexadecimal: ok
   timeout KEY SECONDS           when a key's time is over, in seconds from now, never for 0: ok
+  link KEY RING                 one more link in a keyring: ok
+  unlink KEY RING               one link less in a keyring: ok
   leave                         ends all contexts: ok
 
 KEY and RING are a serial, or @t, @p, @s, @u, @us for the thread, process, session, user and user-session

@@ -4,9 +4,11 @@ ghost use Rattle.krs_ctl.specs.Writing.{Prints};
 
 use crate::command::{Command, parse};
 use crate::lines::{has_line_at_hand, read_line};
+use crate::listing::listing;
+use crate::output::Output;
 use crate::stop::Stop;
 use crate::words::{is_comment, words};
-use crate::writing::{finish, print_reply, write_out};
+use crate::writing::{finish, print_output, write_out};
 use krs_store::Store;
 use krs_types::{Answer, Ask, Op, Reply};
 use std::alloc::Global;
@@ -83,7 +85,7 @@ struct Script {
 impl Script {
     ghost use Rattle.std.specs.Prelude.{◌≡◌};
     ghost use Rattle.std.specs.Io.Buffered.{reader_remaining};
-    ghost use Rattle.krs_ctl.specs.Running.{Acts, Asks, ObeysLine, Runs};
+    ghost use Rattle.krs_ctl.specs.Running.{Acts, Asks, ListsBy, ObeysLine, Runs, Serves};
     ghost use Rattle.krs_ctl.specs.Writing.{Prints};
 
     fn run<R: Read + Drop, W: Write>(
@@ -142,23 +144,42 @@ impl Script {
             return Ok(());
         }
         let command = parse(alloc, words.as_slice())?;
-        let reply = self.act(command);
-        print_reply(alloc, writer, pending, &reply)
+        let output = self.act(command);
+        print_output(alloc, writer, pending, &output)
     }
 
-    fn act(&mut self, command: Command) -> Reply
+    fn act(&mut self, command: Command) -> Output
         ensures { Acts self.old command result self.new }
     {
         match command {
             Command::Context(context) => {
                 self.context = context;
-                Ok(Answer::Nothing)
+                Output::Reply(Ok(Answer::Nothing))
             }
             Command::Moment(moment) => {
                 self.moment = moment;
-                Ok(Answer::Nothing)
+                Output::Reply(Ok(Answer::Nothing))
             }
-            Command::Ask(op) => self.ask(op),
+            Command::Ask(op) => Output::Reply(self.ask(op)),
+            Command::Rlist(id) => {
+                let reply = self.ask(Op::Read { id });
+                self.list(id, reply)
+            }
+        }
+    }
+
+    /// What a READ of this key comes to in a list. DESCRIBE tells whether the bytes are serials, and its refusal does not
+    /// count as one of the script.
+    fn list(&mut self, id: i32, reply: Reply) -> Output
+        ensures { ListsBy self.old id reply result self.new }
+    {
+        match reply {
+            Ok(Answer::Bytes(bytes)) => {
+                let described = self.serve(Op::Describe { id });
+                listing(bytes, &described)
+            }
+            Ok(answer) => Output::Reply(Ok(answer)),
+            Err(error) => Output::Reply(Err(error)),
         }
     }
 
@@ -166,15 +187,22 @@ impl Script {
         ensures { Asks self.old op result self.new }
     {
         let is_hello = matches!(op, Op::Hello(_));
-        let ask = Ask {
-            context: self.context,
-            op,
-        };
-        let reply = self.store.apply(CLIENT, self.moment, ask);
+        let reply = self.serve(op);
         if let (true, Ok(Answer::Number(context))) = (is_hello, &reply) {
             self.context = *context;
         }
         self.refused |= reply.is_err();
         reply
+    }
+
+    fn serve(&mut self, op: Op) -> Reply
+        ensures served { Serves self.old op result self.new.store }
+        ensures stays { self.new ≡ record self.old { store = self.new.store } }
+    {
+        let ask = Ask {
+            context: self.context,
+            op,
+        };
+        self.store.apply(CLIENT, self.moment, ask)
     }
 }

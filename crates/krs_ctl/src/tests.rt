@@ -8,6 +8,7 @@ use std::io::{ErrorKind, Read, Write};
 use std::test::Fail;
 
 mod changes;
+mod keyrings;
 
 const ALPHA: &str = "hello 1000 1000\nadd user alpha s3 @u\nprint 5\nrdescribe 5\n";
 
@@ -33,7 +34,7 @@ const SCRIPTS: [(&str, &str, u8); 12] = [
 
 /// Lines that are no command, or not the words that it takes.
 #[rattlefmt::skip]
-const FAULTS: [&str; 71] = [
+const FAULTS: [&str; 91] = [
     "prin 5", "printx 5", "Print 5", "print", "print 5 6", "print x", "print 5x", "print -1", "print +5", "print 0x5",
     "print 2147483648", "print @x", "print @", "print @us5", "print 5\r", "print\t5",
     "hello", "hello 1000", "hello 1000 x", "hello 4294967296 0", "hello 0 0 1 -2",
@@ -48,12 +49,28 @@ const FAULTS: [&str; 71] = [
     "setperm", "setperm 5", "setperm 5 1 2", "setperm 5 3f0100010", "setperm 5 000000001", "setperm 5 0x1",
     "setperm 5 +1", "setperm 5 -1", "setperm 5 3g",
     "timeout", "timeout 5", "timeout 5 1 2", "timeout 5 4294967296", "timeout 5 a",
+    "newring", "newring a", "newring a @u 5", "newring a x", "rlist", "rlist 5 6", "rlist x", "rlist -4",
+    "clear", "clear 5 6", "clear x", "Clear 5",
+    "link", "link 5", "link 5 6 7", "link 5 x", "unlink", "unlink 5", "unlink x 5", "unlink 5 6 7",
 ];
 
 fn script(alloc: Global, input: &str) -> Result<(String, u8), Fail> {
     let mut output = Vec::new(alloc);
     let end = run_script(alloc, input.as_bytes(), &mut output, Store::new(alloc));
     Ok((String::from_utf8(output)?, end.status))
+}
+
+/// The lines of a script, and what they print, each with its newline.
+fn texts(alloc: Global, rows: &[(&str, &str)]) -> Result<(String, String), Fail> {
+    let mut input = String::new(alloc);
+    let mut wanted = String::new(alloc);
+    for (line, printed) in rows {
+        input.push_str(line)?;
+        input.push('\n')?;
+        wanted.push_str(printed)?;
+        wanted.push('\n')?;
+    }
+    Ok((input, wanted))
 }
 
 #[test]

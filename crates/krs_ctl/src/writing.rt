@@ -3,9 +3,9 @@ ghost use Rattle.std.specs.Io.KnownBytes.{Appends};
 ghost use Rattle.krs_ctl.specs.Printing.{shown};
 ghost use Rattle.krs_ctl.specs.Writing.{Prints, Finishes};
 
-use crate::printing::reply_line;
+use crate::output::Output;
+use crate::printing::output_line;
 use crate::stop::Stop;
-use krs_types::Reply;
 use std::alloc::Global;
 use std::io::Write;
 
@@ -18,20 +18,20 @@ pub const OUT_OF_MEMORY: &str = "error 12 ENOMEM\n";
 /// How much waits to be written before it is written in any case.
 const MOST_PENDING: usize = 65_536;
 
-/// Prints the line of a reply, which waits in `pending` to be written.
-pub fn print_reply<W: Write>(
+/// Prints the line of what a command came to, which waits in `pending` to be written.
+pub fn print_output<W: Write>(
     alloc: Global,
     writer: &mut W,
     pending: &mut Vec<u8>,
-    reply: &Reply,
+    output: &Output,
 ) -> Result<(), Stop>
     ensures ok { OnOk result (Prints (W.contents writer.old) pending.old.items
-        (W.contents writer.new) pending.new.items (shown reply.now ++ 10 ∷ [])) }
+        (W.contents writer.new) pending.new.items (shown output.now ++ 10 ∷ [])) }
     ensures memory { result ≡ Err Stop.Memory → Prints (W.contents writer.old) pending.old.items
         (W.contents writer.new) pending.new.items [] }
     ensures causes { IfErr result (λ stop. (stop ≡ Stop.Memory) ⊎ (stop ≡ Stop.Printing)) }
 {
-    let line = reply_line(alloc, reply)?;
+    let line = output_line(alloc, output)?;
     pending.extend_from_slice(line.as_slice())?;
     if pending.len() < MOST_PENDING {
         return Ok(());

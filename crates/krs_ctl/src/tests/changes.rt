@@ -1,6 +1,5 @@
 //! Scripts whose keys are changed, a line and what it prints in each row.
-use super::script;
-use std::alloc::Global;
+use super::{script, texts};
 use std::test::Fail;
 
 /// A key's time ends, and moments never go back.
@@ -96,19 +95,6 @@ const SCRIPTS: [&[(&str, &str)]; 5] = [
     &TIMEOUTS_OWNERS_MASKS,
     &OWNERS_BY_ROOT,
 ];
-
-/// The lines of a script, and what they print, each with its newline.
-fn texts(alloc: Global, rows: &[(&str, &str)]) -> Result<(String, String), Fail> {
-    let mut input = String::new(alloc);
-    let mut wanted = String::new(alloc);
-    for (line, printed) in rows {
-        input.push_str(line)?;
-        input.push('\n')?;
-        wanted.push_str(printed)?;
-        wanted.push('\n')?;
-    }
-    Ok((input, wanted))
-}
 
 #[test]
 fn keys_are_changed(rt: HostRuntime) -> Result<(), Fail> {
