@@ -5,4 +5,5 @@ pub mod GroupsLemmas
 pub mod LinesLemmas
 pub mod RunningLemmas
 pub mod SerialsLemmas
+pub mod ListingLemmas
 pub mod Going

@@ -32,8 +32,8 @@ spelling Leave = codes "leave"
 -- all commands that are built
 abbrev pub command_names : List CommandName
 command_names =
-    Hello ∷ Context ∷ Moment ∷ Add ∷ Newring ∷ Update ∷ Print ∷ Rlist ∷ Rdescribe ∷ Revoke ∷ Clear ∷ Chown ∷ Chgrp ∷ SetPerm
-    ∷ Timeout ∷ Link ∷ Unlink ∷ Leave ∷ []
+    Hello ∷ Context ∷ Moment ∷ Add ∷ Newring ∷ Update ∷ Print ∷ Rlist ∷ Rdescribe ∷ Revoke ∷ Clear ∷ Chown ∷ Chgrp
+    ∷ SetPerm ∷ Timeout ∷ Link ∷ Unlink ∷ Leave ∷ []
 
 -- the command of a first word
 abbrev pub name_of_word : List ℕ → Option CommandName

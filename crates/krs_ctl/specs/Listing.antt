@@ -1,11 +1,15 @@
 -- How the bytes of a key are listed: docs/FORMAT.md, "What is printed"; profile, hidden describe.
-use Rattle.std.specs.Prelude.{ℕ, ◌==◌, ◌%◌, ◌&&◌, List, Bool, false, length, nat_eq, if◌then◌else◌, codes, Result, Ok, Err}
-use Rattle.std.specs.List.{starts_with}
+use Rattle.std.specs.Prelude.{ℕ, ◌≡◌, ◌≢◌, ◌<◌, ◌^◌, ◌==◌, ◌%◌, ◌&&◌, List, Bool, false, length, nat_eq, if◌then◌else◌, codes, Result, Ok, Err}
+use Rattle.std.specs.List.{starts_with, AllByRecursion}
 use Rattle.krs_types.specs.declared.errno.Errno.{Errno}
 use Rattle.krs_types.specs.declared.ask.Answer.{Answer}
 use Rattle.krs_types.specs.declared.ask.Answer.TheVariants.{Nothing, Number, Bytes}
+use Rattle.krs_types.specs.declared.kind.Kind.TheVariants.{Keyring}
+use Rattle.krs_model.specs.State.{Key, Links}
+use Rattle.krs_model.specs.Asks.Reading.{readable, description}
 use Rattle.krs_ctl.specs.declared.output.Output.{Output}
 use Rattle.krs_ctl.specs.declared.output.Output.TheVariants.{Reply, Serials}
+use Rattle.krs_ctl.specs.Printing.{shown, shown_bytes, shown_serials}
 
 -- DESCRIBE was accepted, and the key's type, which stands before the first `;`, is that of a keyring
 abbrev pub is_keyring : Result Answer Errno → Bool
@@ -18,3 +22,16 @@ is_keyring (Err e) = false
 abbrev pub listing : List ℕ → Result Answer Errno → Output
 listing bytes described =
     if is_keyring described && (length bytes % 4 == 0) then Serials bytes else Reply (Ok (Bytes bytes))
+
+-- what READ gives of a keyring, with what DESCRIBE tells of it, is shown as the keyring's links in their order
+abbrev pub LinksAreListed : Type 0
+LinksAreListed =
+    (ring : Key) (serials bytes : List ℕ) → ring.content ≡ Links serials → AllByRecursion (λ n. n < 2 ^ 32) serials
+    → ring.kind ≡ Keyring → readable ring.kind ring.content ≡ Ok bytes
+    → shown (listing bytes (Ok (Bytes (description ring)))) ≡ shown_serials serials
+
+-- what READ gives of another key is shown as `print` shows it, whatever the bytes are
+abbrev pub OthersAreShown : Type 0
+OthersAreShown =
+    (key : Key) (bytes : List ℕ) → key.kind ≢ Keyring
+    → shown (listing bytes (Ok (Bytes (description key)))) ≡ shown_bytes bytes

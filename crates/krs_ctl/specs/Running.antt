@@ -44,12 +44,13 @@ AsksUnseen old asked reply new = Serves old asked reply new.store × (new ≡ re
 -- what follows a READ: where it was accepted, DESCRIBE, unseen, which tells how the bytes are shown
 abbrev pub ListsBy : Script → ℤ → Result Answer Errno → Output → Script → Type 0
 ListsBy old id (Ok (Bytes bytes)) output new =
-    (described : Result Answer Errno) × AsksUnseen old (op.Describe id) described new × (output ≡ listing bytes described)
+    (described : Result Answer Errno) × AsksUnseen old (op.Describe id) described new
+    × (output ≡ listing bytes described)
 ListsBy old id (Ok Nothing) output new = (output ≡ Reply (Ok Nothing)) × (new ≡ old)
 ListsBy old id (Ok (Number n)) output new = (output ≡ Reply (Ok (Number n))) × (new ≡ old)
 ListsBy old id (Err e) output new = (output ≡ Reply (Err e)) × (new ≡ old)
 
--- what a command does and comes to; `context` and `moment` ask nothing, and their line is that of an answer without a value
+-- what a command does and comes to; `context` and `moment` ask nothing, and come to an answer without a value
 abbrev pub Acts : Script → Command → Output → Script → Type 0
 Acts old (Context n) output new = (output ≡ Reply (Ok Nothing)) × (new ≡ record old { context = n })
 Acts old (Moment n) output new = (output ≡ Reply (Ok Nothing)) × (new ≡ record old { moment = n })

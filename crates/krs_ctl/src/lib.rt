@@ -3,6 +3,7 @@
 #![tactic(auto)]
 
 mod command;
+mod laws;
 mod lines;
 mod listing;
 mod no_command;
@@ -15,6 +16,7 @@ mod stop;
 mod words;
 mod writing;
 
+pub use laws::listed_keys;
 pub use program::run_program;
 pub use script::{ScriptEnd, run_script};
 

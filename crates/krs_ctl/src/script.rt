@@ -168,8 +168,8 @@ impl Script {
         }
     }
 
-    /// What a READ of this key comes to in a list. DESCRIBE tells whether the bytes are serials, and its refusal does not
-    /// count as one of the script.
+    /// What a READ of this key comes to in a list. DESCRIBE tells whether the bytes are serials, and its refusal does
+    /// not count as one of the script.
     fn list(&mut self, id: i32, reply: Reply) -> Output
         ensures { ListsBy self.old id reply result self.new }
     {

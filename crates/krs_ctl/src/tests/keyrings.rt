@@ -70,8 +70,8 @@ const NO_KEYRINGS: [(&str, &str); 10] = [
     ("rlist 5", ""),
 ];
 
-/// Another kind of key is listed as it is printed, also where its bytes divide by four. So is a keyring that may be read
-/// and not described, and that refusal of DESCRIBE does not count.
+/// Another kind of key is listed as it is printed, also where its bytes divide by four. So is a keyring that may be
+/// read and not described, and that refusal of DESCRIBE does not count.
 #[rattlefmt::skip]
 const LISTED: [(&str, &str); 11] = [
     ("hello 1000 1000", "1"),
