@@ -1,5 +1,5 @@
 -- Keys as they are kept, with the names of their links, and as the definitions see them.
-use Rattle.std.specs.Prelude.{◌≡◌, ℕ, [], ◌∷◌, true, Option, None, Some}
+use Rattle.std.specs.Prelude.{◌≡◌, ◌==◌, ℕ, [], ◌∷◌, Bool, true, false, cond, Option, None, Some}
 use Rattle.std.specs.Option.{option_map}
 use Rattle.krs_types.specs.declared.kind.Kind.{Kind}
 use Rattle.krs_types.specs.declared.kind.Kind.TheVariants.{Keyring}
@@ -99,3 +99,18 @@ displaced_at keys ring name = displaced_by name (at keys ring)
 -- a link's name finds the key of that name among what a keyring links
 abbrev pub FindsByName : Table model.Key → Key → Type 0
 FindsByName keys key = (name : Name) → link_named keys name (serials (content_links key.content)) ≡ linked_as (content_links key.content) name
+
+-- the link of that name is to this key
+abbrev pub is_to : ℕ → Option ℕ → Bool
+is_to serial None = false
+is_to serial (Some k) = k == serial
+
+-- what it holds, without a link of that name to this key
+abbrev pub keyless_content : Name → ℕ → Content → Content
+keyless_content name serial (Payload bytes) = Payload bytes
+keyless_content name serial (Links links) =
+    Links (cond (is_to serial (linked_as links name)) (unlinked links name) links)
+
+-- the key of that name out of a keyring: keyctl(2), KEYCTL_INVALIDATE
+abbrev pub without_key : Name → ℕ → Key → Key
+without_key name serial key = record key { content = keyless_content name serial key.content }

@@ -1,6 +1,7 @@
-ghost use Rattle.std.specs.Prelude.{◌≡◌, false, IfOk, IfErr, OnOk, OnErr};
-ghost use Rattle.krs_links.specs.Links.{linked_as, is_refused, link_error, serials};
+ghost use Rattle.std.specs.Prelude.{◌≡◌, false, cond, IfOk, IfErr, OnOk, OnErr};
+ghost use Rattle.krs_links.specs.Links.{linked_as, unlinked, is_refused, link_error, serials};
 ghost use Rattle.krs_keys.specs.Keys.{with_entry, without_entry, content_links, seen, seen_content};
+ghost use Rattle.krs_keys.specs.Keys.{without_key, is_to};
 ghost use Rattle.krs_keys.specs.Changes.{changed};
 ghost use Rattle.krs_model.specs.Asks.Changing.{or_left};
 ghost use Rattle.krs_model.specs.Possession.{links_of};
@@ -92,6 +93,13 @@ impl Key {
         self.content.unlink(name);
     }
 
+    /// One link less, where it is a keyring: that of this name, where it is to this key.
+    pub fn unlink_key(&mut self, name: &Name, serial: Serial)
+        ensures { self.new ≡ without_key name.now serial self.old }
+    {
+        self.content.unlink_key(name, serial);
+    }
+
     /// Changes it.
     pub fn change(&mut self, change: Change)
         ensures { self.new ≡ changed change self.old }
@@ -132,7 +140,7 @@ impl Key {
 
 impl Content {
     ghost use Rattle.krs_keys.specs.Changes.{paid_with, emptied, cleared_content, links_some};
-    ghost use Rattle.krs_keys.specs.Keys.{unlinked_content};
+    ghost use Rattle.krs_keys.specs.Keys.{unlinked_content, keyless_content};
 
     /// Another payload in the place of the one that is there.
     fn pay(&mut self, payload: Body)
@@ -166,6 +174,16 @@ impl Content {
         }
     }
 
+    /// One link less, where it is to this key.
+    fn unlink_key(&mut self, name: &Name, serial: Serial)
+        ensures { self.new ≡ keyless_content name.now serial self.old }
+    {
+        match self {
+            Content::Payload(_) => {}
+            Content::Links(links) => remove_link(links, name, serial),
+        }
+    }
+
     /// No links, where it is a keyring.
     fn clear(&mut self)
         ensures { self.new ≡ cleared_content self.old }
@@ -192,4 +210,23 @@ fn or_left(asked: u32, there: u32) -> u32
     ensures { result ≡ or_left asked there }
 {
     if asked == LEAVE { there } else { asked }
+}
+
+/// The link of a name out, where it is to this key.
+fn remove_link(links: &mut Links, name: &Name, serial: Serial)
+    ensures { links.new ≡ (cond (is_to serial (linked_as links.old name.now))
+        (unlinked links.old name.now) links.old) }
+{
+    if is_to(links.find(name), serial) {
+        let _ = links.remove(name);
+    }
+}
+
+fn is_to(found: Option<Serial>, serial: Serial) -> bool
+    ensures { result ≡ is_to serial found }
+{
+    match found {
+        Some(found) => found.number() == serial.number(),
+        None => false,
+    }
 }

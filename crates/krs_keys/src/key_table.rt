@@ -1,7 +1,12 @@
-ghost use Rattle.std.specs.Prelude.{◌≡◌, ◌+◌, ◌≤◌, ◌++◌, None, false, [], IfOk, IfErr, OnOk, OnErr, option_copied};
-ghost use Rattle.krs_model.specs.Table.{at, put, without, alter, IsBelow};
+ghost use Rattle.std.specs.Prelude.{◌≡◌, ◌+◌, ◌≤◌, ◌++◌, None, false, [], length};
+ghost use Rattle.std.specs.Prelude.{IfOk, IfErr, OnOk, OnErr, option_copied};
+ghost use Rattle.std.specs.List.Sorted.{IsStrictlySortedBy};
+ghost use Rattle.std.specs.Map.{keys_of};
+ghost use Rattle.std.specs.Ordering.{nat_cmp};
+ghost use Rattle.krs_model.specs.Table.{at, put, without, alter, map_values, IsBelow};
 ghost use Rattle.krs_model.specs.Sweep.{context_roots, process_roots, uid_roots};
 ghost use Rattle.krs_keys.specs.Keys.{with_entry, without_entry, displaced_at, links_at};
+ghost use Rattle.krs_keys.specs.Keys.{without_key};
 ghost use Rattle.krs_links.specs.Links.{is_refused, link_error};
 ghost use Rattle.krs_keys.specs.Changes.{changed, lets_go};
 ghost use Rattle.krs_keys.specs.Table.{unmarked, with_key, insert_error, IsLinkError, IsLinkedError};
@@ -61,6 +66,15 @@ impl KeyTable {
         ensures unused { IsBelow self.now.keys self.now.next }
     {
         self.next
+    }
+
+    /// How many keys there are. They stand by rising serial.
+    #[tactic(auto, using(crate::proofs::SlotsLemmas::length_map, crate::proofs::SlotsLemmas::keys_map))]
+    pub fn len(&self) -> usize
+        ensures len { result ≡ length self.now.keys }
+        ensures ordered { IsStrictlySortedBy nat_cmp (keys_of self.now.keys) }
+    {
+        self.slots.len()
     }
 
     /// The key at a serial.
@@ -159,6 +173,14 @@ impl KeyTable {
         unlink_in(&mut self.slots, ring.number(), name);
     }
 
+    /// Takes a key, which has this name, out of all keyrings. It takes no memory.
+    pub fn unlink_all(&mut self, name: &Name, serial: Serial)
+        ensures { self.new
+            ≡ record self.old { keys = map_values (without_key name.now serial) self.old.keys } }
+    {
+        unlink_all_in(&mut self.slots, name, serial);
+    }
+
     /// Whether a change of the key at a serial takes a link out.
     pub fn lets_go(&self, serial: Serial, change: &Change) -> bool
         ensures { result ≡ lets_go change.now (at self.now.keys serial) }
@@ -176,11 +198,13 @@ impl KeyTable {
         change_in(&mut self.slots, serial.number(), change);
     }
 
-    /// Takes out the key at a serial, which no key gets again.
-    pub fn remove(&mut self, serial: Serial)
-        ensures { self.new ≡ record self.old { keys = without self.old.keys serial } }
+    /// Takes out the key at a serial, which no key gets again, and answers it.
+    pub fn remove(&mut self, serial: Serial) -> Option<Key>
+        ensures key { result ≡ at self.old.keys serial }
+        ensures keys { self.new ≡ record self.old { keys = without self.old.keys serial } }
+        ensures gone { at self.new.keys serial ≡ None }
     {
-        take_out(&mut self.slots, serial.number());
+        take_out(&mut self.slots, serial.number())
     }
 
     /// Just the keys stay that are attached, or linked by what stays.
@@ -206,11 +230,16 @@ fn put_in(slots: &mut BTreeMap<u32, Slot>, serial: u32, key: Key) -> Result<(), 
     Ok(())
 }
 
-#[tactic(auto, using(krs_model::proofs::Tables::without_map))]
-fn take_out(slots: &mut BTreeMap<u32, Slot>, serial: u32)
-    ensures { unmarked slots.new.entries ≡ without (unmarked slots.old.entries) serial }
+#[tactic(auto, using(krs_model::proofs::Tables::without_map, krs_model::proofs::Tables::at_map))]
+fn take_out(slots: &mut BTreeMap<u32, Slot>, serial: u32) -> Option<Key>
+    ensures key { result ≡ at (unmarked slots.old.entries) serial }
+    ensures keys { unmarked slots.new.entries ≡ without (unmarked slots.old.entries) serial }
+    ensures gone { at (unmarked slots.new.entries) serial ≡ None }
 {
-    let _ = slots.remove(&serial);
+    match slots.remove(&serial) {
+        Some(slot) => Some(slot.key),
+        None => None,
+    }
 }
 
 /// Two keys under consecutive serials. A refusal leaves neither.
@@ -228,7 +257,7 @@ fn put_two(
 {
     put_in(slots, serial, first)?;
     if put_in(slots, serial + 1, second).is_err() {
-        take_out(slots, serial);
+        let _ = take_out(slots, serial);
         return Err(AllocError);
     }
     Ok(())
@@ -255,7 +284,7 @@ fn put_linked(
     match link_in(slots, ring, name, Serial::new(serial)) {
         Ok(displaced) => Ok(displaced),
         Err(error) => {
-            take_out(slots, serial);
+            let _ = take_out(slots, serial);
             Err(error)
         }
     }
@@ -277,6 +306,16 @@ fn unlink_in(slots: &mut BTreeMap<u32, Slot>, ring: u32, name: &Name)
         Some(slot) => slot.key.unlink(name),
         None => {}
     }
+}
+
+fn unlink_all_in(slots: &mut BTreeMap<u32, Slot>, name: &Name, serial: Serial)
+    ensures { unmarked slots.new.entries
+        ≡ map_values (without_key name.now serial) (unmarked slots.old.entries) }
+{
+    slots.retain(|_ring, slot| {
+        slot.key.unlink_key(name, serial);
+        true
+    });
 }
 
 fn link_in(

@@ -31,7 +31,23 @@ const KEYRINGS: [u8; 56] = [
     0x0c, 0, 0, 0, 1, 0, 7, 0, 1, 0, 0, 0, 5, 0, 0, 0,
 ];
 
-const STREAMS: [&[u8]; 3] = [&STREAM, &CHANGES, &KEYRINGS];
+// In context 1: GET_ID of -1 with create, and of 5 without; JOIN without a name, and of the name `s`; SEARCH from -3
+// for user alpha, into 6; REQUEST of user alpha without a destination; THREAD; FORK; EXEC.
+const CONTEXTS: [u8; 161] = [
+    0x0d, 0, 0, 0, 1, 0, 0, 0, 1, 0, 0, 0, 0xff, 0xff, 0xff, 0xff, 1, //
+    0x0d, 0, 0, 0, 1, 0, 0, 0, 1, 0, 0, 0, 5, 0, 0, 0, 0, //
+    0x0a, 0, 0, 0, 1, 0, 1, 0, 1, 0, 0, 0, 0, 0, //
+    0x0b, 0, 0, 0, 1, 0, 1, 0, 1, 0, 0, 0, 1, 0, 0x73, //
+    0x1d, 0, 0, 0, 1, 0, 0x0a, 0, 1, 0, 0, 0, 0xfd, 0xff, 0xff, 0xff, 4, 0, 0x75, 0x73, 0x65, 0x72,
+    5, 0, 0x61, 0x6c, 0x70, 0x68, 0x61, 6, 0, 0, 0, //
+    0x19, 0, 0, 0, 1, 0, 7, 1, 1, 0, 0, 0, 4, 0, 0x75, 0x73, 0x65, 0x72, 5, 0, 0x61, 0x6c, 0x70,
+    0x68, 0x61, 0, 0, 0, 0, //
+    8, 0, 0, 0, 1, 0, 1, 1, 1, 0, 0, 0, //
+    8, 0, 0, 0, 1, 0, 2, 1, 1, 0, 0, 0, //
+    8, 0, 0, 0, 1, 0, 3, 1, 1, 0, 0, 0,
+];
+
+const STREAMS: [&[u8]; 4] = [&STREAM, &CHANGES, &KEYRINGS, &CONTEXTS];
 
 fn hello(alloc: Global) -> Op {
     Op::Hello(Caller {
@@ -76,6 +92,49 @@ fn keyrings() -> [Op; 3] {
     ]
 }
 
+fn join(alloc: Global, name: &[u8]) -> Result<Op, AllocError> {
+    let name = Blob::from_slice(alloc, name)?;
+    Ok(Op::Join { name })
+}
+
+fn find(alloc: Global, head: Option<i32>, dest: i32) -> Result<Op, AllocError> {
+    let type_name = Blob::from_slice(alloc, b"user")?;
+    let desc = Blob::from_slice(alloc, b"alpha")?;
+    Ok(match head {
+        Some(head) => Op::Search {
+            head,
+            type_name,
+            desc,
+            dest,
+        },
+        None => Op::Request {
+            type_name,
+            desc,
+            dest,
+        },
+    })
+}
+
+// What is answered with a serial or a context.
+fn numbered(alloc: Global, place: u32) -> Result<Op, AllocError> {
+    match place {
+        0 => Ok(Op::GetId {
+            id: -1,
+            create: true,
+        }),
+        1 => Ok(Op::GetId {
+            id: 5,
+            create: false,
+        }),
+        2 => join(alloc, b""),
+        3 => join(alloc, b"s"),
+        4 => find(alloc, Some(-3), 6),
+        5 => find(alloc, None, 0),
+        6 => Ok(Op::Thread),
+        _ => Ok(Op::Fork),
+    }
+}
+
 // The frames of these asks, one after the other.
 fn frames_of(alloc: Global, frames: &[Framed], text: &mut Vec<u8>) -> Result<(), WireFault> {
     for framed in frames {
@@ -110,6 +169,18 @@ fn asks_are_spelled(rt: HostRuntime) -> Result<(), Fail> {
         text.extend_from_slice(&encode_ask(rt.alloc(), &ask)?)?;
     }
     assert_eq!(rt; text.as_slice(), KEYRINGS.as_slice());
+    text.clear();
+    for place in 0..8 {
+        let op = numbered(rt.alloc(), place)?;
+        let ask = Ask { context: 1, op };
+        text.extend_from_slice(&encode_ask(rt.alloc(), &ask)?)?;
+    }
+    let exec = Ask {
+        context: 1,
+        op: Op::Exec,
+    };
+    text.extend_from_slice(&encode_ask(rt.alloc(), &exec)?)?;
+    assert_eq!(rt; text.as_slice(), CONTEXTS.as_slice());
     Ok(())
 }
 
@@ -145,7 +216,7 @@ fn a_byte_at_a_time(rt: HostRuntime) -> Result<(), Fail> {
 
 #[test]
 fn faults_of_asks(rt: HostRuntime) -> Result<(), Fail> {
-    let cases: [(&[u8], WireFault); 14] = [
+    let cases: [(&[u8], WireFault); 21] = [
         (&[7, 0, 0, 0], WireFault::BadLength),
         (&[1, 0, 1, 0], WireFault::BadLength),
         (&[8, 0, 0, 0, 2, 0, 5, 1, 0, 0, 0, 0], WireFault::BadVersion),
@@ -195,6 +266,33 @@ fn faults_of_asks(rt: HostRuntime) -> Result<(), Fail> {
             &[16, 0, 0, 0, 1, 0, 7, 0, 0, 0, 0, 0, 6, 0, 0, 0, 5, 0, 0, 0],
             WireFault::BadBody,
         ),
+        (
+            &[13, 0, 0, 0, 1, 0, 0, 0, 0, 0, 0, 0, 5, 0, 0, 0, 2],
+            WireFault::BadBody,
+        ),
+        (
+            &[12, 0, 0, 0, 1, 0, 0, 0, 0, 0, 0, 0, 5, 0, 0, 0],
+            WireFault::BadBody,
+        ),
+        (&[8, 0, 0, 0, 1, 0, 1, 0, 0, 0, 0, 0], WireFault::BadBody),
+        (
+            &[
+                23, 0, 0, 0, 1, 0, 10, 0, 0, 0, 0, 0, 5, 0, 0, 0, 4, 0, 0x75, 0x73, 0x65, 0x72, 3,
+                0, 0x61, 0x62, 0x63,
+            ],
+            WireFault::BadBody,
+        ),
+        (
+            &[
+                18, 0, 0, 0, 1, 0, 7, 1, 0, 0, 0, 0, 4, 0, 0x75, 0x73, 0x65, 0x72, 2, 0, 0x61, 0x62,
+            ],
+            WireFault::BadBody,
+        ),
+        (
+            &[12, 0, 0, 0, 1, 0, 1, 1, 0, 0, 0, 0, 1, 0, 0, 0],
+            WireFault::BadBody,
+        ),
+        (&[9, 0, 0, 0, 1, 0, 3, 1, 0, 0, 0, 0, 0], WireFault::BadBody),
     ];
     for (bytes, fault) in cases {
         // Behind a good frame the fault shows afterwards, and is what later pieces are answered with.
@@ -269,6 +367,17 @@ fn replies_are_spelled_and_read(rt: HostRuntime) -> Result<(), Fail> {
     for op in &keyrings() {
         check_reply(&rt, alloc, op, &nothing, &bare)?;
     }
+    check_reply(&rt, alloc, &Op::Exec, &nothing, &bare)?;
+    for place in 0..8 {
+        let op = numbered(alloc, place)?;
+        check_reply(
+            &rt,
+            alloc,
+            &op,
+            &serial,
+            &[8, 0, 0, 0, 0, 0, 0, 0, 5, 0, 0, 0],
+        )?;
+    }
     check_reply(
         &rt,
         alloc,
@@ -288,7 +397,7 @@ fn replies_are_spelled_and_read(rt: HostRuntime) -> Result<(), Fail> {
 
 #[test]
 fn faults_of_replies(rt: HostRuntime) -> Result<(), Fail> {
-    let cases: [(Op, &[u8], WireFault); 9] = [
+    let cases: [(Op, &[u8], WireFault); 12] = [
         (Op::Leave, &[3, 0, 0, 0], WireFault::BadLength),
         (Op::Leave, &[1, 0, 4, 0], WireFault::BadLength),
         (Op::Leave, &[4, 0, 0, 0, 4, 0, 0, 0], WireFault::BadBody),
@@ -306,6 +415,20 @@ fn faults_of_replies(rt: HostRuntime) -> Result<(), Fail> {
         (
             Op::Link { key: 6, ring: 5 },
             &[8, 0, 0, 0, 0, 0, 0, 0, 6, 0, 0, 0],
+            WireFault::BadBody,
+        ),
+        (
+            Op::Exec,
+            &[8, 0, 0, 0, 0, 0, 0, 0, 1, 0, 0, 0],
+            WireFault::BadBody,
+        ),
+        (Op::Thread, &[4, 0, 0, 0, 0, 0, 0, 0], WireFault::BadBody),
+        (
+            Op::GetId {
+                id: 5,
+                create: false,
+            },
+            &[6, 0, 0, 0, 0, 0, 0, 0, 0x73, 0x33],
             WireFault::BadBody,
         ),
         (

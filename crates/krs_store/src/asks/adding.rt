@@ -133,9 +133,16 @@ impl Tables {
             joined: false,
             content: first_content(self.alloc, kind, payload),
         };
+        let Ok(()) = self.holders.made(serial) else {
+            return Err(AllocError);
+        };
+        if !self.holders.has_room(serial, 1) {
+            return Err(AllocError);
+        }
         match self.keys.insert_linked(ring, link, key) {
             Ok(displaced) => {
-                self.let_go = lets_go(self.let_go, displaced);
+                self.holders.hold(serial);
+                self.holders.let_go_of(displaced);
                 Ok(serial)
             }
             Err(_) => Err(AllocError),
@@ -155,7 +162,9 @@ impl Tables {
     ) -> Result<Answer, Fault>
         ensures { Leads self.old result self.new (add self.old client context type_name desc payload ring) }
     {
+        let number = context;
         let context = self.context_of(client, context)?;
+        self.check_standing(number, context, ring)?;
         let kind = admitted(type_name.as_slice(), desc.as_slice(), payload.as_slice())?;
         let name = Name {
             kind,
@@ -204,11 +213,4 @@ fn is_updatable(kind: Kind) -> bool
         Kind::User | Kind::Logon => true,
         Kind::Keyring => false,
     }
-}
-
-/// Whether a key may have been let go of, now that a link displaced this one.
-pub(crate) fn lets_go(before: bool, displaced: Option<Serial>) -> bool
-    ensures { result ≡ (before || is_some displaced) }
-{
-    before || displaced.is_some()
 }

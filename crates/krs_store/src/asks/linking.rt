@@ -8,7 +8,6 @@ ghost use Rattle.krs_keys.specs.Keys.{seen, content_links, displaced_at};
 ghost use Rattle.krs_links.specs.Links.{linked_as, serials};
 ghost use Rattle.krs_store.specs.Linked.{name_in, finds, Puts, Takes};
 
-use crate::asks::adding::lets_go;
 use crate::tables::Tables;
 use krs_keys::{Change, Content, Key, KeyTable};
 use krs_links::Links;
@@ -60,7 +59,9 @@ impl Tables {
     ) -> Result<Answer, Fault>
         ensures { Leads self.old result self.new (link self.old client context key ring) }
     {
+        let number = context;
         let context = self.context_of(client, context)?;
+        self.check_standing(number, context, ring)?;
         let (ring, into) = self.look_up(context, ring, Want::Granted(Rights::WRITE))?;
         let (serial, found) = self.look_up(context, key, Want::Granted(Rights::LINK))?;
         links_of(into)?;
@@ -72,7 +73,7 @@ impl Tables {
 
     /// Whether a link from the keyring to the key closes a cycle, or nests a keyring too deep: EDEADLK, ELOOP.
     #[tactic(auto, unfolding(krs_model::specs::Asks::Linked::nestable))]
-    fn check_nesting(&self, ring: Serial, key: Serial) -> Result<(), Fault>
+    pub(crate) fn check_nesting(&self, ring: Serial, key: Serial) -> Result<(), Fault>
         requires ring { IsRing self.now ring }
         requires key { IsSome (at self.now.keys key) }
         ensures { Gives (λ done. done) result (nestable self.now.keys ring key) }
@@ -86,13 +87,18 @@ impl Tables {
     }
 
     /// A link to a key in a keyring, in the place of that which it displaces, else last. The name is the key's own.
-    fn put_link(&mut self, ring: Serial, name: Name, serial: Serial) -> Result<(), Fault>
-        requires { name_in self.old serial ≡ Some name }
+    pub(crate) fn put_link(&mut self, ring: Serial, name: Name, serial: Serial) -> Result<(), Fault>
+        requires named { name_in self.old serial ≡ Some name }
+        requires ring { IsRing self.old ring }
         ensures { Puts self.old result self.new ring name serial }
     {
+        if !self.holders.has_room(serial, 1) {
+            return Err(Fault::Memory);
+        }
         match self.keys.link(ring, name, serial) {
             Ok(displaced) => {
-                self.let_go = lets_go(self.let_go, displaced);
+                self.holders.hold(serial);
+                self.holders.let_go_of(displaced);
                 Ok(())
             }
             Err(Errno::ENFILE) => Err(Fault::Refused(Errno::ENFILE)),
@@ -109,7 +115,7 @@ impl Tables {
             return Err(Errno::ENOENT);
         }
         self.keys.unlink(ring, name);
-        self.let_go = true;
+        self.holders.let_go(serial);
         Ok(())
     }
 }
@@ -143,7 +149,7 @@ fn is_found(found: Option<Serial>, serial: Serial) -> bool
 }
 
 /// The links of a keyring: ENOTDIR where it is none.
-fn links_of(key: &Key) -> Result<&Links, Errno>
+pub(crate) fn links_of(key: &Key) -> Result<&Links, Errno>
     ensures { Is (λ links. serials links.now) result (ring_links (seen key.now).content) }
 {
     match &key.content {

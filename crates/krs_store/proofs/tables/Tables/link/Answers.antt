@@ -16,8 +16,10 @@ check_nesting-requires-clause-key c =
     rw (c.new-2.ensures, key_looked_up c.args.self.now _ c.in_ok-context.context.now _ (c.in_ok-serial.serial, seen c.in_ok-serial.found.now) c.in_ok-serial.ensures.found) refl
 
 pub put_link-requires : goal.put_link-requires
-put_link-requires c =
-    rw (c.new-4.ensures, key_looked_up c.args.self.now _ c.in_ok-context.context.now _ (c.in_ok-serial.serial, seen c.in_ok-serial.found.now) c.in_ok-serial.ensures.found, c.in_ok-name.ensures) refl
+put_link-requires c = record {
+  named = rw (c.new-4.ensures, key_looked_up c.args.self.now _ c.in_ok-context.context.now _ (c.in_ok-serial.serial, seen c.in_ok-serial.found.now) c.in_ok-serial.ensures.found, c.in_ok-name.ensures) refl;
+  ring = rw c.new-3.ensures (ring_looked_up c.args.self.now c.args.ring c.in_ok-context.context.now (c.in_ok-ring.ring, seen c.in_ok-ring.into.now) _ c.ranges.ring c.in_ok-ring.ensures.found c.in_ok-links_of.ensures);
+}
 
 pub returns-in_err-put_link : goal.returns-in_err-put_link
 returns-in_err-put_link c =
@@ -25,7 +27,7 @@ returns-in_err-put_link c =
     let into : ℕ × Key = (c.in_ok-ring.ring, seen c.in_ok-ring.into.now) in
     let found : ℕ × Key = (c.in_ok-serial.serial, seen c.in_ok-serial.found.now) in
     let nests : nestable s.keys into.0 found.0 ≡ Ok (tt {0}) = rw (sym c.new.ensures, sym c.new-2.ensures) c.in_ok-check_nesting.ensures in
-    let l = looks_up s c.args.client c.args.context c.args.key c.args.ring c.in_ok-context.context.now into found _ c.ranges.key c.ranges.ring c.in_ok-context.ensures c.in_ok-ring.ensures.found c.in_ok-serial.ensures.found c.in_ok-links_of.ensures nests in
+    let l = looks_up s c.args.client c.args.context c.args.key c.args.ring c.in_ok-context.context.now into found _ c.ranges.key c.ranges.ring c.in_ok-context.ensures c.in_ok-check_standing.ensures.made c.in_ok-ring.ensures.found c.in_ok-serial.ensures.found c.in_ok-links_of.ensures nests in
     let puts : Puts s (Err c.in_err-put_link.field-0.0) c.put_link.new.self into.0 (name_of found.1) found.0 =
     rw (sym c.new-3.ensures, sym c.in_ok-name.ensures) c.in_err-put_link.ensures in
     let told = link_failed s c.put_link.new.self c.args.client c.args.context c.args.key c.args.ring c.in_ok-context.context.now into found c.in_err-put_link.field-0.0 l puts in
@@ -38,7 +40,7 @@ returns c =
     let into : ℕ × Key = (c.in_ok-ring.ring, seen c.in_ok-ring.into.now) in
     let found : ℕ × Key = (c.in_ok-serial.serial, seen c.in_ok-serial.found.now) in
     let nests : nestable s.keys into.0 found.0 ≡ Ok (tt {0}) = rw (sym c.new.ensures, sym c.new-2.ensures) c.in_ok-check_nesting.ensures in
-    let l = looks_up s c.args.client c.args.context c.args.key c.args.ring c.in_ok-context.context.now into found _ c.ranges.key c.ranges.ring c.in_ok-context.ensures c.in_ok-ring.ensures.found c.in_ok-serial.ensures.found c.in_ok-links_of.ensures nests in
+    let l = looks_up s c.args.client c.args.context c.args.key c.args.ring c.in_ok-context.context.now into found _ c.ranges.key c.ranges.ring c.in_ok-context.ensures c.in_ok-check_standing.ensures.made c.in_ok-ring.ensures.found c.in_ok-serial.ensures.found c.in_ok-links_of.ensures nests in
     let puts : Puts s (Ok (tt {0})) c.put_link.new.self into.0 (name_of found.1) found.0 =
     rw (sym c.new-3.ensures, sym c.new-4.ensures, sym c.in_ok-name.ensures) c.in_ok-put_link.ensures in
     link_done s c.put_link.new.self c.args.client c.args.context c.args.key c.args.ring c.in_ok-context.context.now into found l puts

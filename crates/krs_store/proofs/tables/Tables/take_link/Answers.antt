@@ -1,5 +1,4 @@
-use Rattle.std.proofs.Common.{◌≡◌, ap, sym, ◌∙◌, subst, Some, refl, true, false}
-use Rattle.std.proofs.lemmas.Bool.{true≢false}
+use Rattle.std.proofs.Common.{◌≡◌, ℕ, ap, sym, ◌∙◌, subst, Some, refl, true, false}
 use Rattle.krs_model.specs.State.{State}
 use Rattle.krs_model.specs.Levels.{is_in}
 use Rattle.krs_model.specs.Reach.{links_in}
@@ -9,6 +8,10 @@ use Rattle.krs_keys.specs.Keys.{shown}
 use Rattle.krs_keys.proofs.KindsLemmas.{kinds_alter, unlinked_kind}
 use Rattle.krs_store.specs.View.{state_of}
 use Rattle.krs_store.specs.Linked.{name_in}
+use Rattle.krs_model.specs.Table.{Table}
+use Rattle.krs_model.specs.Sweep.{roots}
+use Rattle.krs_hold.specs.Tally.{AreExact}
+use Rattle.krs_store.proofs.Counting.{unlinked_tallied}
 use Rattle.krs_store.proofs.Linking.{name_kept, is_linked, not_linked, fit_unlinked, shown_unlinked}
 use Rattle.krs_store.proofs.tables.Tables.take_link.Goals as goal
 
@@ -25,11 +28,12 @@ pub invariant_of-self : goal.invariant_of-self
 invariant_of-self c =
     let es = c.self.inside.keys.keys in
     record {
-      contexts = c.self.invariant.contexts;
-      processes = c.self.invariant.processes;
       fit = rw c.unlink.ensures (fit_unlinked es c.args.ring c.args.name.now c.self.invariant.fit);
       kinds = rw c.unlink.ensures (kinds_alter es c.args.ring _ (unlinked_kind c.args.name.now) c.self.invariant.kinds);
-      swept = λ t. absurd (true≢false t);
+      tallied = subst (λ (zs : Table ℕ). AreExact c.unlink.new.self.keys zs (roots (state_of c.self.inside)))
+          (sym c.let_go.ensures)
+          (rw c.unlink.ensures (unlinked_tallied es (roots (state_of c.self.inside)) c.self.inside.holders c.args.ring
+          c.args.serial c.args.name.now c.self.invariant.fit (sym c.is_linked.ensures ∙ c.if-not-is_linked.false) c.self.invariant.tallied));
     }
 
 pub returns : goal.returns
