@@ -23,13 +23,20 @@ Commands of a script, with what an accepted one prints:
   hello UID GID [GROUP ..]      a new context of this caller, from here on the current one: its number
   context N                     makes another context the current one: ok
   moment N                      sets the time in seconds of the lines that follow: ok
+  thread                        a new context in the process of the current one: its number
+  fork                          a new context of the same caller in a new process: its number
+  exec                          the process anew, without its other contexts: ok
+  exit                          ends the current context, which stays the current one: ok
   add TYPE DESC DATA RING       a key in a keyring, new or with a new payload: its serial
   newring DESC RING             a new keyring in a keyring: its serial
+  id KEY [create]               what an id stands for; create makes a missing keyring: its serial
+  join [NAME]                   another session keyring, of that name or of none: its serial
   update KEY DATA               another payload for a key: ok
   print KEY                     the payload of a key
   rlist KEY                     the serials that a keyring links, or the payload of another key
   rdescribe KEY                 a key as text: type;uid;gid;perm;description
   revoke KEY                    ends a key for good: ok
+  invalidate KEY                takes a key out of every keyring and every attachment: ok
   clear RING                    takes all links out of a keyring: ok
   chown KEY UID                 another owner of a key: ok
   chgrp KEY GID                 another group of a key: ok
@@ -37,6 +44,8 @@ Commands of a script, with what an accepted one prints:
   timeout KEY SECONDS           when a key's time is over, in seconds from now, never for 0: ok
   link KEY RING                 one more link in a keyring: ok
   unlink KEY RING               one link less in a keyring: ok
+  search RING TYPE DESC [RING]  a key found from a keyring on, and linked to the other one: its serial
+  request TYPE DESC [RING]      the same from the thread, process and session keyring on: its serial
   leave                         ends all contexts: ok
 
 KEY and RING are a serial, or @t, @p, @s, @u, @us for the thread, process, session, user and user-session

@@ -1,13 +1,15 @@
 pub mod Tables
-pub mod Lists
 pub mod Levels
+pub mod Lists
 pub mod Reaching
+pub mod Choosing
 pub mod Names
 pub mod Counts
 pub mod Sweeps
 pub mod Lookups
 pub mod Sweeping
 pub mod Steps
+pub mod Making
 pub mod Following
 pub mod Roots
 pub mod Closing
@@ -16,3 +18,5 @@ pub mod Entering
 pub mod Soundness
 pub mod Revocations
 pub mod Rights
+pub mod Searching
+pub mod MadeLemmas

@@ -30,8 +30,8 @@ use Rattle.krs_model.specs.Asks.Changing.{changed, revoke, revoked}
 use Rattle.krs_model.specs.Asks.Reading.{read, readable}
 use Rattle.krs_model.proofs.Tables.{at_alter_same}
 use Rattle.krs_model.proofs.Lookups.{look_up_usable}
-use Rattle.krs_model.proofs.Following.{is_gone, Follows, same_ok, same_state, raised_follows, sweep_follows}
-use Rattle.krs_model.proofs.Following.{legal_follows}
+use Rattle.krs_model.proofs.Following.{is_gone, Follows, same_ok, same_state, bind_ok, raised_follows}
+use Rattle.krs_model.proofs.Following.{sweep_follows, legal_follows}
 
 chosen :
     (a b d : Bool) (x y : ℕ × Key)
@@ -40,13 +40,6 @@ chosen true b d x y h = cc
 chosen false true d x y h = cc
 chosen false false true x y h = cc
 chosen false false false x y h = cc
-
--- what came before an accepted end was accepted
-bind_ok :
-    {A B : Type 0} (r : Result A Errno) (f : A → Result B Errno) (y : B) → (r >>= f) ≡ Ok y
-    → (x : A) × (r ≡ Ok x) × (f x ≡ Ok y)
-bind_ok (Ok x) f y h = (x, refl, h)
-bind_ok (Err e) f y h = cc
 
 usable_serial :
     (s : State) (c : Context) (want : Want) (serial : ℕ) (key : Key) (found : ℕ × Key)

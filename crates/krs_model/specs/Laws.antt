@@ -1,13 +1,17 @@
 -- What the laws say of the definitions.
-use Rattle.std.specs.Prelude.{◌≡◌, ◌≢◌, ℕ, List, true, false, ◌⊎◌}
+use Rattle.std.specs.Prelude.{◌≡◌, ◌≢◌, ◌<◌, ◌≤◌, ℕ, List, [], ◌∷◌, true, false, ◌⊎◌, Some, Result, Err, slice_get}
 use Rattle.krs_types.specs.declared.caller.Caller.{Caller}
 use Rattle.krs_types.specs.declared.context.Context.{Context}
+use Rattle.krs_types.specs.declared.errno.Errno.{Errno}
+use Rattle.krs_types.specs.declared.errno.Errno.TheVariants.{ENOKEY}
+use Rattle.krs_types.specs.declared.name.Name.{Name}
 use Rattle.krs_types.specs.Caller.{is_of_group}
 use Rattle.krs_types.specs.Perm.{user_byte, group_byte, other_byte}
 use Rattle.krs_model.specs.State.{State}
-use Rattle.krs_model.specs.Levels.{is_in}
+use Rattle.krs_model.specs.Levels.{level, is_in}
 use Rattle.krs_model.specs.Possession.{attached, followed_in, possessed}
 use Rattle.krs_model.specs.Reach.{Reaches}
+use Rattle.krs_model.specs.Search.{Searcher, entered, is_answer, or_next}
 
 -- it is attached, or linked by a possessed keyring that is alive and may be searched
 abbrev pub ComesByLinks : State → Context → ℕ → Type 0
@@ -22,3 +26,29 @@ pub record IsOneByte (mask uid gid : ℕ) (caller : Caller) (rights : ℕ) : Typ
 -- a link from the keyring to the key would close a cycle: they are one, or the keyring is reached from the key
 abbrev pub ClosesCycle : (ℕ → List ℕ) → ℕ → ℕ → Type 0
 ClosesCycle links key ring = (key ≡ ring) ⊎ Reaches links key ring
+
+-- at this place of this level of a search stands the key
+abbrev pub StandsAt : Searcher → ℕ → ℕ → ℕ → ℕ → Type 0
+StandsAt by head depth place serial = slice_get (level (entered by) (head ∷ []) depth) place ≡ Some serial
+
+-- of a lesser level, or earlier in the same
+abbrev pub IsBefore : ℕ → ℕ → ℕ → ℕ → Type 0
+IsBefore n i depth place = (n < depth) ⊎ ((n ≡ depth) × (i < place))
+
+-- an answer of the levels 0 to 7, and what stands before it is none
+pub record IsFirstAnswer (by : Searcher) (head : ℕ) (name : Name) (serial : ℕ) : Type 0 where
+  pub answer : is_answer by name serial ≡ true
+  pub depth : ℕ
+  pub place : ℕ
+  pub bound : depth ≤ 7
+  pub stands : StandsAt by head depth place serial
+  pub first : (n i other : ℕ) → IsBefore n i depth place → StandsAt by head n i other → is_answer by name other ≡ false
+
+-- nothing in the levels 0 to 7 is an answer
+abbrev pub HasNoAnswer : Searcher → ℕ → Name → Type 0
+HasNoAnswer by head name = (n i other : ℕ) → n ≤ 7 → StandsAt by head n i other → is_answer by name other ≡ false
+
+-- the searches from these heads, one after the other
+abbrev pub in_turn : (ℕ → Result ℕ Errno) → List ℕ → Result ℕ Errno
+in_turn search [] = Err ENOKEY
+in_turn search (head ∷ heads) = or_next (search head) (in_turn search heads)

@@ -4,10 +4,13 @@ pub mod Access
 pub mod Levels
 pub mod Possession
 pub mod Lookup
+pub mod Making
 pub mod Usable
 pub mod Linking
+pub mod Search
 pub mod Sweep
 pub mod Reach
+pub mod Anchored
 pub mod Sound
 pub mod Outcome
 pub mod Asks
@@ -16,3 +19,4 @@ pub mod History
 pub mod Revocation
 pub mod Laws
 pub mod Notes
+pub mod Queues

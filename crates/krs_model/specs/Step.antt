@@ -5,24 +5,36 @@ use Rattle.krs_types.specs.declared.errno.Errno.TheVariants.{ENOMEM}
 use Rattle.krs_types.specs.declared.ask.Answer.{Answer}
 use Rattle.krs_types.specs.declared.ask.Answer.TheVariants.{Nothing}
 use Rattle.krs_types.specs.declared.ask.Op.{Op}
-use Rattle.krs_types.specs.declared.ask.Op.TheVariants.{Hello, Add, Update, Revoke, Chown, SetPerm, SetTimeout, Link, Unlink, Clear, Read, Describe, Leave}
+use Rattle.krs_types.specs.declared.ask.Op.TheVariants.{Hello, Thread, Fork, Exec, GetId, Join, Search, Request, Add, Update, Revoke, Invalidate, Chown, SetPerm, SetTimeout, Link, Unlink, Clear, Read, Describe, Exit, Leave}
 use Rattle.krs_types.specs.declared.event.Event.{Event}
 use Rattle.krs_model.specs.State.{State, raised}
 use Rattle.krs_model.specs.Sweep.{IsSweep}
 use Rattle.krs_model.specs.Outcome.{Outcome}
 use Rattle.krs_model.specs.Asks.Hello.{hello}
+use Rattle.krs_model.specs.Asks.Entering.{thread, fork, exec}
+use Rattle.krs_model.specs.Asks.Joining.{join}
+use Rattle.krs_model.specs.Asks.Finding.{get_id, search_from, request}
 use Rattle.krs_model.specs.Asks.Adding.{add}
 use Rattle.krs_model.specs.Asks.Changing.{update, revoke, chown, set_perm, set_timeout}
+use Rattle.krs_model.specs.Asks.Invalidating.{invalidate}
 use Rattle.krs_model.specs.Asks.Linked.{link, unlink, clear}
 use Rattle.krs_model.specs.Asks.Reading.{read, describe}
-use Rattle.krs_model.specs.Asks.Leaving.{left}
+use Rattle.krs_model.specs.Asks.Leaving.{left, exit}
 
 -- what a client's ask in a context comes to
 abbrev pub outcome_of : State → ℕ → ℕ → Op → Outcome
 outcome_of s client context (Hello caller) = hello s client caller
+outcome_of s client context Thread = thread s client context
+outcome_of s client context Fork = fork s client context
+outcome_of s client context Exec = exec s client context
+outcome_of s client context (GetId id create) = get_id s client context id create
+outcome_of s client context (Join name) = join s client context name
+outcome_of s client context (Search head type_name desc dest) = search_from s client context head type_name desc dest
+outcome_of s client context (Request type_name desc dest) = request s client context type_name desc dest
 outcome_of s client context (Add type_name desc payload ring) = add s client context type_name desc payload ring
 outcome_of s client context (Update id payload) = update s client context id payload
 outcome_of s client context (Revoke id) = revoke s client context id
+outcome_of s client context (Invalidate id) = invalidate s client context id
 outcome_of s client context (Chown id uid gid) = chown s client context id uid gid
 outcome_of s client context (SetPerm id mask) = set_perm s client context id mask
 outcome_of s client context (SetTimeout id seconds) = set_timeout s client context id seconds
@@ -31,15 +43,24 @@ outcome_of s client context (Unlink key ring) = unlink s client context key ring
 outcome_of s client context (Clear id) = clear s client context id
 outcome_of s client context (Read id) = read s client context id
 outcome_of s client context (Describe id) = describe s client context id
+outcome_of s client context Exit = exit s client context
 outcome_of s client context Leave = Ok (left s client, Nothing)
 
--- Asks that may find no memory. So far every ask but LEAVE counts as one: a look-up's walk takes memory, until keys
--- have places and a walk has its room beforehand.
+-- Asks that may find no memory. So far every ask but EXEC, EXIT and LEAVE counts as one: a look-up's walk takes memory,
+-- until keys have places and a walk has its room beforehand.
 abbrev pub grows : Op → Bool
 grows (Hello caller) = true
+grows Thread = true
+grows Fork = true
+grows Exec = false
+grows (GetId id create) = true
+grows (Join name) = true
+grows (Search head type_name desc dest) = true
+grows (Request type_name desc dest) = true
 grows (Add type_name desc payload ring) = true
 grows (Update id payload) = true
 grows (Revoke id) = true
+grows (Invalidate id) = true
 grows (Chown id uid gid) = true
 grows (SetPerm id mask) = true
 grows (SetTimeout id seconds) = true
@@ -48,6 +69,7 @@ grows (Unlink key ring) = true
 grows (Clear id) = true
 grows (Read id) = true
 grows (Describe id) = true
+grows Exit = false
 grows Leave = false
 
 -- An accepted ask has its effect, and then the sweep. A refusal leaves everything as it was. Want of memory is lawful for

@@ -25,7 +25,7 @@ use Rattle.krs_model.specs.Lookup.{look_up}
 use Rattle.krs_model.specs.Asks.Adding.{made, new_key, IsRing, place_of, by_match}
 use Rattle.krs_model.proofs.Tables.{at_map, put_map, alter_map, filter_map_keys, below_put, at_put_same, at_put_other, at_or_apart}
 use Rattle.krs_model.proofs.Levels.{or_true, same_is}
-use Rattle.krs_model.proofs.Sweeping.{changed_swept, made_swept}
+use Rattle.krs_model.proofs.Sweeping.{changed_swept}
 use Rattle.krs_store.specs.declared.tables.Tables.TheInside.{Inside}
 use Rattle.krs_keys.specs.declared.key.Key.{Key}
 use Rattle.krs_keys.specs.declared.key.Content.{Content}
@@ -58,7 +58,6 @@ pub record IsMade (s : Inside) (new : Keys) (ring : ℕ) (name : Name) (key : Ke
   pub fit : AreFit new.keys
   pub kinds : AreOfKind new.keys
   pub is : record (state_of s) { keys = shown new.keys; next_serial = new.next } ≡ made (state_of s) ring name (seen key)
-  pub swept : s.let_go ≡ false → displaced_at (put s.keys.keys s.keys.next key) ring name ≡ None → AllHeld (record (state_of s) { keys = shown new.keys; next_serial = new.next })
 
 entry_named : (names : ℕ → Option Name) (name : Name) (n : ℕ) (content : Content) → names n ≡ Some name → AreNamed names (content_links content) → AreNamed names (content_links (entered name n content))
 entry_named names name n (Payload bytes) there named = named
@@ -105,7 +104,6 @@ made_told s new ring name payload uid gid sound unused keyring e =
       fit = fit_alter one ring f (λ v. refl) (λ v there. entry_named (name_at one) name n v.content name_there (fit_one ring v there)) fit_one;
       kinds = kinds_alter one ring f (linked_kind name n) (kinds_put es n key (first_kind name.kind payload) sound.kinds);
       is = ap (λ zs. record (state_of s) { keys = zs; next_serial = n + 1 }) seen_as;
-      swept = λ clean fresh. rw seen_as (made_swept (state_of s) ring name (seen key) (shown_none es n none) keyring (sym found ∙ fresh) (sound.swept clean));
     })
 
 -- the first context of a uid, with the uid's keyrings

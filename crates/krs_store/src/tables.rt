@@ -7,26 +7,25 @@ ghost use Rattle.krs_model.specs.Lookup.{context_of, serial_of, look_up};
 ghost use Rattle.krs_model.specs.Outcome.{Leads, Gives, Is};
 ghost use Rattle.krs_model.specs.Step.{outcome_of, grows};
 ghost use Rattle.krs_model.specs.Sweep.{IsSweep};
+ghost use Rattle.krs_model.specs.Reach.{IsAcyclic, links_in};
+ghost use Rattle.krs_model.specs.Sound.{IsSound};
 ghost use Rattle.krs_keys.specs.Keys.{seen, FindsByName};
 
+use krs_ctx::Contexts;
+use krs_hold::Holders;
 use krs_keys::{Key, KeyTable};
-use krs_types::{Answer, Ask, Context, Errno, Fault, KeyId, Op, Serial, UidRings, Want};
+use krs_types::{Answer, Ask, Context, Errno, Fault, KeyId, Op, Serial, Want};
 use krs_walk::Walker;
 use std::alloc::{AllocError, Global};
-use std::collections::BTreeMap;
 use std::marker::Model;
 
 /// All that a store has. Each ask is a method.
 #[derive(Drop)]
 pub(crate) struct Tables {
     pub(crate) keys: KeyTable,
-    pub(crate) contexts: BTreeMap<u32, Context>,
-    pub(crate) processes: BTreeMap<u32, Option<Serial>>,
-    pub(crate) uids: BTreeMap<u32, UidRings>,
-    pub(crate) next_context: u64,
+    pub(crate) contexts: Contexts,
     pub(crate) clock: u64,
-    /// Whether a key may have been let go of since the last sweep.
-    pub(crate) let_go: bool,
+    pub(crate) holders: Holders,
     pub(crate) alloc: Global,
 }
 
@@ -50,35 +49,25 @@ impl Tables {
     {
         Tables {
             keys: KeyTable::starting_at(alloc, next),
-            contexts: BTreeMap::new(alloc),
-            processes: BTreeMap::new(alloc),
-            uids: BTreeMap::new(alloc),
-            next_context: 1,
+            contexts: Contexts::new(alloc),
             clock: 0,
-            let_go: false,
+            holders: Holders::new(alloc),
             alloc,
         }
     }
 
     /// The context of that number, where it is the client's.
-    #[tactic(auto, unfolding(krs_model::specs::Lookup::context_of))]
     pub(crate) fn context_of(&self, client: u32, number: u32) -> Result<&Context, Errno>
         ensures { Is (λ c. c.now) result (context_of self.now client number) }
     {
-        match self.contexts.get(&number) {
-            Some(context) if context.client == client => Ok(context),
-            _ => Err(Errno::ESRCH),
-        }
+        self.contexts.context_of(client, number)
     }
 
     /// The keyring of a process.
     pub(crate) fn process_ring(&self, process: u32) -> Option<Serial>
         ensures { result ≡ process_ring self.now process }
     {
-        match self.processes.get(&process) {
-            Some(ring) => *ring,
-            None => None,
-        }
+        self.contexts.process_ring(process)
     }
 
     /// Whether a context possesses a key: keyrings(7), "Possession".
@@ -100,11 +89,11 @@ impl Tables {
             KeyId::Thread => context.thread,
             KeyId::Process => self.process_ring(context.process),
             KeyId::Session => context.session,
-            KeyId::User => match self.uids.get(&context.caller.uid) {
+            KeyId::User => match self.contexts.rings(context.caller.uid) {
                 Some(rings) => rings.user,
                 None => None,
             },
-            KeyId::UserSession => match self.uids.get(&context.caller.uid) {
+            KeyId::UserSession => match self.contexts.rings(context.caller.uid) {
                 Some(rings) => rings.session,
                 None => None,
             },
@@ -152,12 +141,30 @@ impl Tables {
 
     /// One ask in the state that it finds.
     pub(crate) fn serve(&mut self, client: u32, ask: Ask) -> Result<Answer, Fault>
+        requires sound { IsSound self.old }
         ensures step { Leads self.old result self.new (outcome_of self.old client ask.context ask.op) }
         ensures memory { IsErrOf result Fault.Memory → grows ask.op ≡ true }
     {
         let context = ask.context;
         match ask.op {
             Op::Hello(caller) => self.hello(client, caller),
+            Op::Thread => self.thread(client, context),
+            Op::Fork => self.fork(client, context),
+            Op::Exec => self.exec(client, context),
+            Op::Search {
+                head,
+                type_name,
+                desc,
+                dest,
+            } => self.search(client, context, head, type_name, desc, dest),
+            Op::Request {
+                type_name,
+                desc,
+                dest,
+            } => self.request(client, context, type_name, desc, dest),
+            Op::GetId { id, create } => self.get_id(client, context, id, create),
+            Op::Join { name } => self.join(client, context, name),
+            Op::Invalidate { id } => self.invalidate(client, context, id),
             Op::Add {
                 type_name,
                 desc,
@@ -174,6 +181,7 @@ impl Tables {
             Op::Clear { id } => self.clear(client, context, id),
             Op::Read { id } => self.read(client, context, id),
             Op::Describe { id } => self.describe(client, context, id),
+            Op::Exit => self.exit(client, context),
             Op::Leave => {
                 self.leave(client);
                 Ok(Answer::Nothing)
@@ -188,13 +196,11 @@ impl Tables {
         self.clock = self.clock.max(moment);
     }
 
-    /// Just the keys stay that are attached, or linked by what stays. Where none was let go of, that is all of them.
+    /// Just the keys stay that are attached, or linked by what stays.
     pub(crate) fn sweep(&mut self)
+        requires acyclic { IsAcyclic (links_in self.old.keys) }
         ensures { IsSweep self.old self.new }
     {
-        if self.let_go {
-            self.keys.sweep(&self.contexts, &self.processes, &self.uids);
-            self.let_go = false;
-        }
+        self.holders.sweep(&mut self.keys);
     }
 }

@@ -4,6 +4,9 @@ use std::alloc::{AllocError, Global};
 use std::process::Abort;
 use std::test::Fail;
 
+mod contexts;
+mod joining;
+
 /// What an ask is answered with.
 #[derive(Clone, Copy, Debug)]
 enum Want<'a> {
@@ -366,6 +369,51 @@ fn keyrings_link_keys(rt: HostRuntime) -> Result<(), Fail> {
     ];
     for (step, want) in rows {
         let ask = ring_ask_of(alloc, step)?;
+        expect(&rt, store.apply(0, 0, ask), want, "a row");
+    }
+    Ok(())
+}
+
+/// The asks of the test of INVALIDATE, by their number.
+fn invalidating_ask_of(alloc: Global, step: u8) -> Result<Ask, AllocError> {
+    match step {
+        0 => Ok(hello(alloc, 1000)),
+        1 => add(alloc, b"keyring", b"a", b"", -4),
+        2 => add(alloc, b"user", b"k", b"one", 5),
+        3 => Ok(change(Op::Link { key: 6, ring: -4 })),
+        4 => Ok(change(Op::Invalidate { id: 6 })),
+        5 => Ok(change(Op::Invalidate { id: -3 })),
+        6 => Ok(read(1, 5)),
+        7 => Ok(read(1, 6)),
+        8 => Ok(read(1, -3)),
+        9 => Ok(read(1, -4)),
+        _ => Ok(read(1, -5)),
+    }
+}
+
+/// A key that two keyrings link, and a keyring that a context and its uid attach, are gone at once.
+#[test]
+fn keys_are_invalidated(rt: HostRuntime) -> Result<(), Fail> {
+    let alloc = rt.alloc();
+    let mut store = Store::new(alloc);
+    let gone = Want::Refused(Errno::ENOKEY);
+    let rows: [(u8, Want<'_>); 13] = [
+        (0, Want::Number(1)),
+        (1, Want::Number(5)),
+        (2, Want::Number(6)),
+        (3, Want::Nothing),
+        (9, Want::Bytes(&[5, 0, 0, 0, 6, 0, 0, 0])),
+        (4, Want::Nothing),
+        (7, gone),
+        (6, Want::Bytes(&[])),
+        (9, Want::Bytes(&[5, 0, 0, 0])),
+        (5, Want::Nothing),
+        (8, gone),
+        (10, gone),
+        (9, Want::Bytes(&[5, 0, 0, 0])),
+    ];
+    for (step, want) in rows {
+        let ask = invalidating_ask_of(alloc, step)?;
         expect(&rt, store.apply(0, 0, ask), want, "a row");
     }
     Ok(())

@@ -8,13 +8,13 @@ use Rattle.krs_wire.specs.declared.fault.WireFault.TheVariants.{BadVersion, BadO
 use Rattle.krs_types.specs.declared.ask.Ask.{Ask}
 use Rattle.krs_wire.specs.declared.framed.Framed.{Framed}
 use Rattle.krs_types.specs.declared.ask.Op.{Op}
-use Rattle.krs_types.specs.declared.ask.Op.TheVariants.{Hello, Add, Update, Revoke, Chown, SetPerm, SetTimeout, Link, Unlink, Clear, Read, Describe, Leave}
-use Rattle.krs_wire.specs.Field.{Field, number, sized, both, counted, nothing, whole}
+use Rattle.krs_types.specs.declared.ask.Op.TheVariants.{Hello, Thread, Fork, Exec, GetId, Join, Search, Request, Add, Update, Revoke, Invalidate, Chown, SetPerm, SetTimeout, Link, Unlink, Clear, Read, Describe, Exit, Leave}
+use Rattle.krs_wire.specs.Field.{Field, number, sized, flag, both, counted, nothing, whole}
 use Rattle.krs_wire.specs.Faulting.{after, or_bad_body}
-use Rattle.krs_wire.specs.Bodies.{id_field, hello_fields, hello_of, add_fields, add_of, update_fields, update_of, revoke_of, chown_fields, chown_of, id_number_fields, set_perm_of, set_timeout_of, link_fields, link_of, unlink_of, clear_of, read_of, describe_of, leave_of, number_of_op, body_of_op, FitsOp}
+use Rattle.krs_wire.specs.Bodies.{id_field, text_field, thread_of, fork_of, exec_of, exit_of, get_id_fields, get_id_of, join_of, search_fields, search_of, request_fields, request_of, hello_fields, hello_of, add_fields, add_of, update_fields, update_of, revoke_of, invalidate_of, chown_fields, chown_of, id_number_fields, set_perm_of, set_timeout_of, link_fields, link_of, unlink_of, clear_of, read_of, describe_of, leave_of, number_of_op, body_of_op, FitsOp}
 use Rattle.krs_wire.specs.Frame.{rest, Frames, front_of, front_by, front_in, is_bad_length, framed_of, framed_by, op_of, head_fields}
 use Rattle.krs_wire.specs.Spelling.{framed, ask_text, ask_frame, FitsAsk}
-use Rattle.krs_wire.proofs.FieldLemmas.{IsBytes, IsBytes-take, IsExact, wide16, wide32, number_exact, signed_exact, sized_exact, both_exact, nothing_exact, whole_again, whole_takes}
+use Rattle.krs_wire.proofs.FieldLemmas.{IsBytes, IsBytes-take, IsExact, wide16, wide32, number_exact, signed_exact, sized_exact, flag_exact, both_exact, nothing_exact, whole_again, whole_takes}
 use Rattle.krs_wire.proofs.CountLemmas.{counted_exact}
 use Rattle.krs_wire.proofs.CutLemmas.{IsFront, in_made, in_parts}
 
@@ -42,13 +42,37 @@ id_number_exact = both_exact id_field (number w32) id_exact (number_exact w32 wi
 link_exact : IsExact link_fields
 link_exact = both_exact id_field id_field id_exact id_exact
 
+get_id_exact : IsExact get_id_fields
+get_id_exact = both_exact id_field flag id_exact flag_exact
+
+text_exact : IsExact text_field
+text_exact = sized_exact w16 wide16
+
+request_exact : IsExact request_fields
+request_exact =
+    both_exact text_field (both text_field id_field) text_exact (both_exact text_field id_field text_exact id_exact)
+
+search_exact : IsExact search_fields
+search_exact = both_exact id_field request_fields id_exact request_exact
+
 head_exact : IsExact head_fields
 head_exact = both_exact (number w16) (both (number w16) (number w32)) (number_exact w16 wide16) (both_exact (number w16) (number w32) (number_exact w16 wide16) (number_exact w32 wide32))
 
 op_again : (op : Op) → FitsOp op → op_of (number_of_op op) (body_of_op op) ≡ Ok op
 unfolding op_of
+op_again (GetId id create) h = ap or_bad_body (whole_again get_id_fields get_id_exact get_id_of (id, create) h)
+op_again (Join name) h = ap or_bad_body (whole_again text_field text_exact join_of name h)
+op_again (Search head type_name desc dest) h =
+    ap or_bad_body (whole_again search_fields search_exact search_of (head, (type_name, (desc, dest))) h)
+op_again (Request type_name desc dest) h =
+    ap or_bad_body (whole_again request_fields request_exact request_of (type_name, (desc, dest)) h)
+op_again Thread h = ap or_bad_body (whole_again nothing nothing_exact thread_of tt h)
+op_again Fork h = ap or_bad_body (whole_again nothing nothing_exact fork_of tt h)
+op_again Exec h = ap or_bad_body (whole_again nothing nothing_exact exec_of tt h)
+op_again Exit h = ap or_bad_body (whole_again nothing nothing_exact exit_of tt h)
 op_again (Update id payload) h = ap or_bad_body (whole_again update_fields update_exact update_of (id, payload) h)
 op_again (Revoke id) h = ap or_bad_body (whole_again id_field id_exact revoke_of id h)
+op_again (Invalidate id) h = ap or_bad_body (whole_again id_field id_exact invalidate_of id h)
 op_again (Chown id uid gid) h = ap or_bad_body (whole_again chown_fields chown_exact chown_of (id, (uid, gid)) h)
 op_again (SetPerm id mask) h = ap or_bad_body (whole_again id_number_fields id_number_exact set_perm_of (id, mask) h)
 op_again (SetTimeout id seconds) h =
@@ -63,8 +87,17 @@ op_again Leave h = ap or_bad_body (whole_again nothing nothing_exact leave_of tt
 op_again (Add type_name desc payload ring) h = ap or_bad_body (whole_again add_fields add_exact add_of (type_name, (desc, (payload, ring))) h)
 
 op_small : (op : Op) → number_of_op op < 256 ^ 2
+op_small (GetId id create) = omega arith
+op_small (Join name) = omega arith
+op_small (Search head type_name desc dest) = omega arith
+op_small (Request type_name desc dest) = omega arith
+op_small Thread = omega arith
+op_small Fork = omega arith
+op_small Exec = omega arith
+op_small Exit = omega arith
 op_small (Update id payload) = omega arith
 op_small (Revoke id) = omega arith
+op_small (Invalidate id) = omega arith
 op_small (Chown id uid gid) = omega arith
 op_small (SetPerm id mask) = omega arith
 op_small (SetTimeout id seconds) = omega arith
@@ -158,6 +191,8 @@ no_row which body op e = absurd cc
 op_takes : (which : ℕ) (body : List ℕ) (op : Op) → IsBytes body → op_of which body ≡ Ok op → OpTakes which body op
 unfolding op_of
 op_takes which body op bytes =
+    row_or get_id_fields get_id_of 0 get_id_exact (λ x. refl) (λ x. refl) (λ x k. k) which body op _ bytes (
+    row_or text_field join_of 1 text_exact (λ x. refl) (λ x. refl) (λ x k. k) which body op _ bytes (
     row_or update_fields update_of 2 update_exact (λ x. refl) (λ x. refl) (λ x k. k) which body op _ bytes (
     row_or id_field revoke_of 3 id_exact (λ x. refl) (λ x. refl) (λ x k. k) which body op _ bytes (
     row_or chown_fields chown_of 4 chown_exact (λ x. refl) (λ x. refl) (λ x k. k) which body op _ bytes (
@@ -166,13 +201,20 @@ op_takes which body op bytes =
     row_or id_field clear_of 7 id_exact (λ x. refl) (λ x. refl) (λ x k. k) which body op _ bytes (
     row_or link_fields link_of 8 link_exact (λ x. refl) (λ x. refl) (λ x k. k) which body op _ bytes (
     row_or link_fields unlink_of 9 link_exact (λ x. refl) (λ x. refl) (λ x k. k) which body op _ bytes (
+    row_or search_fields search_of 10 search_exact (λ x. refl) (λ x. refl) (λ x k. k) which body op _ bytes (
     row_or id_field read_of 11 id_exact (λ x. refl) (λ x. refl) (λ x k. k) which body op _ bytes (
     row_or id_number_fields set_timeout_of 15
     id_number_exact (λ x. refl) (λ x. refl) (λ x k. k) which body op _ bytes (
+    row_or id_field invalidate_of 21 id_exact (λ x. refl) (λ x. refl) (λ x k. k) which body op _ bytes (
     row_or hello_fields hello_of 256 hello_exact (λ x. refl) (λ x. refl) (λ x k. k) which body op _ bytes (
+    row_or nothing thread_of 257 nothing_exact (λ x. refl) (λ x. refl) (λ x k. k) which body op _ bytes (
+    row_or nothing fork_of 258 nothing_exact (λ x. refl) (λ x. refl) (λ x k. k) which body op _ bytes (
+    row_or nothing exec_of 259 nothing_exact (λ x. refl) (λ x. refl) (λ x k. k) which body op _ bytes (
+    row_or nothing exit_of 260 nothing_exact (λ x. refl) (λ x. refl) (λ x k. k) which body op _ bytes (
     row_or nothing leave_of 261 nothing_exact (λ x. refl) (λ x. refl) (λ x k. k) which body op _ bytes (
     row_or add_fields add_of 262 add_exact (λ x. refl) (λ x. refl) (λ x k. k) which body op _ bytes (
-    no_row which body op)))))))))))))
+    row_or request_fields request_of 263 request_exact (λ x. refl) (λ x. refl) (λ x k. k) which body op _ bytes (
+    no_row which body op))))))))))))))))))))))
 
 after_ok : {A B : Type 0} (f : A → Result B WireFault) (r : Result A WireFault) (y : B) → after f r ≡ Ok y → (x : A) × (r ≡ Ok x) × (f x ≡ Ok y)
 after_ok f (Ok x) y e = (x, refl, e)

@@ -1,5 +1,5 @@
 -- Each field is exact: what is read is spelled so, and what is spelled is read.
-use Rattle.std.proofs.Common.{◌≡◌, ℕ, ◌+◌, ◌^◌, ◌<◌, ◌≤◌, Bool, true, false, cond, eqb, ltb, List, [], ◌++◌, length, get_or, take, drop, Option, Some, None, refl, sym, ap, subst, ◌∙◌, append_assoc, arith, inl, inr}
+use Rattle.std.proofs.Common.{◌≡◌, ℕ, suc, ◌+◌, ◌^◌, ◌<◌, ◌≤◌, Bool, true, false, cond, eqb, ltb, List, [], ◌∷◌, ◌++◌, length, get_or, take, drop, Option, Some, None, refl, sym, ap, subst, ◌∙◌, append_assoc, arith, inl, inr}
 use Rattle.std.specs.Option.{option_and_then}
 use Rattle.std.specs.Prelude.{ℤ, FitsSigned}
 use Rattle.std.specs.Int.{Width, w16, w32, byte_len, from_le_bytes, to_le_bytes, cast_signed, cast_unsigned}
@@ -8,7 +8,7 @@ use Rattle.std.proofs.lemmas.List.{take_at, drop_at, take-append-drop, length-ap
 use Rattle.std.proofs.lemmas.Nat.{le_bytes_2, le_bytes_4, from_le_bytes-to_le_bytes_2, from_le_bytes-to_le_bytes_4}
 use Rattle.std.proofs.lemmas.Int.{to_z-of_z, of_z-to_z}
 use Rattle.std.proofs.Math.Facts.{Fits-of_z, sfits_to_z}
-use Rattle.krs_wire.specs.Field.{Field, number, signed, sized, both, nothing, whole}
+use Rattle.krs_wire.specs.Field.{Field, number, signed, sized, flag, both, nothing, whole}
 
 abbrev pub IsBytes : List ℕ → Type 0
 IsBytes bytes = (i : ℕ) → get_or bytes i 0 < 256
@@ -144,6 +144,41 @@ sized_again w wide text more lt =
 
 pub sized_exact : (w : Width) → IsWide w → IsExact (sized w)
 sized_exact w wide = record { takes = sized_takes w wide; again = sized_again w wide }
+
+-- ---- flags
+
+abbrev no_flag : Option (Bool × List ℕ)
+no_flag = None
+
+-- a flag and what follows it stand in the bytes that begin with this one
+abbrev FlagTaken : ℕ → List ℕ → Bool × List ℕ → Type 0
+FlagTaken n bytes flagged = (n ∷ bytes ≡ flag.spell flagged.0 ++ flagged.1) × (bytes ≡ flagged.1)
+
+-- the byte of a flag that is read is 0 or 1
+flag_some : (n : ℕ) (bytes : List ℕ) (is_no is_yes b : Bool) (more : List ℕ)
+    → cond is_no (Some (false, bytes)) (cond is_yes (Some (true, bytes)) no_flag) ≡ Some (b, more)
+    → eqb n 0 ≡ is_no → eqb n 1 ≡ is_yes → FlagTaken n bytes (b, more)
+flag_some n bytes true is_yes b more e zero one =
+    let byte : n ∷ bytes ≡ 0 ∷ bytes = ap (λ (k : ℕ). k ∷ bytes) (eqb-true _ _ zero) in
+    subst (FlagTaken n bytes) (some_is (false, bytes) (b, more) e) (byte, refl)
+flag_some n bytes false true b more e zero one =
+    let byte : n ∷ bytes ≡ 1 ∷ bytes = ap (λ (k : ℕ). k ∷ bytes) (eqb-true _ _ one) in
+    subst (FlagTaken n bytes) (some_is (true, bytes) (b, more) e) (byte, refl)
+flag_some n bytes false false b more e zero one = absurd cc
+
+flag_takes : (bytes : List ℕ) (b : Bool) (more : List ℕ) → IsBytes bytes → flag.read bytes ≡ Some (b, more)
+    → Takes flag bytes b more
+flag_takes [] b more fits e = absurd cc
+flag_takes (n ∷ bytes) b more fits e =
+    let taken = flag_some n bytes (eqb n 0) (eqb n 1) b more e refl refl in
+    record { parts = taken.0; fits = tt; more_fits = subst IsBytes taken.1 (λ i. fits (suc i)) }
+
+flag_again : (b : Bool) (more : List ℕ) → flag.read (flag.spell b ++ more) ≡ Some (b, more)
+flag_again true more = refl
+flag_again false more = refl
+
+pub flag_exact : IsExact flag
+flag_exact = record { takes = flag_takes; again = λ b more h. flag_again b more }
 
 -- ---- fields together
 

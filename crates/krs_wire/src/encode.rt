@@ -1,6 +1,7 @@
 ghost use Rattle.std.specs.Prelude.{◌≡◌, ◌≤◌, ◌<◌, ◌^◌, ◌++◌, [], ◌∷◌, length, drop, vec_len, IfOk, IfErr, OnOk};
 ghost use Rattle.std.specs.Int.{w16, w32, to_le_bytes};
-ghost use Rattle.krs_wire.specs.Bodies.{number_of_op, body_of_op, FitsOp, id_field, text_field, blob_field, groups_field, hello_fields, hello_parts, add_fields, add_parts, update_fields, update_parts, chown_fields, chown_parts, id_number_fields, id_number_parts, link_fields, link_parts};
+ghost use Rattle.krs_wire.specs.Bodies.{number_of_op, body_of_op, FitsOp, id_field, text_field, blob_field, groups_field, hello_fields, hello_parts, add_fields, add_parts, update_fields, update_parts, chown_fields, chown_parts, id_number_fields, id_number_parts, link_fields, link_parts, get_id_fields, get_id_parts, request_fields, request_parts, search_fields, search_parts};
+ghost use Rattle.krs_wire.specs.Field.{flag};
 ghost use Rattle.krs_wire.specs.Frame.{Frames, rest};
 ghost use Rattle.krs_wire.specs.Spelling.{framed, ask_text, ask_frame, IsTooLong};
 
@@ -15,6 +16,8 @@ fn operation_number(op: &Op) -> u16
     ensures { result ≡ number_of_op op.now }
 {
     match op {
+        Op::GetId { .. } => 0,
+        Op::Join { .. } => 1,
         Op::Update { .. } => 2,
         Op::Revoke { .. } => 3,
         Op::Chown { .. } => 4,
@@ -23,11 +26,18 @@ fn operation_number(op: &Op) -> u16
         Op::Clear { .. } => 7,
         Op::Link { .. } => 8,
         Op::Unlink { .. } => 9,
+        Op::Search { .. } => 10,
         Op::Read { .. } => 11,
         Op::SetTimeout { .. } => 15,
+        Op::Invalidate { .. } => 21,
         Op::Hello(_) => 256,
+        Op::Thread => 257,
+        Op::Fork => 258,
+        Op::Exec => 259,
+        Op::Exit => 260,
         Op::Leave => 261,
         Op::Add { .. } => 262,
+        Op::Request { .. } => 263,
     }
 }
 
@@ -51,6 +61,12 @@ fn put_id(out: &mut Vec<u8>, id: i32) -> Result<(), AllocError>
     ensures { OnOk result (out.new.items ≡ out.old.items ++ id_field.spell id) }
 {
     put_u32(out, id.cast_unsigned())
+}
+
+fn put_flag(out: &mut Vec<u8>, is_set: bool) -> Result<(), AllocError>
+    ensures { OnOk result (out.new.items ≡ out.old.items ++ flag.spell is_set) }
+{
+    out.extend_from_slice(&[u8::from(is_set)])
 }
 
 fn put_text(out: &mut Vec<u8>, text: &Blob) -> Result<(), WireFault>
@@ -163,12 +179,53 @@ fn put_link(out: &mut Vec<u8>, key: i32, ring: i32) -> Result<(), AllocError>
     put_id(out, ring)
 }
 
+fn put_get_id(out: &mut Vec<u8>, id: i32, create: bool) -> Result<(), AllocError>
+    ensures { OnOk result
+        (out.new.items ≡ out.old.items ++ get_id_fields.spell (get_id_parts id create)) }
+{
+    put_id(out, id)?;
+    put_flag(out, create)
+}
+
+fn put_request(out: &mut Vec<u8>, type_name: &Blob, desc: &Blob, dest: i32) -> Result<(), WireFault>
+    ensures ok { OnOk result (out.new.items ≡
+        out.old.items ++ request_fields.spell (request_parts type_name.now desc.now dest)) }
+    ensures fits { OnOk result (request_fields.Fits (request_parts type_name.now desc.now dest)) }
+    ensures long { IfErr result (IsTooLong 65536
+        (request_fields.spell (request_parts type_name.now desc.now dest))) }
+{
+    put_text(out, type_name)?;
+    put_text(out, desc)?;
+    put_id(out, dest)?;
+    Ok(())
+}
+
+fn put_search(
+    out: &mut Vec<u8>,
+    head: i32,
+    type_name: &Blob,
+    desc: &Blob,
+    dest: i32,
+) -> Result<(), WireFault>
+    ensures ok { OnOk result (out.new.items ≡
+        out.old.items ++ search_fields.spell (search_parts head type_name.now desc.now dest)) }
+    ensures fits { OnOk result
+        (search_fields.Fits (search_parts head type_name.now desc.now dest)) }
+    ensures long { IfErr result (IsTooLong 65536
+        (search_fields.spell (search_parts head type_name.now desc.now dest))) }
+{
+    put_id(out, head)?;
+    put_request(out, type_name, desc, dest)
+}
+
 fn put_body(out: &mut Vec<u8>, op: &Op) -> Result<(), WireFault>
     ensures ok { OnOk result (out.new.items ≡ out.old.items ++ body_of_op op.now) }
     ensures fits { OnOk result (FitsOp op.now) }
     ensures long { IfErr result (IsTooLong 65536 (body_of_op op.now)) }
 {
     match op {
+        Op::GetId { id, create } => put_get_id(out, *id, *create)?,
+        Op::Join { name } => put_text(out, name)?,
         Op::Update { id, payload } => put_update(out, *id, payload)?,
         Op::Revoke { id } => put_id(out, *id)?,
         Op::Chown { id, uid, gid } => put_chown(out, *id, *uid, *gid)?,
@@ -177,16 +234,29 @@ fn put_body(out: &mut Vec<u8>, op: &Op) -> Result<(), WireFault>
         Op::Clear { id } => put_id(out, *id)?,
         Op::Link { key, ring } => put_link(out, *key, *ring)?,
         Op::Unlink { key, ring } => put_link(out, *key, *ring)?,
+        Op::Search {
+            head,
+            type_name,
+            desc,
+            dest,
+        } => put_search(out, *head, type_name, desc, *dest)?,
         Op::Read { id } => put_id(out, *id)?,
         Op::SetTimeout { id, seconds } => put_id_number(out, *id, *seconds)?,
+        Op::Invalidate { id } => put_id(out, *id)?,
         Op::Hello(caller) => put_hello(out, caller)?,
-        Op::Leave => (),
+        Op::Thread | Op::Fork | Op::Exec => (),
+        Op::Exit | Op::Leave => (),
         Op::Add {
             type_name,
             desc,
             payload,
             ring,
         } => put_add(out, type_name, desc, payload, *ring)?,
+        Op::Request {
+            type_name,
+            desc,
+            dest,
+        } => put_request(out, type_name, desc, *dest)?,
     }
     Ok(())
 }

@@ -2,7 +2,7 @@
 ghost use Rattle.std.specs.Prelude.{◌≡◌, ◌==◌, length, if◌then◌else◌};
 ghost use Rattle.std.specs.Int.{w16, w32};
 ghost use Rattle.krs_wire.specs.Bodies.{id_field, text_field, blob_field, groups_field};
-ghost use Rattle.krs_wire.specs.Field.{number, many_read};
+ghost use Rattle.krs_wire.specs.Field.{flag, number, many_read};
 ghost use Rattle.krs_wire.specs.Faulting.{Gives, or_bad_body};
 
 use crate::WireFault;
@@ -35,6 +35,16 @@ pub(crate) fn id_at(bytes: &[u8]) -> Result<(i32, &[u8]), WireFault>
 {
     let (number, rest) = u32_at(bytes)?;
     Ok((number.cast_signed(), rest))
+}
+
+pub(crate) fn flag_at(bytes: &[u8]) -> Result<(bool, &[u8]), WireFault>
+    ensures { Gives (λ x. (x.0, x.1.now)) result (or_bad_body (flag.read bytes.now)) }
+{
+    match bytes {
+        [0, rest @ ..] => Ok((false, rest)),
+        [1, rest @ ..] => Ok((true, rest)),
+        _ => Err(WireFault::BadBody),
+    }
 }
 
 pub(crate) fn text_at(alloc: Global, bytes: &[u8]) -> Result<(Blob, &[u8]), WireFault>

@@ -16,6 +16,7 @@ use Rattle.krs_model.specs.State.{State, Key, Content, Payload, Links}
 use Rattle.krs_model.specs.Access.{is_alive, rights_on}
 use Rattle.krs_model.specs.Possession.{possessed}
 use Rattle.krs_model.specs.Lookup.{context_of, look_up}
+use Rattle.krs_model.specs.Making.{made_for}
 use Rattle.krs_model.specs.Linking.{ring_links, link_named, linking, has_room}
 use Rattle.krs_model.specs.Asks.Changing.{changed, updated}
 use Rattle.krs_model.specs.Outcome.{Outcome}
@@ -108,9 +109,14 @@ abbrev pub added_serial : State → Place → ℕ
 added_serial s (Updated serial) = serial
 added_serial s (Made ring) = s.next_serial
 
+abbrev pub added_in : State → Context → Name → List ℕ → ℤ → Outcome
+added_in s c name payload ring = do
+  place ← place_of s c name ring
+  Ok (added s c name payload place, Number (added_serial s place))
+
+-- a key in a keyring, which is made where it is wanted: add_key(2)
 unfoldable pub add : State → ℕ → ℕ → List ℕ → List ℕ → List ℕ → ℤ → Outcome
 add s client context type_name desc payload ring = do
   c ← context_of s client context
   name ← admitted type_name desc payload
-  place ← place_of s c name ring
-  Ok (added s c name payload place, Number (added_serial s place))
+  added_in (made_for s context c ring).0 (made_for s context c ring).1 name payload ring

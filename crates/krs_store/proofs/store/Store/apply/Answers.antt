@@ -1,6 +1,10 @@
-use Rattle.std.proofs.Common.{◌≡◌, sym, ◌∙◌, subst}
+use Rattle.std.proofs.Common.{sym, ◌∙◌, subst}
+use Rattle.krs_types.specs.declared.fault.Fault.{Fault}
 use Rattle.krs_model.specs.Sound.{IsSound}
-use Rattle.krs_model.proofs.Soundness.{served_sound, raised_sound}
+use Rattle.krs_model.specs.Outcome.{Fails}
+use Rattle.krs_model.specs.Step.{outcome_of}
+use Rattle.krs_model.proofs.Soundness.{served_sound, served_acyclic, raised_sound}
+use Rattle.krs_store.proofs.Endings.{exec_refuses, exit_refuses}
 use Rattle.krs_store.proofs.store.Store.apply.Goals as goal
 
 pub invariant_of-self : goal.invariant_of-self
@@ -13,3 +17,23 @@ invariant_of-self-in-Err-Memory c =
 pub invariant_of-self-in-Err-Refused : goal.invariant_of-self-in-Err-Refused
 invariant_of-self-in-Err-Refused c =
     subst IsSound (sym (c.in-Err-Refused.ensures.step.1 ∙ c.raise.ensures)) (raised_sound c.self.inside.tables c.args.moment c.self.invariant)
+
+pub sweep-requires : goal.sweep-requires
+sweep-requires c = record { acyclic = served_acyclic _ _ _ _ _ _ _ _ c.self.invariant c.raise.ensures c.in-Ok.ensures.step }
+
+pub serve-requires : goal.serve-requires
+serve-requires c = record {
+  sound = subst IsSound (sym c.raise.ensures) (raised_sound c.self.inside.tables c.args.moment c.self.invariant);
+}
+
+pub returns-in-Err-Refused-clause-exec : goal.returns-in-Err-Refused-clause-exec
+returns-in-Err-Refused-clause-exec c =
+    exec_refuses c.raise.new.self c.args.client c.args.ask.context c.args.ask.op c.in-Err-Refused.errno
+    (subst (λ (f : Fault). Fails f (outcome_of c.raise.new.self c.args.client c.args.ask.context c.args.ask.op))
+    c.in-Err-Refused.field-0-is c.in-Err-Refused.ensures.step.0)
+
+pub returns-in-Err-Refused-clause-exit : goal.returns-in-Err-Refused-clause-exit
+returns-in-Err-Refused-clause-exit c =
+    exit_refuses c.raise.new.self c.args.client c.args.ask.context c.args.ask.op c.in-Err-Refused.errno
+    (subst (λ (f : Fault). Fails f (outcome_of c.raise.new.self c.args.client c.args.ask.context c.args.ask.op))
+    c.in-Err-Refused.field-0-is c.in-Err-Refused.ensures.step.0)
