@@ -3,11 +3,12 @@ use Rattle.std.specs.Prelude.{ℕ, ℤ, pos, Bool, true, false, if◌then◌else
 use Rattle.krs_types.specs.declared.ask.Op.{Op}
 use Rattle.krs_types.specs.declared.ask.Op.TheVariants as op
 use Rattle.krs_ctl.specs.declared.command.CommandName.{CommandName}
-use Rattle.krs_ctl.specs.declared.command.CommandName.TheVariants.{Hello, Context, Moment, Thread, Fork, Exec, Exit, Add, Newring, Id, Join, Update, Print, Rlist, Rdescribe, Revoke, Invalidate, Clear, Chown, Chgrp, SetPerm, Timeout, Link, Unlink, Search, Request, Leave}
+use Rattle.krs_ctl.specs.declared.command.CommandName.TheVariants.{Hello, Context, Moment, Thread, Fork, Exec, Exit, Add, Newring, Id, Join, Update, Print, Rlist, Rdescribe, Revoke, Invalidate, Clear, Chown, Chgrp, SetPerm, Timeout, Link, Unlink, Search, Request, Open, Closeq, Watch, Filter, Readq, Leave}
 use Rattle.krs_ctl.specs.declared.command.Command.{Command}
 use Rattle.krs_ctl.specs.declared.command.Command.TheVariants as command
 use Rattle.krs_ctl.specs.Parsed.{◌>>=◌}
-use Rattle.krs_ctl.specs.Number.{u32_of, u64_of, u32s_of, hexadecimal_of, key_of, data_of}
+use Rattle.krs_ctl.specs.Number.{u32_of, u64_of, u32s_of, hexadecimal_of, key_of, data_of, watch_id_of}
+use Rattle.krs_ctl.specs.Entry.{entries_of}
 
 -- the first word of each command
 abbrev pub spelling : CommandName → List ℕ
@@ -37,6 +38,11 @@ spelling Link = codes "link"
 spelling Unlink = codes "unlink"
 spelling Search = codes "search"
 spelling Request = codes "request"
+spelling Open = codes "open"
+spelling Closeq = codes "closeq"
+spelling Watch = codes "watch"
+spelling Filter = codes "filter"
+spelling Readq = codes "readq"
 spelling Leave = codes "leave"
 
 -- all commands that are built
@@ -44,7 +50,7 @@ abbrev pub command_names : List CommandName
 command_names =
     Hello ∷ Context ∷ Moment ∷ Thread ∷ Fork ∷ Exec ∷ Exit ∷ Add ∷ Newring ∷ Id ∷ Join ∷ Update ∷ Print ∷ Rlist
     ∷ Rdescribe ∷ Revoke ∷ Invalidate ∷ Clear ∷ Chown ∷ Chgrp ∷ SetPerm ∷ Timeout ∷ Link ∷ Unlink ∷ Search ∷ Request
-    ∷ Leave ∷ []
+    ∷ Open ∷ Closeq ∷ Watch ∷ Filter ∷ Readq ∷ Leave ∷ []
 
 -- the command of a first word
 abbrev pub name_of_word : List ℕ → Option CommandName
@@ -236,6 +242,45 @@ request_of (type_name ∷ (desc ∷ words)) = do
   Some (command.Ask (op.Request type_name desc dest))
 request_of _ = None
 
+-- `open CAPACITY`
+abbrev pub open_of : List (List ℕ) → Option Command
+open_of (number ∷ []) = do
+  capacity ← u32_of number
+  Some (command.Ask (op.OpenQueue capacity))
+open_of _ = None
+
+-- `closeq QUEUE`
+abbrev pub closeq_of : List (List ℕ) → Option Command
+closeq_of (number ∷ []) = do
+  queue ← u32_of number
+  Some (command.Ask (op.CloseQueue queue))
+closeq_of _ = None
+
+-- `watch KEY QUEUE ID`
+abbrev pub watch_of : List (List ℕ) → Option Command
+watch_of (key ∷ (number ∷ (watch ∷ []))) = do
+  id ← key_of key
+  queue ← u32_of number
+  w ← watch_id_of watch
+  Some (command.Ask (op.Watch id queue w))
+watch_of _ = None
+
+-- `filter QUEUE ENTRY ..`: one entry or more
+abbrev pub filter_of : List (List ℕ) → Option Command
+filter_of (number ∷ (first ∷ others)) = do
+  queue ← u32_of number
+  entries ← entries_of (first ∷ others)
+  Some (command.Ask (op.SetFilter queue entries))
+filter_of _ = None
+
+-- `readq QUEUE ROOM`
+abbrev pub readq_of : List (List ℕ) → Option Command
+readq_of (number ∷ (bytes ∷ [])) = do
+  queue ← u32_of number
+  room ← u32_of bytes
+  Some (command.Readq queue room)
+readq_of _ = None
+
 -- a command's row
 abbrev pub row_of : CommandName → List (List ℕ) → Option Command
 row_of Hello args = hello_of args
@@ -264,6 +309,11 @@ row_of Link args = link_of args
 row_of Unlink args = unlink_of args
 row_of Search args = search_of args
 row_of Request args = request_of args
+row_of Open args = open_of args
+row_of Closeq args = closeq_of args
+row_of Watch args = watch_of args
+row_of Filter args = filter_of args
+row_of Readq args = readq_of args
 row_of Leave args = alone_of op.Leave args
 
 -- the command that a line's words are: none where they are no command, or more or less than it takes

@@ -1,9 +1,12 @@
 ghost use Rattle.std.specs.Prelude.{◌≡◌, map};
-ghost use Rattle.krs_ctl.specs.Command.{spelling, name_of_word, hello_of, context_of, moment_of, alone_of, add_of, newring_of, create_of, id_of, join_of, update_of, print_of, rlist_of, rdescribe_of, revoke_of, invalidate_of, clear_of, chown_of, chgrp_of, setperm_of, timeout_of, link_of, unlink_of, dest_of, search_of, request_of, command_of};
+ghost use Rattle.krs_ctl.specs.Command.{spelling, name_of_word, hello_of, context_of, moment_of, alone_of, add_of, newring_of, create_of, id_of, join_of, update_of, print_of, rlist_of, rdescribe_of, revoke_of, invalidate_of, clear_of, chown_of, chgrp_of, setperm_of, timeout_of, link_of, unlink_of, dest_of, search_of, request_of, open_of, closeq_of, watch_of, filter_of, readq_of, command_of};
 ghost use Rattle.krs_ctl.specs.Parsed.{Reads};
 
+use crate::entry::entries_words;
 use crate::no_command::NoCommand;
-use crate::number::{data_word, groups_words, hexadecimal_word, key_word, u32_word, u64_word};
+use crate::number::{
+    data_word, groups_words, hexadecimal_word, key_word, u32_word, u64_word, watch_word,
+};
 use krs_types::{Blob, Caller, Op};
 use std::alloc::Global;
 
@@ -21,6 +24,8 @@ pub enum Command {
     Ask(Op),
     /// The payload of the key, or the serials that it links where it is a keyring.
     Rlist(i32),
+    /// The records of a queue, as many as fit into that many bytes.
+    Readq { queue: u32, room: u32 },
 }
 
 /// The first word of a command.
@@ -52,10 +57,15 @@ pub enum CommandName {
     Unlink,
     Search,
     Request,
+    Open,
+    Closeq,
+    Watch,
+    Filter,
+    Readq,
     Leave,
 }
 
-const COMMAND_NAMES: [CommandName; 27] = [
+const COMMAND_NAMES: [CommandName; 32] = [
     CommandName::Hello,
     CommandName::Context,
     CommandName::Moment,
@@ -82,6 +92,11 @@ const COMMAND_NAMES: [CommandName; 27] = [
     CommandName::Unlink,
     CommandName::Search,
     CommandName::Request,
+    CommandName::Open,
+    CommandName::Closeq,
+    CommandName::Watch,
+    CommandName::Filter,
+    CommandName::Readq,
     CommandName::Leave,
 ];
 
@@ -117,6 +132,11 @@ impl CommandName {
             CommandName::Unlink => "unlink",
             CommandName::Search => "search",
             CommandName::Request => "request",
+            CommandName::Open => "open",
+            CommandName::Closeq => "closeq",
+            CommandName::Watch => "watch",
+            CommandName::Filter => "filter",
+            CommandName::Readq => "readq",
             CommandName::Leave => "leave",
         }
     }
@@ -166,6 +186,11 @@ pub fn parse(alloc: Global, words: &[&[u8]]) -> Result<Command, NoCommand>
         CommandName::Unlink => unlink(args),
         CommandName::Search => search_from(alloc, args),
         CommandName::Request => request(alloc, args),
+        CommandName::Open => open(args),
+        CommandName::Closeq => closeq(args),
+        CommandName::Watch => watch(args),
+        CommandName::Filter => filter(alloc, args),
+        CommandName::Readq => readq(args),
         CommandName::Leave => alone(Op::Leave, args),
     }
 }
@@ -452,4 +477,61 @@ fn request(alloc: Global, args: &[&[u8]]) -> Result<Command, NoCommand>
         desc: Blob::from_slice(alloc, desc)?,
         dest,
     }))
+}
+
+fn open(args: &[&[u8]]) -> Result<Command, NoCommand>
+    ensures { Reads result (open_of (map (λ w. w.now) args.now)) }
+{
+    let [capacity] = args else {
+        return Err(NoCommand::Usage);
+    };
+    let capacity = u32_word(capacity).ok_or(NoCommand::Usage)?;
+    Ok(Command::Ask(Op::OpenQueue { capacity }))
+}
+
+fn closeq(args: &[&[u8]]) -> Result<Command, NoCommand>
+    ensures { Reads result (closeq_of (map (λ w. w.now) args.now)) }
+{
+    let [queue] = args else {
+        return Err(NoCommand::Usage);
+    };
+    let queue = u32_word(queue).ok_or(NoCommand::Usage)?;
+    Ok(Command::Ask(Op::CloseQueue { queue }))
+}
+
+fn watch(args: &[&[u8]]) -> Result<Command, NoCommand>
+    ensures { Reads result (watch_of (map (λ w. w.now) args.now)) }
+{
+    let [key, queue, watch] = args else {
+        return Err(NoCommand::Usage);
+    };
+    let id = key_word(key).ok_or(NoCommand::Usage)?;
+    let queue = u32_word(queue).ok_or(NoCommand::Usage)?;
+    let watch = watch_word(watch).ok_or(NoCommand::Usage)?;
+    Ok(Command::Ask(Op::Watch { id, queue, watch }))
+}
+
+fn filter(alloc: Global, args: &[&[u8]]) -> Result<Command, NoCommand>
+    ensures { Reads result (filter_of (map (λ w. w.now) args.now)) }
+{
+    let [queue, words @ ..] = args else {
+        return Err(NoCommand::Usage);
+    };
+    if words.is_empty() {
+        return Err(NoCommand::Usage);
+    }
+    let queue = u32_word(queue).ok_or(NoCommand::Usage)?;
+    let entries = entries_words(alloc, words)?;
+    Ok(Command::Ask(Op::SetFilter { queue, entries }))
+}
+
+fn readq(args: &[&[u8]]) -> Result<Command, NoCommand>
+    ensures { Reads result (readq_of (map (λ w. w.now) args.now)) }
+{
+    let [queue, room] = args else {
+        return Err(NoCommand::Usage);
+    };
+    let queue = u32_word(queue).ok_or(NoCommand::Usage)?;
+    let room = u32_word(room).ok_or(NoCommand::Usage)?;
+    Ok(Command::Readq { queue, room })
 }

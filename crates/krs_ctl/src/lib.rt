@@ -3,6 +3,7 @@
 #![tactic(auto)]
 
 mod command;
+mod entry;
 mod laws;
 mod lines;
 mod listing;

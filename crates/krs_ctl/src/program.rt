@@ -46,11 +46,17 @@ Commands of a script, with what an accepted one prints:
   unlink KEY RING               one link less in a keyring: ok
   search RING TYPE DESC [RING]  a key found from a keyring on, and linked to the other one: its serial
   request TYPE DESC [RING]      the same from the thread, process and session keyring on: its serial
-  leave                         ends all contexts: ok
+  open CAPACITY                 a queue that holds so many records: its number
+  closeq QUEUE                  ends a queue and its watches: ok
+  watch KEY QUEUE ID            a queue's watch of a key, with an id of 0 to 255; off ends it: ok
+  filter QUEUE ENTRY ..         which notes a queue takes in from now on: ok
+  readq QUEUE ROOM              the records of a queue that fit into so many bytes, in hexadecimal
+  leave                         closes all queues and ends all contexts: ok
 
 KEY and RING are a serial, or @t, @p, @s, @u, @us for the thread, process, session, user and user-session
 keyring. DATA is the word's bytes or, after `hex:`, the bytes that pairs of hexadecimal digits spell. Bytes
-that do not all print are shown as `:hex:` and digits. Empty lines and lines that begin with `#` are skipped.
+that do not all print are shown as `:hex:` and digits. ENTRY is `type:info_filter:info_mask:subtypes`, four
+hexadecimal numbers. Empty lines and lines that begin with `#` are skipped.
 A refused command prints its error, as `error 126 ENOKEY`; one that is none prints `usage` and ends the script.
 
 Exit status: 0; 1 if something was refused or memory was wanting; 2 for usage; 3 if reading or printing failed.";

@@ -11,6 +11,7 @@ mod changes;
 mod contexts;
 mod holders;
 mod keyrings;
+mod notes;
 
 const ALPHA: &str = "hello 1000 1000\nadd user alpha s3 @u\nprint 5\nrdescribe 5\n";
 

@@ -1,555 +1,67 @@
--- What comes from a state by accepted asks: serials rise, and what is gone stays gone. A further ask costs a lemma of
--- its own, as `chown_follows`, and a line of `outcome_follows`.
-use Rattle.std.proofs.Common.{◌≡◌, ℕ, ℤ, ◌≤◌, ◌<◌, ◌+◌, ◌&&◌, List, [], ◌∷◌, Option, Some, None, Bool, true, false, cond, nat_lt}
-use Rattle.std.proofs.Common.{filter, Result, Ok, Err, refl, ap, ◌∙◌, sym, subst, arith, ⊎_elim}
-use Rattle.std.specs.Prelude.{codes}
-use Rattle.std.specs.Option.{option_map}
-use Rattle.std.specs.Cmp.{unsigned_tied}
-use Rattle.std.specs.Ordering.{nat_cmp}
-use Rattle.std.specs.BTreeMap.{is_at}
-use Rattle.std.proofs.lemmas.Bool.Decides.{nat_tests}
+-- Each step follows: serials rise, and what is gone stays gone.
+use Rattle.std.proofs.Common.{ℕ, List, [], ◌∷◌, Result, Ok, Err, refl, sym, subst}
 use Rattle.krs_types.specs.declared.errno.Errno.{Errno}
-use Rattle.krs_types.specs.declared.caller.Caller.{Caller}
-use Rattle.krs_types.specs.declared.context.Context.{Context}
-use Rattle.krs_types.specs.declared.context.UidRings.{UidRings}
-use Rattle.krs_types.specs.declared.key_id.KeyId.{KeyId}
-use Rattle.krs_types.specs.declared.name.Name.{Name}
-use Rattle.krs_types.specs.declared.rights.Want.{Want}
 use Rattle.krs_types.specs.declared.ask.Answer.{Answer}
 use Rattle.krs_types.specs.declared.ask.Op.{Op}
-use Rattle.krs_types.specs.declared.ask.Op.TheVariants.{Hello, Thread, Fork, Exec, GetId, Join, Search, Request, Add}
-use Rattle.krs_types.specs.declared.ask.Op.TheVariants.{Update, Revoke, Invalidate, Chown, SetPerm, SetTimeout, Link, Unlink}
-use Rattle.krs_types.specs.declared.ask.Op.TheVariants.{Clear, Read, Describe, Exit, Leave}
 use Rattle.krs_types.specs.declared.event.Event.{Event}
-use Rattle.krs_types.specs.declared.errno.Errno.TheVariants.{ENOKEY, ENOSPC}
-use Rattle.krs_types.specs.declared.rights.Want.TheVariants.{Granted}
-use Rattle.krs_types.specs.Rights.{SEARCH, WRITE, LINK}
-use Rattle.krs_types.specs.KeyId.{key_id_of}
-use Rattle.krs_types.specs.Refusing.{◌>>=◌, or_refuse}
-use Rattle.krs_model.specs.Table.{at, alter, map_values, IsBelow}
-use Rattle.krs_model.specs.State.{State, Key, raised}
-use Rattle.krs_model.specs.Lookup.{context_of, serial_of, look_up}
-use Rattle.krs_model.specs.Sweep.{IsSweep}
-use Rattle.krs_model.specs.Search.{found, requested}
-use Rattle.krs_model.specs.Outcome.{Outcome}
-use Rattle.krs_model.specs.Step.{Step, Ends, grows, outcome_of}
+use Rattle.krs_model.specs.State.{State, raised}
+use Rattle.krs_model.specs.Step.{Step, Serves, Ends, posts_by}
 use Rattle.krs_model.specs.History.{IsLegal}
-use Rattle.krs_model.specs.Making.{with_new, special_ring, with_thread, with_process, made_for, within_serials}
-use Rattle.krs_model.specs.Asks.Hello.{hello, uid_ring, with_uid, with_context, has_context_left}
-use Rattle.krs_model.specs.Linking.{linking, link_named, has_room, ring_links}
-use Rattle.krs_model.specs.Asks.Entering.{thread, fork, exec, execed, if_context_number}
-use Rattle.krs_model.specs.Asks.Joining.{join, joinable, joined_to, session_named, session_ring, session_joined}
-use Rattle.krs_model.specs.Asks.Finding.{get_id, got, made_where, is_wanted, if_linkable, found_into, found_alone}
-use Rattle.krs_model.specs.Asks.Finding.{search_from, searched_for, sought_into, request, requested_for}
-use Rattle.krs_model.specs.Asks.Finding.{requested_into, sought_name}
-use Rattle.krs_model.specs.Asks.Adding.{Place, Updated, Made, add, added, added_in, admitted, made, new_key, place_of}
-use Rattle.krs_model.specs.Asks.Changing.{changed, update, updated, revoke, chown, set_perm, set_timeout}
-use Rattle.krs_model.specs.Asks.Linked.{link, linked, linked_into, unlink, clear, nestable, name_of, if_linked}
-use Rattle.krs_model.specs.Asks.Linked.{without_link}
-use Rattle.krs_model.specs.Asks.Invalidating.{invalidate, invalidated}
-use Rattle.krs_model.specs.Asks.Reading.{read, describe}
-use Rattle.krs_model.specs.Asks.Leaving.{left, exit, exited}
-use Rattle.krs_model.proofs.Tables.{at_put_other, below_put, below_filter, at_or_apart, at_alter_other}
-use Rattle.krs_model.proofs.Tables.{at_alter_same, at_alter_none, at_kept, at_map}
-use Rattle.krs_model.proofs.Making.{IsMade, NoneMade, ThreadMade, ProcessMade, made_for_is}
-
--- no key is there, or a revoked one
-abbrev pub is_gone : Option Key → Bool
-is_gone None = true
-is_gone (Some key) = key.revoked
-
--- what comes from a state: the next serial does not fall, the serials not given yet stay in no use, and what is gone
--- under a given serial stays gone
-pub record Follows (old new : State) : Type 0 where
-  pub next : old.next_serial ≤ new.next_serial
-  pub unused : IsBelow old.keys old.next_serial → IsBelow new.keys new.next_serial
-  pub gone : (k : ℕ) → k < old.next_serial → is_gone (at old.keys k) ≡ true → is_gone (at new.keys k) ≡ true
-
--- the same keys, and the same next serial
-pub same_follows : (old new : State) → new.keys ≡ old.keys → new.next_serial ≡ old.next_serial → Follows old new
-same_follows old new keys next = record {
-  next = omega arith;
-  unused = λ below. rw (keys, next) below;
-  gone = λ k lt h. rw keys h;
-}
-
-pub follows_trans : (a b c : State) → Follows a b → Follows b c → Follows a c
-follows_trans a b c f g =
-    let mid : a.next_serial ≤ b.next_serial = f.next in
-    let last : b.next_serial ≤ c.next_serial = g.next in
-    record {
-      next = omega arith;
-      unused = λ below. g.unused (f.unused below);
-      gone = λ k lt h. g.gone k (omega arith) (f.gone k lt h);
-    }
-
-apart : (k n : ℕ) → k < n → is_at (nat_cmp k) n ≡ false
-apart k n lt = grind (arith, nat_tests, unsigned_tied k n)
-
--- a new key under the next serial
-pub with_new_follows : (s : State) (key : Key) → Follows s (with_new s key)
-with_new_follows s key = record {
-  next = omega arith;
-  unused = below_put s.keys (with_new s key).keys s.next_serial key refl;
-  gone = λ k lt h. ap is_gone (at_put_other s.keys s.next_serial k key (apart k s.next_serial lt)) ∙ h;
-}
-
-stays_gone :
-    (f : Key → Key) (o : Option Key) → ((v : Key) → v.revoked ≡ true → (f v).revoked ≡ true) → is_gone o ≡ true
-    → is_gone (option_map f o) ≡ true
-stays_gone f None stays h = refl
-stays_gone f (Some v) stays h = stays v h
-
-here_gone :
-    (s : State) (serial k : ℕ) (f : Key → Key) → ((v : Key) → v.revoked ≡ true → (f v).revoked ≡ true) → k ≡ serial
-    → is_gone (at s.keys k) ≡ true → is_gone (at (alter s.keys serial f) k) ≡ true
-here_gone s serial k f stays e h =
-    let there : is_gone (at s.keys serial) ≡ true = subst (λ (z : ℕ). is_gone (at s.keys z) ≡ true) e h in
-    let after = ap is_gone (at_alter_same s.keys serial f) ∙ stays_gone f (at s.keys serial) stays there in
-    subst (λ (z : ℕ). is_gone (at (alter s.keys serial f) z) ≡ true) (sym e) after
-
--- a change of one key that leaves it revoked where it was
-pub changed_follows :
-    (s : State) (serial : ℕ) (f : Key → Key) → ((v : Key) → v.revoked ≡ true → (f v).revoked ≡ true)
-    → Follows s (changed s serial f)
-changed_follows s serial f stays = record {
-  next = omega arith;
-  unused = λ below q le. at_alter_none s.keys serial q f (below q le);
-  gone = λ k lt h. ⊎_elim (λ e. here_gone s serial k f stays e h)
-      (λ other. ap is_gone (at_alter_other s.keys serial k f other) ∙ h) (at_or_apart k serial);
-}
-
-gone_or_none : (b : Bool) (o : Option Key) → is_gone o ≡ true → is_gone (cond b o None) ≡ true
-gone_or_none true o h = h
-gone_or_none false o h = refl
-
--- what is taken out by its serial is gone
-pub filtered_follows : (s : State) (kept : ℕ → Bool) → Follows s (record s { keys = filter (λ e. kept e.0) s.keys })
-filtered_follows s kept = record {
-  next = omega arith;
-  unused = below_filter (λ e. kept e.0) s.keys (filter (λ e. kept e.0) s.keys) s.next_serial refl;
-  gone = λ k lt h. ap is_gone (at_kept kept s.keys k) ∙ gone_or_none (kept k) (at s.keys k) h;
-}
-
-pub sweep_follows : (old new : State) → IsSweep old new → Follows old new
-sweep_follows old new s =
-    let less : State = record old { keys = filter (λ e. s.kept e.0) old.keys } in
-    let next : new.next_serial ≡ old.next_serial = ap (λ (t : State). t.next_serial) s.rest in
-    follows_trans old less new (filtered_follows old s.kept) (same_follows less new s.keys next)
-
--- what an ask comes to follows the state, where it is accepted
-pub record Keeps (s : State) (meant : Outcome) : Type 0 where
-  pub follows : (new : State) (answer : Answer) → meant ≡ Ok (new, answer) → Follows s new
-
--- a result is one value
-pub same_ok : {A : Type 0} (r : Result A Errno) (x y : A) → r ≡ Ok x → r ≡ Ok y → x ≡ y
-same_ok r x y g h = cc
-
-pub same_state : (r : Outcome) (s t : State) (a b : Answer) → r ≡ Ok (s, a) → r ≡ Ok (t, b) → s ≡ t
-same_state r s t a b g h = ap (λ (x : State × Answer). x.0) (same_ok r (s, a) (t, b) g h)
-
--- what came before an accepted end was accepted
-pub bind_ok :
-    {A B : Type 0} (r : Result A Errno) (f : A → Result B Errno) (y : B) → (r >>= f) ≡ Ok y
-    → (x : A) × (r ≡ Ok x) × (f x ≡ Ok y)
-bind_ok (Ok x) f y h = (x, refl, h)
-bind_ok (Err e) f y h = cc
-
--- an accepted ask whose serials are left comes to what it comes to
-pub within_ok : (old : State) (r : Outcome) (x : State × Answer) → within_serials old r ≡ Ok x → r ≡ Ok x
-within_ok old (Err e) x h = cc
-within_ok old (Ok y) x h =
-    let got : Outcome = Ok y in
-    let held : Bool → Outcome = λ b. cond b (Err ENOSPC) (Ok y) in
-    elim (nat_lt old.next_serial y.0.next_serial && nat_lt 2147483648 y.0.next_serial)
-    as (λ b. held b ≡ Ok x → got ≡ Ok x) [
-      | true ↦ λ e. cc
-      | false ↦ λ e. e
-    ] h
-
-pub keeps_within : {s : State} (old : State) (r : Outcome) → Keeps s r → Keeps s (within_serials old r)
-keeps_within {s} old r keeps = record { follows = λ t a e. keeps.follows t a (within_ok old r (t, a) e) }
-
-pub keeps_ok : {s new : State} {answer : Answer} → Follows s new → Keeps s (Ok (new, answer))
-keeps_ok {s} {new} {answer} h = record {
-  follows = λ t a e. subst (Follows s) (same_state (Ok (new, answer)) new t answer a refl e) h;
-}
-
--- after a test that may refuse
-pub keeps_after :
-    {A : Type 0} {s : State} (r : Result A Errno) (f : A → Outcome) → ((x : A) → Keeps s (f x))
-    → Keeps s (r >>= f)
-keeps_after (Ok x) f h = h x
-keeps_after (Err e) f h = record { follows = λ t a no. cc }
-
--- after a look-up in a context
-pub keeps_found :
-    {s : State} (client context : ℕ) (id : ℤ) (want : Want) (f : Context → (ℕ × Key) → Outcome)
-    → ((c : Context) (found : ℕ × Key) → Keeps s (f c found))
-    → Keeps s (context_of s client context >>= (λ c. look_up s c id want >>= (λ found. f c found)))
-keeps_found {s} client context id want f h =
-    keeps_after (context_of s client context) _ (λ c. keeps_after (look_up s c id want) (f c) (h c))
-
--- after a test that may refuse, which gave this
-keeps_is :
-    {A : Type 0} {s : State} (r : Result A Errno) (f : A → Outcome) → ((x : A) → r ≡ Ok x → Keeps s (f x))
-    → Keeps s (r >>= f)
-keeps_is (Ok x) f h = h x refl
-keeps_is (Err e) f h = record { follows = λ t a no. cc }
-
--- an ask is done by these, and by the lemma on what it comes to where it is accepted
-ruleset accepted = (keeps_found, keeps_after, keeps_ok, refl)
-
--- the keyrings of a uid come one by one
-with_uid_follows : (s : State) (c : Caller) (rings : Option UidRings) → Follows s (with_uid s c rings)
-with_uid_follows s c None =
-    let n = s.next_serial in
-    let one = with_new s (uid_ring (codes "_uid.") [] c) in
-    let two = with_new one (uid_ring (codes "_uid_ses.") (n ∷ []) c) in
-    let next : n + 2 ≡ (n + 1) + 1 = omega arith in
-    let both = follows_trans one two _ (with_new_follows one _) (same_follows two (with_uid s c None) refl next) in
-    follows_trans s one _ (with_new_follows s _) both
-with_uid_follows s c (Some rings) = same_follows s s refl refl
-
-entered_follows :
-    (s : State) (client : ℕ) (c : Caller) (rings : Option UidRings) (session : Option ℕ)
-    → Follows s (with_context (with_uid s c rings) client c session)
-entered_follows s client c rings session =
-    let with_rings = with_uid s c rings in
-    follows_trans s with_rings _ (with_uid_follows s c rings) (same_follows with_rings _ refl refl)
-
-hello_follows : (s : State) (client : ℕ) (c : Caller) → Keeps s (hello s client c)
-unfolding hello
-hello_follows s client c = search (accepted, entered_follows)
-
--- the key comes first, then its link
-made_follows : (s : State) (ring : ℕ) (name : Name) (key : Key) → Follows s (made s ring name key)
-made_follows s ring name key =
-    let one = with_new s key in
-    let link = linking s.keys name s.next_serial in
-    follows_trans s one _ (with_new_follows s key) (changed_follows one ring link (λ v h. h))
-
-added_follows :
-    (s : State) (c : Context) (name : Name) (payload : List ℕ) (place : Place)
-    → Follows s (added s c name payload place)
-added_follows s c name payload (Updated serial) = changed_follows s serial (updated payload) (λ v h. h)
-added_follows s c name payload (Made ring) = made_follows s ring name (new_key name payload c.caller.uid c.caller.gid)
-
--- what an ask comes to in a state that follows
-keeps_from : {s made : State} {meant : Outcome} → Follows s made → Keeps made meant → Keeps s meant
-keeps_from {s} {made} {meant} first keeps = record {
-  follows = λ new answer h. follows_trans s made new first (keeps.follows new answer h);
-}
-
--- one ask or the other, by a test
-keeps_either : {s : State} (b : Bool) (x y : Outcome) → Keeps s x → Keeps s y → Keeps s (cond b x y)
-keeps_either true x y h k = h
-keeps_either false x y h k = k
-
--- a made thread or process keyring
-is_made_follows :
-    (s : State) (number : ℕ) (c : Context) (id : Result KeyId Errno) (made : State × Context)
-    → IsMade s number c id made → Follows s made.0
-is_made_follows s number c id _ NoneMade = same_follows s s refl refl
-is_made_follows s number c id _ (ThreadMade is none) =
-    let one = with_new s (special_ring (codes "_tid") c.caller) in
-    follows_trans s one _ (with_new_follows s _) (same_follows one (with_thread s number c) refl refl)
-is_made_follows s number c id _ (ProcessMade is none) =
-    let one = with_new s (special_ring (codes "_pid") c.caller) in
-    follows_trans s one _ (with_new_follows s _) (same_follows one (with_process s c) refl refl)
-
-pub made_for_follows : (s : State) (number : ℕ) (c : Context) (id : ℤ) → Follows s (made_for s number c id).0
-made_for_follows s number c id =
-    is_made_follows s number c (key_id_of id) (made_for s number c id) (made_for_is s number c id)
-
-made_where_follows :
-    (create : Bool) (s : State) (number : ℕ) (c : Context) (id : ℤ) → Follows s (made_where create s number c id).0
-made_where_follows true s number c id = made_for_follows s number c id
-made_where_follows false s number c id = same_follows s s refl refl
-
-added_in_follows :
-    (s : State) (c : Context) (name : Name) (payload : List ℕ) (ring : ℤ) → Keeps s (added_in s c name payload ring)
-added_in_follows s c name payload ring =
-    keeps_after (place_of s c name ring) _ (λ place. keeps_ok (added_follows s c name payload place))
-
-add_follows :
-    (s : State) (client context : ℕ) (type_name desc payload : List ℕ) (ring : ℤ)
-    → Keeps s (add s client context type_name desc payload ring)
-unfolding add
-add_follows s client context type_name desc payload ring =
-    keeps_after (context_of s client context) _ (λ c.
-    keeps_after (admitted type_name desc payload) _ (λ name.
-    let made = made_for s context c ring in
-    keeps_from (made_for_follows s context c ring) (added_in_follows made.0 made.1 name payload ring)))
-
-update_follows :
-    (s : State) (client context : ℕ) (id : ℤ) (payload : List ℕ) → Keeps s (update s client context id payload)
-unfolding update
-update_follows s client context id payload = search (accepted, changed_follows)
-
-revoke_follows : (s : State) (client context : ℕ) (id : ℤ) → Keeps s (revoke s client context id)
-unfolding revoke
-revoke_follows s client context id = search (accepted, changed_follows)
-
-chown_follows : (s : State) (client context : ℕ) (id : ℤ) (uid gid : ℕ) → Keeps s (chown s client context id uid gid)
-unfolding chown
-chown_follows s client context id uid gid = search (accepted, changed_follows)
-
-set_perm_follows : (s : State) (client context : ℕ) (id : ℤ) (mask : ℕ) → Keeps s (set_perm s client context id mask)
-unfolding set_perm
-set_perm_follows s client context id mask = search (accepted, changed_follows)
-
-set_timeout_follows :
-    (s : State) (client context : ℕ) (id : ℤ) (seconds : ℕ) → Keeps s (set_timeout s client context id seconds)
-unfolding set_timeout
-set_timeout_follows s client context id seconds = search (accepted, changed_follows)
-
--- an accepted link closes no cycle and nests none too deep, and is a change of its keyring alone
-pub record IsLinked (s : State) (into found : ℕ × Key) (new : State) : Type 0 where
-  pub nests : nestable s.keys into.0 found.0 ≡ Ok tt
-  pub is : changed s into.0 (linking s.keys (name_of found.1) found.0) ≡ new
-
-pub linked_into_is :
-    (s : State) (into found : ℕ × Key) (new : State) → linked_into s into found ≡ Ok new → IsLinked s into found new
-linked_into_is s into found new h =
-    let name = name_of found.1 in
-    let linked : State = changed s into.0 (linking s.keys name found.0) in
-    let room : List ℕ → Result State Errno = λ links. has_room links (link_named s.keys name links) >>= (λ x. Ok linked) in
-    let fits : List ℕ → Result State Errno = λ links. nestable s.keys into.0 found.0 >>= (λ x. room links) in
-    let a = bind_ok (ring_links into.1.content) fits new h in
-    let b = bind_ok (nestable s.keys into.0 found.0) (λ x. room a.0) new a.2 in
-    let c = bind_ok (has_room a.0 (link_named s.keys name a.0)) (λ x. Ok linked) new b.2 in
-    record { nests = b.1; is = same_ok (Ok linked) linked new refl c.2 }
-
-linked_into_follows :
-    (s : State) (into found : ℕ × Key) (new : State) → linked_into s into found ≡ Ok new → Follows s new
-linked_into_follows s into found new h =
-    subst (Follows s) (linked_into_is s into found new h).is
-    (changed_follows s into.0 (linking s.keys (name_of found.1) found.0) (λ v gone. gone))
-
-linked_follows : (s : State) (c : Context) (key ring : ℤ) → Keeps s (linked s c key ring)
-linked_follows s c key ring =
-    keeps_after (look_up s c ring (Granted WRITE)) _ (λ into.
-    keeps_after (look_up s c key (Granted LINK)) _ (λ found.
-    keeps_is (linked_into s into found) _ (λ new is. keeps_ok (linked_into_follows s into found new is))))
-
-link_follows : (s : State) (client context : ℕ) (key ring : ℤ) → Keeps s (link s client context key ring)
-unfolding link
-link_follows s client context key ring =
-    keeps_after (context_of s client context) _ (λ c.
-    let made = made_for s context c ring in
-    keeps_within s (linked made.0 made.1 key ring)
-    (keeps_from (made_for_follows s context c ring) (linked_follows made.0 made.1 key ring)))
-
-found_into_follows :
-    (s : State) (c : Context) (into : ℕ × Key) (answer : Result ℕ Errno) → Keeps s (found_into s c into answer)
-found_into_follows s c into answer =
-    keeps_after answer _ (λ serial.
-    keeps_after (or_refuse ENOKEY (at s.keys serial)) _ (λ key.
-    keeps_after (if_linkable s c serial key) _ (λ linkable.
-    keeps_is (linked_into s into linkable) _ (λ new is. keeps_ok (linked_into_follows s into linkable new is)))))
-
-found_alone_follows : (s : State) (answer : Result ℕ Errno) → Keeps s (found_alone s answer)
-found_alone_follows s answer = keeps_after answer _ (λ serial. keeps_ok (same_follows s s refl refl))
-
-sought_into_follows :
-    (s : State) (c : Context) (head : ℕ × Key) (name : Name) (dest : ℤ) → Keeps s (sought_into s c head name dest)
-sought_into_follows s c head name dest =
-    keeps_after (look_up s c dest (Granted WRITE)) _ (λ into.
-    keeps_after (ring_links head.1.content) _ (λ links.
-    keeps_after (ring_links into.1.content) _ (λ room. found_into_follows s c into (found s c head.0 name))))
-
-searched_for_follows :
-    (s : State) (number : ℕ) (c : Context) (head : ℕ × Key) (name : Name) (dest : ℤ)
-    → Keeps s (searched_for s number c head name dest)
-searched_for_follows s number c head name dest =
-    let made = made_for s number c dest in
-    keeps_either (is_wanted dest) _ _
-    (keeps_from (made_for_follows s number c dest) (sought_into_follows made.0 made.1 head name dest))
-    (keeps_after (ring_links head.1.content) _ (λ links. found_alone_follows s (found s c head.0 name)))
-
-search_follows :
-    (s : State) (client context : ℕ) (head : ℤ) (type_name desc : List ℕ) (dest : ℤ)
-    → Keeps s (search_from s client context head type_name desc dest)
-unfolding search_from
-search_follows s client context head type_name desc dest =
-    keeps_after (context_of s client context) _ (λ c.
-    keeps_after (sought_name type_name desc) _ (λ name.
-    keeps_after (look_up s c head (Granted SEARCH)) _ (λ from.
-    keeps_within s _ (searched_for_follows s context c from name dest))))
-
-requested_into_follows :
-    (s : State) (c : Context) (name : Name) (dest : ℤ) → Keeps s (requested_into s c name dest)
-requested_into_follows s c name dest =
-    keeps_after (look_up s c dest (Granted WRITE)) _ (λ into.
-    keeps_after (ring_links into.1.content) _ (λ room. found_into_follows s c into (requested s c name)))
-
-requested_for_follows :
-    (s : State) (number : ℕ) (c : Context) (name : Name) (dest : ℤ) → Keeps s (requested_for s number c name dest)
-requested_for_follows s number c name dest =
-    let made = made_for s number c dest in
-    keeps_either (is_wanted dest) _ _
-    (keeps_from (made_for_follows s number c dest) (requested_into_follows made.0 made.1 name dest))
-    (found_alone_follows s (requested s c name))
-
-request_follows :
-    (s : State) (client context : ℕ) (type_name desc : List ℕ) (dest : ℤ)
-    → Keeps s (request s client context type_name desc dest)
-unfolding request
-request_follows s client context type_name desc dest =
-    keeps_after (context_of s client context) _ (λ c.
-    keeps_after (sought_name type_name desc) _ (λ name.
-    keeps_within s _ (requested_for_follows s context c name dest)))
-
-got_follows : (s : State) (c : Context) (id : ℤ) → Keeps s (got s c id)
-got_follows s c id =
-    keeps_after (look_up s c id (Granted SEARCH)) _ (λ key. keeps_ok (same_follows s s refl refl))
-
-get_id_follows :
-    (s : State) (client context : ℕ) (id : ℤ) (create : Bool) → Keeps s (get_id s client context id create)
-unfolding get_id
-get_id_follows s client context id create =
-    keeps_after (context_of s client context) _ (λ c.
-    let made = made_where create s context c id in
-    keeps_within s (got made.0 made.1 id)
-    (keeps_from (made_where_follows create s context c id) (got_follows made.0 made.1 id)))
-
-session_joined_follows :
-    (s : State) (number : ℕ) (c : Context) (name : List ℕ) (found : Option (ℕ × Key))
-    → Keeps s (session_joined s number c name found)
-session_joined_follows s number c name (Some found) = keeps_ok (same_follows s _ refl refl)
-session_joined_follows s number c name None =
-    let one = with_new s (session_ring name c.caller) in
-    keeps_from (with_new_follows s (session_ring name c.caller))
-    (keeps_ok (same_follows one (joined_to one number s.next_serial) refl refl))
-
-join_follows : (s : State) (client context : ℕ) (name : List ℕ) → Keeps s (join s client context name)
-unfolding join
-join_follows s client context name =
-    keeps_after (context_of s client context) _ (λ c.
-    keeps_after (session_named name) _ (λ fit.
-    keeps_within s _ (session_joined_follows s context c name (joinable s c.caller name))))
-
-thread_follows : (s : State) (client context : ℕ) → Keeps s (thread s client context)
-unfolding thread
-thread_follows s client context =
-    keeps_after (context_of s client context) _ (λ c.
-    keeps_after (has_context_left s client) _ (λ room.
-    keeps_after (if_context_number s) _ (λ left. keeps_ok (same_follows s _ refl refl))))
-
-fork_follows : (s : State) (client context : ℕ) → Keeps s (fork s client context)
-unfolding fork
-fork_follows s client context =
-    keeps_after (context_of s client context) _ (λ c.
-    keeps_after (has_context_left s client) _ (λ room.
-    keeps_after (if_context_number s) _ (λ left. keeps_ok (same_follows s _ refl refl))))
-
-exec_follows : (s : State) (client context : ℕ) → Keeps s (exec s client context)
-unfolding exec
-exec_follows s client context =
-    keeps_after (context_of s client context) _ (λ c. keeps_ok (same_follows s (execed s context c) refl refl))
-
-unlink_follows : (s : State) (client context : ℕ) (key ring : ℤ) → Keeps s (unlink s client context key ring)
-unfolding unlink
-unlink_follows s client context key ring =
-    keeps_after (context_of s client context) _ (λ c.
-    keeps_after (look_up s c ring (Granted WRITE)) _ (λ from.
-    keeps_after (serial_of s c key) _ (λ serial.
-    keeps_after (or_refuse ENOKEY (at s.keys serial)) _ (λ there.
-    keeps_after (ring_links from.1.content) _ (λ links.
-    keeps_after (if_linked serial links) _ (λ linked.
-    keeps_ok (changed_follows s from.0 (without_link serial) (λ v h. h))))))))
-
-clear_follows : (s : State) (client context : ℕ) (id : ℤ) → Keeps s (clear s client context id)
-unfolding clear
-clear_follows s client context id = search (accepted, changed_follows)
-
-read_follows : (s : State) (client context : ℕ) (id : ℤ) → Keeps s (read s client context id)
-unfolding read
-read_follows s client context id = search (accepted, same_follows)
-
-describe_follows : (s : State) (client context : ℕ) (id : ℤ) → Keeps s (describe s client context id)
-unfolding describe
-describe_follows s client context id = search (accepted, same_follows)
-
-gone_mapped : (f : Key → Key) (o : Option Key) → ((v : Key) → (f v).revoked ≡ v.revoked) → is_gone o ≡ true
-    → is_gone (option_map f o) ≡ true
-gone_mapped f None same h = h
-gone_mapped f (Some v) same h = same v ∙ h
-
--- all keys change, and none is less revoked
-mapped_follows :
-    (old new : State) (f : Key → Key) → ((v : Key) → (f v).revoked ≡ v.revoked)
-    → new.keys ≡ map_values f old.keys → new.next_serial ≡ old.next_serial → Follows old new
-mapped_follows old new f same keys next = record {
-  next = omega arith;
-  unused = λ below. rw (keys, next) (λ k le. at_map f old.keys k ∙ ap (option_map f) (below k le));
-  gone = λ k lt h. rw (keys, at_map f old.keys k) (gone_mapped f (at old.keys k) same h);
-}
-
-invalidate_follows : (s : State) (client context : ℕ) (id : ℤ) → Keeps s (invalidate s client context id)
-unfolding invalidate
-invalidate_follows s client context id =
-    keeps_after (context_of s client context) _ (λ c.
-    keeps_after (look_up s c id (Granted SEARCH)) _ (λ found.
-    keeps_ok (mapped_follows s (invalidated s found.0) (without_link found.0) (λ v. refl) refl refl)))
-
-exit_follows : (s : State) (client context : ℕ) → Keeps s (exit s client context)
-unfolding exit
-exit_follows s client context =
-    keeps_after (context_of s client context) _ (λ c. keeps_ok (same_follows s (exited s context c) refl refl))
+use Rattle.krs_model.specs.Notes.Posting.{posted_in}
+use Rattle.krs_model.specs.Asks.Leaving.{left}
+use Rattle.krs_model.proofs.Coming.{Follows, same_follows, follows_trans, sweep_follows}
+use Rattle.krs_model.proofs.Effects.{Effect, OfKeys, Opens, Filters, Reads, Closes, Watches, Unwatches, Leaves}
+use Rattle.krs_model.proofs.Effects.{effect_of}
 
 left_follows : (s : State) (client : ℕ) → Follows s (left s client)
 unfolding left
 left_follows s client = same_follows s _ refl refl
 
--- what any ask comes to follows, where it is accepted
-pub outcome_follows : (s : State) (client context : ℕ) (op : Op) → Keeps s (outcome_of s client context op)
-outcome_follows s client context (Hello caller) = hello_follows s client caller
-outcome_follows s client context Thread = thread_follows s client context
-outcome_follows s client context Fork = fork_follows s client context
-outcome_follows s client context Exec = exec_follows s client context
-outcome_follows s client context (GetId id create) = get_id_follows s client context id create
-outcome_follows s client context (Join name) = join_follows s client context name
-outcome_follows s client context (Search head type_name desc dest) =
-    search_follows s client context head type_name desc dest
-outcome_follows s client context (Request type_name desc dest) =
-    request_follows s client context type_name desc dest
-outcome_follows s client context (Add type_name desc payload ring) =
-    add_follows s client context type_name desc payload ring
-outcome_follows s client context (Update id payload) = update_follows s client context id payload
-outcome_follows s client context (Revoke id) = revoke_follows s client context id
-outcome_follows s client context (Invalidate id) = invalidate_follows s client context id
-outcome_follows s client context (Chown id uid gid) = chown_follows s client context id uid gid
-outcome_follows s client context (SetPerm id mask) = set_perm_follows s client context id mask
-outcome_follows s client context (SetTimeout id seconds) = set_timeout_follows s client context id seconds
-outcome_follows s client context (Link key ring) = link_follows s client context key ring
-outcome_follows s client context (Unlink key ring) = unlink_follows s client context key ring
-outcome_follows s client context (Clear id) = clear_follows s client context id
-outcome_follows s client context (Read id) = read_follows s client context id
-outcome_follows s client context (Describe id) = describe_follows s client context id
-outcome_follows s client context Exit = exit_follows s client context
-outcome_follows s client context Leave = keeps_ok (left_follows s client)
-
 pub raised_follows : (s : State) (moment : ℕ) → Follows s (raised s moment)
 raised_follows s moment = same_follows s (raised s moment) refl refl
 
+-- what an accepted ask came to follows the state
+pub effect_follows :
+    (s : State) (client context : ℕ) (op : Op) (new : State) (answer : Answer) → Effect s client context op new answer
+    → Follows s new
+effect_follows s client context op _ _ (OfKeys _ new answer other comes none) = comes.follows
+effect_follows s client context _ _ _ (Opens capacity fits) = same_follows s _ refl refl
+effect_follows s client context _ _ _ (Filters number entries queue there) = same_follows s _ refl refl
+effect_follows s client context _ _ _ (Reads number room queue there) = same_follows s _ refl refl
+effect_follows s client context _ _ _ (Closes number queue there) = same_follows s _ refl refl
+effect_follows s client context _ _ _ (Watches id watch_id number key n queue here there asked small) =
+    same_follows s _ refl refl
+effect_follows s client context _ _ _ (Unwatches id watch_id number key n queue here names there asked is) =
+    same_follows s _ refl refl
+effect_follows s client context _ _ _ Leaves = left_follows s client
+
+-- and so do the sweep and the posts
+pub swept_follows :
+    {s new : State} {client context : ℕ} {op : Op} {answer : Answer} (serves : Serves s client context op answer new)
+    → Follows serves.mid new
+swept_follows {s} {new} {client} {context} {op} {answer} serves =
+    let swept = serves.swept in
+    let after : State = posted_in (posts_by s client context op answer swept.keys) swept in
+    subst (Follows serves.mid) (sym serves.posted)
+    (follows_trans serves.mid swept after (sweep_follows serves.mid swept serves.sweep)
+    (same_follows swept after refl refl))
+
 end_follows :
-    (old new : State) (growing : Bool) (reply : Result Answer Errno) (meant : Outcome) → Keeps old meant
-    → Ends old growing reply new meant → Follows old new
-end_follows old new growing (Ok answer) meant keeps ends =
-    follows_trans old ends.0 new (keeps.follows ends.0 answer ends.1) (sweep_follows ends.0 new ends.2)
-end_follows old new growing (Err e) meant keeps ends =
-    subst (Follows old) (sym ends.1) (same_follows old old refl refl)
+    (s new : State) (client context : ℕ) (op : Op) (reply : Result Answer Errno) → Ends s client context op reply new
+    → Follows s new
+end_follows s new client context op (Ok answer) serves =
+    let mid = serves.mid in
+    let effect = effect_of s client context op mid answer serves.meant in
+    follows_trans s mid new (effect_follows s client context op mid answer effect) (swept_follows serves)
+end_follows s new client context op (Err e) ends = subst (Follows s) (sym ends.1) (same_follows s s refl refl)
 
 -- each step follows
 pub step_follows : (old new : State) (event : Event) → Step old event new → Follows old new
 unfolding Step
 step_follows old new event step =
     let up = raised old event.moment in
-    let keeps = outcome_follows up event.lane event.ask.context event.ask.op in
     follows_trans old up new (raised_follows old event.moment)
-    (end_follows up new (grows event.ask.op) event.reply _ keeps step)
+    (end_follows up new event.lane event.ask.context event.ask.op event.reply step)
 
 -- and so does the end of each legal history
 pub legal_follows : (start : State) (events : List Event) (end : State) → IsLegal start events end → Follows start end

@@ -1,5 +1,6 @@
 -- What is made for an id: nothing, a thread keyring or a process keyring.
-use Rattle.std.proofs.Common.{◌≡◌, ℕ, ℤ, Option, Some, None, Result, Ok, Err, refl, ap, ◌∙◌}
+use Rattle.std.proofs.Common.{◌≡◌, ℕ, ℤ, Option, Some, None, Result, Ok, Err, refl, ap, ◌∙◌, sym}
+use Rattle.std.proofs.lemmas.Option.{none-some}
 use Rattle.krs_types.specs.declared.errno.Errno.{Errno}
 use Rattle.krs_types.specs.declared.errno.Errno.TheVariants.{ENOKEY}
 use Rattle.krs_types.specs.declared.context.Context.{Context}
@@ -114,3 +115,53 @@ pub made_other :
     (s : State) (number : ℕ) (c : Context) (id : ℤ) → IsOther (key_id_of id) → made_for s number c id ≡ (s, c)
 unfolding made_for
 made_other s number c id other = other_at s number c (key_id_of id) other
+
+-- what an id stands for it stands for when another keyring is made
+with_thread_stands :
+    (s : State) (number : ℕ) (c : Context) (id : KeyId) (k : ℕ) → c.thread ≡ None → attachment s c id ≡ Some k
+    → attachment (with_thread s number c) (thread_to s.next_serial c) id ≡ Some k
+with_thread_stands s number c (Serial n) k none h = h
+with_thread_stands s number c Thread k none h = absurd (none-some k (sym none ∙ h))
+with_thread_stands s number c Process k none h = h
+with_thread_stands s number c Session k none h = h
+with_thread_stands s number c User k none h = h
+with_thread_stands s number c UserSession k none h = h
+
+with_process_stands :
+    (s : State) (c : Context) (id : KeyId) (k : ℕ) → process_ring s c.process ≡ None → attachment s c id ≡ Some k
+    → attachment (with_process s c) c id ≡ Some k
+with_process_stands s c (Serial n) k none h = h
+with_process_stands s c Thread k none h = h
+with_process_stands s c Process k none h = absurd (none-some k (sym none ∙ h))
+with_process_stands s c Session k none h = h
+with_process_stands s c User k none h = h
+with_process_stands s c UserSession k none h = h
+
+there : (o : Option ℕ) (k : ℕ) → or_refuse ENOKEY o ≡ Ok k → o ≡ Some k
+there None k h = cc
+there (Some n) k h = cc
+
+named_still :
+    (s t : State) (c d : Context) (named : Result KeyId Errno) (k : ℕ)
+    → ((id : KeyId) → attachment s c id ≡ Some k → attachment t d id ≡ Some k)
+    → (named >>= (λ x. or_refuse ENOKEY (attachment s c x))) ≡ Ok k
+    → (named >>= (λ x. or_refuse ENOKEY (attachment t d x))) ≡ Ok k
+named_still s t c d (Err e) k stays h = h
+named_still s t c d (Ok id) k stays h = ap (or_refuse ENOKEY) (stays id (there (attachment s c id) k h))
+
+is_made_stands :
+    (s : State) (number : ℕ) (c : Context) (id : ℤ) (ring : Result KeyId Errno) (made : State × Context) (k : ℕ)
+    → IsMade s number c ring made → serial_of s c id ≡ Ok k → serial_of made.0 made.1 id ≡ Ok k
+unfolding serial_of
+is_made_stands s number c id ring _ k NoneMade h = h
+is_made_stands s number c id ring _ k (ThreadMade is none) h =
+    named_still s (with_thread s number c) c (thread_to s.next_serial c) (key_id_of id) k
+    (λ named. with_thread_stands s number c named k none) h
+is_made_stands s number c id ring _ k (ProcessMade is none) h =
+    named_still s (with_process s c) c c (key_id_of id) k (λ named. with_process_stands s c named k none) h
+
+pub made_still :
+    (s : State) (number : ℕ) (c : Context) (ring id : ℤ) (k : ℕ) → serial_of s c id ≡ Ok k
+    → serial_of (made_for s number c ring).0 (made_for s number c ring).1 id ≡ Ok k
+made_still s number c ring id k h =
+    is_made_stands s number c id (key_id_of ring) (made_for s number c ring) k (made_for_is s number c ring) h

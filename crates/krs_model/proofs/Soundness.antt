@@ -6,8 +6,9 @@ use Rattle.std.specs.Option.{IsSome, option_to_list}
 use Rattle.std.specs.List.{count_by, list_any}
 use Rattle.std.specs.Map.{values_of}
 use Rattle.std.proofs.lemmas.Bool.{true≢false}
+use Rattle.std.proofs.lemmas.Option.{none-some}
 use Rattle.krs_types.specs.declared.errno.Errno.{Errno}
-use Rattle.krs_types.specs.declared.errno.Errno.TheVariants.{ENOKEY, ESRCH, EACCES}
+use Rattle.krs_types.specs.declared.errno.Errno.TheVariants.{ENOKEY, EACCES}
 use Rattle.krs_types.specs.declared.kind.Kind.{Kind}
 use Rattle.krs_types.specs.declared.kind.Kind.TheVariants.{User, Logon, Keyring}
 use Rattle.krs_types.specs.declared.caller.Caller.{Caller}
@@ -19,27 +20,33 @@ use Rattle.krs_types.specs.declared.ask.Answer.{Answer}
 use Rattle.krs_types.specs.declared.ask.Op.{Op}
 use Rattle.krs_types.specs.declared.ask.Op.TheVariants.{Hello, Thread, Fork, Exec, GetId, Join, Search, Request, Add}
 use Rattle.krs_types.specs.declared.ask.Op.TheVariants.{Update, Revoke, Invalidate, Chown, SetPerm, SetTimeout, Link, Unlink}
-use Rattle.krs_types.specs.declared.ask.Op.TheVariants.{Clear, Read, Describe, Exit, Leave}
+use Rattle.krs_types.specs.declared.ask.Op.TheVariants.{Clear, Read, Describe, Watch, OpenQueue, SetFilter, ReadQueue, CloseQueue, Exit, Leave}
 use Rattle.krs_types.specs.declared.event.Event.{Event}
+use Rattle.krs_types.specs.declared.note.FilterEntry.{FilterEntry}
 use Rattle.krs_types.specs.Rights.{has_all, SEARCH, WRITE, LINK, SETATTR, VIEW}
 use Rattle.krs_types.specs.Refusing.{◌>>=◌, or_refuse}
 use Rattle.krs_types.specs.Caller.{caller_check}
 use Rattle.krs_types.specs.Kind.{paid}
 use Rattle.krs_types.specs.Perm.{perm_of}
-use Rattle.krs_model.specs.Table.{Table, at, without, map_values}
-use Rattle.krs_model.specs.State.{State, Key, Content, Payload, Links, starting_at, raised}
+use Rattle.krs_model.specs.Table.{Table, at, without, map_values, IsBelow}
+use Rattle.krs_model.specs.State.{State, Queue, Key, Content, Payload, Links, starting_at, raised}
 use Rattle.krs_model.specs.Access.{rights_on}
 use Rattle.krs_model.specs.Possession.{links_of, possessed}
 use Rattle.krs_model.specs.Levels.{is_in}
-use Rattle.krs_model.specs.Lookup.{context_of, if_own, serial_of, look_up}
+use Rattle.krs_model.specs.Lookup.{context_of, serial_of, look_up}
 use Rattle.krs_model.specs.Linking.{is_named, ring_links}
 use Rattle.krs_model.specs.Reach.{Reaches, Directly, Further, IsAcyclic, links_in}
 use Rattle.krs_model.specs.Search.{found, requested}
 use Rattle.krs_model.specs.History.{IsLegal}
-use Rattle.krs_model.specs.Sweep.{IsSweep, IsSwept, context_roots, process_roots, uid_roots}
+use Rattle.krs_model.specs.Sweep.{IsSwept, context_roots, process_roots, uid_roots}
 use Rattle.krs_model.specs.Sound.{IsSound, AllAttached}
 use Rattle.krs_model.specs.Outcome.{Outcome}
-use Rattle.krs_model.specs.Step.{Step, Ends, grows, outcome_of}
+use Rattle.krs_model.specs.Step.{Step, Serves, Ends, outcome_of, posts_by, watches_left}
+use Rattle.krs_model.specs.Queues as queues
+use Rattle.krs_model.specs.Queues.{Queues, queues_of, with_queues}
+use Rattle.krs_model.specs.Orderly.{Each, IsWatch, AreOrderly}
+use Rattle.krs_model.specs.Notes.Posting.{Post, posted_in, dropped_watches}
+use Rattle.krs_model.specs.Notes.Telling.{notes_of}
 use Rattle.krs_model.specs.Making.{with_new, made_for, within_serials}
 use Rattle.krs_model.specs.Asks.Hello.{hello, has_context_left, has_numbers, with_uid, first_session}
 use Rattle.krs_model.specs.Asks.Entering.{thread, fork, exec, without_thread, if_context_number}
@@ -57,6 +64,8 @@ use Rattle.krs_model.specs.Asks.Linked.{unlinked_content, cleared, cleared_conte
 use Rattle.krs_model.specs.Asks.Reading.{read, describe, readable}
 use Rattle.krs_model.specs.Asks.Invalidating.{detached, context_without, rings_without, invalidated, invalidate}
 use Rattle.krs_model.specs.Asks.Leaving.{left, exit, exited, has_process, has_uid}
+use Rattle.krs_model.specs.Asks.Watching.{opened, filtered, read_out, closed, with_watching, watch_id_of}
+use Rattle.krs_model.specs.Asks.Watching.{open_queue, set_filter, read_queue, close_queue, watch}
 use Rattle.krs_model.proofs.Tables.{at_put_same, at_kept, at_without_other, at_or_apart}
 use Rattle.krs_model.proofs.Reaching.{From}
 use Rattle.krs_model.proofs.Names.{equal_names}
@@ -64,7 +73,8 @@ use Rattle.krs_model.proofs.Levels.{in_left, in_right, in_one}
 use Rattle.krs_model.proofs.Counts.{IsPart, none_part, filter_part}
 use Rattle.krs_model.proofs.Sweeps.{sweep_swept}
 use Rattle.krs_model.proofs.Lookups.{look_up_usable, made_in_ring}
-use Rattle.krs_model.proofs.Following.{within_ok, bind_ok, same_ok, same_state, linked_into_is}
+use Rattle.krs_model.proofs.Naming.{own_there, refused_is}
+use Rattle.krs_model.proofs.Coming.{within_ok, same_ok, same_state, linked_into_is}
 use Rattle.krs_model.proofs.Standing.{Stands, LinksTo, same_stands, NameStays, Lessens, changed_stands, mapped_stands}
 use Rattle.krs_model.proofs.Standing.{sweep_stands, linked_stands, at_further, not_there, there_map, kept_some}
 use Rattle.krs_model.proofs.Roots.{attachments, own_process, context_keys, uid_keys, attached_fewer, attached_without, attached_mapped}
@@ -74,6 +84,10 @@ use Rattle.krs_model.proofs.Entering.{ArePlaced, placed_in, in_placed, own_proce
 use Rattle.krs_model.proofs.Entering.{context_stands, made_for_stands, joined_stands}
 use Rattle.krs_model.proofs.Entering.{new_joined_stands, joinable_there, execed_stands}
 use Rattle.krs_model.proofs.Closing.{from_closes, nests_opens}
+use Rattle.krs_model.proofs.Fitting.{FitsRecord, ArePosts, each_filter, each_on, posts_fit}
+use Rattle.krs_model.proofs.Effects.{effect_of}
+use Rattle.krs_model.proofs.Serials.{few_swept, mid_few, notes_small}
+use Rattle.krs_model.proofs.Keeping.{effect_orderly, sweep_orderly, posted_orderly, ended_watch}
 
 -- what an ask comes to stands, where it is accepted
 pub record Sustains (meant : Outcome) : Type 0 where
@@ -367,11 +381,7 @@ link_stands s client context key ring stands =
     let made = made_for s context c ring in
     sustains_within s _ (link_made_stands made.0 made.1 key ring (made_for_stands s context c ring stands)))
 
--- what is there, and what grants LINK, is the key itself
-refused_none : (o : Option Key) (key : Key) → or_refuse ENOKEY o ≡ Ok key → o ≡ Some key
-refused_none None key h = cc
-refused_none (Some v) key h = cc
-
+-- what grants LINK is the key itself
 linkable_is :
     (s : State) (c : Context) (serial : ℕ) (key : Key) (found : ℕ × Key) → if_linkable s c serial key ≡ Ok found
     → (serial, key) ≡ found
@@ -391,7 +401,7 @@ found_into_stands s c into answer stands =
     sustains_after (if_linkable s c serial key) _ (λ found same.
     sustains_after (linked_into s into found) _ (λ new linked.
     let there : at s.keys found.0 ≡ Some found.1 = subst (λ (x : ℕ × Key). at s.keys x.0 ≡ Some x.1)
-    (linkable_is s c serial key found same) (refused_none (at s.keys serial) key is) in
+    (linkable_is s c serial key found same) (refused_is (at s.keys serial) ENOKEY key is) in
     sustains_ok (linked_into_stands s into found new there linked stands)))))
 
 found_alone_stands : (s : State) (answer : Result ℕ Errno) → Stands s → Sustains (found_alone s answer)
@@ -483,24 +493,6 @@ join_stands s client context name stands =
     sustains_after (session_named name) _ (λ fit _.
     sustains_within s _ (session_joined_stands s context c name (joinable s c.caller name) refl stands)))
 
-own_is :
-    (client : ℕ) (found c : Context) (o : Option Context) → or_refuse ESRCH o ≡ Ok found → if_own client found ≡ Ok c
-    → o ≡ Some c
-own_is client found c None h own = cc
-own_is client found c (Some v) h own =
-    elim (found.client == client) as (λ b. cond b (Ok found) (Err ESRCH) ≡ Ok c → Some v ≡ Some c) [
-      | true ↦ λ is. cc
-      | false ↦ λ no. cc
-    ] own
-
--- a context of a client is there
-own_there :
-    (s : State) (client number : ℕ) (c : Context) → context_of s client number ≡ Ok c → at s.contexts number ≡ Some c
-unfolding context_of
-own_there s client number c h =
-    let there = bind_ok (or_refuse ESRCH (at s.contexts number)) (if_own client) c h in
-    own_is client there.0 c (at s.contexts number) there.1 there.2
-
 thread_stands : (s : State) (client context : ℕ) → Stands s → Sustains (thread s client context)
 unfolding thread
 thread_stands s client context stands =
@@ -589,6 +581,50 @@ add_stands s client context type_name desc payload ring stands =
     let made = made_for s context c ring in
     added_in_stands made.0 made.1 name payload ring (made_for_stands s context c ring stands)))
 
+-- queues and watches are of no account
+with_queues_stands : (s : State) (queues : Queues) → Stands s → Stands (with_queues s queues)
+with_queues_stands s queues stands = same_stands s _ refl refl stands.attached stands.placed stands
+
+posted_stands : (ps : List Post) (s : State) → Stands s → Stands (posted_in ps s)
+posted_stands ps s stands = same_stands s _ refl refl stands.attached stands.placed stands
+
+open_queue_stands : (s : State) (client capacity : ℕ) → Stands s → Sustains (open_queue s client capacity)
+unfolding open_queue
+open_queue_stands s client capacity stands =
+    sustains_after (opened (queues_of s) client capacity) _ (λ made _.
+    sustains_ok (with_queues_stands s made.0 stands))
+
+set_filter_stands :
+    (s : State) (client number : ℕ) (entries : List FilterEntry) → Stands s
+    → Sustains (set_filter s client number entries)
+unfolding set_filter
+set_filter_stands s client number entries stands =
+    sustains_after (filtered (queues_of s) client number entries) _ (λ set _.
+    sustains_ok (with_queues_stands s set.0 stands))
+
+read_queue_stands : (s : State) (client number room : ℕ) → Stands s → Sustains (read_queue s client number room)
+unfolding read_queue
+read_queue_stands s client number room stands =
+    sustains_after (read_out (queues_of s) client number room) _ (λ taken _.
+    sustains_ok (with_queues_stands s taken.0 stands))
+
+close_queue_stands : (s : State) (client number : ℕ) → Stands s → Sustains (close_queue s client number)
+unfolding close_queue
+close_queue_stands s client number stands =
+    sustains_after (closed (queues_of s) client number) _ (λ left _.
+    sustains_ok (with_queues_stands s left.0 stands))
+
+watch_stands :
+    (s : State) (client context : ℕ) (id : ℤ) (number : ℕ) (watch_id : ℤ) → Stands s
+    → Sustains (watch s client context id number watch_id)
+unfolding watch
+watch_stands s client context id number watch_id stands =
+    sustains_after (context_of s client context) _ (λ c _.
+    sustains_after (watch_id_of watch_id) _ (λ asked _.
+    sustains_after (look_up s c id (Granted VIEW)) _ (λ found _.
+    sustains_after (with_watching (queues_of s) client number found.0 asked) _ (λ queues _.
+    sustains_ok (with_queues_stands s queues stands)))))
+
 -- what any ask comes to stands, where it is accepted
 pub outcome_stands : (s : State) (client context : ℕ) (op : Op) → Stands s → Sustains (outcome_of s client context op)
 outcome_stands s client context (Hello caller) stands = hello_stands s client caller stands
@@ -614,6 +650,12 @@ outcome_stands s client context (Unlink key ring) stands = unlink_stands s clien
 outcome_stands s client context (Clear id) stands = clear_stands s client context id stands
 outcome_stands s client context (Read id) stands = read_stands s client context id stands
 outcome_stands s client context (Describe id) stands = describe_stands s client context id stands
+outcome_stands s client context (Watch id queue watch_id) stands =
+    watch_stands s client context id queue watch_id stands
+outcome_stands s client context (OpenQueue capacity) stands = open_queue_stands s client capacity stands
+outcome_stands s client context (SetFilter queue entries) stands = set_filter_stands s client queue entries stands
+outcome_stands s client context (ReadQueue queue room) stands = read_queue_stands s client queue room stands
+outcome_stands s client context (CloseQueue queue) stands = close_queue_stands s client queue stands
 outcome_stands s client context Exit stands = exit_stands s client context stands
 outcome_stands s client context Leave stands = sustains_ok (left_stands s client stands)
 
@@ -627,51 +669,87 @@ sound_stands s sound = record {
   unused = sound.unused;
 }
 
-stands_sound : (s : State) → Stands s → IsSwept s → IsSound s
-stands_sound s stands swept = record {
+stands_sound :
+    (s : State) → Stands s → IsBelow s.keys 2147483648 → IsSwept s → AreOrderly (queues_of s) → IsSound s
+stands_sound s stands few swept orderly = record {
   acyclic = stands.acyclic;
   linked = stands.linked;
   attached = stands.attached;
   placed = stands.placed;
   once = stands.once;
   unused = stands.unused;
+  few = few;
   swept = swept;
+  orderly = orderly;
 }
 
 -- the clock alone
 pub raised_sound : (s : State) (moment : ℕ) → IsSound s → IsSound (raised s moment)
 raised_sound s moment sound =
     let up = raised s moment in
-    stands_sound up (same_stands s up refl refl sound.attached sound.placed (sound_stands s sound))
-    (record { keys = sound.swept.keys; watches = sound.swept.watches })
+    stands_sound up (same_stands s up refl refl sound.attached sound.placed (sound_stands s sound)) sound.few
+    (record { keys = sound.swept.keys; watches = sound.swept.watches }) sound.orderly
+
+each_append : (P : queues.Watch → Type 0) (vs ws : List queues.Watch) → Each P vs → Each P ws → Each P (vs ++ ws)
+each_append P [] ws f g = g
+each_append P (v ∷ vs) ws f g = (f.0, each_append P vs ws f.1 g)
+
+fits_on : (table : Table Queue) (ws : List queues.Watch) → Each (IsWatch table) ws → Each FitsRecord ws
+fits_on table ws h = each_on (IsWatch table) FitsRecord ws (λ w is. record { key = is.key; id = is.id }) h
+
+-- what an accepted ask posts
+pub posts_by_fit :
+    (s mid : State) (client context : ℕ) (op : Op) (answer : Answer) (keys : Table Key) → IsSound s
+    → outcome_of s client context op ≡ Ok (mid, answer) → ArePosts (posts_by s client context op answer keys)
+posts_by_fit s mid client context op answer keys sound meant =
+    let effect = effect_of s client context op mid answer meant in
+    let few = mid_few s mid client context op answer meant sound.placed sound.unused sound.few in
+    let ended = ended_watch s client context op mid answer effect sound.few sound.orderly in
+    let orderly = effect_orderly s client context op mid answer effect sound.few sound.orderly in
+    let gone = each_filter (IsWatch mid.queues) _ mid.watches orderly.watches in
+    let left : watches_left (outcome_of s client context op) ≡ mid.watches = ap watches_left meant in
+    let dropped : Each FitsRecord (dropped_watches keys (watches_left (outcome_of s client context op))) =
+    subst (λ (ws : List queues.Watch). Each FitsRecord (dropped_watches keys ws)) (sym left) (fits_on mid.queues _ gone) in
+    posts_fit (queues_of s) (notes_of s client context op answer) _ sound.orderly.watches
+    (notes_small s mid client context few op answer meant)
+    (each_append FitsRecord _ _ (fits_on s.queues _ ended) dropped)
+
+-- what an accepted ask leaves is sound
+pub served_sound :
+    {s new : State} {client context : ℕ} {op : Op} {answer : Answer} → IsSound s
+    → Serves s client context op answer new → IsSound new
+served_sound {s} {new} {client} {context} {op} {answer} sound serves =
+    let mid = serves.mid in
+    let swept = serves.swept in
+    let meant = serves.meant in
+    let stood = (outcome_stands s client context op (sound_stands s sound)).stands mid answer meant in
+    let stands = sweep_stands mid swept serves.sweep stood in
+    let still = sweep_swept mid swept serves.sweep in
+    let few = mid_few s mid client context op answer meant sound.placed sound.unused sound.few in
+    let kept = few_swept mid swept serves.sweep few in
+    let effect = effect_of s client context op mid answer meant in
+    let orderly = sweep_orderly mid swept serves.sweep
+    (effect_orderly s client context op mid answer effect sound.few sound.orderly) in
+    let ps = posts_by s client context op answer swept.keys in
+    let fit = posts_by_fit s mid client context op answer swept.keys sound meant in
+    subst IsSound (sym serves.posted)
+    (stands_sound (posted_in ps swept) (posted_stands ps swept stands) kept
+    (record { keys = still.keys; watches = still.watches }) (posted_orderly ps (queues_of swept) fit orderly))
 
 end_sound :
-    (old new : State) (growing : Bool) (reply : Result Answer Errno) (meant : Outcome) → IsSound old → Sustains meant
-    → Ends old growing reply new meant → IsSound new
-end_sound old new growing (Ok answer) meant sound sustains ends =
-    stands_sound new (sweep_stands ends.0 new ends.2 (sustains.stands ends.0 answer ends.1))
-    (sweep_swept ends.0 new ends.2)
-end_sound old new growing (Err e) meant sound sustains ends = subst IsSound (sym ends.1) sound
+    (s new : State) (client context : ℕ) (op : Op) (reply : Result Answer Errno) → IsSound s
+    → Ends s client context op reply new → IsSound new
+end_sound s new client context op (Ok answer) sound serves = served_sound sound serves
+end_sound s new client context op (Err e) sound ends = subst IsSound (sym ends.1) sound
 
 -- each step leaves a store sound
 pub step_sound : (old new : State) (event : Event) → IsSound old → Step old event new → IsSound new
 unfolding Step
 step_sound old new event sound step =
-    let up = raised old event.moment in
-    let raise = raised_sound old event.moment sound in
-    let sustains = outcome_stands up event.lane event.ask.context event.ask.op (sound_stands up raise) in
-    end_sound up new (grows event.ask.op) event.reply _ raise sustains step
+    end_sound (raised old event.moment) new event.lane event.ask.context event.ask.op event.reply
+    (raised_sound old event.moment sound) step
 
--- what an accepted ask leaves, once it is swept, is sound
-pub served_sound :
-    (old up mid new : State) (moment client context : ℕ) (op : Op) (answer : Answer) → IsSound old
-    → up ≡ raised old moment → outcome_of up client context op ≡ Ok (mid, answer) → IsSweep mid new → IsSound new
-served_sound old up mid new moment client context op answer sound raise meant sweep =
-    let above : IsSound up = subst IsSound (sym raise) (raised_sound old moment sound) in
-    end_sound up new true (Ok answer) _ above (outcome_stands up client context op (sound_stands up above))
-    (mid, meant, sweep)
-
--- and before that, acyclic
+-- before the sweep no keyring reaches itself
 pub served_acyclic :
     (old up mid : State) (moment client context : ℕ) (op : Op) (answer : Answer) → IsSound old → up ≡ raised old moment
     → outcome_of up client context op ≡ Ok (mid, answer) → IsAcyclic (links_in mid.keys)
@@ -692,7 +770,15 @@ start_sound n = record {
   placed = λ p i. absurd (true≢false (sym i));
   once = λ ring name. omega arith;
   unused = λ k le. refl;
+  few = λ k le. refl;
   swept = record { keys = λ k there. absurd (true≢false (sym there)); watches = refl };
+  orderly = record {
+    unused = λ k le. refl;
+    distinct = tt;
+    watches = tt;
+    rising = tt;
+    queues = λ k v there. absurd (none-some v there);
+  };
 }
 
 -- and so is the end of each legal history

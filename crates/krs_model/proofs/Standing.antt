@@ -257,6 +257,12 @@ at_put es n k v =
     ⊎_elim (λ (e : k ≡ n). inl (e, ap (λ (z : ℕ). at (put es n v) z) e ∙ at_put_same es n v))
     (λ apart. inr (at_put_other es n k v apart)) (at_or_apart k n)
 
+-- a number where something is has it still, when something is put
+pub there_put :
+    {X : Type 0} (es : Table X) (n k : ℕ) (v : X) → IsSome (at es k) → IsSome (at (put es n v) k)
+there_put es n k v h =
+    ⊎_elim (λ (r : IsPut es n v k). rw r.1 refl) (λ same. subst IsSome (sym same) h) (at_put es n k v)
+
 pub not_there : (o : Option Key) → IsSome o → o ≡ None → ⊥
 not_there None h e = true≢false (sym h)
 not_there (Some v) h e = none-some v (sym e)

@@ -1,13 +1,20 @@
 -- What the laws say of the definitions.
-use Rattle.std.specs.Prelude.{◌≡◌, ◌≢◌, ◌<◌, ◌≤◌, ℕ, List, [], ◌∷◌, true, false, ◌⊎◌, Some, Result, Err, slice_get}
+use Rattle.std.specs.Prelude.{◌≡◌, ◌≢◌, ◌<◌, ◌≤◌, ℕ, List, [], ◌∷◌, true, false, ◌⊎◌, Some, Result, Ok, Err, slice_get}
 use Rattle.krs_types.specs.declared.caller.Caller.{Caller}
 use Rattle.krs_types.specs.declared.context.Context.{Context}
 use Rattle.krs_types.specs.declared.errno.Errno.{Errno}
 use Rattle.krs_types.specs.declared.errno.Errno.TheVariants.{ENOKEY}
 use Rattle.krs_types.specs.declared.name.Name.{Name}
+use Rattle.krs_types.specs.declared.note.Record.{Record}
+use Rattle.krs_types.specs.declared.ask.Answer.{Answer}
+use Rattle.krs_types.specs.declared.ask.Answer.TheVariants.{Bytes}
 use Rattle.krs_types.specs.Caller.{is_of_group}
 use Rattle.krs_types.specs.Perm.{user_byte, group_byte, other_byte}
-use Rattle.krs_model.specs.State.{State}
+use Rattle.krs_model.specs.Table.{at}
+use Rattle.krs_model.specs.State.{State, Queue}
+use Rattle.krs_model.specs.Queues.{queue_of}
+use Rattle.krs_model.specs.Notes.Bytes.{bytes_of_all}
+use Rattle.krs_model.specs.Notes.Front.{IsLongestFront}
 use Rattle.krs_model.specs.Levels.{level, is_in}
 use Rattle.krs_model.specs.Possession.{attached, followed_in, possessed}
 use Rattle.krs_model.specs.Reach.{Reaches}
@@ -52,3 +59,17 @@ HasNoAnswer by head name = (n i other : ℕ) → n ≤ 7 → StandsAt by head n 
 abbrev pub in_turn : (ℕ → Result ℕ Errno) → List ℕ → Result ℕ Errno
 in_turn search [] = Err ENOKEY
 in_turn search (head ∷ heads) = or_next (search head) (in_turn search heads)
+
+-- an accepted READ_QUEUE of the client's queue gives the longest front of what waits that fits the room, which has some
+-- record; that front is taken out, and nothing else changes
+pub record ReadsFront (s : State) (client number room : ℕ) (new : State) (answer : Answer) : Type 0 where
+  pub queue : Queue
+  pub own : queue_of s.queues client number ≡ Ok queue
+  pub taken : List Record
+  pub left : List Record
+  pub longest : IsLongestFront room queue.waiting taken left
+  pub some : taken ≢ []
+  pub gave : answer ≡ Bytes (bytes_of_all taken)
+  pub leaves : at new.queues number ≡ Some (record queue { waiting = left })
+  pub others : (n : ℕ) → n ≢ number → at new.queues n ≡ at s.queues n
+  pub rest : new ≡ record s { queues = new.queues }

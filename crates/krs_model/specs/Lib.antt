@@ -11,12 +11,16 @@ pub mod Search
 pub mod Sweep
 pub mod Reach
 pub mod Anchored
+pub mod Orderly
 pub mod Sound
 pub mod Outcome
 pub mod Asks
 pub mod Step
+pub mod Serving
 pub mod History
 pub mod Revocation
 pub mod Laws
 pub mod Notes
 pub mod Queues
+pub mod Receiving
+pub mod Ordering

@@ -5,6 +5,8 @@ use Rattle.krs_types.specs.declared.name.Name.{Name}
 use Rattle.krs_model.specs.Table.{Table, at, IsBelow}
 use Rattle.krs_model.specs.State.{State, Key}
 use Rattle.krs_model.specs.Levels.{is_in}
+use Rattle.krs_model.specs.Queues.{queues_of}
+use Rattle.krs_model.specs.Orderly.{AreOrderly}
 use Rattle.krs_model.specs.Linking.{is_named}
 use Rattle.krs_model.specs.Reach.{IsAcyclic, links_in}
 use Rattle.krs_model.specs.Sweep.{IsSwept, roots}
@@ -43,5 +45,9 @@ pub record IsSound (s : State) : Type 0 where
   pub once : HasOneOfEach s.keys
   -- no serial is given twice: profile, rising serials
   pub unused : IsBelow s.keys s.next_serial
+  -- and none above the last one: profile, serials run out
+  pub few : IsBelow s.keys 2147483648
   -- what no attachment reaches is gone: keyrings(7), "garbage collection"
   pub swept : IsSwept s
+  -- watches are of queues, of which each has a number of its own: core-api/watch_queue.rst
+  pub orderly : AreOrderly (queues_of s)

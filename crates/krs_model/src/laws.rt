@@ -1,6 +1,8 @@
-ghost use Rattle.std.specs.Prelude.{◌≡◌, ◌↔◌, ℕ, ℤ, List, Bool, Ok, Err, IsErr, IsSome, true, false};
+ghost use Rattle.std.specs.Prelude.{◌≡◌, ◌↔◌, ◌++◌, ℕ, ℤ, List, [], Bool, Ok, Err, IsErr, IsSome, Some, true, false};
 ghost use Rattle.krs_types.specs.declared.caller.Caller.{Caller};
 ghost use Rattle.krs_types.specs.declared.context.Context.{Context};
+ghost use Rattle.krs_types.specs.declared.ask.Answer.{Answer};
+ghost use Rattle.krs_types.specs.declared.ask.Op.{Op};
 ghost use Rattle.krs_types.specs.declared.ask.Op.TheVariants.{Revoke, Read};
 ghost use Rattle.krs_types.specs.declared.errno.Errno.{Errno};
 ghost use Rattle.krs_types.specs.declared.event.Event.{Event};
@@ -8,7 +10,8 @@ ghost use Rattle.krs_types.specs.declared.name.Name.{Name};
 ghost use Rattle.krs_types.specs.declared.rights.Want.{Want};
 ghost use Rattle.krs_types.specs.Perm.{granted};
 ghost use Rattle.krs_model.specs.Table.{Table, at, IsBelow};
-ghost use Rattle.krs_model.specs.State.{State, Key, raised, starting_at};
+ghost use Rattle.krs_model.specs.State.{State, Key, Queue, raised, starting_at};
+ghost use Rattle.krs_model.specs.Queues.{Queues, queues_of};
 ghost use Rattle.krs_model.specs.Possession.{attached, possessed};
 ghost use Rattle.krs_model.specs.Lookup.{look_up};
 ghost use Rattle.krs_model.specs.Usable.{IsUsable};
@@ -16,12 +19,20 @@ ghost use Rattle.krs_model.specs.Sweep.{IsSweep, IsSwept, PicksHeld};
 ghost use Rattle.krs_model.specs.Reach.{closes, links_in, IsAcyclic};
 ghost use Rattle.krs_model.specs.Search.{searcher_of, found, requested};
 ghost use Rattle.krs_model.specs.Anchored.{IsClosedChoice};
+ghost use Rattle.krs_model.specs.Orderly.{AreOrderly, AreRising};
 ghost use Rattle.krs_model.specs.Sound.{IsSound, AllLinked};
-ghost use Rattle.krs_model.specs.Step.{Step};
+ghost use Rattle.krs_model.specs.Step.{Step, Serves, outcome_of};
+ghost use Rattle.krs_model.specs.Serving.{Tells, SweepsOut};
 ghost use Rattle.krs_model.specs.History.{IsLegal};
 ghost use Rattle.krs_model.specs.Revocation.{IsOfKey, StaysUnread};
+ghost use Rattle.krs_model.specs.Receiving.{HasMoves, IsOpened, IsBeginning};
+ghost use Rattle.krs_model.specs.Ordering.{GoByQueue};
+ghost use Rattle.krs_model.specs.Notes.Stream.{Move, taken, stream};
+ghost use Rattle.krs_model.specs.Notes.Posting.{Note, posts_of, dropped_watches};
+ghost use Rattle.krs_model.specs.Notes.Telling.{ended_by};
+ghost use Rattle.krs_model.specs.Asks.Watching.{read_queue};
 ghost use Rattle.krs_model.specs.Laws.{ComesByLinks, IsOneByte, ClosesCycle};
-ghost use Rattle.krs_model.specs.Laws.{IsFirstAnswer, HasNoAnswer, in_turn};
+ghost use Rattle.krs_model.specs.Laws.{IsFirstAnswer, HasNoAnswer, in_turn, ReadsFront};
 
 /// A possessed key is an attached keyring, or is linked by a possessed keyring that may be searched: keyrings(7),
 /// "Possession".
@@ -114,4 +125,64 @@ pub fn each_step_keeps_a_store_sound()
 /// Every history of a store that began empty ends in a sound store.
 pub fn histories_end_sound()
     ensures { (n : ℕ) (events : List Event) (end : State) → IsLegal (starting_at n) events end → IsSound end }
+{}
+
+/// A reply leads to one state: what is asked at a moment and what it is answered with determine all that a store is then.
+pub fn a_reply_leads_to_one_state()
+    ensures step { (old a b : State) (event : Event) → Step old event a → Step old event b → a ≡ b }
+    ensures history { (start a b : State) (events : List Event)
+        → IsLegal start events a → IsLegal start events b → a ≡ b }
+{}
+
+/// A step may be taken in turn: the effect of an ask, its notes, the sweep, the removal records. The notes go out by the
+/// watches and filters of the state before the ask all the same. Profile, order of notes.
+pub fn a_step_may_be_taken_in_turn()
+    ensures { (s told new : State) (client context : ℕ) (op : Op) (answer : Answer)
+        → Tells s client context op answer told → SweepsOut told new → Serves s client context op answer new }
+{}
+
+/// Where nothing is watched nothing is posted: an accepted ask has its effect, and then the sweep.
+pub fn a_store_with_no_watch_posts_nothing()
+    ensures { (s mid new : State) (client context : ℕ) (op : Op) (answer : Answer)
+        → s.watches ≡ [] → mid.watches ≡ [] → outcome_of s client context op ≡ Ok (mid, answer)
+        → IsSweep mid new → Serves s client context op answer new }
+{}
+
+/// One note goes to its queues by rising number, and the removal records of an ask go out by rising key, then queue.
+/// Profile, order of notes.
+pub fn records_go_out_in_order()
+    ensures notes { (q : Queues) (note : Note) → AreOrderly q → GoByQueue (posts_of q note) }
+    ensures removals { (s mid swept : State) (client context : ℕ) (op : Op) (answer : Answer)
+        → IsSound s → outcome_of s client context op ≡ Ok (mid, answer) → IsSweep mid swept
+        → AreRising (ended_by s client context op ++ dropped_watches swept.keys mid.watches) }
+{}
+
+/// An accepted READ_QUEUE gives and takes the longest front of records that fits its room: profile, whole records.
+pub fn a_read_takes_the_longest_front()
+    ensures { (s new : State) (client number room : ℕ) (answer : Answer)
+        → read_queue s client number room ≡ Ok (new, answer) → ReadsFront s client number room new answer }
+{}
+
+/// Every legal history from a sound store has, of each queue, one list of moves: the records that it calls for, and
+/// those that the replies spell.
+pub fn histories_move_queues()
+    ensures some { (q : ℕ) (start : State) (events : List Event) (end : State)
+        → IsSound start → IsLegal start events end → (moves : List Move) × HasMoves q start events moves end }
+    ensures one { (q : ℕ) (start : State) (events : List Event) (a b : List Move) (end other : State)
+        → IsSound start → HasMoves q start events a end → HasMoves q start events b other → a ≡ b }
+    ensures legal { (q : ℕ) (start : State) (events : List Event) (moves : List Move) (end : State)
+        → HasMoves q start events moves end → IsLegal start events end }
+{}
+
+/// Of a queue that was opened in a history and is still open, the records that READ_QUEUE's replies spell, followed by
+/// those that wait, are its stream: the records that its watches and filter call for, with a loss after the last that was
+/// kept wherever some were dropped. Of any queue that was opened, what was read begins that stream.
+/// core-api/watch_queue.rst, "Watch Queue (Notification Output) API".
+pub fn queues_give_their_streams()
+    ensures open { (start end : State) (events : List Event) (moves : List Move) (q capacity : ℕ) (queue : Queue)
+        → IsSound start → HasMoves q start events moves end → IsOpened q capacity events
+        → at end.queues q ≡ Some queue → taken moves ++ queue.waiting ≡ stream capacity moves }
+    ensures begun { (start end : State) (events : List Event) (moves : List Move) (q capacity : ℕ)
+        → IsSound start → HasMoves q start events moves end → IsOpened q capacity events
+        → IsBeginning (taken moves) (stream capacity moves) }
 {}

@@ -89,6 +89,33 @@ const ATTACHED: [u8; 52] = [
     8, 0, 0, 0, 0, 0, 0, 0, 7, 0, 0, 0, 8, 0, 0, 0, 0, 0, 0, 0, 7, 0, 0, 0,
 ];
 
+// Behind HELLO and ADD: OPEN_QUEUE of 4 records; SET_FILTER of queue 1 to updated notes; in context 1 WATCH of 5 by queue 1
+// with the id 9, SET_TIMEOUT of 5 to 60 seconds, UPDATE of 5 to `s4`; READ_QUEUE of queue 1 into 64 bytes, twice;
+// CLOSE_QUEUE of queue 1; READ_QUEUE of queue 1 into 16 bytes.
+#[rattlefmt::skip]
+const QUEUES: [u8; 222] = [
+    0x0c, 0, 0, 0, 1, 0, 8, 1, 0, 0, 0, 0, 4, 0, 0, 0,
+    0x3c, 0, 0, 0, 1, 0, 9, 1, 0, 0, 0, 0, 1, 0, 0, 0, 1, 0, 0, 0,
+    1, 0, 0, 0, 0, 0, 0, 0, 0, 0, 0, 0, 2, 0, 0, 0, 0, 0, 0, 0, 0, 0, 0, 0,
+    0, 0, 0, 0, 0, 0, 0, 0, 0, 0, 0, 0, 0, 0, 0, 0, 0, 0, 0, 0,
+    0x14, 0, 0, 0, 1, 0, 0x20, 0, 1, 0, 0, 0, 5, 0, 0, 0, 1, 0, 0, 0, 9, 0, 0, 0,
+    0x10, 0, 0, 0, 1, 0, 0x0f, 0, 1, 0, 0, 0, 5, 0, 0, 0, 60, 0, 0, 0,
+    0x12, 0, 0, 0, 1, 0, 2, 0, 1, 0, 0, 0, 5, 0, 0, 0, 2, 0, 0, 0, 0x73, 0x34,
+    0x10, 0, 0, 0, 1, 0, 0x0a, 1, 0, 0, 0, 0, 1, 0, 0, 0, 64, 0, 0, 0,
+    0x10, 0, 0, 0, 1, 0, 0x0a, 1, 0, 0, 0, 0, 1, 0, 0, 0, 64, 0, 0, 0,
+    0x0c, 0, 0, 0, 1, 0, 0x0b, 1, 0, 0, 0, 0, 1, 0, 0, 0,
+    0x10, 0, 0, 0, 1, 0, 0x0a, 1, 0, 0, 0, 0, 1, 0, 0, 0, 16, 0, 0, 0,
+];
+
+// Queue 1; nothing, four times; the updated note of watch 9 of key 5; EAGAIN; nothing; EBADF.
+#[rattlefmt::skip]
+const NOTED: [u8; 92] = [
+    8, 0, 0, 0, 0, 0, 0, 0, 1, 0, 0, 0,
+    4, 0, 0, 0, 0, 0, 0, 0, 4, 0, 0, 0, 0, 0, 0, 0, 4, 0, 0, 0, 0, 0, 0, 0, 4, 0, 0, 0, 0, 0, 0, 0,
+    20, 0, 0, 0, 0, 0, 0, 0, 1, 0, 0, 1, 16, 9, 0, 0, 5, 0, 0, 0, 0, 0, 0, 0,
+    4, 0, 0, 0, 11, 0, 0, 0, 4, 0, 0, 0, 0, 0, 0, 0, 4, 0, 0, 0, 9, 0, 0, 0,
+];
+
 #[derive(Drop)]
 struct Case<'a> {
     name: &'a str,
@@ -267,4 +294,9 @@ fn contexts_come_and_go(rt: HostRuntime) -> Result<(), Fail> {
 #[test]
 fn keyrings_are_attached_and_keys_invalidated(rt: HostRuntime) -> Result<(), Fail> {
     check_replies(&rt, rt.alloc(), &KEYRINGS, &ATTACHED)
+}
+
+#[test]
+fn queues_are_opened_read_and_closed(rt: HostRuntime) -> Result<(), Fail> {
+    check_replies(&rt, rt.alloc(), &QUEUES, &NOTED)
 }

@@ -12,3 +12,6 @@ pub mod Joined
 mod Invalidated
 pub mod TwoMade
 pub mod Endings
+pub mod Dropping
+pub mod Noting
+pub mod Watching

@@ -19,7 +19,7 @@ use Rattle.krs_model.specs.State as model
 use Rattle.krs_model.specs.Possession.{links_of}
 use Rattle.krs_model.specs.Levels.{is_in}
 use Rattle.krs_model.specs.Linking.{link_named, linking}
-use Rattle.krs_model.specs.Sweep.{IsHeld, Linked, PicksHeld, IsSweep, AllHeld, roots}
+use Rattle.krs_model.specs.Sweep.{IsHeld, Linked, PicksHeld, IsSweep, AllHeld, live_watches, roots}
 use Rattle.krs_model.specs.Asks.Hello.{uid_ring, with_uid}
 use Rattle.krs_model.specs.Lookup.{look_up}
 use Rattle.krs_model.specs.Asks.Adding.{made, new_key, IsRing, place_of, by_match}
@@ -133,11 +133,16 @@ first_told s new c a b sound unused ea eb e =
       is = put_map seen one (n + 1) b ∙ (ap (λ zs. put zs (n + 1) (seen b)) (put_map seen es n a) ∙ (ap (λ (k : Key). put (put (shown es) n (seen k)) (n + 1) (seen b)) ea ∙ ap (λ (k : Key). put (put (shown es) n (uid_ring (codes "_uid.") [] c)) (n + 1) (seen k)) eb));
     })
 
+-- with these keys, and the watches at them
+abbrev pub swept_state : Inside → Table Key → model.State
+swept_state s new =
+    record (state_of s) { keys = shown new; watches = live_watches (shown new) s.queues.watches }
+
 -- after a sweep
 pub record IsSweptTable (s : Inside) (new : Table Key) : Type 0 where
   pub fit : AreFit new
   pub kinds : AreOfKind new
-  pub sweep : IsSweep (state_of s) (record (state_of s) { keys = shown new })
+  pub sweep : IsSweep (state_of s) (swept_state s new)
 
 some_there : (link : Name) (o : Option Key) → option_map (λ key. key.name) o ≡ Some link → IsSome (option_map seen o)
 some_there link None h = absurd (none-some link h)

@@ -7,3 +7,4 @@ pub mod Holding
 pub mod Specials
 pub mod Found
 pub mod Joined
+pub mod Telling

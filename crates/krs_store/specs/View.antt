@@ -1,23 +1,21 @@
 -- Which state a store stands for, and what is true of each.
-use Rattle.std.specs.Prelude.{[]}
 use Rattle.krs_model.specs.State.{State}
 use Rattle.krs_model.specs.Sweep.{roots}
 use Rattle.krs_hold.specs.Tally.{AreExact}
 use Rattle.krs_store.specs.declared.tables.Tables.TheInside.{Inside}
 use Rattle.krs_keys.specs.Keys.{shown, AreFit, AreOfKind}
 
--- there are no queues and no watches yet
 abbrev pub state_of : Inside → State
 state_of s = record {
   keys = shown s.keys.keys;
   contexts = s.contexts.contexts;
   processes = s.contexts.processes;
   uids = s.contexts.uids;
-  queues = [];
-  watches = [];
+  queues = s.queues.queues;
+  watches = s.queues.watches;
   next_serial = s.keys.next;
   next_context = s.contexts.next_context;
-  next_queue = 1;
+  next_queue = s.queues.next_queue;
   clock = s.clock;
 }
 

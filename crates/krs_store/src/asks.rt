@@ -12,3 +12,5 @@ mod leaving;
 pub(crate) mod linking;
 pub(crate) mod making;
 mod reading;
+pub(crate) mod telling;
+mod watching;

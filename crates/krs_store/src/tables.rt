@@ -4,18 +4,21 @@ ghost use Rattle.krs_model.specs.Table.{at, put, alter};
 ghost use Rattle.krs_model.specs.State.{starting_at, raised};
 ghost use Rattle.krs_model.specs.Possession.{process_ring, possessed};
 ghost use Rattle.krs_model.specs.Lookup.{context_of, serial_of, look_up};
-ghost use Rattle.krs_model.specs.Outcome.{Leads, Gives, Is};
-ghost use Rattle.krs_model.specs.Step.{outcome_of, grows};
-ghost use Rattle.krs_model.specs.Sweep.{IsSweep};
+ghost use Rattle.krs_model.specs.Outcome.{Gives, Is};
+ghost use Rattle.krs_model.specs.Step.{grows};
+ghost use Rattle.krs_model.specs.Serving.{LeadsTold, SweepsOut};
+ghost use Rattle.krs_model.specs.Sweep.{live_watches};
 ghost use Rattle.krs_model.specs.Reach.{IsAcyclic, links_in};
 ghost use Rattle.krs_model.specs.Sound.{IsSound};
 ghost use Rattle.krs_keys.specs.Keys.{seen, FindsByName};
+ghost use Rattle.krs_store.specs.Telling.{Runs};
 
 use krs_ctx::Contexts;
 use krs_hold::Holders;
 use krs_keys::{Key, KeyTable};
 use krs_types::{Answer, Ask, Context, Errno, Fault, KeyId, Op, Serial, Want};
 use krs_walk::Walker;
+use krs_watch::WatchQueues;
 use std::alloc::{AllocError, Global};
 use std::marker::Model;
 
@@ -24,6 +27,7 @@ use std::marker::Model;
 pub(crate) struct Tables {
     pub(crate) keys: KeyTable,
     pub(crate) contexts: Contexts,
+    pub(crate) queues: WatchQueues,
     pub(crate) clock: u64,
     pub(crate) holders: Holders,
     pub(crate) alloc: Global,
@@ -50,6 +54,7 @@ impl Tables {
         Tables {
             keys: KeyTable::starting_at(alloc, next),
             contexts: Contexts::new(alloc),
+            queues: WatchQueues::new(alloc),
             clock: 0,
             holders: Holders::new(alloc),
             alloc,
@@ -139,10 +144,26 @@ impl Tables {
         Ok((serial.number(), key))
     }
 
-    /// One ask in the state that it finds.
+    /// One ask in the state that it finds, and the note of what it did.
     pub(crate) fn serve(&mut self, client: u32, ask: Ask) -> Result<Answer, Fault>
         requires sound { IsSound self.old }
-        ensures step { Leads self.old result self.new (outcome_of self.old client ask.context ask.op) }
+        ensures told { LeadsTold self.old client ask.context ask.op result self.new }
+        ensures memory { IsErrOf result Fault.Memory → grows ask.op ≡ true }
+    {
+        let telling = self.telling(client, ask.context, &ask.op);
+        match self.run(client, ask) {
+            Ok(answer) => {
+                self.tell(telling, &answer);
+                Ok(answer)
+            }
+            Err(fault) => Err(fault),
+        }
+    }
+
+    /// One ask in the state that it finds.
+    fn run(&mut self, client: u32, ask: Ask) -> Result<Answer, Fault>
+        requires sound { IsSound self.old }
+        ensures step { Runs self.old client ask.context ask.op result self.new }
         ensures memory { IsErrOf result Fault.Memory → grows ask.op ≡ true }
     {
         let context = ask.context;
@@ -181,6 +202,11 @@ impl Tables {
             Op::Clear { id } => self.clear(client, context, id),
             Op::Read { id } => self.read(client, context, id),
             Op::Describe { id } => self.describe(client, context, id),
+            Op::Watch { id, queue, watch } => self.watch(client, context, id, queue, watch),
+            Op::OpenQueue { capacity } => self.open_queue(client, capacity),
+            Op::SetFilter { queue, entries } => self.set_filter(client, queue, entries),
+            Op::ReadQueue { queue, room } => self.read_queue(client, queue, room),
+            Op::CloseQueue { queue } => self.close_queue(client, queue),
             Op::Exit => self.exit(client, context),
             Op::Leave => {
                 self.leave(client);
@@ -196,11 +222,16 @@ impl Tables {
         self.clock = self.clock.max(moment);
     }
 
-    /// Just the keys stay that are attached, or linked by what stays.
+    /// Just the keys stay that are attached, or linked by what stays. The watches of the others end with removal records.
     pub(crate) fn sweep(&mut self)
         requires acyclic { IsAcyclic (links_in self.old.keys) }
-        ensures { IsSweep self.old self.new }
+        requires live { live_watches self.old.keys self.old.watches ≡ self.old.watches }
+        ensures { SweepsOut self.old self.new }
     {
+        let before = self.keys.len();
         self.holders.sweep(&mut self.keys);
+        if self.keys.len() < before {
+            self.queues.sweep(&self.keys);
+        }
     }
 }

@@ -6,6 +6,7 @@ use std::test::Fail;
 
 mod contexts;
 mod joining;
+mod notes;
 
 /// What an ask is answered with.
 #[derive(Clone, Copy, Debug)]

@@ -1,4 +1,4 @@
-use crate::{Blob, Body, Caller, Errno};
+use crate::{Blob, Body, Caller, Errno, FilterEntries};
 
 /// What a client asks in one of its contexts.
 #[derive(Debug, Drop)]
@@ -100,6 +100,31 @@ pub enum Op {
     /// A key as text: keyctl(2), KEYCTL_DESCRIBE.
     Describe {
         id: i32,
+    },
+    /// A queue's watch of a key, with an id of 0 to 255; -1 ends the watch that is there: keyctl(2), KEYCTL_WATCH_KEY.
+    Watch {
+        id: i32,
+        queue: u32,
+        watch: i32,
+    },
+    /// A queue of that many records: core-api/watch_queue.rst, "Watch Queue (Notification Output) API".
+    OpenQueue {
+        capacity: u32,
+    },
+    /// Another filter of a queue: core-api/watch_queue.rst, "Event Filtering".
+    SetFilter {
+        queue: u32,
+        entries: FilterEntries,
+    },
+    /// The records of a queue, as many as fit into that many bytes: core-api/watch_queue.rst, "Watch Queue (Notification
+    /// Output) API".
+    ReadQueue {
+        queue: u32,
+        room: u32,
+    },
+    /// The end of a queue and of its watches.
+    CloseQueue {
+        queue: u32,
     },
     /// The end of this context.
     Exit,

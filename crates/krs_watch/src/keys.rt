@@ -1,5 +1,8 @@
-ghost use Rattle.std.specs.Prelude.{◌≡◌, ℕ, Bool};
+ghost use Rattle.std.specs.Prelude.{◌≡◌, ℕ, Bool, is_some};
+ghost use Rattle.krs_model.specs.Table.{at};
+ghost use Rattle.krs_keys.specs.Keys.{shown};
 
+use krs_keys::KeyTable;
 use krs_types::Serial;
 
 /// Tells which keys are there.
@@ -9,4 +12,13 @@ pub trait KeySet {
 
     fn has(&self, key: Serial) -> bool
         ensures { result ≡ has self.now key };
+}
+
+impl KeySet for KeyTable {
+    ghost has = { λ table k. is_some (at (shown table.keys) k) };
+
+    #[tactic(auto, using(krs_model::proofs::Tables::at_map))]
+    fn has(&self, key: Serial) -> bool {
+        self.get(key).is_some()
+    }
 }

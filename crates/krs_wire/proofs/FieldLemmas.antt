@@ -8,7 +8,7 @@ use Rattle.std.proofs.lemmas.List.{take_at, drop_at, take-append-drop, length-ap
 use Rattle.std.proofs.lemmas.Nat.{le_bytes_2, le_bytes_4, from_le_bytes-to_le_bytes_2, from_le_bytes-to_le_bytes_4}
 use Rattle.std.proofs.lemmas.Int.{to_z-of_z, of_z-to_z}
 use Rattle.std.proofs.Math.Facts.{Fits-of_z, sfits_to_z}
-use Rattle.krs_wire.specs.Field.{Field, number, signed, sized, flag, both, nothing, whole}
+use Rattle.krs_wire.specs.Field.{Field, number, signed, sized, flag, both, nothing, built, whole}
 
 abbrev pub IsBytes : List ℕ → Type 0
 IsBytes bytes = (i : ℕ) → get_or bytes i 0 < 256
@@ -212,6 +212,33 @@ module _ {A B : Type 0} (f : Field A) (g : Field B) (exact_f : IsExact f) (exact
 
   pub both_exact : IsExact (both f g)
   both_exact = record { takes = both_takes; again = both_again }
+
+-- ---- a value by its parts
+
+module _ {A B : Type 0} (f : Field A) (make : A → B) (parts_of : B → A) (exact : IsExact f)
+    (parts_again : (a : A) → parts_of (make a) ≡ a) (made_again : (b : B) → make (parts_of b) ≡ b) where
+  built_takes : (bytes : List ℕ) (x : B) (more : List ℕ) → IsBytes bytes
+      → (built f make parts_of).read bytes ≡ Some (x, more) → Takes (built f make parts_of) bytes x more
+  built_takes bytes x more fits e =
+      let a = bind_some (f.read bytes) (λ a. Some (make a.0, a.1)) (x, more) e in
+      let t = exact.takes bytes a.0.0 a.0.1 fits a.1 in
+      let same = sym (parts_again a.0.0) in
+      let made : Takes (built f make parts_of) bytes (make a.0.0) a.0.1 = record {
+        parts = t.parts ∙ ap (λ (y : A). f.spell y ++ a.0.1) same;
+        fits = subst (λ (y : A). f.Fits y) same t.fits;
+        more_fits = t.more_fits;
+      } in
+      subst (λ (p : B × List ℕ). Takes (built f make parts_of) bytes p.0 p.1)
+      (some_is (make a.0.0, a.0.1) (x, more) a.2) made
+
+  built_again : (x : B) (more : List ℕ) → (built f make parts_of).Fits x
+      → (built f make parts_of).read ((built f make parts_of).spell x ++ more) ≡ Some (x, more)
+  built_again x more h =
+      ap (option_and_then (λ (a : A × List ℕ). Some (make a.0, a.1))) (exact.again (parts_of x) more h)
+      ∙ ap (λ (y : B). Some (y, more)) (made_again x)
+
+  pub built_exact : IsExact (built f make parts_of)
+  built_exact = record { takes = built_takes; again = built_again }
 
 -- ---- all of the bytes
 

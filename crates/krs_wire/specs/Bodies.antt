@@ -4,8 +4,9 @@ use Rattle.std.specs.Prelude.{Bool, ℕ, ℤ, List}
 use Rattle.std.specs.Int.{w16, w32}
 use Rattle.krs_types.specs.declared.caller.Caller.{Caller}
 use Rattle.krs_types.specs.declared.ask.Op.{Op}
-use Rattle.krs_types.specs.declared.ask.Op.TheVariants.{Hello, Thread, Fork, Exec, GetId, Join, Search, Request, Add, Update, Revoke, Invalidate, Chown, SetPerm, SetTimeout, Link, Unlink, Clear, Read, Describe, Exit, Leave}
-use Rattle.krs_wire.specs.Field.{Field, number, signed, sized, flag, both, counted, nothing}
+use Rattle.krs_types.specs.declared.ask.Op.TheVariants.{Hello, Thread, Fork, Exec, GetId, Join, Search, Request, Add, Update, Revoke, Invalidate, Chown, SetPerm, SetTimeout, Link, Unlink, Clear, Read, Describe, Watch, OpenQueue, SetFilter, ReadQueue, CloseQueue, Exit, Leave}
+use Rattle.krs_types.specs.declared.note.FilterEntry.{FilterEntry}
+use Rattle.krs_wire.specs.Field.{Field, number, signed, sized, flag, both, counted, nothing, repeated, built}
 
 -- an id of a key: 32 bits, signed
 abbrev pub id_field : Field ℤ
@@ -147,6 +148,58 @@ read_of id = Read id
 abbrev pub describe_of : ℤ → Op
 describe_of id = Describe id
 
+-- id, queue, and the watch's id or -1
+abbrev pub watch_fields : Field (ℤ × (ℕ × ℤ))
+watch_fields = both id_field (both (number w32) (signed w32))
+
+abbrev pub watch_of : ℤ × (ℕ × ℤ) → Op
+watch_of a = Watch a.0 a.1.0 a.1.1
+
+abbrev pub watch_parts : ℤ → (queue : ℕ) → (watch : ℤ) → ℤ × (ℕ × ℤ)
+watch_parts id queue watch = (id, (queue, watch))
+
+abbrev pub open_queue_of : (capacity : ℕ) → Op
+open_queue_of capacity = OpenQueue capacity
+
+-- type, info filter, info mask, eight subtype words
+abbrev pub entry_parts : FilterEntry → ℕ × (ℕ × (ℕ × List ℕ))
+entry_parts entry = (entry.note_type, (entry.info_filter, (entry.info_mask, entry.subtypes)))
+
+abbrev pub entry_of : ℕ × (ℕ × (ℕ × List ℕ)) → FilterEntry
+entry_of a = record { note_type = a.0; info_filter = a.1.0; info_mask = a.1.1.0; subtypes = a.1.1.1 }
+
+-- an entry of a filter, 44 bytes: docs/FORMAT.md, "Filters"
+abbrev pub entry_field : Field FilterEntry
+entry_field =
+    built (both (number w32) (both (number w32) (both (number w32) (repeated 8 (number w32))))) entry_of entry_parts
+
+-- entries: a count of 32 bits, and that many of them
+abbrev pub entries_field : Field (List FilterEntry)
+entries_field = counted entry_field
+
+-- queue, entries
+abbrev pub set_filter_fields : Field (ℕ × List FilterEntry)
+set_filter_fields = both (number w32) entries_field
+
+abbrev pub set_filter_of : ℕ × List FilterEntry → Op
+set_filter_of a = SetFilter a.0 a.1
+
+abbrev pub set_filter_parts : (queue : ℕ) → List FilterEntry → ℕ × List FilterEntry
+set_filter_parts queue entries = (queue, entries)
+
+-- queue, room
+abbrev pub read_queue_fields : Field (ℕ × ℕ)
+read_queue_fields = both (number w32) (number w32)
+
+abbrev pub read_queue_of : ℕ × ℕ → Op
+read_queue_of a = ReadQueue a.0 a.1
+
+abbrev pub read_queue_parts : (queue room : ℕ) → ℕ × ℕ
+read_queue_parts queue room = (queue, room)
+
+abbrev pub close_queue_of : (queue : ℕ) → Op
+close_queue_of queue = CloseQueue queue
+
 abbrev pub exit_of : Unit {0} → Op
 exit_of _ = Exit
 
@@ -169,6 +222,7 @@ number_of_op (Search head type_name desc dest) = 10
 number_of_op (Read id) = 11
 number_of_op (SetTimeout id seconds) = 15
 number_of_op (Invalidate id) = 21
+number_of_op (Watch id queue watch) = 32
 number_of_op (Hello caller) = 256
 number_of_op Thread = 257
 number_of_op Fork = 258
@@ -177,6 +231,10 @@ number_of_op Exit = 260
 number_of_op Leave = 261
 number_of_op (Add type_name desc payload ring) = 262
 number_of_op (Request type_name desc dest) = 263
+number_of_op (OpenQueue capacity) = 264
+number_of_op (SetFilter queue entries) = 265
+number_of_op (ReadQueue queue room) = 266
+number_of_op (CloseQueue queue) = 267
 
 -- the bytes of its body
 abbrev pub body_of_op : Op → List ℕ
@@ -194,6 +252,7 @@ body_of_op (Search head type_name desc dest) = search_fields.spell (search_parts
 body_of_op (Read id) = id_field.spell id
 body_of_op (SetTimeout id seconds) = id_number_fields.spell (id_number_parts id seconds)
 body_of_op (Invalidate id) = id_field.spell id
+body_of_op (Watch id queue watch) = watch_fields.spell (watch_parts id queue watch)
 body_of_op (Hello caller) = hello_fields.spell (hello_parts caller)
 body_of_op Thread = nothing.spell tt
 body_of_op Fork = nothing.spell tt
@@ -202,6 +261,10 @@ body_of_op Exit = nothing.spell tt
 body_of_op Leave = nothing.spell tt
 body_of_op (Add type_name desc payload ring) = add_fields.spell (add_parts type_name desc payload ring)
 body_of_op (Request type_name desc dest) = request_fields.spell (request_parts type_name desc dest)
+body_of_op (OpenQueue capacity) = (number w32).spell capacity
+body_of_op (SetFilter queue entries) = set_filter_fields.spell (set_filter_parts queue entries)
+body_of_op (ReadQueue queue room) = read_queue_fields.spell (read_queue_parts queue room)
+body_of_op (CloseQueue queue) = (number w32).spell queue
 
 -- what its body can spell
 abbrev pub FitsOp : Op → Type 0
@@ -219,6 +282,7 @@ FitsOp (Search head type_name desc dest) = search_fields.Fits (search_parts head
 FitsOp (Read id) = id_field.Fits id
 FitsOp (SetTimeout id seconds) = id_number_fields.Fits (id_number_parts id seconds)
 FitsOp (Invalidate id) = id_field.Fits id
+FitsOp (Watch id queue watch) = watch_fields.Fits (watch_parts id queue watch)
 FitsOp (Hello caller) = hello_fields.Fits (hello_parts caller)
 FitsOp Thread = nothing.Fits tt
 FitsOp Fork = nothing.Fits tt
@@ -227,3 +291,7 @@ FitsOp Exit = nothing.Fits tt
 FitsOp Leave = nothing.Fits tt
 FitsOp (Add type_name desc payload ring) = add_fields.Fits (add_parts type_name desc payload ring)
 FitsOp (Request type_name desc dest) = request_fields.Fits (request_parts type_name desc dest)
+FitsOp (OpenQueue capacity) = (number w32).Fits capacity
+FitsOp (SetFilter queue entries) = set_filter_fields.Fits (set_filter_parts queue entries)
+FitsOp (ReadQueue queue room) = read_queue_fields.Fits (read_queue_parts queue room)
+FitsOp (CloseQueue queue) = (number w32).Fits queue

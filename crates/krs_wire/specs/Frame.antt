@@ -8,7 +8,7 @@ use Rattle.krs_wire.specs.declared.fault.WireFault.TheVariants.{BadLength, BadVe
 use Rattle.krs_wire.specs.declared.framed.Framed.{Framed}
 use Rattle.krs_wire.specs.Field.{Field, number, both, nothing, whole}
 use Rattle.krs_wire.specs.Faulting.{after, or_bad_body}
-use Rattle.krs_wire.specs.Bodies.{id_field, text_field, hello_fields, hello_of, thread_of, fork_of, exec_of, exit_of, get_id_fields, get_id_of, join_of, search_fields, search_of, request_fields, request_of, add_fields, add_of, update_fields, update_of, revoke_of, invalidate_of, chown_fields, chown_of, id_number_fields, set_perm_of, set_timeout_of, link_fields, link_of, unlink_of, clear_of, read_of, describe_of, leave_of}
+use Rattle.krs_wire.specs.Bodies.{id_field, text_field, hello_fields, hello_of, thread_of, fork_of, exec_of, exit_of, get_id_fields, get_id_of, join_of, search_fields, search_of, request_fields, request_of, add_fields, add_of, update_fields, update_of, revoke_of, invalidate_of, chown_fields, chown_of, id_number_fields, set_perm_of, set_timeout_of, link_fields, link_of, unlink_of, clear_of, read_of, describe_of, watch_fields, watch_of, open_queue_of, set_filter_fields, set_filter_of, read_queue_fields, read_queue_of, close_queue_of, leave_of}
 
 -- what a body says for an operation's number
 unfoldable pub op_of : ℕ → List ℕ → Result Op WireFault
@@ -27,6 +27,7 @@ op_of which body =
     else if which == 11 then or_bad_body (whole id_field read_of body)
     else if which == 15 then or_bad_body (whole id_number_fields set_timeout_of body)
     else if which == 21 then or_bad_body (whole id_field invalidate_of body)
+    else if which == 32 then or_bad_body (whole watch_fields watch_of body)
     else if which == 256 then or_bad_body (whole hello_fields hello_of body)
     else if which == 257 then or_bad_body (whole nothing thread_of body)
     else if which == 258 then or_bad_body (whole nothing fork_of body)
@@ -35,6 +36,10 @@ op_of which body =
     else if which == 261 then or_bad_body (whole nothing leave_of body)
     else if which == 262 then or_bad_body (whole add_fields add_of body)
     else if which == 263 then or_bad_body (whole request_fields request_of body)
+    else if which == 264 then or_bad_body (whole (number w32) open_queue_of body)
+    else if which == 265 then or_bad_body (whole set_filter_fields set_filter_of body)
+    else if which == 266 then or_bad_body (whole read_queue_fields read_queue_of body)
+    else if which == 267 then or_bad_body (whole (number w32) close_queue_of body)
     else Err BadOp
 
 -- version, operation, context

@@ -1,14 +1,15 @@
 ghost use Rattle.std.specs.Prelude.{◌≡◌, ◌≤◌, ◌<◌, ◌^◌, ◌++◌, [], ◌∷◌, length, drop, vec_len, IfOk, IfErr, OnOk};
 ghost use Rattle.std.specs.Int.{w16, w32, to_le_bytes};
-ghost use Rattle.krs_wire.specs.Bodies.{number_of_op, body_of_op, FitsOp, id_field, text_field, blob_field, groups_field, hello_fields, hello_parts, add_fields, add_parts, update_fields, update_parts, chown_fields, chown_parts, id_number_fields, id_number_parts, link_fields, link_parts, get_id_fields, get_id_parts, request_fields, request_parts, search_fields, search_parts};
-ghost use Rattle.krs_wire.specs.Field.{flag};
+ghost use Rattle.std.specs.List.{flat_map, AllByRecursion};
+ghost use Rattle.krs_wire.specs.Bodies.{number_of_op, body_of_op, FitsOp, id_field, text_field, blob_field, groups_field, hello_fields, hello_parts, add_fields, add_parts, update_fields, update_parts, chown_fields, chown_parts, id_number_fields, id_number_parts, link_fields, link_parts, get_id_fields, get_id_parts, request_fields, request_parts, search_fields, search_parts, watch_fields, watch_parts, entry_field, entries_field, set_filter_fields, set_filter_parts, read_queue_fields, read_queue_parts};
+ghost use Rattle.krs_wire.specs.Field.{flag, number, repeated};
 ghost use Rattle.krs_wire.specs.Frame.{Frames, rest};
 ghost use Rattle.krs_wire.specs.Spelling.{framed, ask_text, ask_frame, IsTooLong};
 
 use crate::WireFault;
 use crate::framed::{MAX_LENGTH, VERSION};
 use byteorder::{ByteOrder, LittleEndian};
-use krs_types::{Ask, Blob, Caller, Groups, Op};
+use krs_types::{Ask, Blob, Caller, FilterEntries, FilterEntry, Groups, Op};
 use std::alloc::{AllocError, Global};
 
 /// The number of an operation on the wire.
@@ -30,6 +31,7 @@ fn operation_number(op: &Op) -> u16
         Op::Read { .. } => 11,
         Op::SetTimeout { .. } => 15,
         Op::Invalidate { .. } => 21,
+        Op::Watch { .. } => 32,
         Op::Hello(_) => 256,
         Op::Thread => 257,
         Op::Fork => 258,
@@ -38,6 +40,10 @@ fn operation_number(op: &Op) -> u16
         Op::Leave => 261,
         Op::Add { .. } => 262,
         Op::Request { .. } => 263,
+        Op::OpenQueue { .. } => 264,
+        Op::SetFilter { .. } => 265,
+        Op::ReadQueue { .. } => 266,
+        Op::CloseQueue { .. } => 267,
     }
 }
 
@@ -97,6 +103,18 @@ fn put_blob(out: &mut Vec<u8>, blob: &Blob) -> Result<(), WireFault>
     Ok(())
 }
 
+/// The numbers, without their count.
+fn put_numbers(out: &mut Vec<u8>, numbers: &[u32]) -> Result<(), AllocError>
+    ensures ok { OnOk result (out.new.items ≡
+        out.old.items ++ flat_map (λ n. to_le_bytes w32 n) numbers.now) }
+    ensures fits { OnOk result (AllByRecursion (λ n. n < 256 ^ 4) numbers.now) }
+{
+    for number in numbers {
+        put_u32(out, *number)?;
+    }
+    Ok(())
+}
+
 fn put_groups(out: &mut Vec<u8>, groups: &Groups) -> Result<(), WireFault>
     ensures ok { OnOk result (out.new.items ≡ out.old.items ++ groups_field.spell groups.now) }
     ensures fits { OnOk result (groups_field.Fits groups.now) }
@@ -107,9 +125,7 @@ fn put_groups(out: &mut Vec<u8>, groups: &Groups) -> Result<(), WireFault>
         return Err(WireFault::BadLength);
     }
     put_u32(out, numbers.len() as u32)?;
-    for number in numbers {
-        put_u32(out, *number)?;
-    }
+    put_numbers(out, numbers)?;
     Ok(())
 }
 
@@ -218,6 +234,60 @@ fn put_search(
     put_request(out, type_name, desc, dest)
 }
 
+fn put_watch(out: &mut Vec<u8>, id: i32, queue: u32, watch: i32) -> Result<(), AllocError>
+    ensures { OnOk result
+        (out.new.items ≡ out.old.items ++ watch_fields.spell (watch_parts id queue watch)) }
+{
+    put_id(out, id)?;
+    put_u32(out, queue)?;
+    put_id(out, watch)
+}
+
+fn put_read_queue(out: &mut Vec<u8>, queue: u32, room: u32) -> Result<(), AllocError>
+    ensures { OnOk result
+        (out.new.items ≡ out.old.items ++ read_queue_fields.spell (read_queue_parts queue room)) }
+{
+    put_u32(out, queue)?;
+    put_u32(out, room)
+}
+
+fn put_entry(out: &mut Vec<u8>, line: &FilterEntry) -> Result<(), AllocError>
+    ensures ok { OnOk result (out.new.items ≡ out.old.items ++ entry_field.spell line.now) }
+    ensures fits { OnOk result (entry_field.Fits line.now) }
+{
+    put_u32(out, line.note_type)?;
+    put_u32(out, line.info_filter)?;
+    put_u32(out, line.info_mask)?;
+    put_numbers(out, &line.subtypes)
+}
+
+fn put_entries(out: &mut Vec<u8>, entries: &FilterEntries) -> Result<(), WireFault>
+    ensures ok { OnOk result (out.new.items ≡ out.old.items ++ entries_field.spell entries.now) }
+    ensures fits { OnOk result (entries_field.Fits entries.now) }
+    ensures long { IfErr result (IsTooLong 65536 (entries_field.spell entries.now)) }
+{
+    let lines = entries.as_slice();
+    if lines.len() > MAX_LENGTH {
+        return Err(WireFault::BadLength);
+    }
+    put_u32(out, lines.len() as u32)?;
+    for line in lines {
+        put_entry(out, line)?;
+    }
+    Ok(())
+}
+
+fn put_set_filter(out: &mut Vec<u8>, queue: u32, entries: &FilterEntries) -> Result<(), WireFault>
+    ensures ok { OnOk result (out.new.items ≡
+        out.old.items ++ set_filter_fields.spell (set_filter_parts queue entries.now)) }
+    ensures fits { OnOk result (set_filter_fields.Fits (set_filter_parts queue entries.now)) }
+    ensures long { IfErr result (IsTooLong 65536
+        (set_filter_fields.spell (set_filter_parts queue entries.now))) }
+{
+    put_u32(out, queue)?;
+    put_entries(out, entries)
+}
+
 fn put_body(out: &mut Vec<u8>, op: &Op) -> Result<(), WireFault>
     ensures ok { OnOk result (out.new.items ≡ out.old.items ++ body_of_op op.now) }
     ensures fits { OnOk result (FitsOp op.now) }
@@ -243,6 +313,7 @@ fn put_body(out: &mut Vec<u8>, op: &Op) -> Result<(), WireFault>
         Op::Read { id } => put_id(out, *id)?,
         Op::SetTimeout { id, seconds } => put_id_number(out, *id, *seconds)?,
         Op::Invalidate { id } => put_id(out, *id)?,
+        Op::Watch { id, queue, watch } => put_watch(out, *id, *queue, *watch)?,
         Op::Hello(caller) => put_hello(out, caller)?,
         Op::Thread | Op::Fork | Op::Exec => (),
         Op::Exit | Op::Leave => (),
@@ -257,6 +328,10 @@ fn put_body(out: &mut Vec<u8>, op: &Op) -> Result<(), WireFault>
             desc,
             dest,
         } => put_request(out, type_name, desc, *dest)?,
+        Op::OpenQueue { capacity } => put_u32(out, *capacity)?,
+        Op::SetFilter { queue, entries } => put_set_filter(out, *queue, entries)?,
+        Op::ReadQueue { queue, room } => put_read_queue(out, *queue, *room)?,
+        Op::CloseQueue { queue } => put_u32(out, *queue)?,
     }
     Ok(())
 }

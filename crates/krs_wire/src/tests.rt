@@ -1,7 +1,9 @@
 ghost use Rattle.std.specs.Prelude.{◌≤◌, length};
 
 use super::*;
-use krs_types::{Answer, Ask, Blob, Body, Caller, Errno, Groups, Op, Reply};
+use krs_types::{
+    Answer, Ask, Blob, Body, Caller, Errno, FilterEntries, FilterEntry, Groups, Op, Reply,
+};
 use std::alloc::{AllocError, Global};
 use std::process::Abort;
 use std::test::*;
@@ -57,7 +59,38 @@ const ENDINGS: [u8; 56] = [
     8, 0, 0, 0, 1, 0, 4, 1, 1, 0, 0, 0,
 ];
 
-const STREAMS: [&[u8]; 6] = [&STREAM, &CHANGES, &KEYRINGS, &CONTEXTS, &SEARCHES, &ENDINGS];
+// In context 1: WATCH of 5 by queue 1 with the id 9; the end of the watch of -4 by queue 1.
+const WATCHES: [u8; 48] = [
+    0x14, 0, 0, 0, 1, 0, 0x20, 0, 1, 0, 0, 0, 5, 0, 0, 0, 1, 0, 0, 0, 9, 0, 0, 0, //
+    0x14, 0, 0, 0, 1, 0, 0x20, 0, 1, 0, 0, 0, 0xfc, 0xff, 0xff, 0xff, 1, 0, 0, 0, 0xff, 0xff, 0xff,
+    0xff,
+];
+
+// In context 1: OPEN_QUEUE of 8 records.
+const OPENED: [u8; 16] = [0x0c, 0, 0, 0, 1, 0, 8, 1, 1, 0, 0, 0, 8, 0, 0, 0];
+
+// In context 1: SET_FILTER of queue 1 to no entries, and to one of type 1, info 500 under ff00, and subtype 1, in which
+// the other subtype words are 80000000 and 3 to 8.
+const FILTERS: [u8; 84] = [
+    0x10, 0, 0, 0, 1, 0, 9, 1, 1, 0, 0, 0, 1, 0, 0, 0, 0, 0, 0, 0, //
+    0x3c, 0, 0, 0, 1, 0, 9, 1, 1, 0, 0, 0, 1, 0, 0, 0, 1, 0, 0, 0, //
+    1, 0, 0, 0, 0, 5, 0, 0, 0, 0xff, 0, 0, 2, 0, 0, 0, 0, 0, 0, 0x80, //
+    3, 0, 0, 0, 4, 0, 0, 0, 5, 0, 0, 0, 6, 0, 0, 0, 7, 0, 0, 0, 8, 0, 0, 0,
+];
+
+// In context 1: READ_QUEUE of queue 1 into 64 bytes.
+const QUEUE_READ: [u8; 20] = [
+    0x10, 0, 0, 0, 1, 0, 0x0a, 1, 1, 0, 0, 0, 1, 0, 0, 0, 0x40, 0, 0, 0,
+];
+
+// In context 1: CLOSE_QUEUE of queue 1.
+const CLOSED: [u8; 16] = [0x0c, 0, 0, 0, 1, 0, 0x0b, 1, 1, 0, 0, 0, 1, 0, 0, 0];
+
+#[rattlefmt::skip]
+const STREAMS: [&[u8]; 11] = [
+    &STREAM, &CHANGES, &KEYRINGS, &CONTEXTS, &SEARCHES, &ENDINGS,
+    &WATCHES, &OPENED, &FILTERS, &QUEUE_READ, &CLOSED,
+];
 
 // The replies to accepted asks: nothing, and the serial or context 5.
 const NOTHING: [u8; 8] = [4, 0, 0, 0, 0, 0, 0, 0];
@@ -249,6 +282,70 @@ fn ends_of_keys_and_contexts(rt: HostRuntime) -> Result<(), Fail> {
 }
 
 #[test]
+fn watches_of_keys(rt: HostRuntime) -> Result<(), Fail> {
+    let asks = [
+        in_context_1(Op::Watch {
+            id: 5,
+            queue: 1,
+            watch: 9,
+        }),
+        in_context_1(Op::Watch {
+            id: -4,
+            queue: 1,
+            watch: -1,
+        }),
+    ];
+    check_changes(&rt, rt.alloc(), &asks, &WATCHES)
+}
+
+#[test]
+fn an_opened_queue(rt: HostRuntime) -> Result<(), Fail> {
+    let asks = [in_context_1(Op::OpenQueue { capacity: 8 })];
+    check_numbers(&rt, rt.alloc(), &asks, &OPENED)
+}
+
+#[test]
+fn filters_of_queues(rt: HostRuntime) -> Result<(), Fail> {
+    let none = FilterEntries::new(Vec::new(rt.alloc()));
+    let entry = FilterEntry {
+        note_type: 1,
+        info_filter: 0x500,
+        info_mask: 0xff00,
+        subtypes: [2, 0x8000_0000, 3, 4, 5, 6, 7, 8],
+    };
+    let one = FilterEntries::new([entry].to_vec(rt.alloc())?);
+    let asks = [
+        in_context_1(Op::SetFilter {
+            queue: 1,
+            entries: none,
+        }),
+        in_context_1(Op::SetFilter {
+            queue: 1,
+            entries: one,
+        }),
+    ];
+    check_changes(&rt, rt.alloc(), &asks, &FILTERS)
+}
+
+#[test]
+fn records_of_queues(rt: HostRuntime) -> Result<(), Fail> {
+    // An updated note of watch 9 of key 5, and a loss.
+    let reply = [
+        28, 0, 0, 0, 0, 0, 0, 0, 1, 0, 0, 1, 16, 9, 0, 0, 5, 0, 0, 0, 0, 0, 0, 0, //
+        0, 0, 0, 1, 8, 0, 0, 0,
+    ];
+    let records = bytes_of(rt.alloc(), &reply[8..])?;
+    let asks = [in_context_1(Op::ReadQueue { queue: 1, room: 64 })];
+    check_asks(&rt, rt.alloc(), &asks, &QUEUE_READ, &records, &reply)
+}
+
+#[test]
+fn a_closed_queue(rt: HostRuntime) -> Result<(), Fail> {
+    let asks = [in_context_1(Op::CloseQueue { queue: 1 })];
+    check_changes(&rt, rt.alloc(), &asks, &CLOSED)
+}
+
+#[test]
 fn refusals(rt: HostRuntime) -> Result<(), Fail> {
     let alloc = rt.alloc();
     let nothing = Ok(Answer::Nothing);
@@ -320,6 +417,45 @@ const FAULTS: [(&[u8], WireFault); 24] = [
     (&[16, 0, 0, 0, 1, 0, 21, 0, 0, 0, 0, 0, 5, 0, 0, 0, 5, 0, 0, 0], WireFault::BadBody),
 ];
 
+// The same of asks of queues: bodies that are too short or too long, and counts of entries that do not agree with them.
+#[rattlefmt::skip]
+const QUEUE_FAULTS: [(&[u8], WireFault); 11] = [
+    (&[16, 0, 0, 0, 1, 0, 32, 0, 0, 0, 0, 0, 5, 0, 0, 0, 1, 0, 0, 0], WireFault::BadBody),
+    (&[21, 0, 0, 0, 1, 0, 32, 0, 0, 0, 0, 0, 5, 0, 0, 0, 1, 0, 0, 0, 9, 0, 0, 0, 0], WireFault::BadBody),
+    (&[10, 0, 0, 0, 1, 0, 8, 1, 0, 0, 0, 0, 8, 0], WireFault::BadBody),
+    (&[16, 0, 0, 0, 1, 0, 8, 1, 0, 0, 0, 0, 8, 0, 0, 0, 8, 0, 0, 0], WireFault::BadBody),
+    (&[12, 0, 0, 0, 1, 0, 9, 1, 0, 0, 0, 0, 1, 0, 0, 0], WireFault::BadBody),
+    (&[16, 0, 0, 0, 1, 0, 9, 1, 0, 0, 0, 0, 1, 0, 0, 0, 1, 0, 0, 0], WireFault::BadBody),
+    (&[16, 0, 0, 0, 1, 0, 9, 1, 0, 0, 0, 0, 1, 0, 0, 0, 255, 255, 255, 255], WireFault::BadBody),
+    (&[20, 0, 0, 0, 1, 0, 9, 1, 0, 0, 0, 0, 1, 0, 0, 0, 0, 0, 0, 0, 1, 0, 0, 0], WireFault::BadBody),
+    (&[12, 0, 0, 0, 1, 0, 10, 1, 0, 0, 0, 0, 1, 0, 0, 0], WireFault::BadBody),
+    (&[8, 0, 0, 0, 1, 0, 11, 1, 0, 0, 0, 0], WireFault::BadBody),
+    (&[8, 0, 0, 0, 1, 0, 12, 1, 0, 0, 0, 0], WireFault::BadOp),
+];
+
+// Counts of 0, 1, 2 and 4294967295 with the bytes of one entry: only 1 agrees with them.
+#[test]
+fn counts_of_entries(rt: HostRuntime) -> Result<(), Fail> {
+    let (_, frame) = FILTERS.split_at(20);
+    for count in [0, 2, 4_294_967_295_u32] {
+        let mut bytes = Vec::from_slice(rt.alloc(), &frame[..16])?;
+        bytes.extend_from_slice(&count.to_le_bytes())?;
+        bytes.extend_from_slice(&frame[20..])?;
+        check_fault(&rt, rt.alloc(), &bytes, WireFault::BadBody);
+    }
+    let mut short = Vec::from_slice(rt.alloc(), &[0x3b, 0, 0, 0])?;
+    short.extend_from_slice(&frame[4..63])?;
+    check_fault(&rt, rt.alloc(), &short, WireFault::BadBody);
+    Ok(())
+}
+
+#[test]
+fn faults_of_queue_asks(rt: HostRuntime) {
+    for (bytes, fault) in QUEUE_FAULTS {
+        check_fault(&rt, rt.alloc(), bytes, fault);
+    }
+}
+
 // A fault is the answer where no good frame stands before it.
 fn check_fault(rt: &impl Abort, alloc: Global, bytes: &[u8], fault: WireFault) {
     let mut feed = Feed::new(alloc);
@@ -381,6 +517,12 @@ fn numbers_for_nothing(rt: HostRuntime) {
         Op::Link { key: 6, ring: 5 },
         Op::Exec,
         Op::Exit,
+        Op::Watch {
+            id: 5,
+            queue: 1,
+            watch: 9,
+        },
+        Op::CloseQueue { queue: 1 },
     ];
     for op in &asks {
         check_reply_fault(&rt, rt.alloc(), op, &FIVE, WireFault::BadBody);
@@ -400,6 +542,7 @@ fn no_numbers(rt: HostRuntime) -> Result<(), Fail> {
         join(rt.alloc(), b"s")?,
         search_into_6(rt.alloc())?,
         request(rt.alloc())?,
+        Op::OpenQueue { capacity: 8 },
     ];
     let three_bytes = [7, 0, 0, 0, 0, 0, 0, 0, 1, 0, 0];
     for op in &asks {

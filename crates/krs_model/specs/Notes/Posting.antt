@@ -7,7 +7,7 @@ use Rattle.krs_types.specs.declared.note.Record.TheVariants.{Key, Removal}
 use Rattle.krs_types.specs.declared.note.KeyEvent.{KeyEvent}
 use Rattle.krs_model.specs.Table.{Table, at, alter}
 use Rattle.krs_model.specs.State as state
-use Rattle.krs_model.specs.State.{Queue}
+use Rattle.krs_model.specs.State.{State, Queue}
 use Rattle.krs_model.specs.Queues.{Queues, Watch, watch_at}
 use Rattle.krs_model.specs.Notes.Filter.{passes_if_any}
 use Rattle.krs_model.specs.Notes.Waiting.{after_post}
@@ -68,3 +68,11 @@ post_all (p ∷ ps) queues = post_all ps (alter queues p.0 (after_note p.1))
 -- the same of the queues and their watches
 abbrev pub posted : List Post → Queues → Queues
 posted ps s = record s { queues = post_all ps s.queues }
+
+-- the same of a store
+abbrev pub posted_in : List Post → State → State
+posted_in ps s = record s { queues = post_all ps s.queues }
+
+-- the records that are for a queue, in order
+abbrev pub records_for : ℕ → List Post → List Record
+records_for number ps = map (λ p. p.1) (filter (λ p. p.0 == number) ps)

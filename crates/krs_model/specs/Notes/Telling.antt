@@ -1,19 +1,26 @@
--- What each accepted ask tells of: uapi linux/watch_queue.h, enum key_notification_subtype; their order: profile, order
--- of notes; what is not told: profile, quiet unlinks.
-use Rattle.std.specs.Prelude.{ℕ, ℤ, List, [], ◌∷◌, Bool, true, false, is_some, if◌then◌else◌, Result, Ok, Err}
+-- What each accepted ask tells of, and which watch it ends: uapi linux/watch_queue.h, enum key_notification_subtype;
+-- their order: profile, order of notes; what is not told: profile, quiet unlinks.
+use Rattle.std.specs.Prelude.{ℕ, ℤ, List, [], ◌∷◌, Bool, true, false, is_some, if◌then◌else◌, Option, None, Some}
+use Rattle.std.specs.Prelude.{Result, Ok, Err}
 use Rattle.krs_types.specs.declared.errno.Errno.{Errno}
 use Rattle.krs_types.specs.declared.ask.Answer.{Answer}
 use Rattle.krs_types.specs.declared.ask.Answer.TheVariants.{Nothing, Number, Bytes}
 use Rattle.krs_types.specs.declared.ask.Op.{Op}
-use Rattle.krs_types.specs.declared.ask.Op.TheVariants.{Hello, Thread, Fork, Exec, Exit, GetId, Join, Search, Request, Invalidate, Add, Update, Revoke, Chown, SetPerm, SetTimeout, Link, Unlink, Clear, Read, Describe, Leave}
+use Rattle.krs_types.specs.declared.ask.Op.TheVariants.{Hello, Thread, Fork, Exec, Exit, GetId, Join, Search, Request}
+use Rattle.krs_types.specs.declared.ask.Op.TheVariants.{Invalidate, Add, Update, Revoke, Chown, SetPerm, SetTimeout}
+use Rattle.krs_types.specs.declared.ask.Op.TheVariants.{Link, Unlink, Clear, Read, Describe, Watch, OpenQueue}
+use Rattle.krs_types.specs.declared.ask.Op.TheVariants.{SetFilter, ReadQueue, CloseQueue, Leave}
 use Rattle.krs_types.specs.declared.note.KeyEvent.{KeyEvent}
-use Rattle.krs_types.specs.declared.note.KeyEvent.TheVariants.{Updated, Linked, Unlinked, Cleared, Revoked, Invalidated, Setattr}
+use Rattle.krs_types.specs.declared.note.KeyEvent.TheVariants.{Updated, Linked, Unlinked, Cleared, Revoked}
+use Rattle.krs_types.specs.declared.note.KeyEvent.TheVariants.{Invalidated, Setattr}
 use Rattle.krs_types.specs.Refusing.{◌>>=◌}
 use Rattle.krs_model.specs.Table.{Table, at}
 use Rattle.krs_model.specs.State.{State, Key}
+use Rattle.krs_model.specs.Queues as queues
 use Rattle.krs_model.specs.Lookup.{context_of, serial_of}
 use Rattle.krs_model.specs.Asks.Finding.{is_wanted}
-use Rattle.krs_model.specs.Notes.Posting.{Note}
+use Rattle.krs_model.specs.Asks.Watching.{watch_id_of}
+use Rattle.krs_model.specs.Notes.Posting.{Note, watch_there}
 
 -- the serial that an id stands for in a context; a keyring that the ask makes has none yet, and nothing watches it
 abbrev pub named : State → ℕ → ℕ → ℤ → Result ℕ Errno
@@ -74,4 +81,22 @@ notes_of s client context (Unlink key ring) answer =
 notes_of s client context (Clear id) answer = about Cleared (named s client context id)
 notes_of s client context (Read id) answer = []
 notes_of s client context (Describe id) answer = []
+notes_of s client context (Watch id queue watch) answer = []
+notes_of s client context (OpenQueue capacity) answer = []
+notes_of s client context (SetFilter queue entries) answer = []
+notes_of s client context (ReadQueue queue room) answer = []
+notes_of s client context (CloseQueue queue) answer = []
 notes_of s client context Leave answer = []
+
+-- the watch that WATCH with -1 ends
+abbrev pub ended_where : List queues.Watch → Result ℕ Errno → ℕ → Result (Option ℕ) Errno → List queues.Watch
+ended_where watches (Err e) queue asked = []
+ended_where watches (Ok key) queue (Err e) = []
+ended_where watches (Ok key) queue (Ok (Some id)) = []
+ended_where watches (Ok key) queue (Ok None) = watch_there watches key queue
+
+-- the watches that an accepted ask ends though its key and its queue stay
+abbrev pub ended_by : State → ℕ → ℕ → Op → List queues.Watch
+ended_by s client context (Watch id queue watch) =
+    ended_where s.watches (named s client context id) queue (watch_id_of watch)
+ended_by s client context op = []

@@ -221,6 +221,9 @@ impl<R> Keeper<Chair, R> for Table {
             Op::Update { .. } | Op::Revoke { .. } | Op::Chown { .. } => Ok(Answer::Nothing),
             Op::SetPerm { .. } | Op::SetTimeout { .. } => Ok(Answer::Nothing),
             Op::Link { .. } | Op::Unlink { .. } | Op::Clear { .. } => Ok(Answer::Nothing),
+            Op::OpenQueue { .. } => Ok(Answer::Number(1)),
+            Op::Watch { .. } | Op::SetFilter { .. } | Op::CloseQueue { .. } => Ok(Answer::Nothing),
+            Op::ReadQueue { .. } => Err(Errno::EAGAIN),
             Op::Leave => {
                 seat.leaves = seat.leaves.wrapping_add(1);
                 Ok(Answer::Nothing)

@@ -15,10 +15,11 @@ use krs_types::{Answer, Context, Fault, Serial, UidRings};
 use std::collections::BTreeMap;
 
 impl Tables {
-    /// Ends all contexts of a client, and what has no context then. It takes no memory.
+    /// Closes all queues of a client and ends all its contexts, and what has no context then. It takes no memory.
     pub(crate) fn leave(&mut self, client: u32)
         ensures { self.new ≡ left self.old client }
     {
+        self.queues.leave(client);
         let contexts = self.contexts.contexts();
         let_go_contexts(&mut self.holders, contexts, client);
         let_go_processes(

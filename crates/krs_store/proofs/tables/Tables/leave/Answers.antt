@@ -1,10 +1,12 @@
 use Rattle.std.proofs.Common.{◌==◌, ◌∙◌, not, filter, refl, sym, ap, subst}
+use Rattle.krs_model.specs.State.{State}
+use Rattle.krs_model.specs.Queues.{Queues}
 use Rattle.krs_model.specs.Sweep.{roots, context_roots, process_roots, uid_roots}
 use Rattle.krs_model.specs.Asks.Leaving.{contexts_without, has_process, has_uid, left}
 use Rattle.krs_keys.specs.Keys.{shown}
 use Rattle.krs_hold.specs.Tally.{AreExact, all_less}
 use Rattle.krs_ctx.specs.Anchors.{Anchors, anchored}
-use Rattle.krs_ctx.proofs.LeadsLemmas.{left_anchored}
+use Rattle.krs_ctx.proofs.LeadsLemmas.{left_whole}
 use Rattle.krs_store.specs.View.{state_of}
 use Rattle.krs_store.proofs.Counting.{left_told}
 use Rattle.krs_store.proofs.tables.Tables.leave.Goals as goal
@@ -21,7 +23,7 @@ invariant_of-self c =
       kinds = c.self.invariant.kinds;
       tallied =
           subst (λ (a : Anchors). AreExact s.keys.keys c.let_go_uids.new.holders (roots (anchored (state_of s) a)))
-          (sym (c.leave.ensures (state_of s)))
+          (sym (c.leave-2.ensures (state_of s)))
           (left_told (shown s.keys.keys) t.contexts cs t.processes _ t.uids _ (λ e. e.1.client == c.args.client)
           (λ e. has_process cs e.0) (λ e. has_uid cs e.0) s.holders _ _ _ refl refl refl
           (c.let_go_contexts.ensures
@@ -40,7 +42,11 @@ invariant_of-self c =
     }
 
 pub returns : goal.returns
+unfolding left
 returns c =
     let s = state_of c.self.inside in
+    let after : Queues → State = λ q.
+    record (anchored s c.leave-2.new.self) { queues = q.queues; watches = q.watches; next_queue = q.next_queue } in
     rw (← c.self.view_is)
-    (sym (left_anchored s c.self.inside.contexts _ c.args.client refl refl (c.leave.ensures s)))
+    (ap after c.leave.ensures
+    ∙ sym (left_whole s c.self.inside.contexts _ c.args.client (c.leave-2.ensures s)))
