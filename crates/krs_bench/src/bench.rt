@@ -5,7 +5,7 @@ use std::alloc::{AllocError, Global};
 use std::time::{Duration, Instant};
 
 /// How many asks are timed, where they leave the number of links as it is.
-const ROUNDS: u32 = 20_000;
+pub const ROUNDS: u32 = 20_000;
 
 /// How many new keys are timed at least.
 const NEW_KEYS: u32 = 500;

@@ -3,11 +3,13 @@
 
 mod bench;
 mod session;
+mod unlink;
 
 use anyhow::Result;
 use bench::{Operation, nanoseconds};
 use session::session_nanoseconds;
 use std::env;
+use unlink::unlink_nanoseconds;
 
 /// How many keys are linked in the keyring.
 const COUNTS: [u32; 3] = [10, 1_000, 10_000];
@@ -21,9 +23,10 @@ const OPERATIONS: [Operation; 4] = [
 
 const USAGE: &str = "\
 usage: krs_bench OPERATION [COUNT]
-OPERATION is read, describe, add (a new key), update (ADD on a match) or all; COUNT is how many keys the user keyring
-links: 10, 1000 and 10000 in turn if it is 0 or left out. Prints nanoseconds per ask of the store, and through a
-session over memory; payloads have 32 bytes.
+OPERATION is read, describe, add (a new key), update (ADD on a match), unlink or all; COUNT is how many keys the user
+keyring links: 10, 1000 and 10000 in turn if it is 0 or left out. Prints nanoseconds per ask of the store, and through a
+session over memory; payloads have 32 bytes. With unlink COUNT is how many keys another uid has, and LINK and UNLINK of
+one key in a small keyring are timed together.
 ";
 
 fn main(rt: HostRuntime) -> Result<()> {
@@ -41,6 +44,14 @@ fn main(rt: HostRuntime) -> Result<()> {
             is_usage = false;
         }
     }
+    if name == "unlink" || name == "all" {
+        match count {
+            Ok(0) => print_all_unlinks(&rt)?,
+            Ok(count) => print_unlink(&rt, count)?,
+            Err(_) => return Ok(rt.print(USAGE)?),
+        }
+        is_usage = false;
+    }
     if is_usage {
         rt.print(USAGE)?;
     }
@@ -51,6 +62,19 @@ fn run_all(rt: &HostRuntime, operation: Operation) -> Result<()> {
     for count in COUNTS {
         run(rt, operation, count)?;
     }
+    Ok(())
+}
+
+fn print_all_unlinks(rt: &HostRuntime) -> Result<()> {
+    for count in COUNTS {
+        print_unlink(rt, count)?;
+    }
+    Ok(())
+}
+
+fn print_unlink(rt: &HostRuntime, count: u32) -> Result<()> {
+    let each = unlink_nanoseconds(rt, count)?;
+    println!(rt; "link and unlink with {count} keys of another uid: {each} ns")?;
     Ok(())
 }
 

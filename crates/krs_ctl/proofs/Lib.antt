@@ -1,7 +1,7 @@
 pub mod NumberLemmas
 pub mod HexadecimalLemmas
 pub mod WordsLemmas
-pub mod GroupsLemmas
+pub mod EachLemmas
 pub mod LinesLemmas
 pub mod RunningLemmas
 pub mod SerialsLemmas

@@ -2,6 +2,7 @@ pub mod Words
 pub mod Lines
 pub mod Parsed
 pub mod Number
+pub mod Entry
 pub mod Command
 pub mod Printing
 pub mod Listing

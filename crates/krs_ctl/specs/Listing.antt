@@ -1,4 +1,4 @@
--- How the bytes of a key are listed: docs/FORMAT.md, "What is printed"; profile, hidden describe.
+-- How the bytes of a key or a queue are listed: docs/FORMAT.md, "What is printed", "Commands"; profile, hidden describe.
 use Rattle.std.specs.Prelude.{ℕ, ◌≡◌, ◌≢◌, ◌<◌, ◌^◌, ◌==◌, ◌%◌, ◌&&◌, List, Bool, false, length, nat_eq, if◌then◌else◌, codes, Result, Ok, Err}
 use Rattle.std.specs.List.{starts_with, AllByRecursion}
 use Rattle.krs_types.specs.declared.errno.Errno.{Errno}
@@ -8,7 +8,7 @@ use Rattle.krs_types.specs.declared.kind.Kind.TheVariants.{Keyring}
 use Rattle.krs_model.specs.State.{Key, Links}
 use Rattle.krs_model.specs.Asks.Reading.{readable, description}
 use Rattle.krs_ctl.specs.declared.output.Output.{Output}
-use Rattle.krs_ctl.specs.declared.output.Output.TheVariants.{Reply, Serials}
+use Rattle.krs_ctl.specs.declared.output.Output.TheVariants.{Reply, Serials, Records}
 use Rattle.krs_ctl.specs.Printing.{shown, shown_bytes, shown_serials}
 
 -- DESCRIBE was accepted, and the key's type, which stands before the first `;`, is that of a keyring
@@ -22,6 +22,13 @@ is_keyring (Err e) = false
 abbrev pub listing : List ℕ → Result Answer Errno → Output
 listing bytes described =
     if is_keyring described && (length bytes % 4 == 0) then Serials bytes else Reply (Ok (Bytes bytes))
+
+-- what a READ_QUEUE comes to: the records that it gave, or its refusal
+abbrev pub records_of : Result Answer Errno → Output
+records_of (Ok (Bytes bytes)) = Records bytes
+records_of (Ok Nothing) = Reply (Ok Nothing)
+records_of (Ok (Number n)) = Reply (Ok (Number n))
+records_of (Err e) = Reply (Err e)
 
 -- what READ gives of a keyring, with what DESCRIBE tells of it, is shown as the keyring's links in their order
 abbrev pub LinksAreListed : Type 0

@@ -1,11 +1,12 @@
 -- Numbers, keys and data as words spell them: docs/FORMAT.md, "Lines and words"; profile, numbers in words.
 use Rattle.std.specs.Prelude.{ℕ, ◌^◌, ℤ, pos, negsuc, ◌&&◌, Bool, List, drop, length, nat_lt, nat_le, nat_eq, if◌then◌else◌, bytes_eq, codes, Option, None, Some}
-use Rattle.std.specs.List.{list_all, filter_map, starts_with}
-use Rattle.std.specs.Option.{option_map, is_some}
+use Rattle.std.specs.List.{list_all, starts_with}
+use Rattle.std.specs.Option.{option_map}
 use Rattle.std.specs.Result.{result_ok}
 use Rattle.std.specs.Char.{is_ascii_digit, is_ascii_hexdigit}
 use Rattle.std.specs.Str.Parse.{digits_value}
 use Rattle.hex.specs.Hex.{decode_of}
+use Rattle.krs_ctl.specs.Parsed.{each_of}
 
 -- one decimal digit or more, and nothing else
 abbrev pub is_decimal : List ℕ → Bool
@@ -26,7 +27,7 @@ u64_of = number_below (2 ^ 64)
 
 -- every word is a number of 32 bits
 abbrev pub u32s_of : List (List ℕ) → Option (List ℕ)
-u32s_of words = if list_all (λ word. is_some (u32_of word)) words then Some (filter_map u32_of words) else None
+u32s_of = each_of u32_of
 
 -- one to eight hexadecimal digits of either case, leading zeros counted, and nothing else
 abbrev pub is_hexadecimal : List ℕ → Bool
@@ -50,3 +51,8 @@ key_of word =
 abbrev pub data_of : List ℕ → Option (List ℕ)
 data_of word =
     if starts_with nat_eq word (codes "hex:") then result_ok (decode_of (drop 4 word)) else Some word
+
+-- the id of a watch: a number, or `off` for -1, which ends it
+abbrev pub watch_id_of : List ℕ → Option ℤ
+watch_id_of word =
+    if bytes_eq word (codes "off") then Some (negsuc 0) else option_map pos (number_below (2 ^ 31) word)

@@ -9,7 +9,7 @@ use Rattle.krs_types.specs.declared.ask.Answer.{Answer}
 use Rattle.krs_types.specs.declared.ask.Answer.TheVariants.{Nothing, Number, Bytes}
 use Rattle.krs_types.specs.Errno.{number_of, name_of}
 use Rattle.krs_ctl.specs.declared.output.Output.{Output}
-use Rattle.krs_ctl.specs.declared.output.Output.TheVariants.{Reply, Serials}
+use Rattle.krs_ctl.specs.declared.output.Output.TheVariants.{Reply, Serials, Records}
 
 -- every byte prints as it is: from the space to the tilde
 abbrev pub is_printable : List ℕ → Bool
@@ -51,3 +51,4 @@ with_serial text serial = if length text == 0 then decimal serial else text ++ 3
 abbrev pub shown : Output → List ℕ
 shown (Reply reply) = shown_reply reply
 shown (Serials bytes) = shown_serials (serials_in bytes)
+shown (Records bytes) = encode_lower bytes

@@ -11,7 +11,7 @@ use Rattle.krs_model.specs.State.{State}
 use Rattle.krs_model.specs.Step.{Step}
 use Rattle.krs_store.specs.Told.{event_of}
 use Rattle.krs_ctl.specs.declared.command.Command.{Command}
-use Rattle.krs_ctl.specs.declared.command.Command.TheVariants.{Context, Moment, Ask, Rlist}
+use Rattle.krs_ctl.specs.declared.command.Command.TheVariants.{Context, Moment, Ask, Rlist, Readq}
 use Rattle.krs_ctl.specs.declared.output.Output.{Output}
 use Rattle.krs_ctl.specs.declared.output.Output.TheVariants.{Reply}
 use Rattle.krs_ctl.specs.declared.script.Script.{Script}
@@ -22,7 +22,7 @@ use Rattle.krs_ctl.specs.Words.{words_of, is_comment}
 use Rattle.krs_ctl.specs.Lines.{lines_of}
 use Rattle.krs_ctl.specs.Command.{command_of}
 use Rattle.krs_ctl.specs.Printing.{shown}
-use Rattle.krs_ctl.specs.Listing.{listing}
+use Rattle.krs_ctl.specs.Listing.{listing, records_of}
 use Rattle.krs_ctl.specs.Script.{context_after, status_of, last_line}
 
 -- the store served the ask, in the current context, at the current moment, as client 0
@@ -57,6 +57,8 @@ Acts old (Moment n) output new = (output ≡ Reply (Ok Nothing)) × (new ≡ rec
 Acts old (Ask asked) output new = (reply : Result Answer Errno) × (output ≡ Reply reply) × Asks old asked reply new
 Acts old (Rlist id) output new =
     (reply : Result Answer Errno) × (mid : Script) × Asks old (op.Read id) reply mid × ListsBy mid id reply output new
+Acts old (Readq queue room) output new =
+    (reply : Result Answer Errno) × (output ≡ records_of reply) × Asks old (op.ReadQueue queue room) reply new
 
 -- comments and lines without words are skipped
 abbrev pub is_skipped : List ℕ → Bool

@@ -1,9 +1,12 @@
 ghost use Rattle.std.specs.Prelude.{◌≡◌, map};
-ghost use Rattle.krs_ctl.specs.Command.{spelling, name_of_word, hello_of, context_of, moment_of, add_of, newring_of, update_of, print_of, rlist_of, rdescribe_of, revoke_of, clear_of, chown_of, chgrp_of, setperm_of, timeout_of, link_of, unlink_of, leave_of, command_of};
+ghost use Rattle.krs_ctl.specs.Command.{spelling, name_of_word, hello_of, context_of, moment_of, alone_of, add_of, newring_of, create_of, id_of, join_of, update_of, print_of, rlist_of, rdescribe_of, revoke_of, invalidate_of, clear_of, chown_of, chgrp_of, setperm_of, timeout_of, link_of, unlink_of, dest_of, search_of, request_of, open_of, closeq_of, watch_of, filter_of, readq_of, command_of};
 ghost use Rattle.krs_ctl.specs.Parsed.{Reads};
 
+use crate::entry::entries_words;
 use crate::no_command::NoCommand;
-use crate::number::{data_word, groups_words, hexadecimal_word, key_word, u32_word, u64_word};
+use crate::number::{
+    data_word, groups_words, hexadecimal_word, key_word, u32_word, u64_word, watch_word,
+};
 use krs_types::{Blob, Caller, Op};
 use std::alloc::Global;
 
@@ -21,6 +24,8 @@ pub enum Command {
     Ask(Op),
     /// The payload of the key, or the serials that it links where it is a keyring.
     Rlist(i32),
+    /// The records of a queue, as many as fit into that many bytes.
+    Readq { queue: u32, room: u32 },
 }
 
 /// The first word of a command.
@@ -29,13 +34,20 @@ pub enum CommandName {
     Hello,
     Context,
     Moment,
+    Thread,
+    Fork,
+    Exec,
+    Exit,
     Add,
     Newring,
+    Id,
+    Join,
     Update,
     Print,
     Rlist,
     Rdescribe,
     Revoke,
+    Invalidate,
     Clear,
     Chown,
     Chgrp,
@@ -43,20 +55,34 @@ pub enum CommandName {
     Timeout,
     Link,
     Unlink,
+    Search,
+    Request,
+    Open,
+    Closeq,
+    Watch,
+    Filter,
+    Readq,
     Leave,
 }
 
-const COMMAND_NAMES: [CommandName; 18] = [
+const COMMAND_NAMES: [CommandName; 32] = [
     CommandName::Hello,
     CommandName::Context,
     CommandName::Moment,
+    CommandName::Thread,
+    CommandName::Fork,
+    CommandName::Exec,
+    CommandName::Exit,
     CommandName::Add,
     CommandName::Newring,
+    CommandName::Id,
+    CommandName::Join,
     CommandName::Update,
     CommandName::Print,
     CommandName::Rlist,
     CommandName::Rdescribe,
     CommandName::Revoke,
+    CommandName::Invalidate,
     CommandName::Clear,
     CommandName::Chown,
     CommandName::Chgrp,
@@ -64,6 +90,13 @@ const COMMAND_NAMES: [CommandName; 18] = [
     CommandName::Timeout,
     CommandName::Link,
     CommandName::Unlink,
+    CommandName::Search,
+    CommandName::Request,
+    CommandName::Open,
+    CommandName::Closeq,
+    CommandName::Watch,
+    CommandName::Filter,
+    CommandName::Readq,
     CommandName::Leave,
 ];
 
@@ -76,13 +109,20 @@ impl CommandName {
             CommandName::Hello => "hello",
             CommandName::Context => "context",
             CommandName::Moment => "moment",
+            CommandName::Thread => "thread",
+            CommandName::Fork => "fork",
+            CommandName::Exec => "exec",
+            CommandName::Exit => "exit",
             CommandName::Add => "add",
             CommandName::Newring => "newring",
+            CommandName::Id => "id",
+            CommandName::Join => "join",
             CommandName::Update => "update",
             CommandName::Print => "print",
             CommandName::Rlist => "rlist",
             CommandName::Rdescribe => "rdescribe",
             CommandName::Revoke => "revoke",
+            CommandName::Invalidate => "invalidate",
             CommandName::Clear => "clear",
             CommandName::Chown => "chown",
             CommandName::Chgrp => "chgrp",
@@ -90,6 +130,13 @@ impl CommandName {
             CommandName::Timeout => "timeout",
             CommandName::Link => "link",
             CommandName::Unlink => "unlink",
+            CommandName::Search => "search",
+            CommandName::Request => "request",
+            CommandName::Open => "open",
+            CommandName::Closeq => "closeq",
+            CommandName::Watch => "watch",
+            CommandName::Filter => "filter",
+            CommandName::Readq => "readq",
             CommandName::Leave => "leave",
         }
     }
@@ -116,13 +163,20 @@ pub fn parse(alloc: Global, words: &[&[u8]]) -> Result<Command, NoCommand>
         CommandName::Hello => hello(alloc, args),
         CommandName::Context => context(args),
         CommandName::Moment => moment(args),
+        CommandName::Thread => alone(Op::Thread, args),
+        CommandName::Fork => alone(Op::Fork, args),
+        CommandName::Exec => alone(Op::Exec, args),
+        CommandName::Exit => alone(Op::Exit, args),
         CommandName::Add => add(alloc, args),
         CommandName::Newring => newring(alloc, args),
+        CommandName::Id => get_id(args),
+        CommandName::Join => join(alloc, args),
         CommandName::Update => update(alloc, args),
         CommandName::Print => print(args),
         CommandName::Rlist => rlist(args),
         CommandName::Rdescribe => rdescribe(args),
         CommandName::Revoke => revoke(args),
+        CommandName::Invalidate => invalidate(args),
         CommandName::Clear => clear(args),
         CommandName::Chown => chown(args),
         CommandName::Chgrp => chgrp(args),
@@ -130,7 +184,14 @@ pub fn parse(alloc: Global, words: &[&[u8]]) -> Result<Command, NoCommand>
         CommandName::Timeout => timeout(args),
         CommandName::Link => link(args),
         CommandName::Unlink => unlink(args),
-        CommandName::Leave => leave(args),
+        CommandName::Search => search_from(alloc, args),
+        CommandName::Request => request(alloc, args),
+        CommandName::Open => open(args),
+        CommandName::Closeq => closeq(args),
+        CommandName::Watch => watch(args),
+        CommandName::Filter => filter(alloc, args),
+        CommandName::Readq => readq(args),
+        CommandName::Leave => alone(Op::Leave, args),
     }
 }
 
@@ -164,6 +225,16 @@ fn moment(args: &[&[u8]]) -> Result<Command, NoCommand>
     Ok(Command::Moment(u64_word(number).ok_or(NoCommand::Usage)?))
 }
 
+/// The ask of a command that takes no words.
+fn alone(op: Op, args: &[&[u8]]) -> Result<Command, NoCommand>
+    ensures { Reads result (alone_of op (map (λ w. w.now) args.now)) }
+{
+    let [] = args else {
+        return Err(NoCommand::Usage);
+    };
+    Ok(Command::Ask(op))
+}
+
 fn add(alloc: Global, args: &[&[u8]]) -> Result<Command, NoCommand>
     ensures { Reads result (add_of (map (λ w. w.now) args.now)) }
 {
@@ -193,6 +264,39 @@ fn newring(alloc: Global, args: &[&[u8]]) -> Result<Command, NoCommand>
         payload: Blob::from_slice(alloc, b"")?,
         ring,
     }))
+}
+
+/// Whether the words behind the key have the keyring made where it is wanted.
+fn create(words: &[&[u8]]) -> Result<bool, NoCommand>
+    ensures { Reads result (create_of (map (λ w. w.now) words.now)) }
+{
+    match words {
+        [] => Ok(false),
+        [word] if *word == b"create".as_slice() => Ok(true),
+        _ => Err(NoCommand::Usage),
+    }
+}
+
+fn get_id(args: &[&[u8]]) -> Result<Command, NoCommand>
+    ensures { Reads result (id_of (map (λ w. w.now) args.now)) }
+{
+    let [key, words @ ..] = args else {
+        return Err(NoCommand::Usage);
+    };
+    let id = key_word(key).ok_or(NoCommand::Usage)?;
+    let create = create(words)?;
+    Ok(Command::Ask(Op::GetId { id, create }))
+}
+
+fn join(alloc: Global, args: &[&[u8]]) -> Result<Command, NoCommand>
+    ensures { Reads result (join_of (map (λ w. w.now) args.now)) }
+{
+    let name = match args {
+        [] => Blob::from_slice(alloc, b"")?,
+        [name] => Blob::from_slice(alloc, name)?,
+        _ => return Err(NoCommand::Usage),
+    };
+    Ok(Command::Ask(Op::Join { name }))
 }
 
 fn update(alloc: Global, args: &[&[u8]]) -> Result<Command, NoCommand>
@@ -244,6 +348,16 @@ fn revoke(args: &[&[u8]]) -> Result<Command, NoCommand>
     };
     let id = key_word(key).ok_or(NoCommand::Usage)?;
     Ok(Command::Ask(Op::Revoke { id }))
+}
+
+fn invalidate(args: &[&[u8]]) -> Result<Command, NoCommand>
+    ensures { Reads result (invalidate_of (map (λ w. w.now) args.now)) }
+{
+    let [key] = args else {
+        return Err(NoCommand::Usage);
+    };
+    let id = key_word(key).ok_or(NoCommand::Usage)?;
+    Ok(Command::Ask(Op::Invalidate { id }))
 }
 
 fn clear(args: &[&[u8]]) -> Result<Command, NoCommand>
@@ -324,11 +438,100 @@ fn unlink(args: &[&[u8]]) -> Result<Command, NoCommand>
     Ok(Command::Ask(Op::Unlink { key, ring }))
 }
 
-fn leave(args: &[&[u8]]) -> Result<Command, NoCommand>
-    ensures { Reads result (leave_of (map (λ w. w.now) args.now)) }
+/// The destination that the words behind the description name: 0, for none, where there is no word.
+fn destination(words: &[&[u8]]) -> Result<i32, NoCommand>
+    ensures { Reads result (dest_of (map (λ w. w.now) words.now)) }
 {
-    let [] = args else {
+    match words {
+        [] => Ok(0),
+        [ring] => key_word(ring).ok_or(NoCommand::Usage),
+        _ => Err(NoCommand::Usage),
+    }
+}
+
+fn search_from(alloc: Global, args: &[&[u8]]) -> Result<Command, NoCommand>
+    ensures { Reads result (search_of (map (λ w. w.now) args.now)) }
+{
+    let [ring, type_name, desc, words @ ..] = args else {
         return Err(NoCommand::Usage);
     };
-    Ok(Command::Ask(Op::Leave))
+    let head = key_word(ring).ok_or(NoCommand::Usage)?;
+    let dest = destination(words)?;
+    Ok(Command::Ask(Op::Search {
+        head,
+        type_name: Blob::from_slice(alloc, type_name)?,
+        desc: Blob::from_slice(alloc, desc)?,
+        dest,
+    }))
+}
+
+fn request(alloc: Global, args: &[&[u8]]) -> Result<Command, NoCommand>
+    ensures { Reads result (request_of (map (λ w. w.now) args.now)) }
+{
+    let [type_name, desc, words @ ..] = args else {
+        return Err(NoCommand::Usage);
+    };
+    let dest = destination(words)?;
+    Ok(Command::Ask(Op::Request {
+        type_name: Blob::from_slice(alloc, type_name)?,
+        desc: Blob::from_slice(alloc, desc)?,
+        dest,
+    }))
+}
+
+fn open(args: &[&[u8]]) -> Result<Command, NoCommand>
+    ensures { Reads result (open_of (map (λ w. w.now) args.now)) }
+{
+    let [capacity] = args else {
+        return Err(NoCommand::Usage);
+    };
+    let capacity = u32_word(capacity).ok_or(NoCommand::Usage)?;
+    Ok(Command::Ask(Op::OpenQueue { capacity }))
+}
+
+fn closeq(args: &[&[u8]]) -> Result<Command, NoCommand>
+    ensures { Reads result (closeq_of (map (λ w. w.now) args.now)) }
+{
+    let [queue] = args else {
+        return Err(NoCommand::Usage);
+    };
+    let queue = u32_word(queue).ok_or(NoCommand::Usage)?;
+    Ok(Command::Ask(Op::CloseQueue { queue }))
+}
+
+fn watch(args: &[&[u8]]) -> Result<Command, NoCommand>
+    ensures { Reads result (watch_of (map (λ w. w.now) args.now)) }
+{
+    let [key, queue, watch] = args else {
+        return Err(NoCommand::Usage);
+    };
+    let id = key_word(key).ok_or(NoCommand::Usage)?;
+    let queue = u32_word(queue).ok_or(NoCommand::Usage)?;
+    let watch = watch_word(watch).ok_or(NoCommand::Usage)?;
+    Ok(Command::Ask(Op::Watch { id, queue, watch }))
+}
+
+fn filter(alloc: Global, args: &[&[u8]]) -> Result<Command, NoCommand>
+    ensures { Reads result (filter_of (map (λ w. w.now) args.now)) }
+{
+    let [queue, words @ ..] = args else {
+        return Err(NoCommand::Usage);
+    };
+    if words.is_empty() {
+        return Err(NoCommand::Usage);
+    }
+    let queue = u32_word(queue).ok_or(NoCommand::Usage)?;
+    let entries = entries_words(alloc, words)?;
+    Ok(Command::Ask(Op::SetFilter { queue, entries }))
+}
+
+fn readq(args: &[&[u8]]) -> Result<Command, NoCommand>
+    ensures { Reads result (readq_of (map (λ w. w.now) args.now)) }
+{
+    let [queue, room] = args else {
+        return Err(NoCommand::Usage);
+    };
+    let queue = u32_word(queue).ok_or(NoCommand::Usage)?;
+    let room = u32_word(room).ok_or(NoCommand::Usage)?;
+    Ok(Command::Readq { queue, room })
 }

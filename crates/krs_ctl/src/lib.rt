@@ -3,6 +3,7 @@
 #![tactic(auto)]
 
 mod command;
+mod entry;
 mod laws;
 mod lines;
 mod listing;
@@ -19,6 +20,3 @@ mod writing;
 pub use laws::listed_keys;
 pub use program::run_program;
 pub use script::{ScriptEnd, run_script};
-
-#[cfg(test)]
-mod tests;

@@ -1,5 +1,5 @@
 ghost use Rattle.std.specs.Prelude.{◌≡◌};
-ghost use Rattle.krs_ctl.specs.Listing.{is_keyring, listing};
+ghost use Rattle.krs_ctl.specs.Listing.{is_keyring, listing, records_of};
 
 use crate::output::Output;
 use krs_types::{Answer, Body, Reply};
@@ -21,5 +21,16 @@ fn is_keyring(described: &Reply) -> bool
     match described {
         Ok(Answer::Bytes(text)) => text.as_slice().starts_with(b"keyring;"),
         _ => false,
+    }
+}
+
+/// What a READ_QUEUE comes to.
+pub fn records(reply: Reply) -> Output
+    ensures { result ≡ records_of reply }
+{
+    match reply {
+        Ok(Answer::Bytes(bytes)) => Output::Records(bytes),
+        Ok(answer) => Output::Reply(Ok(answer)),
+        Err(error) => Output::Reply(Err(error)),
     }
 }

@@ -1,7 +1,7 @@
 ghost use Rattle.std.specs.Prelude.{◌≡◌, map};
 ghost use Rattle.std.specs.Char.{is_ascii_digit, is_ascii_hexdigit};
 ghost use Rattle.std.specs.List.{list_all};
-ghost use Rattle.krs_ctl.specs.Number.{u64_of, u32_of, u32s_of, hexadecimal_of, key_of, data_of};
+ghost use Rattle.krs_ctl.specs.Number.{u64_of, u32_of, u32s_of, hexadecimal_of, key_of, data_of, watch_id_of};
 ghost use Rattle.krs_ctl.specs.Parsed.{Reads};
 
 use crate::no_command::NoCommand;
@@ -77,6 +77,16 @@ pub fn key_word(word: &[u8]) -> Option<i32>
         b"@s" => Some(-3),
         b"@u" => Some(-4),
         b"@us" => Some(-5),
+        _ => i32::try_from(u32_word(word)?).ok(),
+    }
+}
+
+/// The id of a watch, or -1 for its end.
+pub fn watch_word(word: &[u8]) -> Option<i32>
+    ensures { result ≡ watch_id_of word.now }
+{
+    match word {
+        b"off" => Some(-1),
         _ => i32::try_from(u32_word(word)?).ok(),
     }
 }

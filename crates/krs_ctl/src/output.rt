@@ -7,4 +7,6 @@ pub enum Output {
     Reply(Reply),
     /// The serials that a listed keyring links, as READ gave them: 4 bytes each, the lowest first.
     Serials(Body),
+    /// The records that READ_QUEUE gave.
+    Records(Body),
 }

@@ -13,6 +13,7 @@ pub fn output_line(alloc: Global, output: &Output) -> Result<Vec<u8>, AllocError
     let mut line = match output {
         Output::Reply(reply) => reply_text(alloc, reply)?,
         Output::Serials(bytes) => serials_text(alloc, bytes.as_slice())?,
+        Output::Records(bytes) => hex::encode(alloc, bytes.as_slice())?.into_bytes(),
     };
     line.push(b'\n')?;
     Ok(line)

@@ -23,13 +23,20 @@ Commands of a script, with what an accepted one prints:
   hello UID GID [GROUP ..]      a new context of this caller, from here on the current one: its number
   context N                     makes another context the current one: ok
   moment N                      sets the time in seconds of the lines that follow: ok
+  thread                        a new context in the process of the current one: its number
+  fork                          a new context of the same caller in a new process: its number
+  exec                          the process anew, without its other contexts: ok
+  exit                          ends the current context, which stays the current one: ok
   add TYPE DESC DATA RING       a key in a keyring, new or with a new payload: its serial
   newring DESC RING             a new keyring in a keyring: its serial
+  id KEY [create]               what an id stands for; create makes a missing keyring: its serial
+  join [NAME]                   another session keyring, of that name or of none: its serial
   update KEY DATA               another payload for a key: ok
   print KEY                     the payload of a key
   rlist KEY                     the serials that a keyring links, or the payload of another key
   rdescribe KEY                 a key as text: type;uid;gid;perm;description
   revoke KEY                    ends a key for good: ok
+  invalidate KEY                takes a key out of every keyring and every attachment: ok
   clear RING                    takes all links out of a keyring: ok
   chown KEY UID                 another owner of a key: ok
   chgrp KEY GID                 another group of a key: ok
@@ -37,11 +44,19 @@ Commands of a script, with what an accepted one prints:
   timeout KEY SECONDS           when a key's time is over, in seconds from now, never for 0: ok
   link KEY RING                 one more link in a keyring: ok
   unlink KEY RING               one link less in a keyring: ok
-  leave                         ends all contexts: ok
+  search RING TYPE DESC [RING]  a key found from a keyring on, and linked to the other one: its serial
+  request TYPE DESC [RING]      the same from the thread, process and session keyring on: its serial
+  open CAPACITY                 a queue that holds so many records: its number
+  closeq QUEUE                  ends a queue and its watches: ok
+  watch KEY QUEUE ID            a queue's watch of a key, with an id of 0 to 255; off ends it: ok
+  filter QUEUE ENTRY ..         which notes a queue takes in from now on: ok
+  readq QUEUE ROOM              the records of a queue that fit into so many bytes, in hexadecimal
+  leave                         closes all queues and ends all contexts: ok
 
 KEY and RING are a serial, or @t, @p, @s, @u, @us for the thread, process, session, user and user-session
 keyring. DATA is the word's bytes or, after `hex:`, the bytes that pairs of hexadecimal digits spell. Bytes
-that do not all print are shown as `:hex:` and digits. Empty lines and lines that begin with `#` are skipped.
+that do not all print are shown as `:hex:` and digits. ENTRY is `type:info_filter:info_mask:subtypes`, four
+hexadecimal numbers. Empty lines and lines that begin with `#` are skipped.
 A refused command prints its error, as `error 126 ENOKEY`; one that is none prints `usage` and ends the script.
 
 Exit status: 0; 1 if something was refused or memory was wanting; 2 for usage; 3 if reading or printing failed.";

@@ -4,7 +4,7 @@ ghost use Rattle.krs_ctl.specs.Writing.{Prints};
 
 use crate::command::{Command, parse};
 use crate::lines::{has_line_at_hand, read_line};
-use crate::listing::listing;
+use crate::listing::{listing, records};
 use crate::output::Output;
 use crate::stop::Stop;
 use crate::words::{is_comment, words};
@@ -165,6 +165,7 @@ impl Script {
                 let reply = self.ask(Op::Read { id });
                 self.list(id, reply)
             }
+            Command::Readq { queue, room } => records(self.ask(Op::ReadQueue { queue, room })),
         }
     }
 

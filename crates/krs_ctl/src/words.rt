@@ -8,15 +8,16 @@ use std::alloc::{AllocError, Global};
 pub fn words(alloc: Global, line: &[u8]) -> Result<Vec<&[u8]>, AllocError>
     ensures { IfOk result (λ v. map (λ w. w.now) v.items ≡ words_of line.now) }
 {
-    let mut words = pieces(alloc, line)?;
+    let mut words = pieces(alloc, line, b' ')?;
     words.retain(|word| !word.is_empty());
     Ok(words)
 }
 
-fn pieces(alloc: Global, line: &[u8]) -> Result<Vec<&[u8]>, AllocError>
-    ensures { IfOk result (λ v. map (λ w. w.now) v.items ≡ slice_split (λ b. b == 32) line.now) }
+/// What stands before, between and behind the bytes of this value.
+pub fn pieces(alloc: Global, text: &[u8], between: u8) -> Result<Vec<&[u8]>, AllocError>
+    ensures { IfOk result (λ v. map (λ w. w.now) v.items ≡ slice_split (λ b. b == between) text.now) }
 {
-    line.split(|byte| *byte == b' ').collect(alloc)
+    text.split(|byte| *byte == between).collect(alloc)
 }
 
 /// Whether a line is skipped whatever its words are.

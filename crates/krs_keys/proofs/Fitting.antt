@@ -9,9 +9,9 @@ use Rattle.krs_types.specs.Name.{same_name}
 use Rattle.krs_model.specs.Table.{Table, at, put, alter}
 use Rattle.krs_model.proofs.Tables.{at_put_same, at_put_other, at_or_apart, at_alter_same, at_alter_other, at_kept}
 use Rattle.krs_keys.specs.declared.key.Key.{Key}
-use Rattle.krs_links.specs.Links.{LinkList, linked, unlinked, linked_as, serials}
+use Rattle.krs_links.specs.Links.{LinkList, linked, linked_as, serials}
 use Rattle.krs_links.proofs.NamesLemmas.{equal_names, other_way, same_name_equiv}
-use Rattle.krs_links.proofs.LinksLemmas.{linked_as-linked_other, linked_as-unlinked_other, unlinked_none}
+use Rattle.krs_links.proofs.LinksLemmas.{linked_as-linked_other}
 use Rattle.krs_model.specs.Levels.{is_in}
 use Rattle.krs_model.proofs.Levels.{same_is, or_true}
 use Rattle.krs_keys.specs.Keys.{content_links, name_at, AreNamed, AreFit}
@@ -36,19 +36,6 @@ named_linked names name serial (link ∷ links) there named =
       )
     ] refl
 
--- without the link of a name
-pub named_unlinked : (names : ℕ → Option Name) (name : Name) (links : LinkList) → AreNamed names links → AreNamed names (unlinked links name)
-named_unlinked names name [] named = tt
-named_unlinked names name (link ∷ links) named =
-    elim (same_name name link.0) as (λ b. same_name name link.0 ≡ b → AreNamed names (cond (not b) (link ∷ unlinked links name) (unlinked links name))) [
-      | true ↦ λ same. named_unlinked names name links named.1
-      | false ↦ λ apart. (
-        named.0,
-        named_unlinked names name links named.1,
-        linked_as-unlinked_other name link.0 links (other_way name link.0 apart) ∙ named.2,
-      )
-    ] refl
-
 -- two keys of different names are two
 other_serial : (names : ℕ → Option Name) (name : Name) (serial : ℕ) (link : Name × ℕ) → names serial ≡ Some name → names link.1 ≡ Some link.0 → same_name name link.0 ≡ false → (link.1 == serial) ≡ false
 other_serial names name serial link there named other =
@@ -68,27 +55,13 @@ not_first name link links none =
     ] none
 
 -- a key whose name is not linked is not linked
-none_left : (names : ℕ → Option Name) (name : Name) (serial : ℕ) (links : LinkList) → names serial ≡ Some name → linked_as links name ≡ None → AreNamed names links → filter (λ k. not (k == serial)) (serials links) ≡ serials links
+pub none_left : (names : ℕ → Option Name) (name : Name) (serial : ℕ) (links : LinkList) → names serial ≡ Some name → linked_as links name ≡ None → AreNamed names links → filter (λ k. not (k == serial)) (serials links) ≡ serials links
 none_left names name serial [] there none named = refl
 none_left names name serial (link ∷ links) there none named =
     let other : same_name name link.0 ≡ false = not_first name link links none in
     let rest : linked_as links name ≡ None = rw other at none in
     let apart : (link.1 == serial) ≡ false = other_serial names name serial link there named.0 other in
     rw apart (ap (λ zs. link.1 ∷ zs) (none_left names name serial links there rest named.1))
-
--- without the link of a key's name, the key is not linked
-pub serials-unlinked : (names : ℕ → Option Name) (name : Name) (serial : ℕ) (links : LinkList) → names serial ≡ Some name → linked_as links name ≡ Some serial → AreNamed names links → serials (unlinked links name) ≡ filter (λ k. not (k == serial)) (serials links)
-serials-unlinked names name serial [] there linked named = absurd (none-some serial linked)
-serials-unlinked names name serial (link ∷ links) there linked named =
-    elim (same_name name link.0) as (λ b. same_name name link.0 ≡ b → option_map (λ (l : Name × ℕ). l.1) (cond b (Some link) (find (λ (l : Name × ℕ). same_name name l.0) links)) ≡ Some serial → serials (cond (not b) (link ∷ unlinked links name) (unlinked links name)) ≡ filter (λ k. not (k == serial)) (serials (link ∷ links))) [
-      | true ↦ λ same h.
-          let here : (link.1 == serial) ≡ true = same_is link.1 serial (same_Some link.1 serial h) in
-          let none : linked_as links name ≡ None = ap (linked_as links) (equal_names name link.0 same) ∙ named.2 in
-          rw here (ap serials (unlinked_none name links none) ∙ sym (none_left names name serial links there none named.1))
-      | false ↦ λ other h.
-          let apart : (link.1 == serial) ≡ false = other_serial names name serial link there named.0 other in
-          rw apart (ap (λ zs. link.1 ∷ zs) (serials-unlinked names name serial links there h named.1))
-    ] refl linked
 
 -- what is found by name is linked
 pub found_in : (name : Name) (serial : ℕ) (links : LinkList) → linked_as links name ≡ Some serial → is_in serial (serials links) ≡ true

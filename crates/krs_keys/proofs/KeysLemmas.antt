@@ -14,9 +14,7 @@ use Rattle.krs_keys.specs.declared.key.Key.{Key}
 use Rattle.krs_keys.specs.declared.key.Content.{Content}
 use Rattle.krs_keys.specs.declared.key.Content.TheVariants.{Payload, Links}
 use Rattle.krs_links.specs.Links.{LinkList, linked_as, linked, serials}
-use Rattle.krs_keys.specs.Keys.{content_links, seen, seen_content, shown, name_at, AreNamed, AreFit, with_entry, entered, without_entry, unlinked_content, FindsByName}
-use Rattle.krs_model.specs.Asks.Linked.{without_link}
-use Rattle.krs_keys.proofs.Fitting.{serials-unlinked}
+use Rattle.krs_keys.specs.Keys.{content_links, seen, seen_content, shown, name_at, AreNamed, AreFit, with_entry, entered, FindsByName}
 
 -- the serials that a key links
 pub serials-content : (content : Content) → serials (content_links content) ≡ links_of (seen_content content)
@@ -59,11 +57,3 @@ seen-with_entry keys name serial key named = linked_content keys name serial key
 
 pub finds_by_name : (keys : Table Key) (serial : ℕ) (key : Key) → AreFit keys → at keys serial ≡ Some key → FindsByName (shown keys) key
 finds_by_name keys serial key fit there = λ name. found_named keys name (content_links key.content) (fit serial key there)
-
-unlinked_as : (names : ℕ → Option Name) (name : Name) (serial : ℕ) (key : Key) (content : Content) → names serial ≡ Some name → linked_as (content_links content) name ≡ Some serial → AreNamed names (content_links content) → seen (record key { content = unlinked_content name content }) ≡ without_link serial (seen (record key { content = content }))
-unlinked_as names name serial key (Payload bytes) there linked named = refl
-unlinked_as names name serial key (Links links) there linked named = ap (λ ss. record (seen key) { content = model.Links ss }) (serials-unlinked names name serial links there linked named)
-
--- the keyring without the link to a key, as the definitions see it
-pub seen-without_entry : (names : ℕ → Option Name) (name : Name) (serial : ℕ) (key : Key) → names serial ≡ Some name → linked_as (content_links key.content) name ≡ Some serial → AreNamed names (content_links key.content) → seen (without_entry name key) ≡ without_link serial (seen key)
-seen-without_entry names name serial key there linked named = unlinked_as names name serial key key.content there linked named

@@ -1,5 +1,5 @@
 -- Each key holds what keys of its type hold.
-use Rattle.std.proofs.Common.{◌≡◌, ℕ, Option, Some, None, Bool, true, false, cond, filter, List, [], ◌∷◌, refl, ap, ◌∙◌, sym, subst, ⊎_elim}
+use Rattle.std.proofs.Common.{◌≡◌, ℕ, Option, Some, None, Bool, true, false, cond, filter, List, refl, ◌∙◌, sym, subst, ⊎_elim}
 use Rattle.std.specs.Option.{option_map}
 use Rattle.std.proofs.lemmas.Option.{none-some, same_Some}
 use Rattle.krs_types.specs.declared.kind.Kind.{Kind}
@@ -11,7 +11,7 @@ use Rattle.krs_keys.specs.declared.key.Content.{Content}
 use Rattle.krs_keys.specs.declared.key.Content.TheVariants.{Payload, Links}
 use Rattle.krs_keys.specs.declared.key.Change.{Change}
 use Rattle.krs_keys.specs.declared.key.Change.TheVariants as change
-use Rattle.krs_keys.specs.Keys.{IsOfKind, AreOfKind, with_entry, entered, without_entry, unlinked_content}
+use Rattle.krs_keys.specs.Keys.{IsOfKind, AreOfKind, with_entry, entered, without_key, keyless_content}
 use Rattle.krs_keys.specs.Changes.{changed, paid_with, emptied, cleared_content}
 
 -- a change that keeps a key of its kind
@@ -67,9 +67,9 @@ entered_kind kind name serial (Links links) is = is
 pub linked_kind : (name : Name) (serial : ℕ) → KeepsKind (with_entry name serial)
 linked_kind name serial v is = entered_kind v.name.kind name serial v.content is
 
-unlinked_as : (kind : Kind) (name : Name) (content : Content) → IsOfKind kind content → IsOfKind kind (unlinked_content name content)
-unlinked_as kind name (Payload old) is = is
-unlinked_as kind name (Links links) is = is
+keyless_as : (kind : Kind) (serial : ℕ) (content : Content) → IsOfKind kind content → IsOfKind kind (keyless_content serial content)
+keyless_as kind serial (Payload old) is = is
+keyless_as kind serial (Links links) is = is
 
-pub unlinked_kind : (name : Name) → KeepsKind (without_entry name)
-unlinked_kind name v is = unlinked_as v.name.kind name v.content is
+pub keyless_kind : (serial : ℕ) → KeepsKind (without_key serial)
+keyless_kind serial v is = keyless_as v.name.kind serial v.content is

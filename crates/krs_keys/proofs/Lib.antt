@@ -4,3 +4,4 @@ pub mod SlotsLemmas
 pub mod Fitting
 pub mod ChangesLemmas
 pub mod KindsLemmas
+pub mod Unlinking

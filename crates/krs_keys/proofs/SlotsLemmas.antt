@@ -1,12 +1,12 @@
 -- Laws of the slots of the key table.
-use Rattle.std.proofs.Common.{◌≡◌, ℕ, [], ◌∷◌, Some, None, true, false, cond, Result, Ok, Err, refl, ap, ◌∙◌, sym}
+use Rattle.std.proofs.Common.{◌≡◌, ℕ, suc, length, map, [], ◌∷◌, Some, None, true, false, cond, Result, Ok, Err, refl, ap, ◌∙◌, sym}
 use Rattle.std.specs.Option.{option_map}
 use Rattle.std.specs.Ordering.{nat_cmp}
 use Rattle.std.specs.BTreeMap.{is_at}
-use Rattle.std.specs.Map.{set_value}
+use Rattle.std.specs.Map.{set_value, keys_of}
 use Rattle.std.specs.Result.{OnOk, OnErr, IfOk, IfErr}
 use Rattle.std.proofs.lemmas.Option.{same_Some}
-use Rattle.krs_model.specs.Table.{Table, at, alter}
+use Rattle.krs_model.specs.Table.{Table, at, alter, map_values}
 use Rattle.krs_model.proofs.Tables.{at_map, alter_none}
 use Rattle.krs_keys.specs.declared.key.Key.{Key}
 use Rattle.krs_keys.specs.declared.key_table.Slot.{Slot}
@@ -40,6 +40,15 @@ unmarked_none es k h = at_map (λ s. s.key) es k ∙ ap (option_map (λ s. s.key
 pub not_there : (es : Table Slot) (k : ℕ) (f : Key → Key) → at es k ≡ None → unmarked es ≡ alter (unmarked es) k f
 not_there es k f h = sym (alter_none (unmarked es) k f (unmarked_none es k h))
 
+-- a map's values seen through f: its length and its keys
+pub length_map : {X Y : Type 0} (f : X → Y) (es : Table X) → length (map_values f es) ≡ length es
+length_map f [] = refl
+length_map f (e ∷ es) = ap (λ n. suc n) (length_map f es)
+
+pub keys_map : {X Y : Type 0} (f : X → Y) (es : Table X) → keys_of (map_values f es) ≡ keys_of es
+keys_map f [] = refl
+keys_map f (e ∷ es) = ap (λ ks. e.0 ∷ ks) (keys_map f es)
+
 -- a fact for Ok, or for Err, from another
 pub on_ok : {X E : Type 0} {P Q : Type 0} (r : Result X E) → (P → Q) → OnOk r P → OnOk r Q
 on_ok (Ok x) f h = f h
@@ -56,3 +65,10 @@ if_ok (Err e) f h = h
 pub if_err : {X E : Type 0} {P Q : E → Type 0} (r : Result X E) → ((e : E) → P e → Q e) → IfErr r P → IfErr r Q
 if_err (Ok x) f h = h
 if_err (Err e) f h = f e h
+
+-- all slots changed in their keys
+pub unmarked_mapped :
+    (es : Table Slot) (f : Key → Key)
+    → unmarked (map (λ e. (e.0, record e.1 { key = f e.1.key })) es) ≡ map_values f (unmarked es)
+unmarked_mapped [] f = refl
+unmarked_mapped (e ∷ es) f = ap (λ zs. (e.0, f e.1.key) ∷ zs) (unmarked_mapped es f)

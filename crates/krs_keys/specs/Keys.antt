@@ -1,5 +1,5 @@
 -- Keys as they are kept, with the names of their links, and as the definitions see them.
-use Rattle.std.specs.Prelude.{◌≡◌, ℕ, [], ◌∷◌, true, Option, None, Some}
+use Rattle.std.specs.Prelude.{◌≡◌, ℕ, List, [], ◌∷◌, true, Option, None, Some, find}
 use Rattle.std.specs.Option.{option_map}
 use Rattle.krs_types.specs.declared.kind.Kind.{Kind}
 use Rattle.krs_types.specs.declared.kind.Kind.TheVariants.{Keyring}
@@ -8,10 +8,12 @@ use Rattle.krs_types.specs.declared.name.Name.{Name}
 use Rattle.krs_model.specs.Table.{Table, at, map_values}
 use Rattle.krs_model.specs.State as model
 use Rattle.krs_model.specs.Linking.{link_named}
+use Rattle.krs_model.specs.Asks.Joining.{is_joinable}
+use Rattle.krs_types.specs.declared.caller.Caller.{Caller}
 use Rattle.krs_keys.specs.declared.key.Key.{Key}
 use Rattle.krs_keys.specs.declared.key.Content.{Content}
 use Rattle.krs_keys.specs.declared.key.Content.TheVariants.{Payload, Links}
-use Rattle.krs_links.specs.Links.{LinkList, linked, unlinked, linked_as, serials}
+use Rattle.krs_links.specs.Links.{LinkList, linked, unlinked_key, linked_as, serials}
 
 -- the named links of a keyring
 abbrev pub content_links : Content → LinkList
@@ -49,14 +51,14 @@ entered name serial (Links links) = Links (linked links name serial)
 abbrev pub with_entry : Name → ℕ → Key → Key
 with_entry name serial key = record key { content = entered name serial key.content }
 
--- what a keyring links, without the link of a name
-abbrev pub unlinked_content : Name → Content → Content
-unlinked_content name (Payload bytes) = Payload bytes
-unlinked_content name (Links links) = Links (unlinked links name)
+-- what a keyring links, without a link to this key
+abbrev pub keyless_content : ℕ → Content → Content
+keyless_content serial (Payload bytes) = Payload bytes
+keyless_content serial (Links links) = Links (unlinked_key links serial)
 
--- one link less
-abbrev pub without_entry : Name → Key → Key
-without_entry name key = record key { content = unlinked_content name key.content }
+-- the key out of a keyring
+abbrev pub without_key : ℕ → Key → Key
+without_key serial key = record key { content = keyless_content serial key.content }
 
 -- the name of the key at a serial
 abbrev pub name_at : Table Key → ℕ → Option Name
@@ -99,3 +101,7 @@ displaced_at keys ring name = displaced_by name (at keys ring)
 -- a link's name finds the key of that name among what a keyring links
 abbrev pub FindsByName : Table model.Key → Key → Type 0
 FindsByName keys key = (name : Name) → link_named keys name (serials (content_links key.content)) ≡ linked_as (content_links key.content) name
+
+-- the least serial of a keyring that a caller may join by this description: profile, joining by name
+abbrev pub joinable_in : ℕ → Caller → List ℕ → Table Key → Option ℕ
+joinable_in clock c desc keys = option_map (λ e. e.0) (find (λ e. is_joinable clock c desc e.1) (shown keys))

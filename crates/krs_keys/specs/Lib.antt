@@ -1,4 +1,5 @@
 pub mod Keys
 pub mod Changes
 pub mod Table
+pub mod Kept
 pub mod Marks

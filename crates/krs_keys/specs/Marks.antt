@@ -1,12 +1,12 @@
 -- What a sweep has come to, and what is left for it.
-use Rattle.std.specs.Prelude.{◌≡◌, ℕ, ◌+◌, List, [], ◌∷◌, Bool, true, false, not, Option, None, Some, find, filter, map, cond}
+use Rattle.std.specs.Prelude.{◌≡◌, ℕ, ◌+◌, List, [], ◌∷◌, Bool, true, false, not, Option, None, Some, find, map, cond}
 use Rattle.std.specs.Option.{option_or}
 use Rattle.krs_model.specs.Table.{Table, at}
 use Rattle.krs_model.specs.Possession.{links_of}
-use Rattle.krs_model.specs.Sweep.{PicksHeld}
 use Rattle.krs_keys.specs.declared.key.Key.{Key}
 use Rattle.krs_keys.specs.declared.key_table.Slot.{Slot}
-use Rattle.krs_keys.specs.Keys.{seen_content, shown}
+use Rattle.krs_keys.specs.Keys.{seen_content}
+pub use Rattle.krs_keys.specs.Kept.{Sweeps}
 
 abbrev pub is_unmarked : Option Slot → Bool
 is_unmarked None = false
@@ -38,9 +38,3 @@ unmarked_count (e ∷ es) = cond e.1.mark 0 1 + unmarked_count es
 -- the first key that has to be marked yet
 abbrev pub next_open : Table Slot → List ℕ → List ℕ → List ℕ → Option ℕ
 next_open all a b c = option_or (open_in all a) (option_or (open_in all b) (option_or (open_in all c) (open_link all all)))
-
--- just the held keys stay
-pub record Sweeps (attached : List ℕ) (old new : Table Key) : Type 0 where
-  pub kept : ℕ → Bool
-  pub picks : PicksHeld (shown old) attached kept
-  pub keys : new ≡ filter (λ e. kept e.0) old

@@ -1,13 +1,15 @@
 ghost use Rattle.std.specs.Prelude.{◌≡◌, false, IfOk, IfErr, OnOk, OnErr};
 ghost use Rattle.krs_links.specs.Links.{linked_as, is_refused, link_error, serials};
-ghost use Rattle.krs_keys.specs.Keys.{with_entry, without_entry, content_links, seen, seen_content};
+ghost use Rattle.krs_keys.specs.Keys.{with_entry, without_key, content_links, seen, seen_content};
 ghost use Rattle.krs_keys.specs.Changes.{changed};
 ghost use Rattle.krs_model.specs.Asks.Changing.{or_left};
 ghost use Rattle.krs_model.specs.Possession.{links_of};
 ghost use Rattle.krs_model.specs.Access.{is_over, is_alive, rights_on};
+ghost use Rattle.krs_model.specs.Asks.Joining.{is_joinable};
 
+use bitflags::Flags;
 use krs_links::Links;
-use krs_types::{Body, Caller, Errno, Name, Perm, Rights, Serial};
+use krs_types::{Body, Caller, Errno, Kind, Name, Perm, Rights, Serial};
 
 /// What a key holds.
 #[derive(Drop)]
@@ -74,6 +76,18 @@ impl Key {
         self.perm.grants(caller, self.uid, self.gid, possessed)
     }
 
+    /// Whether a caller may join it by this name: a keyring of that description which JOIN made, which is alive, and which
+    /// grants SEARCH without possession. keyctl(2), KEYCTL_JOIN_SESSION_KEYRING; profile, joining by name.
+    pub fn is_joinable(&self, desc: &[u8], caller: &Caller, clock: u64) -> bool
+        ensures { result ≡ is_joinable clock caller.now desc.now (seen self.now) }
+    {
+        self.name.kind.is(Kind::Keyring)
+            && self.joined
+            && self.name.desc.as_slice() == desc
+            && self.is_alive(clock)
+            && self.grants(caller, false).contains(Rights::SEARCH)
+    }
+
     /// What it links, with names; nothing where it is no keyring.
     pub fn entries(&self) -> &[(Name, Serial)]
         ensures entries { result.now ≡ content_links self.now.content }
@@ -85,11 +99,11 @@ impl Key {
         }
     }
 
-    /// One link less, where it is a keyring: that of this name.
-    pub fn unlink(&mut self, name: &Name)
-        ensures { self.new ≡ without_entry name.now self.old }
+    /// Without a link to this key, where it is a keyring.
+    pub fn unlink_key(&mut self, serial: Serial)
+        ensures { self.new ≡ without_key serial self.old }
     {
-        self.content.unlink(name);
+        self.content.unlink_key(serial);
     }
 
     /// Changes it.
@@ -132,7 +146,7 @@ impl Key {
 
 impl Content {
     ghost use Rattle.krs_keys.specs.Changes.{paid_with, emptied, cleared_content, links_some};
-    ghost use Rattle.krs_keys.specs.Keys.{unlinked_content};
+    ghost use Rattle.krs_keys.specs.Keys.{keyless_content};
 
     /// Another payload in the place of the one that is there.
     fn pay(&mut self, payload: Body)
@@ -154,15 +168,13 @@ impl Content {
         }
     }
 
-    /// One link less, where it is a keyring.
-    fn unlink(&mut self, name: &Name)
-        ensures { self.new ≡ unlinked_content name.now self.old }
+    /// Without a link to this key, where it is a keyring.
+    fn unlink_key(&mut self, serial: Serial)
+        ensures { self.new ≡ keyless_content serial self.old }
     {
         match self {
             Content::Payload(_) => {}
-            Content::Links(links) => {
-                let _ = links.remove(name);
-            }
+            Content::Links(links) => links.remove_key(serial),
         }
     }
 

@@ -1,15 +1,20 @@
-ghost use Rattle.std.specs.Prelude.{◌≡◌, ◌+◌, ◌≤◌, ◌++◌, None, false, [], IfOk, IfErr, OnOk, OnErr, option_copied};
-ghost use Rattle.krs_model.specs.Table.{at, put, without, alter, IsBelow};
+ghost use Rattle.std.specs.Prelude.{◌≡◌, ◌+◌, ◌≤◌, ◌++◌, None, false, [], length};
+ghost use Rattle.std.specs.Prelude.{IfOk, IfErr, OnOk, OnErr, option_copied};
+ghost use Rattle.std.specs.List.Sorted.{IsStrictlySortedBy};
+ghost use Rattle.std.specs.Map.{keys_of};
+ghost use Rattle.std.specs.Ordering.{nat_cmp};
+ghost use Rattle.krs_model.specs.Table.{at, put, without, alter, map_values, IsBelow};
 ghost use Rattle.krs_model.specs.Sweep.{context_roots, process_roots, uid_roots};
-ghost use Rattle.krs_keys.specs.Keys.{with_entry, without_entry, displaced_at, links_at};
+ghost use Rattle.krs_keys.specs.Keys.{with_entry, without_key, displaced_at, links_at};
 ghost use Rattle.krs_links.specs.Links.{is_refused, link_error};
 ghost use Rattle.krs_keys.specs.Changes.{changed, lets_go};
 ghost use Rattle.krs_keys.specs.Table.{unmarked, with_key, insert_error, IsLinkError, IsLinkedError};
+ghost use Rattle.krs_keys.specs.Keys.{joinable_in};
 ghost use Rattle.krs_keys.specs.Marks.{Sweeps};
 
 use crate::sweep::sweep;
 use crate::{Change, Key};
-use krs_types::{Context, Errno, Name, Serial, UidRings};
+use krs_types::{Caller, Context, Errno, Name, Serial, UidRings};
 use std::alloc::{AllocError, Global};
 use std::collections::BTreeMap;
 use std::marker::Model;
@@ -63,6 +68,15 @@ impl KeyTable {
         self.next
     }
 
+    /// How many keys there are. They stand by rising serial.
+    #[tactic(auto, using(crate::proofs::SlotsLemmas::length_map, crate::proofs::SlotsLemmas::keys_map))]
+    pub fn len(&self) -> usize
+        ensures len { result ≡ length self.now.keys }
+        ensures ordered { IsStrictlySortedBy nat_cmp (keys_of self.now.keys) }
+    {
+        self.slots.len()
+    }
+
     /// The key at a serial.
     #[tactic(auto, using(krs_model::proofs::Tables::at_map))]
     pub fn get(&self, serial: Serial) -> Option<&Key>
@@ -72,6 +86,13 @@ impl KeyTable {
             Some(slot) => Some(&slot.key),
             None => None,
         }
+    }
+
+    /// The keyring of the least serial that a caller may join by this name: keyctl(2), KEYCTL_JOIN_SESSION_KEYRING.
+    pub fn joinable(&self, desc: &[u8], caller: &Caller, clock: u64) -> Option<Serial>
+        ensures { result ≡ joinable_in clock caller.now desc.now self.now.keys }
+    {
+        joinable_in(&self.slots, desc, caller, clock)
     }
 
     /// One more key, under the next serial, which is answered: ENOSPC, ENOMEM.
@@ -152,11 +173,18 @@ impl KeyTable {
         Ok(displaced)
     }
 
-    /// One link less in a keyring: that of this name.
-    pub fn unlink(&mut self, ring: Serial, name: &Name)
-        ensures { self.new ≡ record self.old { keys = alter self.old.keys ring (without_entry name.now) } }
+    /// Takes a key out of a keyring. It takes no memory. keyctl(2), KEYCTL_UNLINK.
+    pub fn unlink(&mut self, ring: Serial, serial: Serial)
+        ensures { self.new ≡ record self.old { keys = alter self.old.keys ring (without_key serial) } }
     {
-        unlink_in(&mut self.slots, ring.number(), name);
+        unlink_in(&mut self.slots, ring.number(), serial);
+    }
+
+    /// Takes a key out of all keyrings. It takes no memory. keyctl(2), KEYCTL_INVALIDATE.
+    pub fn unlink_all(&mut self, serial: Serial)
+        ensures { self.new ≡ record self.old { keys = map_values (without_key serial) self.old.keys } }
+    {
+        unlink_all_in(&mut self.slots, serial);
     }
 
     /// Whether a change of the key at a serial takes a link out.
@@ -176,11 +204,13 @@ impl KeyTable {
         change_in(&mut self.slots, serial.number(), change);
     }
 
-    /// Takes out the key at a serial, which no key gets again.
-    pub fn remove(&mut self, serial: Serial)
-        ensures { self.new ≡ record self.old { keys = without self.old.keys serial } }
+    /// Takes out the key at a serial, which no key gets again, and answers it.
+    pub fn remove(&mut self, serial: Serial) -> Option<Key>
+        ensures key { result ≡ at self.old.keys serial }
+        ensures keys { self.new ≡ record self.old { keys = without self.old.keys serial } }
+        ensures gone { at self.new.keys serial ≡ None }
     {
-        take_out(&mut self.slots, serial.number());
+        take_out(&mut self.slots, serial.number())
     }
 
     /// Just the keys stay that are attached, or linked by what stays.
@@ -197,6 +227,22 @@ impl KeyTable {
     }
 }
 
+fn joinable_in(
+    slots: &BTreeMap<u32, Slot>,
+    desc: &[u8],
+    caller: &Caller,
+    clock: u64,
+) -> Option<Serial>
+    ensures { result ≡ joinable_in clock caller.now desc.now (unmarked slots.now.entries) }
+{
+    for (serial, slot) in slots {
+        if slot.key.is_joinable(desc, caller, clock) {
+            return Some(Serial::new(*serial));
+        }
+    }
+    None
+}
+
 #[tactic(auto, using(krs_model::proofs::Tables::put_map))]
 fn put_in(slots: &mut BTreeMap<u32, Slot>, serial: u32, key: Key) -> Result<(), AllocError>
     ensures ok { OnOk result (unmarked slots.new.entries ≡ put (unmarked slots.old.entries) serial key) }
@@ -206,11 +252,16 @@ fn put_in(slots: &mut BTreeMap<u32, Slot>, serial: u32, key: Key) -> Result<(), 
     Ok(())
 }
 
-#[tactic(auto, using(krs_model::proofs::Tables::without_map))]
-fn take_out(slots: &mut BTreeMap<u32, Slot>, serial: u32)
-    ensures { unmarked slots.new.entries ≡ without (unmarked slots.old.entries) serial }
+#[tactic(auto, using(krs_model::proofs::Tables::without_map, krs_model::proofs::Tables::at_map))]
+fn take_out(slots: &mut BTreeMap<u32, Slot>, serial: u32) -> Option<Key>
+    ensures key { result ≡ at (unmarked slots.old.entries) serial }
+    ensures keys { unmarked slots.new.entries ≡ without (unmarked slots.old.entries) serial }
+    ensures gone { at (unmarked slots.new.entries) serial ≡ None }
 {
-    let _ = slots.remove(&serial);
+    match slots.remove(&serial) {
+        Some(slot) => Some(slot.key),
+        None => None,
+    }
 }
 
 /// Two keys under consecutive serials. A refusal leaves neither.
@@ -228,7 +279,7 @@ fn put_two(
 {
     put_in(slots, serial, first)?;
     if put_in(slots, serial + 1, second).is_err() {
-        take_out(slots, serial);
+        let _ = take_out(slots, serial);
         return Err(AllocError);
     }
     Ok(())
@@ -255,7 +306,7 @@ fn put_linked(
     match link_in(slots, ring, name, Serial::new(serial)) {
         Ok(displaced) => Ok(displaced),
         Err(error) => {
-            take_out(slots, serial);
+            let _ = take_out(slots, serial);
             Err(error)
         }
     }
@@ -270,13 +321,22 @@ fn change_in(slots: &mut BTreeMap<u32, Slot>, serial: u32, change: Change)
     }
 }
 
-fn unlink_in(slots: &mut BTreeMap<u32, Slot>, ring: u32, name: &Name)
-    ensures { unmarked slots.new.entries ≡ alter (unmarked slots.old.entries) ring (without_entry name.now) }
+fn unlink_in(slots: &mut BTreeMap<u32, Slot>, ring: u32, serial: Serial)
+    ensures { unmarked slots.new.entries ≡ alter (unmarked slots.old.entries) ring (without_key serial) }
 {
     match slots.get_mut(&ring) {
-        Some(slot) => slot.key.unlink(name),
+        Some(slot) => slot.key.unlink_key(serial),
         None => {}
     }
+}
+
+fn unlink_all_in(slots: &mut BTreeMap<u32, Slot>, serial: Serial)
+    ensures { unmarked slots.new.entries ≡ map_values (without_key serial) (unmarked slots.old.entries) }
+{
+    slots.retain(|_ring, slot| {
+        slot.key.unlink_key(serial);
+        true
+    });
 }
 
 fn link_in(

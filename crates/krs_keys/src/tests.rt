@@ -79,9 +79,9 @@ fn keys_rise_and_change(rt: HostRuntime) -> Result<(), Fail> {
     assert!(rt; told(keys.get(four)) == Some((7, 100, 0x1f3f_0000, None, false)));
     keys.set(four, Change::Revoked);
     assert!(rt; told(keys.get(four)) == Some((7, 100, 0x1f3f_0000, None, true)));
-    keys.remove(four);
+    assert!(rt; told(keys.remove(four).as_ref()) == Some((7, 100, 0x1f3f_0000, None, true)));
     assert!(rt; told(keys.get(four)).is_none());
-    assert!(rt; keys.next() == 7);
+    assert!(rt; keys.next() == 7 && keys.len() == 3);
     Ok(())
 }
 

@@ -1,3 +1,4 @@
 pub mod NamesLemmas
 pub mod LinksLemmas
 pub mod PlacesLemmas
+pub mod KeyLinks

@@ -1,5 +1,5 @@
 -- What a keyring links: keyrings(7), "Keyrings". Names and serials, in link order.
-use Rattle.std.specs.Prelude.{ℕ, Bool, ◌&&◌, cond, not, nat_le, if◌then◌else◌, List, [], ◌∷◌, length, map, filter, find, Option, is_none}
+use Rattle.std.specs.Prelude.{ℕ, ◌==◌, Bool, ◌&&◌, cond, not, nat_le, if◌then◌else◌, List, [], ◌∷◌, length, map, filter, find, Option, is_none}
 use Rattle.std.specs.Option.{option_map}
 use Rattle.std.specs.List.{IsDistinct}
 use Rattle.krs_types.specs.declared.kind.Kind.TheVariants.{Keyring}
@@ -38,6 +38,10 @@ linked (link ∷ links) name serial = cond (same_name name link.0) ((name, seria
 -- the links of other names, in their order
 abbrev pub unlinked : LinkList → Name → LinkList
 unlinked links name = filter (λ link. not (same_name name link.0)) links
+
+-- the links to other keys, in their order
+abbrev pub unlinked_key : LinkList → ℕ → LinkList
+unlinked_key links serial = filter (λ link. not (link.1 == serial)) links
 
 -- this is the name of a keyring
 abbrev pub is_ring : Name → Bool

@@ -1,6 +1,6 @@
 ghost use Rattle.std.specs.Prelude.{◌≡◌, ◌≤◌, [], length, slice_get, false, IfOk, OnOk, IfErr, OnErr, IsOk, IsSome};
 ghost use Rattle.std.specs.Option.{ok_or, option_copied};
-ghost use Rattle.krs_links.specs.Links.{linked_as, linked, unlinked, nested, serials};
+ghost use Rattle.krs_links.specs.Links.{linked_as, linked, unlinked, unlinked_key, nested, serials};
 ghost use Rattle.krs_links.specs.Links.{is_full, is_refused, link_error, IsUnique};
 
 use crate::lists;
@@ -110,6 +110,13 @@ impl Links {
             return Err(Errno::ENOENT);
         };
         Ok(lists::remove(&mut self.entries, &mut self.rings, place, name))
+    }
+
+    /// Takes out the link to a key, where there is one. It takes no memory. keyctl(2), KEYCTL_INVALIDATE.
+    pub fn remove_key(&mut self, serial: Serial)
+        ensures { self.new ≡ unlinked_key self.old serial }
+    {
+        lists::remove_key(&mut self.entries, &mut self.rings, serial);
     }
 
     /// Takes out all links, and gives their memory back: keyctl(2), KEYCTL_CLEAR.

@@ -1,6 +1,6 @@
 //! The two lists that a `Links` keeps, and what each change does to both.
 ghost use Rattle.std.specs.Prelude.{◌≡◌, ◌<◌, ◌≤◌, length, take, IfNone, OnOk, OnErr};
-ghost use Rattle.krs_links.specs.Links.{linked_as, linked, unlinked, nested, serials};
+ghost use Rattle.krs_links.specs.Links.{linked_as, linked, unlinked, unlinked_key, nested, serials};
 ghost use Rattle.krs_links.specs.Lists.{place_of, AreLists};
 
 use krs_types::{Kind, Name, Serial};
@@ -127,4 +127,14 @@ pub(crate) fn remove(
 {
     remove_ring(entries, rings, place, name);
     entries.remove(place).1
+}
+
+/// Without the links to a key.
+pub(crate) fn remove_key(entries: &mut Vec<(Name, Serial)>, rings: &mut Vec<Serial>, serial: Serial)
+    requires lists { AreLists entries.old.items rings.old.items }
+    ensures links { entries.new.items ≡ unlinked_key entries.old.items serial }
+    ensures lists { AreLists entries.new.items rings.new.items }
+{
+    entries.retain(|entry| entry.1.number() != serial.number());
+    rings.retain(|ring| ring.number() != serial.number());
 }

@@ -84,7 +84,7 @@ acyclic_adds old new ring key adds opens acyclic = λ a p.
     (reaches_before old new ring key a a adds p)
 
 -- two numbers are one, or not
-is_or_not : (a b : ℕ) → (a ≡ b) ⊎ ((a == b) ≡ false)
+pub is_or_not : (a b : ℕ) → (a ≡ b) ⊎ ((a == b) ≡ false)
 is_or_not a b = elim (a == b) as (λ t. (a == b) ≡ t → (a ≡ b) ⊎ (t ≡ false)) [
   | true ↦ λ t. inl (grind (arith, nat_tests))
   | false ↦ λ t. inr refl
@@ -213,7 +213,7 @@ levels_shift links heads (suc n) k h =
     (in_one k (levels links (flat_map links heads) n) (level links (flat_map links heads) n) h)
 
 -- the heads are the first level
-heads_first : (links : ℕ → List ℕ) (heads : List ℕ) (n : ℕ) → AllIn heads (levels links heads (suc n))
+pub heads_first : (links : ℕ → List ℕ) (heads : List ℕ) (n : ℕ) → AllIn heads (levels links heads (suc n))
 unfolding level levels
 heads_first links heads zero k h = h
 heads_first links heads (suc n) k h =

@@ -1,12 +1,11 @@
 -- A revoked key is not read again, as no key gets its serial.
-use Rattle.std.proofs.Common.{◌≡◌, ℕ, ℤ, ◌≤◌, ◌<◌, Some, Bool, true, false, cond, Result, Ok, Err, refl, ap, ◌∙◌}
+use Rattle.std.proofs.Common.{◌≡◌, ℕ, ℤ, ◌≤◌, ◌<◌, Some, true, false, Result, Ok, Err, refl, ap, ◌∙◌}
 use Rattle.std.proofs.Common.{sym, subst, arith, ⊎_elim}
 use Rattle.std.specs.Option.{option_map}
 use Rattle.std.specs.Result.{IsOk}
 use Rattle.std.proofs.lemmas.Bool.{true≢false, cases_lt}
 use Rattle.std.proofs.lemmas.Option.{none-some}
 use Rattle.krs_types.specs.declared.errno.Errno.{Errno}
-use Rattle.krs_types.specs.declared.errno.Errno.TheVariants.{ENOKEY, EKEYREVOKED, EKEYEXPIRED, EACCES}
 use Rattle.krs_types.specs.declared.context.Context.{Context}
 use Rattle.krs_types.specs.declared.rights.Want.{Want}
 use Rattle.krs_types.specs.declared.rights.Want.TheVariants.{ToRead, Either}
@@ -15,58 +14,21 @@ use Rattle.krs_types.specs.declared.ask.Answer.TheVariants.{Nothing, Bytes}
 use Rattle.krs_types.specs.declared.ask.Op.{Op}
 use Rattle.krs_types.specs.declared.ask.Op.TheVariants.{Revoke, Read}
 use Rattle.krs_types.specs.declared.event.Event.{Event}
-use Rattle.krs_types.specs.Rights.{allows, WRITE, SETATTR}
-use Rattle.krs_types.specs.Refusing.{◌>>=◌, or_refuse}
+use Rattle.krs_types.specs.Rights.{WRITE, SETATTR}
+use Rattle.krs_types.specs.Refusing.{◌>>=◌}
 use Rattle.krs_model.specs.Table.{at, IsBelow}
 use Rattle.krs_model.specs.State.{State, Key, raised}
-use Rattle.krs_model.specs.Access.{is_over, rights_on}
-use Rattle.krs_model.specs.Possession.{possessed}
-use Rattle.krs_model.specs.Lookup.{context_of, serial_of, if_usable, look_up}
-use Rattle.krs_model.specs.Sweep.{IsSweep}
+use Rattle.krs_model.specs.Lookup.{context_of, serial_of, look_up}
 use Rattle.krs_model.specs.Outcome.{Outcome}
-use Rattle.krs_model.specs.Step.{Step, Ends, grows, outcome_of}
+use Rattle.krs_model.specs.Step.{Step, Serves, Ends}
 use Rattle.krs_model.specs.Revocation.{Names, IsOfKey, StaysUnread}
 use Rattle.krs_model.specs.Asks.Changing.{changed, revoke, revoked}
 use Rattle.krs_model.specs.Asks.Reading.{read, readable}
 use Rattle.krs_model.proofs.Tables.{at_alter_same}
 use Rattle.krs_model.proofs.Lookups.{look_up_usable}
-use Rattle.krs_model.proofs.Following.{is_gone, Follows, same_ok, same_state, raised_follows, sweep_follows}
-use Rattle.krs_model.proofs.Following.{legal_follows}
-
-chosen :
-    (a b d : Bool) (x y : ℕ × Key)
-    → cond a (Err EKEYREVOKED) (cond b (Err EKEYEXPIRED) (cond d (Ok x) (Err EACCES))) ≡ Ok y → x ≡ y
-chosen true b d x y h = cc
-chosen false true d x y h = cc
-chosen false false true x y h = cc
-chosen false false false x y h = cc
-
--- what came before an accepted end was accepted
-bind_ok :
-    {A B : Type 0} (r : Result A Errno) (f : A → Result B Errno) (y : B) → (r >>= f) ≡ Ok y
-    → (x : A) × (r ≡ Ok x) × (f x ≡ Ok y)
-bind_ok (Ok x) f y h = (x, refl, h)
-bind_ok (Err e) f y h = cc
-
-usable_serial :
-    (s : State) (c : Context) (want : Want) (serial : ℕ) (key : Key) (found : ℕ × Key)
-    → if_usable s c want serial key ≡ Ok found → (serial, key) ≡ found
-usable_serial s c want serial key found h =
-    let mine = possessed s c serial in
-    let allowed = allows want (rights_on key c.caller mine) mine in
-    chosen key.revoked (is_over s.clock key.expiry) allowed (serial, key) found h
-
--- the serial that a look-up answers is the one that the id names
-found_serial :
-    (s : State) (c : Context) (id : ℤ) (want : Want) (found : ℕ × Key) → look_up s c id want ≡ Ok found
-    → serial_of s c id ≡ Ok found.0
-unfolding look_up
-found_serial s c id want found h =
-    let if_there : ℕ → Result (ℕ × Key) Errno =
-    λ k. or_refuse ENOKEY (at s.keys k) >>= (λ key. if_usable s c want k key) in
-    let named = bind_ok (serial_of s c id) if_there found h in
-    let there = bind_ok (or_refuse ENOKEY (at s.keys named.0)) (if_usable s c want named.0) found named.2 in
-    named.1 ∙ ap (λ (x : ℕ × Key). Ok x.0) (usable_serial s c want named.0 there.0 found there.2)
+use Rattle.krs_model.proofs.Naming.{found_serial}
+use Rattle.krs_model.proofs.Coming.{is_gone, Follows, same_ok, same_state, bind_ok}
+use Rattle.krs_model.proofs.Following.{raised_follows, swept_follows, legal_follows}
 
 -- what an accepted ask has found that begins with a look-up: a key that was not revoked, at the serial that the id
 -- names
@@ -171,18 +133,15 @@ read_is_not_spent s new client context id answer serial names h spent =
     true≢false (sym gone.gone ∙ (ap is_gone found.there ∙ found.live))
 
 accepted_end :
-    (old new : State) (growing : Bool) (reply : Result Answer Errno) (meant : Outcome)
-    → Ends old growing reply new meant → IsOk reply
-    → (mid : State) × (answer : Answer) × (meant ≡ Ok (mid, answer)) × IsSweep mid new
-accepted_end old new growing (Ok answer) meant ends h = (ends.0, answer, ends.1, ends.2)
-accepted_end old new growing (Err e) meant ends h = absurd (true≢false (sym h))
+    (s new : State) (client context : ℕ) (op : Op) (reply : Result Answer Errno) → Ends s client context op reply new
+    → IsOk reply → (answer : Answer) × Serves s client context op answer new
+accepted_end s new client context op (Ok answer) ends h = (answer, ends)
+accepted_end s new client context op (Err e) ends h = absurd (true≢false (sym h))
 
--- what an accepted ask came to, before the sweep
+-- what an accepted ask came to
 pub record Came (s new : State) (event : Event) (op : Op) : Type 0 where
-  pub mid : State
   pub answer : Answer
-  pub is : outcome_of s event.lane event.ask.context op ≡ Ok (mid, answer)
-  pub sweep : IsSweep mid new
+  pub serves : Serves s event.lane event.ask.context op answer new
 
 accepted_came :
     (old new : State) (event : Event) (op : Op) → Step old event new → event.ask.op ≡ op → IsOk event.reply
@@ -190,9 +149,11 @@ accepted_came :
 unfolding Step
 accepted_came old new event op step asked accepted =
     let up = raised old event.moment in
-    let meant : Op → Outcome = outcome_of up event.lane event.ask.context in
-    let end = accepted_end up new (grows event.ask.op) event.reply (meant event.ask.op) step accepted in
-    record { mid = end.0; answer = end.1; is = ap meant (sym asked) ∙ end.2; sweep = end.3 }
+    let end = accepted_end up new event.lane event.ask.context event.ask.op event.reply step accepted in
+    record {
+      answer = end.0;
+      serves = subst (λ (o : Op). Serves up event.lane event.ask.context o end.0 new) asked end.1;
+    }
 
 -- a revoked key stays unread, where the serials not given yet are in no use
 pub revoked_unread : (start : State) → IsBelow start.keys start.next_serial → StaysUnread start
@@ -200,21 +161,21 @@ revoked_unread start below before old legal revoking mid k step revokes later la
     let unused = (legal_follows start before old legal).unused below in
     let up = raised old revoking.moment in
     let came = accepted_came old mid revoking (Revoke revokes.id) step revokes.asked revokes.accepted in
-    let spends = revoke_spends up came.mid revoking.lane revoking.ask.context revokes.id came.answer k in
-    let spent = spends unused revokes.names came.is in
-    let swept = spent_follows came.mid mid k (sweep_follows came.mid mid came.sweep) spent in
+    let spends = revoke_spends up came.serves.mid revoking.lane revoking.ask.context revokes.id came.answer k in
+    let spent = spends unused revokes.names came.serves.meant in
+    let swept = spent_follows came.serves.mid mid k (swept_follows came.serves) spent in
     let top = raised late reading.moment in
     let spent_late = spent_follows mid late k (legal_follows mid later late legal_later) swept in
     let spent_top = spent_follows late top k (raised_follows late reading.moment) spent_late in
     let got = accepted_came late end reading (Read reads.id) last reads.asked reads.accepted in
-    read_is_not_spent top got.mid reading.lane reading.ask.context reads.id got.answer k reads.names got.is spent_top
+    read_is_not_spent top got.serves.mid reading.lane reading.ask.context reads.id got.answer k reads.names got.serves.meant spent_top
 
 -- each accepted REVOKE is of a key
 pub revoke_of_key : IsOfKey Revoke
 revoke_of_key old new event id step asked accepted =
     let came = accepted_came old new event (Revoke id) step asked accepted in
     let up = raised old event.moment in
-    let found = revoke_finds up came.mid event.lane event.ask.context id came.answer came.is in
+    let found = revoke_finds up came.serves.mid event.lane event.ask.context id came.answer came.serves.meant in
     (found.serial, record { id = id; asked = asked; accepted = accepted; names = found.names })
 
 -- each accepted READ is of a key
@@ -222,5 +183,5 @@ pub read_of_key : IsOfKey Read
 read_of_key old new event id step asked accepted =
     let came = accepted_came old new event (Read id) step asked accepted in
     let up = raised old event.moment in
-    let found = read_finds up came.mid event.lane event.ask.context id came.answer came.is in
+    let found = read_finds up came.serves.mid event.lane event.ask.context id came.answer came.serves.meant in
     (found.serial, record { id = id; asked = asked; accepted = accepted; names = found.names })

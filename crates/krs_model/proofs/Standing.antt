@@ -6,27 +6,28 @@ use Rattle.std.specs.List.{count_by}
 use Rattle.std.proofs.lemmas.Bool.{true≢false}
 use Rattle.std.proofs.lemmas.Option.{none-some}
 use Rattle.krs_types.specs.declared.name.Name.{Name}
-use Rattle.krs_model.specs.Table.{Table, at, put, alter, IsBelow}
+use Rattle.krs_model.specs.Table.{Table, at, put, alter, map_values, IsBelow}
 use Rattle.krs_model.specs.State.{State, Key, Content, Payload, Links}
 use Rattle.krs_model.specs.Possession.{links_of}
 use Rattle.krs_model.specs.Levels.{is_in}
 use Rattle.krs_model.specs.Linking.{is_named, linked_content}
 use Rattle.krs_model.specs.Reach.{Reaches, Directly, Further, IsAcyclic, links_in}
 use Rattle.krs_model.specs.Sweep.{IsSweep, PicksHeld, IsHeld, Attached, Linked, linked_by, live_watches, roots}
-use Rattle.krs_model.specs.Sound.{AllLinked, AllAttached, HasOneOfEach}
+use Rattle.krs_model.specs.Sound.{AllLinked, AllAttached, AllPlaced, HasOneOfEach}
+use Rattle.krs_model.specs.Making.{with_new}
 use Rattle.krs_model.specs.Asks.Changing.{changed}
 use Rattle.krs_model.proofs.Tables.{at_put_same, at_put_other, at_or_apart, at_alter_same, at_alter_other}
-use Rattle.krs_model.proofs.Tables.{at_alter_none}
+use Rattle.krs_model.proofs.Tables.{at_alter_none, at_map}
 use Rattle.krs_model.proofs.Tables.{at_kept, below_put, below_filter}
 use Rattle.krs_model.proofs.Reaching.{AddsAtMost, From, acyclic_fewer, acyclic_adds}
 use Rattle.krs_model.proofs.Counts.{IsPart, part_in, none_part, count_on, in_with_link, one_linked}
-use Rattle.krs_model.proofs.Following.{with_key}
 
 -- sound but for the sweep
 pub record Stands (s : State) : Type 0 where
   pub acyclic : IsAcyclic (links_in s.keys)
   pub linked : AllLinked s.keys
   pub attached : AllAttached s
+  pub placed : AllPlaced s
   pub once : HasOneOfEach s.keys
   pub unused : IsBelow s.keys s.next_serial
 
@@ -40,14 +41,15 @@ HasOne p o = count_by p (linked_by o) ≤ 1
 abbrev HasPart : List ℕ → Option Key → Type 0
 HasPart links o = IsPart (linked_by o) links
 
--- the same keys, with attachments of keys that are there
+-- the same keys, with attachments of keys that are there, and contexts of processes that are there
 pub same_stands :
-    (old new : State) → new.keys ≡ old.keys → new.next_serial ≡ old.next_serial → AllAttached new → Stands old
-    → Stands new
-same_stands old new keys next attached stands = record {
+    (old new : State) → new.keys ≡ old.keys → new.next_serial ≡ old.next_serial → AllAttached new → AllPlaced new
+    → Stands old → Stands new
+same_stands old new keys next attached placed stands = record {
   acyclic = subst (λ (ks : Table Key). IsAcyclic (links_in ks)) (sym keys) stands.acyclic;
   linked = subst AllLinked (sym keys) stands.linked;
   attached = attached;
+  placed = placed;
   once = subst HasOneOfEach (sym keys) stands.once;
   unused = rw (keys, next) stands.unused;
 }
@@ -71,22 +73,27 @@ less_once old new less once = λ ring name.
     omega arith
 
 -- at the number of a change, where its value is changed
-abbrev IsChanged : Table Key → ℕ → (Key → Key) → ℕ → Type 0
+abbrev IsChanged : {X : Type 0} → Table X → ℕ → (X → X) → ℕ → Type 0
 IsChanged es n f k = (k ≡ n) × (at (alter es n f) k ≡ option_map f (at es k))
 
 -- what is at a number after a change at one
 at_alter :
-    (es : Table Key) (n k : ℕ) (f : Key → Key) → (IsChanged es n f k) ⊎ (at (alter es n f) k ≡ at es k)
+    {X : Type 0} (es : Table X) (n k : ℕ) (f : X → X) → (IsChanged es n f k) ⊎ (at (alter es n f) k ≡ at es k)
 at_alter es n k f =
     let there : at (alter es n f) n ≡ option_map f (at es n) = at_alter_same es n f in
     ⊎_elim (λ (e : k ≡ n). inl (e, subst (λ (z : ℕ). at (alter es n f) z ≡ option_map f (at es z)) (sym e) there))
     (λ apart. inr (at_alter_other es n k f apart)) (at_or_apart k n)
 
-mapped_there : (f : Key → Key) (o : Option Key) → IsSome o → IsSome (option_map f o)
+mapped_there : {X : Type 0} (f : X → X) (o : Option X) → IsSome o → IsSome (option_map f o)
 mapped_there f None h = h
 mapped_there f (Some v) h = refl
 
-there_alter : (es : Table Key) (n : ℕ) (f : Key → Key) (k : ℕ) → IsSome (at es k) → IsSome (at (alter es n f) k)
+some_mapped : {X Y : Type 0} (f : X → Y) (o : Option X) → IsSome o → IsSome (option_map f o)
+some_mapped f None h = absurd (true≢false (sym h))
+some_mapped f (Some v) h = refl
+
+pub there_alter :
+    {X : Type 0} (es : Table X) (n : ℕ) (f : X → X) (k : ℕ) → IsSome (at es k) → IsSome (at (alter es n f) k)
 there_alter es n f k h =
     ⊎_elim (λ (r : IsChanged es n f k). subst IsSome (sym r.1) (mapped_there f (at es k) h))
     (λ same. subst IsSome (sym same) h) (at_alter es n k f)
@@ -133,8 +140,33 @@ changed_stands s serial f lessens stands =
       linked = λ j k i. there_alter s.keys serial f k
           (stands.linked j k (part_in _ (links_in s.keys j) k (less.links j) i));
       attached = λ k i. there_alter s.keys serial f k (stands.attached k i);
+      placed = stands.placed;
       once = less_once s.keys (alter s.keys serial f) less stands.once;
       unused = λ q le. at_alter_none s.keys serial q f (stands.unused q le);
+    }
+
+less_map : (es : Table Key) (f : Key → Key) → Lessens f → IsLess es (map_values f es)
+less_map es f lessens = record {
+  links = λ j. subst (HasPart (links_in es j)) (sym (at_map f es j)) (mapped_part f (at es j) lessens);
+  names = λ name k h. sym (named_mapped f (at es k) name lessens.named) ∙ (ap (is_named name) (sym (at_map f es k)) ∙ h);
+}
+
+pub there_map : {X Y : Type 0} (f : X → Y) (es : Table X) (k : ℕ) → IsSome (at es k) → IsSome (at (map_values f es) k)
+there_map f es k h = subst IsSome (sym (at_map f es k)) (some_mapped f (at es k) h)
+
+-- a change of all keys that leaves none a further link
+pub mapped_stands :
+    (s : State) (f : Key → Key) → Lessens f → Stands s → Stands (record s { keys = map_values f s.keys })
+mapped_stands s f lessens stands =
+    let less = less_map s.keys f lessens in
+    record {
+      acyclic = less_acyclic s.keys (map_values f s.keys) less stands.acyclic;
+      linked = λ j k i. there_map f s.keys k
+          (stands.linked j k (part_in _ (links_in s.keys j) k (less.links j) i));
+      attached = λ k i. there_map f s.keys k (stands.attached k i);
+      placed = stands.placed;
+      once = less_once s.keys (map_values f s.keys) less stands.once;
+      unused = λ q le. at_map f s.keys q ∙ ap (option_map f) (stands.unused q le);
     }
 
 kept_part : (b : Bool) (o : Option Key) → IsPart (linked_by (cond b o None)) (linked_by o)
@@ -151,7 +183,7 @@ less_kept es kept = record {
   names = λ name k h. kept_named (kept k) (at es k) name (ap (is_named name) (sym (at_kept kept es k)) ∙ h);
 }
 
-kept_some : (b : Bool) (o : Option Key) → b ≡ true → IsSome o → IsSome (cond b o None)
+pub kept_some : {X : Type 0} (b : Bool) (o : Option X) → b ≡ true → IsSome o → IsSome (cond b o None)
 kept_some true o e h = h
 kept_some false o e h = absurd (true≢false (sym e))
 
@@ -181,6 +213,7 @@ kept_stands s kept watches picks stands =
           let held = picks.only j (linker_there k (at s.keys j) was) still in
           stays k (Linked j k held was) (stands.linked j k was);
       attached = λ k i. stays k (Attached k i) (stands.attached k i);
+      placed = stands.placed;
       once = less_once s.keys keys less stands.once;
       unused = below_filter (λ e. kept e.0) s.keys keys s.next_serial refl stands.unused;
     }
@@ -215,14 +248,20 @@ acyclic_within old new P to from acyclic = λ a p.
     acyclic a (reaches_within old new P a a to from (reached_is new P a a to p) p)
 
 -- at the number of a further key, where it is
-abbrev pub IsPut : Table Key → ℕ → Key → ℕ → Type 0
+abbrev pub IsPut : {X : Type 0} → Table X → ℕ → X → ℕ → Type 0
 IsPut es n v k = (k ≡ n) × (at (put es n v) k ≡ Some v)
 
 -- what is at a number after one was put
-pub at_put : (es : Table Key) (n k : ℕ) (v : Key) → (IsPut es n v k) ⊎ (at (put es n v) k ≡ at es k)
+pub at_put : {X : Type 0} (es : Table X) (n k : ℕ) (v : X) → (IsPut es n v k) ⊎ (at (put es n v) k ≡ at es k)
 at_put es n k v =
     ⊎_elim (λ (e : k ≡ n). inl (e, ap (λ (z : ℕ). at (put es n v) z) e ∙ at_put_same es n v))
     (λ apart. inr (at_put_other es n k v apart)) (at_or_apart k n)
+
+-- a number where something is has it still, when something is put
+pub there_put :
+    {X : Type 0} (es : Table X) (n k : ℕ) (v : X) → IsSome (at es k) → IsSome (at (put es n v) k)
+there_put es n k v h =
+    ⊎_elim (λ (r : IsPut es n v k). rw r.1 refl) (λ same. subst IsSome (sym same) h) (at_put es n k v)
 
 pub not_there : (o : Option Key) → IsSome o → o ≡ None → ⊥
 not_there None h e = true≢false (sym h)
@@ -239,7 +278,7 @@ at_further es n k v none there =
 pub key_stands :
     (s : State) (key : Key) → ((k : ℕ) → is_in k (links_of key.content) ≡ true → IsSome (at s.keys k))
     → ((name : Name) → count_by (λ k. is_named name (at s.keys k)) (links_of key.content) ≤ 1) → Stands s
-    → Stands (with_key s key)
+    → Stands (with_new s key)
 key_stands s key linked few stands =
     let n = s.next_serial in
     let keys = put s.keys n key in
@@ -256,6 +295,7 @@ key_stands s key linked few stands =
           (λ j k there i. subst (LinksTo k) (same j there) i) stands.acyclic;
       linked = λ j k i. stays k (target j k i);
       attached = λ k i. stays k (stands.attached k i);
+      placed = stands.placed;
       once = λ ring name.
           let p : ℕ → Bool = λ k. is_named name (at s.keys k) in
           let fewer = count_on (λ k. is_named name (at keys k)) p (links_in keys ring)
@@ -320,6 +360,7 @@ linked_stands s ring serial displaced there opens alike stands =
           (⊎_elim (λ (was : is_in k (links_in s.keys j) ≡ true). stands.linked j k was)
           (λ (r : (j ≡ ring) × (k ≡ serial)). subst (λ (z : ℕ). IsSome (at s.keys z)) (sym r.1) there) (adds j k i));
       attached = λ k i. there_alter s.keys ring f k (stands.attached k i);
+      placed = stands.placed;
       once = λ q name.
           let p : ℕ → Bool = λ k. is_named name (at s.keys k) in
           let fewer = count_on (λ k. is_named name (at keys k)) p (links_in keys q)

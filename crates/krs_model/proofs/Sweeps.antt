@@ -1,6 +1,7 @@
 -- Laws of sweeps.
 use Rattle.std.proofs.Common.{◌≡◌, ℕ, List, [], ◌∷◌, ◌++◌, Option, Some, None, Bool, true, false, cond, filter, flat_map, refl, ap, ◌∙◌, sym, subst, ⊎_elim}
-use Rattle.std.proofs.lemmas.Option.{none-some}
+use Rattle.std.specs.List.{find}
+use Rattle.std.proofs.lemmas.Option.{none-some, same_Some}
 use Rattle.std.specs.Ordering.{nat_cmp, match_ordering, is_eq}
 use Rattle.std.specs.declared.cmp.Ordering.TheVariants.{Less, Equal, Greater}
 use Rattle.std.specs.Option.{IsSome, is_some}
@@ -106,9 +107,18 @@ there_cons : (d : ℕ × Key) (all es : Table Key) → AreThere all es → AreTh
 there_cons d all [] h = tt
 there_cons d all (e ∷ es) h = (some_either (is_at (nat_cmp e.0) d.0) d.1 (at all e.0) h.0, there_cons d all es h.1)
 
-there_self : (es : Table Key) → AreThere es es
+pub there_self : (es : Table Key) → AreThere es es
 there_self [] = tt
 there_self (e ∷ es) = (rw (is_at_same e.0) refl, there_cons e es es (there_self es))
+
+-- and so is one that is found
+pub found_there : (p : ℕ × Key → Bool) (all es : Table Key) (e : ℕ × Key) → AreThere all es → find p es ≡ Some e → IsSome (at all e.0)
+found_there p all [] e there h = absurd (none-some e h)
+found_there p all (d ∷ es) e there h =
+    elim (p d) as (λ b. cond b (Some d) (find p es) ≡ Some e → IsSome (at all e.0)) [
+      | true ↦ λ is. subst (λ (x : ℕ × Key). IsSome (at all x.0)) (same_Some d e is) there.0
+      | false ↦ λ later. found_there p all es e there.1 later
+    ] h
 
 same_filter : (p q : ℕ → Bool) (all es : Table Key) → ((k : ℕ) → IsSome (at all k) → p k ≡ q k) → AreThere all es → filter (λ e. p e.0) es ≡ filter (λ e. q e.0) es
 same_filter p q all [] same there = refl

@@ -184,3 +184,15 @@ at_without_none (e ∷ es) k q h =
         | false ↦ rw t (at_without_none es k q n)
       ]
     ] refl h
+
+-- what is at another number than that which is taken out
+pub at_without_other : {X : Type 0} (es : Table X) (k q : ℕ) → is_at (nat_cmp q) k ≡ false → at (without es k) q ≡ at es q
+at_without_other [] k q apart = refl
+at_without_other (e ∷ es) k q apart =
+    elim (is_at (nat_cmp k) e.0) as (λ b. is_at (nat_cmp k) e.0 ≡ b → at (cond b es (e ∷ without es k)) q ≡ at (e ∷ es) q) [
+      | true ↦ λ here. let away = subst (λ (j : ℕ). is_at (nat_cmp q) j ≡ false) (same_at k e.0 here) apart in rw away refl
+      | false ↦ λ there. elim (is_at (nat_cmp q) e.0) as (λ b. cond b (Some e.1) (at (without es k) q) ≡ cond b (Some e.1) (at es q)) [
+        | true ↦ refl
+        | false ↦ at_without_other es k q apart
+      ]
+    ] refl

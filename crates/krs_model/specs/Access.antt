@@ -4,7 +4,7 @@ use Rattle.krs_types.specs.declared.caller.Caller.{Caller}
 use Rattle.krs_types.specs.Perm.{granted}
 use Rattle.krs_model.specs.State.{Key}
 
--- the time is over: from its second on
+-- the time is over: from its second on. Profile, at the moment itself
 abbrev pub is_over : ℕ → Option ℕ → Bool
 is_over clock None = false
 is_over clock (Some end) = nat_le end clock

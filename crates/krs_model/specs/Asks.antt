@@ -1,6 +1,11 @@
 pub mod Hello
+pub mod Entering
+pub mod Joining
 pub mod Adding
 pub mod Changing
 pub mod Reading
+pub mod Invalidating
 pub mod Linked
+pub mod Finding
 pub mod Leaving
+pub mod Watching

@@ -1,4 +1,5 @@
 -- What a store may have gone through: lists of events, each a step from the state that the one before it left.
+-- The form is this project's own.
 use Rattle.std.specs.Prelude.{◌≡◌, List, [], ◌∷◌}
 use Rattle.krs_types.specs.declared.event.Event.{Event}
 use Rattle.krs_model.specs.State.{State}

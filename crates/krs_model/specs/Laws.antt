@@ -1,13 +1,25 @@
--- What the laws say of the definitions.
-use Rattle.std.specs.Prelude.{◌≡◌, ◌≢◌, ℕ, List, true, false, ◌⊎◌}
+-- What the laws say of the definitions, in a form of this project's own: keyrings(7), "Possession", "Access rights" and
+-- "Searching for keys"; request_key(2); keyctl(2), KEYCTL_LINK, "EDEADLK"; profile, whole records.
+use Rattle.std.specs.Prelude.{◌≡◌, ◌≢◌, ◌<◌, ◌≤◌, ℕ, List, [], ◌∷◌, true, false, ◌⊎◌, Some, Result, Ok, Err, slice_get}
 use Rattle.krs_types.specs.declared.caller.Caller.{Caller}
 use Rattle.krs_types.specs.declared.context.Context.{Context}
+use Rattle.krs_types.specs.declared.errno.Errno.{Errno}
+use Rattle.krs_types.specs.declared.errno.Errno.TheVariants.{ENOKEY}
+use Rattle.krs_types.specs.declared.name.Name.{Name}
+use Rattle.krs_types.specs.declared.note.Record.{Record}
+use Rattle.krs_types.specs.declared.ask.Answer.{Answer}
+use Rattle.krs_types.specs.declared.ask.Answer.TheVariants.{Bytes}
 use Rattle.krs_types.specs.Caller.{is_of_group}
 use Rattle.krs_types.specs.Perm.{user_byte, group_byte, other_byte}
-use Rattle.krs_model.specs.State.{State}
-use Rattle.krs_model.specs.Levels.{is_in}
+use Rattle.krs_model.specs.Table.{at}
+use Rattle.krs_model.specs.State.{State, Queue}
+use Rattle.krs_model.specs.Queues.{queue_of}
+use Rattle.krs_model.specs.Notes.Bytes.{bytes_of_all}
+use Rattle.krs_model.specs.Notes.Front.{IsLongestFront}
+use Rattle.krs_model.specs.Levels.{level, is_in}
 use Rattle.krs_model.specs.Possession.{attached, followed_in, possessed}
 use Rattle.krs_model.specs.Reach.{Reaches}
+use Rattle.krs_model.specs.Search.{Searcher, entered, is_answer, or_next}
 
 -- it is attached, or linked by a possessed keyring that is alive and may be searched
 abbrev pub ComesByLinks : State → Context → ℕ → Type 0
@@ -22,3 +34,43 @@ pub record IsOneByte (mask uid gid : ℕ) (caller : Caller) (rights : ℕ) : Typ
 -- a link from the keyring to the key would close a cycle: they are one, or the keyring is reached from the key
 abbrev pub ClosesCycle : (ℕ → List ℕ) → ℕ → ℕ → Type 0
 ClosesCycle links key ring = (key ≡ ring) ⊎ Reaches links key ring
+
+-- at this place of this level of a search stands the key
+abbrev pub StandsAt : Searcher → ℕ → ℕ → ℕ → ℕ → Type 0
+StandsAt by head depth place serial = slice_get (level (entered by) (head ∷ []) depth) place ≡ Some serial
+
+-- of a lesser level, or earlier in the same
+abbrev pub IsBefore : ℕ → ℕ → ℕ → ℕ → Type 0
+IsBefore n i depth place = (n < depth) ⊎ ((n ≡ depth) × (i < place))
+
+-- an answer of the levels 0 to 7, and what stands before it is none
+pub record IsFirstAnswer (by : Searcher) (head : ℕ) (name : Name) (serial : ℕ) : Type 0 where
+  pub answer : is_answer by name serial ≡ true
+  pub depth : ℕ
+  pub place : ℕ
+  pub bound : depth ≤ 7
+  pub stands : StandsAt by head depth place serial
+  pub first : (n i other : ℕ) → IsBefore n i depth place → StandsAt by head n i other → is_answer by name other ≡ false
+
+-- nothing in the levels 0 to 7 is an answer
+abbrev pub HasNoAnswer : Searcher → ℕ → Name → Type 0
+HasNoAnswer by head name = (n i other : ℕ) → n ≤ 7 → StandsAt by head n i other → is_answer by name other ≡ false
+
+-- the searches from these heads, one after the other
+abbrev pub in_turn : (ℕ → Result ℕ Errno) → List ℕ → Result ℕ Errno
+in_turn search [] = Err ENOKEY
+in_turn search (head ∷ heads) = or_next (search head) (in_turn search heads)
+
+-- an accepted READ_QUEUE of the client's queue gives the longest front of what waits that fits the room, which has some
+-- record; that front is taken out, and nothing else changes
+pub record ReadsFront (s : State) (client number room : ℕ) (new : State) (answer : Answer) : Type 0 where
+  pub queue : Queue
+  pub own : queue_of s.queues client number ≡ Ok queue
+  pub taken : List Record
+  pub left : List Record
+  pub longest : IsLongestFront room queue.waiting taken left
+  pub some : taken ≢ []
+  pub gave : answer ≡ Bytes (bytes_of_all taken)
+  pub leaves : at new.queues number ≡ Some (record queue { waiting = left })
+  pub others : (n : ℕ) → n ≢ number → at new.queues n ≡ at s.queues n
+  pub rest : new ≡ record s { queues = new.queues }

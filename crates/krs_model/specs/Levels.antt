@@ -1,4 +1,5 @@
--- The levels of a walk along links: whole lists, which may repeat a key.
+-- The levels of a walk along links: whole lists, which may repeat a key. keyrings(7), "Possession" and
+-- "Searching for keys".
 use Rattle.std.specs.Prelude.{ℕ, zero, suc, ◌==◌, List, [], ◌++◌, Bool, flat_map}
 use Rattle.std.specs.List.{list_any}
 
@@ -12,5 +13,6 @@ unfoldable pub levels : (ℕ → List ℕ) → List ℕ → ℕ → List ℕ
 levels links heads zero = []
 levels links heads (suc n) = levels links heads n ++ level links heads n
 
+-- the serial is one of these
 abbrev pub is_in : ℕ → List ℕ → Bool
 is_in serial serials = list_any (λ k. k == serial) serials

@@ -21,11 +21,12 @@ ring_links (Links serials) = Ok serials
 abbrev pub link_named : Table Key → Name → List ℕ → Option ℕ
 link_named keys name links = find (λ k. is_named name (at keys k)) links
 
--- in the place of the link that it displaces, else last
+-- in the place of the link that it displaces, else last: profile, place of a link
 abbrev pub with_link : (ℕ → Bool) → List ℕ → ℕ → List ℕ
 with_link displaced [] serial = serial ∷ []
 with_link displaced (k ∷ links) serial = if displaced k then serial ∷ links else k ∷ with_link displaced links serial
 
+-- what a keyring holds with one more link; a payload stays as it is
 abbrev pub linked_content : (ℕ → Bool) → ℕ → Content → Content
 linked_content displaced serial (Payload bytes) = Payload bytes
 linked_content displaced serial (Links links) = Links (with_link displaced links serial)

@@ -26,15 +26,18 @@ context_of s client number = do
   c ← or_refuse ESRCH (at s.contexts number)
   if_own client c
 
+-- the user keyring that a uid attaches: user-keyring(7)
 abbrev pub user_ring : Option UidRings → Option ℕ
 user_ring None = None
 user_ring (Some rings) = rings.user
 
+-- the user-session keyring that a uid attaches: user-session-keyring(7)
 abbrev pub user_session_ring : Option UidRings → Option ℕ
 user_session_ring None = None
 user_session_ring (Some rings) = rings.session
 
--- the serial that a key id stands for
+-- the serial that a key id stands for: keyctl(2), KEYCTL_GET_KEYRING_ID. The process keyring is that of all contexts of
+-- the process, whenever it was made: profile, late process keyring
 abbrev pub attachment : State → Context → KeyId → Option ℕ
 attachment s c (Serial n) = Some n
 attachment s c Thread = c.thread

@@ -3,3 +3,6 @@ pub mod Bytes
 pub mod Filter
 pub mod Stream
 pub mod Waiting
+pub mod Posting
+pub mod Front
+pub mod Telling

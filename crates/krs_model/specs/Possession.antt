@@ -22,15 +22,18 @@ abbrev pub links_of : Content → List ℕ
 links_of (Payload bytes) = []
 links_of (Links serials) = serials
 
--- the links that the possessor of a keyring follows: it is alive, and grants SEARCH with the possessor's byte counted
+-- the links that the possessor of a keyring follows: it is alive, and grants SEARCH with the possessor's byte counted.
+-- Profile, possessor byte; profile, expired keyrings are not followed
 abbrev pub followed : ℕ → Caller → Option Key → List ℕ
 followed clock caller None = []
 followed clock caller (Some key) =
     if is_alive clock key && has_all (rights_on key caller true) SEARCH then links_of key.content else []
 
+-- the links that a context follows from the key at a serial
 abbrev pub followed_in : State → Context → ℕ → List ℕ
 followed_in s c serial = followed s.clock c.caller (at s.keys serial)
 
--- attached, or linked along at most seven followed keyrings: profile, search depth
+-- attached, or linked along at most seven followed keyrings, whatever rights the key itself grants:
+-- profile, search depth; profile, possession without rights
 unfoldable pub possessed : State → Context → ℕ → Bool
 possessed s c serial = is_in serial (levels (followed_in s c) (attached s c) 8)

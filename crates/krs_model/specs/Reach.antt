@@ -21,10 +21,11 @@ abbrev pub links_in : Table Key → ℕ → List ℕ
 links_in keys serial = linked_by (at keys serial)
 
 -- a link from the keyring to the key would close a cycle: they are one, or the keyring is reached from the key, along
--- no more links than there are keys
+-- fewer links than there are keys
 unfoldable pub closes : Table Key → ℕ → ℕ → Bool
 closes keys key ring = is_in ring (levels (links_in keys) (key ∷ []) (length keys))
 
+-- a key is there, and it is a keyring
 abbrev pub is_ring : Option Key → Bool
 is_ring None = false
 is_ring (Some key) = same_kind key.kind Keyring
@@ -33,6 +34,7 @@ is_ring (Some key) = same_kind key.kind Keyring
 abbrev pub nested_in : Table Key → ℕ → List ℕ
 nested_in keys serial = filter (λ k. is_ring (at keys k)) (links_in keys serial)
 
+-- there is a serial among these
 abbrev pub is_some_in : List ℕ → Bool
 is_some_in [] = false
 is_some_in (k ∷ serials) = true

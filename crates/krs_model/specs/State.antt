@@ -62,6 +62,6 @@ starting_at n = record {
   clock = 0;
 }
 
--- the clock is at least at this moment
+-- the clock is at least at this moment: profile, one clock
 abbrev pub raised : State → ℕ → State
 raised s moment = record s { clock = max s.clock moment }

@@ -1,28 +1,47 @@
--- One step of a store: an ask that is served at a moment, and its reply.
-use Rattle.std.specs.Prelude.{◌≡◌, ℕ, Result, Ok, Err, ◌⊎◌, Bool, true, false}
+-- One step of a store: an ask that is served at a moment, and its reply. The form is this project's own; what each
+-- ask means has its source where the ask is defined.
+use Rattle.std.specs.Prelude.{◌≡◌, ℕ, List, [], ◌++◌, Result, Ok, Err, ◌⊎◌, Bool, true, false}
 use Rattle.krs_types.specs.declared.errno.Errno.{Errno}
 use Rattle.krs_types.specs.declared.errno.Errno.TheVariants.{ENOMEM}
 use Rattle.krs_types.specs.declared.ask.Answer.{Answer}
 use Rattle.krs_types.specs.declared.ask.Answer.TheVariants.{Nothing}
 use Rattle.krs_types.specs.declared.ask.Op.{Op}
-use Rattle.krs_types.specs.declared.ask.Op.TheVariants.{Hello, Add, Update, Revoke, Chown, SetPerm, SetTimeout, Link, Unlink, Clear, Read, Describe, Leave}
+use Rattle.krs_types.specs.declared.ask.Op.TheVariants.{Hello, Thread, Fork, Exec, GetId, Join, Search, Request, Add, Update, Revoke, Invalidate, Chown, SetPerm, SetTimeout, Link, Unlink, Clear, Read, Describe, Watch, OpenQueue, SetFilter, ReadQueue, CloseQueue, Exit, Leave}
 use Rattle.krs_types.specs.declared.event.Event.{Event}
-use Rattle.krs_model.specs.State.{State, raised}
+use Rattle.krs_model.specs.Table.{Table}
+use Rattle.krs_model.specs.State.{State, Key, raised}
+use Rattle.krs_model.specs.Queues as queues
+use Rattle.krs_model.specs.Queues.{queues_of}
 use Rattle.krs_model.specs.Sweep.{IsSweep}
 use Rattle.krs_model.specs.Outcome.{Outcome}
 use Rattle.krs_model.specs.Asks.Hello.{hello}
+use Rattle.krs_model.specs.Asks.Entering.{thread, fork, exec}
+use Rattle.krs_model.specs.Asks.Joining.{join}
+use Rattle.krs_model.specs.Asks.Finding.{get_id, search_from, request}
 use Rattle.krs_model.specs.Asks.Adding.{add}
 use Rattle.krs_model.specs.Asks.Changing.{update, revoke, chown, set_perm, set_timeout}
+use Rattle.krs_model.specs.Asks.Invalidating.{invalidate}
 use Rattle.krs_model.specs.Asks.Linked.{link, unlink, clear}
 use Rattle.krs_model.specs.Asks.Reading.{read, describe}
-use Rattle.krs_model.specs.Asks.Leaving.{left}
+use Rattle.krs_model.specs.Asks.Watching.{watch, open_queue, set_filter, read_queue, close_queue}
+use Rattle.krs_model.specs.Asks.Leaving.{left, exit}
+use Rattle.krs_model.specs.Notes.Posting.{Post, posts, dropped_watches, posted_in}
+use Rattle.krs_model.specs.Notes.Telling.{notes_of, ended_by}
 
 -- what a client's ask in a context comes to
 abbrev pub outcome_of : State → ℕ → ℕ → Op → Outcome
 outcome_of s client context (Hello caller) = hello s client caller
+outcome_of s client context Thread = thread s client context
+outcome_of s client context Fork = fork s client context
+outcome_of s client context Exec = exec s client context
+outcome_of s client context (GetId id create) = get_id s client context id create
+outcome_of s client context (Join name) = join s client context name
+outcome_of s client context (Search head type_name desc dest) = search_from s client context head type_name desc dest
+outcome_of s client context (Request type_name desc dest) = request s client context type_name desc dest
 outcome_of s client context (Add type_name desc payload ring) = add s client context type_name desc payload ring
 outcome_of s client context (Update id payload) = update s client context id payload
 outcome_of s client context (Revoke id) = revoke s client context id
+outcome_of s client context (Invalidate id) = invalidate s client context id
 outcome_of s client context (Chown id uid gid) = chown s client context id uid gid
 outcome_of s client context (SetPerm id mask) = set_perm s client context id mask
 outcome_of s client context (SetTimeout id seconds) = set_timeout s client context id seconds
@@ -31,15 +50,29 @@ outcome_of s client context (Unlink key ring) = unlink s client context key ring
 outcome_of s client context (Clear id) = clear s client context id
 outcome_of s client context (Read id) = read s client context id
 outcome_of s client context (Describe id) = describe s client context id
+outcome_of s client context (Watch id queue watch_id) = watch s client context id queue watch_id
+outcome_of s client context (OpenQueue capacity) = open_queue s client capacity
+outcome_of s client context (SetFilter queue entries) = set_filter s client queue entries
+outcome_of s client context (ReadQueue queue room) = read_queue s client queue room
+outcome_of s client context (CloseQueue queue) = close_queue s client queue
+outcome_of s client context Exit = exit s client context
 outcome_of s client context Leave = Ok (left s client, Nothing)
 
--- Asks that may find no memory. So far every ask but LEAVE counts as one: a look-up's walk takes memory, until keys
--- have places and a walk has its room beforehand.
+-- Asks that may find no memory. So far every ask but EXEC, EXIT, LEAVE and CLOSE_QUEUE counts as one: a look-up's walk
+-- takes memory, until keys have places and a walk has its room beforehand.
 abbrev pub grows : Op → Bool
 grows (Hello caller) = true
+grows Thread = true
+grows Fork = true
+grows Exec = false
+grows (GetId id create) = true
+grows (Join name) = true
+grows (Search head type_name desc dest) = true
+grows (Request type_name desc dest) = true
 grows (Add type_name desc payload ring) = true
 grows (Update id payload) = true
 grows (Revoke id) = true
+grows (Invalidate id) = true
 grows (Chown id uid gid) = true
 grows (SetPerm id mask) = true
 grows (SetTimeout id seconds) = true
@@ -48,16 +81,43 @@ grows (Unlink key ring) = true
 grows (Clear id) = true
 grows (Read id) = true
 grows (Describe id) = true
+grows (Watch id queue watch_id) = true
+grows (OpenQueue capacity) = true
+grows (SetFilter queue entries) = true
+grows (ReadQueue queue room) = true
+grows (CloseQueue queue) = false
+grows Exit = false
 grows Leave = false
 
--- An accepted ask has its effect, and then the sweep. A refusal leaves everything as it was. Want of memory is lawful for
--- an ask that may grow; so far also in the place of a refusal, as the walk that finds the refusal may want it.
-abbrev pub Ends : State → Bool → Result Answer Errno → State → Outcome → Type 0
-Ends old growing (Ok answer) new meant = (mid : State) × (meant ≡ Ok (mid, answer)) × IsSweep mid new
-Ends old growing (Err e) new meant = ((meant ≡ Err e) ⊎ ((e ≡ ENOMEM) × (growing ≡ true))) × (new ≡ old)
+-- the watches that an accepted ask leaves, before the sweep
+abbrev pub watches_left : Outcome → List queues.Watch
+watches_left (Err e) = []
+watches_left (Ok done) = done.0.watches
 
--- from old to new by one event: its lane is the client. The clock is raised first, whatever comes of the ask
+-- What an accepted ask posts, where these keys stay: its notes, by the watches and filters of the state before it; then
+-- removal records for the watch that it ended, and for those whose keys are gone: profile, order of notes
+abbrev pub posts_by : State → ℕ → ℕ → Op → Answer → Table Key → List Post
+posts_by s client context op answer keys =
+    posts (queues_of s) (notes_of s client context op answer)
+    (ended_by s client context op ++ dropped_watches keys (watches_left (outcome_of s client context op)))
+
+-- an accepted ask has its effect, and then the sweep; then its records are posted, one after the other
+pub record Serves (s : State) (client context : ℕ) (op : Op) (answer : Answer) (new : State) : Type 0 where
+  pub mid : State
+  pub swept : State
+  pub meant : outcome_of s client context op ≡ Ok (mid, answer)
+  pub sweep : IsSweep mid swept
+  pub posted : new ≡ posted_in (posts_by s client context op answer swept.keys) swept
+
+-- A refusal leaves everything as it was: profile, refusals change nothing. Want of memory is lawful for an ask that may
+-- grow: profile, want of memory; so far also in the place of a refusal, as the walk that finds the refusal may want it.
+abbrev pub Ends : State → ℕ → ℕ → Op → Result Answer Errno → State → Type 0
+Ends s client context op (Ok answer) new = Serves s client context op answer new
+Ends s client context op (Err e) new =
+    ((outcome_of s client context op ≡ Err e) ⊎ ((e ≡ ENOMEM) × (grows op ≡ true))) × (new ≡ s)
+
+-- from old to new by one event: its lane is the client. The clock is raised first, whatever comes of the ask:
+-- profile, one clock
 unfoldable pub Step : State → Event → State → Type 0
 Step old event new =
-    Ends (raised old event.moment) (grows event.ask.op) event.reply new
-    (outcome_of (raised old event.moment) event.lane event.ask.context event.ask.op)
+    Ends (raised old event.moment) event.lane event.ask.context event.ask.op event.reply new

@@ -1,4 +1,5 @@
--- Which keys stay at the end of a command: those that an attachment reaches. keyrings(7), "garbage collection".
+-- Which keys stay at the end of an ask: those that an attachment reaches.
+-- keyrings(7), "Anchoring keys"; profile, dropped at once.
 use Rattle.std.specs.Prelude.{◌≡◌, ℕ, List, [], ◌++◌, Bool, true, Option, None, Some, IsSome, is_some, filter, flat_map}
 use Rattle.std.specs.Option.{option_to_list}
 use Rattle.krs_types.specs.declared.context.Context.{Context}
@@ -8,12 +9,15 @@ use Rattle.krs_model.specs.State.{State, Key}
 use Rattle.krs_model.specs.Possession.{links_of}
 use Rattle.krs_model.specs.Levels.{is_in}
 
+-- the thread and session keyrings of contexts: thread-keyring(7), session-keyring(7)
 abbrev pub context_roots : Table Context → List ℕ
 context_roots es = flat_map (λ e. option_to_list e.1.thread ++ option_to_list e.1.session) es
 
+-- the process keyrings of processes: process-keyring(7)
 abbrev pub process_roots : Table (Option ℕ) → List ℕ
 process_roots es = flat_map (λ e. option_to_list e.1) es
 
+-- the user and user-session keyrings of uids: user-keyring(7), user-session-keyring(7)
 abbrev pub uid_roots : Table UidRings → List ℕ
 uid_roots es = flat_map (λ e. option_to_list e.1.user ++ option_to_list e.1.session) es
 
@@ -44,7 +48,7 @@ AllHeld s = (k : ℕ) → IsSome (at s.keys k) → IsHeld s.keys (roots s) k
 abbrev pub live_watches : Table Key → List ((ℕ × ℕ) × ℕ) → List ((ℕ × ℕ) × ℕ)
 live_watches keys watches = filter (λ w. is_some (at keys w.0.0)) watches
 
--- new is the sweep of old: the held keys stay, and the watches at them
+-- new is the sweep of old: the held keys stay, and the watches at them. Profile, dropped at once
 pub record IsSweep (old new : State) : Type 0 where
   pub kept : ℕ → Bool
   pub picks : PicksHeld old.keys (roots old) kept

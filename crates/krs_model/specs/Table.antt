@@ -33,3 +33,8 @@ map_values f (e ∷ es) = (e.0, f e.1) ∷ map_values f es
 -- nothing is at this number or above it
 abbrev pub IsBelow : {X : Type 0} → Table X → ℕ → Type 0
 IsBelow es n = (k : ℕ) → n ≤ k → at es k ≡ None
+
+-- no number stands twice
+abbrev pub IsDistinct : {X : Type 0} → Table X → Type 0
+IsDistinct [] = Unit {0}
+IsDistinct (e ∷ es) = (at es e.0 ≡ None) × IsDistinct es

@@ -1,4 +1,4 @@
--- What a look-up for a right finds.
+-- What a look-up for a right finds: keyctl(2), "ERRORS"; profile, order of a look-up.
 use Rattle.std.specs.Prelude.{◌≡◌, ℕ, true, false, Some}
 use Rattle.krs_types.specs.declared.context.Context.{Context}
 use Rattle.krs_types.specs.declared.rights.Want.{Want}

@@ -1,22 +1,38 @@
-ghost use Rattle.std.specs.Prelude.{◌≡◌, ◌↔◌, ℕ, ℤ, List, Ok, IsErr, IsSome, true, false};
+ghost use Rattle.std.specs.Prelude.{◌≡◌, ◌↔◌, ◌++◌, ℕ, ℤ, List, [], Bool, Ok, Err, IsErr, IsSome, Some, true, false};
 ghost use Rattle.krs_types.specs.declared.caller.Caller.{Caller};
 ghost use Rattle.krs_types.specs.declared.context.Context.{Context};
+ghost use Rattle.krs_types.specs.declared.ask.Answer.{Answer};
+ghost use Rattle.krs_types.specs.declared.ask.Op.{Op};
 ghost use Rattle.krs_types.specs.declared.ask.Op.TheVariants.{Revoke, Read};
+ghost use Rattle.krs_types.specs.declared.errno.Errno.{Errno};
 ghost use Rattle.krs_types.specs.declared.event.Event.{Event};
+ghost use Rattle.krs_types.specs.declared.name.Name.{Name};
 ghost use Rattle.krs_types.specs.declared.rights.Want.{Want};
 ghost use Rattle.krs_types.specs.Perm.{granted};
 ghost use Rattle.krs_model.specs.Table.{Table, at, IsBelow};
-ghost use Rattle.krs_model.specs.State.{State, Key, raised, starting_at};
-ghost use Rattle.krs_model.specs.Possession.{possessed};
+ghost use Rattle.krs_model.specs.State.{State, Key, Queue, raised, starting_at};
+ghost use Rattle.krs_model.specs.Queues.{Queues, queues_of};
+ghost use Rattle.krs_model.specs.Possession.{attached, possessed};
 ghost use Rattle.krs_model.specs.Lookup.{look_up};
 ghost use Rattle.krs_model.specs.Usable.{IsUsable};
-ghost use Rattle.krs_model.specs.Sweep.{IsSweep, IsSwept};
-ghost use Rattle.krs_model.specs.Reach.{closes, links_in};
+ghost use Rattle.krs_model.specs.Sweep.{IsSweep, IsSwept, PicksHeld};
+ghost use Rattle.krs_model.specs.Reach.{closes, links_in, IsAcyclic};
+ghost use Rattle.krs_model.specs.Search.{searcher_of, found, requested};
+ghost use Rattle.krs_model.specs.Anchored.{IsClosedChoice};
+ghost use Rattle.krs_model.specs.Orderly.{AreOrderly, AreRising};
 ghost use Rattle.krs_model.specs.Sound.{IsSound, AllLinked};
-ghost use Rattle.krs_model.specs.Step.{Step};
+ghost use Rattle.krs_model.specs.Step.{Step, Serves, outcome_of};
+ghost use Rattle.krs_model.specs.Serving.{Tells, SweepsOut};
 ghost use Rattle.krs_model.specs.History.{IsLegal};
 ghost use Rattle.krs_model.specs.Revocation.{IsOfKey, StaysUnread};
+ghost use Rattle.krs_model.specs.Receiving.{HasMoves, IsOpened, IsBeginning};
+ghost use Rattle.krs_model.specs.Ordering.{GoByQueue};
+ghost use Rattle.krs_model.specs.Notes.Stream.{Move, taken, stream};
+ghost use Rattle.krs_model.specs.Notes.Posting.{Note, posts_of, dropped_watches};
+ghost use Rattle.krs_model.specs.Notes.Telling.{ended_by};
+ghost use Rattle.krs_model.specs.Asks.Watching.{read_queue};
 ghost use Rattle.krs_model.specs.Laws.{ComesByLinks, IsOneByte, ClosesCycle};
+ghost use Rattle.krs_model.specs.Laws.{IsFirstAnswer, HasNoAnswer, in_turn, ReadsFront};
 
 /// A possessed key is an attached keyring, or is linked by a possessed keyring that may be searched: keyrings(7),
 /// "Possession".
@@ -55,6 +71,13 @@ pub fn a_sweep_sweeps()
     ensures { (old new : State) → IsSweep old new → IsSwept new }
 {}
 
+/// Where no keyring reaches itself, the closed choice is that of the held keys: what is left by counts of holders is what
+/// attachments reach. keyrings(7), "Anchoring keys".
+pub fn a_closed_choice_is_the_held_keys()
+    ensures { (keys : Table Key) (attached : List ℕ) (kept : ℕ → Bool) → IsAcyclic (links_in keys)
+        → (IsClosedChoice keys attached kept) ↔ (PicksHeld keys attached kept) }
+{}
+
 /// Each accepted REVOKE and each accepted READ names a key: keyctl(2).
 pub fn revokes_and_reads_name_a_key()
     ensures revokes { IsOfKey Revoke }
@@ -73,6 +96,22 @@ pub fn cycles_are_reach()
         → (closes keys key ring ≡ true) ↔ (ClosesCycle (links_in keys) key ring) }
 {}
 
+/// A search finds the match that is alive and grants SEARCH at the least level, and in that level at the first place;
+/// it refuses where there is none. keyrings(7), "Searching for keys"; profile, order of a search.
+pub fn searches_go_by_levels()
+    ensures found { (s : State) (c : Context) (head : ℕ) (name : Name) (serial : ℕ)
+        → found s c head name ≡ Ok serial → IsFirstAnswer (searcher_of s c) head name serial }
+    ensures refused { (s : State) (c : Context) (head : ℕ) (name : Name) (error : Errno)
+        → found s c head name ≡ Err error → HasNoAnswer (searcher_of s c) head name }
+{}
+
+/// A request is a search from the thread, the process and the session keyring in turn: the first answer, else the
+/// fault that weighs most. request_key(2); profile, three keyrings of a request.
+pub fn requests_search_in_turn()
+    ensures { (s : State) (c : Context) (name : Name)
+        → requested s c name ≡ in_turn (λ head. found s c head name) (attached s c) }
+{}
+
 /// An empty store is sound.
 pub fn an_empty_store_is_sound()
     ensures { (n : ℕ) → IsSound (starting_at n) }
@@ -86,4 +125,64 @@ pub fn each_step_keeps_a_store_sound()
 /// Every history of a store that began empty ends in a sound store.
 pub fn histories_end_sound()
     ensures { (n : ℕ) (events : List Event) (end : State) → IsLegal (starting_at n) events end → IsSound end }
+{}
+
+/// A reply leads to one state: what is asked at a moment and what it is answered with determine all that a store is then.
+pub fn a_reply_leads_to_one_state()
+    ensures step { (old a b : State) (event : Event) → Step old event a → Step old event b → a ≡ b }
+    ensures history { (start a b : State) (events : List Event)
+        → IsLegal start events a → IsLegal start events b → a ≡ b }
+{}
+
+/// A step may be taken in turn: the effect of an ask, its notes, the sweep, the removal records. The notes go out by the
+/// watches and filters of the state before the ask all the same. Profile, order of notes.
+pub fn a_step_may_be_taken_in_turn()
+    ensures { (s told new : State) (client context : ℕ) (op : Op) (answer : Answer)
+        → Tells s client context op answer told → SweepsOut told new → Serves s client context op answer new }
+{}
+
+/// Where nothing is watched nothing is posted: an accepted ask has its effect, and then the sweep.
+pub fn a_store_with_no_watch_posts_nothing()
+    ensures { (s mid new : State) (client context : ℕ) (op : Op) (answer : Answer)
+        → s.watches ≡ [] → mid.watches ≡ [] → outcome_of s client context op ≡ Ok (mid, answer)
+        → IsSweep mid new → Serves s client context op answer new }
+{}
+
+/// One note goes to its queues by rising number, and the removal records of an ask go out by rising key, then queue.
+/// Profile, order of notes.
+pub fn records_go_out_in_order()
+    ensures notes { (q : Queues) (note : Note) → AreOrderly q → GoByQueue (posts_of q note) }
+    ensures removals { (s mid swept : State) (client context : ℕ) (op : Op) (answer : Answer)
+        → IsSound s → outcome_of s client context op ≡ Ok (mid, answer) → IsSweep mid swept
+        → AreRising (ended_by s client context op ++ dropped_watches swept.keys mid.watches) }
+{}
+
+/// An accepted READ_QUEUE gives and takes the longest front of records that fits its room: profile, whole records.
+pub fn a_read_takes_the_longest_front()
+    ensures { (s new : State) (client number room : ℕ) (answer : Answer)
+        → read_queue s client number room ≡ Ok (new, answer) → ReadsFront s client number room new answer }
+{}
+
+/// Every legal history from a sound store has, of each queue, one list of moves: the records that it calls for, and
+/// those that the replies spell.
+pub fn histories_move_queues()
+    ensures some { (q : ℕ) (start : State) (events : List Event) (end : State)
+        → IsSound start → IsLegal start events end → (moves : List Move) × HasMoves q start events moves end }
+    ensures one { (q : ℕ) (start : State) (events : List Event) (a b : List Move) (end other : State)
+        → IsSound start → HasMoves q start events a end → HasMoves q start events b other → a ≡ b }
+    ensures legal { (q : ℕ) (start : State) (events : List Event) (moves : List Move) (end : State)
+        → HasMoves q start events moves end → IsLegal start events end }
+{}
+
+/// Of a queue that was opened in a history and is still open, the records that READ_QUEUE's replies spell, followed by
+/// those that wait, are its stream: the records that its watches and filter call for, with a loss after the last that was
+/// kept wherever some were dropped. Of any queue that was opened, what was read begins that stream.
+/// core-api/watch_queue.rst, "Watch Queue (Notification Output) API".
+pub fn queues_give_their_streams()
+    ensures open { (start end : State) (events : List Event) (moves : List Move) (q capacity : ℕ) (queue : Queue)
+        → IsSound start → HasMoves q start events moves end → IsOpened q capacity events
+        → at end.queues q ≡ Some queue → taken moves ++ queue.waiting ≡ stream capacity moves }
+    ensures begun { (start end : State) (events : List Event) (moves : List Move) (q capacity : ℕ)
+        → IsSound start → HasMoves q start events moves end → IsOpened q capacity events
+        → IsBeginning (taken moves) (stream capacity moves) }
 {}

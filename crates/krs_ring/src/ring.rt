@@ -67,6 +67,7 @@ impl NoteRing {
     /// A number of bytes that all that waits fits in.
     pub fn byte_bound(&self) -> usize
         ensures value { result ≡ 24 * total_room self.now.waiting + 8 }
+        ensures bound { result ≤ 12296 }
         ensures fits { length (bytes_of_all self.now.waiting) ≤ result }
     {
         24 * self.slots.len() + 8

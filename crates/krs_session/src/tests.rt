@@ -50,6 +50,72 @@ const CHANGED: [u8; 58] = [
     4, 0, 0, 0, 0, 0, 0, 0, 4, 0, 0, 0, 0x80, 0, 0, 0,
 ];
 
+// Behind HELLO and ADD: in context 1 SEARCH from -4 for user alpha, without a destination; REQUEST of user alpha, without
+// one; THREAD; FORK; EXEC; EXIT; in context 3 READ of 5; in context 1 READ of 5.
+const CONTEXTS: [u8; 142] = [
+    0x1d, 0, 0, 0, 1, 0, 0x0a, 0, 1, 0, 0, 0, 0xfc, 0xff, 0xff, 0xff, 4, 0, 0x75, 0x73, 0x65, 0x72,
+    5, 0, 0x61, 0x6c, 0x70, 0x68, 0x61, 0, 0, 0, 0, //
+    0x19, 0, 0, 0, 1, 0, 7, 1, 1, 0, 0, 0, 4, 0, 0x75, 0x73, 0x65, 0x72, 5, 0, 0x61, 0x6c, 0x70,
+    0x68, 0x61, 0, 0, 0, 0, //
+    8, 0, 0, 0, 1, 0, 1, 1, 1, 0, 0, 0, //
+    8, 0, 0, 0, 1, 0, 2, 1, 1, 0, 0, 0, //
+    8, 0, 0, 0, 1, 0, 3, 1, 1, 0, 0, 0, //
+    8, 0, 0, 0, 1, 0, 4, 1, 1, 0, 0, 0, //
+    0x0c, 0, 0, 0, 1, 0, 0x0b, 0, 3, 0, 0, 0, 5, 0, 0, 0, //
+    0x0c, 0, 0, 0, 1, 0, 0x0b, 0, 1, 0, 0, 0, 5, 0, 0, 0,
+];
+
+// Serial 5, twice; contexts 2 and 3; nothing, twice; `s3`; ESRCH.
+const CAME_AND_WENT: [u8; 82] = [
+    8, 0, 0, 0, 0, 0, 0, 0, 5, 0, 0, 0, 8, 0, 0, 0, 0, 0, 0, 0, 5, 0, 0, 0, //
+    8, 0, 0, 0, 0, 0, 0, 0, 2, 0, 0, 0, 8, 0, 0, 0, 0, 0, 0, 0, 3, 0, 0, 0, //
+    4, 0, 0, 0, 0, 0, 0, 0, 4, 0, 0, 0, 0, 0, 0, 0, //
+    6, 0, 0, 0, 0, 0, 0, 0, 0x73, 0x33, 4, 0, 0, 0, 3, 0, 0, 0,
+];
+
+// In context 1, behind HELLO and ADD: GET_ID of -1 with create; INVALIDATE of 5; READ of 5; JOIN without a name; GET_ID
+// of -3 without create.
+const KEYRINGS: [u8; 80] = [
+    0x0d, 0, 0, 0, 1, 0, 0, 0, 1, 0, 0, 0, 0xff, 0xff, 0xff, 0xff, 1, //
+    0x0c, 0, 0, 0, 1, 0, 0x15, 0, 1, 0, 0, 0, 5, 0, 0, 0, //
+    0x0c, 0, 0, 0, 1, 0, 0x0b, 0, 1, 0, 0, 0, 5, 0, 0, 0, //
+    0x0a, 0, 0, 0, 1, 0, 1, 0, 1, 0, 0, 0, 0, 0, //
+    0x0d, 0, 0, 0, 1, 0, 0, 0, 1, 0, 0, 0, 0xfd, 0xff, 0xff, 0xff, 0,
+];
+
+// Serial 6; nothing; ENOKEY; serial 7, twice.
+const ATTACHED: [u8; 52] = [
+    8, 0, 0, 0, 0, 0, 0, 0, 6, 0, 0, 0, 4, 0, 0, 0, 0, 0, 0, 0, 4, 0, 0, 0, 0x7e, 0, 0, 0, //
+    8, 0, 0, 0, 0, 0, 0, 0, 7, 0, 0, 0, 8, 0, 0, 0, 0, 0, 0, 0, 7, 0, 0, 0,
+];
+
+// Behind HELLO and ADD: OPEN_QUEUE of 4 records; SET_FILTER of queue 1 to updated notes; in context 1 WATCH of 5 by queue 1
+// with the id 9, SET_TIMEOUT of 5 to 60 seconds, UPDATE of 5 to `s4`; READ_QUEUE of queue 1 into 64 bytes, twice;
+// CLOSE_QUEUE of queue 1; READ_QUEUE of queue 1 into 16 bytes.
+#[rattlefmt::skip]
+const QUEUES: [u8; 222] = [
+    0x0c, 0, 0, 0, 1, 0, 8, 1, 0, 0, 0, 0, 4, 0, 0, 0,
+    0x3c, 0, 0, 0, 1, 0, 9, 1, 0, 0, 0, 0, 1, 0, 0, 0, 1, 0, 0, 0,
+    1, 0, 0, 0, 0, 0, 0, 0, 0, 0, 0, 0, 2, 0, 0, 0, 0, 0, 0, 0, 0, 0, 0, 0,
+    0, 0, 0, 0, 0, 0, 0, 0, 0, 0, 0, 0, 0, 0, 0, 0, 0, 0, 0, 0,
+    0x14, 0, 0, 0, 1, 0, 0x20, 0, 1, 0, 0, 0, 5, 0, 0, 0, 1, 0, 0, 0, 9, 0, 0, 0,
+    0x10, 0, 0, 0, 1, 0, 0x0f, 0, 1, 0, 0, 0, 5, 0, 0, 0, 60, 0, 0, 0,
+    0x12, 0, 0, 0, 1, 0, 2, 0, 1, 0, 0, 0, 5, 0, 0, 0, 2, 0, 0, 0, 0x73, 0x34,
+    0x10, 0, 0, 0, 1, 0, 0x0a, 1, 0, 0, 0, 0, 1, 0, 0, 0, 64, 0, 0, 0,
+    0x10, 0, 0, 0, 1, 0, 0x0a, 1, 0, 0, 0, 0, 1, 0, 0, 0, 64, 0, 0, 0,
+    0x0c, 0, 0, 0, 1, 0, 0x0b, 1, 0, 0, 0, 0, 1, 0, 0, 0,
+    0x10, 0, 0, 0, 1, 0, 0x0a, 1, 0, 0, 0, 0, 1, 0, 0, 0, 16, 0, 0, 0,
+];
+
+// Queue 1; nothing, four times; the updated note of watch 9 of key 5; EAGAIN; nothing; EBADF.
+#[rattlefmt::skip]
+const NOTED: [u8; 92] = [
+    8, 0, 0, 0, 0, 0, 0, 0, 1, 0, 0, 0,
+    4, 0, 0, 0, 0, 0, 0, 0, 4, 0, 0, 0, 0, 0, 0, 0, 4, 0, 0, 0, 0, 0, 0, 0, 4, 0, 0, 0, 0, 0, 0, 0,
+    20, 0, 0, 0, 0, 0, 0, 0, 1, 0, 0, 1, 16, 9, 0, 0, 5, 0, 0, 0, 0, 0, 0, 0,
+    4, 0, 0, 0, 11, 0, 0, 0, 4, 0, 0, 0, 0, 0, 0, 0, 4, 0, 0, 0, 9, 0, 0, 0,
+];
+
 #[derive(Drop)]
 struct Case<'a> {
     name: &'a str,
@@ -162,7 +228,7 @@ fn ends(rt: HostRuntime) {
 // A session over bytes in memory, and what `run` tells of it there: where it was closed, some front of the input is cut
 // into frames, whose asks are those of a legal history, and the output is the text of its replies, without LEAVE's.
 fn converse(
-    rt: &HostRuntime,
+    rt: &impl Abort,
     alloc: Global,
     input: &[u8],
     seat: &mut OneSeat,
@@ -200,17 +266,37 @@ fn over_memory(rt: HostRuntime) {
     let _ = desk.close(seat);
 }
 
-#[test]
-fn keys_are_changed(rt: HostRuntime) -> Result<(), Fail> {
-    let mut stream = Vec::from_slice(rt.alloc(), &ASKS[..59])?;
-    stream.extend_from_slice(&CHANGES)?;
-    let mut replies = Vec::from_slice(rt.alloc(), &REPLIES[..24])?;
-    replies.extend_from_slice(&CHANGED)?;
-    let (desk, mut seat) = OneDesk::open(1, Store::new(rt.alloc()));
+// A session of HELLO, ADD and these asks, and the replies to them behind those to HELLO and ADD.
+fn check_replies(rt: &impl Abort, alloc: Global, asks: &[u8], wanted: &[u8]) -> Result<(), Fail> {
+    let mut stream = Vec::from_slice(alloc, &ASKS[..59])?;
+    stream.extend_from_slice(asks)?;
+    let mut replies = Vec::from_slice(alloc, &REPLIES[..24])?;
+    replies.extend_from_slice(wanted)?;
+    let (desk, mut seat) = OneDesk::open(1, Store::new(alloc));
     let gate = watches(0);
-    let (text, ended) = converse(&rt, rt.alloc(), &stream, &mut seat, &gate);
+    let (text, ended) = converse(rt, alloc, &stream, &mut seat, &gate);
     assert_eq!(rt; ended, Ended::Closed);
     assert_eq!(rt; text.as_slice(), replies.as_slice());
     let _ = desk.close(seat);
     Ok(())
+}
+
+#[test]
+fn keys_are_changed(rt: HostRuntime) -> Result<(), Fail> {
+    check_replies(&rt, rt.alloc(), &CHANGES, &CHANGED)
+}
+
+#[test]
+fn contexts_come_and_go(rt: HostRuntime) -> Result<(), Fail> {
+    check_replies(&rt, rt.alloc(), &CONTEXTS, &CAME_AND_WENT)
+}
+
+#[test]
+fn keyrings_are_attached_and_keys_invalidated(rt: HostRuntime) -> Result<(), Fail> {
+    check_replies(&rt, rt.alloc(), &KEYRINGS, &ATTACHED)
+}
+
+#[test]
+fn queues_are_opened_read_and_closed(rt: HostRuntime) -> Result<(), Fail> {
+    check_replies(&rt, rt.alloc(), &QUEUES, &NOTED)
 }

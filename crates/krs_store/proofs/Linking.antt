@@ -1,8 +1,8 @@
 -- What one link more, or one less, comes to in the definitions.
-use Rattle.std.proofs.Common.{◌≡◌, ℕ, ◌&&◌, List, [], ◌∷◌, Option, Some, None, Bool, true, false, cond, Ok, Err, length, zero, suc, take, ◌*◌, ◌≤◌, length-append, arith, refl, ap, ◌∙◌, sym, subst}
+use Rattle.std.proofs.Common.{◌≡◌, ℕ, ◌==◌, ◌&&◌, ◌||◌, List, [], ◌∷◌, Option, Some, None, Bool, true, false, cond, Ok, Err, length, zero, suc, take, ◌*◌, ◌≤◌, length-append, arith, refl, ap, ◌∙◌, sym, subst}
 use Rattle.std.specs.Option.{option_map}
 use Rattle.std.specs.Prelude.{nat_le}
-use Rattle.std.proofs.lemmas.Bool.{true≢false, eqb-true}
+use Rattle.std.proofs.lemmas.Bool.{true≢false}
 use Rattle.std.proofs.lemmas.Option.{none-some, same_Some}
 use Rattle.krs_types.specs.declared.errno.Errno.TheVariants.{ENFILE, ENOMEM}
 use Rattle.krs_types.specs.declared.name.Name.{Name}
@@ -17,24 +17,23 @@ use Rattle.krs_model.specs.Sweep.{AllHeld, linked_by}
 use Rattle.krs_model.specs.Reach.{links_in, is_ring}
 use Rattle.krs_model.specs.Linking.{has_room, is_named, link_named, linking, linked_content}
 use Rattle.krs_model.specs.Asks.Changing.{changed}
-use Rattle.krs_model.specs.Asks.Linked.{name_of, without_link}
+use Rattle.krs_model.specs.Asks.Linked.{name_of}
 use Rattle.krs_model.proofs.Tables.{at_map, alter_map}
-use Rattle.krs_model.proofs.Levels.{same_is}
 use Rattle.krs_model.proofs.Sweeping.{changed_swept, linked_still}
 use Rattle.krs_links.specs.Links.{LinkList, linked_as, serials, is_refused}
 use Rattle.krs_keys.specs.declared.key.Key.{Key}
 use Rattle.krs_keys.specs.declared.key.Content.{Content}
 use Rattle.krs_keys.specs.declared.key.Content.TheVariants.{Payload, Links}
-use Rattle.krs_keys.specs.Keys.{content_links, seen, seen_content, shown, name_at, links_by, links_at, AreNamed, AreFit, IsOfKind, AreOfKind, displaced_by, displaced_at, with_entry, without_entry, unlinked_content, entered}
-use Rattle.krs_keys.proofs.Fitting.{fit_alter, named_linked, named_unlinked, found_in, in_found}
-use Rattle.krs_keys.proofs.KeysLemmas.{serials-content, found_named, seen-with_entry, seen-without_entry}
+use Rattle.krs_keys.specs.Keys.{content_links, seen, seen_content, shown, name_at, links_by, links_at, AreNamed, AreFit, IsOfKind, AreOfKind, displaced_by, displaced_at, with_entry, entered}
+use Rattle.krs_keys.proofs.Fitting.{fit_alter, named_linked}
+use Rattle.krs_keys.proofs.KeysLemmas.{serials-content, found_named, seen-with_entry}
 use Rattle.krs_store.specs.declared.tables.Tables.TheInside.{Inside}
 use Rattle.std.specs.Int.{w32, to_le_bytes}
 use Rattle.krs_model.specs.Asks.Reading.{serial_bytes}
 use Rattle.krs_walk.specs.Walks.{OnlyRingsLink}
 use Rattle.krs_model.specs.Asks.Adding.{IsRing}
 use Rattle.krs_store.specs.View.{state_of, IsSound}
-use Rattle.krs_store.specs.Linked.{name_in, room_in, finds}
+use Rattle.krs_store.specs.Linked.{name_in, room_in, has_link}
 
 name_shown : (o : Option Key) (name : Name) → option_map name_of (option_map seen o) ≡ Some name → option_map (λ (k : Key). k.name) o ≡ Some name
 name_shown None name h = h
@@ -43,18 +42,6 @@ name_shown (Some key) name h = h
 -- the name of a key of the definitions is that of the key that is kept
 pub name_kept : (s : Inside) (serial : ℕ) (name : Name) → name_in (state_of s) serial ≡ Some name → name_at s.keys.keys serial ≡ Some name
 name_kept s serial name h = name_shown (at s.keys.keys serial) name (ap (option_map name_of) (sym (at_map seen s.keys.keys serial)) ∙ h)
-
-finds_true : (serial : ℕ) (o : Option ℕ) → finds serial o ≡ true → o ≡ Some serial
-finds_true serial None h = absurd (true≢false (sym h))
-finds_true serial (Some found) h = ap (λ k. Some k) (eqb-true found serial h)
-
-true_finds : (serial : ℕ) (o : Option ℕ) → o ≡ Some serial → finds serial o ≡ true
-true_finds serial None h = absurd (none-some serial h)
-true_finds serial (Some found) h = same_is found serial (same_Some found serial h)
-
-not_found : (serial : ℕ) (o : Option ℕ) (b : Bool) → finds serial o ≡ false → (b ≡ true → o ≡ Some serial) → b ≡ false
-not_found serial o true h back = absurd (true≢false (sym (true_finds serial o (back refl)) ∙ h))
-not_found serial o false h back = refl
 
 is_shown : (o : Option Key) → linked_by (option_map seen o) ≡ serials (links_by o)
 is_shown None = refl
@@ -76,31 +63,15 @@ displaced_is : (name : Name) (o : Option Key) → displaced_by name o ≡ linked
 displaced_is name None = refl
 displaced_is name (Some key) = refl
 
--- a key that is found by its name is linked
-pub is_linked : (es : Table Key) (ring serial : ℕ) (name : Name) → finds serial (displaced_at es ring name) ≡ true → is_in serial (links_in (shown es) ring) ≡ true
-is_linked es ring serial name h =
-    ap (is_in serial) (links_shown es ring)
-    ∙ found_in name serial (links_at es ring) (sym (displaced_is name (at es ring)) ∙ finds_true serial (displaced_at es ring name) h)
+has_link-serials : (serial : ℕ) (links : LinkList) → has_link serial links ≡ is_in serial (serials links)
+has_link-serials serial [] = refl
+has_link-serials serial (link ∷ links) = ap (λ b. (link.1 == serial) || b) (has_link-serials serial links)
 
--- a key that is not found by its name is not linked
-pub not_linked : (es : Table Key) (ring serial : ℕ) (name : Name) → AreFit es → name_at es serial ≡ Some name → finds serial (displaced_at es ring name) ≡ false → is_in serial (links_in (shown es) ring) ≡ false
-not_linked es ring serial name fit there h =
-    not_found serial (displaced_at es ring name) (is_in serial (links_in (shown es) ring)) h
-    (λ i. displaced_is name (at es ring) ∙ in_found (name_at es) name serial (links_at es ring) there (ring_named es ring fit) (ap (is_in serial) (sym (links_shown es ring)) ∙ i))
-
-unlinked_named : (names : ℕ → Option Name) (name : Name) (content : Content) → AreNamed names (content_links content) → AreNamed names (content_links (unlinked_content name content))
-unlinked_named names name (Payload bytes) named = named
-unlinked_named names name (Links links) named = named_unlinked names name links named
-
-pub fit_unlinked : (es : Table Key) (ring : ℕ) (name : Name) → AreFit es → AreFit (alter es ring (without_entry name))
-fit_unlinked es ring name fit =
-    fit_alter es ring (without_entry name) (λ v. refl) (λ v there. unlinked_named (name_at es) name v.content (fit ring v there)) fit
-
--- the keyring without its link to a key
-pub shown_unlinked : (es : Table Key) (ring serial : ℕ) (name : Name) → AreFit es → name_at es serial ≡ Some name → finds serial (displaced_at es ring name) ≡ true → shown (alter es ring (without_entry name)) ≡ alter (shown es) ring (without_link serial)
-shown_unlinked es ring serial name fit there h =
-    alter_map seen es ring (without_entry name) (without_link serial) (λ v is. seen-without_entry (name_at es) name serial v there
-    (ap (displaced_by name) (sym is) ∙ finds_true serial (displaced_at es ring name) h) (fit ring v is))
+-- whether a keyring links a key, as the definitions see it
+pub linked_told :
+    (es : Table Key) (ring serial : ℕ) → has_link serial (links_at es ring) ≡ is_in serial (links_in (shown es) ring)
+linked_told es ring serial =
+    has_link-serials serial (links_at es ring) ∙ ap (is_in serial) (sym (links_shown es ring))
 
 entry_named : (names : ℕ → Option Name) (name : Name) (n : ℕ) (content : Content) → names n ≡ Some name → AreNamed names (content_links content) → AreNamed names (content_links (entered name n content))
 entry_named names name n (Payload bytes) there named = named

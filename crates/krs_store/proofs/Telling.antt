@@ -19,13 +19,13 @@ use Rattle.krs_model.specs.State as model
 use Rattle.krs_model.specs.Possession.{links_of}
 use Rattle.krs_model.specs.Levels.{is_in}
 use Rattle.krs_model.specs.Linking.{link_named, linking}
-use Rattle.krs_model.specs.Sweep.{IsHeld, Linked, PicksHeld, IsSweep, AllHeld, roots}
+use Rattle.krs_model.specs.Sweep.{IsHeld, Linked, PicksHeld, IsSweep, AllHeld, live_watches, roots}
 use Rattle.krs_model.specs.Asks.Hello.{uid_ring, with_uid}
 use Rattle.krs_model.specs.Lookup.{look_up}
 use Rattle.krs_model.specs.Asks.Adding.{made, new_key, IsRing, place_of, by_match}
 use Rattle.krs_model.proofs.Tables.{at_map, put_map, alter_map, filter_map_keys, below_put, at_put_same, at_put_other, at_or_apart}
 use Rattle.krs_model.proofs.Levels.{or_true, same_is}
-use Rattle.krs_model.proofs.Sweeping.{changed_swept, made_swept}
+use Rattle.krs_model.proofs.Sweeping.{changed_swept}
 use Rattle.krs_store.specs.declared.tables.Tables.TheInside.{Inside}
 use Rattle.krs_keys.specs.declared.key.Key.{Key}
 use Rattle.krs_keys.specs.declared.key.Content.{Content}
@@ -58,7 +58,6 @@ pub record IsMade (s : Inside) (new : Keys) (ring : ℕ) (name : Name) (key : Ke
   pub fit : AreFit new.keys
   pub kinds : AreOfKind new.keys
   pub is : record (state_of s) { keys = shown new.keys; next_serial = new.next } ≡ made (state_of s) ring name (seen key)
-  pub swept : s.let_go ≡ false → displaced_at (put s.keys.keys s.keys.next key) ring name ≡ None → AllHeld (record (state_of s) { keys = shown new.keys; next_serial = new.next })
 
 entry_named : (names : ℕ → Option Name) (name : Name) (n : ℕ) (content : Content) → names n ≡ Some name → AreNamed names (content_links content) → AreNamed names (content_links (entered name n content))
 entry_named names name n (Payload bytes) there named = named
@@ -105,7 +104,6 @@ made_told s new ring name payload uid gid sound unused keyring e =
       fit = fit_alter one ring f (λ v. refl) (λ v there. entry_named (name_at one) name n v.content name_there (fit_one ring v there)) fit_one;
       kinds = kinds_alter one ring f (linked_kind name n) (kinds_put es n key (first_kind name.kind payload) sound.kinds);
       is = ap (λ zs. record (state_of s) { keys = zs; next_serial = n + 1 }) seen_as;
-      swept = λ clean fresh. rw seen_as (made_swept (state_of s) ring name (seen key) (shown_none es n none) keyring (sym found ∙ fresh) (sound.swept clean));
     })
 
 -- the first context of a uid, with the uid's keyrings
@@ -135,11 +133,16 @@ first_told s new c a b sound unused ea eb e =
       is = put_map seen one (n + 1) b ∙ (ap (λ zs. put zs (n + 1) (seen b)) (put_map seen es n a) ∙ (ap (λ (k : Key). put (put (shown es) n (seen k)) (n + 1) (seen b)) ea ∙ ap (λ (k : Key). put (put (shown es) n (uid_ring (codes "_uid.") [] c)) (n + 1) (seen k)) eb));
     })
 
+-- with these keys, and the watches at them
+abbrev pub swept_state : Inside → Table Key → model.State
+swept_state s new =
+    record (state_of s) { keys = shown new; watches = live_watches (shown new) s.queues.watches }
+
 -- after a sweep
 pub record IsSweptTable (s : Inside) (new : Table Key) : Type 0 where
   pub fit : AreFit new
   pub kinds : AreOfKind new
-  pub sweep : IsSweep (state_of s) (record (state_of s) { keys = shown new })
+  pub sweep : IsSweep (state_of s) (swept_state s new)
 
 some_there : (link : Name) (o : Option Key) → option_map (λ key. key.name) o ≡ Some link → IsSome (option_map seen o)
 some_there link None h = absurd (none-some link h)

@@ -3,3 +3,8 @@ pub mod Places
 pub mod Linked
 pub mod View
 pub mod Told
+pub mod Holding
+pub mod Specials
+pub mod Found
+pub mod Joined
+pub mod Telling

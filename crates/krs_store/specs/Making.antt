@@ -1,10 +1,14 @@
 -- The keys that asks make.
-use Rattle.std.specs.Prelude.{ℕ, List, [], ◌++◌, None, false, decimal}
+use Rattle.std.specs.Prelude.{ℕ, ℤ, List, [], ◌++◌, None, false, decimal}
 use Rattle.krs_types.specs.declared.kind.Kind.{Kind}
 use Rattle.krs_types.specs.declared.kind.Kind.TheVariants.{User, Logon, Keyring}
 use Rattle.krs_types.specs.declared.name.Name.{Name}
 use Rattle.krs_types.specs.declared.caller.Caller.{Caller}
-use Rattle.krs_model.specs.Asks.Adding.{first_perm}
+use Rattle.krs_types.specs.Refusing.{◌>>=◌}
+use Rattle.krs_model.specs.State.{State}
+use Rattle.krs_model.specs.Lookup.{context_of}
+use Rattle.krs_model.specs.Outcome.{Outcome}
+use Rattle.krs_model.specs.Asks.Adding.{first_perm, added_in}
 use Rattle.krs_keys.specs.declared.key.Key.{Key}
 use Rattle.krs_keys.specs.declared.key.Content.{Content}
 use Rattle.krs_keys.specs.declared.key.Content.TheVariants.{Payload, Links}
@@ -48,3 +52,9 @@ maker_key name payload uid gid = record {
   joined = false;
   content = first_content name.kind payload;
 }
+
+-- a key of this name in a keyring that is there
+abbrev pub adding_in : State → ℕ → ℕ → Name → List ℕ → ℤ → Outcome
+adding_in s client number name payload ring = do
+  c ← context_of s client number
+  added_in s c name payload ring

@@ -7,6 +7,3 @@ mod store;
 mod tables;
 
 pub use store::Store;
-
-#[cfg(test)]
-mod tests;

@@ -1,6 +1,6 @@
-ghost use Rattle.std.specs.Prelude.{◌≡◌, ◌≤◌, ◌≢◌};
+ghost use Rattle.std.specs.Prelude.{◌≡◌, ◌≤◌, ◌≢◌, ℕ};
 ghost use Rattle.krs_types.specs.declared.errno.Errno.TheVariants.{ENOMEM};
-ghost use Rattle.krs_types.specs.declared.ask.Op.TheVariants.{Leave};
+ghost use Rattle.krs_types.specs.declared.ask.Op.TheVariants.{Exec, Exit, CloseQueue, Leave};
 ghost use Rattle.krs_model.specs.State.{starting_at};
 ghost use Rattle.krs_model.specs.Step.{Step};
 ghost use Rattle.krs_model.specs.Revocation.{StaysUnread};
@@ -48,10 +48,14 @@ impl Store {
         }
     }
 
-    /// Serves one ask of a client at a moment, in seconds: one step of the store.
+    /// Serves one ask of a client at a moment, in seconds: one step of the store. An accepted ask has its effect; its note
+    /// is posted; then the sweep drops what is not held, and posts removal records. Profile, order of notes.
     #[tactic(auto, unfolding(krs_model::specs::Step::Step))]
     pub fn apply(&mut self, client: u32, moment: u64, ask: Ask) -> Reply
         ensures step { Step self.old (event_of client moment ask result) self.new }
+        ensures exec { ask.op ≡ Exec → result ≢ Err ENOMEM }
+        ensures exit { ask.op ≡ Exit → result ≢ Err ENOMEM }
+        ensures close { (queue : ℕ) → ask.op ≡ CloseQueue queue → result ≢ Err ENOMEM }
         ensures leave { ask.op ≡ Leave → result ≢ Err ENOMEM }
     {
         self.tables.raise(moment);

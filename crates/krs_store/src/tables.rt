@@ -4,29 +4,32 @@ ghost use Rattle.krs_model.specs.Table.{at, put, alter};
 ghost use Rattle.krs_model.specs.State.{starting_at, raised};
 ghost use Rattle.krs_model.specs.Possession.{process_ring, possessed};
 ghost use Rattle.krs_model.specs.Lookup.{context_of, serial_of, look_up};
-ghost use Rattle.krs_model.specs.Outcome.{Leads, Gives, Is};
-ghost use Rattle.krs_model.specs.Step.{outcome_of, grows};
-ghost use Rattle.krs_model.specs.Sweep.{IsSweep};
+ghost use Rattle.krs_model.specs.Outcome.{Gives, Is};
+ghost use Rattle.krs_model.specs.Step.{grows};
+ghost use Rattle.krs_model.specs.Serving.{LeadsTold, SweepsOut};
+ghost use Rattle.krs_model.specs.Sweep.{live_watches};
+ghost use Rattle.krs_model.specs.Reach.{IsAcyclic, links_in};
+ghost use Rattle.krs_model.specs.Sound.{IsSound};
 ghost use Rattle.krs_keys.specs.Keys.{seen, FindsByName};
+ghost use Rattle.krs_store.specs.Telling.{Runs};
 
+use krs_ctx::Contexts;
+use krs_hold::Holders;
 use krs_keys::{Key, KeyTable};
-use krs_types::{Answer, Ask, Context, Errno, Fault, KeyId, Op, Serial, UidRings, Want};
+use krs_types::{Answer, Ask, Context, Errno, Fault, KeyId, Op, Serial, Want};
 use krs_walk::Walker;
+use krs_watch::WatchQueues;
 use std::alloc::{AllocError, Global};
-use std::collections::BTreeMap;
 use std::marker::Model;
 
 /// All that a store has. Each ask is a method.
 #[derive(Drop)]
 pub(crate) struct Tables {
     pub(crate) keys: KeyTable,
-    pub(crate) contexts: BTreeMap<u32, Context>,
-    pub(crate) processes: BTreeMap<u32, Option<Serial>>,
-    pub(crate) uids: BTreeMap<u32, UidRings>,
-    pub(crate) next_context: u64,
+    pub(crate) contexts: Contexts,
+    pub(crate) queues: WatchQueues,
     pub(crate) clock: u64,
-    /// Whether a key may have been let go of since the last sweep.
-    pub(crate) let_go: bool,
+    pub(crate) holders: Holders,
     pub(crate) alloc: Global,
 }
 
@@ -50,35 +53,26 @@ impl Tables {
     {
         Tables {
             keys: KeyTable::starting_at(alloc, next),
-            contexts: BTreeMap::new(alloc),
-            processes: BTreeMap::new(alloc),
-            uids: BTreeMap::new(alloc),
-            next_context: 1,
+            contexts: Contexts::new(alloc),
+            queues: WatchQueues::new(alloc),
             clock: 0,
-            let_go: false,
+            holders: Holders::new(alloc),
             alloc,
         }
     }
 
     /// The context of that number, where it is the client's.
-    #[tactic(auto, unfolding(krs_model::specs::Lookup::context_of))]
     pub(crate) fn context_of(&self, client: u32, number: u32) -> Result<&Context, Errno>
         ensures { Is (λ c. c.now) result (context_of self.now client number) }
     {
-        match self.contexts.get(&number) {
-            Some(context) if context.client == client => Ok(context),
-            _ => Err(Errno::ESRCH),
-        }
+        self.contexts.context_of(client, number)
     }
 
     /// The keyring of a process.
     pub(crate) fn process_ring(&self, process: u32) -> Option<Serial>
         ensures { result ≡ process_ring self.now process }
     {
-        match self.processes.get(&process) {
-            Some(ring) => *ring,
-            None => None,
-        }
+        self.contexts.process_ring(process)
     }
 
     /// Whether a context possesses a key: keyrings(7), "Possession".
@@ -100,11 +94,11 @@ impl Tables {
             KeyId::Thread => context.thread,
             KeyId::Process => self.process_ring(context.process),
             KeyId::Session => context.session,
-            KeyId::User => match self.uids.get(&context.caller.uid) {
+            KeyId::User => match self.contexts.rings(context.caller.uid) {
                 Some(rings) => rings.user,
                 None => None,
             },
-            KeyId::UserSession => match self.uids.get(&context.caller.uid) {
+            KeyId::UserSession => match self.contexts.rings(context.caller.uid) {
                 Some(rings) => rings.session,
                 None => None,
             },
@@ -150,14 +144,48 @@ impl Tables {
         Ok((serial.number(), key))
     }
 
-    /// One ask in the state that it finds.
+    /// One ask in the state that it finds, and the note of what it did.
     pub(crate) fn serve(&mut self, client: u32, ask: Ask) -> Result<Answer, Fault>
-        ensures step { Leads self.old result self.new (outcome_of self.old client ask.context ask.op) }
+        requires sound { IsSound self.old }
+        ensures told { LeadsTold self.old client ask.context ask.op result self.new }
+        ensures memory { IsErrOf result Fault.Memory → grows ask.op ≡ true }
+    {
+        let telling = self.telling(client, ask.context, &ask.op);
+        match self.run(client, ask) {
+            Ok(answer) => {
+                self.tell(telling, &answer);
+                Ok(answer)
+            }
+            Err(fault) => Err(fault),
+        }
+    }
+
+    /// One ask in the state that it finds.
+    fn run(&mut self, client: u32, ask: Ask) -> Result<Answer, Fault>
+        requires sound { IsSound self.old }
+        ensures step { Runs self.old client ask.context ask.op result self.new }
         ensures memory { IsErrOf result Fault.Memory → grows ask.op ≡ true }
     {
         let context = ask.context;
         match ask.op {
             Op::Hello(caller) => self.hello(client, caller),
+            Op::Thread => self.thread(client, context),
+            Op::Fork => self.fork(client, context),
+            Op::Exec => self.exec(client, context),
+            Op::Search {
+                head,
+                type_name,
+                desc,
+                dest,
+            } => self.search(client, context, head, type_name, desc, dest),
+            Op::Request {
+                type_name,
+                desc,
+                dest,
+            } => self.request(client, context, type_name, desc, dest),
+            Op::GetId { id, create } => self.get_id(client, context, id, create),
+            Op::Join { name } => self.join(client, context, name),
+            Op::Invalidate { id } => self.invalidate(client, context, id),
             Op::Add {
                 type_name,
                 desc,
@@ -174,6 +202,12 @@ impl Tables {
             Op::Clear { id } => self.clear(client, context, id),
             Op::Read { id } => self.read(client, context, id),
             Op::Describe { id } => self.describe(client, context, id),
+            Op::Watch { id, queue, watch } => self.watch(client, context, id, queue, watch),
+            Op::OpenQueue { capacity } => self.open_queue(client, capacity),
+            Op::SetFilter { queue, entries } => self.set_filter(client, queue, entries),
+            Op::ReadQueue { queue, room } => self.read_queue(client, queue, room),
+            Op::CloseQueue { queue } => self.close_queue(client, queue),
+            Op::Exit => self.exit(client, context),
             Op::Leave => {
                 self.leave(client);
                 Ok(Answer::Nothing)
@@ -188,13 +222,16 @@ impl Tables {
         self.clock = self.clock.max(moment);
     }
 
-    /// Just the keys stay that are attached, or linked by what stays. Where none was let go of, that is all of them.
+    /// Just the keys stay that are attached, or linked by what stays. The watches of the others end with removal records.
     pub(crate) fn sweep(&mut self)
-        ensures { IsSweep self.old self.new }
+        requires acyclic { IsAcyclic (links_in self.old.keys) }
+        requires live { live_watches self.old.keys self.old.watches ≡ self.old.watches }
+        ensures { SweepsOut self.old self.new }
     {
-        if self.let_go {
-            self.keys.sweep(&self.contexts, &self.processes, &self.uids);
-            self.let_go = false;
+        let before = self.keys.len();
+        self.holders.sweep(&mut self.keys);
+        if self.keys.len() < before {
+            self.queues.sweep(&self.keys);
         }
     }
 }

@@ -5,8 +5,8 @@ use Rattle.krs_types.specs.declared.errno.Errno.TheVariants.{EINVAL}
 use Rattle.krs_types.specs.declared.key_id.KeyId.{KeyId}
 use Rattle.krs_types.specs.declared.key_id.KeyId.TheVariants.{Serial, Thread, Process, Session, User, UserSession}
 
--- a number above 0 is a serial, and -1 to -5 are the special keyrings, in the order of uapi linux/keyctl.h; `negsuc n` is
--- -1 - n: profile, known special ids
+-- a number above 0 is a serial, and -1 to -5 are the special keyrings, in the order of uapi linux/keyctl.h; `negsuc n`
+-- is -1 - n: profile, known special ids
 abbrev pub key_id_of : ℤ → Result KeyId Errno
 key_id_of (pos zero) = Err EINVAL
 key_id_of (pos (suc n)) = Ok (Serial (suc n))

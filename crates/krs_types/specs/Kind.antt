@@ -31,6 +31,7 @@ kind_named name =
     else if bytes_eq name (codes "keyring") then Ok Keyring
     else Err ENODEV
 
+-- they are one type
 abbrev pub same_kind : Kind → Kind → Bool
 same_kind User User = true
 same_kind Logon Logon = true

@@ -1,4 +1,4 @@
--- Steps that may refuse: the first refusal is the answer.
+-- Steps that may refuse: the first refusal is the answer. The form is this project's own.
 use Rattle.std.specs.Prelude.{Option, None, Some, Result, Ok, Err}
 use Rattle.krs_types.specs.declared.errno.Errno.{Errno}
 

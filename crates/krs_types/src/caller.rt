@@ -1,7 +1,8 @@
-ghost use Rattle.std.specs.Prelude.{◌≡◌, ◌==◌};
+ghost use Rattle.std.specs.Prelude.{◌≡◌, ◌==◌, IfOk};
 ghost use Rattle.std.specs.List.{list_any};
 
 use crate::Errno;
+use std::alloc::{AllocError, Global};
 use std::marker::Model;
 
 /// How many groups a caller names at most: profile, limits.
@@ -36,6 +37,12 @@ impl Groups {
     {
         self.gids.as_slice()
     }
+
+    pub fn copy(&self, alloc: Global) -> Result<Groups, AllocError>
+        ensures { IfOk result (λ copy. copy ≡ self.now) }
+    {
+        Ok(Groups::new(Vec::from_slice(alloc, self.as_slice())?))
+    }
 }
 
 /// Whom a client says that it is: credentials(7).
@@ -69,6 +76,16 @@ impl Caller {
             return Err(Errno::EINVAL);
         }
         Ok(())
+    }
+
+    pub fn copy(&self, alloc: Global) -> Result<Caller, AllocError>
+        ensures { IfOk result (λ copy. copy ≡ self.now) }
+    {
+        Ok(Caller {
+            uid: self.uid,
+            gid: self.gid,
+            groups: self.groups.copy(alloc)?,
+        })
     }
 }
 

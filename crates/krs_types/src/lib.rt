@@ -28,7 +28,7 @@ pub use fault::Fault;
 pub use key_id::{KeyId, Serial};
 pub use kind::{Kind, check_description};
 pub use name::{Desc, Name};
-pub use note::{FilterEntry, KeyEvent, Record};
+pub use note::{FilterEntries, FilterEntry, KeyEvent, Record};
 pub use perm::Perm;
 pub use rights::{Rights, Want};
 

@@ -1,3 +1,7 @@
+ghost use Rattle.std.specs.Prelude.{◌≡◌};
+
+use std::marker::Model;
+
 /// What happened to a watched key: uapi linux/watch_queue.h, enum key_notification_subtype.
 #[derive(Clone, Copy, Debug, PartialEq, Eq)]
 pub enum KeyEvent {
@@ -38,4 +42,39 @@ pub struct FilterEntry {
     pub info_mask: u32,
     /// A bit for each subtype: subtype s is bit s % 32 of word s / 32.
     pub subtypes: [u32; 8],
+}
+
+/// The lines of a filter as a client gave them, of any number.
+#[derive(Debug, Drop)]
+pub struct FilterEntries {
+    entries: Vec<FilterEntry>,
+}
+
+impl Model for FilterEntries {
+    ghost use Rattle.std.specs.Prelude.{List};
+    ghost use Rattle.krs_types.specs.declared.note.FilterEntry.{FilterEntry};
+
+    ghost Value = { List FilterEntry };
+
+    ghost view = { λ f. f.entries.items };
+}
+
+impl FilterEntries {
+    pub fn new(entries: Vec<FilterEntry>) -> Self
+        ensures { result ≡ entries.items }
+    {
+        FilterEntries { entries }
+    }
+
+    pub fn as_slice(&self) -> &[FilterEntry]
+        ensures { result.now ≡ self.now }
+    {
+        self.entries.as_slice()
+    }
+
+    pub fn into_vec(self) -> Vec<FilterEntry>
+        ensures { result.items ≡ self }
+    {
+        self.entries
+    }
 }

@@ -38,6 +38,12 @@ impl Perm {
     /// The mask of the keyrings of a uid: all but SETATTR for its possessor, all for its user.
     pub const OF_UID: Perm = Perm { mask: 0x1f3f_0000 };
 
+    /// The mask of a session keyring that JOIN makes without a name: all for its possessor, VIEW and READ for its user.
+    pub const OF_SESSION: Perm = Perm { mask: 0x3f03_0000 };
+
+    /// The mask of a session keyring that JOIN makes by a name: all for its possessor, VIEW, READ and LINK for its user.
+    pub const OF_NAMED_SESSION: Perm = Perm { mask: 0x3f13_0000 };
+
     /// The mask of these bits: EINVAL where one is outside 3f3f3f3f. Profile, mask bits.
     pub fn from_u32(mask: u32) -> Result<Perm, Errno>
         ensures { result ≡ perm_of mask }

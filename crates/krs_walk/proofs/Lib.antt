@@ -7,3 +7,8 @@ pub mod HeightLemmas
 pub mod KeyringsLemmas
 pub mod PossessionLemmas
 pub mod RoundsLemmas
+pub mod HeldLemmas
+pub mod SoughtLemmas
+pub mod SearchLemmas
+pub mod VisitingLemmas
+pub mod FindingLemmas

@@ -47,7 +47,7 @@ none_any p [] h = refl
 none_any p (x ∷ xs) h = ap (λ b. b || list_any p xs) (h x) ∙ none_any p xs h
 
 -- what links is a keyring
-abbrev RingsAlone : (ℕ → Bool) → (ℕ → List ℕ) → Type 0
+abbrev pub RingsAlone : (ℕ → Bool) → (ℕ → List ℕ) → Type 0
 RingsAlone ring links = (j k : ℕ) → is_in k (links j) ≡ true → ring j ≡ true
 
 level_rings : (ring : ℕ → Bool) (links : ℕ → List ℕ) (heads : List ℕ) (n k : ℕ) → RingsAlone ring links → ring k ≡ true → is_in k (level links heads n) ≡ true → is_in k (level (λ j. filter ring (links j)) heads n) ≡ true
@@ -59,7 +59,7 @@ level_rings ring links heads (suc n) k alone is m =
     (level_rings ring links heads n from.0 alone (alone from.0 k from.2) from.1) (in_filter ring (links from.0) k from.2 is)
 
 -- a keyring of the levels is in those along nested keyrings
-levels_rings : (ring : ℕ → Bool) (links : ℕ → List ℕ) (heads : List ℕ) (n k : ℕ) → RingsAlone ring links → ring k ≡ true → is_in k (levels links heads n) ≡ true → is_in k (levels (λ j. filter ring (links j)) heads n) ≡ true
+pub levels_rings : (ring : ℕ → Bool) (links : ℕ → List ℕ) (heads : List ℕ) (n k : ℕ) → RingsAlone ring links → ring k ≡ true → is_in k (levels links heads n) ≡ true → is_in k (levels (λ j. filter ring (links j)) heads n) ≡ true
 unfolding levels
 levels_rings ring links heads zero k alone is m = absurd (in_none k m)
 levels_rings ring links heads (suc n) k alone is m =
@@ -71,7 +71,7 @@ heads_in : (links : ℕ → List ℕ) (heads : List ℕ) (k : ℕ) → is_in k h
 unfolding level levels
 heads_in links heads k m = m
 
-rings_fewer : (ring : ℕ → Bool) (links : ℕ → List ℕ) → Fewer (λ j. filter ring (links j)) links
+pub rings_fewer : (ring : ℕ → Bool) (links : ℕ → List ℕ) → Fewer (λ j. filter ring (links j)) links
 rings_fewer ring links j k m = (from_filter ring (links j) k m).1
 
 -- the keys of the first n + 1 levels are the heads and what the keyrings of the first n link
@@ -90,7 +90,7 @@ levels_split ring links heads n k alone =
     levels_next links heads n r.0 k (levels_fewer (λ j. filter ring (links j)) links heads n r.0 (rings_fewer ring links) r.1) r.2)
     (or_one (is_in k heads) linked m))
 
-followed_linked : (clock : ℕ) (caller : Caller) (o : Option model.Key) (k : ℕ) → is_in k (followed clock caller o) ≡ true → is_in k (linked_by o) ≡ true
+pub followed_linked : (clock : ℕ) (caller : Caller) (o : Option model.Key) (k : ℕ) → is_in k (followed clock caller o) ≡ true → is_in k (linked_by o) ≡ true
 followed_linked clock caller None k m = m
 followed_linked clock caller (Some key) k m =
     elim (is_followed clock caller key) as (λ b. is_in k (cond b (links_of key.content) []) ≡ true → is_in k (links_of key.content) ≡ true) [

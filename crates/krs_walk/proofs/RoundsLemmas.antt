@@ -3,7 +3,7 @@ use Rattle.std.proofs.Common.{◌≡◌, ◌≤◌, ◌<◌, arith, ◌+◌, ℕ
 use Rattle.std.proofs.lemmas.List.{take_at, drop_all, drop_more, get_or_append_left, length-append, take-append-drop}
 use Rattle.std.proofs.lemmas.List.Folds.{list_any-append}
 use Rattle.std.specs.List.{flat_map, list_any}
-use Rattle.krs_model.specs.Levels.{levels}
+use Rattle.krs_model.specs.Levels.{level, levels}
 use Rattle.krs_walk.specs.Lists.{join}
 use Rattle.krs_walk.proofs.ListsLemmas.{fresh, join_fresh, join_append, any_join, any_at, or_right}
 use Rattle.krs_walk.proofs.LevelsLemmas.{IsAt, at_heads, at_next}
@@ -85,3 +85,8 @@ any_fails p all place here lt e t = sym (any_here p all place lt ∙ ap (λ b. b
 
 pub any_past : (p : ℕ → Bool) (all : List ℕ) (place : ℕ) → length all ≤ place → list_any p (drop place all) ≡ false
 any_past p all place le = ap (list_any p) (drop_all place all le)
+
+-- a head passes
+pub head_passes : (p : ℕ → Bool) (f : ℕ → List ℕ) (heads : List ℕ) (m : ℕ) → 1 ≤ m → list_any p heads ≡ true → list_any p (levels f heads m) ≡ true
+unfolding level levels
+head_passes p f heads m le h = any_up p f heads 1 m le h

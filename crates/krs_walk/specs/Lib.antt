@@ -1,3 +1,4 @@
 pub mod Lists
 pub mod Visits
 pub mod Walks
+pub mod Searching

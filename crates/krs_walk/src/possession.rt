@@ -1,5 +1,6 @@
 ghost use Rattle.std.specs.Prelude.{◌≡◌, ◌≤◌, [], Some, drop, length, IfOk, OnOk};
 ghost use Rattle.std.specs.List.{list_any};
+ghost use Rattle.std.specs.Option.{option_to_list};
 ghost use Rattle.krs_model.specs.Levels.{is_in};
 ghost use Rattle.krs_model.specs.Table.{at};
 ghost use Rattle.krs_links.specs.Links.{linked_as};
@@ -38,7 +39,12 @@ impl Walker {
         }
         let key = keys.get(serial);
         match key {
-            Some(key) => self.is_linked(keys, context, process_ring, clock, key, serial),
+            Some(key) => {
+                if attached_link(keys, context, process_ring, clock, key, serial) {
+                    return Ok(true);
+                }
+                self.is_linked(keys, context, process_ring, clock, key, serial)
+            }
             None => Ok(false),
         }
     }
@@ -70,7 +76,7 @@ impl Walker {
     }
 
     /// The attached keyrings.
-    fn attached(
+    pub(crate) fn attached(
         &self,
         context: &Context,
         process_ring: Option<Serial>,
@@ -86,12 +92,53 @@ impl Walker {
 }
 
 /// Whether a keyring is attached.
-fn is_attached(context: &Context, process_ring: &Option<Serial>, serial: Serial) -> bool
+pub(crate) fn is_attached(context: &Context, process_ring: &Option<Serial>, serial: Serial) -> bool
     ensures { result ≡ is_in serial (attached_with context.now process_ring.now) }
 {
     is_found(context.thread, serial)
         || is_found(*process_ring, serial)
         || is_found(context.session, serial)
+}
+
+/// Whether an attached keyring links a key, which is the common case. It takes no memory.
+fn attached_link(
+    keys: &KeyTable,
+    context: &Context,
+    process_ring: Option<Serial>,
+    clock: u64,
+    key: &Key,
+    serial: Serial,
+) -> bool
+    requires fit { AreFit keys.now.keys }
+    requires key { at keys.now.keys serial ≡ Some key.now }
+    ensures { result ≡
+        list_any (links_it (shown keys.now.keys) clock context.now.caller serial)
+        (attached_with context.now process_ring) }
+{
+    let caller = &context.caller;
+    one_links(keys, caller, clock, context.thread, key, serial)
+        || one_links(keys, caller, clock, process_ring, key, serial)
+        || one_links(keys, caller, clock, context.session, key, serial)
+}
+
+/// Whether a keyring links a key, where there is one.
+fn one_links(
+    keys: &KeyTable,
+    caller: &Caller,
+    clock: u64,
+    ring: Option<Serial>,
+    key: &Key,
+    serial: Serial,
+) -> bool
+    requires fit { AreFit keys.now.keys }
+    requires key { at keys.now.keys serial ≡ Some key.now }
+    ensures { result ≡
+        list_any (links_it (shown keys.now.keys) clock caller.now serial) (option_to_list ring) }
+{
+    match ring {
+        Some(ring) => links_key(keys, caller, clock, ring, key, serial),
+        None => false,
+    }
 }
 
 fn is_found(found: Option<Serial>, serial: Serial) -> bool
@@ -127,7 +174,7 @@ fn level_links(
 }
 
 /// Joins the nested keyrings of those from a place on, and gives the place where these begin.
-fn next_level(
+pub(crate) fn next_level(
     keys: &KeyTable,
     caller: &Caller,
     clock: u64,
@@ -192,7 +239,7 @@ fn links_key(
 }
 
 /// The serial that is linked under a name.
-fn find_in(content: &Content, name: &Name) -> Option<Serial>
+pub(crate) fn find_in(content: &Content, name: &Name) -> Option<Serial>
     ensures { result ≡ linked_as (content_links content.now) name.now }
 {
     match content {

@@ -1,13 +1,15 @@
 -- So many of a field.
-use Rattle.std.proofs.Common.{◌≡◌, ℕ, zero, suc, ◌+◌, ◌-◌, ◌*◌, ◌^◌, ◌<◌, ◌≤◌, List, [], ◌∷◌, ◌++◌, length, Option, Some, None, Ok, Err, refl, sym, ap, subst, ◌∙◌, append_assoc, arith}
+use Rattle.std.proofs.Common.{◌≡◌, ℕ, zero, suc, ◌+◌, ◌-◌, ◌*◌, ◌^◌, ◌<◌, ◌≤◌, List, [], ◌∷◌, ◌++◌, length, Option, Some, None, Ok, Err, refl, sym, ap, subst, ◌∙◌, append_assoc, arith, length-append}
 use Rattle.std.specs.List.{flat_map, AllByRecursion}
 use Rattle.std.specs.Option.{option_and_then}
 use Rattle.std.specs.Int.{w32, to_le_bytes}
 use Rattle.std.proofs.lemmas.List.{append-nil}
+use Rattle.krs_types.specs.declared.note.FilterEntry.{FilterEntry}
 use Rattle.krs_wire.specs.declared.fault.WireFault.{WireFault}
 use Rattle.krs_wire.specs.declared.fault.WireFault.TheVariants.{BadBody}
-use Rattle.krs_wire.specs.Field.{Field, number, counted, many_read}
+use Rattle.krs_wire.specs.Field.{Field, number, counted, repeated, many_read}
 use Rattle.krs_wire.specs.Faulting.{or_bad_body}
+use Rattle.krs_wire.specs.Bodies.{entry_field}
 use Rattle.krs_wire.proofs.FieldLemmas.{IsBytes, IsExact, Takes, wide32, number_exact, bind_some, some_is}
 
 module _ {A : Type 0} (f : Field A) (exact : IsExact f) where
@@ -62,6 +64,21 @@ module _ {A : Type 0} (f : Field A) (exact : IsExact f) where
 
   pub counted_exact : IsExact (counted f)
   counted_exact = record { takes = counted_takes; again = counted_again }
+
+module _ {A : Type 0} (n : ℕ) (f : Field A) (exact : IsExact f) where
+  repeated_takes : (bytes : List ℕ) (xs : List A) (more : List ℕ) → IsBytes bytes
+      → (repeated n f).read bytes ≡ Some (xs, more) → Takes (repeated n f) bytes xs more
+  repeated_takes bytes xs more fits e =
+      let m = many_takes f exact n bytes xs more fits e in
+      record { parts = m.parts; fits = (m.len, m.fits); more_fits = m.more_fits }
+
+  repeated_again : (xs : List A) (more : List ℕ) → (repeated n f).Fits xs
+      → (repeated n f).read ((repeated n f).spell xs ++ more) ≡ Some (xs, more)
+  repeated_again xs more h =
+      ap (λ (k : ℕ). many_read f k (flat_map f.spell xs ++ more)) (sym h.0) ∙ many_again f exact xs more h.1
+
+  pub repeated_exact : IsExact (repeated n f)
+  repeated_exact = record { takes = repeated_takes; again = repeated_again }
 
 -- ---- the loop
 
@@ -119,3 +136,9 @@ module _ {A : Type 0} where
 pub length_numbers : (xs : List ℕ) → length (flat_map (λ n. to_le_bytes w32 n) xs) ≡ 4 * length xs
 length_numbers [] = refl
 length_numbers (x ∷ xs) = omega (arith, length_numbers xs)
+
+-- each entry has a byte at least
+pub length_entries : (entries : List FilterEntry) → length entries ≤ length (flat_map entry_field.spell entries)
+length_entries [] = omega arith
+length_entries (x ∷ xs) =
+    omega (arith, length-append (entry_field.spell x) (flat_map entry_field.spell xs), length_entries xs)

@@ -1,5 +1,5 @@
 -- Each field is exact: what is read is spelled so, and what is spelled is read.
-use Rattle.std.proofs.Common.{◌≡◌, ℕ, ◌+◌, ◌^◌, ◌<◌, ◌≤◌, Bool, true, false, cond, eqb, ltb, List, [], ◌++◌, length, get_or, take, drop, Option, Some, None, refl, sym, ap, subst, ◌∙◌, append_assoc, arith, inl, inr}
+use Rattle.std.proofs.Common.{◌≡◌, ℕ, suc, ◌+◌, ◌^◌, ◌<◌, ◌≤◌, Bool, true, false, cond, eqb, ltb, List, [], ◌∷◌, ◌++◌, length, get_or, take, drop, Option, Some, None, refl, sym, ap, subst, ◌∙◌, append_assoc, arith, inl, inr}
 use Rattle.std.specs.Option.{option_and_then}
 use Rattle.std.specs.Prelude.{ℤ, FitsSigned}
 use Rattle.std.specs.Int.{Width, w16, w32, byte_len, from_le_bytes, to_le_bytes, cast_signed, cast_unsigned}
@@ -8,7 +8,7 @@ use Rattle.std.proofs.lemmas.List.{take_at, drop_at, take-append-drop, length-ap
 use Rattle.std.proofs.lemmas.Nat.{le_bytes_2, le_bytes_4, from_le_bytes-to_le_bytes_2, from_le_bytes-to_le_bytes_4}
 use Rattle.std.proofs.lemmas.Int.{to_z-of_z, of_z-to_z}
 use Rattle.std.proofs.Math.Facts.{Fits-of_z, sfits_to_z}
-use Rattle.krs_wire.specs.Field.{Field, number, signed, sized, both, nothing, whole}
+use Rattle.krs_wire.specs.Field.{Field, number, signed, sized, flag, both, nothing, built, whole}
 
 abbrev pub IsBytes : List ℕ → Type 0
 IsBytes bytes = (i : ℕ) → get_or bytes i 0 < 256
@@ -145,6 +145,41 @@ sized_again w wide text more lt =
 pub sized_exact : (w : Width) → IsWide w → IsExact (sized w)
 sized_exact w wide = record { takes = sized_takes w wide; again = sized_again w wide }
 
+-- ---- flags
+
+abbrev no_flag : Option (Bool × List ℕ)
+no_flag = None
+
+-- a flag and what follows it stand in the bytes that begin with this one
+abbrev FlagTaken : ℕ → List ℕ → Bool × List ℕ → Type 0
+FlagTaken n bytes flagged = (n ∷ bytes ≡ flag.spell flagged.0 ++ flagged.1) × (bytes ≡ flagged.1)
+
+-- the byte of a flag that is read is 0 or 1
+flag_some : (n : ℕ) (bytes : List ℕ) (is_no is_yes b : Bool) (more : List ℕ)
+    → cond is_no (Some (false, bytes)) (cond is_yes (Some (true, bytes)) no_flag) ≡ Some (b, more)
+    → eqb n 0 ≡ is_no → eqb n 1 ≡ is_yes → FlagTaken n bytes (b, more)
+flag_some n bytes true is_yes b more e zero one =
+    let byte : n ∷ bytes ≡ 0 ∷ bytes = ap (λ (k : ℕ). k ∷ bytes) (eqb-true _ _ zero) in
+    subst (FlagTaken n bytes) (some_is (false, bytes) (b, more) e) (byte, refl)
+flag_some n bytes false true b more e zero one =
+    let byte : n ∷ bytes ≡ 1 ∷ bytes = ap (λ (k : ℕ). k ∷ bytes) (eqb-true _ _ one) in
+    subst (FlagTaken n bytes) (some_is (true, bytes) (b, more) e) (byte, refl)
+flag_some n bytes false false b more e zero one = absurd cc
+
+flag_takes : (bytes : List ℕ) (b : Bool) (more : List ℕ) → IsBytes bytes → flag.read bytes ≡ Some (b, more)
+    → Takes flag bytes b more
+flag_takes [] b more fits e = absurd cc
+flag_takes (n ∷ bytes) b more fits e =
+    let taken = flag_some n bytes (eqb n 0) (eqb n 1) b more e refl refl in
+    record { parts = taken.0; fits = tt; more_fits = subst IsBytes taken.1 (λ i. fits (suc i)) }
+
+flag_again : (b : Bool) (more : List ℕ) → flag.read (flag.spell b ++ more) ≡ Some (b, more)
+flag_again true more = refl
+flag_again false more = refl
+
+pub flag_exact : IsExact flag
+flag_exact = record { takes = flag_takes; again = λ b more h. flag_again b more }
+
 -- ---- fields together
 
 pub nothing_exact : IsExact nothing
@@ -177,6 +212,33 @@ module _ {A B : Type 0} (f : Field A) (g : Field B) (exact_f : IsExact f) (exact
 
   pub both_exact : IsExact (both f g)
   both_exact = record { takes = both_takes; again = both_again }
+
+-- ---- a value by its parts
+
+module _ {A B : Type 0} (f : Field A) (make : A → B) (parts_of : B → A) (exact : IsExact f)
+    (parts_again : (a : A) → parts_of (make a) ≡ a) (made_again : (b : B) → make (parts_of b) ≡ b) where
+  built_takes : (bytes : List ℕ) (x : B) (more : List ℕ) → IsBytes bytes
+      → (built f make parts_of).read bytes ≡ Some (x, more) → Takes (built f make parts_of) bytes x more
+  built_takes bytes x more fits e =
+      let a = bind_some (f.read bytes) (λ a. Some (make a.0, a.1)) (x, more) e in
+      let t = exact.takes bytes a.0.0 a.0.1 fits a.1 in
+      let same = sym (parts_again a.0.0) in
+      let made : Takes (built f make parts_of) bytes (make a.0.0) a.0.1 = record {
+        parts = t.parts ∙ ap (λ (y : A). f.spell y ++ a.0.1) same;
+        fits = subst (λ (y : A). f.Fits y) same t.fits;
+        more_fits = t.more_fits;
+      } in
+      subst (λ (p : B × List ℕ). Takes (built f make parts_of) bytes p.0 p.1)
+      (some_is (make a.0.0, a.0.1) (x, more) a.2) made
+
+  built_again : (x : B) (more : List ℕ) → (built f make parts_of).Fits x
+      → (built f make parts_of).read ((built f make parts_of).spell x ++ more) ≡ Some (x, more)
+  built_again x more h =
+      ap (option_and_then (λ (a : A × List ℕ). Some (make a.0, a.1))) (exact.again (parts_of x) more h)
+      ∙ ap (λ (y : B). Some (y, more)) (made_again x)
+
+  pub built_exact : IsExact (built f make parts_of)
+  built_exact = record { takes = built_takes; again = built_again }
 
 -- ---- all of the bytes
 

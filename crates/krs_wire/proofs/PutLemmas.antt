@@ -1,5 +1,8 @@
 -- Bytes that are put behind others.
-use Rattle.std.proofs.Common.{◌≡◌, List, ◌++◌, ℕ, Result, Ok, Err, OnOk, ap, ◌∙◌, append_assoc}
+use Rattle.std.proofs.Common.{◌≡◌, ◌+◌, ◌<◌, List, [], ◌∷◌, ◌++◌, ℕ, length, get_or, take, Result, Ok, Err, OnOk, ap, sym, subst, ◌∙◌, append_assoc}
+use Rattle.std.proofs.lemmas.List.{take_more, flat_map_more}
+use Rattle.std.specs.List.{flat_map, AllByRecursion}
+use Rattle.krs_wire.specs.Field.{Field}
 
 -- the next bytes stand behind all that were put before them
 pub then_put : {T E : Type 0} (r : Result T E) (out front next mid new : List ℕ)
@@ -7,3 +10,23 @@ pub then_put : {T E : Type 0} (r : Result T E) (out front next mid new : List �
 then_put (Ok x) out front next mid new before put =
     put ∙ ap (λ (bytes : List ℕ). bytes ++ next) before ∙ append_assoc out front next
 then_put (Err x) out front next mid new before put = tt
+
+all_one : {A : Type 0} (P : A → Type 0) (xs : List A) (x : A) → AllByRecursion P xs → P x
+    → AllByRecursion P (xs ++ x ∷ [])
+all_one P [] x all last = (last, tt)
+all_one P (y ∷ ys) x all last = (all.0, all_one P ys x all.1 last)
+
+module _ {A : Type 0} (f : Field A) (xs : List A) (i : ℕ) (d : A) (low : i < length xs) where
+  -- one more of a field stands behind those before it
+  pub then_one : (front mid new : List ℕ) → mid ≡ front ++ flat_map f.spell (take i xs)
+      → new ≡ mid ++ f.spell (get_or xs i d) → new ≡ front ++ flat_map f.spell (take (i + 1) xs)
+  then_one front mid new before put =
+      put ∙ ap (λ (bytes : List ℕ). bytes ++ f.spell (get_or xs i d)) before
+      ∙ flat_map_more f.spell front (take i xs) (get_or xs i d)
+      ∙ ap (λ (ys : List A). front ++ flat_map f.spell ys) (sym (take_more xs i d low))
+
+  -- and all of them fit
+  pub fit_one : AllByRecursion f.Fits (take i xs) → f.Fits (get_or xs i d) → AllByRecursion f.Fits (take (i + 1) xs)
+  fit_one all last =
+      subst (λ (ys : List A). AllByRecursion f.Fits ys) (sym (take_more xs i d low))
+      (all_one f.Fits (take i xs) (get_or xs i d) all last)

@@ -1,11 +1,12 @@
 -- The bodies of the operations: number, fields and ask of each. docs/FORMAT.md, "The asks"; the numbers up to 32 are those
 -- of uapi linux/keyctl.h.
-use Rattle.std.specs.Prelude.{ℕ, ℤ, List}
+use Rattle.std.specs.Prelude.{Bool, ℕ, ℤ, List}
 use Rattle.std.specs.Int.{w16, w32}
 use Rattle.krs_types.specs.declared.caller.Caller.{Caller}
 use Rattle.krs_types.specs.declared.ask.Op.{Op}
-use Rattle.krs_types.specs.declared.ask.Op.TheVariants.{Hello, Add, Update, Revoke, Chown, SetPerm, SetTimeout, Link, Unlink, Clear, Read, Describe, Leave}
-use Rattle.krs_wire.specs.Field.{Field, number, signed, sized, both, counted, nothing}
+use Rattle.krs_types.specs.declared.ask.Op.TheVariants.{Hello, Thread, Fork, Exec, GetId, Join, Search, Request, Add, Update, Revoke, Invalidate, Chown, SetPerm, SetTimeout, Link, Unlink, Clear, Read, Describe, Watch, OpenQueue, SetFilter, ReadQueue, CloseQueue, Exit, Leave}
+use Rattle.krs_types.specs.declared.note.FilterEntry.{FilterEntry}
+use Rattle.krs_wire.specs.Field.{Field, number, signed, sized, flag, both, counted, nothing, repeated, built}
 
 -- an id of a key: 32 bits, signed
 abbrev pub id_field : Field ℤ
@@ -33,6 +34,49 @@ hello_of a = Hello (record { uid = a.0; gid = a.1.0; groups = a.1.1 })
 abbrev pub hello_parts : Caller → ℕ × (ℕ × List ℕ)
 hello_parts caller = (caller.uid, (caller.gid, caller.groups))
 
+abbrev pub thread_of : Unit {0} → Op
+thread_of _ = Thread
+
+abbrev pub fork_of : Unit {0} → Op
+fork_of _ = Fork
+
+abbrev pub exec_of : Unit {0} → Op
+exec_of _ = Exec
+
+-- id, and whether its keyring is made where it is wanted
+abbrev pub get_id_fields : Field (ℤ × Bool)
+get_id_fields = both id_field flag
+
+abbrev pub get_id_of : ℤ × Bool → Op
+get_id_of a = GetId a.0 a.1
+
+abbrev pub get_id_parts : ℤ → (create : Bool) → ℤ × Bool
+get_id_parts id create = (id, create)
+
+-- a name, with no bytes where a keyring without a name is wanted
+abbrev pub join_of : (name : List ℕ) → Op
+join_of name = Join name
+
+-- type name, description, destination
+abbrev pub request_fields : Field (List ℕ × (List ℕ × ℤ))
+request_fields = both text_field (both text_field id_field)
+
+abbrev pub request_of : List ℕ × (List ℕ × ℤ) → Op
+request_of a = Request a.0 a.1.0 a.1.1
+
+abbrev pub request_parts : (type_name desc : List ℕ) → (dest : ℤ) → List ℕ × (List ℕ × ℤ)
+request_parts type_name desc dest = (type_name, (desc, dest))
+
+-- the keyring to search, type name, description, destination
+abbrev pub search_fields : Field (ℤ × (List ℕ × (List ℕ × ℤ)))
+search_fields = both id_field request_fields
+
+abbrev pub search_of : ℤ × (List ℕ × (List ℕ × ℤ)) → Op
+search_of a = Search a.0 a.1.0 a.1.1.0 a.1.1.1
+
+abbrev pub search_parts : (head : ℤ) → (type_name desc : List ℕ) → (dest : ℤ) → ℤ × (List ℕ × (List ℕ × ℤ))
+search_parts head type_name desc dest = (head, (type_name, (desc, dest)))
+
 -- type name, description, payload, keyring
 abbrev pub add_fields : Field (List ℕ × (List ℕ × (List ℕ × ℤ)))
 add_fields = both text_field (both text_field (both blob_field id_field))
@@ -55,6 +99,9 @@ update_parts id payload = (id, payload)
 
 abbrev pub revoke_of : ℤ → Op
 revoke_of id = Revoke id
+
+abbrev pub invalidate_of : ℤ → Op
+invalidate_of id = Invalidate id
 
 -- id, uid, gid
 abbrev pub chown_fields : Field (ℤ × (ℕ × ℕ))
@@ -101,11 +148,68 @@ read_of id = Read id
 abbrev pub describe_of : ℤ → Op
 describe_of id = Describe id
 
+-- id, queue, and the watch's id or -1
+abbrev pub watch_fields : Field (ℤ × (ℕ × ℤ))
+watch_fields = both id_field (both (number w32) (signed w32))
+
+abbrev pub watch_of : ℤ × (ℕ × ℤ) → Op
+watch_of a = Watch a.0 a.1.0 a.1.1
+
+abbrev pub watch_parts : ℤ → (queue : ℕ) → (watch : ℤ) → ℤ × (ℕ × ℤ)
+watch_parts id queue watch = (id, (queue, watch))
+
+abbrev pub open_queue_of : (capacity : ℕ) → Op
+open_queue_of capacity = OpenQueue capacity
+
+-- type, info filter, info mask, eight subtype words
+abbrev pub entry_parts : FilterEntry → ℕ × (ℕ × (ℕ × List ℕ))
+entry_parts entry = (entry.note_type, (entry.info_filter, (entry.info_mask, entry.subtypes)))
+
+abbrev pub entry_of : ℕ × (ℕ × (ℕ × List ℕ)) → FilterEntry
+entry_of a = record { note_type = a.0; info_filter = a.1.0; info_mask = a.1.1.0; subtypes = a.1.1.1 }
+
+-- an entry of a filter, 44 bytes: docs/FORMAT.md, "Filters"
+abbrev pub entry_field : Field FilterEntry
+entry_field =
+    built (both (number w32) (both (number w32) (both (number w32) (repeated 8 (number w32))))) entry_of entry_parts
+
+-- entries: a count of 32 bits, and that many of them
+abbrev pub entries_field : Field (List FilterEntry)
+entries_field = counted entry_field
+
+-- queue, entries
+abbrev pub set_filter_fields : Field (ℕ × List FilterEntry)
+set_filter_fields = both (number w32) entries_field
+
+abbrev pub set_filter_of : ℕ × List FilterEntry → Op
+set_filter_of a = SetFilter a.0 a.1
+
+abbrev pub set_filter_parts : (queue : ℕ) → List FilterEntry → ℕ × List FilterEntry
+set_filter_parts queue entries = (queue, entries)
+
+-- queue, room
+abbrev pub read_queue_fields : Field (ℕ × ℕ)
+read_queue_fields = both (number w32) (number w32)
+
+abbrev pub read_queue_of : ℕ × ℕ → Op
+read_queue_of a = ReadQueue a.0 a.1
+
+abbrev pub read_queue_parts : (queue room : ℕ) → ℕ × ℕ
+read_queue_parts queue room = (queue, room)
+
+abbrev pub close_queue_of : (queue : ℕ) → Op
+close_queue_of queue = CloseQueue queue
+
+abbrev pub exit_of : Unit {0} → Op
+exit_of _ = Exit
+
 abbrev pub leave_of : Unit {0} → Op
 leave_of _ = Leave
 
 -- the number of an operation
 abbrev pub number_of_op : Op → ℕ
+number_of_op (GetId id create) = 0
+number_of_op (Join name) = 1
 number_of_op (Update id payload) = 2
 number_of_op (Revoke id) = 3
 number_of_op (Chown id uid gid) = 4
@@ -114,14 +218,28 @@ number_of_op (Describe id) = 6
 number_of_op (Clear id) = 7
 number_of_op (Link key ring) = 8
 number_of_op (Unlink key ring) = 9
+number_of_op (Search head type_name desc dest) = 10
 number_of_op (Read id) = 11
 number_of_op (SetTimeout id seconds) = 15
+number_of_op (Invalidate id) = 21
+number_of_op (Watch id queue watch) = 32
 number_of_op (Hello caller) = 256
+number_of_op Thread = 257
+number_of_op Fork = 258
+number_of_op Exec = 259
+number_of_op Exit = 260
 number_of_op Leave = 261
 number_of_op (Add type_name desc payload ring) = 262
+number_of_op (Request type_name desc dest) = 263
+number_of_op (OpenQueue capacity) = 264
+number_of_op (SetFilter queue entries) = 265
+number_of_op (ReadQueue queue room) = 266
+number_of_op (CloseQueue queue) = 267
 
 -- the bytes of its body
 abbrev pub body_of_op : Op → List ℕ
+body_of_op (GetId id create) = get_id_fields.spell (get_id_parts id create)
+body_of_op (Join name) = text_field.spell name
 body_of_op (Update id payload) = update_fields.spell (update_parts id payload)
 body_of_op (Revoke id) = id_field.spell id
 body_of_op (Chown id uid gid) = chown_fields.spell (chown_parts id uid gid)
@@ -130,14 +248,28 @@ body_of_op (Describe id) = id_field.spell id
 body_of_op (Clear id) = id_field.spell id
 body_of_op (Link key ring) = link_fields.spell (link_parts key ring)
 body_of_op (Unlink key ring) = link_fields.spell (link_parts key ring)
+body_of_op (Search head type_name desc dest) = search_fields.spell (search_parts head type_name desc dest)
 body_of_op (Read id) = id_field.spell id
 body_of_op (SetTimeout id seconds) = id_number_fields.spell (id_number_parts id seconds)
+body_of_op (Invalidate id) = id_field.spell id
+body_of_op (Watch id queue watch) = watch_fields.spell (watch_parts id queue watch)
 body_of_op (Hello caller) = hello_fields.spell (hello_parts caller)
+body_of_op Thread = nothing.spell tt
+body_of_op Fork = nothing.spell tt
+body_of_op Exec = nothing.spell tt
+body_of_op Exit = nothing.spell tt
 body_of_op Leave = nothing.spell tt
 body_of_op (Add type_name desc payload ring) = add_fields.spell (add_parts type_name desc payload ring)
+body_of_op (Request type_name desc dest) = request_fields.spell (request_parts type_name desc dest)
+body_of_op (OpenQueue capacity) = (number w32).spell capacity
+body_of_op (SetFilter queue entries) = set_filter_fields.spell (set_filter_parts queue entries)
+body_of_op (ReadQueue queue room) = read_queue_fields.spell (read_queue_parts queue room)
+body_of_op (CloseQueue queue) = (number w32).spell queue
 
 -- what its body can spell
 abbrev pub FitsOp : Op → Type 0
+FitsOp (GetId id create) = get_id_fields.Fits (get_id_parts id create)
+FitsOp (Join name) = text_field.Fits name
 FitsOp (Update id payload) = update_fields.Fits (update_parts id payload)
 FitsOp (Revoke id) = id_field.Fits id
 FitsOp (Chown id uid gid) = chown_fields.Fits (chown_parts id uid gid)
@@ -146,8 +278,20 @@ FitsOp (Describe id) = id_field.Fits id
 FitsOp (Clear id) = id_field.Fits id
 FitsOp (Link key ring) = link_fields.Fits (link_parts key ring)
 FitsOp (Unlink key ring) = link_fields.Fits (link_parts key ring)
+FitsOp (Search head type_name desc dest) = search_fields.Fits (search_parts head type_name desc dest)
 FitsOp (Read id) = id_field.Fits id
 FitsOp (SetTimeout id seconds) = id_number_fields.Fits (id_number_parts id seconds)
+FitsOp (Invalidate id) = id_field.Fits id
+FitsOp (Watch id queue watch) = watch_fields.Fits (watch_parts id queue watch)
 FitsOp (Hello caller) = hello_fields.Fits (hello_parts caller)
+FitsOp Thread = nothing.Fits tt
+FitsOp Fork = nothing.Fits tt
+FitsOp Exec = nothing.Fits tt
+FitsOp Exit = nothing.Fits tt
 FitsOp Leave = nothing.Fits tt
 FitsOp (Add type_name desc payload ring) = add_fields.Fits (add_parts type_name desc payload ring)
+FitsOp (Request type_name desc dest) = request_fields.Fits (request_parts type_name desc dest)
+FitsOp (OpenQueue capacity) = (number w32).Fits capacity
+FitsOp (SetFilter queue entries) = set_filter_fields.Fits (set_filter_parts queue entries)
+FitsOp (ReadQueue queue room) = read_queue_fields.Fits (read_queue_parts queue room)
+FitsOp (CloseQueue queue) = (number w32).Fits queue

@@ -1,6 +1,6 @@
 -- Fields of frames: how each is spelled and how it is read. What fits is read again as it was spelled. docs/FORMAT.md,
 -- "Fields of bodies".
-use Rattle.std.specs.Prelude.{ℕ, ℤ, FitsSigned, zero, suc, ◌<◌, ◌^◌, ◌==◌, List, [], ◌∷◌, ◌++◌, length, take, drop, Option, Some, None, nat_lt, if◌then◌else◌}
+use Rattle.std.specs.Prelude.{◌≡◌, Bool, true, false, ℕ, ℤ, FitsSigned, zero, suc, ◌<◌, ◌^◌, ◌==◌, List, [], ◌∷◌, ◌++◌, length, take, drop, Option, Some, None, nat_lt, if◌then◌else◌}
 use Rattle.std.specs.Option.{option_and_then}
 use Rattle.std.specs.List.{flat_map, AllByRecursion}
 use Rattle.std.specs.Int.{Width, w32, byte_len, from_le_bytes, to_le_bytes, cast_signed, cast_unsigned}
@@ -35,6 +35,19 @@ sized w = record {
   read = λ bytes. option_and_then (λ n. if nat_lt (length n.1) n.0 then None else Some (take n.0 n.1, drop n.0 n.1)) ((number w).read bytes);
 }
 
+-- what a flag at the front says: its byte has to be 0 or 1
+abbrev pub flag_read : List ℕ → Option (Bool × List ℕ)
+flag_read [] = None
+flag_read (n ∷ bytes) = if n == 0 then Some (false, bytes) else if n == 1 then Some (true, bytes) else None
+
+-- a byte that is 1 for yes and 0 for no
+abbrev pub flag : Field Bool
+flag = record {
+  Fits = λ b. Unit {0};
+  spell = λ b. (if b then 1 else 0) ∷ [];
+  read = flag_read;
+}
+
 -- no bytes
 abbrev pub nothing : Field (Unit {0})
 nothing = record {
@@ -62,6 +75,22 @@ counted f = record {
   Fits = λ xs. (length xs < 256 ^ 4) × AllByRecursion f.Fits xs;
   spell = λ xs. to_le_bytes w32 (length xs) ++ flat_map f.spell xs;
   read = λ bytes. option_and_then (λ n. many_read f n.0 n.1) ((number w32).read bytes);
+}
+
+-- exactly so many of a field, without a count
+abbrev pub repeated : {A : Type 0} → ℕ → Field A → Field (List A)
+repeated n f = record {
+  Fits = λ xs. (length xs ≡ n) × AllByRecursion f.Fits xs;
+  spell = λ xs. flat_map f.spell xs;
+  read = λ bytes. many_read f n bytes;
+}
+
+-- a value by its parts
+abbrev pub built : {A B : Type 0} → Field A → (A → B) → (B → A) → Field B
+built f make parts = record {
+  Fits = λ x. f.Fits (parts x);
+  spell = λ x. f.spell (parts x);
+  read = λ bytes. option_and_then (λ a. Some (make a.0, a.1)) (f.read bytes);
 }
 
 -- what the bytes say where a field takes all of them

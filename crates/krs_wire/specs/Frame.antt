@@ -8,12 +8,14 @@ use Rattle.krs_wire.specs.declared.fault.WireFault.TheVariants.{BadLength, BadVe
 use Rattle.krs_wire.specs.declared.framed.Framed.{Framed}
 use Rattle.krs_wire.specs.Field.{Field, number, both, nothing, whole}
 use Rattle.krs_wire.specs.Faulting.{after, or_bad_body}
-use Rattle.krs_wire.specs.Bodies.{id_field, hello_fields, hello_of, add_fields, add_of, update_fields, update_of, revoke_of, chown_fields, chown_of, id_number_fields, set_perm_of, set_timeout_of, link_fields, link_of, unlink_of, clear_of, read_of, describe_of, leave_of}
+use Rattle.krs_wire.specs.Bodies.{id_field, text_field, hello_fields, hello_of, thread_of, fork_of, exec_of, exit_of, get_id_fields, get_id_of, join_of, search_fields, search_of, request_fields, request_of, add_fields, add_of, update_fields, update_of, revoke_of, invalidate_of, chown_fields, chown_of, id_number_fields, set_perm_of, set_timeout_of, link_fields, link_of, unlink_of, clear_of, read_of, describe_of, watch_fields, watch_of, open_queue_of, set_filter_fields, set_filter_of, read_queue_fields, read_queue_of, close_queue_of, leave_of}
 
 -- what a body says for an operation's number
 unfoldable pub op_of : ℕ → List ℕ → Result Op WireFault
 op_of which body =
-    if which == 2 then or_bad_body (whole update_fields update_of body)
+    if which == 0 then or_bad_body (whole get_id_fields get_id_of body)
+    else if which == 1 then or_bad_body (whole text_field join_of body)
+    else if which == 2 then or_bad_body (whole update_fields update_of body)
     else if which == 3 then or_bad_body (whole id_field revoke_of body)
     else if which == 4 then or_bad_body (whole chown_fields chown_of body)
     else if which == 5 then or_bad_body (whole id_number_fields set_perm_of body)
@@ -21,11 +23,23 @@ op_of which body =
     else if which == 7 then or_bad_body (whole id_field clear_of body)
     else if which == 8 then or_bad_body (whole link_fields link_of body)
     else if which == 9 then or_bad_body (whole link_fields unlink_of body)
+    else if which == 10 then or_bad_body (whole search_fields search_of body)
     else if which == 11 then or_bad_body (whole id_field read_of body)
     else if which == 15 then or_bad_body (whole id_number_fields set_timeout_of body)
+    else if which == 21 then or_bad_body (whole id_field invalidate_of body)
+    else if which == 32 then or_bad_body (whole watch_fields watch_of body)
     else if which == 256 then or_bad_body (whole hello_fields hello_of body)
+    else if which == 257 then or_bad_body (whole nothing thread_of body)
+    else if which == 258 then or_bad_body (whole nothing fork_of body)
+    else if which == 259 then or_bad_body (whole nothing exec_of body)
+    else if which == 260 then or_bad_body (whole nothing exit_of body)
     else if which == 261 then or_bad_body (whole nothing leave_of body)
     else if which == 262 then or_bad_body (whole add_fields add_of body)
+    else if which == 263 then or_bad_body (whole request_fields request_of body)
+    else if which == 264 then or_bad_body (whole (number w32) open_queue_of body)
+    else if which == 265 then or_bad_body (whole set_filter_fields set_filter_of body)
+    else if which == 266 then or_bad_body (whole read_queue_fields read_queue_of body)
+    else if which == 267 then or_bad_body (whole (number w32) close_queue_of body)
     else Err BadOp
 
 -- version, operation, context

@@ -4,7 +4,7 @@ use Rattle.std.specs.Int.{w32, to_le_bytes}
 use Rattle.krs_types.specs.declared.ask.Answer.{Answer}
 use Rattle.krs_types.specs.declared.ask.Answer.TheVariants.{Nothing, Number, Bytes}
 use Rattle.krs_types.specs.declared.ask.Op.{Op}
-use Rattle.krs_types.specs.declared.ask.Op.TheVariants.{Hello, Add, Update, Revoke, Chown, SetPerm, SetTimeout, Link, Unlink, Clear, Read, Describe, Leave}
+use Rattle.krs_types.specs.declared.ask.Op.TheVariants.{Hello, Thread, Fork, Exec, GetId, Join, Search, Request, Add, Update, Revoke, Invalidate, Chown, SetPerm, SetTimeout, Link, Unlink, Clear, Read, Describe, Watch, OpenQueue, SetFilter, ReadQueue, CloseQueue, Exit, Leave}
 use Rattle.krs_types.specs.declared.errno.Errno.{Errno}
 use Rattle.krs_types.specs.Errno.{number_of, errnos}
 use Rattle.krs_wire.specs.declared.fault.WireFault.{WireFault}
@@ -35,6 +35,8 @@ reply_frame reply = frame_of (status_of reply) (body_of reply)
 
 -- what kind of answer an operation gets: docs/FORMAT.md, "The asks"
 abbrev pub shape_of : Op → Shape
+shape_of (GetId id create) = shapes.Number
+shape_of (Join name) = shapes.Number
 shape_of (Update id payload) = shapes.Nothing
 shape_of (Revoke id) = shapes.Nothing
 shape_of (Chown id uid gid) = shapes.Nothing
@@ -43,11 +45,23 @@ shape_of (Describe id) = shapes.Bytes
 shape_of (Clear id) = shapes.Nothing
 shape_of (Link key ring) = shapes.Nothing
 shape_of (Unlink key ring) = shapes.Nothing
+shape_of (Search head type_name desc dest) = shapes.Number
 shape_of (Read id) = shapes.Bytes
 shape_of (SetTimeout id seconds) = shapes.Nothing
+shape_of (Invalidate id) = shapes.Nothing
+shape_of (Watch id queue watch) = shapes.Nothing
 shape_of (Hello caller) = shapes.Number
+shape_of Thread = shapes.Number
+shape_of Fork = shapes.Number
+shape_of Exec = shapes.Nothing
+shape_of Exit = shapes.Nothing
 shape_of Leave = shapes.Nothing
 shape_of (Add type_name desc payload ring) = shapes.Number
+shape_of (Request type_name desc dest) = shapes.Number
+shape_of (OpenQueue capacity) = shapes.Number
+shape_of (SetFilter queue entries) = shapes.Nothing
+shape_of (ReadQueue queue room) = shapes.Bytes
+shape_of (CloseQueue queue) = shapes.Nothing
 
 -- an error, or an answer of the kind
 abbrev pub HasShape : Shape → Result Answer Errno → Type 0

@@ -1,11 +1,14 @@
 // Asks read from their frames: a function for each operation's body, and the frame at the front of a stream.
 ghost use Rattle.std.specs.Prelude.{◌≡◌, ◌<◌, ◌-◌, drop, IfOk, IfSome, length, option_map};
-ghost use Rattle.krs_wire.specs.Field.{whole};
+ghost use Rattle.std.specs.Int.{w32};
+ghost use Rattle.krs_wire.specs.Field.{number, whole};
 ghost use Rattle.krs_wire.specs.Faulting.{Gives, or_bad_body};
-ghost use Rattle.krs_wire.specs.Bodies.{add_fields, add_of, chown_fields, chown_of, clear_of, describe_of, hello_fields, hello_of, id_field, id_number_fields, link_fields, link_of, read_of, revoke_of, set_perm_of, set_timeout_of, unlink_of, update_fields, update_of};
+ghost use Rattle.krs_wire.specs.Bodies.{add_fields, add_of, chown_fields, chown_of, clear_of, describe_of, get_id_fields, get_id_of, hello_fields, hello_of, id_field, id_number_fields, invalidate_of, join_of, link_fields, link_of, read_of, request_fields, request_of, revoke_of, search_fields, search_of, set_perm_of, set_timeout_of, text_field, unlink_of, update_fields, update_of, watch_fields, watch_of, open_queue_of, set_filter_fields, set_filter_of, read_queue_fields, read_queue_of, close_queue_of};
 ghost use Rattle.krs_wire.specs.Frame.{op_of, framed_of, front_of};
 
-use crate::fields::{blob_at, ended, groups_at, id_at, text_at, u16_at, u32_at};
+use crate::fields::{
+    blob_at, ended, entries_at, flag_at, groups_at, id_at, text_at, u16_at, u32_at,
+};
 use crate::framed::{MAX_LENGTH, MIN_LENGTH, VERSION};
 use crate::{Framed, WireFault};
 use byteorder::{ByteOrder, LittleEndian};
@@ -19,6 +22,51 @@ fn hello_at(alloc: Global, body: &[u8]) -> Result<Op, WireFault>
     let (gid, rest) = u32_at(rest)?;
     let (groups, rest) = groups_at(alloc, rest)?;
     ended(Op::Hello(Caller { uid, gid, groups }), rest)
+}
+
+fn get_id_at(body: &[u8]) -> Result<Op, WireFault>
+    ensures { Gives (λ op. op) result (or_bad_body (whole get_id_fields get_id_of body.now)) }
+{
+    let (id, rest) = id_at(body)?;
+    let (create, rest) = flag_at(rest)?;
+    ended(Op::GetId { id, create }, rest)
+}
+
+fn join_at(alloc: Global, body: &[u8]) -> Result<Op, WireFault>
+    ensures { Gives (λ op. op) result (or_bad_body (whole text_field join_of body.now)) }
+{
+    let (name, rest) = text_at(alloc, body)?;
+    ended(Op::Join { name }, rest)
+}
+
+fn search_at(alloc: Global, body: &[u8]) -> Result<Op, WireFault>
+    ensures { Gives (λ op. op) result (or_bad_body (whole search_fields search_of body.now)) }
+{
+    let (head, rest) = id_at(body)?;
+    let (type_name, rest) = text_at(alloc, rest)?;
+    let (desc, rest) = text_at(alloc, rest)?;
+    let (dest, rest) = id_at(rest)?;
+    let op = Op::Search {
+        head,
+        type_name,
+        desc,
+        dest,
+    };
+    ended(op, rest)
+}
+
+fn request_at(alloc: Global, body: &[u8]) -> Result<Op, WireFault>
+    ensures { Gives (λ op. op) result (or_bad_body (whole request_fields request_of body.now)) }
+{
+    let (type_name, rest) = text_at(alloc, body)?;
+    let (desc, rest) = text_at(alloc, rest)?;
+    let (dest, rest) = id_at(rest)?;
+    let op = Op::Request {
+        type_name,
+        desc,
+        dest,
+    };
+    ended(op, rest)
 }
 
 fn add_at(alloc: Global, body: &[u8]) -> Result<Op, WireFault>
@@ -50,6 +98,13 @@ fn revoke_at(body: &[u8]) -> Result<Op, WireFault>
 {
     let (id, rest) = id_at(body)?;
     ended(Op::Revoke { id }, rest)
+}
+
+fn invalidate_at(body: &[u8]) -> Result<Op, WireFault>
+    ensures { Gives (λ op. op) result (or_bad_body (whole id_field invalidate_of body.now)) }
+{
+    let (id, rest) = id_at(body)?;
+    ended(Op::Invalidate { id }, rest)
 }
 
 fn chown_at(body: &[u8]) -> Result<Op, WireFault>
@@ -114,11 +169,52 @@ fn describe_at(body: &[u8]) -> Result<Op, WireFault>
     ended(Op::Describe { id }, rest)
 }
 
+fn watch_at(body: &[u8]) -> Result<Op, WireFault>
+    ensures { Gives (λ op. op) result (or_bad_body (whole watch_fields watch_of body.now)) }
+{
+    let (id, rest) = id_at(body)?;
+    let (queue, rest) = u32_at(rest)?;
+    let (watch, rest) = id_at(rest)?;
+    ended(Op::Watch { id, queue, watch }, rest)
+}
+
+fn open_queue_at(body: &[u8]) -> Result<Op, WireFault>
+    ensures { Gives (λ op. op) result (or_bad_body (whole (number w32) open_queue_of body.now)) }
+{
+    let (capacity, rest) = u32_at(body)?;
+    ended(Op::OpenQueue { capacity }, rest)
+}
+
+fn set_filter_at(alloc: Global, body: &[u8]) -> Result<Op, WireFault>
+    ensures { Gives (λ op. op) result (or_bad_body (whole set_filter_fields set_filter_of body.now)) }
+{
+    let (queue, rest) = u32_at(body)?;
+    let (entries, rest) = entries_at(alloc, rest)?;
+    ended(Op::SetFilter { queue, entries }, rest)
+}
+
+fn read_queue_at(body: &[u8]) -> Result<Op, WireFault>
+    ensures { Gives (λ op. op) result (or_bad_body (whole read_queue_fields read_queue_of body.now)) }
+{
+    let (queue, rest) = u32_at(body)?;
+    let (room, rest) = u32_at(rest)?;
+    ended(Op::ReadQueue { queue, room }, rest)
+}
+
+fn close_queue_at(body: &[u8]) -> Result<Op, WireFault>
+    ensures { Gives (λ op. op) result (or_bad_body (whole (number w32) close_queue_of body.now)) }
+{
+    let (queue, rest) = u32_at(body)?;
+    ended(Op::CloseQueue { queue }, rest)
+}
+
 #[tactic(auto, unfolding(crate::specs::Frame::op_of))]
 fn op_at(alloc: Global, which: u16, body: &[u8]) -> Result<Op, WireFault>
     ensures { Gives (λ op. op) result (op_of which body.now) }
 {
     match which {
+        0 => get_id_at(body),
+        1 => join_at(alloc, body),
         2 => update_at(alloc, body),
         3 => revoke_at(body),
         4 => chown_at(body),
@@ -127,11 +223,23 @@ fn op_at(alloc: Global, which: u16, body: &[u8]) -> Result<Op, WireFault>
         7 => clear_at(body),
         8 => link_at(body),
         9 => unlink_at(body),
+        10 => search_at(alloc, body),
         11 => read_at(body),
         15 => set_timeout_at(body),
+        21 => invalidate_at(body),
+        32 => watch_at(body),
         256 => hello_at(alloc, body),
+        257 => ended(Op::Thread, body),
+        258 => ended(Op::Fork, body),
+        259 => ended(Op::Exec, body),
+        260 => ended(Op::Exit, body),
         261 => ended(Op::Leave, body),
         262 => add_at(alloc, body),
+        263 => request_at(alloc, body),
+        264 => open_queue_at(body),
+        265 => set_filter_at(alloc, body),
+        266 => read_queue_at(body),
+        267 => close_queue_at(body),
         _ => Err(WireFault::BadOp),
     }
 }

@@ -1,13 +1,15 @@
 ghost use Rattle.std.specs.Prelude.{◌≡◌, ◌≤◌, ◌<◌, ◌^◌, ◌++◌, [], ◌∷◌, length, drop, vec_len, IfOk, IfErr, OnOk};
 ghost use Rattle.std.specs.Int.{w16, w32, to_le_bytes};
-ghost use Rattle.krs_wire.specs.Bodies.{number_of_op, body_of_op, FitsOp, id_field, text_field, blob_field, groups_field, hello_fields, hello_parts, add_fields, add_parts, update_fields, update_parts, chown_fields, chown_parts, id_number_fields, id_number_parts, link_fields, link_parts};
+ghost use Rattle.std.specs.List.{flat_map, AllByRecursion};
+ghost use Rattle.krs_wire.specs.Bodies.{number_of_op, body_of_op, FitsOp, id_field, text_field, blob_field, groups_field, hello_fields, hello_parts, add_fields, add_parts, update_fields, update_parts, chown_fields, chown_parts, id_number_fields, id_number_parts, link_fields, link_parts, get_id_fields, get_id_parts, request_fields, request_parts, search_fields, search_parts, watch_fields, watch_parts, entry_field, entries_field, set_filter_fields, set_filter_parts, read_queue_fields, read_queue_parts};
+ghost use Rattle.krs_wire.specs.Field.{flag, number, repeated};
 ghost use Rattle.krs_wire.specs.Frame.{Frames, rest};
 ghost use Rattle.krs_wire.specs.Spelling.{framed, ask_text, ask_frame, IsTooLong};
 
 use crate::WireFault;
 use crate::framed::{MAX_LENGTH, VERSION};
 use byteorder::{ByteOrder, LittleEndian};
-use krs_types::{Ask, Blob, Caller, Groups, Op};
+use krs_types::{Ask, Blob, Caller, FilterEntries, FilterEntry, Groups, Op};
 use std::alloc::{AllocError, Global};
 
 /// The number of an operation on the wire.
@@ -15,6 +17,8 @@ fn operation_number(op: &Op) -> u16
     ensures { result ≡ number_of_op op.now }
 {
     match op {
+        Op::GetId { .. } => 0,
+        Op::Join { .. } => 1,
         Op::Update { .. } => 2,
         Op::Revoke { .. } => 3,
         Op::Chown { .. } => 4,
@@ -23,11 +27,23 @@ fn operation_number(op: &Op) -> u16
         Op::Clear { .. } => 7,
         Op::Link { .. } => 8,
         Op::Unlink { .. } => 9,
+        Op::Search { .. } => 10,
         Op::Read { .. } => 11,
         Op::SetTimeout { .. } => 15,
+        Op::Invalidate { .. } => 21,
+        Op::Watch { .. } => 32,
         Op::Hello(_) => 256,
+        Op::Thread => 257,
+        Op::Fork => 258,
+        Op::Exec => 259,
+        Op::Exit => 260,
         Op::Leave => 261,
         Op::Add { .. } => 262,
+        Op::Request { .. } => 263,
+        Op::OpenQueue { .. } => 264,
+        Op::SetFilter { .. } => 265,
+        Op::ReadQueue { .. } => 266,
+        Op::CloseQueue { .. } => 267,
     }
 }
 
@@ -51,6 +67,12 @@ fn put_id(out: &mut Vec<u8>, id: i32) -> Result<(), AllocError>
     ensures { OnOk result (out.new.items ≡ out.old.items ++ id_field.spell id) }
 {
     put_u32(out, id.cast_unsigned())
+}
+
+fn put_flag(out: &mut Vec<u8>, is_set: bool) -> Result<(), AllocError>
+    ensures { OnOk result (out.new.items ≡ out.old.items ++ flag.spell is_set) }
+{
+    out.extend_from_slice(&[u8::from(is_set)])
 }
 
 fn put_text(out: &mut Vec<u8>, text: &Blob) -> Result<(), WireFault>
@@ -81,6 +103,18 @@ fn put_blob(out: &mut Vec<u8>, blob: &Blob) -> Result<(), WireFault>
     Ok(())
 }
 
+/// The numbers, without their count.
+fn put_numbers(out: &mut Vec<u8>, numbers: &[u32]) -> Result<(), AllocError>
+    ensures ok { OnOk result (out.new.items ≡
+        out.old.items ++ flat_map (λ n. to_le_bytes w32 n) numbers.now) }
+    ensures fits { OnOk result (AllByRecursion (λ n. n < 256 ^ 4) numbers.now) }
+{
+    for number in numbers {
+        put_u32(out, *number)?;
+    }
+    Ok(())
+}
+
 fn put_groups(out: &mut Vec<u8>, groups: &Groups) -> Result<(), WireFault>
     ensures ok { OnOk result (out.new.items ≡ out.old.items ++ groups_field.spell groups.now) }
     ensures fits { OnOk result (groups_field.Fits groups.now) }
@@ -91,9 +125,7 @@ fn put_groups(out: &mut Vec<u8>, groups: &Groups) -> Result<(), WireFault>
         return Err(WireFault::BadLength);
     }
     put_u32(out, numbers.len() as u32)?;
-    for number in numbers {
-        put_u32(out, *number)?;
-    }
+    put_numbers(out, numbers)?;
     Ok(())
 }
 
@@ -163,12 +195,107 @@ fn put_link(out: &mut Vec<u8>, key: i32, ring: i32) -> Result<(), AllocError>
     put_id(out, ring)
 }
 
+fn put_get_id(out: &mut Vec<u8>, id: i32, create: bool) -> Result<(), AllocError>
+    ensures { OnOk result
+        (out.new.items ≡ out.old.items ++ get_id_fields.spell (get_id_parts id create)) }
+{
+    put_id(out, id)?;
+    put_flag(out, create)
+}
+
+fn put_request(out: &mut Vec<u8>, type_name: &Blob, desc: &Blob, dest: i32) -> Result<(), WireFault>
+    ensures ok { OnOk result (out.new.items ≡
+        out.old.items ++ request_fields.spell (request_parts type_name.now desc.now dest)) }
+    ensures fits { OnOk result (request_fields.Fits (request_parts type_name.now desc.now dest)) }
+    ensures long { IfErr result (IsTooLong 65536
+        (request_fields.spell (request_parts type_name.now desc.now dest))) }
+{
+    put_text(out, type_name)?;
+    put_text(out, desc)?;
+    put_id(out, dest)?;
+    Ok(())
+}
+
+fn put_search(
+    out: &mut Vec<u8>,
+    head: i32,
+    type_name: &Blob,
+    desc: &Blob,
+    dest: i32,
+) -> Result<(), WireFault>
+    ensures ok { OnOk result (out.new.items ≡
+        out.old.items ++ search_fields.spell (search_parts head type_name.now desc.now dest)) }
+    ensures fits { OnOk result
+        (search_fields.Fits (search_parts head type_name.now desc.now dest)) }
+    ensures long { IfErr result (IsTooLong 65536
+        (search_fields.spell (search_parts head type_name.now desc.now dest))) }
+{
+    put_id(out, head)?;
+    put_request(out, type_name, desc, dest)
+}
+
+fn put_watch(out: &mut Vec<u8>, id: i32, queue: u32, watch: i32) -> Result<(), AllocError>
+    ensures { OnOk result
+        (out.new.items ≡ out.old.items ++ watch_fields.spell (watch_parts id queue watch)) }
+{
+    put_id(out, id)?;
+    put_u32(out, queue)?;
+    put_id(out, watch)
+}
+
+fn put_read_queue(out: &mut Vec<u8>, queue: u32, room: u32) -> Result<(), AllocError>
+    ensures { OnOk result
+        (out.new.items ≡ out.old.items ++ read_queue_fields.spell (read_queue_parts queue room)) }
+{
+    put_u32(out, queue)?;
+    put_u32(out, room)
+}
+
+fn put_entry(out: &mut Vec<u8>, line: &FilterEntry) -> Result<(), AllocError>
+    ensures ok { OnOk result (out.new.items ≡ out.old.items ++ entry_field.spell line.now) }
+    ensures fits { OnOk result (entry_field.Fits line.now) }
+{
+    put_u32(out, line.note_type)?;
+    put_u32(out, line.info_filter)?;
+    put_u32(out, line.info_mask)?;
+    put_numbers(out, &line.subtypes)
+}
+
+fn put_entries(out: &mut Vec<u8>, entries: &FilterEntries) -> Result<(), WireFault>
+    ensures ok { OnOk result (out.new.items ≡ out.old.items ++ entries_field.spell entries.now) }
+    ensures fits { OnOk result (entries_field.Fits entries.now) }
+    ensures long { IfErr result (IsTooLong 65536 (entries_field.spell entries.now)) }
+{
+    let lines = entries.as_slice();
+    if lines.len() > MAX_LENGTH {
+        return Err(WireFault::BadLength);
+    }
+    put_u32(out, lines.len() as u32)?;
+    for line in lines {
+        put_entry(out, line)?;
+    }
+    Ok(())
+}
+
+fn put_set_filter(out: &mut Vec<u8>, queue: u32, entries: &FilterEntries) -> Result<(), WireFault>
+    ensures ok { OnOk result (out.new.items ≡
+        out.old.items ++ set_filter_fields.spell (set_filter_parts queue entries.now)) }
+    ensures fits { OnOk result (set_filter_fields.Fits (set_filter_parts queue entries.now)) }
+    ensures long { IfErr result (IsTooLong 65536
+        (set_filter_fields.spell (set_filter_parts queue entries.now))) }
+{
+    put_u32(out, queue)?;
+    put_entries(out, entries)
+}
+
 fn put_body(out: &mut Vec<u8>, op: &Op) -> Result<(), WireFault>
     ensures ok { OnOk result (out.new.items ≡ out.old.items ++ body_of_op op.now) }
     ensures fits { OnOk result (FitsOp op.now) }
     ensures long { IfErr result (IsTooLong 65536 (body_of_op op.now)) }
 {
     match op {
+        Op::GetId { id, create } => put_get_id(out, *id, *create)?,
+        Op::Join { name } => put_text(out, name)?,
         Op::Update { id, payload } => put_update(out, *id, payload)?,
         Op::Revoke { id } => put_id(out, *id)?,
         Op::Chown { id, uid, gid } => put_chown(out, *id, *uid, *gid)?,
@@ -177,16 +304,34 @@ fn put_body(out: &mut Vec<u8>, op: &Op) -> Result<(), WireFault>
         Op::Clear { id } => put_id(out, *id)?,
         Op::Link { key, ring } => put_link(out, *key, *ring)?,
         Op::Unlink { key, ring } => put_link(out, *key, *ring)?,
+        Op::Search {
+            head,
+            type_name,
+            desc,
+            dest,
+        } => put_search(out, *head, type_name, desc, *dest)?,
         Op::Read { id } => put_id(out, *id)?,
         Op::SetTimeout { id, seconds } => put_id_number(out, *id, *seconds)?,
+        Op::Invalidate { id } => put_id(out, *id)?,
+        Op::Watch { id, queue, watch } => put_watch(out, *id, *queue, *watch)?,
         Op::Hello(caller) => put_hello(out, caller)?,
-        Op::Leave => (),
+        Op::Thread | Op::Fork | Op::Exec => (),
+        Op::Exit | Op::Leave => (),
         Op::Add {
             type_name,
             desc,
             payload,
             ring,
         } => put_add(out, type_name, desc, payload, *ring)?,
+        Op::Request {
+            type_name,
+            desc,
+            dest,
+        } => put_request(out, type_name, desc, *dest)?,
+        Op::OpenQueue { capacity } => put_u32(out, *capacity)?,
+        Op::SetFilter { queue, entries } => put_set_filter(out, *queue, entries)?,
+        Op::ReadQueue { queue, room } => put_read_queue(out, *queue, *room)?,
+        Op::CloseQueue { queue } => put_u32(out, *queue)?,
     }
     Ok(())
 }

@@ -1,13 +1,13 @@
 // The fields of frames, each read from the front of the bytes, which the reader answers with what follows it.
 ghost use Rattle.std.specs.Prelude.{◌≡◌, ◌==◌, length, if◌then◌else◌};
 ghost use Rattle.std.specs.Int.{w16, w32};
-ghost use Rattle.krs_wire.specs.Bodies.{id_field, text_field, blob_field, groups_field};
-ghost use Rattle.krs_wire.specs.Field.{number, many_read};
+ghost use Rattle.krs_wire.specs.Bodies.{id_field, text_field, blob_field, groups_field, entry_field, entries_field};
+ghost use Rattle.krs_wire.specs.Field.{flag, number, many_read, repeated};
 ghost use Rattle.krs_wire.specs.Faulting.{Gives, or_bad_body};
 
 use crate::WireFault;
 use byteorder::{ByteOrder, LittleEndian};
-use krs_types::{Blob, Groups};
+use krs_types::{Blob, FilterEntries, FilterEntry, Groups};
 use std::alloc::Global;
 
 pub(crate) fn u16_at(bytes: &[u8]) -> Result<(u16, &[u8]), WireFault>
@@ -35,6 +35,16 @@ pub(crate) fn id_at(bytes: &[u8]) -> Result<(i32, &[u8]), WireFault>
 {
     let (number, rest) = u32_at(bytes)?;
     Ok((number.cast_signed(), rest))
+}
+
+pub(crate) fn flag_at(bytes: &[u8]) -> Result<(bool, &[u8]), WireFault>
+    ensures { Gives (λ x. (x.0, x.1.now)) result (or_bad_body (flag.read bytes.now)) }
+{
+    match bytes {
+        [0, rest @ ..] => Ok((false, rest)),
+        [1, rest @ ..] => Ok((true, rest)),
+        _ => Err(WireFault::BadBody),
+    }
 }
 
 pub(crate) fn text_at(alloc: Global, bytes: &[u8]) -> Result<(Blob, &[u8]), WireFault>
@@ -85,6 +95,69 @@ pub(crate) fn groups_at(alloc: Global, bytes: &[u8]) -> Result<(Groups, &[u8]), 
     let (count, rest) = u32_at(bytes)?;
     let (numbers, rest) = numbers_at(alloc, count, rest)?;
     Ok((Groups::new(numbers), rest))
+}
+
+/// The subtype words of a filter entry.
+#[tactic(auto, unfolding(crate::specs::Field::many_read))]
+fn subtypes_at(bytes: &[u8]) -> Result<([u32; 8], &[u8]), WireFault>
+    ensures { Gives (λ x. (x.0, x.1.now)) result (or_bad_body ((repeated 8 (number w32)).read bytes.now)) }
+{
+    let (first, rest) = u32_at(bytes)?;
+    let (second, rest) = u32_at(rest)?;
+    let (third, rest) = u32_at(rest)?;
+    let (fourth, rest) = u32_at(rest)?;
+    let (fifth, rest) = u32_at(rest)?;
+    let (sixth, rest) = u32_at(rest)?;
+    let (seventh, rest) = u32_at(rest)?;
+    let (eighth, rest) = u32_at(rest)?;
+    let words = [first, second, third, fourth, fifth, sixth, seventh, eighth];
+    Ok((words, rest))
+}
+
+fn entry_at(bytes: &[u8]) -> Result<(FilterEntry, &[u8]), WireFault>
+    ensures { Gives (λ x. (x.0, x.1.now)) result (or_bad_body (entry_field.read bytes.now)) }
+{
+    let (note_type, rest) = u32_at(bytes)?;
+    let (info_filter, rest) = u32_at(rest)?;
+    let (info_mask, rest) = u32_at(rest)?;
+    let (subtypes, rest) = subtypes_at(rest)?;
+    let entry = FilterEntry {
+        note_type,
+        info_filter,
+        info_mask,
+        subtypes,
+    };
+    Ok((entry, rest))
+}
+
+fn so_many_entries_at(
+    alloc: Global,
+    count: u32,
+    bytes: &[u8],
+) -> Result<(Vec<FilterEntry>, &[u8]), WireFault>
+    ensures { Gives (λ x. (x.0.items, x.1.now)) result
+        (or_bad_body (many_read entry_field count bytes.now)) }
+{
+    let mut entries = Vec::new(alloc);
+    let mut rest = bytes;
+    for _ in 0..count {
+        match entry_at(rest) {
+            Err(fault) => return Err(fault),
+            Ok((entry, after)) => {
+                entries.push(entry)?;
+                rest = after;
+            }
+        }
+    }
+    Ok((entries, rest))
+}
+
+pub(crate) fn entries_at(alloc: Global, bytes: &[u8]) -> Result<(FilterEntries, &[u8]), WireFault>
+    ensures { Gives (λ x. (x.0, x.1.now)) result (or_bad_body (entries_field.read bytes.now)) }
+{
+    let (count, rest) = u32_at(bytes)?;
+    let (entries, rest) = so_many_entries_at(alloc, count, rest)?;
+    Ok((FilterEntries::new(entries), rest))
 }
 
 /// The value where no bytes are left, else BadBody.

@@ -17,11 +17,20 @@ impl Shape {
         ensures { result ≡ shape_of op.now }
     {
         match op {
-            Op::Hello(_) | Op::Add { .. } => Shape::Number,
+            Op::Hello(_) | Op::Thread | Op::Fork => Shape::Number,
+            Op::GetId { .. } | Op::Join { .. } | Op::Add { .. } => Shape::Number,
+            Op::Search { .. } | Op::Request { .. } => Shape::Number,
+            Op::OpenQueue { .. } => Shape::Number,
             Op::Read { .. } | Op::Describe { .. } => Shape::Bytes,
+            Op::ReadQueue { .. } => Shape::Bytes,
             Op::Update { .. } | Op::Revoke { .. } | Op::Chown { .. } => Shape::Nothing,
             Op::SetPerm { .. } | Op::SetTimeout { .. } => Shape::Nothing,
             Op::Clear { .. } | Op::Link { .. } | Op::Unlink { .. } => Shape::Nothing,
+            Op::Invalidate { .. } => Shape::Nothing,
+            Op::Watch { .. } => Shape::Nothing,
+            Op::SetFilter { .. } | Op::CloseQueue { .. } => Shape::Nothing,
+            Op::Exec => Shape::Nothing,
+            Op::Exit => Shape::Nothing,
             Op::Leave => Shape::Nothing,
         }
     }

@@ -16,6 +16,7 @@ use Rattle.krs_model.specs.State.{State, Key, Content, Payload, Links}
 use Rattle.krs_model.specs.Access.{is_alive, rights_on}
 use Rattle.krs_model.specs.Possession.{possessed}
 use Rattle.krs_model.specs.Lookup.{context_of, look_up}
+use Rattle.krs_model.specs.Making.{made_for}
 use Rattle.krs_model.specs.Linking.{ring_links, link_named, linking, has_room}
 use Rattle.krs_model.specs.Asks.Changing.{changed, updated}
 use Rattle.krs_model.specs.Outcome.{Outcome}
@@ -32,7 +33,7 @@ pub data Place : Type 0 where
   Updated : ℕ → Place
   Made : ℕ → Place
 
--- a new key, where the keyring has room and a serial is left
+-- a new key, where the keyring has room and a serial is left: profile, full keyrings; profile, serials run out
 abbrev pub if_room : State → ℕ → List ℕ → Option ℕ → Result Place Errno
 if_room s ring links displaced = do
   room ← has_room links displaced
@@ -52,6 +53,7 @@ over_match s c ring links found (Some key) =
     then (if has_all (rights_on key c.caller (possessed s c found)) WRITE then Ok (Updated found) else Err EACCES)
     else if_room s ring links (Some found)
 
+-- where the key goes, with a match in the keyring or without one: add_key(2)
 abbrev pub by_match : State → Context → ℕ → List ℕ → Option ℕ → Result Place Errno
 by_match s c ring links None = if_room s ring links None
 by_match s c ring links (Some found) = over_match s c ring links found (at s.keys found)
@@ -100,17 +102,25 @@ made s ring name key = record s {
 abbrev pub IsRing : State → ℕ → Type 0
 IsRing s serial = (key : Key) × (at s.keys serial ≡ Some key) × (links : List ℕ) × (key.content ≡ Links links)
 
+-- the match with the new payload, or a new key of the caller in the keyring: add_key(2)
 abbrev pub added : State → Context → Name → List ℕ → Place → State
 added s c name payload (Updated serial) = changed s serial (updated payload)
 added s c name payload (Made ring) = made s ring name (new_key name payload c.caller.uid c.caller.gid)
 
+-- the serial of the key that was updated or made
 abbrev pub added_serial : State → Place → ℕ
 added_serial s (Updated serial) = serial
 added_serial s (Made ring) = s.next_serial
 
+-- a key of that name in a keyring that is there or counts as made: profile, counts as made
+abbrev pub added_in : State → Context → Name → List ℕ → ℤ → Outcome
+added_in s c name payload ring = do
+  place ← place_of s c name ring
+  Ok (added s c name payload place, Number (added_serial s place))
+
+-- a key in a keyring, which is made where it is wanted: add_key(2)
 unfoldable pub add : State → ℕ → ℕ → List ℕ → List ℕ → List ℕ → ℤ → Outcome
 add s client context type_name desc payload ring = do
   c ← context_of s client context
   name ← admitted type_name desc payload
-  place ← place_of s c name ring
-  Ok (added s c name payload place, Number (added_serial s place))
+  added_in (made_for s context c ring).0 (made_for s context c ring).1 name payload ring

@@ -36,7 +36,7 @@ updatable User = Ok User
 updatable Logon = Ok Logon
 updatable Keyring = Err EOPNOTSUPP
 
--- another payload for a key that may be written: KEYCTL_UPDATE
+-- another payload for a key that may be written: KEYCTL_UPDATE; how long it may be: profile, update range
 unfoldable pub update : State → ℕ → ℕ → ℤ → List ℕ → Outcome
 update s client context id payload = do
   c ← context_of s client context
@@ -45,10 +45,11 @@ update s client context id payload = do
   fit ← paid kind payload
   Ok (changed s found.0 (updated payload), Nothing)
 
+-- the key with another mask
 abbrev pub with_perm : ℕ → Key → Key
 with_perm mask key = record key { perm = mask }
 
--- only the owner and uid 0 set a mask: KEYCTL_SETPERM, "EACCES"
+-- only the owner and uid 0 set a mask: KEYCTL_SETPERM, "EACCES"; profile, uid 0
 abbrev pub if_owner : Caller → Key → Result Key Errno
 if_owner caller key = if (caller.uid == 0) || (caller.uid == key.uid) then Ok key else Err EACCES
 
@@ -61,20 +62,22 @@ set_perm s client context id mask = do
   own ← if_owner c.caller found.1
   Ok (changed s found.0 (with_perm perm), Nothing)
 
--- 4294967295 leaves what is there
+-- 4294967295 leaves what is there, also both at once: profile, both ids left
 abbrev pub or_left : ℕ → ℕ → ℕ
 or_left asked there = if asked == 4294967295 then there else asked
 
+-- the key with another uid and gid, where they are not left
 abbrev pub with_owner : ℕ → ℕ → Key → Key
 with_owner uid gid key = record key { uid = or_left uid key.uid; gid = or_left gid key.gid }
 
 -- uid 0 gives a key to anybody; others leave its uid as it is, and change its gid to one of their own:
--- KEYCTL_CHOWN, "EACCES"
+-- KEYCTL_CHOWN, "EACCES"; profile, uid 0
 abbrev pub may_own : Caller → ℕ → ℕ → Key → Bool
 may_own caller uid gid key =
     (caller.uid == 0)
     || ((or_left uid key.uid == key.uid) && ((or_left gid key.gid == key.gid) || is_of_group caller gid))
 
+-- the caller may give the key this uid and gid: KEYCTL_CHOWN, "EACCES"
 abbrev pub if_may_own : Caller → ℕ → ℕ → Key → Result Key Errno
 if_may_own caller uid gid key = if may_own caller uid gid key then Ok key else Err EACCES
 
@@ -90,6 +93,7 @@ chown s client context id uid gid = do
 abbrev pub expiry_after : ℕ → ℕ → Option ℕ
 expiry_after clock seconds = if seconds == 0 then None else Some (min (clock + seconds) 18446744073709551615)
 
+-- the key with another expiry, or with none
 abbrev pub with_expiry : Option ℕ → Key → Key
 with_expiry expiry key = record key { expiry = expiry }
 
@@ -100,11 +104,12 @@ set_timeout s client context id seconds = do
   found ← look_up s c id (Granted SETATTR)
   Ok (changed s found.0 (with_expiry (expiry_after s.clock seconds)), Nothing)
 
+-- a payload without bytes, or a keyring without links
 abbrev pub emptied : Content → Content
 emptied (Payload bytes) = Payload []
 emptied (Links serials) = Links []
 
--- neither payload nor links are left, for good
+-- neither payload nor links are left, for good: profile, revoked keys stay
 abbrev pub revoked : Key → Key
 revoked key = record key { revoked = true; content = emptied key.content }
 

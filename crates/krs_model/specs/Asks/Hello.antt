@@ -22,7 +22,8 @@ context_count client contexts = count_by (λ c. c.client == client) (values_of c
 abbrev pub has_context_left : State → ℕ → Result (Unit {0}) Errno
 has_context_left s client = if nat_le 64 (context_count client s.contexts) then Err EINVAL else Ok tt
 
--- the context and the two serials that are needed have numbers left: profile, serials run out
+-- the context and the two serials that are needed have numbers left: profile, serials run out;
+-- profile, context numbers
 abbrev pub has_numbers : State → Option UidRings → Result (Unit {0}) Errno
 has_numbers s rings = if nat_lt 4294967295 s.next_context || (is_none rings && nat_lt 2147483646 s.next_serial) then Err ENOSPC else Ok tt
 
@@ -62,6 +63,7 @@ with_context s client c session = record s {
   next_context = s.next_context + 1;
 }
 
+-- a new context of the caller that a client names, in a process of its own: profile, believed caller
 unfoldable pub hello : State → ℕ → Caller → Outcome
 hello s client c = do
   known ← caller_check c

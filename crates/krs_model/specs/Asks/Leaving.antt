@@ -1,19 +1,26 @@
--- LEAVE: the end of all that a client has. It is always accepted.
-use Rattle.std.specs.Prelude.{ℕ, ◌==◌, not, filter}
+-- EXIT: the end of a context: thread-keyring(7), process-keyring(7), user-keyring(7). LEAVE: the end of all that a
+-- client has, which is always accepted and is this project's own: profile, leaving.
+use Rattle.std.specs.Prelude.{ℕ, ◌==◌, Bool, not, filter, if◌then◌else◌, Ok}
 use Rattle.std.specs.List.{list_any}
 use Rattle.std.specs.Map.{values_of}
 use Rattle.krs_types.specs.declared.context.Context.{Context}
-use Rattle.krs_model.specs.Table.{Table}
+use Rattle.krs_types.specs.declared.ask.Answer.TheVariants.{Nothing}
+use Rattle.krs_types.specs.Refusing.{◌>>=◌}
+use Rattle.krs_model.specs.Table.{Table, without}
 use Rattle.krs_model.specs.State.{State, Queue}
+use Rattle.krs_model.specs.Lookup.{context_of}
+use Rattle.krs_model.specs.Outcome.{Outcome}
 
+-- the contexts of the other clients
 abbrev pub contexts_without : ℕ → Table Context → Table Context
 contexts_without client es = filter (λ e. not (e.1.client == client)) es
 
+-- the queues of the other clients
 abbrev pub queues_without : ℕ → Table Queue → Table Queue
 queues_without client es = filter (λ e. not (e.1.client == client)) es
 
 -- the queues and contexts of the client go; then what has no context left: processes and uids, and what has no queue
--- left: watches
+-- left: watches. Profile, leaving
 unfoldable pub left : State → ℕ → State
 left s client =
     let contexts = contexts_without client s.contexts in
@@ -25,3 +32,28 @@ left s client =
       queues = queues;
       watches = filter (λ w. list_any (λ e. e.0 == w.0.1) queues) s.watches;
     }
+
+-- a context of the process is there
+abbrev pub has_process : Table Context → ℕ → Bool
+has_process contexts process = list_any (λ c. c.process == process) (values_of contexts)
+
+-- a context of the uid is there
+abbrev pub has_uid : Table Context → ℕ → Bool
+has_uid contexts uid = list_any (λ c. c.caller.uid == uid) (values_of contexts)
+
+-- the context ends; its process ends with the last context of it: process-keyring(7); and the two keyrings of its uid
+-- are let go of with the uid's last context: user-keyring(7); profile, user keyrings stay
+abbrev pub exited : State → ℕ → Context → State
+exited s number c =
+    let contexts = without s.contexts number in
+    record s {
+      contexts = contexts;
+      processes = if has_process contexts c.process then s.processes else without s.processes c.process;
+      uids = if has_uid contexts c.caller.uid then s.uids else without s.uids c.caller.uid;
+    }
+
+-- the context that asks ends
+unfoldable pub exit : State → ℕ → ℕ → Outcome
+exit s client context = do
+  c ← context_of s client context
+  Ok (exited s context c, Nothing)

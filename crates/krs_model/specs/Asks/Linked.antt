@@ -3,6 +3,7 @@ use Rattle.std.specs.Prelude.{ℕ, ℤ, ◌==◌, not, Bool, List, [], filter, i
 use Rattle.krs_types.specs.declared.errno.Errno.{Errno}
 use Rattle.krs_types.specs.declared.errno.Errno.TheVariants.{ENOKEY, ENOENT, EDEADLK, ELOOP}
 use Rattle.krs_types.specs.declared.name.Name.{Name}
+use Rattle.krs_types.specs.declared.context.Context.{Context}
 use Rattle.krs_types.specs.declared.ask.Answer.TheVariants.{Nothing}
 use Rattle.krs_types.specs.declared.rights.Want.TheVariants.{Granted}
 use Rattle.krs_types.specs.Rights.{WRITE, LINK}
@@ -13,12 +14,15 @@ use Rattle.krs_model.specs.Levels.{is_in}
 use Rattle.krs_model.specs.Lookup.{context_of, serial_of, look_up}
 use Rattle.krs_model.specs.Linking.{ring_links, link_named, linking, has_room}
 use Rattle.krs_model.specs.Reach.{closes, has_chain}
+use Rattle.krs_model.specs.Making.{made_for, within_serials}
 use Rattle.krs_model.specs.Asks.Changing.{changed}
 use Rattle.krs_model.specs.Outcome.{Outcome}
 
+-- the name of a key: its type and its description
 abbrev pub name_of : Key → Name
 name_of key = record { kind = key.kind; desc = key.desc }
 
+-- refused with this error, where this holds
 abbrev pub unless : Bool → Errno → Result (Unit {0}) Errno
 unless bad error = if bad then Err error else Ok tt
 
@@ -28,17 +32,30 @@ nestable keys ring serial = do
   acyclic ← unless (closes keys serial ring) EDEADLK
   unless (has_chain keys serial 6) ELOOP
 
--- one more link in a keyring: KEYCTL_LINK
-unfoldable pub link : State → ℕ → ℕ → ℤ → ℤ → Outcome
-link s client context key ring = do
-  c ← context_of s client context
-  into ← look_up s c ring (Granted WRITE)
-  found ← look_up s c key (Granted LINK)
+-- the keyring links the key, where it is a keyring, the link closes no cycle and nests no keyring too deep, and the
+-- keyring has room; so too where it links the key already: profile, linking again
+abbrev pub linked_into : State → ℕ × Key → ℕ × Key → Result State Errno
+linked_into s into found = do
   links ← ring_links into.1.content
   nests ← nestable s.keys into.0 found.0
   room ← has_room links (link_named s.keys (name_of found.1) links)
-  Ok (changed s into.0 (linking s.keys (name_of found.1) found.0), Nothing)
+  Ok (changed s into.0 (linking s.keys (name_of found.1) found.0))
 
+-- a link from a keyring that grants WRITE to a key that grants LINK: KEYCTL_LINK
+abbrev pub linked : State → Context → ℤ → ℤ → Outcome
+linked s c key ring = do
+  into ← look_up s c ring (Granted WRITE)
+  found ← look_up s c key (Granted LINK)
+  new ← linked_into s into found
+  Ok (new, Nothing)
+
+-- one more link in a keyring, which is made where it is wanted: KEYCTL_LINK
+unfoldable pub link : State → ℕ → ℕ → ℤ → ℤ → Outcome
+link s client context key ring = do
+  c ← context_of s client context
+  within_serials s (linked (made_for s context c ring).0 (made_for s context c ring).1 key ring)
+
+-- what a keyring holds without its link to a key; a payload stays as it is
 abbrev pub unlinked_content : ℕ → Content → Content
 unlinked_content serial (Payload bytes) = Payload bytes
 unlinked_content serial (Links links) = Links (filter (λ k. not (k == serial)) links)
@@ -47,6 +64,7 @@ unlinked_content serial (Links links) = Links (filter (λ k. not (k == serial)) 
 abbrev pub without_link : ℕ → Key → Key
 without_link serial ring = record ring { content = unlinked_content serial ring.content }
 
+-- the key is one of these links: KEYCTL_UNLINK, "ENOENT"
 abbrev pub if_linked : ℕ → List ℕ → Result ℕ Errno
 if_linked serial links = if is_in serial links then Ok serial else Err ENOENT
 
@@ -61,6 +79,7 @@ unlink s client context key ring = do
   linked ← if_linked serial links
   Ok (changed s from.0 (without_link serial), Nothing)
 
+-- what a keyring holds without its links; a payload stays as it is
 abbrev pub cleared_content : Content → Content
 cleared_content (Payload bytes) = Payload bytes
 cleared_content (Links links) = Links []

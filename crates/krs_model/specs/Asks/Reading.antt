@@ -26,6 +26,7 @@ readable Logon content = Err EOPNOTSUPP
 readable Keyring (Payload bytes) = Err EOPNOTSUPP
 readable Keyring (Links serials) = Ok (serial_bytes serials)
 
+-- what a key holds, as bytes: KEYCTL_READ; profile, whole answers
 unfoldable pub read : State → ℕ → ℕ → ℤ → Outcome
 read s client context id = do
   c ← context_of s client context
@@ -43,10 +44,11 @@ hex_8 n =
     hex_digit (n / 268435456 % 16) ∷ hex_digit (n / 16777216 % 16) ∷ hex_digit (n / 1048576 % 16) ∷ hex_digit (n / 65536 % 16)
     ∷ hex_digit (n / 4096 % 16) ∷ hex_digit (n / 256 % 16) ∷ hex_digit (n / 16 % 16) ∷ hex_digit (n % 16) ∷ []
 
--- type;uid;gid;perm;description
+-- type;uid;gid;perm;description: KEYCTL_DESCRIBE; profile, describe without null; profile, whole answers
 abbrev pub description : Key → List ℕ
 description key = kind_name key.kind ++ (59 ∷ (decimal key.uid ++ (59 ∷ (decimal key.gid ++ (59 ∷ (hex_8 key.perm ++ (59 ∷ key.desc)))))))
 
+-- a key that grants VIEW, as text: KEYCTL_DESCRIBE
 unfoldable pub describe : State → ℕ → ℕ → ℤ → Outcome
 describe s client context id = do
   c ← context_of s client context

@@ -77,6 +77,7 @@ Fits (Key subtype watch key aux) = (watch < 2 ^ 8) × (key < 2 ^ 32) × (aux < 2
 Fits (Removal watch id) = (watch < 2 ^ 8) × (id < 2 ^ 64)
 Fits Loss = Unit {0}
 
+-- the numbers of all these records fit their fields
 abbrev pub AllFit : List Record → Type 0
 AllFit [] = Unit {0}
 AllFit (note ∷ notes) = Fits note × AllFit notes

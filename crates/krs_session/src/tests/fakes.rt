@@ -209,7 +209,10 @@ impl<R> Keeper<Chair, R> for Table {
         }
         match ask.op {
             Op::Hello(_) => Ok(Answer::Number(1)),
-            Op::Add { .. } => Ok(Answer::Number(5)),
+            Op::Thread | Op::Fork => Ok(Answer::Number(2)),
+            Op::Exec | Op::Exit | Op::Invalidate { .. } => Ok(Answer::Nothing),
+            Op::GetId { .. } | Op::Join { .. } | Op::Add { .. } => Ok(Answer::Number(5)),
+            Op::Search { .. } | Op::Request { .. } => Ok(Answer::Number(5)),
             Op::Read { .. } => match Vec::from_slice(seat.alloc, b"s3") {
                 Ok(bytes) if bytes.len() < 3 => Ok(Answer::Bytes(Body::new(bytes))),
                 _ => Err(Errno::ENOMEM),
@@ -218,6 +221,9 @@ impl<R> Keeper<Chair, R> for Table {
             Op::Update { .. } | Op::Revoke { .. } | Op::Chown { .. } => Ok(Answer::Nothing),
             Op::SetPerm { .. } | Op::SetTimeout { .. } => Ok(Answer::Nothing),
             Op::Link { .. } | Op::Unlink { .. } | Op::Clear { .. } => Ok(Answer::Nothing),
+            Op::OpenQueue { .. } => Ok(Answer::Number(1)),
+            Op::Watch { .. } | Op::SetFilter { .. } | Op::CloseQueue { .. } => Ok(Answer::Nothing),
+            Op::ReadQueue { .. } => Err(Errno::EAGAIN),
             Op::Leave => {
                 seat.leaves = seat.leaves.wrapping_add(1);
                 Ok(Answer::Nothing)

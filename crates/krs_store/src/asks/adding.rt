@@ -3,7 +3,8 @@ ghost use Rattle.krs_model.specs.Outcome.{Leads, Gives, Is};
 ghost use Rattle.krs_model.specs.Asks.Adding.{admitted, if_room, by_match, place_of, first_perm, is_updatable, new_key, made, IsRing, add};
 ghost use Rattle.krs_store.specs.Places.{meant, HasSerial};
 ghost use Rattle.krs_links.specs.Links.{serials};
-ghost use Rattle.krs_store.specs.Making.{maker_key, first_content};
+ghost use Rattle.krs_model.specs.Sound.{IsSound};
+ghost use Rattle.krs_store.specs.Making.{maker_key, first_content, adding_in};
 
 use crate::tables::Tables;
 use bitflags::Flags;
@@ -18,7 +19,7 @@ use std::alloc::{AllocError, Global};
 const MAX_LINKS: usize = 65535;
 
 /// The last serial that a key may get: profile, serials run out.
-const LAST_SERIAL: u32 = 2_147_483_647;
+pub(crate) const LAST_SERIAL: u32 = 2_147_483_647;
 
 /// Where an added key goes.
 pub(crate) enum Place {
@@ -122,46 +123,63 @@ impl Tables {
     {
         let serial = Serial::new(self.keys.next());
         let link = name.copy(self.alloc)?;
-        let kind = name.kind;
-        let key = Key {
-            name,
-            uid,
-            gid,
-            perm: first_perm(kind),
-            expiry: None,
-            revoked: false,
-            joined: false,
-            content: first_content(self.alloc, kind, payload),
+        let key = new_key(self.alloc, name, payload, uid, gid);
+        let Ok(()) = self.holders.made(serial) else {
+            return Err(AllocError);
         };
+        if !self.holders.has_room(serial, 1) {
+            return Err(AllocError);
+        }
         match self.keys.insert_linked(ring, link, key) {
             Ok(displaced) => {
-                self.let_go = lets_go(self.let_go, displaced);
+                self.holders.hold(serial);
+                self.holders.let_go_of(displaced);
                 Ok(serial)
             }
             Err(_) => Err(AllocError),
         }
     }
 
-    /// A new key in a keyring, or a new payload for the key that stands there: add_key(2).
+    /// A new key in a keyring, which is made where it is wanted, or a new payload for the key that stands there:
+    /// add_key(2).
     #[tactic(auto, unfolding(krs_model::specs::Asks::Adding::add))]
     pub(crate) fn add(
         &mut self,
         client: u32,
-        context: u32,
+        number: u32,
         type_name: Blob,
         desc: Blob,
         payload: Blob,
         ring: i32,
     ) -> Result<Answer, Fault>
-        ensures { Leads self.old result self.new (add self.old client context type_name desc payload ring) }
+        requires sound { IsSound self.old }
+        ensures { Leads self.old result self.new (add self.old client number type_name desc payload ring) }
     {
-        let context = self.context_of(client, context)?;
+        let context = self.context_of(client, number)?;
         let kind = admitted(type_name.as_slice(), desc.as_slice(), payload.as_slice())?;
         let name = Name {
             kind,
             desc: Desc::new(desc),
         };
         let payload = Body::new(payload.into_vec());
+        match self.wanted(number, context, ring) {
+            Some(special) => self.make_adding(client, number, special, name, payload),
+            None => self.add_in(client, number, name, payload, ring),
+        }
+    }
+
+    /// A key of this name and payload in a keyring that is there.
+    fn add_in(
+        &mut self,
+        client: u32,
+        number: u32,
+        name: Name,
+        payload: Body,
+        ring: i32,
+    ) -> Result<Answer, Fault>
+        ensures { Leads self.old result self.new (adding_in self.old client number name payload ring) }
+    {
+        let context = self.context_of(client, number)?;
         match self.place_of(context, &name, ring)? {
             Place::Update(serial) => {
                 self.change(serial, Change::Payload(payload));
@@ -173,6 +191,23 @@ impl Tables {
                 Ok(Answer::Number(serial.number()))
             }
         }
+    }
+}
+
+/// A new key of its maker: add_key(2).
+pub(crate) fn new_key(alloc: Global, name: Name, payload: Body, uid: u32, gid: u32) -> Key
+    ensures { result ≡ maker_key name payload uid gid }
+{
+    let kind = name.kind;
+    Key {
+        name,
+        uid,
+        gid,
+        perm: first_perm(kind),
+        expiry: None,
+        revoked: false,
+        joined: false,
+        content: first_content(alloc, kind, payload),
     }
 }
 
@@ -204,11 +239,4 @@ fn is_updatable(kind: Kind) -> bool
         Kind::User | Kind::Logon => true,
         Kind::Keyring => false,
     }
-}
-
-/// Whether a key may have been let go of, now that a link displaced this one.
-pub(crate) fn lets_go(before: bool, displaced: Option<Serial>) -> bool
-    ensures { result ≡ (before || is_some displaced) }
-{
-    before || displaced.is_some()
 }

@@ -16,7 +16,7 @@ impl Tables {
     pub(crate) fn change(&mut self, serial: Serial, change: Change)
         ensures { self.new ≡ changed self.old serial (meant_change change) }
     {
-        self.let_go = either(self.let_go, self.keys.lets_go(serial, &change));
+        self.holders.let_go_taken(&self.keys, serial, &change);
         self.keys.set(serial, change);
     }
 
@@ -107,12 +107,6 @@ impl Tables {
         self.change(Serial::new(serial), Change::Revoked);
         Ok(Answer::Nothing)
     }
-}
-
-fn either(before: bool, after: bool) -> bool
-    ensures { result ≡ (before || after) }
-{
-    before || after
 }
 
 /// EOPNOTSUPP for a keyring.

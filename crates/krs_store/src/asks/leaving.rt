@@ -1,51 +1,185 @@
-ghost use Rattle.std.specs.Prelude.{◌≡◌, ◌==◌, filter};
+ghost use Rattle.std.specs.Prelude.{◌≡◌, ◌≢◌, Err, ◌==◌, ◌&&◌, filter, not, [], cond};
+ghost use Rattle.krs_types.specs.declared.fault.Fault.TheVariants.{Memory};
+ghost use Rattle.std.specs.Option.{option_to_list};
+ghost use Rattle.krs_model.specs.Outcome.{Leads};
+ghost use Rattle.krs_store.specs.Holding.{rings_of};
 ghost use Rattle.std.specs.List.{list_any};
 ghost use Rattle.std.specs.BTreeMap.{values};
-ghost use Rattle.krs_model.specs.Asks.Leaving.{contexts_without, left};
+ghost use Rattle.krs_model.specs.Sweep.{context_roots, process_roots, uid_roots};
+ghost use Rattle.krs_hold.specs.Tally.{all_less};
+ghost use Rattle.krs_model.specs.Asks.Leaving.{contexts_without, has_process, has_uid, left, exit};
 
 use crate::tables::Tables;
-use krs_types::{Context, Serial, UidRings};
+use krs_hold::Holders;
+use krs_types::{Answer, Context, Fault, Serial, UidRings};
 use std::collections::BTreeMap;
 
 impl Tables {
-    /// Ends all contexts of a client, and what has no context then. It takes no memory.
-    #[tactic(auto, unfolding(krs_model::specs::Asks::Leaving::left))]
+    /// Closes all queues of a client and ends all its contexts, and what has no context then. It takes no memory.
     pub(crate) fn leave(&mut self, client: u32)
         ensures { self.new ≡ left self.old client }
     {
-        drop_contexts(&mut self.contexts, client);
-        drop_processes(&mut self.processes, &self.contexts);
-        drop_uids(&mut self.uids, &self.contexts);
-        self.let_go = true;
+        self.queues.leave(client);
+        let contexts = self.contexts.contexts();
+        let_go_contexts(&mut self.holders, contexts, client);
+        let_go_processes(
+            &mut self.holders,
+            self.contexts.processes(),
+            contexts,
+            client,
+        );
+        let_go_uids(&mut self.holders, self.contexts.uids(), contexts, client);
+        self.contexts.leave(client);
+    }
+
+    /// Ends a context, and its process and the keyrings of its uid with their last context.
+    #[tactic(auto, unfolding(krs_model::specs::Asks::Leaving::exit))]
+    pub(crate) fn exit(&mut self, client: u32, context: u32) -> Result<Answer, Fault>
+        ensures step { Leads self.old result self.new (exit self.old client context) }
+        ensures memory { result ≢ Err Memory }
+    {
+        let own = self.context_of(client, context)?;
+        let (process, uid) = (own.process, own.caller.uid);
+        let (thread, session) = (own.thread, own.session);
+        let ring = self.process_ring(process);
+        let rings = self.contexts.rings(uid);
+        self.contexts.exit(client, context)?;
+        self.holders.let_go_of(thread);
+        self.holders.let_go_of(session);
+        let contexts = self.contexts.contexts();
+        let_go_process(&mut self.holders, contexts, process, ring);
+        let_go_uid(&mut self.holders, contexts, uid, rings);
+        Ok(Answer::Nothing)
     }
 }
 
-fn drop_contexts(contexts: &mut BTreeMap<u32, Context>, client: u32)
-    ensures { contexts.new.entries ≡ contexts_without client contexts.old.entries }
-{
-    contexts.retain(|_number, context| context.client != client);
-}
-
 fn has_process(contexts: &BTreeMap<u32, Context>, process: u32) -> bool
-    ensures { result ≡ list_any (λ c. c.process == process) (values contexts.now) }
+    ensures { result ≡ has_process contexts.now.entries process }
 {
     contexts.values().any(|c| c.process == process)
 }
 
 fn has_uid(contexts: &BTreeMap<u32, Context>, uid: u32) -> bool
-    ensures { result ≡ list_any (λ c. c.caller.uid == uid) (values contexts.now) }
+    ensures { result ≡ has_uid contexts.now.entries uid }
 {
     contexts.values().any(|c| c.caller.uid == uid)
 }
 
-fn drop_processes(processes: &mut BTreeMap<u32, Option<Serial>>, contexts: &BTreeMap<u32, Context>)
-    ensures { processes.new.entries ≡ filter (λ e. list_any (λ c. c.process == e.0) (values contexts.now)) processes.old.entries }
+/// Lets go of the keyring of a process that has no context.
+fn let_go_process(
+    holders: &mut Holders,
+    contexts: &BTreeMap<u32, Context>,
+    process: u32,
+    ring: Option<Serial>,
+)
+    ensures { holders.new ≡ all_less (cond (has_process contexts.now.entries process)
+        [] (option_to_list ring)) holders.old }
 {
-    processes.retain(|process, _ring| has_process(contexts, *process));
+    if !has_process(contexts, process) {
+        holders.let_go_of(ring);
+    }
 }
 
-fn drop_uids(uids: &mut BTreeMap<u32, UidRings>, contexts: &BTreeMap<u32, Context>)
-    ensures { uids.new.entries ≡ filter (λ e. list_any (λ c. c.caller.uid == e.0) (values contexts.now)) uids.old.entries }
+/// Lets go of the keyrings of a uid that has no context.
+fn let_go_uid(
+    holders: &mut Holders,
+    contexts: &BTreeMap<u32, Context>,
+    uid: u32,
+    rings: Option<UidRings>,
+)
+    ensures { holders.new ≡ all_less (cond (has_uid contexts.now.entries uid)
+        [] (rings_of rings)) holders.old }
 {
-    uids.retain(|uid, _rings| has_uid(contexts, *uid));
+    if has_uid(contexts, uid) {
+        return;
+    }
+    if let Some(rings) = rings {
+        holders.let_go_of(rings.user);
+        holders.let_go_of(rings.session);
+    }
+}
+
+/// Whether another client has a context of that process.
+#[tactic(auto, using(crate::proofs::Ending::others_in_process))]
+fn others_have_process(contexts: &BTreeMap<u32, Context>, client: u32, process: u32) -> bool
+    ensures { result ≡ has_process (contexts_without client contexts.now.entries) process }
+{
+    any_other_in(contexts, client, process)
+}
+
+fn any_other_in(contexts: &BTreeMap<u32, Context>, client: u32, process: u32) -> bool
+    ensures { result ≡ list_any (λ c. not (c.client == client) && (c.process == process))
+        (values contexts.now) }
+{
+    contexts
+        .values()
+        .any(|c| c.client != client && c.process == process)
+}
+
+/// Whether another client has a context of that uid.
+#[tactic(auto, using(crate::proofs::Ending::others_of_uid))]
+fn others_have_uid(contexts: &BTreeMap<u32, Context>, client: u32, uid: u32) -> bool
+    ensures { result ≡ has_uid (contexts_without client contexts.now.entries) uid }
+{
+    any_other_of(contexts, client, uid)
+}
+
+fn any_other_of(contexts: &BTreeMap<u32, Context>, client: u32, uid: u32) -> bool
+    ensures { result ≡ list_any (λ c. not (c.client == client) && (c.caller.uid == uid))
+        (values contexts.now) }
+{
+    contexts
+        .values()
+        .any(|c| c.client != client && c.caller.uid == uid)
+}
+
+/// Lets go of what the contexts of a client attach.
+fn let_go_contexts(holders: &mut Holders, contexts: &BTreeMap<u32, Context>, client: u32)
+    ensures { holders.new ≡ all_less (context_roots (filter
+        (λ e. e.1.client == client) contexts.now.entries)) holders.old }
+{
+    for (number, context) in contexts {
+        let _ = number;
+        if context.client == client {
+            holders.let_go_of(context.thread);
+            holders.let_go_of(context.session);
+        }
+    }
+}
+
+/// Lets go of what processes attach that have no context without this client.
+fn let_go_processes(
+    holders: &mut Holders,
+    processes: &BTreeMap<u32, Option<Serial>>,
+    contexts: &BTreeMap<u32, Context>,
+    client: u32,
+)
+    ensures { holders.new ≡ all_less (process_roots (filter
+        (λ e. not (has_process (contexts_without client contexts.now.entries) e.0))
+        processes.now.entries)) holders.old }
+{
+    for (process, ring) in processes {
+        if !others_have_process(contexts, client, *process) {
+            holders.let_go_of(*ring);
+        }
+    }
+}
+
+/// Lets go of what uids attach that have no context without this client.
+fn let_go_uids(
+    holders: &mut Holders,
+    uids: &BTreeMap<u32, UidRings>,
+    contexts: &BTreeMap<u32, Context>,
+    client: u32,
+)
+    ensures { holders.new ≡ all_less (uid_roots (filter
+        (λ e. not (has_uid (contexts_without client contexts.now.entries) e.0))
+        uids.now.entries)) holders.old }
+{
+    for (uid, rings) in uids {
+        if !others_have_uid(contexts, client, *uid) {
+            holders.let_go_of(rings.user);
+            holders.let_go_of(rings.session);
+        }
+    }
 }

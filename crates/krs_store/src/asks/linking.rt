@@ -1,18 +1,21 @@
-ghost use Rattle.std.specs.Prelude.{◌≡◌, Some, IsSome};
+ghost use Rattle.std.specs.Prelude.{◌≡◌, None, Some, IsSome, IfOk};
 ghost use Rattle.krs_model.specs.Outcome.{Leads, Is, Gives};
 ghost use Rattle.krs_model.specs.Table.{at};
 ghost use Rattle.krs_model.specs.Linking.{ring_links};
+ghost use Rattle.krs_model.specs.Lookup.{context_of};
+ghost use Rattle.krs_model.specs.Sound.{IsSound};
 ghost use Rattle.krs_model.specs.Asks.Adding.{IsRing};
 ghost use Rattle.krs_model.specs.Asks.Linked.{link, unlink, clear, nestable};
-ghost use Rattle.krs_keys.specs.Keys.{seen, content_links, displaced_at};
-ghost use Rattle.krs_links.specs.Links.{linked_as, serials};
-ghost use Rattle.krs_store.specs.Linked.{name_in, finds, Puts, Takes};
+ghost use Rattle.krs_keys.specs.Keys.{seen, links_at};
+ghost use Rattle.krs_links.specs.Links.{serials};
+ghost use Rattle.krs_store.specs.Linked.{name_in, has_link, Puts, Takes};
+ghost use Rattle.krs_store.specs.Specials.{Makes, is_coming};
 
-use crate::asks::adding::lets_go;
+use crate::asks::making::Special;
 use crate::tables::Tables;
 use krs_keys::{Change, Content, Key, KeyTable};
 use krs_links::Links;
-use krs_types::{Answer, Errno, Fault, Name, Rights, Serial, Want};
+use krs_types::{Answer, Errno, Fault, KeyId, Name, Rights, Serial, Want};
 use krs_walk::Walker;
 
 impl Tables {
@@ -30,10 +33,9 @@ impl Tables {
         let context = self.context_of(client, context)?;
         let (ring, from) = self.look_up(context, ring, Want::Granted(Rights::WRITE))?;
         let serial = self.serial_of(context, key)?;
-        let key = self.key(serial).ok_or(Errno::ENOKEY)?;
+        let _there = self.key(serial).ok_or(Errno::ENOKEY)?;
         links_of(from)?;
-        let name = key.name.copy(self.alloc)?;
-        self.take_link(Serial::new(ring), &name, serial)?;
+        self.take_link(Serial::new(ring), serial)?;
         Ok(Answer::Nothing)
     }
 
@@ -49,18 +51,32 @@ impl Tables {
         Ok(Answer::Nothing)
     }
 
-    /// One more link in a keyring: keyctl(2), KEYCTL_LINK.
+    /// One more link in a keyring, which is made where it is wanted: keyctl(2), KEYCTL_LINK.
     #[tactic(auto, unfolding(krs_model::specs::Asks::Linked::link))]
     pub(crate) fn link(
         &mut self,
         client: u32,
-        context: u32,
+        number: u32,
         key: i32,
         ring: i32,
     ) -> Result<Answer, Fault>
-        ensures { Leads self.old result self.new (link self.old client context key ring) }
+        requires sound { IsSound self.old }
+        ensures { Leads self.old result self.new (link self.old client number key ring) }
     {
-        let context = self.context_of(client, context)?;
+        let context = self.context_of(client, number)?;
+        match self.wanted(number, context, ring) {
+            Some(special) => self.link_to_new(client, number, special, key, ring),
+            None => self.link_to(client, number, key, ring),
+        }
+    }
+
+    /// One more link in a keyring that is there.
+    #[tactic(auto, unfolding(krs_model::specs::Asks::Linked::link))]
+    fn link_to(&mut self, client: u32, number: u32, key: i32, ring: i32) -> Result<Answer, Fault>
+        requires there { IfOk (context_of self.old client number) (λ c. Makes None self.old number c ring) }
+        ensures { Leads self.old result self.new (link self.old client number key ring) }
+    {
+        let context = self.context_of(client, number)?;
         let (ring, into) = self.look_up(context, ring, Want::Granted(Rights::WRITE))?;
         let (serial, found) = self.look_up(context, key, Want::Granted(Rights::LINK))?;
         links_of(into)?;
@@ -70,9 +86,52 @@ impl Tables {
         Ok(Answer::Nothing)
     }
 
+    /// A link in a keyring that is made for it: EDEADLK where the key is that keyring.
+    #[tactic(auto, unfolding(krs_model::specs::Asks::Linked::link))]
+    fn link_to_new(
+        &mut self,
+        client: u32,
+        number: u32,
+        special: Special,
+        key: i32,
+        ring: i32,
+    ) -> Result<Answer, Fault>
+        requires sound { IsSound self.old }
+        requires makes { IfOk (context_of self.old client number) (λ c. Makes (Some special) self.old number c ring) }
+        ensures { Leads self.old result self.new (link self.old client number key ring) }
+    {
+        let context = self.context_of(client, number)?;
+        if self.is_coming(special, key) {
+            return Err(Fault::Refused(Errno::EDEADLK));
+        }
+        let (serial, _) = self.look_up(context, key, Want::Granted(Rights::LINK))?;
+        self.make_linking(
+            client,
+            number,
+            special,
+            Serial::new(serial),
+            Answer::Nothing,
+        )
+    }
+
+    /// Whether the id stands for the keyring that is made: it is its own, or the serial that it gets.
+    fn is_coming(&self, special: Special, id: i32) -> bool
+        ensures { result ≡ is_coming special self.now.next_serial id }
+    {
+        let Ok(named) = KeyId::from_i32(id) else {
+            return false;
+        };
+        match named {
+            KeyId::Serial(serial) => serial.number() == self.keys.next(),
+            KeyId::Thread => special == Special::Thread,
+            KeyId::Process => special == Special::Process,
+            KeyId::Session | KeyId::User | KeyId::UserSession => false,
+        }
+    }
+
     /// Whether a link from the keyring to the key closes a cycle, or nests a keyring too deep: EDEADLK, ELOOP.
     #[tactic(auto, unfolding(krs_model::specs::Asks::Linked::nestable))]
-    fn check_nesting(&self, ring: Serial, key: Serial) -> Result<(), Fault>
+    pub(crate) fn check_nesting(&self, ring: Serial, key: Serial) -> Result<(), Fault>
         requires ring { IsRing self.now ring }
         requires key { IsSome (at self.now.keys key) }
         ensures { Gives (λ done. done) result (nestable self.now.keys ring key) }
@@ -86,13 +145,18 @@ impl Tables {
     }
 
     /// A link to a key in a keyring, in the place of that which it displaces, else last. The name is the key's own.
-    fn put_link(&mut self, ring: Serial, name: Name, serial: Serial) -> Result<(), Fault>
-        requires { name_in self.old serial ≡ Some name }
+    pub(crate) fn put_link(&mut self, ring: Serial, name: Name, serial: Serial) -> Result<(), Fault>
+        requires named { name_in self.old serial ≡ Some name }
+        requires ring { IsRing self.old ring }
         ensures { Puts self.old result self.new ring name serial }
     {
+        if !self.holders.has_room(serial, 1) {
+            return Err(Fault::Memory);
+        }
         match self.keys.link(ring, name, serial) {
             Ok(displaced) => {
-                self.let_go = lets_go(self.let_go, displaced);
+                self.holders.hold(serial);
+                self.holders.let_go_of(displaced);
                 Ok(())
             }
             Err(Errno::ENFILE) => Err(Fault::Refused(Errno::ENFILE)),
@@ -100,50 +164,38 @@ impl Tables {
         }
     }
 
-    /// The link to a key out of a keyring, where it is there. The name is the key's own.
-    fn take_link(&mut self, ring: Serial, name: &Name, serial: Serial) -> Result<(), Errno>
-        requires { name_in self.old serial ≡ Some name.now }
+    /// The link to a key out of a keyring, where it is there. It takes no memory.
+    fn take_link(&mut self, ring: Serial, serial: Serial) -> Result<(), Errno>
         ensures { Takes self.old result self.new ring serial }
     {
-        if !is_linked(&self.keys, ring, name, serial) {
+        if !is_linked(&self.keys, ring, serial) {
             return Err(Errno::ENOENT);
         }
-        self.keys.unlink(ring, name);
-        self.let_go = true;
+        self.keys.unlink(ring, serial);
+        self.holders.let_go(serial);
         Ok(())
     }
 }
 
-/// Whether a keyring links a key, which has this name.
-fn is_linked(keys: &KeyTable, ring: Serial, name: &Name, serial: Serial) -> bool
-    ensures { result ≡ finds serial (displaced_at keys.now.keys ring name.now) }
+/// Whether a keyring links a key.
+fn is_linked(keys: &KeyTable, ring: Serial, serial: Serial) -> bool
+    ensures { result ≡ has_link serial (links_at keys.now.keys ring) }
 {
     match keys.get(ring) {
-        Some(key) => is_linked_by(&key.content, name, serial),
+        Some(key) => has_link(key.entries(), serial),
         None => false,
     }
 }
 
-fn is_linked_by(content: &Content, name: &Name, serial: Serial) -> bool
-    ensures { result ≡ finds serial (linked_as (content_links content.now) name.now) }
+/// Whether one of these links is to a key.
+fn has_link(links: &[(Name, Serial)], serial: Serial) -> bool
+    ensures { result ≡ has_link serial links.now }
 {
-    match content {
-        Content::Payload(_) => false,
-        Content::Links(links) => is_found(links.find(name), serial),
-    }
-}
-
-fn is_found(found: Option<Serial>, serial: Serial) -> bool
-    ensures { result ≡ finds serial found }
-{
-    match found {
-        Some(found) => found.number() == serial.number(),
-        None => false,
-    }
+    links.iter().any(|link| link.1.number() == serial.number())
 }
 
 /// The links of a keyring: ENOTDIR where it is none.
-fn links_of(key: &Key) -> Result<&Links, Errno>
+pub(crate) fn links_of(key: &Key) -> Result<&Links, Errno>
     ensures { Is (λ links. serials links.now) result (ring_links (seen key.now).content) }
 {
     match &key.content {

@@ -6,5 +6,5 @@ use Rattle.krs_ctl.proofs.words.pieces.Goals as goal
 pub returns : goal.returns
 returns c =
     map_from_collect _ c.collect.ensures.ran
-    (YieldsList-from_slice_split _ _ c.args.line.now c.split.ensures.rest c.split.ensures.done c.split.ensures.closure
+    (YieldsList-from_slice_split _ _ c.args.text.now c.split.ensures.rest c.split.ensures.done c.split.ensures.closure
     (λ x b q k. search (rules, tests)))

@@ -5,5 +5,5 @@ use Rattle.krs_keys.specs.Table.{unmarked}
 use Rattle.krs_keys.proofs.key_table.KeyTable.remove.Goals as goal
 
 pub invariant_of-self : goal.invariant_of-self
-invariant_of-self c = λ q h. ap (λ zs. at zs q) c.take_out.ensures
+invariant_of-self c = λ q h. ap (λ zs. at zs q) c.take_out.ensures.keys
     ∙ at_without_none (unmarked c.self.inside.slots.entries) _ q (c.self.invariant q h)

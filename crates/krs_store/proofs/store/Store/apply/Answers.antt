@@ -1,15 +1,61 @@
-use Rattle.std.proofs.Common.{◌≡◌, sym, ◌∙◌, subst}
+use Rattle.std.proofs.Common.{sym, ◌∙◌, subst}
+use Rattle.krs_types.specs.declared.fault.Fault.{Fault}
+use Rattle.krs_model.specs.State.{State}
 use Rattle.krs_model.specs.Sound.{IsSound}
-use Rattle.krs_model.proofs.Soundness.{served_sound, raised_sound}
+use Rattle.krs_model.specs.Outcome.{Fails}
+use Rattle.krs_model.specs.Step.{Step, Serves, outcome_of}
+use Rattle.krs_model.proofs.Soundness.{raised_sound}
+use Rattle.krs_model.proofs.Serving.{serves_in_turn, applied_sound, told_acyclic}
+use Rattle.krs_model.proofs.Staying.{told_live}
+use Rattle.krs_store.proofs.Endings.{exec_refuses, exit_refuses, close_refuses}
 use Rattle.krs_store.proofs.store.Store.apply.Goals as goal
 
 pub invariant_of-self : goal.invariant_of-self
-invariant_of-self c = served_sound _ _ _ _ _ _ _ _ _ c.self.invariant c.raise.ensures c.in-Ok.ensures.step c.sweep.ensures
+invariant_of-self c =
+    applied_sound c.args.moment c.self.invariant c.raise.ensures (serves_in_turn c.in-Ok.ensures.told c.sweep.ensures)
 
 pub invariant_of-self-in-Err-Memory : goal.invariant_of-self-in-Err-Memory
 invariant_of-self-in-Err-Memory c =
-    subst IsSound (sym (c.in-Err-Memory.ensures.step.1 ∙ c.raise.ensures)) (raised_sound c.self.inside.tables c.args.moment c.self.invariant)
+    subst IsSound (sym (c.in-Err-Memory.ensures.told.1 ∙ c.raise.ensures))
+    (raised_sound c.self.inside.tables c.args.moment c.self.invariant)
 
 pub invariant_of-self-in-Err-Refused : goal.invariant_of-self-in-Err-Refused
 invariant_of-self-in-Err-Refused c =
-    subst IsSound (sym (c.in-Err-Refused.ensures.step.1 ∙ c.raise.ensures)) (raised_sound c.self.inside.tables c.args.moment c.self.invariant)
+    subst IsSound (sym (c.in-Err-Refused.ensures.told.1 ∙ c.raise.ensures))
+    (raised_sound c.self.inside.tables c.args.moment c.self.invariant)
+
+pub sweep-requires : goal.sweep-requires
+sweep-requires c = record {
+  acyclic = told_acyclic c.args.moment c.self.invariant c.raise.ensures c.in-Ok.ensures.told;
+  live = told_live c.args.moment c.self.invariant c.raise.ensures c.in-Ok.ensures.told;
+}
+
+pub serve-requires : goal.serve-requires
+serve-requires c = record {
+  sound = subst IsSound (sym c.raise.ensures) (raised_sound c.self.inside.tables c.args.moment c.self.invariant);
+}
+
+pub returns-in-Ok-clause-step : goal.returns-in-Ok-clause-step
+unfolding Step
+returns-in-Ok-clause-step c =
+    rw (← c.self.view_is)
+    (subst (λ (s : State). Serves s c.args.client c.args.ask.context c.args.ask.op c.in-Ok.answer c.sweep.new.self)
+    c.raise.ensures (serves_in_turn c.in-Ok.ensures.told c.sweep.ensures))
+
+pub returns-in-Err-Refused-clause-exec : goal.returns-in-Err-Refused-clause-exec
+returns-in-Err-Refused-clause-exec c =
+    exec_refuses c.raise.new.self c.args.client c.args.ask.context c.args.ask.op c.in-Err-Refused.errno
+    (subst (λ (f : Fault). Fails f (outcome_of c.raise.new.self c.args.client c.args.ask.context c.args.ask.op))
+    c.in-Err-Refused.field-0-is c.in-Err-Refused.ensures.told.0)
+
+pub returns-in-Err-Refused-clause-exit : goal.returns-in-Err-Refused-clause-exit
+returns-in-Err-Refused-clause-exit c =
+    exit_refuses c.raise.new.self c.args.client c.args.ask.context c.args.ask.op c.in-Err-Refused.errno
+    (subst (λ (f : Fault). Fails f (outcome_of c.raise.new.self c.args.client c.args.ask.context c.args.ask.op))
+    c.in-Err-Refused.field-0-is c.in-Err-Refused.ensures.told.0)
+
+pub returns-in-Err-Refused-clause-close : goal.returns-in-Err-Refused-clause-close
+returns-in-Err-Refused-clause-close c = λ queue.
+    close_refuses c.raise.new.self c.args.client c.args.ask.context c.args.ask.op queue c.in-Err-Refused.errno
+    (subst (λ (f : Fault). Fails f (outcome_of c.raise.new.self c.args.client c.args.ask.context c.args.ask.op))
+    c.in-Err-Refused.field-0-is c.in-Err-Refused.ensures.told.0)

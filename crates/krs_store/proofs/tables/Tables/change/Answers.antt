@@ -1,5 +1,5 @@
-use Rattle.std.proofs.Common.{◌≡◌, ap, sym, ◌∙◌}
-use Rattle.krs_model.specs.Table.{alter}
+use Rattle.std.proofs.Common.{◌≡◌, ℕ, ap, sym, ◌∙◌, subst}
+use Rattle.krs_model.specs.Table.{Table, alter}
 use Rattle.krs_model.specs.State.{State}
 use Rattle.krs_model.specs.Asks.Changing.{changed}
 use Rattle.krs_model.proofs.Tables.{alter_map}
@@ -8,7 +8,9 @@ use Rattle.krs_keys.specs.Changes as keys
 use Rattle.krs_keys.proofs.KindsLemmas.{kinds_alter, changed_kind}
 use Rattle.krs_keys.proofs.ChangesLemmas.{fit_changed, seen-changed}
 use Rattle.krs_store.specs.View.{state_of}
-use Rattle.krs_store.proofs.Telling.{neither, change_swept}
+use Rattle.krs_model.specs.Sweep.{roots}
+use Rattle.krs_hold.specs.Tally.{AreExact}
+use Rattle.krs_store.proofs.Counting.{changed_tallied}
 use Rattle.krs_store.proofs.tables.Tables.change.Goals as goal
 
 pub invariant_of-self : goal.invariant_of-self
@@ -18,12 +20,11 @@ invariant_of-self c =
     let x = c.args.change in
     let same : shown (alter es k (keys.changed x)) ≡ alter (shown es) k (keys.meant_change x) = alter_map seen es k (keys.changed x) (keys.meant_change x) (λ v there. seen-changed x v) in
     record {
-      contexts = c.self.invariant.contexts;
-      processes = c.self.invariant.processes;
       fit = rw c.set.ensures (fit_changed es k x c.self.invariant.fit);
       kinds = rw c.set.ensures (kinds_alter es k (keys.changed x) (changed_kind x) c.self.invariant.kinds);
-      swept = λ clean. let both = neither c.self.inside.let_go c.lets_go.result (sym c.either-self-inside.ensures ∙ clean) in
-          rw (c.set.ensures, same) (change_swept c.self.inside k x (sym c.lets_go.ensures ∙ both.1) (c.self.invariant.swept both.0));
+      tallied = subst (λ (zs : Table ℕ). AreExact c.set.new.self.keys zs (roots (state_of c.self.inside)))
+          (sym c.let_go_taken.ensures)
+          (rw c.set.ensures (changed_tallied es (roots (state_of c.self.inside)) c.self.inside.holders k x c.self.invariant.tallied));
     }
 
 pub returns : goal.returns

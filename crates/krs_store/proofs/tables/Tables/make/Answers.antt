@@ -1,49 +1,80 @@
-use Rattle.std.proofs.Common.{◌≡◌, ◌+◌, ap, sym, ◌∙◌, subst, ℕ}
-use Rattle.std.specs.Option.{is_some}
+use Rattle.std.proofs.Common.{◌≡◌, ◌≤◌, ◌+◌, [], Option, arith, ap, sym, ◌∙◌, subst, ℕ}
 use Rattle.krs_types.specs.declared.name.Name.{Name}
-use Rattle.krs_model.specs.Table.{put, alter}
+use Rattle.krs_model.specs.Table.{Table, put, alter}
 use Rattle.krs_model.specs.State.{State}
 use Rattle.krs_model.specs.Asks.Adding.{made, IsRing}
-use Rattle.krs_keys.specs.Keys.{with_entry, seen, displaced_at}
-use Rattle.krs_keys.specs.declared.key.Content.{Content}
+use Rattle.krs_keys.specs.Keys.{with_entry, seen, shown, displaced_at}
+use Rattle.krs_keys.specs.declared.key.Key.{Key}
 use Rattle.krs_keys.specs.Table.{Keys}
 use Rattle.krs_store.specs.Making.{maker_key}
-use Rattle.krs_store.specs.View.{state_of}
-use Rattle.krs_store.proofs.Telling.{made_told, seen-maker_key, neither, is_none}
+use Rattle.krs_store.specs.View.{state_of, IsSound}
+use Rattle.krs_store.proofs.Telling.{made_told, seen-maker_key}
+use Rattle.krs_model.specs.Sweep.{roots}
+use Rattle.std.specs.Option.{option_to_list}
+use Rattle.krs_hold.specs.Tally.{AreExact, with_number, one_more, all_less}
+use Rattle.krs_hold.proofs.Tallies.{tallied_with}
+use Rattle.krs_store.proofs.Counting.{made_tallied, first_links}
+use Rattle.krs_store.specs.declared.tables.Tables.TheInside.{Inside}
 use Rattle.krs_store.proofs.tables.Tables.make.Goals as goal
 
-pub invariant_of-self : goal.invariant_of-self
-invariant_of-self c =
+room_sound : (s : Inside) (numbers : Table ℕ) (k : ℕ) → IsSound s → numbers ≡ with_number k s.holders → IsSound (record s { holders = numbers })
+room_sound s numbers k sound e = record {
+  fit = sound.fit;
+  kinds = sound.kinds;
+  tallied = subst (λ (zs : Table ℕ). AreExact s.keys.keys zs (roots (state_of s))) (sym e)
+      (tallied_with (shown s.keys.keys) (roots (state_of s)) [] s.holders k sound.tallied);
+}
+
+pub invariant_of-self-then-not-has_room : goal.invariant_of-self-then-not-has_room
+invariant_of-self-then-not-has_room c = room_sound c.self.inside c.made.new.self c.new-serial.result c.self.invariant c.in-Ok.ensures.ok
+
+pub invariant_of-self-in-Err : goal.invariant_of-self-in-Err
+invariant_of-self-in-Err c =
+    subst (λ (k : Keys). IsSound (record c.self.inside { keys = k; holders = c.made.new.self })) (sym c.in-Err.ensures.err)
+    (room_sound c.self.inside c.made.new.self c.new-serial.result c.self.invariant c.in-Ok.ensures.ok)
+
+pub invariant_of-self-in-Ok-insert_linked : goal.invariant_of-self-in-Ok-insert_linked
+invariant_of-self-in-Ok-insert_linked c =
     let s = c.self.inside in
     let es = s.keys.keys in
     let n = s.keys.next in
     let key = maker_key c.args.name c.args.payload c.args.uid c.args.gid in
-    let after : ℕ → Content → Name → Keys = λ p x l. record { keys = alter (put es n (record key { perm = p; content = x })) c.args.ring (with_entry l n); next = n + 1 } in
-    let here : c.insert_linked.new.self ≡ after key.perm key.content c.args.name =
-    c.in-Ok.ensures.ok ∙ (ap (λ p. after p c.first_content.result c.in_ok-link.link) c.first_perm.ensures ∙ (ap (λ x. after key.perm x c.in_ok-link.link) c.first_content.ensures ∙ ap (after key.perm key.content) c.in_ok-link.ensures)) in
-    let displaced : c.in-Ok.displaced ≡ displaced_at (put es n key) c.args.ring c.args.name =
-    c.in-Ok.ensures.displaced ∙ (ap (λ p. displaced_at (put es n (record key { perm = p; content = c.first_content.result })) c.args.ring c.in_ok-link.link) c.first_perm.ensures
-    ∙ (ap (λ x. displaced_at (put es n (record key { content = x })) c.args.ring c.in_ok-link.link) c.first_content.ensures ∙ ap (displaced_at (put es n key) c.args.ring) c.in_ok-link.ensures)) in
+    let after : Key → Name → Keys = λ k l.
+    record { keys = alter (put es n k) c.args.ring (with_entry l n); next = n + 1 } in
+    let here : c.insert_linked.new.self ≡ after key c.args.name =
+    c.in-Ok-insert_linked.ensures.ok
+    ∙ (ap (λ k. after k c.in_ok-link.link) c.new_key-key.ensures ∙ ap (after key) c.in_ok-link.ensures) in
+    let displaced : c.in-Ok-insert_linked.displaced ≡ displaced_at (put es n key) c.args.ring c.args.name =
+    c.in-Ok-insert_linked.ensures.displaced
+    ∙ (ap (λ (k : Key). displaced_at (put es n k) c.args.ring c.in_ok-link.link) c.new_key-key.ensures
+    ∙ ap (displaced_at (put es n key) c.args.ring) c.in_ok-link.ensures) in
     let ring : IsRing (state_of s) c.args.ring = subst (λ (t : State). IsRing t c.args.ring) (sym c.self.view_is) c.requires.ring in
     let told = made_told s c.insert_linked.new.self c.args.ring c.args.name c.args.payload c.args.uid c.args.gid c.self.invariant c.next.ensures.unused ring here in
+    let here_n : n ≤ n = omega arith in
+    let serial : c.new-serial.result ≡ n = c.new-serial.ensures ∙ c.next.ensures.value in
+    let numbers : c.let_go_of.new.self ≡ all_less (option_to_list (displaced_at (put es n key) c.args.ring c.args.name)) (one_more n (with_number n s.holders)) =
+    c.let_go_of.ensures
+    ∙ (ap (all_less (option_to_list c.in-Ok-insert_linked.displaced)) (c.hold.ensures ∙ (ap (one_more c.new-serial.result) c.in-Ok.ensures.ok ∙ ap (λ k. one_more k (with_number k s.holders)) serial))
+    ∙ ap (λ (o : Option ℕ). all_less (option_to_list o) (one_more n (with_number n s.holders))) displaced) in
     record {
-      contexts = c.self.invariant.contexts;
-      processes = c.self.invariant.processes;
       fit = told.fit;
       kinds = told.kinds;
-      swept = λ clean. let both = neither s.let_go (is_some c.in-Ok.displaced) (sym c.lets_go-self-inside.ensures ∙ clean) in
-          told.swept both.0 (sym displaced ∙ is_none c.in-Ok.displaced both.1);
+      tallied = subst (λ (zs : Table ℕ). AreExact c.insert_linked.new.self.keys zs (roots (state_of s))) (sym numbers)
+          (subst (λ (k : Keys). AreExact k.keys (all_less (option_to_list (displaced_at (put es n key) c.args.ring c.args.name)) (one_more n (with_number n s.holders))) (roots (state_of s))) (sym here)
+          (made_tallied s (roots (state_of s)) c.args.ring c.args.name key (c.next.ensures.unused n here_n) (first_links c.args.name.kind c.args.payload) ring c.self.invariant.tallied));
     }
 
-pub returns-in-Ok-clause-ok : goal.returns-in-Ok-clause-ok
-returns-in-Ok-clause-ok c =
+pub returns-in-Ok-insert_linked-clause-ok : goal.returns-in-Ok-insert_linked-clause-ok
+returns-in-Ok-insert_linked-clause-ok c =
     let s = c.self.inside in
     let es = s.keys.keys in
     let n = s.keys.next in
     let key = maker_key c.args.name c.args.payload c.args.uid c.args.gid in
-    let after : ℕ → Content → Name → Keys = λ p x l. record { keys = alter (put es n (record key { perm = p; content = x })) c.args.ring (with_entry l n); next = n + 1 } in
-    let here : c.insert_linked.new.self ≡ after key.perm key.content c.args.name =
-    c.in-Ok.ensures.ok ∙ (ap (λ p. after p c.first_content.result c.in_ok-link.link) c.first_perm.ensures ∙ (ap (λ x. after key.perm x c.in_ok-link.link) c.first_content.ensures ∙ ap (after key.perm key.content) c.in_ok-link.ensures)) in
+    let after : Key → Name → Keys = λ k l.
+    record { keys = alter (put es n k) c.args.ring (with_entry l n); next = n + 1 } in
+    let here : c.insert_linked.new.self ≡ after key c.args.name =
+    c.in-Ok-insert_linked.ensures.ok
+    ∙ (ap (λ k. after k c.in_ok-link.link) c.new_key-key.ensures ∙ ap (after key) c.in_ok-link.ensures) in
     let ring : IsRing (state_of s) c.args.ring = subst (λ (t : State). IsRing t c.args.ring) (sym c.self.view_is) c.requires.ring in
     let told = made_told s c.insert_linked.new.self c.args.ring c.args.name c.args.payload c.args.uid c.args.gid c.self.invariant c.next.ensures.unused ring here in
     told.is ∙ (ap (λ (t : State). made t c.args.ring c.args.name (seen key)) c.self.view_is

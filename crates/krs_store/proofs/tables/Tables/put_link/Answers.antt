@@ -1,5 +1,4 @@
-use Rattle.std.proofs.Common.{◌≡◌, ap, sym, ◌∙◌, subst, Some, Ok, Err, Bool, cond}
-use Rattle.std.specs.Option.{is_some}
+use Rattle.std.proofs.Common.{◌≡◌, ℕ, ap, sym, ◌∙◌, subst, Some, Ok, Err, Bool, cond}
 use Rattle.krs_types.specs.declared.errno.Errno.TheVariants.{ENFILE}
 use Rattle.krs_model.specs.State.{State}
 use Rattle.krs_model.specs.Linking.{linking}
@@ -9,23 +8,27 @@ use Rattle.krs_keys.specs.Keys.{shown, links_at}
 use Rattle.krs_keys.proofs.KindsLemmas.{kinds_alter, linked_kind}
 use Rattle.krs_store.specs.View.{state_of}
 use Rattle.krs_store.specs.Linked.{name_in, room_in}
-use Rattle.krs_store.proofs.Telling.{neither, is_none}
-use Rattle.krs_store.proofs.Linking.{name_kept, fit_linked, shown_linked, linked_swept, room_told, refused_full}
+use Rattle.std.specs.Option.{option_to_list}
+use Rattle.krs_model.specs.Table.{Table}
+use Rattle.krs_model.specs.Sweep.{roots}
+use Rattle.krs_model.specs.Asks.Adding.{IsRing}
+use Rattle.krs_hold.specs.Tally.{AreExact, all_less}
+use Rattle.krs_store.proofs.Counting.{linked_tallied}
+use Rattle.krs_store.proofs.Linking.{name_kept, fit_linked, shown_linked, room_told, refused_full}
 use Rattle.krs_store.proofs.tables.Tables.put_link.Goals as goal
 
 pub invariant_of-self : goal.invariant_of-self
 invariant_of-self c =
     let s = c.self.inside in
     let es = s.keys.keys in
-    let there = name_kept s c.args.serial c.args.name (subst (λ (t : State). name_in t c.args.serial ≡ Some c.args.name) (sym c.self.view_is) c.requires) in
+    let there = name_kept s c.args.serial c.args.name (subst (λ (t : State). name_in t c.args.serial ≡ Some c.args.name) (sym c.self.view_is) c.requires.named) in
+    let ring = subst (λ (t : State). IsRing t c.args.ring) (sym c.self.view_is) c.requires.ring in
     record {
-      contexts = c.self.invariant.contexts;
-      processes = c.self.invariant.processes;
       fit = rw c.in-Ok.ensures.ok (fit_linked es c.args.ring c.args.serial c.args.name c.self.invariant.fit there);
       kinds = rw c.in-Ok.ensures.ok (kinds_alter es c.args.ring _ (linked_kind c.args.name c.args.serial) c.self.invariant.kinds);
-      swept = λ clean. let both = neither s.let_go (is_some c.in-Ok.displaced) (sym c.lets_go-self-inside.ensures ∙ clean) in
-          rw (c.in-Ok.ensures.ok, shown_linked es c.args.ring c.args.serial c.args.name c.self.invariant.fit)
-          (linked_swept s c.args.ring c.args.serial c.args.name c.self.invariant (sym c.in-Ok.ensures.displaced ∙ is_none c.in-Ok.displaced both.1) (c.self.invariant.swept both.0));
+      tallied = subst (λ (zs : Table ℕ). AreExact c.link.new.self.keys zs (roots (state_of s)))
+          (sym (c.let_go_of.ensures ∙ ap (all_less (option_to_list c.in-Ok.displaced)) c.hold.ensures))
+          (rw (c.in-Ok.ensures.ok, c.in-Ok.ensures.displaced) (linked_tallied s (roots (state_of s)) c.args.ring c.args.serial c.args.name there ring c.self.invariant.tallied));
     }
 
 pub returns-in-Ok : goal.returns-in-Ok

@@ -1,45 +1,53 @@
-use Rattle.std.proofs.Common.{◌≡◌, ap, sym, ◌∙◌, subst, Some, refl, true, false}
-use Rattle.std.proofs.lemmas.Bool.{true≢false}
+use Rattle.std.proofs.Common.{◌≡◌, ℕ, ap, sym, ◌∙◌, subst, refl, true, false}
+use Rattle.krs_model.specs.Table.{Table}
 use Rattle.krs_model.specs.State.{State}
 use Rattle.krs_model.specs.Levels.{is_in}
 use Rattle.krs_model.specs.Reach.{links_in}
+use Rattle.krs_model.specs.Sweep.{roots}
 use Rattle.krs_model.specs.Asks.Changing.{changed}
 use Rattle.krs_model.specs.Asks.Linked.{without_link}
 use Rattle.krs_keys.specs.Keys.{shown}
-use Rattle.krs_keys.proofs.KindsLemmas.{kinds_alter, unlinked_kind}
+use Rattle.krs_keys.proofs.KindsLemmas.{kinds_alter, keyless_kind}
+use Rattle.krs_keys.proofs.Unlinking.{fit-keyless, shown-keyless}
+use Rattle.krs_hold.specs.Tally.{AreExact}
 use Rattle.krs_store.specs.View.{state_of}
-use Rattle.krs_store.specs.Linked.{name_in}
-use Rattle.krs_store.proofs.Linking.{name_kept, is_linked, not_linked, fit_unlinked, shown_unlinked}
+use Rattle.krs_store.proofs.Counting.{unlinked_tallied}
+use Rattle.krs_store.proofs.Linking.{linked_told}
 use Rattle.krs_store.proofs.tables.Tables.take_link.Goals as goal
 
 pub returns-then-not-is_linked : goal.returns-then-not-is_linked
-returns-then-not-is_linked c =
-    let s = c.self.inside in
-    let there = name_kept s c.args.serial c.args.name.now (subst (λ (t : State). name_in t c.args.serial ≡ Some c.args.name.now) (sym c.self.view_is) c.requires) in (
-      subst (λ (t : State). is_in c.args.serial (links_in t.keys c.args.ring) ≡ false) c.self.view_is
-          (not_linked s.keys.keys c.args.ring c.args.serial c.args.name.now c.self.invariant.fit there (sym c.is_linked.ensures ∙ c.if-not-is_linked.true)),
-      (refl, refl),
-    )
+returns-then-not-is_linked c = (
+  subst (λ (t : State). is_in c.args.serial (links_in t.keys c.args.ring) ≡ false) c.self.view_is
+      (sym (linked_told c.self.inside.keys.keys c.args.ring c.args.serial)
+      ∙ (sym c.is_linked.ensures ∙ c.if-not-is_linked.true)),
+  (refl, refl),
+)
 
 pub invariant_of-self : goal.invariant_of-self
 invariant_of-self c =
-    let es = c.self.inside.keys.keys in
+    let s = c.self.inside in
+    let es = s.keys.keys in
+    let attached = roots (state_of s) in
+    let ring = c.args.ring in
+    let serial = c.args.serial in
     record {
-      contexts = c.self.invariant.contexts;
-      processes = c.self.invariant.processes;
-      fit = rw c.unlink.ensures (fit_unlinked es c.args.ring c.args.name.now c.self.invariant.fit);
-      kinds = rw c.unlink.ensures (kinds_alter es c.args.ring _ (unlinked_kind c.args.name.now) c.self.invariant.kinds);
-      swept = λ t. absurd (true≢false t);
+      fit = rw c.unlink.ensures (fit-keyless serial es ring c.self.invariant.fit);
+      kinds = rw c.unlink.ensures (kinds_alter es ring _ (keyless_kind serial) c.self.invariant.kinds);
+      tallied =
+          subst (λ (zs : Table ℕ). AreExact c.unlink.new.self.keys zs attached) (sym c.let_go.ensures)
+          (rw c.unlink.ensures (unlinked_tallied es attached s.holders ring serial c.self.invariant.fit
+          (sym (linked_told es ring serial) ∙ (sym c.is_linked.ensures ∙ c.if-not-is_linked.false))
+          c.self.invariant.tallied));
     }
 
 pub returns : goal.returns
 returns c =
     let s = c.self.inside in
-    let es = s.keys.keys in
-    let there = name_kept s c.args.serial c.args.name.now (subst (λ (t : State). name_in t c.args.serial ≡ Some c.args.name.now) (sym c.self.view_is) c.requires) in
-    let found = sym c.is_linked.ensures ∙ c.if-not-is_linked.false in (
-      subst (λ (t : State). is_in c.args.serial (links_in t.keys c.args.ring) ≡ true) c.self.view_is (is_linked es c.args.ring c.args.serial c.args.name.now found),
+    let ring = c.args.ring in
+    let serial = c.args.serial in (
+      subst (λ (t : State). is_in serial (links_in t.keys ring) ≡ true) c.self.view_is
+          (sym (linked_told s.keys.keys ring serial) ∙ (sym c.is_linked.ensures ∙ c.if-not-is_linked.false)),
       ap (λ zs. record (state_of s) { keys = shown zs.keys; next_serial = zs.next }) c.unlink.ensures
-          ∙ (ap (λ zs. record (state_of s) { keys = zs }) (shown_unlinked es c.args.ring c.args.serial c.args.name.now c.self.invariant.fit there found)
-          ∙ ap (λ (t : State). changed t c.args.ring (without_link c.args.serial)) c.self.view_is),
+          ∙ (ap (λ zs. record (state_of s) { keys = zs }) (shown-keyless serial s.keys.keys ring)
+          ∙ ap (λ (t : State). changed t ring (without_link serial)) c.self.view_is),
     )

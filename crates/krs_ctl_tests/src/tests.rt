@@ -1,0 +1,309 @@
+//! Scripts and the program over ends in memory: the worked examples of docs/FORMAT.md, and ends that fail.
+use krs_ctl::{ScriptEnd, run_program, run_script};
+use krs_store::Store;
+use std::alloc::{AllocError, Global};
+use std::cell::Cell;
+use std::io;
+use std::io::{ErrorKind, Read, Write};
+use std::test::Fail;
+
+mod changes;
+mod contexts;
+mod holders;
+mod keyrings;
+mod notes;
+
+const ALPHA: &str = "hello 1000 1000\nadd user alpha s3 @u\nprint 5\nrdescribe 5\n";
+
+/// A script, what it prints, and its status.
+#[rattlefmt::skip]
+const SCRIPTS: [(&str, &str, u8); 12] = [
+    (ALPHA, "1\n5\ns3\nuser;1000;1000;3f010000;alpha\n", 0),
+    ("", "", 0),
+    // The last line needs no newline.
+    ("context 7", "ok\n", 0),
+    ("\n   \n# print 5\n#\n  context  7  \n", "ok\n", 0),
+    // A comment begins in the very first byte.
+    (" # print 5\n", "usage\n", 2),
+    ("moment 18446744073709551615\ncontext 4294967295\nleave\n", "ok\nok\nok\n", 0),
+    ("print 5\n", "error 3 ESRCH\n", 1),
+    ("hello 1000 1000\nprint 5\nleave\n", "1\nerror 126 ENOKEY\nok\n", 1),
+    ("hello 1000 1000\nadd user a hex: @u\n", "1\nerror 22 EINVAL\n", 1),
+    ("hello 1000 1000 00100 7\nadd user a hex:00fF7f @u\nprint 00005\n", "1\n5\n:hex:00ff7f\n", 0),
+    ("hello 1000 1000\nadd user a hex:207e @u\nprint 5\n", "1\n5\n ~\n", 0),
+    // Usage is the status whatever was refused before it, and nothing is done after it.
+    ("print 5\nnonsense\ncontext 1\n", "error 3 ESRCH\nusage\n", 2),
+];
+
+/// Lines that are no command, or not the words that it takes.
+#[rattlefmt::skip]
+const FAULTS: [&str; 119] = [
+    "prin 5", "printx 5", "Print 5", "print", "print 5 6", "print x", "print 5x", "print -1", "print +5", "print 0x5",
+    "print 2147483648", "print @x", "print @", "print @us5", "print 5\r", "print\t5",
+    "hello", "hello 1000", "hello 1000 x", "hello 4294967296 0", "hello 0 0 1 -2",
+    "context", "context 1 2", "context 4294967296", "context @u",
+    "moment", "moment 18446744073709551616", "moment 1 2", "moment 1.0",
+    "add user a x", "add user a x @u 5", "add user a hex:0 @u", "add user a hex:0g @u", "add user a x @v",
+    "leave 1", "rdescribe",
+    "update", "update 5", "update 5 x y", "update @x y", "update 5 hex:0", "Update 5 x",
+    "revoke", "revoke 5 6", "revoke x",
+    "chown", "chown 5", "chown 5 1 2", "chown 5 -1", "chown 5 4294967296", "chown @x 1", "chown 5 0x1",
+    "chgrp", "chgrp 5", "chgrp 5 1 2", "chgrp 5 x", "chgrp 5 4294967296",
+    "setperm", "setperm 5", "setperm 5 1 2", "setperm 5 3f0100010", "setperm 5 000000001", "setperm 5 0x1",
+    "setperm 5 +1", "setperm 5 -1", "setperm 5 3g",
+    "timeout", "timeout 5", "timeout 5 1 2", "timeout 5 4294967296", "timeout 5 a",
+    "newring", "newring a", "newring a @u 5", "newring a x", "rlist", "rlist 5 6", "rlist x", "rlist -4",
+    "clear", "clear 5 6", "clear x", "Clear 5",
+    "link", "link 5", "link 5 6 7", "link 5 x", "unlink", "unlink 5", "unlink x 5", "unlink 5 6 7",
+    "thread 1", "Thread", "fork 1", "exec 1", "id", "id x", "id 5 Create", "id 5 creat", "id 5 creates",
+    "id 5 create 1", "id create 5", "join a b", "search", "search 5", "search 5 user", "search x user k",
+    "search 5 user k x", "search 5 user k 6 7", "request", "request user", "request user k x",
+    "request user k 6 7", "exit 1", "Exit", "invalidate", "invalidate 5 6", "invalidate x", "Invalidate 5",
+];
+
+fn script(alloc: Global, input: &str) -> Result<(String, u8), Fail> {
+    let mut output = Vec::new(alloc);
+    let end = run_script(alloc, input.as_bytes(), &mut output, Store::new(alloc));
+    Ok((String::from_utf8(output)?, end.status))
+}
+
+/// The lines of a script, and what they print, each with its newline.
+fn texts(alloc: Global, rows: &[(&str, &str)]) -> Result<(String, String), Fail> {
+    let mut input = String::new(alloc);
+    let mut wanted = String::new(alloc);
+    for (line, printed) in rows {
+        input.push_str(line)?;
+        input.push('\n')?;
+        wanted.push_str(printed)?;
+        wanted.push('\n')?;
+    }
+    Ok((input, wanted))
+}
+
+#[test]
+fn scripts(rt: HostRuntime) -> Result<(), Fail> {
+    for (input, wanted, status) in SCRIPTS {
+        let (output, ended) = script(rt.alloc(), input)?;
+        assert_eq!(rt; output.as_str(), wanted, "at {input:?}");
+        assert_eq!(rt; ended, status, "at {input:?}");
+    }
+    Ok(())
+}
+
+#[test]
+fn faults(rt: HostRuntime) -> Result<(), Fail> {
+    for line in FAULTS {
+        let (output, status) = script(rt.alloc(), line)?;
+        assert_eq!(rt; output.as_str(), "usage\n", "at {line:?}");
+        assert_eq!(rt; status, 2, "at {line:?}");
+    }
+    Ok(())
+}
+
+/// A reader of bytes that are no text, and of lines longer than any buffer.
+#[test]
+fn any_bytes(rt: HostRuntime) -> Result<(), Fail> {
+    let mut input = b"hello 1000 1000\nadd user \xff\x80 ".to_vec(rt.alloc())?;
+    for _ in 0..200_000 {
+        input.push(b'a')?;
+    }
+    input.extend_from_slice(b" @u\nadd user \xff\x80 \xfe @u\nrdescribe 5\nprint 5\n#")?;
+    for _ in 0..200_000 {
+        input.push(0)?;
+    }
+    let mut output = Vec::new(rt.alloc());
+    let end = run_script(
+        rt.alloc(),
+        input.as_slice(),
+        &mut output,
+        Store::new(rt.alloc()),
+    );
+    let wanted =
+        "1\nerror 22 EINVAL\n5\n:hex:757365723b313030303b313030303b33663031303030303bff80\n:hex:fe\n";
+    assert_eq!(rt; output.as_slice(), wanted.as_bytes());
+    assert_eq!(rt; end.status, 1);
+    Ok(())
+}
+
+#[test]
+fn store_comes_back(rt: HostRuntime) -> Result<(), Fail> {
+    let alloc = rt.alloc();
+    let mut output = Vec::new(alloc);
+    let first = run_script(alloc, ALPHA.as_bytes(), &mut output, Store::new(alloc));
+    output.clear();
+    let again = b"context 1\nprint 5\n".as_slice();
+    let ScriptEnd { status, store: _ } = run_script(alloc, again, &mut output, first.store);
+    assert_eq!(rt; output.as_slice(), b"ok\ns3\n".as_slice());
+    assert_eq!(rt; status, 0);
+    Ok(())
+}
+
+/// Gives a line at a time and fails where the answers to those before it are not written, or at line `fails_at`.
+#[derive(Drop)]
+struct LineByLine<'a> {
+    lines: &'a [&'a str],
+    written: &'a Cell<usize>,
+    given: usize,
+    fails_at: usize,
+}
+
+impl Read for LineByLine<'_> {
+    fn read(&mut self, buf: &mut [u8]) -> io::Result<usize> {
+        if self.given == self.fails_at || self.written.get() != self.given {
+            return Err(io::Error::from(ErrorKind::Other));
+        }
+        let Some(line) = self.lines.get(self.given) else {
+            return Ok(0);
+        };
+        self.given = self.given.saturating_add(1);
+        let bytes = line.as_bytes();
+        if bytes.len() > buf.len() {
+            return Err(io::Error::from(ErrorKind::Other));
+        }
+        buf[..bytes.len()].copy_from_slice(bytes);
+        Ok(bytes.len())
+    }
+}
+
+/// Counts the lines that it takes, and fails at the next write after `most` of them.
+#[derive(Drop)]
+struct Counting<'a> {
+    written: &'a Cell<usize>,
+    most: usize,
+}
+
+impl Write for Counting<'_> {
+    fn write(&mut self, buf: &[u8]) -> io::Result<usize> {
+        if self.written.get() >= self.most {
+            return Err(io::Error::from(ErrorKind::BrokenPipe));
+        }
+        let lines = buf.iter().filter(|byte| **byte == b'\n').count();
+        self.written.set(self.written.get().saturating_add(lines));
+        Ok(buf.len())
+    }
+
+    fn flush(&mut self) -> io::Result<()> {
+        Ok(())
+    }
+}
+
+/// At which line reading fails, after how many lines writing does, and then the status and the lines written.
+#[rattlefmt::skip]
+const ENDS: [(usize, usize, u8, usize); 8] = [
+    (9, 9, 0, 4),
+    (0, 9, 3, 0), (1, 9, 3, 1), (4, 9, 3, 4),
+    (9, 0, 3, 0), (9, 1, 3, 1), (9, 3, 3, 3), (9, 4, 0, 4),
+];
+
+#[test]
+fn a_line_at_a_time(rt: HostRuntime) -> Result<(), Fail> {
+    let lines = [
+        "hello 1000 1000\n",
+        "add user alpha s3 @u\n",
+        "print 5\n",
+        "rdescribe 5\n",
+    ];
+    for (reads, writes, status, count) in ENDS {
+        let written = Cell::new(0);
+        let reader = LineByLine {
+            lines: lines.as_slice(),
+            written: &written,
+            given: 0,
+            fails_at: reads,
+        };
+        let mut writer = Counting {
+            written: &written,
+            most: writes,
+        };
+        let end = run_script(rt.alloc(), reader, &mut writer, Store::new(rt.alloc()));
+        assert_eq!(rt; end.status, status, "reads to {reads}, writes to {writes}");
+        assert_eq!(rt;
+            written.get(),
+            count,
+            "reads to {reads}, writes to {writes}"
+        );
+    }
+    Ok(())
+}
+
+/// Newlines without an end, behind a first line.
+#[derive(Drop)]
+struct Endless {
+    begun: bool,
+}
+
+impl Read for Endless {
+    fn read(&mut self, buf: &mut [u8]) -> io::Result<usize> {
+        buf.fill(b'\n');
+        if !self.begun && buf.len() > 9 {
+            buf[..9].copy_from_slice(b"context 1");
+        }
+        self.begun = true;
+        Ok(buf.len())
+    }
+}
+
+#[test]
+fn ends_after_many_lines(rt: HostRuntime) -> Result<(), Fail> {
+    let mut output = Vec::new(rt.alloc());
+    let reader = Endless { begun: false };
+    let end = run_script(rt.alloc(), reader, &mut output, Store::new(rt.alloc()));
+    assert_eq!(rt; end.status, 3);
+    assert_eq!(rt; output.as_slice(), b"ok\n".as_slice());
+    Ok(())
+}
+
+/// The words behind the program's name, its status, how its output begins, and whether it writes to standard error.
+#[rattlefmt::skip]
+const PROGRAMS: [(&[&str], u8, &str, bool); 9] = [
+    (&["script"], 0, "1\n5\ns3\n", false),
+    (&["--", "script"], 0, "1\n5\ns3\n", false),
+    (&[], 2, "usage\n", false),
+    (&["scrip"], 2, "usage\n", false),
+    (&["script", "x"], 2, "usage\n", false),
+    (&["print", "5"], 2, "usage\n", false),
+    (&["--version"], 0, "keyretain 0.1.0\n", false),
+    (&["--help"], 0, "A client of a key store", false),
+    (&["--nonsense"], 2, "", true),
+];
+
+#[test]
+fn programs(rt: HostRuntime) -> Result<(), Fail> {
+    let alloc = rt.alloc();
+    for (words, status, begins, has_errors) in PROGRAMS {
+        let mut args = Vec::new(alloc);
+        args.push(String::from_str(alloc, "keyretain")?)
+            .map_err(AllocError::from)?;
+        for word in words {
+            args.push(String::from_str(alloc, word)?)
+                .map_err(AllocError::from)?;
+        }
+        let mut output = Vec::new(alloc);
+        let mut errors = Vec::new(alloc);
+        let input = ALPHA.as_bytes();
+        let ended = run_program(alloc, Ok(args.into_iter()), input, &mut output, &mut errors);
+        assert_eq!(rt; ended, status, "at {words:?}");
+        assert!(rt; output.starts_with(begins.as_bytes()), "at {words:?}");
+        assert_eq!(rt; output.is_empty(), begins.is_empty(), "at {words:?}");
+        assert_eq!(rt; errors.is_empty(), !has_errors, "at {words:?}");
+    }
+    Ok(())
+}
+
+/// Words that cannot be had: no text, or no memory for them.
+#[test]
+fn words_that_fail(rt: HostRuntime) -> Result<(), Fail> {
+    for (kind, wanted, status) in [
+        (ErrorKind::InvalidData, "usage\n", 2),
+        (ErrorKind::OutOfMemory, "error 12 ENOMEM\n", 1),
+    ] {
+        let words = Err(io::Error::from(kind));
+        let mut output = Vec::new(rt.alloc());
+        let mut errors = Vec::new(rt.alloc());
+        let input = ALPHA.as_bytes();
+        let ended = run_program(rt.alloc(), words, input, &mut output, &mut errors);
+        assert_eq!(rt; output.as_slice(), wanted.as_bytes());
+        assert_eq!(rt; ended, status);
+    }
+    Ok(())
+}

@@ -1,0 +1,173 @@
+//! Scripts of contexts, session keyrings and search, a line and what it prints in each row.
+use super::texts;
+use krs_ctl::run_script;
+use krs_store::Store;
+use std::test::Fail;
+
+/// A new context of the process has its process keyring, one of another process has not; neither has the thread
+/// keyring of its maker. EXEC ends the other contexts of the process and leaves it without both.
+#[rattlefmt::skip]
+const PROCESSES: [(&str, &str); 18] = [
+    ("hello 1000 1000", "1"),
+    ("id @t", "error 126 ENOKEY"),
+    ("id @t create", "5"),
+    ("id @p create", "6"),
+    ("thread", "2"),
+    ("fork", "3"),
+    ("context 2", "ok"),
+    ("id @t", "error 126 ENOKEY"),
+    ("id @p", "6"),
+    ("context 3", "ok"),
+    ("id @p", "error 126 ENOKEY"),
+    ("id @s", "4"),
+    ("context 1", "ok"),
+    ("exec", "ok"),
+    ("id @p", "error 126 ENOKEY"),
+    ("context 2", "ok"),
+    ("id @s", "error 3 ESRCH"),
+    ("fork", "error 3 ESRCH"),
+];
+
+/// The lines behind `thread` and `fork` are still of the context that asked for them.
+#[rattlefmt::skip]
+const CURRENT: [(&str, &str); 7] = [
+    ("hello 1000 1000", "1"),
+    ("id @t create", "5"),
+    ("thread", "2"),
+    ("id @t", "5"),
+    ("fork", "3"),
+    ("id @t create", "5"),
+    ("id 5", "5"),
+];
+
+/// A named session keyring is joined where it grants SEARCH by another byte than the possessor's, else made anew.
+#[rattlefmt::skip]
+const SESSIONS: [(&str, &str); 13] = [
+    ("hello 1000 1000", "1"),
+    ("join", "5"),
+    ("rdescribe @s", "keyring;1000;1000;3f030000;_ses"),
+    ("join work", "6"),
+    ("join work", "7"),
+    ("setperm 7 3f1b0000", "ok"),
+    ("thread", "2"),
+    ("join", "8"),
+    ("join work", "7"),
+    ("join .x", "error 1 EPERM"),
+    ("newring .x @u", "error 1 EPERM"),
+    ("rdescribe @s", "keyring;1000;1000;3f1b0000;work"),
+    ("id @s", "7"),
+];
+
+/// The nearer of two matches is found.
+#[rattlefmt::skip]
+const NEAREST: [(&str, &str); 6] = [
+    ("hello 1000 1000", "1"),
+    ("newring R @u", "5"),
+    ("newring A 5", "6"),
+    ("add user k deep 6", "7"),
+    ("add user k near 5", "8"),
+    ("search 5 user k", "8"),
+];
+
+/// A search enters six levels of keyrings below its head, and possession goes as far.
+#[rattlefmt::skip]
+const DEPTH: [(&str, &str); 13] = [
+    ("hello 1000 1000", "1"),
+    ("newring A1 @t", "6"),
+    ("newring A2 6", "7"),
+    ("newring A3 7", "8"),
+    ("newring A4 8", "9"),
+    ("newring A5 9", "10"),
+    ("newring A6 10", "11"),
+    ("newring A7 11", "12"),
+    ("add user d6 x 11", "13"),
+    ("add user d7 x 12", "14"),
+    ("search @t user d6", "13"),
+    ("search @t user d7", "error 126 ENOKEY"),
+    ("print 14", "error 13 EACCES"),
+];
+
+/// What is found is linked to the destination, where there is one.
+#[rattlefmt::skip]
+const DESTINATIONS: [(&str, &str); 19] = [
+    ("hello 1000 1000", "1"),
+    ("add user k x @u", "5"),
+    ("newring box @u", "6"),
+    ("search @s user k", "5"),
+    ("search @s user k 0", "5"),
+    ("request user k", "5"),
+    ("rlist 6", ""),
+    ("search @s user k 6", "5"),
+    ("rlist 6", "5"),
+    ("request user k 6", "5"),
+    ("request keyring box @t", "6"),
+    ("rlist @t", "6"),
+    ("id @t", "7"),
+    ("search @s user z", "error 126 ENOKEY"),
+    ("search 5 user k", "error 20 ENOTDIR"),
+    ("search @s user k 5", "error 20 ENOTDIR"),
+    ("search @s other k", "error 19 ENODEV"),
+    ("request .user k", "error 1 EPERM"),
+    ("request keyring box 6", "error 35 EDEADLK"),
+];
+
+/// A thread keyring that the ask is to make counts as made, and is not made where the ask is refused.
+#[rattlefmt::skip]
+const COUNTS_AS_MADE: [(&str, &str); 6] = [
+    ("hello 1000 1000", "1"),
+    ("link 5 @t", "error 35 EDEADLK"),
+    ("request keyring _tid @t", "error 35 EDEADLK"),
+    ("search @t keyring _tid @t", "error 126 ENOKEY"),
+    ("id @t", "error 126 ENOKEY"),
+    ("newring A @t", "6"),
+];
+
+/// The two keyrings of the uid take the last serials.
+#[rattlefmt::skip]
+const LAST_SERIALS: [(&str, &str); 5] = [
+    ("hello 1000 1000", "1"),
+    ("add user k x @u", "error 28 ENOSPC"),
+    ("join", "error 28 ENOSPC"),
+    ("print @u", ""),
+    ("print @us", ":hex:feffff7f"),
+];
+
+/// One serial is left, for one key and not for two.
+#[rattlefmt::skip]
+const ONE_SERIAL: [(&str, &str); 5] = [
+    ("hello 1000 1000", "1"),
+    ("add user k x @t", "error 28 ENOSPC"),
+    ("id @t", "error 126 ENOKEY"),
+    ("id @t create", "2147483647"),
+    ("add user k x @t", "error 28 ENOSPC"),
+];
+
+/// Each script with the first serial of its store, and its status.
+const SCRIPTS: [(u32, &[(&str, &str)], u8); 9] = [
+    (3, &PROCESSES, 1),
+    (3, &CURRENT, 0),
+    (3, &SESSIONS, 1),
+    (3, &NEAREST, 0),
+    (3, &DEPTH, 1),
+    (3, &DESTINATIONS, 1),
+    (3, &COUNTS_AS_MADE, 1),
+    (2_147_483_646, &LAST_SERIALS, 1),
+    (2_147_483_645, &ONE_SERIAL, 1),
+];
+
+#[test]
+fn contexts_and_searches(rt: HostRuntime) -> Result<(), Fail> {
+    for (first, rows, status) in SCRIPTS {
+        let (input, wanted) = texts(rt.alloc(), rows)?;
+        let mut output = Vec::new(rt.alloc());
+        let store = Store::starting_at(rt.alloc(), first.max(3));
+        let end = run_script(rt.alloc(), input.as_bytes(), &mut output, store);
+        assert_eq!(rt;
+            String::from_utf8(output)?.as_str(),
+            wanted.as_str(),
+            "at {input:?}"
+        );
+        assert_eq!(rt; end.status, status, "at {input:?}");
+    }
+    Ok(())
+}

@@ -1,0 +1,133 @@
+//! Scripts in which contexts end and keys are let go, a line and what it prints in each row.
+use super::{script, texts};
+use std::alloc::Global;
+use std::process::Abort;
+use std::test::Fail;
+
+/// A context that ended is still the current one, and is no context. With the last context of a uid its keyrings go, and
+/// the next one makes them anew.
+#[rattlefmt::skip]
+const LAST_CONTEXT: [(&str, &str); 12] = [
+    ("hello 1000 1000", "1"),
+    ("newring box @u", "5"),
+    ("hello 1000 1000", "2"),
+    ("exit", "ok"),
+    ("rdescribe 5", "error 3 ESRCH"),
+    ("exit", "error 3 ESRCH"),
+    ("context 1", "ok"),
+    ("rlist @u", "5"),
+    ("exit", "ok"),
+    ("hello 1000 1000", "3"),
+    ("rdescribe 6", "keyring;1000;1000;1f3f0000;_uid.1000"),
+    ("rdescribe 5", "error 126 ENOKEY"),
+];
+
+/// A thread keyring that its process keyring links outlives its context. Both go with the last context of the process.
+#[rattlefmt::skip]
+const LAST_OF_A_PROCESS: [(&str, &str); 13] = [
+    ("hello 1000 1000", "1"),
+    ("id @p create", "5"),
+    ("thread", "2"),
+    ("fork", "3"),
+    ("id @t create", "6"),
+    ("link 6 5", "ok"),
+    ("exit", "ok"),
+    ("context 2", "ok"),
+    ("rdescribe 6", "keyring;1000;1000;3f010000;_tid"),
+    ("exit", "ok"),
+    ("context 3", "ok"),
+    ("rdescribe 6", "error 126 ENOKEY"),
+    ("id @u", "3"),
+];
+
+/// A key stays while something links it.
+#[rattlefmt::skip]
+const LAST_LINK: [(&str, &str); 8] = [
+    ("hello 1000 1000", "1"),
+    ("newring a @u", "5"),
+    ("add user k x 5", "6"),
+    ("link 6 @u", "ok"),
+    ("unlink 6 5", "ok"),
+    ("print 6", "x"),
+    ("unlink 6 @u", "ok"),
+    ("print 6", "error 126 ENOKEY"),
+];
+
+/// An invalidated key is out of every keyring at once, and an invalidated keyring takes along what it alone links.
+#[rattlefmt::skip]
+const INVALIDATED: [(&str, &str); 12] = [
+    ("hello 1000 1000", "1"),
+    ("newring box @u", "5"),
+    ("add user k x 5", "6"),
+    ("link 6 @u", "ok"),
+    ("invalidate 6", "ok"),
+    ("rlist 5", ""),
+    ("rlist @u", "5"),
+    ("print 6", "error 126 ENOKEY"),
+    ("add user k y 5", "7"),
+    ("invalidate 5", "ok"),
+    ("print 7", "error 126 ENOKEY"),
+    ("rlist @u", ""),
+];
+
+/// An invalidated keyring is out of every attachment.
+#[rattlefmt::skip]
+const DETACHED: [(&str, &str); 10] = [
+    ("hello 1000 1000", "1"),
+    ("join", "5"),
+    ("invalidate @s", "ok"),
+    ("id @s", "error 126 ENOKEY"),
+    ("rdescribe 5", "error 126 ENOKEY"),
+    ("hello 1000 1000", "2"),
+    ("invalidate @us", "ok"),
+    ("id @s", "error 126 ENOKEY"),
+    ("id @us", "error 126 ENOKEY"),
+    ("id @u", "3"),
+];
+
+/// INVALIDATE looks its key up for SEARCH.
+#[rattlefmt::skip]
+const NOT_INVALIDATED: [(&str, &str); 15] = [
+    ("invalidate 5", "error 3 ESRCH"),
+    ("hello 1000 1000", "1"),
+    ("invalidate 0", "error 22 EINVAL"),
+    ("invalidate 5", "error 126 ENOKEY"),
+    ("invalidate @t", "error 126 ENOKEY"),
+    ("add user k x @u", "5"),
+    ("setperm 5 37370000", "ok"),
+    ("invalidate 5", "error 13 EACCES"),
+    ("revoke 5", "ok"),
+    ("invalidate 5", "error 128 EKEYREVOKED"),
+    ("add user t x @u", "6"),
+    ("timeout 6 5", "ok"),
+    ("moment 5", "ok"),
+    ("invalidate 6", "error 127 EKEYEXPIRED"),
+    ("rlist @u", "5 6"),
+];
+
+/// Contexts that end, and links that are taken out.
+const LET_GO: [&[(&str, &str)]; 3] = [&LAST_LINK, &LAST_CONTEXT, &LAST_OF_A_PROCESS];
+
+/// Keys that are invalidated, or are not.
+const INVALIDATIONS: [&[(&str, &str)]; 3] = [&INVALIDATED, &DETACHED, &NOT_INVALIDATED];
+
+/// Every script here has a refusal, so that its status is 1.
+fn check_scripts(rt: &impl Abort, alloc: Global, scripts: &[&[(&str, &str)]]) -> Result<(), Fail> {
+    for rows in scripts {
+        let (input, wanted) = texts(alloc, rows)?;
+        let (output, status) = script(alloc, input.as_str())?;
+        assert_eq!(rt; output.as_str(), wanted.as_str(), "at {input:?}");
+        assert_eq!(rt; status, 1, "at {input:?}");
+    }
+    Ok(())
+}
+
+#[test]
+fn keys_are_let_go(rt: HostRuntime) -> Result<(), Fail> {
+    check_scripts(&rt, rt.alloc(), &LET_GO)
+}
+
+#[test]
+fn keys_are_invalidated(rt: HostRuntime) -> Result<(), Fail> {
+    check_scripts(&rt, rt.alloc(), &INVALIDATIONS)
+}

@@ -1,0 +1,294 @@
+-- What is true of all anchors stays so.
+use Rattle.std.proofs.Common.{◌≡◌, ℕ, ◌+◌, ◌<◌, ◌≤◌, ◌==◌, [], ◌∷◌, Option, Some, None, Bool, true, false, cond, filter, if◌then◌else◌, arith, refl, ap, ◌∙◌, sym, subst, ⊎_elim}
+use Rattle.std.specs.Option.{IsSome, option_map}
+use Rattle.std.proofs.lemmas.Option.{none-some}
+use Rattle.std.proofs.lemmas.Bool.{true≢false}
+use Rattle.std.proofs.Math.Nat.{lt_of_not-le}
+use Rattle.std.proofs.lemmas.Bool.Decides.{nat_tests}
+use Rattle.std.specs.Cmp.{unsigned_tied}
+use Rattle.std.specs.Ordering.{nat_cmp}
+use Rattle.std.specs.BTreeMap.{is_at}
+use Rattle.krs_types.specs.declared.context.Context.{Context}
+use Rattle.krs_model.specs.Table.{Table, at, put, without, alter, map_values, IsBelow}
+use Rattle.krs_model.specs.Asks.Leaving.{has_process}
+use Rattle.krs_model.proofs.Levels.{or_true, same_is}
+use Rattle.krs_model.proofs.Tables.{at_map, same_at, at_put_same, at_put_other, at_alter_same, at_alter_other, at_alter_none, at_or_apart, at_without_none, at_kept, below_put, below_filter}
+use Rattle.krs_ctx.specs.Anchors.{Anchors, Each, IsEntered, IsFit}
+use Rattle.krs_model.proofs.Standing.{there_map}
+use Rattle.krs_ctx.proofs.EachLemmas.{each_on, each_both, each_filter, each_put, each_without, each_alter, each_at, each_below}
+
+-- a table whose numbers are below one is below the next
+below_more : {X : Type 0} (es : Table X) (n : ℕ) → IsBelow es n → IsBelow es (n + 1)
+below_more es n below = λ q h. below q (omega arith)
+
+below_alter : {X : Type 0} (es : Table X) (k n : ℕ) (f : X → X) → IsBelow es n → IsBelow (alter es k f) n
+below_alter es k n f below = λ q h. at_alter_none es k q f (below q h)
+
+below_without : {X : Type 0} (es : Table X) (k n : ℕ) → IsBelow es n → IsBelow (without es k) n
+below_without es k n below = λ q h. at_without_none es k q (below q h)
+
+after : (n q : ℕ) → n ≤ q → is_at (nat_cmp q) n ≡ false → n + 1 ≤ q
+after n q h apart = grind (arith, nat_tests, unsigned_tied q n)
+
+before : (p e n : ℕ) → p ≤ e → e < n → p ≡ n → ⊥
+before p e n le lt same = omega arith
+
+-- the last number is taken out
+below_last : {X : Type 0} (es : Table X) (n : ℕ) → at (without es n) n ≡ None → IsBelow es (n + 1)
+    → IsBelow (without es n) n
+below_last es n gone below = λ q h.
+    ⊎_elim (λ (e : q ≡ n). subst (λ (z : ℕ). at (without es n) z ≡ None) (sym e) gone)
+    (λ (apart : is_at (nat_cmp q) n ≡ false). at_without_none es n q (below q (after n q h apart)))
+    (at_or_apart q n)
+
+-- what is taken out leaves what is at other numbers
+at_without_other : {X : Type 0} (es : Table X) (k q : ℕ) → is_at (nat_cmp q) k ≡ false → at (without es k) q ≡ at es q
+at_without_other [] k q h = refl
+at_without_other (e ∷ es) k q h =
+    elim (is_at (nat_cmp k) e.0) as
+    (λ b. is_at (nat_cmp k) e.0 ≡ b → at (cond b es (e ∷ without es k)) q ≡ at (e ∷ es) q) [
+      | true ↦ λ t. let same : k ≡ e.0 = same_at k e.0 t in let no : is_at (nat_cmp q) e.0 ≡ false =
+          rw (← same) h in rw no refl
+      | false ↦ λ t. ap (λ o. cond (is_at (nat_cmp q) e.0) (Some e.1) o) (at_without_other es k q h)
+    ] refl
+
+-- a process that is there is there after another was made, changed or ended
+still_put : (ps : Table (Option ℕ)) (n q : ℕ) (v : Option ℕ) → IsSome (at ps q) → IsSome (at (put ps n v) q)
+still_put ps n q v h =
+    ⊎_elim (λ (e : q ≡ n). subst (λ (z : ℕ). IsSome (at (put ps n v) z)) (sym e) (rw (at_put_same ps n v) refl))
+    (λ apart. rw (at_put_other ps n q v apart) h)
+    (at_or_apart q n)
+
+map_some : (f : Option ℕ → Option ℕ) (o : Option (Option ℕ)) → IsSome o → IsSome (option_map f o)
+map_some f None h = h
+map_some f (Some v) h = refl
+
+still_alter : (ps : Table (Option ℕ)) (n q : ℕ) (f : Option ℕ → Option ℕ) → IsSome (at ps q)
+    → IsSome (at (alter ps n f) q)
+still_alter ps n q f h =
+    ⊎_elim (λ (e : q ≡ n). subst (λ (z : ℕ). IsSome (at ps z) → IsSome (at (alter ps n f) z)) (sym e)
+    (λ there. rw (at_alter_same ps n f) (map_some f (at ps n) there)) h)
+    (λ apart. rw (at_alter_other ps n q f apart) h)
+    (at_or_apart q n)
+
+still_without : (ps : Table (Option ℕ)) (n q : ℕ) → (q ≡ n → ⊥) → IsSome (at ps q) → IsSome (at (without ps n) q)
+still_without ps n q other h =
+    ⊎_elim (λ (e : q ≡ n). absurd (other e))
+    (λ apart. rw (at_without_other ps n q apart) h)
+    (at_or_apart q n)
+
+-- each context has a context of its process: itself
+each_has : (es : Table Context) → Each (λ e. has_process es e.1.process ≡ true) es
+each_has [] = tt
+each_has (e ∷ es) = (
+  rw (same_is e.1.process e.1.process refl) refl,
+  each_on (λ x. has_process es x.1.process ≡ true) (λ x. has_process (e ∷ es) x.1.process ≡ true) es
+      (λ x h. or_true (e.1.process == x.1.process) (has_process es x.1.process) h) (each_has es),
+)
+
+-- a context that is there is in a process, and its number was given
+pub record IsKnown (t : Anchors) (number : ℕ) (c : Context) : Type 0 where
+  pub process : IsSome (at t.processes c.process)
+  pub from : c.process ≤ number
+  pub given : number < t.next_context
+
+pub known : (t : Anchors) (number : ℕ) (c : Context) → IsFit t → at t.contexts number ≡ Some c → IsKnown t number c
+known t number c fit there =
+    let entered : IsEntered t.processes (number, c) =
+    each_at (IsEntered t.processes) t.contexts number c fit.entered there in
+    record {
+      process = entered.0;
+      from = entered.1;
+      given = lt_of_not-le (λ le. none-some c (sym (fit.contexts number le) ∙ there));
+    }
+
+-- one more context of a process
+pub thread_fit : (t new : Anchors) (number : ℕ) (maker c : Context) → IsFit t → at t.contexts number ≡ Some maker
+    → c.process ≡ maker.process → new.contexts ≡ put t.contexts t.next_context c → new.processes ≡ t.processes
+    → new.next_context ≡ t.next_context + 1 → IsFit new
+thread_fit t new number maker c fit there same contexts processes next =
+    let is = known t number maker fit there in
+    let from = is.from in
+    let given = is.given in
+    record {
+      contexts = rw next (below_put t.contexts new.contexts t.next_context c contexts fit.contexts);
+      processes = rw (processes, next) (below_more t.processes t.next_context fit.processes);
+      entered = rw (contexts, processes)
+          (each_put (IsEntered t.processes) t.contexts t.next_context c (rw same is.process, omega arith)
+          fit.entered);
+    }
+
+-- a context in a process of its own
+pub enter_fit : (t new : Anchors) (c : Context) → IsFit t → c.process ≡ t.next_context
+    → new.contexts ≡ put t.contexts t.next_context c → new.processes ≡ put t.processes t.next_context None
+    → new.next_context ≡ t.next_context + 1 → IsFit new
+enter_fit t new c fit own contexts processes next =
+    let n = t.next_context in
+    let ps = put t.processes n None in
+    record {
+      contexts = rw next (below_put t.contexts new.contexts n c contexts fit.contexts);
+      processes = rw next (below_put t.processes new.processes n None processes fit.processes);
+      entered = rw (contexts, processes)
+          (each_put (IsEntered ps) t.contexts n c (rw (own, at_put_same t.processes n None) refl, omega arith)
+          (each_on (IsEntered t.processes) (IsEntered ps) t.contexts
+          (λ e h. (still_put t.processes n e.1.process None h.0, h.1)) fit.entered));
+    }
+
+-- a context changed, but for its process, and others ended
+pub changed_fit : (t new : Anchors) (number : ℕ) (f : Context → Context) (p : ℕ × Context → Bool)
+    → ((c : Context) → (f c).process ≡ c.process) → IsFit t → new.contexts ≡ filter p (alter t.contexts number f)
+    → new.processes ≡ t.processes → new.next_context ≡ t.next_context → IsFit new
+changed_fit t new number f p same fit contexts processes next =
+    let es = alter t.contexts number f in
+    record {
+      contexts = rw next
+          (below_filter p es new.contexts t.next_context contexts
+          (below_alter t.contexts number t.next_context f fit.contexts));
+      processes = rw (processes, next) fit.processes;
+      entered = rw (contexts, processes)
+          (each_filter (IsEntered t.processes) p es
+          (each_alter (IsEntered t.processes) t.contexts number f (λ e h. rw (same e.1) h) fit.entered));
+    }
+
+pub altered_fit : (t new : Anchors) (number : ℕ) (f : Context → Context)
+    → ((c : Context) → (f c).process ≡ c.process) → IsFit t → new.contexts ≡ alter t.contexts number f
+    → new.processes ≡ t.processes → new.next_context ≡ t.next_context → IsFit new
+altered_fit t new number f same fit contexts processes next = record {
+  contexts = rw (contexts, next) (below_alter t.contexts number t.next_context f fit.contexts);
+  processes = rw (processes, next) fit.processes;
+  entered = rw (contexts, processes)
+      (each_alter (IsEntered t.processes) t.contexts number f (λ e h. rw (same e.1) h) fit.entered);
+}
+
+-- another keyring of a process
+pub ring_fit : (t new : Anchors) (process : ℕ) (f : Option ℕ → Option ℕ) → IsFit t → new.contexts ≡ t.contexts
+    → new.processes ≡ alter t.processes process f → new.next_context ≡ t.next_context → IsFit new
+ring_fit t new process f fit contexts processes next =
+    let ps = alter t.processes process f in
+    record {
+      contexts = rw (contexts, next) fit.contexts;
+      processes = rw (processes, next) (below_alter t.processes process t.next_context f fit.processes);
+      entered = rw (contexts, processes)
+          (each_on (IsEntered t.processes) (IsEntered ps) t.contexts
+          (λ e h. (still_alter t.processes process e.1.process f h.0, h.1)) fit.entered);
+    }
+
+-- a context ends, and its process stays
+pub ended_fit : (t new : Anchors) (number : ℕ) → IsFit t → new.contexts ≡ without t.contexts number
+    → new.processes ≡ t.processes → new.next_context ≡ t.next_context → IsFit new
+ended_fit t new number fit contexts processes next = record {
+  contexts = rw (contexts, next) (below_without t.contexts number t.next_context fit.contexts);
+  processes = rw (processes, next) fit.processes;
+  entered = rw (contexts, processes) (each_without (IsEntered t.processes) t.contexts number fit.entered);
+}
+
+no_process : (es : Table Context) (process : ℕ) → has_process es process ≡ false
+    → Each (λ e. (e.1.process ≡ process) → ⊥) es
+no_process es process none = each_on (λ e. has_process es e.1.process ≡ true) (λ e. (e.1.process ≡ process) → ⊥) es
+    (λ e h same. true≢false (sym h ∙ (ap (has_process es) same ∙ none))) (each_has es)
+
+-- a process ends that has no context
+pub process_fit : (t new : Anchors) (process : ℕ) → IsFit t → has_process t.contexts process ≡ false
+    → new.contexts ≡ t.contexts → new.processes ≡ without t.processes process → new.next_context ≡ t.next_context
+    → IsFit new
+process_fit t new process fit none contexts processes next =
+    let ps = without t.processes process in
+    record {
+      contexts = rw (contexts, next) fit.contexts;
+      processes = rw (processes, next) (below_without t.processes process t.next_context fit.processes);
+      entered = rw (contexts, processes)
+          (each_both (λ e. (e.1.process ≡ process) → ⊥) (IsEntered t.processes) (IsEntered ps) t.contexts
+          (λ e other h. (still_without t.processes process e.1.process other h.0, h.1))
+          (no_process t.contexts process none) fit.entered);
+    }
+
+-- contexts end, and what has no context left
+pub left_fit : (t new : Anchors) (p : ℕ × Context → Bool) → IsFit t → new.contexts ≡ filter p t.contexts
+    → new.processes ≡ filter (λ e. has_process new.contexts e.0) t.processes → new.next_context ≡ t.next_context
+    → IsFit new
+left_fit t new p fit contexts processes next =
+    let es = filter p t.contexts in
+    let kept : Each (IsEntered t.processes) new.contexts =
+    rw contexts (each_filter (IsEntered t.processes) p t.contexts fit.entered) in
+    record {
+      contexts = rw next (below_filter p t.contexts new.contexts t.next_context contexts fit.contexts);
+      processes = rw next
+          (below_filter (λ e. has_process new.contexts e.0) t.processes new.processes t.next_context processes
+          fit.processes);
+      entered = rw processes
+          (each_both (λ e. has_process new.contexts e.1.process ≡ true) (IsEntered t.processes)
+          (IsEntered (filter (λ e. has_process new.contexts e.0) t.processes)) new.contexts
+          (λ e has h. (rw (at_kept (has_process new.contexts) t.processes e.1.process, has) h.0, h.1))
+          (each_has new.contexts) kept);
+    }
+
+-- the last context and its process are taken back
+pub taken_back_fit : (t new : Anchors) (n : ℕ) → IsFit t → t.next_context ≡ n + 1 → at new.contexts n ≡ None
+    → at new.processes n ≡ None → new.contexts ≡ without t.contexts n → new.processes ≡ without t.processes n
+    → new.next_context ≡ n → IsFit new
+taken_back_fit t new n fit last gone_context gone_process contexts processes next =
+    let below : IsBelow new.contexts n =
+    rw contexts (below_last t.contexts n (rw (← contexts) gone_context) (rw (← last) fit.contexts)) in
+    let kept : Each (IsEntered t.processes) new.contexts =
+    rw contexts (each_without (IsEntered t.processes) t.contexts n fit.entered) in
+    record {
+      contexts = rw next below;
+      processes = rw (processes, next)
+          (below_last t.processes n (rw (← processes) gone_process) (rw (← last) fit.processes));
+      entered = rw processes
+          (each_both (λ e. e.0 < n) (IsEntered t.processes) (IsEntered (without t.processes n)) new.contexts
+          (λ e given h.
+          (still_without t.processes n e.1.process (λ same. before e.1.process e.0 n h.1 given same) h.0, h.1))
+          (each_below new.contexts n below) kept);
+    }
+
+same_fit : (t new : Anchors) → IsFit t → new.contexts ≡ t.contexts → new.processes ≡ t.processes
+    → new.next_context ≡ t.next_context → IsFit new
+same_fit t new fit contexts processes next = record {
+  contexts = rw (contexts, next) fit.contexts;
+  processes = rw (processes, next) fit.processes;
+  entered = rw (contexts, processes) fit.entered;
+}
+
+-- a context ends, and its process where it was the last one of it
+pub exited_fit : (t new : Anchors) (number process : ℕ) → IsFit t → new.contexts ≡ without t.contexts number
+    → new.processes ≡ (if has_process new.contexts process then t.processes else without t.processes process)
+    → new.next_context ≡ t.next_context → IsFit new
+exited_fit t new number process fit contexts processes next =
+    let mid : Anchors = record t { contexts = new.contexts } in
+    let fits : IsFit mid = ended_fit t mid number fit contexts refl refl in
+    elim (has_process new.contexts process) as
+    (λ b. has_process new.contexts process ≡ b
+    → new.processes ≡ cond b t.processes (without t.processes process) → IsFit new) [
+      | true ↦ λ some e. same_fit mid new fits refl e next
+      | false ↦ λ none e. process_fit mid new process fits none refl e next
+    ] refl processes
+
+-- the other contexts of a process end, and it has another keyring
+pub execed_fit :
+    (t new : Anchors) (number process : ℕ) (f : Context → Context) (p : ℕ × Context → Bool)
+    (g : Option ℕ → Option ℕ) → ((c : Context) → (f c).process ≡ c.process) → IsFit t
+    → new.contexts ≡ filter p (alter t.contexts number f) → new.processes ≡ alter t.processes process g
+    → new.next_context ≡ t.next_context → IsFit new
+execed_fit t new number process f p g same fit contexts processes next =
+    let mid : Anchors = record t { contexts = new.contexts } in
+    ring_fit mid new process g (changed_fit t mid number f p same fit contexts refl refl) refl processes next
+
+entered_mapped : (processes : Table (Option ℕ)) (es : Table Context) (f : Context → Context) (g : Option ℕ → Option ℕ)
+    → ((c : Context) → (f c).process ≡ c.process) → Each (IsEntered processes) es
+    → Each (IsEntered (map_values g processes)) (map_values f es)
+entered_mapped processes [] f g same h = tt
+entered_mapped processes (e ∷ es) f g same h = (
+  rw (same e.1) (there_map g processes e.1.process h.0.0, h.0.1),
+  entered_mapped processes es f g same h.1,
+)
+
+-- changed contexts, processes and uids, under the same numbers
+pub mapped_fit : (t new : Anchors) (f : Context → Context) (g : Option ℕ → Option ℕ)
+    → ((c : Context) → (f c).process ≡ c.process) → IsFit t → new.contexts ≡ map_values f t.contexts
+    → new.processes ≡ map_values g t.processes → new.next_context ≡ t.next_context → IsFit new
+mapped_fit t new f g same fit contexts processes next = record {
+  contexts = rw (contexts, next) (λ k le. at_map f t.contexts k ∙ ap (option_map f) (fit.contexts k le));
+  processes = rw (processes, next) (λ k le. at_map g t.processes k ∙ ap (option_map g) (fit.processes k le));
+  entered = rw (contexts, processes) (entered_mapped t.processes t.contexts f g same fit.entered);
+}

@@ -1,0 +1,5 @@
+pub mod EachLemmas
+pub mod FitLemmas
+pub mod ToldLemmas
+pub mod HelloLemmas
+pub mod LeadsLemmas

@@ -1,0 +1,12 @@
+use Rattle.std.proofs.Common.{ap, ◌∙◌}
+use Rattle.krs_ctx.specs.View.{anchors_in}
+use Rattle.krs_ctx.specs.Anchors.{Anchors}
+use Rattle.krs_ctx.proofs.FitLemmas.{taken_back_fit}
+use Rattle.krs_ctx.proofs.contexts.Contexts.take_back.Goals as goal
+
+pub invariant_of-self : goal.invariant_of-self
+invariant_of-self c =
+    taken_back_fit (anchors_in c.self.inside) _ c.args.number c.self.invariant
+    (ap (λ (t : Anchors). t.next_context) c.self.view_is ∙ c.requires)
+    c.take_out.ensures.gone c.take_out-2.ensures.gone c.take_out.ensures.entries c.take_out-2.ensures.entries
+    c.from-self-inside.ensures

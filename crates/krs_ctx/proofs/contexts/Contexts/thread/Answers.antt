@@ -1,0 +1,54 @@
+use Rattle.std.proofs.Common.{◌≡◌, Some, Ok, refl, ◌∙◌, sym, ap, subst}
+use Rattle.krs_types.specs.declared.context.Context.{Context}
+use Rattle.krs_model.specs.Table.{at, put}
+use Rattle.krs_model.specs.Lookup.{context_of}
+use Rattle.krs_ctx.specs.Anchors.{Anchors, anchored}
+use Rattle.krs_ctx.specs.View.{anchors_in}
+use Rattle.krs_ctx.proofs.FitLemmas.{thread_fit}
+use Rattle.krs_ctx.proofs.ToldLemmas.{thread_refused, thread_accepted, thread_told, there, is_ok, refused, wants}
+use Rattle.krs_ctx.proofs.contexts.Contexts.thread.Goals as goal
+
+pub returns-in_err-entered : goal.returns-in_err-entered
+returns-in_err-entered c =
+    refused _ _ _ _ _ c.from_residual-in_err-entered.ensures.1
+    (λ s. thread_refused (anchored s c.args.self.now) c.args.client c.args.number c.in_ok-maker.maker.now _
+    (c.in_ok-maker.ensures s) (c.in_err-entered.ensures.given s))
+    refl
+
+pub returns-in_err-context : goal.returns-in_err-context
+returns-in_err-context c =
+    wants _ _ _ _ c.from_residual-in_err-context.ensures.1
+    (λ s. is_ok _ _
+    (thread_accepted (anchored s c.args.self.now) c.args.client c.args.number c.in_ok-maker.maker.now
+    (c.in_ok-maker.ensures s) (c.in_ok-entered.ensures.given s)))
+    refl
+
+pub returns-in_err-put_new : goal.returns-in_err-put_new
+returns-in_err-put_new c =
+    wants _ _ _ _ c.from_residual-in_err-put_new.ensures.1
+    (λ s. is_ok _ _
+    (thread_accepted (anchored s c.args.self.now) c.args.client c.args.number c.in_ok-maker.maker.now
+    (c.in_ok-maker.ensures s) (c.in_ok-entered.ensures.given s)))
+    (rw c.in_err-put_new.ensures.err c.self.view_is)
+
+pub invariant_of-self-2 : goal.invariant_of-self-2
+invariant_of-self-2 c =
+    let old = anchors_in c.self.inside in
+    let found : at old.contexts c.args.number ≡ Some c.in_ok-maker.maker.now =
+    there old c.args.client c.args.number c.in_ok-maker.maker.now
+    (λ s. subst (λ (t : Anchors). context_of (anchored s t) c.args.client c.args.number ≡ Ok
+    c.in_ok-maker.maker.now) (sym c.self.view_is) (c.in_ok-maker.ensures s)) in
+    thread_fit old _ c.args.number c.in_ok-maker.maker.now c.in_ok-context.context c.self.invariant found
+    (ap (λ (x : Context). x.process) c.in_ok-context.ensures)
+    (c.in_ok-put_new.ensures.ok
+    ∙ ap (λ n. put old.contexts n c.in_ok-context.context)
+    (c.in_ok-entered.ensures.number ∙ ap (λ (t : Anchors). t.next_context) (sym c.self.view_is))) refl refl
+
+pub returns : goal.returns
+returns c = λ s.
+    let m = c.in_ok-maker.maker.now in
+    thread_accepted (anchored s c.args.self.now) c.args.client c.args.number m (c.in_ok-maker.ensures s)
+    (c.in_ok-entered.ensures.given s)
+    ∙ ap Ok (thread_told s c.args.self.now (anchors_in c.self.inside) _ m c.in_ok-context.context
+    c.in_ok-entered.entered c.self.view_is
+    c.in_ok-put_new.ensures.ok refl refl refl c.in_ok-context.ensures c.in_ok-entered.ensures.number)

@@ -1,0 +1,13 @@
+use Rattle.std.proofs.Common.{◌∙◌, sym, rules}
+use Rattle.std.proofs.lemmas.Map.Made.{map_same_pairs}
+use Rattle.krs_types.specs.declared.context.Context.{Context}
+use Rattle.krs_model.specs.Asks.Invalidating.{context_without}
+use Rattle.krs_ctx.proofs.EachLemmas.{mapped_is}
+use Rattle.krs_ctx.proofs.maps.detach_contexts.Goals as goal
+
+pub returns : goal.returns
+returns c =
+    let g : Context → Context = context_without c.args.serial in
+    map_same_pairs _ g _ (λ k v b w f' t. search rules) c.args.contexts.now.entries c.retain.new.self.entries
+    c.retain.ensures.filtered
+    ∙ sym (mapped_is g _)

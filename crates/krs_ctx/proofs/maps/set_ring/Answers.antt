@@ -1,0 +1,15 @@
+use Rattle.std.proofs.Common.{ℕ, Option, ap, sym, ◌∙◌}
+use Rattle.krs_model.proofs.Tables.{alter_some, alter_none}
+use Rattle.krs_ctx.proofs.maps.set_ring.Goals as goal
+
+pub returns-in-Some : goal.returns-in-Some
+returns-in-Some c =
+    let f : Option ℕ → Option ℕ = λ was. c.args.ring in
+    (c.get_mut.follows.holds (f c.in-Some.was.now)).0
+    ∙ alter_some c.args.processes.now.entries c.args.process f c.in-Some.was.now (sym c.in-Some.ensures.value)
+
+pub returns-in-None : goal.returns-in-None
+returns-in-None c =
+    let f : Option ℕ → Option ℕ = λ was. c.args.ring in
+    ap (λ m. m.entries) c.get_mut.follows.holds-at-none
+    ∙ sym (alter_none c.args.processes.now.entries c.args.process f (sym c.in-None.ensures.value))

@@ -1,0 +1,352 @@
+-- Laws of the chain of the counts that wait.
+use Rattle.std.proofs.Common.{◌≡◌, ℕ, ◌+◌, ◌-◌, ◌<◌, ◌≤◌, ◌==◌, ◌&&◌, ◌||◌, List, [], ◌∷◌, Option, Some, None, true}
+use Rattle.std.proofs.Common.{false, not, cond, refl, ap, ◌∙◌, sym, arith, ⊎_elim, subst}
+use Rattle.std.proofs.lemmas.Bool.{true≢false, cases_eq}
+use Rattle.std.proofs.lemmas.Bool.Decides.{nat_tests}
+use Rattle.std.proofs.lemmas.Option.{none-some, same_Some}
+use Rattle.std.specs.Option.{option_map, IsSome, is_some}
+use Rattle.std.specs.Ordering.{nat_cmp}
+use Rattle.std.specs.BTreeMap.{is_at}
+use Rattle.krs_hold.specs.declared.counts.Count.{Count}
+use Rattle.krs_model.specs.Table.{Table, at, alter, put, without}
+use Rattle.krs_model.specs.Levels.{is_in}
+use Rattle.krs_hold.specs.Chain.{holders_at, is_waiting, next_at, IsChain, IsChained, falls, falls_at, lowered}
+use Rattle.krs_hold.specs.Chain.{raised, rested, Chained, gone, gone_all, weight, total_weight}
+use Rattle.krs_model.proofs.Tables.{alter_none, at_put_same, at_alter_same}
+use Rattle.krs_hold.proofs.Places.{alter_other, put_other, without_other, at_some}
+use Rattle.krs_hold.proofs.Times.{in_head, in_tail, in_rest}
+
+-- a chain stays where its counts wait and name the next as before
+pub chain_same :
+    (es fs : Table Count) (first : Option ℕ) (ks : List ℕ) → ((q : ℕ) → is_in q ks ≡ true
+    → (is_waiting (at fs q) ≡ is_waiting (at es q)) × (next_at (at fs q) ≡ next_at (at es q))) → IsChain es first ks
+    → IsChain fs first ks
+chain_same es fs first [] same h = h
+chain_same es fs first (k ∷ ks) same h =
+    let here = same k (in_head k ks) in
+    let below : IsChain fs (next_at (at es k)) ks = chain_same es fs (next_at (at es k)) ks
+    (λ q i. same q (in_tail q k ks i)) h.1.1.1 in
+    (h.0, (here.0 ∙ h.1.0, (h.1.1.0, subst (λ (o : Option ℕ). IsChain fs o ks) (sym here.1) below)))
+
+pub falls_true : (c : Count) → falls c ≡ true → (c.holders ≡ 1) × (c.waiting ≡ false)
+falls_true c h =
+    elim c.waiting as (λ w. ((c.holders == 1) && not w) ≡ true → (c.holders ≡ 1) × (w ≡ false)) [
+      | true ↦ λ g. absurd (elim (c.holders == 1) as (λ b. (b && false) ≡ true
+          → ⊥) [ true ↦ λ f. true≢false (sym f) | false ↦ λ f. true≢false (sym f) ] g)
+      | false ↦ λ g. (
+        elim (c.holders == 1) as (λ b. (c.holders == 1) ≡ b → (b && true) ≡ true
+            → c.holders ≡ 1) [
+              | true ↦ λ t f. grind (arith, nat_tests)
+              | false ↦ λ t f. absurd (true≢false
+                  (sym f))
+            ] refl g,
+        refl,
+      )
+    ] h
+
+falls_false : (c : Count) → falls c ≡ false → c.holders ≡ 1 → c.waiting ≡ true
+falls_false c h one =
+    let t : (c.holders == 1) ≡ true = grind (arith, nat_tests) in
+    elim c.waiting as (λ w. ((c.holders == 1) && not w) ≡ false → w ≡ true) [
+      | true ↦ λ g. refl
+      | false ↦ λ g. absurd (true≢false (subst (λ b. (b && true) ≡ false) t g))
+    ] h
+
+lowered_stays :
+    (first : Option ℕ) (c : Count) → falls c ≡ false → lowered first c ≡ record c { holders = c.holders - 1 }
+lowered_stays first c h = rw h refl
+
+lowered_falls :
+    (first : Option ℕ) (c : Count) → falls c ≡ true
+    → lowered first c ≡ record { holders = 0; waiting = true; next = first }
+lowered_falls first c h = rw h refl
+
+due_stays : (c : Count) → falls c ≡ false → c.holders - 1 ≡ 0 → (c.holders ≡ 0 → c.waiting ≡ true) → c.waiting ≡ true
+due_stays c f h z = ⊎_elim (λ e. z e) (λ n. falls_false c f (omega arith)) (cases_eq c.holders 0)
+
+-- what does not wait is in no chain
+out_of :
+    (es : Table Count) (first : Option ℕ) (ks : List ℕ) (k : ℕ) → IsChain es first ks → is_waiting (at es k) ≡ false
+    → is_in k ks ≡ false
+out_of es first [] k h r = refl
+out_of es first (x ∷ ks) k h r =
+    elim (x == k) as (λ b. (x == k) ≡ b → (b || is_in k ks) ≡ false) [
+      | true ↦ λ t. let s : x ≡ k = grind (arith, nat_tests) in absurd (true≢false (sym h.1.0
+          ∙ (ap (λ (z : ℕ). is_waiting (at es z)) s ∙ r)))
+      | false ↦ λ t. out_of es (next_at (at es x)) ks k h.1.1.1 r
+    ] refl
+
+-- one holder less, and not the last, or it waits already
+staying :
+    (es : Table Count) (first : Option ℕ) (k : ℕ) (c : Count) → at es k ≡ Some c → falls c ≡ false
+    → IsChained es first → IsChained (alter es k (lowered first)) first
+staying es first k c e f h =
+    let fs = alter es k (lowered first) in
+    let mine : at fs k ≡ Some (record c { holders = c.holders - 1 }) = at_some es k (lowered first) c e
+    ∙ ap Some (lowered_stays first c f) in
+    let others : (q : ℕ) → (q ≡ k → ⊥) → at fs q ≡ at es q = λ q n. alter_other es k q (lowered first) n in
+    let stays : (q : ℕ) → (is_waiting (at fs q) ≡ is_waiting (at es q)) × (next_at (at fs q) ≡ next_at (at es q)) =
+    λ q. ⊎_elim
+    (λ s. subst (λ (z : ℕ). (is_waiting (at fs z) ≡ is_waiting (at es z)) × (next_at (at fs z) ≡ next_at (at es z)))
+    (sym s) (ap is_waiting mine ∙ sym (ap is_waiting e), ap next_at mine ∙ sym (ap next_at e)))
+    (λ n. (ap is_waiting (others q n), ap next_at (others q n)))
+    (cases_eq q k) in
+    record {
+      chain = h.chain;
+      linked = chain_same es fs first h.chain (λ q i. stays q) h.linked;
+      whole = λ q w. h.whole q (sym (stays q).0 ∙ w);
+      due = λ q there none. ⊎_elim
+          (λ s. let zero : c.holders - 1 ≡ 0 = sym (ap holders_at mine)
+          ∙ subst (λ (z : ℕ). holders_at (at fs z) ≡ 0) s none in
+          ap is_waiting (ap (at fs) s ∙ mine) ∙ due_stays c f zero (λ z. sym (ap is_waiting e)
+          ∙ h.due k (rw e refl) (ap holders_at e ∙ z)))
+          (λ n. (stays q).0 ∙ h.due q (subst IsSome (others q n) there) (sym (ap holders_at (others q n)) ∙ none))
+          (cases_eq q k);
+    }
+
+-- a count of 0 that comes into the chain
+pub pushed :
+    (es fs : Table Count) (first : Option ℕ) (k : ℕ) → is_waiting (at es k) ≡ false
+    → at fs k ≡ Some (record { holders = 0; waiting = true; next = first }) → ((q : ℕ) → (q ≡ k → ⊥)
+    → at fs q ≡ at es q) → IsChained es first → IsChained fs (Some k)
+pushed es fs first k rests mine others h =
+    let out : is_in k h.chain ≡ false = out_of es first h.chain k h.linked rests in
+    let apart : (q : ℕ) → is_in q h.chain ≡ true → q ≡ k
+    → ⊥ = λ q i s. true≢false (sym i ∙ (ap (λ (z : ℕ). is_in z h.chain) s ∙ out)) in
+    record {
+      chain = k ∷ h.chain;
+      linked = (
+        refl,
+        (
+          ap is_waiting mine,
+          (
+            out,
+            subst
+                (λ (o : Option ℕ). IsChain fs o h.chain) (sym (ap next_at mine)) (chain_same es fs first h.chain
+                (λ q i. (ap is_waiting (others q (apart q i)), ap next_at (others q (apart q i)))) h.linked),
+          ),
+        ),
+      );
+      whole = λ q w. ⊎_elim
+          (λ s. subst (λ (z : ℕ). is_in z (k ∷ h.chain) ≡ true) (sym s) (in_head k h.chain))
+          (λ n. in_tail q k h.chain (h.whole q (sym (ap is_waiting (others q n)) ∙ w)))
+          (cases_eq q k);
+      due = λ q there none. ⊎_elim
+          (λ s. ap is_waiting (ap (at fs) s ∙ mine))
+          (λ n. ap is_waiting (others q n)
+          ∙ h.due q (subst IsSome (others q n) there) (sym (ap holders_at (others q n)) ∙ none))
+          (cases_eq q k);
+    }
+
+-- the last holder less
+falling :
+    (es : Table Count) (first : Option ℕ) (k : ℕ) (c : Count) → at es k ≡ Some c → falls c ≡ true
+    → IsChained es first → IsChained (alter es k (lowered first)) (Some k)
+falling es first k c e f h = pushed es (alter es k (lowered first)) first k (ap is_waiting e
+    ∙ (falls_true c f).1) (at_some es k (lowered first) c e
+    ∙ ap Some (lowered_falls first c f)) (λ q n. alter_other es k q (lowered first) n) h
+
+-- a new count
+pub made_chained :
+    (es : Table Count) (first : Option ℕ) (k : ℕ) → at es k ≡ None → IsChained es first
+    → IsChained (put es k (record { holders = 0; waiting = true; next = first })) (Some k)
+made_chained es first k none h = pushed es (put es k (record {
+  holders = 0;
+  waiting = true;
+  next =
+      first;
+})) first k (ap is_waiting none) (at_put_same es k _) (λ q n. put_other es k q _ n) h
+
+raised_waits : (o : Option Count) → is_waiting (option_map raised o) ≡ is_waiting o
+raised_waits None = refl
+raised_waits (Some c) = refl
+
+raised_next : (o : Option Count) → next_at (option_map raised o) ≡ next_at o
+raised_next None = refl
+raised_next (Some c) = refl
+
+raised_some : (o : Option Count) → IsSome (option_map raised o) → holders_at (option_map raised o) ≡ 0 → ⊥
+raised_some None s z = true≢false (sym s)
+raised_some (Some c) s z = absurd (omega (arith, z))
+
+-- one holder more
+pub raised_chained :
+    (es : Table Count) (first : Option ℕ) (k : ℕ) → IsChained es first → IsChained (alter es k raised) first
+raised_chained es first k h =
+    let fs = alter es k raised in
+    let others : (q : ℕ) → (q ≡ k → ⊥) → at fs q ≡ at es q = λ q n. alter_other es k q raised n in
+    let mine : at fs k ≡ option_map raised (at es k) = at_alter_same es k raised in
+    let stays : (q : ℕ) → (is_waiting (at fs q) ≡ is_waiting (at es q)) × (next_at (at fs q) ≡ next_at (at es q)) =
+    λ q. ⊎_elim
+    (λ s. subst (λ (z : ℕ). (is_waiting (at fs z) ≡ is_waiting (at es z)) × (next_at (at fs z) ≡ next_at (at es z)))
+    (sym s) (ap is_waiting mine ∙ raised_waits (at es k), ap next_at mine ∙ raised_next (at es k)))
+    (λ n. (ap is_waiting (others q n), ap next_at (others q n)))
+    (cases_eq q k) in
+    record {
+      chain = h.chain;
+      linked = chain_same es fs first h.chain (λ q i. stays q) h.linked;
+      whole = λ q w. h.whole q (sym (stays q).0 ∙ w);
+      due = λ q there none. ⊎_elim
+          (λ s. absurd (raised_some (at es k) (subst IsSome mine (subst
+          (λ (z : ℕ). IsSome (at fs z)) s there)) (sym (ap holders_at mine)
+          ∙ subst (λ (z : ℕ). holders_at (at fs z) ≡ 0) s none)))
+          (λ n. (stays q).0 ∙ h.due q (subst IsSome (others q n) there) (sym (ap holders_at (others q n)) ∙ none))
+          (cases_eq q k);
+    }
+
+pub gone_chained :
+    (es : Table Count) (first : Option ℕ) (k : ℕ) → IsChained es first
+    → IsChained (alter es k (lowered first)) (cond (falls_at (at es k)) (Some k) first)
+gone_chained es first k h =
+    elim (at es k) as (λ o. at es k ≡ o → IsChained (alter es k (lowered first)) (cond (falls_at o) (Some k) first)) [
+      | None ↦ λ e. subst (λ (zs : Table Count). IsChained zs first) (sym (alter_none es k (lowered first) e)) h
+      | Some c ↦ λ e. elim (falls c) as (λ b. falls c ≡ b
+          → IsChained (alter es k (lowered first)) (cond b (Some k) first)) [
+            | true ↦ λ f. falling es first k c e f h
+            | false ↦ λ f. staying es first k c e f h
+          ] refl
+    ] refl
+
+pub gone_all_chained :
+    (ks : List ℕ) (t : Chained) → IsChained t.counts t.first → IsChained (gone_all t ks).counts (gone_all t ks).first
+gone_all_chained [] t h = h
+gone_all_chained (k ∷ ks) t h = gone_all_chained ks (gone t k) (gone_chained t.counts t.first k h)
+
+-- The first of a chain, taken out: each count of 0 waits, but for it.
+pub record IsPopped (k : ℕ) (counts : Table Count) (first : Option ℕ) : Type 0 where
+  pub chain : List ℕ
+  pub linked : IsChain counts first chain
+  pub out : is_in k chain ≡ false
+  pub whole : (q : ℕ) → is_waiting (at counts q) ≡ true → is_in q chain ≡ true
+  pub due : (q : ℕ) → (q ≡ k → ⊥) → IsSome (at counts q) → holders_at (at counts q) ≡ 0
+      → is_waiting (at counts q) ≡ true
+
+waiting_some : (o : Option Count) → is_waiting o ≡ true → (c : Count) × (o ≡ Some c)
+waiting_some None h = absurd (true≢false (sym h))
+waiting_some (Some c) h = (c, refl)
+
+-- the first of the chain
+pub first_waits : (es : Table Count) (k : ℕ) → IsChained es (Some k) → is_waiting (at es k) ≡ true
+first_waits es k h =
+    elim h.chain as (λ ks. IsChain es (Some k) ks → is_waiting (at es k) ≡ true) [
+      | [] ↦ λ l. absurd (none-some k (sym l))
+      | x ∷ ks ↦ λ l. subst (λ (z : ℕ). is_waiting (at es z) ≡ true) (sym (same_Some k x l.0)) l.1.0
+    ] h.linked
+
+popped :
+    (es : Table Count) (k : ℕ) (ks : List ℕ) → IsChain es (Some k) ks → ((q : ℕ) → is_waiting (at es q) ≡ true
+    → is_in q ks ≡ true) → ((q : ℕ) → IsSome (at es q) → holders_at (at es q) ≡ 0 → is_waiting (at es q) ≡ true)
+    → IsPopped k (alter es k rested) (next_at (at es k))
+popped es k [] l w d = absurd (none-some k (sym l))
+popped es k (x ∷ ks) l w d =
+    let fs = alter es k rested in
+    let s : k ≡ x = same_Some k x l.0 in
+    let others : (q : ℕ) → (q ≡ k → ⊥) → at fs q ≡ at es q = λ q n. alter_other es k q rested n in
+    let waits : is_waiting (at es k) ≡ true = subst (λ (z : ℕ). is_waiting (at es z) ≡ true) (sym s) l.1.0 in
+    let out : is_in k ks ≡ false = subst (λ (z : ℕ). is_in z ks ≡ false) (sym s) l.1.1.0 in
+    let below : IsChain es (next_at (at es k)) ks = subst
+    (λ (z : ℕ). IsChain es (next_at (at es z)) ks) (sym s) l.1.1.1 in
+    let apart : (q : ℕ) → is_in q ks ≡ true → q ≡ k
+    → ⊥ = λ q i e. true≢false (sym i ∙ (ap (λ (z : ℕ). is_in z ks) e ∙ out)) in
+    let mine : is_waiting (at fs k) ≡ false = let c = waiting_some (at es k) waits in
+    ap is_waiting (at_some es k rested c.0 c.1) in
+    record {
+      chain = ks;
+      linked = chain_same es fs (next_at (at es k)) ks
+          (λ q i. (ap is_waiting (others q (apart q i)), ap next_at (others q (apart q i)))) below;
+      out = out;
+      whole = λ q h. ⊎_elim
+          (λ e. absurd (true≢false (sym h ∙ (ap (λ (z : ℕ). is_waiting (at fs z)) e ∙ mine))))
+          (λ n. in_rest q x ks (λ e. n (e ∙ sym s)) (w q (sym (ap is_waiting (others q n)) ∙ h)))
+          (cases_eq q k);
+      due = λ q n there none. ap is_waiting (others q n)
+          ∙ d q (subst IsSome (others q n) there) (sym (ap holders_at (others q n)) ∙ none);
+    }
+
+pub rest_popped :
+    (es : Table Count) (k : ℕ) → IsChained es (Some k) → IsPopped k (alter es k rested) (next_at (at es k))
+rest_popped es k h = popped es k h.chain h.linked h.whole h.due
+
+-- it is held, and stays
+pub kept_chained :
+    (es : Table Count) (first : Option ℕ) (k : ℕ) → IsPopped k es first → (holders_at (at es k) ≡ 0 → ⊥)
+    → IsChained es first
+kept_chained es first k h held = record {
+  chain = h.chain;
+  linked = h.linked;
+  whole = h.whole;
+  due = λ q there none. ⊎_elim (λ s. absurd (held (subst (λ (z : ℕ). holders_at (at es z) ≡ 0) s none)))
+      (λ n. h.due q n there none) (cases_eq q k);
+}
+
+-- it goes
+pub dropped_chained :
+    (es : Table Count) (first : Option ℕ) (k : ℕ) → IsPopped k es first → at (without es k) k ≡ None
+    → IsChained (without es k) first
+dropped_chained es first k h none =
+    let fs = without es k in
+    let others : (q : ℕ) → (q ≡ k → ⊥) → at fs q ≡ at es q = λ q n. without_other es k q n in
+    let apart : (q : ℕ) → is_in q h.chain ≡ true → q ≡ k
+    → ⊥ = λ q i e. true≢false (sym i ∙ (ap (λ (z : ℕ). is_in z h.chain) e ∙ h.out)) in
+    let mine : is_waiting (at fs k) ≡ false = ap is_waiting none in
+    record {
+      chain = h.chain;
+      linked = chain_same es fs first h.chain
+          (λ q i. (ap is_waiting (others q (apart q i)), ap next_at (others q (apart q i)))) h.linked;
+      whole = λ q w. ⊎_elim
+          (λ e. absurd (true≢false (sym w ∙ (ap (λ (z : ℕ). is_waiting (at fs z)) e ∙ mine))))
+          (λ n. h.whole q (sym (ap is_waiting (others q n)) ∙ w))
+          (cases_eq q k);
+      due = λ q there zero. ⊎_elim
+          (λ e. absurd (true≢false (sym (subst (λ (z : ℕ). IsSome (at fs z)) e there) ∙ ap is_some none)))
+          (λ n. ap is_waiting (others q n)
+          ∙ h.due q n (subst IsSome (others q n) there) (sym (ap holders_at (others q n)) ∙ zero))
+          (cases_eq q k);
+    }
+
+-- ---- what is left to do
+weight_lowered : (first : Option ℕ) (c : Count) → weight (lowered first c) ≤ weight c
+weight_lowered first c =
+    elim (falls c) as (λ b. falls c ≡ b
+    → weight (cond b (record { holders = 0; waiting = true; next = first }) (record c {
+      holders =
+          c.holders - 1;
+    })) ≤ weight c) [
+      | true ↦ λ f. let one : c.holders ≡ 1 = (falls_true c f).0 in omega arith
+      | false ↦ λ f. omega arith
+    ] refl
+
+weight_gone :
+    (es : Table Count) (k : ℕ) (first : Option ℕ) → total_weight (alter es k (lowered first)) ≤ total_weight es
+weight_gone [] k first = omega arith
+weight_gone (e ∷ es) k first =
+    elim (is_at (nat_cmp k) e.0) as
+    (λ b. total_weight (cond b ((e.0, lowered first e.1) ∷ es) (e ∷ alter es k
+    (lowered first))) ≤ weight e.1 + total_weight es) [
+      | true ↦ let r = weight_lowered first e.1 in omega (arith, r)
+      | false ↦ let r = weight_gone es k first in omega (arith, r)
+    ]
+
+pub weight_gone_all : (ks : List ℕ) (t : Chained) → total_weight (gone_all t ks).counts ≤ total_weight t.counts
+weight_gone_all [] t = omega arith
+weight_gone_all (k ∷ ks) t = let r = weight_gone_all ks (gone t k) in let s = weight_gone t.counts k t.first in
+    omega (arith, r, s)
+
+pub weight_rested :
+    (es : Table Count) (k : ℕ) → is_waiting (at es k) ≡ true → total_weight (alter es k rested) < total_weight es
+weight_rested [] k h = absurd (true≢false (sym h))
+weight_rested (e ∷ es) k h =
+    elim (is_at (nat_cmp k) e.0) as (λ b. is_waiting (cond b (Some e.1) (at es k)) ≡ true
+    → total_weight (cond b ((e.0, rested e.1) ∷ es) (e ∷ alter es k rested)) < weight e.1 + total_weight es) [
+      | true ↦ λ w. rw w (omega arith)
+      | false ↦ λ w. let r = weight_rested es k w in omega (arith, r)
+    ] h
+
+pub weight_without : (es : Table Count) (k : ℕ) → total_weight (without es k) ≤ total_weight es
+weight_without [] k = omega arith
+weight_without (e ∷ es) k =
+    elim (is_at (nat_cmp k) e.0) as
+    (λ b. total_weight (cond b es (e ∷ without es k)) ≤ weight e.1 + total_weight es) [
+      | true ↦ omega arith
+      | false ↦ let r = weight_without es k in omega (arith, r)
+    ]

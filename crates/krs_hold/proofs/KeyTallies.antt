@@ -1,0 +1,209 @@
+-- What each call of a key table owes the numbers: for whoever keeps a key table and its numbers together.
+use Rattle.std.proofs.Common.{◌≡◌, ℕ, ◌+◌, ◌==◌, ◌||◌, List, [], ◌∷◌, ◌++◌, Option, Some, None, true, false, not, cond}
+use Rattle.std.proofs.Common.{refl, ap, ◌∙◌, sym, arith, subst}
+use Rattle.std.specs.List.{find}
+use Rattle.std.specs.Option.{option_map, option_to_list, IsSome}
+use Rattle.std.proofs.lemmas.Bool.{true≢false, eqb-true}
+use Rattle.std.proofs.lemmas.Option.{same_Some}
+use Rattle.krs_types.specs.declared.name.Name.{Name}
+use Rattle.krs_types.specs.Name.{same_name}
+use Rattle.krs_links.specs.Links.{LinkList, linked, unlinked_key, linked_as, serials}
+use Rattle.krs_links.proofs.KeyLinks.{serials-unlinked_key}
+use Rattle.krs_model.specs.Levels.{is_in}
+use Rattle.krs_model.specs.Table.{Table, at, put, alter}
+use Rattle.krs_model.specs.State as model
+use Rattle.krs_model.specs.Possession.{links_of}
+use Rattle.krs_model.proofs.Tables.{at_map, put_map, alter_map}
+use Rattle.krs_keys.specs.declared.key.Key.{Key}
+use Rattle.krs_keys.specs.declared.key.Content.{Content}
+use Rattle.krs_keys.specs.declared.key.Content.TheVariants.{Payload, Links}
+use Rattle.krs_keys.specs.declared.key.Change.{Change}
+use Rattle.krs_keys.specs.declared.key.Change.TheVariants as change
+use Rattle.krs_keys.specs.Keys.{seen, shown, content_links, AreNamed, displaced_at, displaced_by}
+use Rattle.krs_keys.specs.Keys.{with_entry, entered, without_key}
+use Rattle.krs_keys.specs.Changes.{changed, paid_with, emptied, cleared_content}
+use Rattle.krs_keys.proofs.Fitting.{none_left}
+use Rattle.krs_keys.proofs.KeysLemmas.{serials-content}
+use Rattle.krs_keys.proofs.Unlinking.{links-keyless}
+use Rattle.krs_hold.specs.Tally.{times, IsTallied, one_more, one_less, all_less}
+use Rattle.krs_hold.specs.Taken.{taken_by}
+use Rattle.krs_hold.proofs.Times.{times-cons, times-append}
+use Rattle.krs_hold.proofs.Tallies.{tallied_hold, tallied_let_go, tallied_let_go_all, tallied_put, tallied_relinked}
+
+-- a link more: of its own serial one more, and of what it displaces one less
+times-linked :
+    (links : LinkList) (name : Name) (serial q : ℕ)
+    → times q (serials (linked links name serial)) + times q (option_to_list (linked_as links name))
+    ≡ times q (serial ∷ []) + times q (serials links)
+times-linked [] name serial q = refl
+times-linked (link ∷ links) name serial q =
+    let was = times-cons q link.1 (serials links) in
+    elim (same_name name link.0) as (λ b.
+    times q (serials (cond b ((name, serial) ∷ links) (link ∷ linked links name serial)))
+    + times q (option_to_list (option_map (λ (l : Name × ℕ). l.1)
+    (cond b (Some link) (find (λ (l : Name × ℕ). same_name name l.0) links))))
+    ≡ times q (serial ∷ []) + times q (link.1 ∷ serials links)) [
+      | true ↦
+          let now = times-cons q serial (serials links) in
+          let one = times-cons q serial [] in
+          let gone = times-cons q link.1 [] in
+          omega (arith, was, now, one, gone)
+      | false ↦
+          let now = times-cons q link.1 (serials (linked links name serial)) in
+          let later = times-linked links name serial q in
+          omega (arith, was, now, later)
+    ]
+
+-- a link less: a key is linked once
+times-keyless :
+    (names : ℕ → Option Name) (serial q : ℕ) (links : LinkList) → AreNamed names links
+    → is_in serial (serials links) ≡ true
+    → times q (serials (unlinked_key links serial)) + times q (serial ∷ []) ≡ times q (serials links)
+times-keyless names serial q [] named there = absurd (true≢false (sym there))
+times-keyless names serial q (link ∷ links) named there =
+    let rest = unlinked_key links serial in
+    let was = times-cons q link.1 (serials links) in
+    elim (link.1 == serial) as (λ b. (link.1 == serial) ≡ b → (b || is_in serial (serials links)) ≡ true
+    → times q (serials (cond (not b) (link ∷ rest) rest)) + times q (serial ∷ []) ≡ times q (link.1 ∷ serials links)) [
+      | true ↦ λ t i.
+          let one : link.1 ≡ serial = eqb-true link.1 serial t in
+          let own : names serial ≡ Some link.0 = ap names (sym one) ∙ named.0 in
+          let others : serials rest ≡ serials links =
+          serials-unlinked_key serial links ∙ none_left names link.0 serial links own named.2 named.1 in
+          let same = ap (times q) others in
+          let single = times-cons q link.1 [] in
+          let gone = ap (λ k. times q (k ∷ [])) one in
+          omega (arith, was, same, single, gone)
+      | false ↦ λ t i.
+          let now = times-cons q link.1 (serials rest) in
+          let later = times-keyless names serial q links named.1 i in
+          omega (arith, was, now, later)
+    ] refl there
+
+shown_alter :
+    (keys : Table Key) (k : ℕ) (f : Key → Key) (v : Key) → at keys k ≡ Some v
+    → shown (alter keys k f) ≡ alter (shown keys) k (λ x. seen (f v))
+shown_alter keys k f v there =
+    alter_map seen keys k f (λ x. seen (f v)) (λ w here. ap (λ (z : Key). seen (f z)) (same_Some w v (sym here
+    ∙ there)))
+
+-- a key that is changed: what it links less is owed, and what it links more was
+pub tallied_alter :
+    (keys : Table Key) (attached due owed : List ℕ) (numbers : Table ℕ) (k : ℕ) (f : Key → Key) (v : Key)
+    → at keys k ≡ Some v
+    → ((q : ℕ) → times q due + times q (serials (content_links v.content))
+    ≡ times q owed + times q (serials (content_links (f v).content)))
+    → IsTallied (shown keys) attached due numbers → IsTallied (shown (alter keys k f)) attached owed numbers
+tallied_alter keys attached due owed numbers k f v there same h =
+    let found : at (shown keys) k ≡ Some (seen v) = at_map seen keys k ∙ ap (option_map seen) there in
+    subst (λ (zs : Table model.Key). IsTallied zs attached owed numbers) (sym (shown_alter keys k f v there))
+    (tallied_relinked (shown keys) attached due owed numbers k (λ x. seen (f v)) (seen v) found
+    (λ q.
+    let both = same q in
+    let before : times q (serials (content_links v.content)) ≡ times q (links_of (seen v).content) =
+    ap (times q) (serials-content v.content) in
+    let after : times q (serials (content_links (f v).content)) ≡ times q (links_of (seen (f v)).content) =
+    ap (times q) (serials-content (f v).content) in
+    omega (arith, both, before, after)) h)
+
+-- `hold` of the key, `link`, and `let_go` of what that displaced
+pub tallied_link :
+    (keys : Table Key) (attached : List ℕ) (numbers : Table ℕ) (ring : ℕ) (name : Name) (serial : ℕ) (v : Key)
+    (links : LinkList) → at keys ring ≡ Some v → v.content ≡ Links links → IsSome (at numbers serial)
+    → IsTallied (shown keys) attached [] numbers
+    → IsTallied (shown (alter keys ring (with_entry name serial))) attached []
+    (all_less (option_to_list (displaced_at keys ring name)) (one_more serial numbers))
+tallied_link keys attached numbers ring name serial v links there is counted h =
+    let displaced = option_to_list (displaced_at keys ring name) in
+    let same : displaced ≡ option_to_list (linked_as links name) =
+    ap (λ o. option_to_list (displaced_by name o)) there
+    ∙ ap (λ c. option_to_list (linked_as (content_links c) name)) is in
+    let after = alter keys ring (with_entry name serial) in
+    let held = tallied_hold (shown keys) attached [] numbers serial counted h in
+    tallied_let_go_all (shown after) attached displaced [] (one_more serial numbers)
+    (tallied_alter keys attached (serial ∷ []) (displaced ++ []) (one_more serial numbers) ring
+    (with_entry name serial) v
+    there
+    (λ q.
+    let counts = times-linked links name serial q in
+    let gone : times q (displaced ++ []) ≡ times q (option_to_list (linked_as links name)) + 0 =
+    times-append q displaced [] ∙ ap (λ xs. times q xs + 0) same in
+    let before : times q (serials (content_links v.content)) ≡ times q (serials links) =
+    ap (λ c. times q (serials (content_links c))) is in
+    let new : times q (serials (content_links (with_entry name serial v).content))
+    ≡ times q (serials (linked links name serial)) =
+    ap (λ c. times q (serials (content_links (entered name serial c)))) is in
+    omega (arith, counts, gone, before, new)) held)
+
+-- `unlink`, and `let_go` of the key that was linked
+pub tallied_unlink :
+    (keys : Table Key) (attached : List ℕ) (numbers : Table ℕ) (names : ℕ → Option Name) (ring serial : ℕ) (v : Key)
+    → at keys ring ≡ Some v → AreNamed names (content_links v.content)
+    → is_in serial (serials (content_links v.content)) ≡ true → IsTallied (shown keys) attached [] numbers
+    → IsTallied (shown (alter keys ring (without_key serial))) attached [] (one_less serial numbers)
+tallied_unlink keys attached numbers names ring serial v there named linked h =
+    let after = alter keys ring (without_key serial) in
+    tallied_let_go (shown after) attached [] numbers serial
+    (tallied_alter keys attached [] (serial ∷ []) numbers ring (without_key serial) v there
+    (λ q.
+    let counts = times-keyless names serial q (content_links v.content) named linked in
+    let left = ap (λ (links : LinkList). times q (serials links)) (links-keyless serial v.content) in
+    omega (arith, counts, left)) h)
+
+paid_links :
+    (payload : List ℕ) (content : Content) → content_links (paid_with payload content) ≡ content_links content
+paid_links payload (Payload old) = refl
+paid_links payload (Links links) = refl
+
+emptied_links : (content : Content) → content_links (emptied content) ≡ []
+emptied_links (Payload old) = refl
+emptied_links (Links links) = refl
+
+cleared_links : (content : Content) → content_links (cleared_content content) ≡ []
+cleared_links (Payload old) = refl
+cleared_links (Links links) = refl
+
+times-changed :
+    (c : Change) (v : Key) (q : ℕ)
+    → times q (serials (content_links v.content))
+    ≡ times q (taken_by c v.content) + times q (serials (content_links (changed c v).content))
+times-changed (change.Payload payload) v q =
+    let same = ap (λ (ls : LinkList). times q (serials ls)) (paid_links payload v.content) in omega (arith, same)
+times-changed (change.Mask mask) v q = omega arith
+times-changed (change.Owner uid gid) v q = omega arith
+times-changed (change.Expiry expiry) v q = omega arith
+times-changed change.Revoked v q =
+    let none = ap (λ (ls : LinkList). times q (serials ls)) (emptied_links v.content) in omega (arith, none)
+times-changed change.Cleared v q =
+    let none = ap (λ (ls : LinkList). times q (serials ls)) (cleared_links v.content) in omega (arith, none)
+
+-- `let_go_all` of what the change takes out, and `set`
+pub tallied_change :
+    (keys : Table Key) (attached : List ℕ) (numbers : Table ℕ) (k : ℕ) (c : Change) (v : Key) → at keys k ≡ Some v
+    → IsTallied (shown keys) attached [] numbers
+    → IsTallied (shown (alter keys k (changed c))) attached [] (all_less (taken_by c v.content) numbers)
+tallied_change keys attached numbers k c v there h =
+    let taken = taken_by c v.content in
+    let after = alter keys k (changed c) in
+    tallied_let_go_all (shown after) attached taken [] numbers
+    (tallied_alter keys attached [] (taken ++ []) numbers k (changed c) v there
+    (λ q.
+    let both = times-changed c v q in
+    let all : times q (taken ++ []) ≡ times q taken + 0 = times-append q taken [] in
+    omega (arith, both, all)) h)
+
+-- `made`, and `insert` of a key: what it links was counted before
+pub tallied_insert :
+    (keys : Table Key) (attached due owed : List ℕ) (numbers : Table ℕ) (k : ℕ) (key : Key) → at keys k ≡ None
+    → IsSome (at numbers k)
+    → ((q : ℕ) → times q due ≡ times q owed + times q (serials (content_links key.content)))
+    → IsTallied (shown keys) attached due numbers → IsTallied (shown (put keys k key)) attached owed numbers
+tallied_insert keys attached due owed numbers k key absent there same h =
+    subst (λ (zs : Table model.Key). IsTallied zs attached owed numbers) (sym (put_map seen keys k key))
+    (tallied_put (shown keys) attached due owed numbers k (seen key)
+    (at_map seen keys k ∙ ap (option_map seen) absent) there
+    (λ q.
+    let both = same q in
+    let links : times q (serials (content_links key.content)) ≡ times q (links_of (seen key).content) =
+    ap (times q) (serials-content key.content) in
+    omega (arith, both, links)) h)

@@ -1,0 +1,11 @@
+pub mod Places
+pub mod Times
+pub mod Gathered
+pub mod Chains
+pub mod Exact
+pub mod Anchoring
+pub mod Steps
+pub mod Numbers
+pub mod Tallies
+pub mod KeyTallies
+pub mod Detached

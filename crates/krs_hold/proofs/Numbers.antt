@@ -1,0 +1,114 @@
+-- The numbers that a caller sees of the counts, as the counts change.
+use Rattle.std.proofs.Common.{◌≡◌, ℕ, ◌+◌, ◌-◌, List, [], ◌∷◌, Option, Some, None, true, false, cond}
+use Rattle.std.proofs.Common.{refl, ap, ◌∙◌, sym, subst}
+use Rattle.std.proofs.lemmas.Bool.{true≢false}
+use Rattle.std.specs.Option.{is_some}
+use Rattle.krs_model.specs.Table.{Table, at, alter, put}
+use Rattle.krs_model.proofs.Tables.{put_map, alter_map}
+use Rattle.krs_hold.specs.declared.counts.Count.{Count}
+use Rattle.krs_hold.specs.Tally.{number_at, with_number, one_more, one_less, all_less}
+use Rattle.krs_hold.specs.Chain.{numbers_of, holders_at, falls_at, lowered, raised, IsChained, Chained, gone}
+use Rattle.krs_hold.specs.Chain.{gone_all}
+use Rattle.krs_hold.proofs.Chains.{made_chained, raised_chained, gone_chained, gone_all_chained}
+use Rattle.krs_hold.proofs.Exact.{holders_lowered, number_is, is_some_shown}
+
+-- what a caller sees of one count
+pub number_seen :
+    (es : Table Count) (numbers : Table ℕ) (k n : ℕ) → n ≡ k → numbers_of es ≡ numbers
+    → holders_at (at es n) ≡ number_at numbers k
+number_seen es numbers k n same seen =
+    sym (number_is es n) ∙ (ap (number_at (numbers_of es)) same ∙ ap (λ (zs : Table ℕ). number_at zs k) seen)
+
+-- one holder more
+pub raised_number :
+    (es fs : Table Count) (numbers : Table ℕ) (k n : ℕ) → n ≡ k → numbers_of es ≡ numbers → fs ≡ alter es n raised
+    → numbers_of fs ≡ one_more k numbers
+raised_number es fs numbers k n same seen e =
+    ap numbers_of e
+    ∙ (alter_map (λ (c : Count). c.holders) es n raised (λ m. m + 1) (λ v there. refl)
+    ∙ (ap (λ z. one_more z (numbers_of es)) same ∙ ap (one_more k) seen))
+
+pub raised_chain :
+    (es fs : Table Count) (first : Option ℕ) (n : ℕ) → fs ≡ alter es n raised → IsChained es first
+    → IsChained fs first
+raised_chain es fs first n e h =
+    subst (λ (zs : Table Count). IsChained zs first) (sym e) (raised_chained es first n h)
+
+lowered_number :
+    (es : Table Count) (first : Option ℕ) (k : ℕ)
+    → numbers_of (alter es k (lowered first)) ≡ one_less k (numbers_of es)
+lowered_number es first k =
+    alter_map (λ (c : Count). c.holders) es k (lowered first) (λ m. m - 1) (λ v there. holders_lowered first v)
+
+-- one less
+pub gone_number :
+    (es fs : Table Count) (first : Option ℕ) (numbers : Table ℕ) (k n : ℕ) → n ≡ k → numbers_of es ≡ numbers
+    → fs ≡ alter es n (lowered first) → numbers_of fs ≡ one_less k numbers
+gone_number es fs first numbers k n same seen e =
+    ap numbers_of e
+    ∙ (lowered_number es first n ∙ (ap (λ z. one_less z (numbers_of es)) same ∙ ap (one_less k) seen))
+
+pub gone_chain :
+    (es fs : Table Count) (first next : Option ℕ) (n : ℕ) → fs ≡ alter es n (lowered first)
+    → next ≡ cond (falls_at (at es n)) (Some n) first → IsChained es first → IsChained fs next
+gone_chain es fs first next n e after h =
+    subst (λ (o : Option ℕ). IsChained fs o) (sym after)
+    (subst (λ (zs : Table Count). IsChained zs (cond (falls_at (at es n)) (Some n) first)) (sym e)
+    (gone_chained es first n h))
+
+all_less_on : (ks : List ℕ) (t : Chained) → numbers_of (gone_all t ks).counts ≡ all_less ks (numbers_of t.counts)
+all_less_on [] t = refl
+all_less_on (k ∷ ks) t = all_less_on ks (gone t k) ∙ ap (all_less ks) (lowered_number t.counts t.first k)
+
+-- one less for each of these
+pub gone_all_numbers :
+    (ks : List ℕ) (t u : Chained) (numbers : Table ℕ) → numbers_of t.counts ≡ numbers → gone_all t ks ≡ u
+    → numbers_of u.counts ≡ all_less ks numbers
+gone_all_numbers ks t u numbers seen e =
+    ap (λ (v : Chained). numbers_of v.counts) (sym e) ∙ (all_less_on ks t ∙ ap (all_less ks) seen)
+
+pub gone_all_chain :
+    (ks : List ℕ) (t u : Chained) → gone_all t ks ≡ u → IsChained t.counts t.first → IsChained u.counts u.first
+gone_all_chain ks t u e h =
+    subst (λ (v : Chained). IsChained v.counts v.first) e (gone_all_chained ks t h)
+
+-- room that is there
+pub number_stays :
+    (es : Table Count) (numbers : Table ℕ) (k : ℕ) → numbers_of es ≡ numbers → is_some (at es k) ≡ true
+    → numbers ≡ with_number k numbers
+number_stays es numbers k seen there =
+    let here : is_some (at numbers k) ≡ true =
+    ap (λ (zs : Table ℕ). is_some (at zs k)) (sym seen) ∙ (is_some_shown es k ∙ there) in
+    ap (λ b. cond b numbers (put numbers k 0)) (sym here)
+
+-- where there is no count there is no number
+pub no_number :
+    (es : Table Count) (numbers : Table ℕ) (k n : ℕ) → n ≡ k → numbers_of es ≡ numbers → is_some (at es n) ≡ false
+    → is_some (at numbers k) ≡ true → ⊥
+no_number es numbers k n same seen absent there =
+    true≢false (sym there ∙ (ap (λ (zs : Table ℕ). is_some (at zs k)) (sym seen)
+    ∙ (is_some_shown es k ∙ (ap (λ z. is_some (at es z)) (sym same) ∙ absent))))
+
+none_from : (o : Option Count) → is_some o ≡ false → o ≡ None
+none_from None h = refl
+none_from (Some c) h = absurd (true≢false h)
+
+-- room for a new count
+pub number_made :
+    (es fs : Table Count) (first : Option ℕ) (numbers : Table ℕ) (k : ℕ) → numbers_of es ≡ numbers
+    → is_some (at es k) ≡ false → fs ≡ put es k (record { holders = 0; waiting = true; next = first })
+    → numbers_of fs ≡ with_number k numbers
+number_made es fs first numbers k seen absent e =
+    let here : is_some (at numbers k) ≡ false =
+    ap (λ (zs : Table ℕ). is_some (at zs k)) (sym seen) ∙ (is_some_shown es k ∙ absent) in
+    ap numbers_of e
+    ∙ (put_map (λ (c : Count). c.holders) es k (record { holders = 0; waiting = true; next = first })
+    ∙ (ap (λ (zs : Table ℕ). put zs k 0) seen ∙ ap (λ b. cond b numbers (put numbers k 0)) (sym here)))
+
+pub chain_made :
+    (es fs : Table Count) (first : Option ℕ) (k : ℕ) → is_some (at es k) ≡ false
+    → fs ≡ put es k (record { holders = 0; waiting = true; next = first }) → IsChained es first
+    → IsChained fs (Some k)
+chain_made es fs first k absent e h =
+    subst (λ (zs : Table Count). IsChained zs (Some k)) (sym e) (made_chained es first k (none_from
+    (at es k) absent) h)

@@ -1,0 +1,58 @@
+-- Laws of tables: what is at another number after a change, and a value that is written back.
+use Rattle.std.proofs.Common.{◌≡◌, ℕ, [], ◌∷◌, Option, Some, None, true, false, cond, refl, ap, ◌∙◌, sym, ⊎_elim}
+use Rattle.std.proofs.Common.{subst}
+use Rattle.std.proofs.lemmas.Bool.{cases_eq}
+use Rattle.std.specs.Option.{option_map, is_some}
+use Rattle.std.specs.Ordering.{nat_cmp}
+use Rattle.std.specs.BTreeMap.{is_at}
+use Rattle.std.specs.Map.{set_value}
+use Rattle.krs_model.specs.Table.{Table, at, alter, put, without}
+use Rattle.krs_model.proofs.Tables.{same_at, alter_some, at_alter_same, at_alter_other, at_put_other}
+
+-- a number is not at another
+pub other_at : (q k : ℕ) → (q ≡ k → ⊥) → is_at (nat_cmp q) k ≡ false
+other_at q k h = elim (is_at (nat_cmp q) k) as (λ b. is_at (nat_cmp q) k ≡ b → b ≡ false) [
+  | true ↦ λ t. absurd (h (same_at q k t))
+  | false ↦ λ t. refl
+] refl
+
+pub alter_other : {X : Type 0} (es : Table X) (k q : ℕ) (f : X → X) → (q ≡ k → ⊥) → at (alter es k f) q ≡ at es q
+alter_other es k q f n = at_alter_other es k q f (other_at q k n)
+
+pub put_other : {X : Type 0} (es : Table X) (k q : ℕ) (v : X) → (q ≡ k → ⊥) → at (put es k v) q ≡ at es q
+put_other es k q v n = at_put_other es k q v (other_at q k n)
+
+pub without_other : {X : Type 0} (es : Table X) (k q : ℕ) → (q ≡ k → ⊥) → at (without es k) q ≡ at es q
+without_other [] k q n = refl
+without_other (e ∷ es) k q n =
+    elim (is_at (nat_cmp k) e.0) as (λ b. is_at (nat_cmp k) e.0 ≡ b
+    → at (cond b es (e ∷ without es k)) q ≡ cond (is_at (nat_cmp q) e.0) (Some e.1) (at es q)) [
+      | true ↦ λ t.
+          let no : is_at (nat_cmp q) e.0 ≡ false = other_at q e.0 (λ s. n (s ∙ sym (same_at k e.0 t))) in rw no refl
+      | false ↦ λ t. ap (λ o. cond (is_at (nat_cmp q) e.0) (Some e.1) o) (without_other es k q n)
+    ] refl
+
+-- what a change at a number makes of the value there
+pub alter_to :
+    {X : Type 0} (es : Table X) (k : ℕ) (f : X → X) (v w : X) → at es k ≡ Some v → f v ≡ w
+    → alter es k (λ x. w) ≡ alter es k f
+alter_to es k f v w h e =
+    sym (alter_some es k (λ x. w) v h) ∙ (ap (set_value (is_at (nat_cmp k)) es) (sym e) ∙ alter_some es k f v h)
+
+pub at_some :
+    {X : Type 0} (es : Table X) (k : ℕ) (f : X → X) (v : X) → at es k ≡ Some v → at (alter es k f) k ≡ Some (f v)
+at_some es k f v e = at_alter_same es k f ∙ ap (option_map f) e
+
+is_some_map : {X : Type 0} (f : X → X) (o : Option X) → is_some (option_map f o) ≡ is_some o
+is_some_map f None = refl
+is_some_map f (Some x) = refl
+
+-- a change leaves what is there there
+pub is_some_alter :
+    {X : Type 0} (es : Table X) (k q : ℕ) (f : X → X) → is_some (at (alter es k f) q) ≡ is_some (at es q)
+is_some_alter es k q f =
+    ⊎_elim
+    (λ (s : q ≡ k). subst (λ (z : ℕ). is_some (at (alter es k f) z) ≡ is_some (at es z)) (sym s)
+    (ap is_some (at_alter_same es k f) ∙ is_some_map f (at es k)))
+    (λ (n : q ≡ k → ⊥). ap is_some (alter_other es k q f n))
+    (cases_eq q k)

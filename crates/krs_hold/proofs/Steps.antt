@@ -1,0 +1,107 @@
+-- One look: the first of the chain stays, or goes with its links.
+use Rattle.std.proofs.Common.{◌≡◌, ℕ, ◌<◌, ◌≤◌, List, [], Option, Some, None, ap, ◌∙◌, sym, arith, subst}
+use Rattle.std.specs.Option.{option_map}
+use Rattle.krs_model.specs.Table.{Table, at, alter, without}
+use Rattle.krs_model.specs.State as model
+use Rattle.krs_model.specs.Sweep.{linked_by}
+use Rattle.krs_model.proofs.Tables.{at_map, without_map}
+use Rattle.krs_keys.specs.declared.key.Key.{Key}
+use Rattle.krs_keys.specs.Keys.{seen, shown}
+use Rattle.krs_hold.specs.declared.counts.Count.{Count}
+use Rattle.krs_hold.specs.Tally.{AreExact}
+use Rattle.krs_hold.specs.Chain.{numbers_of, holders_at, next_at, IsChained, Chained, Spares, rested, gone_all}
+use Rattle.krs_hold.specs.Chain.{total_weight}
+use Rattle.krs_hold.proofs.Chains.{first_waits, rest_popped, kept_chained, dropped_chained, gone_all_chained}
+use Rattle.krs_hold.proofs.Chains.{weight_rested, weight_gone_all, weight_without}
+use Rattle.krs_hold.proofs.Exact.{IsCounted, counted_from, tallied_from, rested_counted, dropped_counted}
+use Rattle.krs_hold.proofs.Exact.{gone_all_counted}
+use Rattle.krs_hold.proofs.Anchoring.{spares_drop}
+
+-- what `rest` leaves: the first of the chain is taken out of it
+pub record IsRested (es : Table Count) (k : ℕ) (fs : Table Count) (next : Option ℕ) : Type 0 where
+  pub chained : IsChained es (Some k)
+  pub counts : fs ≡ alter es k rested
+  pub after : next ≡ next_at (at es k)
+
+pub rest_weighs :
+    (es : Table Count) (k : ℕ) (fs : Table Count) (next : Option ℕ) → IsRested es k fs next
+    → total_weight fs < total_weight es
+rest_weighs es k fs next r =
+    subst (λ (zs : Table Count). total_weight zs < total_weight es) (sym r.counts)
+    (weight_rested es k (first_waits es k r.chained))
+
+pub kept_chain :
+    (es : Table Count) (k : ℕ) (fs : Table Count) (next : Option ℕ) → IsRested es k fs next
+    → 0 < holders_at (at fs k) → IsChained fs next
+kept_chain es k fs next r held =
+    subst (λ (zs : Table Count). IsChained zs next) (sym r.counts)
+    (subst (λ (o : Option ℕ). IsChained (alter es k rested) o) (sym r.after)
+    (kept_chained (alter es k rested) (next_at (at es k)) k (rest_popped es k r.chained)
+    (λ z.
+    let none : holders_at (at fs k) ≡ 0 = ap (λ (zs : Table Count). holders_at (at zs k)) r.counts ∙ z in
+    absurd (omega (arith, held, none)))))
+
+pub kept_exact :
+    (keys : Table Key) (attached : List ℕ) (es : Table Count) (k : ℕ) (fs : Table Count) (next : Option ℕ)
+    → IsRested es k fs next → AreExact keys (numbers_of es) attached → AreExact keys (numbers_of fs) attached
+kept_exact keys attached es k fs next r h =
+    subst (λ (zs : Table Count). AreExact keys (numbers_of zs) attached) (sym r.counts)
+    (tallied_from (shown keys) attached [] (alter es k rested)
+    (rested_counted (shown keys) attached [] es k (counted_from (shown keys) attached [] es h)))
+
+-- what `drop_key` leaves of the counts
+pub record IsLess (keys : Table Key) (k : ℕ) (fs : Table Count) (next : Option ℕ) (u : Chained) : Type 0 where
+  pub no_count : at (without fs k) k ≡ None
+  pub counts : gone_all (record { counts = without fs k; first = next }) (linked_by (at (shown keys) k)) ≡ u
+
+pub dropped_chain :
+    (keys : Table Key) (es : Table Count) (k : ℕ) (fs : Table Count) (next : Option ℕ) (u : Chained)
+    → IsRested es k fs next → IsLess keys k fs next u → IsChained u.counts u.first
+dropped_chain keys es k fs next u r l =
+    let start : IsChained (without fs k) next =
+    subst (λ (zs : Table Count). IsChained (without zs k) next) (sym r.counts)
+    (subst (λ (o : Option ℕ). IsChained (without (alter es k rested) k) o) (sym r.after)
+    (dropped_chained (alter es k rested) (next_at (at es k)) k (rest_popped es k r.chained)
+    (ap (λ (zs : Table Count). at (without zs k) k) (sym r.counts) ∙ l.no_count))) in
+    subst (λ (v : Chained). IsChained v.counts v.first) l.counts
+    (gone_all_chained (linked_by (at (shown keys) k)) (record { counts = without fs k; first = next }) start)
+
+pub dropped_weighs :
+    (keys : Table Key) (es : Table Count) (k : ℕ) (fs : Table Count) (next : Option ℕ) (u : Chained)
+    → IsRested es k fs next → IsLess keys k fs next u → total_weight u.counts < total_weight es
+dropped_weighs keys es k fs next u r l =
+    let links : total_weight u.counts ≤ total_weight (without fs k) =
+    subst (λ (v : Chained). total_weight v.counts ≤ total_weight (without fs k)) l.counts
+    (weight_gone_all (linked_by (at (shown keys) k)) (record { counts = without fs k; first = next })) in
+    omega (arith, links, weight_without fs k, rest_weighs es k fs next r)
+
+shown_gone : (old new : Table Key) (k : ℕ) → new ≡ without old k → shown new ≡ without (shown old) k
+shown_gone old new k e = ap shown e ∙ without_map seen old k
+
+none_shown : (keys : Table Key) (k : ℕ) → at keys k ≡ None → at (shown keys) k ≡ None
+none_shown keys k h = at_map seen keys k ∙ ap (option_map seen) h
+
+pub dropped_exact :
+    (old new : Table Key) (attached : List ℕ) (k : ℕ) (fs : Table Count) (next : Option ℕ) (u : Chained)
+    → new ≡ without old k → at new k ≡ None → IsLess old k fs next u → holders_at (at fs k) ≡ 0
+    → AreExact old (numbers_of fs) attached → AreExact new (numbers_of u.counts) attached
+dropped_exact old new attached k fs next u e gone l empty h =
+    let same = shown_gone old new k e in
+    let no_key : at (without (shown old) k) k ≡ None =
+    ap (λ (zs : Table model.Key). at zs k) (sym same) ∙ none_shown new k gone in
+    let start : IsCounted (without (shown old) k) attached (linked_by (at (shown old) k)) (without fs k) =
+    dropped_counted (shown old) attached fs k empty no_key l.no_count (counted_from (shown old) attached [] fs h) in
+    let rest : IsCounted (without (shown old) k) attached [] u.counts =
+    subst (λ (v : Chained). IsCounted (without (shown old) k) attached [] v.counts) l.counts
+    (gone_all_counted (without (shown old) k) attached (linked_by (at (shown old) k))
+    (record { counts = without fs k; first = next }) start) in
+    tallied_from (shown new) attached [] u.counts
+    (subst (λ (zs : Table model.Key). IsCounted zs attached [] u.counts) (sym same) rest)
+
+pub dropped_spares :
+    (old new : Table Key) (attached : List ℕ) (k : ℕ) (fs : Table Count) → new ≡ without old k → at new k ≡ None
+    → holders_at (at fs k) ≡ 0 → AreExact old (numbers_of fs) attached → Spares attached old new
+dropped_spares old new attached k fs e gone empty h =
+    subst (λ (zs : Table Key). Spares attached old zs) (sym e)
+    (spares_drop attached old fs k (ap (λ (zs : Table Key). at zs k) (sym e) ∙ gone)
+    (counted_from (shown old) attached [] fs h) empty)

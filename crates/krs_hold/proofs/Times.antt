@@ -1,0 +1,54 @@
+-- How often a serial stands in a list.
+use Rattle.std.proofs.Common.{◌≡◌, ℕ, ◌+◌, ◌<◌, ◌==◌, ◌||◌, List, [], ◌∷◌, ◌++◌, true, false, cond}
+use Rattle.std.proofs.Common.{refl, ap, ◌∙◌, sym, arith, subst}
+use Rattle.std.proofs.lemmas.Bool.{true≢false}
+use Rattle.std.proofs.lemmas.Bool.Decides.{nat_tests}
+use Rattle.std.proofs.lemmas.List.Sums.{sum_by-cons, sum_by-append}
+use Rattle.krs_model.specs.Levels.{is_in}
+use Rattle.krs_model.proofs.Levels.{or_true, same_is}
+use Rattle.krs_hold.specs.Tally.{times}
+
+pub other_is : (x k : ℕ) → (x ≡ k → ⊥) → (x == k) ≡ false
+other_is x k h = elim (x == k) as (λ b. (x == k) ≡ b → b ≡ false) [
+  | true ↦ λ t. absurd (h (grind (arith, nat_tests)))
+  | false ↦ λ t. refl
+] refl
+
+pub in_head : (k : ℕ) (ks : List ℕ) → is_in k (k ∷ ks) ≡ true
+in_head k ks = rw (same_is k k refl) refl
+
+pub in_tail : (q k : ℕ) (ks : List ℕ) → is_in q ks ≡ true → is_in q (k ∷ ks) ≡ true
+in_tail q k ks h = or_true (k == q) (is_in q ks) h
+
+pub in_rest : (q k : ℕ) (ks : List ℕ) → (q ≡ k → ⊥) → is_in q (k ∷ ks) ≡ true → is_in q ks ≡ true
+in_rest q k ks n h = subst (λ b. (b || is_in q ks) ≡ true) (other_is k q (λ s. n (sym s))) h
+
+pub times-cons : (k x : ℕ) (xs : List ℕ) → times k (x ∷ xs) ≡ cond (x == k) 1 0 + times k xs
+times-cons k x xs = sum_by-cons (λ q. cond (q == k) 1 0) x xs
+
+pub times-append : (k : ℕ) (xs ys : List ℕ) → times k (xs ++ ys) ≡ times k xs + times k ys
+times-append k xs ys = sum_by-append (λ q. cond (q == k) 1 0) xs ys
+
+pub times-same : (k : ℕ) (xs : List ℕ) → times k (k ∷ xs) ≡ 1 + times k xs
+times-same k xs = times-cons k k xs ∙ ap (λ b. cond b 1 0 + times k xs) (same_is k k refl)
+
+pub times-other : (q k : ℕ) (xs : List ℕ) → (q ≡ k → ⊥) → times q (k ∷ xs) ≡ times q xs
+times-other q k xs n =
+    times-cons q k xs ∙ (ap (λ b. cond b 1 0 + times q xs) (other_is k q (λ s. n (sym s))) ∙ omega arith)
+
+pub times-in : (k : ℕ) (xs : List ℕ) → 0 < times k xs → is_in k xs ≡ true
+times-in k [] h = absurd (omega arith)
+times-in k (x ∷ xs) h =
+    elim (x == k) as (λ b. times k (x ∷ xs) ≡ cond b 1 0 + times k xs → (b || is_in k xs) ≡ true) [
+      | true ↦ λ e. refl
+      | false ↦ λ e. times-in k xs (omega (arith, h, e))
+    ] (times-cons k x xs)
+
+pub in-times : (k : ℕ) (xs : List ℕ) → is_in k xs ≡ true → 0 < times k xs
+in-times k [] h = absurd (true≢false (sym h))
+in-times k (x ∷ xs) h =
+    elim (x == k) as (λ b. times k (x ∷ xs) ≡ cond b 1 0 + times k xs → (b || is_in k xs) ≡ true
+    → 0 < times k (x ∷ xs)) [
+      | true ↦ λ e i. omega (arith, e)
+      | false ↦ λ e i. let r = in-times k xs i in omega (arith, e, r)
+    ] (times-cons k x xs) h

@@ -1,0 +1,34 @@
+use Rattle.std.proofs.Common.{ℕ, [], Option, refl, ◌∙◌, subst}
+use Rattle.krs_keys.specs.Keys.{shown}
+use Rattle.krs_hold.specs.Chain.{IsChained}
+use Rattle.krs_hold.proofs.Exact.{counted_from}
+use Rattle.krs_hold.proofs.Anchoring.{spares_all, spares_on, keeps_anchored}
+use Rattle.krs_hold.proofs.cascade.sweep.Goals as goal
+
+pub dropping-init : goal.dropping-init
+dropping-init c = record {
+  chained = c.requires;
+  exact = λ a h. h;
+  spared = λ a h. spares_all a c.args.keys.now.keys;
+  next = refl;
+}
+
+pub dropping-preserved : goal.dropping-preserved
+dropping-preserved c =
+    let before = c.dropping.invariant in
+    let step = c.look-first.ensures in
+    record {
+      chained = step.chained;
+      exact = λ a h. step.exact a (before.exact a h);
+      spared = λ a h. spares_on a c.args.keys.now.keys c.dropping.keys.keys c.look-first.new.keys.keys
+          (before.spared a h)
+          (step.spared a (before.exact a h));
+      next = step.next ∙ before.next;
+    }
+
+pub returns-clause-anchored : goal.returns-clause-anchored
+returns-clause-anchored c = λ a h.
+    keeps_anchored a c.args.keys.now.keys c.dropping.keys.keys c.dropping.counts.entries c.len.ensures.ordered
+    (subst (λ (o : Option ℕ). IsChained c.dropping.counts.entries o) c.in_default.is c.dropping.invariant.chained)
+    (counted_from (shown c.dropping.keys.keys) a [] c.dropping.counts.entries (c.dropping.invariant.exact a h))
+    (c.dropping.invariant.spared a h)

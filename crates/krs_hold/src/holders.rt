@@ -1,0 +1,171 @@
+ghost use Rattle.std.specs.Prelude.{◌≡◌, ◌<◌, ◌+◌, ◌-◌, ◌^◌, ℕ, List, [], ◌∷◌};
+ghost use Rattle.std.specs.Prelude.{OnOk, OnErr, IfErr, IsOk, IsSome, nat_le, replicate};
+ghost use Rattle.std.specs.Option.{option_to_list};
+ghost use Rattle.krs_types.specs.declared.errno.Errno.TheVariants.{ENOMEM};
+ghost use Rattle.krs_model.specs.Table.{at};
+ghost use Rattle.krs_model.specs.Reach.{IsAcyclic, links_in};
+ghost use Rattle.krs_links.specs.Links.{serials};
+ghost use Rattle.krs_keys.specs.Keys.{shown};
+ghost use Rattle.krs_keys.specs.Kept.{KeepsAnchored, Sweeps};
+ghost use Rattle.krs_hold.specs.Tally.{number_at, with_number, one_more, one_less, all_less};
+ghost use Rattle.krs_hold.specs.Tally.{IsTallied, AreExact};
+ghost use Rattle.krs_hold.specs.Taken.{taken_at};
+
+use crate::cascade::sweep;
+use crate::counts::{Count, holders, let_go, let_go_all, let_go_times, raise};
+use krs_keys::{Change, KeyTable};
+use krs_types::{Errno, Name, Serial};
+use std::alloc::Global;
+use std::collections::BTreeMap;
+use std::marker::Model;
+
+/// How many links and attachments hold each key. Through the counts runs a chain, which has each
+/// key that nothing holds, and some that something holds again.
+#[derive(Drop)]
+pub struct Holders {
+    counts: BTreeMap<u32, Count>,
+    first: Option<u32>,
+}
+
+impl Model for Holders {
+    ghost use Rattle.std.specs.Prelude.{ℕ};
+    ghost use Rattle.krs_model.specs.Table.{Table};
+
+    ghost Value = { Table ℕ };
+
+    ghost use Rattle.krs_hold.specs.Chain.{numbers_of, IsChained};
+
+    ghost view = { λ h. numbers_of h.counts.entries };
+
+    ghost invariant = { λ h. IsChained h.counts.entries h.first };
+}
+
+impl Holders {
+    /// No keys. It takes no memory.
+    pub fn new(alloc: Global) -> Self
+        ensures { result ≡ [] }
+    {
+        Holders {
+            counts: BTreeMap::new(alloc),
+            first: None,
+        }
+    }
+
+    /// Makes room for the count of a key that is made next: ENOMEM. No other call takes memory.
+    /// Where that key is then not made, nothing has to be undone: the next sweep drops the count.
+    pub fn made(&mut self, serial: Serial) -> Result<(), Errno>
+        ensures ok { OnOk result (self.new ≡ with_number serial self.old) }
+        ensures there { IsSome (at self.old serial) → IsOk result }
+        ensures error { IfErr result (λ e. e ≡ ENOMEM) }
+        ensures err { OnErr result (self.new ≡ self.old) }
+    {
+        let serial = serial.number();
+        if self.counts.contains_key(&serial) {
+            return Ok(());
+        }
+        let count = Count {
+            holders: 0,
+            waiting: true,
+            next: self.first,
+        };
+        match self.counts.insert(serial, count) {
+            Ok(_) => {
+                self.first = Some(serial);
+                Ok(())
+            }
+            Err(_) => Err(Errno::ENOMEM),
+        }
+    }
+
+    /// Whether so many more may hold a key. It is for the caller to ask before it changes anything.
+    pub fn has_room(&self, serial: Serial, more: u64) -> bool
+        ensures { result ≡ nat_le (number_at self.now serial + more) (2 ^ 64 - 1) }
+    {
+        holders(&self.counts, serial.number()) <= u64::MAX - more
+    }
+
+    /// One more link or attachment holds a key.
+    pub fn hold(&mut self, serial: Serial)
+        requires { number_at self.old serial < 2 ^ 64 - 1 }
+        ensures { self.new ≡ one_more serial self.old }
+    {
+        raise(&mut self.counts, serial.number());
+    }
+
+    /// One link or attachment less holds a key. Where it was the last, the key goes at the next
+    /// sweep, unless something holds it again by then.
+    pub fn let_go(&mut self, serial: Serial)
+        ensures { self.new ≡ one_less serial self.old }
+    {
+        self.first = let_go(&mut self.counts, self.first, serial.number());
+    }
+
+    /// Lets go of what an attachment has, or of what a link displaced.
+    pub fn let_go_of(&mut self, serial: Option<Serial>)
+        ensures { self.new ≡ all_less (option_to_list serial) self.old }
+    {
+        if let Some(gone) = serial {
+            self.let_go(gone);
+        }
+    }
+
+    /// All that holds a key lets go of it.
+    pub fn let_go_whole(&mut self, serial: Serial)
+        ensures { self.new
+            ≡ all_less (replicate (number_at self.old serial) serial) self.old }
+    {
+        let left = holders(&self.counts, serial.number());
+        self.first = let_go_times(&mut self.counts, self.first, serial.number(), left);
+    }
+
+    /// Lets go of all that a keyring links.
+    fn let_go_all(&mut self, links: &[(Name, Serial)])
+        ensures { self.new ≡ all_less (serials links.now) self.old }
+    {
+        self.first = let_go_all(&mut self.counts, self.first, links);
+    }
+
+    /// Lets go of what a change is about to take out of the key at a serial.
+    pub fn let_go_taken(&mut self, keys: &KeyTable, serial: Serial, change: &Change)
+        ensures { self.new ≡ all_less (taken_at change.now (at keys.now.keys serial)) self.old }
+    {
+        match (change, keys.get(serial)) {
+            (Change::Revoked | Change::Cleared, Some(key)) => self.let_go_all(key.entries()),
+            _ => {}
+        }
+    }
+
+    /// Drops each key that nothing holds any more, and then those that only dropped keys held:
+    /// keyrings(7), "Anchoring keys"; profile, dropped at once.
+    pub fn sweep(&mut self, keys: &mut KeyTable)
+        ensures exact { (attached : List ℕ) → AreExact keys.old.keys self.old attached
+            → AreExact keys.new.keys self.new attached }
+        ensures anchored { (attached : List ℕ) → AreExact keys.old.keys self.old attached
+            → KeepsAnchored attached keys.old.keys keys.new.keys }
+        ensures swept { (attached : List ℕ) → AreExact keys.old.keys self.old attached
+            → IsAcyclic (links_in (shown keys.old.keys))
+            → Sweeps attached keys.old.keys keys.new.keys }
+        ensures next { keys.new.next ≡ keys.old.next }
+    {
+        sweep(keys, &mut self.counts, self.first);
+        self.first = None;
+    }
+
+    /// Lets go of a key for a link or an attachment that is gone already, and sweeps.
+    pub fn release(&mut self, keys: &mut KeyTable, serial: Serial)
+        ensures exact { (attached : List ℕ)
+            → IsTallied (shown keys.old.keys) attached (serial ∷ []) self.old
+            → AreExact keys.new.keys self.new attached }
+        ensures anchored { (attached : List ℕ)
+            → IsTallied (shown keys.old.keys) attached (serial ∷ []) self.old
+            → KeepsAnchored attached keys.old.keys keys.new.keys }
+        ensures swept { (attached : List ℕ)
+            → IsTallied (shown keys.old.keys) attached (serial ∷ []) self.old
+            → IsAcyclic (links_in (shown keys.old.keys))
+            → Sweeps attached keys.old.keys keys.new.keys }
+        ensures next { keys.new.next ≡ keys.old.next }
+    {
+        self.let_go(serial);
+        self.sweep(keys);
+    }
+}

@@ -1,0 +1,19 @@
+-- Which keys of a table stay: keyrings(7), "Anchoring keys"; profile, dropped at once.
+use Rattle.std.specs.Prelude.{◌≡◌, ℕ, List, Bool, filter}
+use Rattle.krs_model.specs.Table.{Table}
+use Rattle.krs_model.specs.Sweep.{PicksHeld}
+use Rattle.krs_model.specs.Anchored.{IsClosedChoice}
+use Rattle.krs_keys.specs.declared.key.Key.{Key}
+use Rattle.krs_keys.specs.Keys.{shown}
+
+-- just the held keys stay
+pub record Sweeps (attached : List ℕ) (old new : Table Key) : Type 0 where
+  pub kept : ℕ → Bool
+  pub picks : PicksHeld (shown old) attached kept
+  pub keys : new ≡ filter (λ e. kept e.0) old
+
+-- each key that stays is anchored by an attachment or by a key that stays, and none that goes
+pub record KeepsAnchored (attached : List ℕ) (old new : Table Key) : Type 0 where
+  pub kept : ℕ → Bool
+  pub choice : IsClosedChoice (shown old) attached kept
+  pub keys : new ≡ filter (λ e. kept e.0) old

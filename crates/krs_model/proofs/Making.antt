@@ -1,0 +1,167 @@
+-- What is made for an id: nothing, a thread keyring or a process keyring.
+use Rattle.std.proofs.Common.{◌≡◌, ℕ, ℤ, Option, Some, None, Result, Ok, Err, refl, ap, ◌∙◌, sym}
+use Rattle.std.proofs.lemmas.Option.{none-some}
+use Rattle.krs_types.specs.declared.errno.Errno.{Errno}
+use Rattle.krs_types.specs.declared.errno.Errno.TheVariants.{ENOKEY}
+use Rattle.krs_types.specs.declared.context.Context.{Context}
+use Rattle.krs_types.specs.declared.key_id.KeyId.{KeyId}
+use Rattle.krs_types.specs.declared.key_id.KeyId.TheVariants.{Serial, Thread, Process, Session, User, UserSession}
+use Rattle.krs_types.specs.KeyId.{key_id_of}
+use Rattle.krs_types.specs.Refusing.{◌>>=◌, or_refuse}
+use Rattle.krs_model.specs.State.{State}
+use Rattle.krs_model.specs.Possession.{process_ring}
+use Rattle.krs_model.specs.Lookup.{attachment, serial_of}
+use Rattle.krs_model.specs.Making.{with_thread, with_process, thread_to, thread_made, process_made, made_at, made_for}
+
+-- nothing is made, or a thread keyring where the context has none, or a process keyring where its process has none
+pub data IsMade (s : State) (number : ℕ) (c : Context) (id : Result KeyId Errno) : State × Context → Type 0 where
+  NoneMade : IsMade s number c id (s, c)
+  ThreadMade :
+      id ≡ Ok Thread → c.thread ≡ None → IsMade s number c id (with_thread s number c, thread_to s.next_serial c)
+  ProcessMade : id ≡ Ok Process → process_ring s c.process ≡ None → IsMade s number c id (with_process s c, c)
+
+thread_is :
+    (s : State) (number : ℕ) (c : Context) (ring : Option ℕ) → c.thread ≡ ring
+    → IsMade s number c (Ok Thread) (thread_made s number c ring)
+thread_is s number c (Some ring) is = NoneMade
+thread_is s number c None is = ThreadMade refl is
+
+process_is :
+    (s : State) (number : ℕ) (c : Context) (ring : Option ℕ) → process_ring s c.process ≡ ring
+    → IsMade s number c (Ok Process) (process_made s c ring)
+process_is s number c (Some ring) is = NoneMade
+process_is s number c None is = ProcessMade refl is
+
+made_at_is :
+    (s : State) (number : ℕ) (c : Context) (id : Result KeyId Errno) → IsMade s number c id (made_at s number c id)
+made_at_is s number c (Err e) = NoneMade
+made_at_is s number c (Ok (Serial n)) = NoneMade
+made_at_is s number c (Ok Thread) = thread_is s number c c.thread refl
+made_at_is s number c (Ok Process) = process_is s number c (process_ring s c.process) refl
+made_at_is s number c (Ok Session) = NoneMade
+made_at_is s number c (Ok User) = NoneMade
+made_at_is s number c (Ok UserSession) = NoneMade
+
+pub made_for_is :
+    (s : State) (number : ℕ) (c : Context) (id : ℤ) → IsMade s number c (key_id_of id) (made_for s number c id)
+unfolding made_for
+made_for_is s number c id = made_at_is s number c (key_id_of id)
+
+-- a thread keyring is made where the context has none
+pub made_thread :
+    (s : State) (number : ℕ) (c : Context) (id : ℤ) → key_id_of id ≡ Ok Thread → c.thread ≡ None
+    → made_for s number c id ≡ (with_thread s number c, thread_to s.next_serial c)
+unfolding made_for
+made_thread s number c id is none = ap (made_at s number c) is ∙ ap (thread_made s number c) none
+
+-- a process keyring is made where the process has none
+pub made_process :
+    (s : State) (number : ℕ) (c : Context) (id : ℤ) → key_id_of id ≡ Ok Process → process_ring s c.process ≡ None
+    → made_for s number c id ≡ (with_process s c, c)
+unfolding made_for
+made_process s number c id is none = ap (made_at s number c) is ∙ ap (process_made s c) none
+
+thread_stays :
+    (s : State) (number : ℕ) (c : Context) (ring : Option ℕ) (k : ℕ) → or_refuse ENOKEY ring ≡ Ok k
+    → thread_made s number c ring ≡ (s, c)
+thread_stays s number c (Some ring) k h = refl
+thread_stays s number c None k h = cc
+
+process_stays :
+    (s : State) (c : Context) (ring : Option ℕ) (k : ℕ) → or_refuse ENOKEY ring ≡ Ok k → process_made s c ring ≡ (s, c)
+process_stays s c (Some ring) k h = refl
+process_stays s c None k h = cc
+
+none_at :
+    (s : State) (number : ℕ) (c : Context) (named : Result KeyId Errno) (k : ℕ)
+    → (named >>= (λ x. or_refuse ENOKEY (attachment s c x))) ≡ Ok k → made_at s number c named ≡ (s, c)
+none_at s number c (Err e) k h = refl
+none_at s number c (Ok (Serial n)) k h = refl
+none_at s number c (Ok Thread) k h = thread_stays s number c c.thread k h
+none_at s number c (Ok Process) k h = process_stays s c (process_ring s c.process) k h
+none_at s number c (Ok Session) k h = refl
+none_at s number c (Ok User) k h = refl
+none_at s number c (Ok UserSession) k h = refl
+
+-- nothing is made where the id stands for a key
+pub made_none :
+    (s : State) (number : ℕ) (c : Context) (id : ℤ) (k : ℕ) → serial_of s c id ≡ Ok k
+    → made_for s number c id ≡ (s, c)
+unfolding made_for serial_of
+made_none s number c id k h = none_at s number c (key_id_of id) k h
+
+-- nor for an id that is not of the thread or process keyring
+abbrev pub IsOther : Result KeyId Errno → Type 0
+IsOther (Err e) = Unit {0}
+IsOther (Ok (Serial n)) = Unit {0}
+IsOther (Ok Thread) = ⊥
+IsOther (Ok Process) = ⊥
+IsOther (Ok Session) = Unit {0}
+IsOther (Ok User) = Unit {0}
+IsOther (Ok UserSession) = Unit {0}
+
+other_at :
+    (s : State) (number : ℕ) (c : Context) (named : Result KeyId Errno) → IsOther named
+    → made_at s number c named ≡ (s, c)
+other_at s number c (Err e) other = refl
+other_at s number c (Ok (Serial n)) other = refl
+other_at s number c (Ok Thread) other = absurd other
+other_at s number c (Ok Process) other = absurd other
+other_at s number c (Ok Session) other = refl
+other_at s number c (Ok User) other = refl
+other_at s number c (Ok UserSession) other = refl
+
+pub made_other :
+    (s : State) (number : ℕ) (c : Context) (id : ℤ) → IsOther (key_id_of id) → made_for s number c id ≡ (s, c)
+unfolding made_for
+made_other s number c id other = other_at s number c (key_id_of id) other
+
+-- what an id stands for it stands for when another keyring is made
+with_thread_stands :
+    (s : State) (number : ℕ) (c : Context) (id : KeyId) (k : ℕ) → c.thread ≡ None → attachment s c id ≡ Some k
+    → attachment (with_thread s number c) (thread_to s.next_serial c) id ≡ Some k
+with_thread_stands s number c (Serial n) k none h = h
+with_thread_stands s number c Thread k none h = absurd (none-some k (sym none ∙ h))
+with_thread_stands s number c Process k none h = h
+with_thread_stands s number c Session k none h = h
+with_thread_stands s number c User k none h = h
+with_thread_stands s number c UserSession k none h = h
+
+with_process_stands :
+    (s : State) (c : Context) (id : KeyId) (k : ℕ) → process_ring s c.process ≡ None → attachment s c id ≡ Some k
+    → attachment (with_process s c) c id ≡ Some k
+with_process_stands s c (Serial n) k none h = h
+with_process_stands s c Thread k none h = h
+with_process_stands s c Process k none h = absurd (none-some k (sym none ∙ h))
+with_process_stands s c Session k none h = h
+with_process_stands s c User k none h = h
+with_process_stands s c UserSession k none h = h
+
+there : (o : Option ℕ) (k : ℕ) → or_refuse ENOKEY o ≡ Ok k → o ≡ Some k
+there None k h = cc
+there (Some n) k h = cc
+
+named_still :
+    (s t : State) (c d : Context) (named : Result KeyId Errno) (k : ℕ)
+    → ((id : KeyId) → attachment s c id ≡ Some k → attachment t d id ≡ Some k)
+    → (named >>= (λ x. or_refuse ENOKEY (attachment s c x))) ≡ Ok k
+    → (named >>= (λ x. or_refuse ENOKEY (attachment t d x))) ≡ Ok k
+named_still s t c d (Err e) k stays h = h
+named_still s t c d (Ok id) k stays h = ap (or_refuse ENOKEY) (stays id (there (attachment s c id) k h))
+
+is_made_stands :
+    (s : State) (number : ℕ) (c : Context) (id : ℤ) (ring : Result KeyId Errno) (made : State × Context) (k : ℕ)
+    → IsMade s number c ring made → serial_of s c id ≡ Ok k → serial_of made.0 made.1 id ≡ Ok k
+unfolding serial_of
+is_made_stands s number c id ring _ k NoneMade h = h
+is_made_stands s number c id ring _ k (ThreadMade is none) h =
+    named_still s (with_thread s number c) c (thread_to s.next_serial c) (key_id_of id) k
+    (λ named. with_thread_stands s number c named k none) h
+is_made_stands s number c id ring _ k (ProcessMade is none) h =
+    named_still s (with_process s c) c c (key_id_of id) k (λ named. with_process_stands s c named k none) h
+
+pub made_still :
+    (s : State) (number : ℕ) (c : Context) (ring id : ℤ) (k : ℕ) → serial_of s c id ≡ Ok k
+    → serial_of (made_for s number c ring).0 (made_for s number c ring).1 id ≡ Ok k
+made_still s number c ring id k h =
+    is_made_stands s number c id (key_id_of ring) (made_for s number c ring) k (made_for_is s number c ring) h

@@ -1,0 +1,83 @@
+-- Between an ask and its sweep each watch is at a key that is there: an ask takes no key away.
+use Rattle.std.proofs.Common.{◌≡◌, ℕ, List, [], ◌∷◌, Bool, true, false, not, cond, filter, length}
+use Rattle.std.proofs.Common.{refl, ap, sym, subst, arith}
+use Rattle.std.specs.Option.{IsSome, is_some}
+use Rattle.std.proofs.lemmas.List.Filters.{length-filter_both}
+use Rattle.krs_types.specs.declared.ask.Answer.{Answer}
+use Rattle.krs_types.specs.declared.ask.Op.{Op}
+use Rattle.krs_model.specs.Table.{Table, at}
+use Rattle.krs_model.specs.State.{State, Key, raised}
+use Rattle.krs_model.specs.Queues.{Queues, Watch}
+use Rattle.krs_model.specs.Orderly.{Each}
+use Rattle.krs_model.specs.Sound.{IsSound}
+use Rattle.krs_model.specs.Sweep.{live_watches}
+use Rattle.krs_model.specs.Serving.{Tells}
+use Rattle.krs_model.specs.Notes.Posting.{dropped_watches}
+use Rattle.krs_model.specs.Asks.Leaving.{left}
+use Rattle.krs_model.proofs.Fitting.{each_filter, each_on}
+use Rattle.krs_model.proofs.Rising.{each_with, each_without}
+use Rattle.krs_model.proofs.Effects.{Effect, OfKeys, Opens, Filters, Reads, Closes, Watches, Unwatches, Leaves, effect_of}
+use Rattle.krs_model.proofs.Soundness.{raised_sound}
+
+-- the watch is at a key that is there
+abbrev pub IsLive : Table Key → Watch → Type 0
+IsLive keys w = IsSome (at keys w.0.0)
+
+-- a filter that leaves a list longer than its rest has left the first
+too_long : (p : Watch → Bool) (w : Watch) (ws : List Watch) → filter p ws ≡ w ∷ ws → ⊥
+too_long p w ws h =
+    let both = length-filter_both p (λ v. not (p v)) (λ v. refl) ws in
+    let all : length (filter p ws) ≡ length (w ∷ ws) = ap length h in
+    omega arith
+
+pub live_each : (keys : Table Key) (ws : List Watch) → live_watches keys ws ≡ ws → Each (IsLive keys) ws
+live_each keys [] h = tt
+live_each keys (w ∷ ws) h =
+    let rest = live_watches keys ws in
+    elim (is_some (at keys w.0.0)) as
+    (λ b. is_some (at keys w.0.0) ≡ b → cond b (w ∷ rest) rest ≡ w ∷ ws → Each (IsLive keys) (w ∷ ws)) [
+      | true ↦ λ t same. let tail : rest ≡ ws = cc in (t, live_each keys ws tail)
+      | false ↦ λ t same. absurd (too_long (λ v. is_some (at keys v.0.0)) w ws same)
+    ] refl h
+
+pub each_live : (keys : Table Key) (ws : List Watch) → Each (IsLive keys) ws → live_watches keys ws ≡ ws
+each_live keys [] h = refl
+each_live keys (w ∷ ws) h = rw h.0 (ap (λ (vs : List Watch). w ∷ vs) (each_live keys ws h.1))
+
+no_dead : (keys : Table Key) (ws : List Watch) → Each (IsLive keys) ws → dropped_watches keys ws ≡ []
+no_dead keys [] h = refl
+no_dead keys (w ∷ ws) h = rw h.0 (no_dead keys ws h.1)
+
+-- where each watch is at a key that is there, none is dropped
+pub none_dropped : (keys : Table Key) (ws : List Watch) → live_watches keys ws ≡ ws → dropped_watches keys ws ≡ []
+none_dropped keys ws h = no_dead keys ws (live_each keys ws h)
+
+-- what an accepted ask does leaves each watch at a key that is there
+effect_live :
+    (s : State) (client context : ℕ) (op : Op) (mid : State) (answer : Answer)
+    → Effect s client context op mid answer → Each (IsLive s.keys) s.watches → Each (IsLive mid.keys) mid.watches
+unfolding left
+effect_live s client context _ _ _ (OfKeys op new answer other comes none) live =
+    subst (Each (IsLive new.keys)) (sym (ap (λ (q : Queues). q.watches) comes.queues))
+    (each_on (IsLive s.keys) (IsLive new.keys) s.watches (λ w here. comes.there w.0.0 here) live)
+effect_live s client context _ _ _ (Opens capacity fits) live = live
+effect_live s client context _ _ _ (Filters number entries queue there) live = live
+effect_live s client context _ _ _ (Reads number room queue there) live = live
+effect_live s client context _ _ _ (Closes number queue there) live = each_filter (IsLive s.keys) _ s.watches live
+effect_live s client context _ _ _ (Watches id watch_id number key n queue here there asked small) live =
+    each_with (IsLive s.keys) s.watches key number n here (λ w is. is) live
+effect_live s client context _ _ _ (Unwatches id watch_id number key n queue here names there asked is) live =
+    each_without (IsLive s.keys) s.watches key number live
+effect_live s client context _ _ _ Leaves live = each_filter (IsLive s.keys) _ s.watches live
+
+-- for a store whose clock was raised first: an accepted ask that was told of leaves each watch at a key that is there
+pub told_live :
+    {old up told : State} {client context : ℕ} {op : Op} {answer : Answer} (moment : ℕ) → IsSound old
+    → up ≡ raised old moment → Tells up client context op answer told
+    → live_watches told.keys told.watches ≡ told.watches
+told_live {old} {up} {told} {client} {context} {op} {answer} moment sound raise tells =
+    let above : IsSound up = subst IsSound (sym raise) (raised_sound old moment sound) in
+    let mid = tells.mid in
+    let live = effect_live up client context op mid answer (effect_of up client context op mid answer tells.meant)
+    (live_each up.keys up.watches above.swept.watches) in
+    subst (λ (t : State). live_watches t.keys t.watches ≡ t.watches) (sym tells.posted) (each_live mid.keys mid.watches live)

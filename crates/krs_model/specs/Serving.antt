@@ -1,0 +1,32 @@
+-- The parts of a step, as a store may take them one after the other; the form is this project's own. No part of a
+-- step's meaning: the law a_step_may_be_taken_in_turn says that where `Tells` and then `SweepsOut` lead to a state, so
+-- does `Serves`.
+use Rattle.std.specs.Prelude.{◌≡◌, ℕ, map, Result, Ok, Err}
+use Rattle.krs_types.specs.declared.ask.Answer.{Answer}
+use Rattle.krs_types.specs.declared.ask.Op.{Op}
+use Rattle.krs_types.specs.declared.fault.Fault.{Fault}
+use Rattle.krs_model.specs.State.{State}
+use Rattle.krs_model.specs.Queues.{queues_of}
+use Rattle.krs_model.specs.Sweep.{IsSweep}
+use Rattle.krs_model.specs.Outcome.{Fails}
+use Rattle.krs_model.specs.Step.{outcome_of}
+use Rattle.krs_model.specs.Notes.Posting.{posts, removal_for, dropped_watches, posted_in}
+use Rattle.krs_model.specs.Notes.Telling.{notes_of, ended_by}
+
+-- an accepted ask has its effect; its notes are posted, and a removal record of the watch that it ended
+pub record Tells (s : State) (client context : ℕ) (op : Op) (answer : Answer) (told : State) : Type 0 where
+  pub mid : State
+  pub meant : outcome_of s client context op ≡ Ok (mid, answer)
+  pub posted :
+      told ≡ posted_in (posts (queues_of s) (notes_of s client context op answer) (ended_by s client context op)) mid
+
+-- from s, this result and this new state are what an ask comes to and tells; a fault leaves the state as it was
+abbrev pub LeadsTold : State → ℕ → ℕ → Op → Result Answer Fault → State → Type 0
+LeadsTold s client context op (Ok answer) new = Tells s client context op answer new
+LeadsTold s client context op (Err e) new = Fails e (outcome_of s client context op) × (new ≡ s)
+
+-- the sweep; removal records are posted of the watches whose keys it drops
+pub record SweepsOut (told new : State) : Type 0 where
+  pub swept : State
+  pub sweep : IsSweep told swept
+  pub posted : new ≡ posted_in (map removal_for (dropped_watches swept.keys told.watches)) swept

@@ -1,0 +1,21 @@
+-- One attachment more.
+use Rattle.std.specs.Prelude.{ℕ, ◌-◌, ◌<◌, ◌^◌, ◌++◌, List, [], Option, None, Some}
+use Rattle.std.specs.Option.{option_to_list}
+use Rattle.krs_types.specs.declared.context.UidRings.{UidRings}
+use Rattle.krs_model.specs.Table.{Table}
+use Rattle.krs_hold.specs.Tally.{number_at, one_more}
+
+-- one more may hold what it has
+abbrev pub HasRoom : Table ℕ → Option ℕ → Type 0
+HasRoom numbers None = Unit {0}
+HasRoom numbers (Some k) = number_at numbers k < 2 ^ 64 - 1
+
+-- what it has is held once more
+abbrev pub more_of : Option ℕ → Table ℕ → Table ℕ
+more_of None numbers = numbers
+more_of (Some k) numbers = one_more k numbers
+
+-- the keyrings of a uid, where it has them
+abbrev pub rings_of : Option UidRings → List ℕ
+rings_of None = []
+rings_of (Some rings) = option_to_list rings.user ++ option_to_list rings.session

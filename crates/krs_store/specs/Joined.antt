@@ -1,0 +1,43 @@
+-- The session keyrings of JOIN.
+use Rattle.std.specs.Prelude.{◌≡◌, ◌==◌, ℕ, List, [], Option, None, Ok, true, false, length, codes, if◌then◌else◌}
+use Rattle.std.specs.Option.{option_map}
+use Rattle.krs_types.specs.declared.kind.Kind.TheVariants.{Keyring}
+use Rattle.krs_types.specs.declared.caller.Caller.{Caller}
+use Rattle.krs_types.specs.declared.ask.Answer.TheVariants.{Number}
+use Rattle.krs_model.specs.Table.{at}
+use Rattle.krs_model.specs.State as model
+use Rattle.krs_model.specs.Making.{with_new, within_serials}
+use Rattle.krs_model.specs.Outcome.{Outcome}
+use Rattle.krs_model.specs.Asks.Joining.{joined_to}
+use Rattle.krs_keys.specs.declared.key.Key.{Key}
+use Rattle.krs_keys.specs.declared.key.Content.TheVariants.{Links}
+
+-- an empty keyring that JOIN makes
+abbrev pub joined_ring : List ℕ → ℕ → Caller → Key
+joined_ring desc perm c = record {
+  name = record { kind = Keyring; desc = desc };
+  uid = c.uid;
+  gid = c.gid;
+  perm = perm;
+  expiry = None;
+  revoked = false;
+  joined = true;
+  content = Links [];
+}
+
+-- `_ses`, or one of this name: profile, masks of new keys
+abbrev pub session_key : List ℕ → Caller → Key
+session_key name c =
+    if length name == 0 then joined_ring (codes "_ses") 1057161216 c else joined_ring name 1058209792 c
+
+-- a keyring that links nothing
+abbrev pub IsEmptyRing : Key → Type 0
+IsEmptyRing key = (key.name.kind ≡ Keyring) × (key.content ≡ Links [])
+
+-- the session keyring of a context that is there, if it has one
+abbrev pub session_in : model.State → ℕ → Option (Option ℕ)
+session_in s number = option_map (λ c. c.session) (at s.contexts number)
+
+-- a new key is the session keyring of a context
+abbrev pub joined_anew : model.State → ℕ → model.Key → Outcome
+joined_anew s number key = within_serials s (Ok (joined_to (with_new s key) number s.next_serial, Number s.next_serial))

@@ -1,0 +1,9 @@
+use Rattle.std.proofs.Common.{◌-◌}
+use Rattle.krs_walk.specs.Searching.{AreHeld}
+use Rattle.krs_walk.proofs.held.HeldRings.has.Given as goal
+
+abbrev pub invariant-walk : goal.invariant-walk
+invariant-walk l = AreHeld l.search l.self
+
+abbrev pub decreases-walk : goal.decreases-walk
+decreases-walk l = 8 - l.self.levels

@@ -1,0 +1,18 @@
+use Rattle.std.proofs.Common.{ap, sym, ◌∙◌}
+use Rattle.std.specs.Option.{option_copied}
+use Rattle.krs_model.specs.Linking.{is_named}
+use Rattle.krs_walk.specs.Searching.{searcher_for}
+use Rattle.krs_walk.proofs.SoughtLemmas.{unnamed_comes_to, seen_there, unseen}
+use Rattle.krs_walk.proofs.search.Search.judge.Goals as goal
+use Rattle.krs_walk.proofs.search.Search.judge.Goals.{in_default-via-in-Some+else-eq, in_default-via-in_default}
+
+pub returns-in_default : goal.returns-in_default
+returns-in_default c =
+    let s = c.args.self.now in
+    elim c.in_default.branch [
+      | in_default-via-in-Some+else-eq w ↦ sym (unnamed_comes_to (searcher_for s) s.name.now c.args.serial
+          (ap (is_named s.name.now) (seen_there s.keys.now.keys c.args.serial w.in-Some.key.now (sym c.get.ensures ∙ ap option_copied w.in-Some.is))
+          ∙ (sym w.eq.ensures ∙ w.if-eq.false)))
+      | in_default-via-in_default w ↦ sym (unnamed_comes_to (searcher_for s) s.name.now c.args.serial
+          (ap (is_named s.name.now) (unseen s.keys.now.keys c.args.serial (sym c.get.ensures ∙ ap option_copied w.in_default.is))))
+    ]

@@ -1,0 +1,86 @@
+-- What the search goes by, over the keys of the definitions.
+use Rattle.std.specs.Prelude.{◌≡◌, ◌≤◌, ◌-◌, ℕ, Bool, List, [], length, take, filter, flat_map, Option, Result, Ok, Err}
+use Rattle.krs_types.specs.declared.context.Context.{Context}
+use Rattle.krs_types.specs.declared.errno.Errno.{Errno}
+use Rattle.krs_types.specs.declared.name.Name.{Name}
+use Rattle.krs_model.specs.Table.{Table, at}
+use Rattle.krs_model.specs.State.{Key}
+use Rattle.krs_model.specs.Levels.{levels}
+use Rattle.krs_model.specs.Reach.{is_ring}
+use Rattle.krs_model.specs.Search.{Searcher, entered, found_by, or_next, requested_by, searched, sought}
+use Rattle.krs_keys.specs.Keys.{shown}
+use Rattle.krs_walk.specs.declared.search.Search.{Search}
+use Rattle.krs_walk.specs.declared.held.HeldRings.{HeldRings}
+use Rattle.krs_walk.specs.Lists.{join}
+use Rattle.krs_walk.specs.Walks.{attached_with, followed_rings, possessed_with}
+
+-- a context that searches, whose process has this keyring
+abbrev pub searcher_with : Table Key → ℕ → Context → Option ℕ → Searcher
+searcher_with keys clock c ring = record {
+  keys = keys;
+  clock = clock;
+  caller = c.caller;
+  possesses = possessed_with keys clock c ring;
+}
+
+-- what it finds: keyctl(2), KEYCTL_SEARCH
+abbrev pub found_with : Table Key → ℕ → Context → Option ℕ → ℕ → Name → Result ℕ Errno
+found_with keys clock c ring head name = found_by (searcher_with keys clock c ring) head name
+
+-- what it finds from its attached keyrings in turn: request_key(2)
+abbrev pub requested_with : Table Key → ℕ → Context → Option ℕ → Name → Result ℕ Errno
+requested_with keys clock c ring name = requested_by (searcher_with keys clock c ring) (attached_with c ring) name
+
+abbrev pub searcher_for : Search → Searcher
+searcher_for s = searcher_with (shown s.keys.now.keys) s.clock s.context.now s.process_ring
+
+-- what these keys come to in a search
+abbrev pub sought_in : Search → List ℕ → Result ℕ Errno
+sought_in s serials = sought (searcher_for s) s.name.now serials
+
+-- what searches from these heads come to
+abbrev pub searched_from : Search → List ℕ → List ℕ
+searched_from s heads = flat_map (searched (searcher_for s)) heads
+
+-- what they come to behind others, which have this fault
+abbrev pub sought_behind : Search → Errno → List ℕ → Result ℕ Errno
+sought_behind s e serials = or_next (Err e) (sought_in s serials)
+
+-- the links of a keyring that is entered, and of some
+abbrev pub links_by : Search → ℕ → List ℕ
+links_by s ring = entered (searcher_for s) ring
+
+abbrev pub links_from : Search → List ℕ → List ℕ
+links_from s rings = flat_map (entered (searcher_for s)) rings
+
+-- those to keyrings
+abbrev pub entered_rings : Searcher → ℕ → List ℕ
+entered_rings by serial = filter (λ k. is_ring (at by.keys k)) (entered by serial)
+
+abbrev pub rings_by : Search → ℕ → List ℕ
+rings_by s ring = entered_rings (searcher_for s) ring
+
+abbrev pub rings_from : Search → List ℕ → List ℕ
+rings_from s rings = flat_map (entered_rings (searcher_for s)) rings
+
+-- whether the context possesses a key
+abbrev pub is_held : Search → ℕ → Bool
+is_held s serial = (searcher_for s).possesses serial
+
+-- the keyrings of the first levels of possession
+abbrev pub held_to : Search → ℕ → List ℕ
+held_to s n =
+    levels (followed_rings (shown s.keys.now.keys) s.clock s.context.now.caller)
+    (attached_with s.context.now s.process_ring) n
+
+-- as many levels were walked as it says, the last of them from `start` on
+pub record AreHeld (s : Search) (h : HeldRings) : Type 0 where
+  pub bound : h.levels ≤ 8
+  pub within : h.start ≤ length h.seen
+  pub walked : h.seen ≡ join [] (held_to s h.levels)
+  pub before : take h.start h.seen ≡ join [] (held_to s (h.levels - 1))
+
+-- where there is no answer these have joined the list of a walk
+abbrev pub Joins : Result ℕ Errno → List ℕ → List ℕ → List ℕ → Type 0
+Joins (Ok serial) all serials next = Unit {0}
+Joins (Err e) all serials next = next ≡ join all serials

@@ -1,0 +1,83 @@
+ghost use Rattle.std.specs.Prelude.{◌≡◌, ◌<◌, ◌+◌, true, IfOk, OnOk};
+ghost use Rattle.krs_model.specs.Table.{at};
+ghost use Rattle.krs_model.specs.Reach.{is_ring};
+ghost use Rattle.krs_keys.specs.Keys.{shown, AreFit};
+ghost use Rattle.krs_walk.specs.declared.search.Search as search;
+ghost use Rattle.krs_walk.specs.Walks.{OnlyRingsLink};
+ghost use Rattle.krs_walk.specs.Searching.{is_held, AreHeld};
+
+use crate::Visits;
+use crate::possession::{is_attached, next_level};
+use crate::search::Search;
+use krs_types::Serial;
+use std::alloc::{AllocError, Global};
+
+/// How many levels of keyrings are possessed: profile, search depth.
+const LEVELS: u8 = 8;
+
+/// The keyrings that a context possesses, as far as they were asked for: those of the first levels,
+/// each once.
+#[derive(Drop)]
+pub(crate) struct HeldRings {
+    seen: Visits,
+    start: usize,
+    levels: u8,
+}
+
+impl HeldRings {
+    /// None yet. It takes no memory.
+    pub(crate) fn new(alloc: Global) -> Self
+        ensures { (s : search.Search) → AreHeld s result }
+    {
+        HeldRings {
+            seen: Visits::new(alloc),
+            start: 0,
+            levels: 0,
+        }
+    }
+
+    /// Whether a keyring is possessed. Levels are walked until one has it.
+    pub(crate) fn has(&mut self, search: &Search<'_>, ring: Serial) -> Result<bool, AllocError>
+        requires fit { AreFit search.now.keys.now.keys }
+        requires only { OnlyRingsLink (shown search.now.keys.now.keys) }
+        requires held { AreHeld search.now self.old }
+        requires ring { is_ring (at (shown search.now.keys.now.keys) ring) ≡ true }
+        ensures held { OnOk result (AreHeld search.now self.new) }
+        ensures has { IfOk result (λ b. b ≡ is_held search.now ring) }
+    {
+        if is_attached(search.context, &search.process_ring, ring) {
+            return Ok(true);
+        }
+        'walk: while !self.seen.has(ring) {
+            if self.levels == LEVELS {
+                return Ok(false);
+            }
+            self.walk_on(search)?;
+        }
+        Ok(true)
+    }
+
+    /// Joins one level more.
+    fn walk_on(&mut self, search: &Search<'_>) -> Result<(), AllocError>
+        requires fit { AreFit search.now.keys.now.keys }
+        requires held { AreHeld search.now self.old }
+        requires more { self.old.levels < 8 }
+        ensures held { OnOk result (AreHeld search.now self.new) }
+        ensures one { OnOk result (self.new.levels ≡ self.old.levels + 1) }
+    {
+        if self.levels == 0 {
+            self.seen = search.walker.attached(search.context, search.process_ring)?;
+        } else {
+            let caller = &search.context.caller;
+            self.start = next_level(
+                search.keys,
+                caller,
+                search.clock,
+                &mut self.seen,
+                self.start,
+            )?;
+        }
+        self.levels += 1;
+        Ok(())
+    }
+}

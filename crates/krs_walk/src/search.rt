@@ -1,0 +1,377 @@
+ghost use Rattle.std.specs.Prelude.{◌≡◌, ◌≤◌, ◌&&◌, [], ◌∷◌, Some, Err, true, drop, length};
+ghost use Rattle.std.specs.Prelude.{IfOk, OnOk};
+ghost use Rattle.std.specs.Option.{option_to_list};
+ghost use Rattle.krs_model.specs.Table.{at};
+ghost use Rattle.krs_model.specs.Access.{rights_on};
+ghost use Rattle.krs_model.specs.Search.{found_by, grants_search, is_open};
+ghost use Rattle.krs_model.specs.Search.{or_next, weight, weightier};
+ghost use Rattle.krs_model.specs.Outcome.{Gives};
+ghost use Rattle.krs_types.specs.Name.{same_name};
+ghost use Rattle.krs_types.specs.Rights.{has_all, SEARCH};
+ghost use Rattle.krs_links.specs.Links.{nested, serials};
+ghost use Rattle.krs_keys.specs.Keys.{content_links, name_at, seen, shown, AreNamed, AreFit};
+ghost use Rattle.krs_keys.specs.Changes.{links_some};
+ghost use Rattle.krs_walk.specs.Walks.{OnlyRingsLink};
+ghost use Rattle.krs_walk.specs.Searching.{found_with, is_held, requested_with};
+ghost use Rattle.krs_walk.specs.Searching.{links_by, links_from, rings_by, rings_from};
+ghost use Rattle.krs_walk.specs.Searching.{searched_from, searcher_for, sought_behind, sought_in};
+ghost use Rattle.krs_walk.specs.Searching.{AreHeld, Joins};
+
+use crate::held::HeldRings;
+use crate::keyrings::rings_in;
+use crate::possession::find_in;
+use crate::{Visits, Walker};
+use bitflags::Flags;
+use krs_keys::{Content, Key, KeyTable};
+use krs_types::{Context, Errno, Fault, Name, Rights, Serial};
+use std::alloc::AllocError;
+
+/// How many levels of keyrings are entered below the head: profile, search depth.
+const LEVELS: u8 = 6;
+
+/// A search: among which keys, by which context, its process's keyring, when, and for what.
+#[derive(Clone, Copy)]
+pub(crate) struct Search<'a> {
+    pub(crate) walker: &'a Walker,
+    pub(crate) keys: &'a KeyTable,
+    pub(crate) context: &'a Context,
+    pub(crate) process_ring: Option<Serial>,
+    pub(crate) clock: u64,
+    pub(crate) name: &'a Name,
+}
+
+impl Walker {
+    /// The key of a name that a context, whose process has this keyring, finds from a head:
+    /// EKEYREVOKED, EKEYEXPIRED, EACCES, ENOKEY. keyctl(2), KEYCTL_SEARCH; profile, order of a search.
+    /// Levels are examined one after the other, and those below are not walked where one has the answer.
+    pub fn search(
+        &self,
+        keys: &KeyTable,
+        context: &Context,
+        process_ring: Option<Serial>,
+        clock: u64,
+        head: Serial,
+        name: &Name,
+    ) -> Result<Serial, Fault>
+        requires fit { AreFit keys.now.keys }
+        requires only { OnlyRingsLink (shown keys.now.keys) }
+        ensures { Gives (λ k. k) result
+            (found_with (shown keys.now.keys) clock context.now process_ring head name.now) }
+    {
+        let search = Search {
+            walker: self,
+            keys,
+            context,
+            process_ring,
+            clock,
+            name,
+        };
+        refusing(search.find(head)?)
+    }
+
+    /// The same from the thread, the process and the session keyring in turn: request_key(2); profile,
+    /// three keyrings of a request.
+    pub fn request(
+        &self,
+        keys: &KeyTable,
+        context: &Context,
+        process_ring: Option<Serial>,
+        clock: u64,
+        name: &Name,
+    ) -> Result<Serial, Fault>
+        requires fit { AreFit keys.now.keys }
+        requires only { OnlyRingsLink (shown keys.now.keys) }
+        ensures { Gives (λ k. k) result
+            (requested_with (shown keys.now.keys) clock context.now process_ring name.now) }
+    {
+        let search = Search {
+            walker: self,
+            keys,
+            context,
+            process_ring,
+            clock,
+            name,
+        };
+        let thread = search.find_next(Err(Errno::ENOKEY), context.thread)?;
+        let process = search.find_next(thread, process_ring)?;
+        refusing(search.find_next(process, context.session)?)
+    }
+}
+
+impl Search<'_> {
+    /// What a search comes to, and behind it one from a head, where there is one.
+    fn find_next(
+        &self,
+        found: Result<Serial, Errno>,
+        head: Option<Serial>,
+    ) -> Result<Result<Serial, Errno>, AllocError>
+        requires fit { AreFit self.now.keys.now.keys }
+        requires only { OnlyRingsLink (shown self.now.keys.now.keys) }
+        ensures { IfOk result (λ r. r ≡
+            or_next found (sought_in self.now (searched_from self.now (option_to_list head)))) }
+    {
+        let (Err(fault), Some(head)) = (found, head) else {
+            return Ok(found);
+        };
+        match self.find(head)? {
+            Ok(serial) => Ok(Ok(serial)),
+            Err(more) => Ok(Err(weightier(fault, more))),
+        }
+    }
+
+    /// What a search from a head comes to.
+    fn find(&self, head: Serial) -> Result<Result<Serial, Errno>, AllocError>
+        requires fit { AreFit self.now.keys.now.keys }
+        requires only { OnlyRingsLink (shown self.now.keys.now.keys) }
+        ensures { IfOk result (λ r. r ≡ found_by (searcher_for self.now) head self.now.name.now) }
+    {
+        match self.judge(head)? {
+            Ok(serial) => Ok(Ok(serial)),
+            Err(fault) => self.find_below(head, fault),
+        }
+    }
+
+    /// What it comes to where the head has this fault.
+    fn find_below(&self, head: Serial, fault: Errno) -> Result<Result<Serial, Errno>, AllocError>
+        requires fit { AreFit self.now.keys.now.keys }
+        requires only { OnlyRingsLink (shown self.now.keys.now.keys) }
+        requires head { sought_in self.now (head ∷ []) ≡ Err fault }
+        ensures { IfOk result (λ r. r ≡ found_by (searcher_for self.now) head self.now.name.now) }
+    {
+        let mut held = HeldRings::new(self.walker.alloc);
+        let mut seen = Visits::new(self.walker.alloc);
+        let mut fault = match self.visit(&mut held, &mut seen, head, fault)? {
+            Ok(linked) => return Ok(Ok(linked)),
+            Err(linked) => linked,
+        };
+        let mut start = 0usize;
+        for level in 0..LEVELS {
+            let _ = level;
+            let end = seen.len();
+            match self.visit_level(&mut held, &mut seen, start, fault)? {
+                Ok(found) => return Ok(Ok(found)),
+                Err(more) => fault = more,
+            }
+            start = end;
+        }
+        Ok(Err(fault))
+    }
+
+    /// What the links of the keyrings from a place on come to, behind this fault. The keyrings that
+    /// they link join the list.
+    fn visit_level(
+        &self,
+        held: &mut HeldRings,
+        seen: &mut Visits,
+        start: usize,
+        fault: Errno,
+    ) -> Result<Result<Serial, Errno>, AllocError>
+        requires fit { AreFit self.now.keys.now.keys }
+        requires only { OnlyRingsLink (shown self.now.keys.now.keys) }
+        requires held { AreHeld self.now held.old }
+        requires start { start ≤ length seen.old }
+        ensures held { OnOk result (AreHeld self.now held.new) }
+        ensures sought { IfOk result (λ r. r ≡
+            sought_behind self.now fault (links_from self.now (drop start seen.old))) }
+        ensures joined { IfOk result (λ r.
+            Joins r seen.old (rings_from self.now (drop start seen.old)) seen.new) }
+    {
+        let end = seen.len();
+        let mut fault = fault;
+        for place in start..end {
+            let here = seen.at(place);
+            match self.visit(held, seen, here, fault)? {
+                Ok(serial) => return Ok(Ok(serial)),
+                Err(more) => fault = more,
+            }
+        }
+        Ok(Err(fault))
+    }
+
+    /// What the links of a keyring come to, behind this fault. The keyrings that it links join the
+    /// list.
+    fn visit(
+        &self,
+        held: &mut HeldRings,
+        seen: &mut Visits,
+        ring: Serial,
+        fault: Errno,
+    ) -> Result<Result<Serial, Errno>, AllocError>
+        requires fit { AreFit self.now.keys.now.keys }
+        requires only { OnlyRingsLink (shown self.now.keys.now.keys) }
+        requires held { AreHeld self.now held.old }
+        ensures held { OnOk result (AreHeld self.now held.new) }
+        ensures sought { IfOk result (λ r. r ≡
+            sought_behind self.now fault (links_by self.now ring)) }
+        ensures joined { IfOk result (λ r. Joins r seen.old (rings_by self.now ring) seen.new) }
+    {
+        let Some(key) = self.keys.get(ring) else {
+            return Ok(Err(fault));
+        };
+        if !self.enters(held, key, ring)? {
+            return Ok(Err(fault));
+        }
+        self.examine(seen, &key.content, fault)
+    }
+
+    /// Whether a keyring is entered, and links something.
+    fn enters(&self, held: &mut HeldRings, key: &Key, ring: Serial) -> Result<bool, AllocError>
+        requires fit { AreFit self.now.keys.now.keys }
+        requires only { OnlyRingsLink (shown self.now.keys.now.keys) }
+        requires held { AreHeld self.now held.old }
+        requires key { at self.now.keys.now.keys ring ≡ Some key.now }
+        ensures held { OnOk result (AreHeld self.now held.new) }
+        ensures enters { IfOk result (λ b. b ≡
+            (links_some key.now.content && is_open (searcher_for self.now) ring (seen key.now))) }
+    {
+        if !key.content.links_some() || !key.is_alive(self.clock) {
+            return Ok(false);
+        }
+        let granted = self.is_granted(key, false);
+        if granted == self.is_granted(key, true) {
+            return Ok(granted);
+        }
+        let possessed = held.has(self, ring)?;
+        Ok(self.is_granted(key, possessed))
+    }
+
+    /// The same of a keyring that is entered.
+    fn examine(
+        &self,
+        seen: &mut Visits,
+        content: &Content,
+        fault: Errno,
+    ) -> Result<Result<Serial, Errno>, AllocError>
+        requires fit { AreFit self.now.keys.now.keys }
+        requires only { OnlyRingsLink (shown self.now.keys.now.keys) }
+        requires named { AreNamed (name_at self.now.keys.now.keys) (content_links content.now) }
+        ensures sought { IfOk result (λ r. r ≡
+            sought_behind self.now fault (serials (content_links content.now))) }
+        ensures joined { IfOk result (λ r.
+            Joins r seen.old (serials (nested (content_links content.now))) seen.new) }
+    {
+        match self.judge_link(content)? {
+            Ok(serial) => Ok(Ok(serial)),
+            Err(more) => {
+                seen.join(rings_in(content))?;
+                Ok(Err(weightier(fault, more)))
+            }
+        }
+    }
+
+    /// What the links of a keyring come to: no other than that of the name.
+    fn judge_link(&self, content: &Content) -> Result<Result<Serial, Errno>, AllocError>
+        requires fit { AreFit self.now.keys.now.keys }
+        requires only { OnlyRingsLink (shown self.now.keys.now.keys) }
+        requires named { AreNamed (name_at self.now.keys.now.keys) (content_links content.now) }
+        ensures { IfOk result (λ r. r ≡ sought_in self.now (serials (content_links content.now))) }
+    {
+        match find_in(content, self.name) {
+            Some(serial) => self.judge(serial),
+            None => Ok(Err(Errno::ENOKEY)),
+        }
+    }
+
+    /// What a key comes to.
+    fn judge(&self, serial: Serial) -> Result<Result<Serial, Errno>, AllocError>
+        requires fit { AreFit self.now.keys.now.keys }
+        requires only { OnlyRingsLink (shown self.now.keys.now.keys) }
+        ensures { IfOk result (λ r. r ≡ sought_in self.now (serial ∷ [])) }
+    {
+        match self.keys.get(serial) {
+            Some(key) if *self.name == key.name => self.judge_match(key, serial),
+            _ => Ok(Err(Errno::ENOKEY)),
+        }
+    }
+
+    /// What a key of the name comes to.
+    fn judge_match(&self, key: &Key, serial: Serial) -> Result<Result<Serial, Errno>, AllocError>
+        requires fit { AreFit self.now.keys.now.keys }
+        requires only { OnlyRingsLink (shown self.now.keys.now.keys) }
+        requires key { at self.now.keys.now.keys serial ≡ Some key.now }
+        requires named { same_name self.now.name.now key.now.name ≡ true }
+        ensures { IfOk result (λ r. r ≡ sought_in self.now (serial ∷ [])) }
+    {
+        if key.revoked {
+            return Ok(Err(Errno::EKEYREVOKED));
+        }
+        if key.is_over(self.clock) {
+            return Ok(Err(Errno::EKEYEXPIRED));
+        }
+        if self.grants(key, serial)? {
+            Ok(Ok(serial))
+        } else {
+            Ok(Err(Errno::EACCES))
+        }
+    }
+
+    /// Whether a key grants SEARCH. Possession is asked where it makes a difference.
+    fn grants(&self, key: &Key, serial: Serial) -> Result<bool, AllocError>
+        requires fit { AreFit self.now.keys.now.keys }
+        requires only { OnlyRingsLink (shown self.now.keys.now.keys) }
+        ensures { IfOk result (λ b. b ≡
+            grants_search (searcher_for self.now) serial (seen key.now)) }
+    {
+        let granted = self.is_granted(key, false);
+        if granted == self.is_granted(key, true) {
+            return Ok(granted);
+        }
+        let possessed = self.possesses(serial)?;
+        Ok(self.is_granted(key, possessed))
+    }
+
+    fn possesses(&self, serial: Serial) -> Result<bool, AllocError>
+        requires fit { AreFit self.now.keys.now.keys }
+        requires only { OnlyRingsLink (shown self.now.keys.now.keys) }
+        ensures { IfOk result (λ b. b ≡ is_held self.now serial) }
+    {
+        self.walker.possesses(
+            self.keys,
+            self.context,
+            self.process_ring,
+            self.clock,
+            serial,
+        )
+    }
+
+    /// Whether a key grants SEARCH, as one that is possessed or not.
+    fn is_granted(&self, key: &Key, possessed: bool) -> bool
+        ensures { result ≡
+            has_all (rights_on (seen key.now) self.now.context.now.caller possessed) SEARCH }
+    {
+        key.grants(&self.context.caller, possessed)
+            .contains(Rights::SEARCH)
+    }
+}
+
+/// What a search comes to, as the answer of a function that may want memory.
+fn refusing(found: Result<Serial, Errno>) -> Result<Serial, Fault>
+    ensures { Gives (λ k. k) result found }
+{
+    match found {
+        Ok(serial) => Ok(serial),
+        Err(error) => Err(Fault::Refused(error)),
+    }
+}
+
+/// Of two faults of a search the one that weighs more: profile, fault of a search.
+fn weightier(first: Errno, second: Errno) -> Errno
+    ensures { result ≡ weightier first second }
+{
+    if weight(first) < weight(second) {
+        second
+    } else {
+        first
+    }
+}
+
+fn weight(error: Errno) -> u8
+    ensures { result ≡ weight error }
+{
+    match error {
+        Errno::EKEYREVOKED => 3,
+        Errno::EKEYEXPIRED => 2,
+        Errno::EACCES => 1,
+        _ => 0,
+    }
+}

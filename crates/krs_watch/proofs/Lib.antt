@@ -1,0 +1,7 @@
+pub mod TablesLemmas
+pub mod OffersLemmas
+pub mod FrontLemmas
+pub mod ChangesLemmas
+pub mod LawsLemmas
+pub mod PlacesLemmas
+pub mod WatchersLemmas

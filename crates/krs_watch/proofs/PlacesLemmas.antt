@@ -1,0 +1,52 @@
+-- The part of the watches that lies around those of a key.
+use Rattle.std.proofs.Common.{◌≡◌, ℕ, zero, suc, ◌+◌, List, [], ◌∷◌, Bool, true, false, cond, eqb, filter, refl, sym, ap, arith}
+use Rattle.std.specs.Ordering.{nat_cmp, ordering_then, is_le}
+use Rattle.std.specs.declared.cmp.Ordering.TheVariants.{Less, Equal, Greater}
+use Rattle.std.specs.declared.ops.Bound.TheVariants.{Included, Excluded, Unbounded}
+use Rattle.std.specs.BTreeMap.Range.{range_contains}
+use Rattle.std.specs.Cmp.{nat_cmp_is}
+use Rattle.std.proofs.lemmas.Bool.{eqb-true}
+use Rattle.krs_model.specs.Queues.{Watch, place_cmp}
+use Rattle.krs_model.specs.Notes.Posting.{watches_at}
+
+-- what a weaker test leaves has all that a stronger one finds
+pub filter_within : {X : Type 0} (p q : X → Bool) (xs : List X) → ((x : X) → p x ≡ true → q x ≡ true) →
+    filter p (filter q xs) ≡ filter p xs
+filter_within p q [] h = refl
+filter_within p q (x ∷ xs) h =
+    elim (p x) as (λ b. p x ≡ b → filter p (cond (q x) (x ∷ filter q xs) (filter q xs)) ≡ cond b (x ∷ filter p xs) (filter p xs)) [
+      | true ↦ λ t. rw (h x t) (rw t (ap (λ zs. x ∷ zs) (filter_within p q xs h)))
+      | false ↦ λ t. elim (q x) as (λ d. filter p (cond d (x ∷ filter q xs) (filter q xs)) ≡ filter p xs) [
+        | true ↦ rw t (filter_within p q xs h)
+        | false ↦ filter_within p q xs h
+      ]
+    ] refl
+
+same : (k : ℕ) → nat_cmp k k ≡ Equal
+same k = sym (nat_cmp_is k k Equal refl)
+
+least : (n : ℕ) → is_le (nat_cmp 0 n) ≡ true
+least zero = refl
+least (suc n) = let less : nat_cmp 0 (suc n) ≡ Less = sym (nat_cmp_is 0 (suc n) Less (omega arith)) in rw less refl
+
+above : (k n : ℕ) → is_le (ordering_then (nat_cmp (k + 1) k) (nat_cmp 0 n)) ≡ false
+above k n = let more : nat_cmp (k + 1) k ≡ Greater = sym (nat_cmp_is (k + 1) k Greater (omega arith)) in rw more refl
+
+starts : (k n : ℕ) → is_le (ordering_then (nat_cmp k k) (nat_cmp 0 n)) ≡ true
+starts k n = rw (same k) (least n)
+
+-- from the key's first place to the next key's
+pub between_keys : (key : ℕ) (watches : List Watch) →
+    watches_at key (filter (λ w. range_contains place_cmp (Included (key, 0)) (Excluded (key + 1, 0)) w.0) watches) ≡ watches_at key watches
+between_keys key watches =
+    filter_within (λ w. eqb w.0.0 key) (λ w. range_contains place_cmp (Included (key, 0)) (Excluded (key + 1, 0)) w.0) watches (λ w t.
+    let k : w.0.0 ≡ key = eqb-true w.0.0 key t in
+    rw (k, starts key w.0.1, above key w.0.1) refl)
+
+-- from the key's first place on
+pub from_key : (key : ℕ) (watches : List Watch) →
+    watches_at key (filter (λ w. range_contains place_cmp (Included (key, 0)) Unbounded w.0) watches) ≡ watches_at key watches
+from_key key watches =
+    filter_within (λ w. eqb w.0.0 key) (λ w. range_contains place_cmp (Included (key, 0)) Unbounded w.0) watches (λ w t.
+    let k : w.0.0 ≡ key = eqb-true w.0.0 key t in
+    rw (k, starts key w.0.1) refl)

@@ -1,0 +1,29 @@
+use Rattle.std.proofs.Common.{◌≡◌, ℕ, List, Some, Ok, ap, sym, ◌∙◌}
+use Rattle.krs_types.specs.declared.note.Record.TheVariants.{Removal}
+use Rattle.krs_model.specs.Table.{Table, alter}
+use Rattle.krs_model.specs.State.{Queue}
+use Rattle.krs_model.specs.Queues.{Queues, Watch, watch_at, without_watch}
+use Rattle.krs_model.specs.Notes.Posting.{after_note}
+use Rattle.krs_model.specs.Asks.Watching.{Change}
+use Rattle.krs_watch.proofs.ChangesLemmas.{ends_watch}
+use Rattle.krs_watch.proofs.queues.WatchQueues.unwatch.Goals as goal
+
+pub returns : goal.returns
+returns c =
+    let s = c.self.inside in
+    let queues = s.queues.entries in
+    let watches = s.watches.entries in
+    let key = c.args.key in
+    let number = c.args.number in
+    let id = c.in-Some.watch in
+    let all : Table Queue → List Watch → Queues = λ zs ws. record { queues = zs; watches = ws; next_queue = s.next_queue } in
+    let made : Table Queue → List Watch → Change (Unit {0}) = λ zs ws. Ok (all zs ws, tt) in
+    let there : watch_at watches key number ≡ Some id = rw (← c.number.ensures) (sym c.in-Some.ensures.value) in
+    let told : c.post.new.queues.entries ≡ alter queues number (after_note (Removal id key)) =
+    c.post.ensures ∙ ap (λ (n : ℕ). alter queues number (after_note (Removal id n))) (c.from-id.ensures ∙ c.number-2.ensures) in
+    let left : c.remove.new.self.entries ≡ without_watch watches key number =
+    c.remove.ensures.entries ∙ ap (λ (n : ℕ). without_watch watches n number) c.number.ensures in
+    rw (← c.self.view_is) (
+    ends_watch (all queues watches) c.args.client number key id c.in_ok-check_own.ensures there
+    ∙ (ap (λ (zs : Table Queue). made zs (without_watch watches key number)) (sym told) ∙ ap (λ (ws : List Watch). made c.post.new.queues.entries ws) (sym left))
+    )

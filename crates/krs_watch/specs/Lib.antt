@@ -1,0 +1,5 @@
+pub mod View
+pub mod Offers
+pub mod Reads
+pub mod Changes
+pub mod Laws

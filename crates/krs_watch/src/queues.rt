@@ -1,0 +1,268 @@
+ghost use Rattle.std.specs.Prelude.{◌≡◌, ◌==◌, not, filter, map, is_ok};
+ghost use Rattle.std.specs.List.{list_any};
+ghost use Rattle.krs_model.specs.Queues.{no_queues, queue_of};
+ghost use Rattle.krs_model.specs.Notes.Posting.{posts_of, posted, post_all, removal_for};
+ghost use Rattle.krs_model.specs.Asks.Leaving.{queues_without};
+ghost use Rattle.krs_model.specs.Asks.Watching.{opened, filtered, read_out, closed, watched, without_client, watches_of};
+ghost use Rattle.krs_model.specs.Table.{alter};
+ghost use Rattle.krs_model.specs.Asks.Watching.{with_filter};
+ghost use Rattle.krs_watch.specs.Reads.{ReadsAt};
+ghost use Rattle.krs_watch.specs.Changes.{Leads, LeadsAlways, OwnsQueue, watch_ended, key_dropped, swept};
+
+use crate::keys::KeySet;
+use crate::posting::{Place, post, post_note, post_removals};
+use crate::queue::NoteQueue;
+use krs_notes::Filter;
+use krs_ring::NoteRing;
+use krs_types::{Body, Errno, Fault, FilterEntry, KeyEvent, Record, Serial};
+use std::alloc::Global;
+use std::collections::BTreeMap;
+use std::marker::Model;
+
+/// How many queues are open at most: profile, queue numbers.
+const MAX_QUEUES: usize = 256;
+
+/// The greatest number of a queue: profile, queue numbers.
+const MAX_NUMBER: u64 = 4_294_967_295;
+
+/// The queues of a store, and what they watch.
+#[derive(Drop)]
+pub struct WatchQueues {
+    queues: BTreeMap<u32, NoteQueue>,
+    watches: BTreeMap<Place, u8>,
+    next_queue: u64,
+    alloc: Global,
+}
+
+impl Model for WatchQueues {
+    ghost use Rattle.krs_model.specs.Queues.{Queues};
+
+    ghost Value = { Queues };
+
+    ghost use Rattle.krs_watch.specs.View.{queues_of};
+
+    ghost view = { queues_of };
+}
+
+impl WatchQueues {
+    pub fn new(alloc: Global) -> Self
+        ensures { result ≡ no_queues }
+    {
+        WatchQueues {
+            queues: BTreeMap::new(alloc),
+            watches: BTreeMap::new(alloc),
+            next_queue: 1,
+            alloc,
+        }
+    }
+
+    /// A new queue of 1 to 512 records, by its number: EINVAL, ENFILE, ENOSPC, ENOMEM.
+    #[tactic(auto, unfolding(krs_model::specs::Asks::Watching::opened))]
+    pub fn open_queue(&mut self, client: u32, capacity: u32) -> Result<u32, Fault>
+        ensures { Leads self.old result self.new (opened self.old client capacity) }
+    {
+        if !NoteRing::is_capacity(capacity) {
+            return Err(Fault::Refused(Errno::EINVAL));
+        }
+        if self.queues.len() >= MAX_QUEUES {
+            return Err(Fault::Refused(Errno::ENFILE));
+        }
+        if self.next_queue > MAX_NUMBER {
+            return Err(Fault::Refused(Errno::ENOSPC));
+        }
+        let number = self.next_queue as u32;
+        let queue = NoteQueue::new(self.alloc, client, capacity)?;
+        self.queues.insert(number, queue)?;
+        self.next_queue += 1;
+        Ok(number)
+    }
+
+    /// Another filter for a queue: EBADF, EINVAL.
+    #[tactic(auto, unfolding(krs_model::specs::Asks::Watching::filtered))]
+    pub fn set_filter(
+        &mut self,
+        client: u32,
+        number: u32,
+        entries: Vec<FilterEntry>,
+    ) -> Result<(), Errno>
+        ensures { LeadsAlways self.old result self.new
+            (filtered self.old client number entries.items) }
+    {
+        check_own(&self.queues, client, number)?;
+        let filter = Filter::new(entries)?;
+        set_filter_at(&mut self.queues, number, filter);
+        Ok(())
+    }
+
+    /// A watch of a key, whose records go to a queue: EBADF, EBUSY, ENOMEM.
+    #[tactic(auto, unfolding(krs_model::specs::Asks::Watching::watched))]
+    pub fn watch(&mut self, client: u32, number: u32, key: Serial, id: u8) -> Result<(), Fault>
+        ensures { Leads self.old result self.new (watched self.old client number key id) }
+    {
+        check_own(&self.queues, client, number)?;
+        let place = (key.number(), number);
+        if self.watches.contains_key(&place) {
+            return Err(Fault::Refused(Errno::EBUSY));
+        }
+        self.watches.insert(place, id)?;
+        Ok(())
+    }
+
+    /// The end of a watch, of which a record goes to its queue: EBADF, EBADSLT.
+    #[tactic(auto, unfolding(krs_model::specs::Asks::Watching::unwatched))]
+    pub fn unwatch(&mut self, client: u32, number: u32, key: Serial) -> Result<(), Errno>
+        ensures { LeadsAlways self.old result self.new (watch_ended self.old client number key) }
+    {
+        check_own(&self.queues, client, number)?;
+        let place = (key.number(), number);
+        let Some(watch) = self.watches.remove(&place) else {
+            return Err(Errno::EBADSLT);
+        };
+        let id = u64::from(key.number());
+        post(&mut self.queues, number, Record::Removal { watch, id });
+        Ok(())
+    }
+
+    /// The bytes of the longest front of records that fits the room. It is taken: EBADF, EAGAIN,
+    /// ENOBUFS, ENOMEM.
+    #[tactic(auto, unfolding(krs_model::specs::Asks::Watching::read_out))]
+    pub fn read(&mut self, client: u32, number: u32, room: u32) -> Result<Body, Fault>
+        ensures { Leads self.old result self.new (read_out self.old client number room) }
+    {
+        check_own(&self.queues, client, number)?;
+        read_at(self.alloc, &mut self.queues, number, room as usize)
+    }
+
+    /// Closes a queue, whose watches end without records: EBADF.
+    #[tactic(auto, unfolding(krs_model::specs::Asks::Watching::closed))]
+    pub fn close(&mut self, client: u32, number: u32) -> Result<(), Errno>
+        ensures { LeadsAlways self.old result self.new (closed self.old client number) }
+    {
+        check_own(&self.queues, client, number)?;
+        let _ = self.queues.remove(&number);
+        end_watches_of(&mut self.watches, number);
+        Ok(())
+    }
+
+    /// Closes all queues of a client, whose watches end without records.
+    pub fn leave(&mut self, client: u32)
+        ensures { self.new ≡ without_client self.old client }
+    {
+        drop_queues(&mut self.queues, client);
+        keep_watches(&mut self.watches, &self.queues);
+    }
+
+    /// Tells all that watch a key and let it pass what happened, with the other key of a link, or 0.
+    pub fn post_all(&mut self, event: KeyEvent, key: Serial, aux: u32)
+        ensures { self.new ≡ posted
+            (posts_of self.old (record { event = event; key = key; aux = aux })) self.old }
+    {
+        post_note(&mut self.queues, &self.watches, event, key.number(), aux);
+    }
+
+    /// The end of the watches of all keys that are gone, of which records go to their queues.
+    pub fn sweep<K: KeySet>(&mut self, keys: &K)
+        ensures { self.new ≡ swept (K.has keys.now) self.old }
+    {
+        post_dropped(&mut self.queues, &self.watches, keys);
+        keep_live(&mut self.watches, keys);
+    }
+
+    /// The end of all watches of a key that was dropped, of which records go to their queues.
+    pub fn drop_key(&mut self, key: Serial)
+        ensures { self.new ≡ key_dropped self.old key }
+    {
+        post_removals(&mut self.queues, &self.watches, key.number());
+        end_watches_at(&mut self.watches, key.number());
+    }
+}
+
+/// A removal record comes to each queue that watches a key which is not there.
+fn post_dropped<K: KeySet>(
+    queues: &mut BTreeMap<u32, NoteQueue>,
+    watches: &BTreeMap<Place, u8>,
+    keys: &K,
+)
+    ensures { queues.new.entries ≡ post_all
+        (map removal_for (filter (λ w. not (K.has keys.now w.0.0)) watches.now.entries))
+        queues.old.entries }
+{
+    for (place, id) in watches {
+        if !keys.has(Serial::new(place.0)) {
+            let gone = Record::Removal {
+                watch: *id,
+                id: u64::from(place.0),
+            };
+            post(queues, place.1, gone);
+        }
+    }
+}
+
+fn keep_live<K: KeySet>(watches: &mut BTreeMap<Place, u8>, keys: &K)
+    ensures { watches.new.entries ≡ filter (λ w. K.has keys.now w.0.0) watches.old.entries }
+{
+    watches.retain(|place, _id| keys.has(Serial::new(place.0)));
+}
+
+/// The queue is the client's: EBADF.
+fn check_own(queues: &BTreeMap<u32, NoteQueue>, client: u32, number: u32) -> Result<(), Errno>
+    ensures { OwnsQueue queues.now.entries client number result }
+{
+    match queues.get(&number) {
+        Some(queue) if queue.is_of(client) => Ok(()),
+        _ => Err(Errno::EBADF),
+    }
+}
+
+fn set_filter_at(queues: &mut BTreeMap<u32, NoteQueue>, number: u32, filter: Filter)
+    ensures { queues.new.entries ≡ alter queues.old.entries number (with_filter filter) }
+{
+    match queues.get_mut(&number) {
+        Some(queue) => queue.set_filter(filter),
+        None => {}
+    }
+}
+
+fn read_at(
+    alloc: Global,
+    queues: &mut BTreeMap<u32, NoteQueue>,
+    number: u32,
+    room: usize,
+) -> Result<Body, Fault>
+    ensures { ReadsAt number room queues.old.entries result queues.new.entries }
+{
+    match queues.get_mut(&number) {
+        Some(queue) => queue.read(alloc, room),
+        None => Err(Fault::Refused(Errno::EBADF)),
+    }
+}
+
+fn end_watches_of(watches: &mut BTreeMap<Place, u8>, number: u32)
+    ensures { watches.new.entries ≡ filter (λ w. not (w.0.1 == number)) watches.old.entries }
+{
+    watches.retain(|place, _id| place.1 != number);
+}
+
+fn end_watches_at(watches: &mut BTreeMap<Place, u8>, key: u32)
+    ensures { watches.new.entries ≡ filter (λ w. not (w.0.0 == key)) watches.old.entries }
+{
+    watches.retain(|place, _id| place.0 != key);
+}
+
+fn drop_queues(queues: &mut BTreeMap<u32, NoteQueue>, client: u32)
+    ensures { queues.new.entries ≡ queues_without client queues.old.entries }
+{
+    queues.retain(|_number, queue| !queue.is_of(client));
+}
+
+fn has_queue(queues: &BTreeMap<u32, NoteQueue>, number: u32) -> bool
+    ensures { result ≡ list_any (λ e. e.0 == number) queues.now.entries }
+{
+    queues.contains_key(&number)
+}
+
+fn keep_watches(watches: &mut BTreeMap<Place, u8>, queues: &BTreeMap<u32, NoteQueue>)
+    ensures { watches.new.entries ≡ watches_of queues.now.entries watches.old.entries }
+{
+    watches.retain(|place, _id| has_queue(queues, place.1));
+}

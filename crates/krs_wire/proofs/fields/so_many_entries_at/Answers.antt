@@ -1,0 +1,26 @@
+use Rattle.std.proofs.Common.{rules, ◌≡◌, ◌++◌, ◌-◌, ◌+◌, List, ℕ, [], ◌∷◌, ap, sym, subst}
+use Rattle.krs_types.specs.declared.note.FilterEntry.{FilterEntry}
+use Rattle.krs_wire.specs.Bodies.{entry_field}
+use Rattle.krs_wire.specs.Field.{many_read}
+use Rattle.krs_wire.specs.Faulting.{or_bad_body}
+use Rattle.krs_wire.proofs.CountLemmas.{with_front, many_on, many_ends, many_done}
+use Rattle.krs_wire.proofs.fields.so_many_entries_at.Goals as goal
+
+pub loop-preserved : goal.loop-preserved
+loop-preserved c =
+    let next = many_on entry_field c.loop.entries.items c.args.count c.loop.counter c.loop.rest.now c.in-Ok.entry
+    c.in-Ok.after.now _ c.loop-test.true c.in-Ok.ensures c.loop.invariant in
+    let pushed : c.push.new.self.items ≡ c.loop.entries.items ++ c.in-Ok.entry ∷ [] = search rules in
+    subst (λ (xs : List FilterEntry).
+    with_front xs (many_read entry_field (c.args.count - (c.loop.counter + 1)) c.in-Ok.after.now)
+    ≡ many_read entry_field c.args.count c.args.bytes.now) (sym pushed) next
+
+pub returns : goal.returns
+returns c =
+    ap (λ o. or_bad_body o) (many_done entry_field c.loop.entries.items c.args.count c.loop.counter c.loop.rest.now _
+    c.loop-test.false c.loop.invariant)
+
+pub returns-in-Err : goal.returns-in-Err
+returns-in-Err c = λ other.
+    many_ends entry_field c.loop.entries.items c.args.count c.loop.counter c.loop.rest.now c.in-Err.fault _
+    c.loop-test.true (c.in-Err.ensures other) c.loop.invariant
