@@ -12,7 +12,7 @@ use Rattle.krs_types.specs.declared.context.Context.{Context}
 use Rattle.krs_model.specs.Table.{Table, at, put, without, alter, map_values, IsBelow}
 use Rattle.krs_model.specs.Asks.Leaving.{has_process}
 use Rattle.krs_model.proofs.Levels.{or_true, same_is}
-use Rattle.krs_model.proofs.Tables.{at_map, same_at, at_put_same, at_put_other, at_alter_same, at_alter_other, at_alter_none, at_or_apart, at_without_none, at_kept, below_put, below_filter}
+use Rattle.krs_model.proofs.Tables.{at_map, at_put_same, at_put_other, at_alter_same, at_alter_other, at_alter_none, at_or_apart, at_without_none, at_without_other, at_kept, below_put, below_filter}
 use Rattle.krs_ctx.specs.Anchors.{Anchors, Each, IsEntered, IsFit}
 use Rattle.krs_model.proofs.Standing.{there_map}
 use Rattle.krs_ctx.proofs.EachLemmas.{each_on, each_both, each_filter, each_put, each_without, each_alter, each_at, each_below}
@@ -40,17 +40,6 @@ below_last es n gone below = λ q h.
     ⊎_elim (λ (e : q ≡ n). subst (λ (z : ℕ). at (without es n) z ≡ None) (sym e) gone)
     (λ (apart : is_at (nat_cmp q) n ≡ false). at_without_none es n q (below q (after n q h apart)))
     (at_or_apart q n)
-
--- what is taken out leaves what is at other numbers
-at_without_other : {X : Type 0} (es : Table X) (k q : ℕ) → is_at (nat_cmp q) k ≡ false → at (without es k) q ≡ at es q
-at_without_other [] k q h = refl
-at_without_other (e ∷ es) k q h =
-    elim (is_at (nat_cmp k) e.0) as
-    (λ b. is_at (nat_cmp k) e.0 ≡ b → at (cond b es (e ∷ without es k)) q ≡ at (e ∷ es) q) [
-      | true ↦ λ t. let same : k ≡ e.0 = same_at k e.0 t in let no : is_at (nat_cmp q) e.0 ≡ false =
-          rw (← same) h in rw no refl
-      | false ↦ λ t. ap (λ o. cond (is_at (nat_cmp q) e.0) (Some e.1) o) (at_without_other es k q h)
-    ] refl
 
 -- a process that is there is there after another was made, changed or ended
 still_put : (ps : Table (Option ℕ)) (n q : ℕ) (v : Option ℕ) → IsSome (at ps q) → IsSome (at (put ps n v) q)

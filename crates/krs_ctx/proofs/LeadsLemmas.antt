@@ -1,5 +1,5 @@
 -- From what contexts answer to what an ask of a store comes to: for the store's own asks.
-use Rattle.std.proofs.Common.{◌≡◌, ℕ, [], Result, Ok, Err, refl, sym, subst}
+use Rattle.std.proofs.Common.{◌≡◌, ℕ, Result, Ok, Err, refl, sym, subst}
 use Rattle.std.specs.Result.{IsErrAnd}
 use Rattle.krs_types.specs.declared.errno.Errno.{Errno}
 use Rattle.krs_types.specs.declared.fault.Fault.{Fault}
@@ -7,9 +7,9 @@ use Rattle.krs_types.specs.declared.fault.Fault.TheVariants.{Memory, Refused}
 use Rattle.krs_types.specs.declared.ask.Answer.{Answer}
 use Rattle.krs_model.specs.State.{State}
 use Rattle.krs_model.specs.Outcome.{Outcome, Leads}
-use Rattle.krs_model.specs.Asks.Leaving.{left, queues_without}
+use Rattle.krs_model.specs.Queues.{queues_without}
+use Rattle.krs_model.specs.Asks.Leaving.{left}
 use Rattle.krs_ctx.specs.Anchors.{Anchors, anchored, anchors_of}
-use Rattle.krs_ctx.specs.Told.{Enters, Does}
 
 pub leads_refused : (s : State) (old new : Anchors) (r : Result Answer Fault) (e : Errno) (meant : State → Outcome)
     → IsErrAnd r (λ f. f ≡ Refused e) → ((q : State) → meant (anchored q old) ≡ Err e) → new ≡ old
@@ -25,25 +25,6 @@ leads_memory s old new (Ok x) meant is same = absurd is
 leads_memory s old new (Err f) meant is same =
     subst (λ (g : Fault). Leads (anchored s old) (Err g) (anchored s new) (meant (anchored s old))) (sym is)
     (tt, rw same refl)
-
--- a fault of HELLO, THREAD or FORK that `?` hands on
-pub enters_leads : (s : State) (old new : Anchors) (r : Result Answer Fault) (x : Fault) (meant : State → Outcome)
-    → IsErrAnd r (λ f. f ≡ x) → Enters old (Err x) new meant
-    → Leads (anchored s old) r (anchored s new) (meant (anchored s old))
-enters_leads s old new r Memory meant is enters = leads_memory s old new r meant is enters.1
-enters_leads s old new r (Refused e) meant is enters = leads_refused s old new r e meant is enters.0 enters.1
-
--- a refusal of EXEC or EXIT that `?` hands on
-pub does_leads : (s : State) (old new : Anchors) (r : Result Answer Fault) (e : Errno) (meant : State → Outcome)
-    → IsErrAnd r (λ f. f ≡ Refused e) → Does old (Err e) new meant
-    → Leads (anchored s old) r (anchored s new) (meant (anchored s old))
-does_leads s old new r e meant is does = leads_refused s old new r e meant is does.0 does.1
-
--- LEAVE, in a store with no queues
-pub left_anchored : (s : State) (old new : Anchors) (client : ℕ) → s.queues ≡ [] → s.watches ≡ []
-    → new ≡ anchors_of (left (anchored s old) client) → left (anchored s old) client ≡ anchored s new
-unfolding left
-left_anchored s old new client queues watches is = rw (is, queues, watches) refl
 
 -- LEAVE, in any store: its contexts are those that are told, and its queues and watches end by themselves
 pub left_whole : (s : State) (old new : Anchors) (client : ℕ) → new ≡ anchors_of (left (anchored s old) client)

@@ -26,7 +26,7 @@ use Rattle.krs_model.proofs.Choosing.{closed_held}
 use Rattle.krs_keys.specs.declared.key.Key.{Key}
 use Rattle.krs_keys.specs.Keys.{seen, shown}
 use Rattle.krs_keys.specs.Kept.{KeepsAnchored, Sweeps}
-use Rattle.krs_keys.proofs.SlotsLemmas.{keys_map}
+use Rattle.krs_keys.proofs.TableLemmas.{keys_map}
 use Rattle.krs_hold.specs.declared.counts.Count.{Count}
 use Rattle.krs_hold.specs.Tally.{times, all_links}
 use Rattle.krs_hold.specs.Chain.{holders_at, IsChain, IsChained, Spares}

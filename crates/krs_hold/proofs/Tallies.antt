@@ -151,14 +151,6 @@ tallied_relinked keys attached due owed numbers j f v found same h = record {
       omega (arith, was, both, split);
 }
 
--- a serial that has no number is neither attached nor linked
-pub unheld : (keys : Table Key) (attached : List ℕ) (numbers : Table ℕ) (k : ℕ) → at numbers k ≡ None
-    → IsTallied keys attached [] numbers → times k attached + times k (all_links keys) ≡ 0
-unheld keys attached numbers k none h =
-    let was : number_at numbers k ≡ 0 + (times k attached + times k (all_links keys)) = h.exact k in
-    let here : number_at numbers k ≡ 0 = ap (λ (o : Option ℕ). unwrap_or o 0) none in
-    omega (arith, was, here)
-
 -- one list after the other
 pub all_less-append :
     (xs ys : List ℕ) (numbers : Table ℕ) → all_less (xs ++ ys) numbers ≡ all_less ys (all_less xs numbers)

@@ -1,17 +1,14 @@
 -- What a change of a key comes to in the definitions, and which links it leaves.
-use Rattle.std.proofs.Common.{◌≡◌, ℕ, List, [], ◌∷◌, Option, Some, true, false, refl}
-use Rattle.std.proofs.lemmas.Bool.{true≢false}
+use Rattle.std.proofs.Common.{◌≡◌, ℕ, List, Option, refl}
 use Rattle.krs_types.specs.declared.name.Name.{Name}
 use Rattle.krs_model.specs.Table.{Table, alter}
-use Rattle.krs_model.specs.Possession.{links_of}
-use Rattle.krs_model.specs.Levels.{is_in}
 use Rattle.krs_keys.specs.declared.key.Key.{Key}
 use Rattle.krs_keys.specs.declared.key.Content.{Content}
 use Rattle.krs_keys.specs.declared.key.Content.TheVariants.{Payload, Links}
 use Rattle.krs_keys.specs.declared.key.Change.{Change}
 use Rattle.krs_keys.specs.declared.key.Change.TheVariants as change
-use Rattle.krs_keys.specs.Keys.{content_links, name_at, AreNamed, AreFit, seen, seen_content}
-use Rattle.krs_keys.specs.Changes.{changed, meant_change, paid_with, emptied, cleared_content, lets_go}
+use Rattle.krs_keys.specs.Keys.{content_links, name_at, AreNamed, AreFit, seen}
+use Rattle.krs_keys.specs.Changes.{changed, meant_change, paid_with, emptied, cleared_content}
 use Rattle.krs_keys.proofs.Fitting.{fit_alter}
 
 paid_seen : (payload : List ℕ) (key : Key) (content : Content) → seen (changed (change.Payload payload) (record key { content = content })) ≡ meant_change (change.Payload payload) (seen (record key { content = content }))
@@ -67,26 +64,3 @@ changed_named names change.Cleared key named = cleared_named names key.content n
 pub fit_changed : (keys : Table Key) (k : ℕ) (c : Change) → AreFit keys → AreFit (alter keys k (changed c))
 fit_changed keys k c fit =
     fit_alter keys k (changed c) (name-changed c) (λ v there. changed_named (name_at keys) c v (fit k v there)) fit
-
-paid_links : (payload : List ℕ) (content : Content) (q : ℕ) → is_in q (links_of (seen_content content)) ≡ true → is_in q (links_of (seen_content (paid_with payload content))) ≡ true
-paid_links payload (Payload old) q h = h
-paid_links payload (Links links) q h = h
-
-ended_links : (key : Key) (content : Content) (q : ℕ) → lets_go change.Revoked (Some (record key { content = content })) ≡ false → is_in q (links_of (seen_content content)) ≡ true → is_in q (links_of (seen_content (emptied content))) ≡ true
-ended_links key (Payload old) q kept h = h
-ended_links key (Links []) q kept h = h
-ended_links key (Links (link ∷ links)) q kept h = absurd (true≢false kept)
-
-cleared_links : (key : Key) (content : Content) (q : ℕ) → lets_go change.Cleared (Some (record key { content = content })) ≡ false → is_in q (links_of (seen_content content)) ≡ true → is_in q (links_of (seen_content (cleared_content content))) ≡ true
-cleared_links key (Payload old) q kept h = h
-cleared_links key (Links []) q kept h = h
-cleared_links key (Links (link ∷ links)) q kept h = absurd (true≢false kept)
-
--- a change that lets go of nothing leaves every link
-pub links_left : (c : Change) (key : Key) (q : ℕ) → lets_go c (Some key) ≡ false → is_in q (links_of (seen_content key.content)) ≡ true → is_in q (links_of (seen_content (changed c key).content)) ≡ true
-links_left (change.Payload payload) key q kept h = paid_links payload key.content q h
-links_left (change.Mask mask) key q kept h = h
-links_left (change.Owner uid gid) key q kept h = h
-links_left (change.Expiry expiry) key q kept h = h
-links_left change.Revoked key q kept h = ended_links key key.content q kept h
-links_left change.Cleared key q kept h = cleared_links key key.content q kept h

@@ -15,6 +15,7 @@ use Rattle.krs_links.proofs.LinksLemmas.{linked_as-linked_other}
 use Rattle.krs_model.specs.Levels.{is_in}
 use Rattle.krs_model.proofs.Levels.{same_is, or_true}
 use Rattle.krs_keys.specs.Keys.{content_links, name_at, AreNamed, AreFit}
+use Rattle.krs_keys.proofs.TableLemmas.{mapped_some, was_there}
 
 -- names that are there before are there after
 abbrev pub NamesStay : (ℕ → Option Name) → (ℕ → Option Name) → Type 0
@@ -72,25 +73,6 @@ found_in name serial (link ∷ links) h =
       | false ↦ λ there. or_true (link.1 == serial) (is_in serial (serials links)) (found_in name serial links there)
     ] h
 
--- a key that is linked is found by its name
-pub in_found : (names : ℕ → Option Name) (name : Name) (serial : ℕ) (links : LinkList) → names serial ≡ Some name → AreNamed names links → is_in serial (serials links) ≡ true → linked_as links name ≡ Some serial
-in_found names name serial [] there named h = absurd (true≢false (sym h))
-in_found names name serial (link ∷ links) there named h =
-    elim (link.1 == serial) as (λ b. (link.1 == serial) ≡ b → (b || is_in serial (serials links)) ≡ true → linked_as (link ∷ links) name ≡ Some serial) [
-      | true ↦ λ t i.
-          let one : link.1 ≡ serial = eqb-true link.1 serial t in
-          let same : name ≡ link.0 = same_Some name link.0 (sym there ∙ (ap names (sym one) ∙ named.0)) in
-          let first : same_name name link.0 ≡ true = ap (same_name name) (sym same) ∙ same_name_equiv.refl name in
-          rw first (ap (λ k. Some k) one)
-      | false ↦ λ t i.
-          let rest : linked_as links name ≡ Some serial = in_found names name serial links there named.1 i in
-          let other : same_name name link.0 ≡ false = elim (same_name name link.0) as (λ d. same_name name link.0 ≡ d → d ≡ false) [
-            | true ↦ λ same. absurd (none-some serial (sym named.2 ∙ (ap (linked_as links) (sym (equal_names name link.0 same)) ∙ rest)))
-            | false ↦ λ q. refl
-          ] refl in
-          rw other rest
-    ] refl h
-
 map_name : (f : Key → Key) → ((v : Key) → (f v).name ≡ v.name) → (o : Option Key) (name : Name) → option_map (λ key. key.name) o ≡ Some name → option_map (λ key. key.name) (option_map f o) ≡ Some name
 map_name f same None name h = h
 map_name f same (Some key) name h = ap (λ n. Some n) (same key) ∙ h
@@ -104,10 +86,6 @@ pub names_put : (keys : Table Key) (k : ℕ) (new : Key) → at keys k ≡ None 
 names_put keys k new none q name h =
     ⊎_elim (λ (e : q ≡ k). absurd (none-some name (sym (ap (option_map (λ key. key.name)) none) ∙ subst (λ (z : ℕ). name_at keys z ≡ Some name) e h)))
     (λ apart. ap (option_map (λ key. key.name)) (at_put_other keys k q new apart) ∙ h) (at_or_apart q k)
-
-mapped_some : (f : Key → Key) (o : Option Key) (key : Key) → option_map f o ≡ Some key → (v : Key) × (o ≡ Some v) × (f v ≡ key)
-mapped_some f None key h = absurd (none-some key h)
-mapped_some f (Some v) key h = (v, refl, same_Some (f v) key h)
 
 -- a change of one key that keeps its name and names its links
 pub fit_alter : (keys : Table Key) (k : ℕ) (f : Key → Key) → ((v : Key) → (f v).name ≡ v.name) → ((v : Key) → at keys k ≡ Some v → AreNamed (name_at keys) (content_links (f v).content)) → AreFit keys → AreFit (alter keys k f)
@@ -131,10 +109,6 @@ named_kept : (keys : Table Key) (kept : ℕ → Bool) (links : LinkList) → Lin
 named_kept keys kept [] stay named = tt
 named_kept keys kept (link ∷ links) stay named =
     (ap (option_map (λ key. key.name)) (at_kept kept keys link.1 ∙ ap (λ b. cond b (at keys link.1) None) stay.0) ∙ named.0, named_kept keys kept links stay.1 named.1, named.2)
-
-was_there : (b : Bool) (o : Option Key) (key : Key) → cond b o None ≡ Some key → (b ≡ true) × (o ≡ Some key)
-was_there true o key h = (refl, h)
-was_there false o key h = absurd (none-some key h)
 
 -- the kept keys, whose links are kept
 pub fit_kept : (keys : Table Key) (kept : ℕ → Bool) → ((j : ℕ) (key : Key) → at keys j ≡ Some key → kept j ≡ true → LinksKept kept (content_links key.content)) → AreFit keys → AreFit (filter (λ e. kept e.0) keys)

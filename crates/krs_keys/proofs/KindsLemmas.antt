@@ -1,7 +1,6 @@
 -- Each key holds what keys of its type hold.
-use Rattle.std.proofs.Common.{◌≡◌, ℕ, Option, Some, None, Bool, true, false, cond, filter, List, refl, ◌∙◌, sym, subst, ⊎_elim}
-use Rattle.std.specs.Option.{option_map}
-use Rattle.std.proofs.lemmas.Option.{none-some, same_Some}
+use Rattle.std.proofs.Common.{◌≡◌, ℕ, Some, Bool, filter, List, ◌∙◌, sym, subst, ⊎_elim}
+use Rattle.std.proofs.lemmas.Option.{same_Some}
 use Rattle.krs_types.specs.declared.kind.Kind.{Kind}
 use Rattle.krs_types.specs.declared.name.Name.{Name}
 use Rattle.krs_model.specs.Table.{Table, at, put, alter}
@@ -13,14 +12,11 @@ use Rattle.krs_keys.specs.declared.key.Change.{Change}
 use Rattle.krs_keys.specs.declared.key.Change.TheVariants as change
 use Rattle.krs_keys.specs.Keys.{IsOfKind, AreOfKind, with_entry, entered, without_key, keyless_content}
 use Rattle.krs_keys.specs.Changes.{changed, paid_with, emptied, cleared_content}
+use Rattle.krs_keys.proofs.TableLemmas.{mapped_some, was_there}
 
 -- a change that keeps a key of its kind
 abbrev pub KeepsKind : (Key → Key) → Type 0
 KeepsKind f = (v : Key) → IsOfKind v.name.kind v.content → IsOfKind (f v).name.kind (f v).content
-
-mapped_some : (f : Key → Key) (o : Option Key) (key : Key) → option_map f o ≡ Some key → (v : Key) × (o ≡ Some v) × (f v ≡ key)
-mapped_some f None key h = absurd (none-some key h)
-mapped_some f (Some v) key h = (v, refl, same_Some (f v) key h)
 
 pub kinds_alter : (keys : Table Key) (k : ℕ) (f : Key → Key) → KeepsKind f → AreOfKind keys → AreOfKind (alter keys k f)
 kinds_alter keys k f keeps kinds q key h =
@@ -33,12 +29,8 @@ kinds_put keys k new is kinds q key h =
     ⊎_elim (λ (e : q ≡ k). subst (λ (v : Key). IsOfKind v.name.kind v.content) (same_Some new key (sym (at_put_same keys k new) ∙ subst (λ (z : ℕ). at (put keys k new) z ≡ Some key) e h)) is)
     (λ apart. kinds q key (sym (at_put_other keys k q new apart) ∙ h)) (at_or_apart q k)
 
-was_there : (b : Bool) (o : Option Key) (key : Key) → cond b o None ≡ Some key → o ≡ Some key
-was_there true o key h = h
-was_there false o key h = absurd (none-some key h)
-
 pub kinds_kept : (keys : Table Key) (kept : ℕ → Bool) → AreOfKind keys → AreOfKind (filter (λ e. kept e.0) keys)
-kinds_kept keys kept kinds q key h = kinds q key (was_there (kept q) (at keys q) key (sym (at_kept kept keys q) ∙ h))
+kinds_kept keys kept kinds q key h = kinds q key (was_there (kept q) (at keys q) key (sym (at_kept kept keys q) ∙ h)).1
 
 paid_kind : (kind : Kind) (payload : List ℕ) (content : Content) → IsOfKind kind content → IsOfKind kind (paid_with payload content)
 paid_kind kind payload (Payload old) is = is

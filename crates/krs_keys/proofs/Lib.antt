@@ -1,6 +1,5 @@
-pub mod Marks
 pub mod KeysLemmas
-pub mod SlotsLemmas
+pub mod TableLemmas
 pub mod Fitting
 pub mod ChangesLemmas
 pub mod KindsLemmas

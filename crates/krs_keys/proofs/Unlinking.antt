@@ -2,7 +2,6 @@
 use Rattle.std.proofs.Common.{◌≡◌, ℕ, ◌==◌, [], ◌∷◌, Option, Some, None, true, false, cond, not}
 use Rattle.std.proofs.Common.{refl, ap, ◌∙◌, sym, subst}
 use Rattle.std.specs.Option.{option_map}
-use Rattle.std.proofs.lemmas.Option.{none-some, same_Some}
 use Rattle.krs_types.specs.declared.name.Name.{Name}
 use Rattle.krs_links.specs.Links.{LinkList, unlinked_key}
 use Rattle.krs_links.proofs.KeyLinks.{serials-unlinked_key, linked_as-unlinked_key}
@@ -17,6 +16,7 @@ use Rattle.krs_keys.specs.Keys.{seen, shown, content_links, keyless_content, wit
 use Rattle.krs_keys.specs.Keys.{name_at, AreNamed, AreFit, IsOfKind, AreOfKind}
 use Rattle.krs_keys.proofs.Fitting.{named_on, fit_alter}
 use Rattle.krs_keys.proofs.KindsLemmas.{keyless_kind}
+use Rattle.krs_keys.proofs.TableLemmas.{mapped_some}
 
 seen_keyless :
     (serial : ℕ) (key : Key) (content : Content)
@@ -83,11 +83,6 @@ name-without_key :
     (serial : ℕ) (keys : Table Key) (k : ℕ) → name_at (map_values (without_key serial) keys) k ≡ name_at keys k
 name-without_key serial keys k =
     ap (option_map (λ (key : Key). key.name)) (at_map (without_key serial) keys k) ∙ name_kept serial (at keys k)
-
-mapped_some :
-    (f : Key → Key) (o : Option Key) (key : Key) → option_map f o ≡ Some key → (v : Key) × (o ≡ Some v) × (f v ≡ key)
-mapped_some f None key h = absurd (none-some key h)
-mapped_some f (Some v) key h = (v, refl, same_Some (f v) key h)
 
 -- the key of which that at a serial comes
 came_from :

@@ -1,5 +1,5 @@
 -- Changes of a key as it is kept, and as the definitions see them.
-use Rattle.std.specs.Prelude.{ℕ, List, [], ◌∷◌, Bool, true, false, Option, None, Some}
+use Rattle.std.specs.Prelude.{ℕ, List, [], ◌∷◌, Bool, true, false, None}
 use Rattle.krs_model.specs.State as model
 use Rattle.krs_model.specs.Asks.Changing as meant
 use Rattle.krs_model.specs.Asks.Linked.{cleared}
@@ -44,14 +44,3 @@ abbrev pub links_some : Content → Bool
 links_some (Payload bytes) = false
 links_some (Links []) = false
 links_some (Links (link ∷ links)) = true
-
--- a change after which a keyring links less
-abbrev pub lets_go : Change → Option Key → Bool
-lets_go change.Revoked (Some key) = links_some key.content
-lets_go change.Revoked None = false
-lets_go change.Cleared (Some key) = links_some key.content
-lets_go change.Cleared None = false
-lets_go (change.Payload payload) key = false
-lets_go (change.Mask mask) key = false
-lets_go (change.Owner uid gid) key = false
-lets_go (change.Expiry expiry) key = false

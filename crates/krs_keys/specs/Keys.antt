@@ -100,7 +100,9 @@ displaced_at keys ring name = displaced_by name (at keys ring)
 
 -- a link's name finds the key of that name among what a keyring links
 abbrev pub FindsByName : Table model.Key → Key → Type 0
-FindsByName keys key = (name : Name) → link_named keys name (serials (content_links key.content)) ≡ linked_as (content_links key.content) name
+FindsByName keys key =
+    (name : Name)
+    → link_named keys name (serials (content_links key.content)) ≡ linked_as (content_links key.content) name
 
 -- the least serial of a keyring that a caller may join by this description: profile, joining by name
 abbrev pub joinable_in : ℕ → Caller → List ℕ → Table Key → Option ℕ

@@ -2,4 +2,3 @@ pub mod Keys
 pub mod Changes
 pub mod Table
 pub mod Kept
-pub mod Marks

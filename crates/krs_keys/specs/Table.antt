@@ -1,36 +1,43 @@
 -- What a table of keys is seen as.
-use Rattle.std.specs.Prelude.{◌≡◌, ◌⊎◌, ℕ, ◌+◌, nat_lt, cond, if◌then◌else◌}
+use Rattle.std.specs.Prelude.{◌≡◌, ◌⊎◌, ℕ, ◌+◌, ◌≤◌, nat_lt, cond, if◌then◌else◌}
 use Rattle.krs_types.specs.declared.name.Name.{Name}
 use Rattle.krs_links.specs.Links.{link_error}
-use Rattle.krs_keys.specs.Keys.{links_at}
+use Rattle.krs_keys.specs.Keys.{links_at, with_entry}
 use Rattle.krs_types.specs.declared.errno.Errno.{Errno}
 use Rattle.krs_types.specs.declared.errno.Errno.TheVariants.{ENOSPC, ENOMEM}
-use Rattle.krs_model.specs.Table.{Table, put, map_values}
+use Rattle.krs_model.specs.Table.{Table, put, alter}
 use Rattle.krs_keys.specs.declared.key.Key.{Key}
-use Rattle.krs_keys.specs.declared.key_table.Slot.{Slot}
 
 -- the keys by serial, and the serial that comes next
 pub record Keys : Type 0 where
   pub keys : Table Key
   pub next : ℕ
 
--- the keys without their marks
-abbrev pub unmarked : Table Slot → Table Key
-unmarked es = map_values (λ slot. slot.key) es
-
 -- one more key, under the next serial
 abbrev pub with_key : Keys → Key → Keys
 with_key t key = record { keys = put t.keys t.next key; next = t.next + 1 }
+
+-- one more key, under the next serial, which a keyring links under this name
+abbrev pub with_linked_key : Keys → ℕ → Name → Key → Keys
+with_linked_key t ring name key = record {
+  keys = alter (put t.keys t.next key) ring (with_entry name t.next);
+  next = t.next + 1;
+}
+
+-- serials are left for that many more keys: profile, serials run out
+abbrev pub AreLeft : ℕ → ℕ → Type 0
+AreLeft next count = next + count ≤ 2147483648
 
 -- why that many more keys are refused: no serial is left for them, or there is no memory. Profile, serials run out
 abbrev pub insert_error : ℕ → ℕ → Errno
 insert_error next count = if nat_lt 2147483648 (next + count) then ENOSPC else ENOMEM
 
--- why a new key that a keyring is to link is refused, where a serial is left: want of memory, for it or for the link, or the
--- keyring is full
+-- why a new key that a keyring is to link is refused, where a serial is left: want of memory, for it or for the link,
+-- or the keyring is full
 abbrev pub IsLinkError : Table Key → ℕ → Name → Errno → Type 0
 IsLinkError keys ring name error = (error ≡ ENOMEM) ⊎ (error ≡ link_error (links_at keys ring) name)
 
 -- no serial is left; else as above
 abbrev pub IsLinkedError : Table Key → ℕ → ℕ → Name → Errno → Type 0
-IsLinkedError keys next ring name error = cond (nat_lt 2147483647 next) (error ≡ ENOSPC) (IsLinkError keys ring name error)
+IsLinkedError keys next ring name error =
+    cond (nat_lt 2147483647 next) (error ≡ ENOSPC) (IsLinkError keys ring name error)

@@ -76,8 +76,8 @@ impl Key {
         self.perm.grants(caller, self.uid, self.gid, possessed)
     }
 
-    /// Whether a caller may join it by this name: a keyring of that description which JOIN made, which is alive, and which
-    /// grants SEARCH without possession. keyctl(2), KEYCTL_JOIN_SESSION_KEYRING; profile, joining by name.
+    /// Whether a caller may join it by this name: a keyring of that description which JOIN made, which is alive, and
+    /// which grants SEARCH without possession. keyctl(2), KEYCTL_JOIN_SESSION_KEYRING; profile, joining by name.
     pub fn is_joinable(&self, desc: &[u8], caller: &Caller, clock: u64) -> bool
         ensures { result ≡ is_joinable clock caller.now desc.now (seen self.now) }
     {

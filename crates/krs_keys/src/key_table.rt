@@ -1,20 +1,18 @@
-ghost use Rattle.std.specs.Prelude.{◌≡◌, ◌+◌, ◌≤◌, ◌++◌, None, false, [], length};
+ghost use Rattle.std.specs.Prelude.{◌≡◌, ◌+◌, ◌<◌, None, false, [], length};
 ghost use Rattle.std.specs.Prelude.{IfOk, IfErr, OnOk, OnErr, option_copied};
 ghost use Rattle.std.specs.List.Sorted.{IsStrictlySortedBy};
 ghost use Rattle.std.specs.Map.{keys_of};
 ghost use Rattle.std.specs.Ordering.{nat_cmp};
 ghost use Rattle.krs_model.specs.Table.{at, put, without, alter, map_values, IsBelow};
-ghost use Rattle.krs_model.specs.Sweep.{context_roots, process_roots, uid_roots};
 ghost use Rattle.krs_keys.specs.Keys.{with_entry, without_key, displaced_at, links_at};
 ghost use Rattle.krs_links.specs.Links.{is_refused, link_error};
-ghost use Rattle.krs_keys.specs.Changes.{changed, lets_go};
-ghost use Rattle.krs_keys.specs.Table.{unmarked, with_key, insert_error, IsLinkError, IsLinkedError};
+ghost use Rattle.krs_keys.specs.Changes.{changed};
+ghost use Rattle.krs_keys.specs.Table.{with_key, with_linked_key, AreLeft};
+ghost use Rattle.krs_keys.specs.Table.{insert_error, IsLinkError, IsLinkedError};
 ghost use Rattle.krs_keys.specs.Keys.{joinable_in};
-ghost use Rattle.krs_keys.specs.Marks.{Sweeps};
 
-use crate::sweep::sweep;
 use crate::{Change, Key};
-use krs_types::{Caller, Context, Errno, Name, Serial, UidRings};
+use krs_types::{Caller, Errno, Name, Serial};
 use std::alloc::{AllocError, Global};
 use std::collections::BTreeMap;
 use std::marker::Model;
@@ -22,17 +20,10 @@ use std::marker::Model;
 /// The last serial that a key may get: profile, serials run out.
 const LAST_SERIAL: u32 = 2_147_483_647;
 
-/// A key, and whether a sweep has come to it.
-#[derive(Drop)]
-pub(crate) struct Slot {
-    pub(crate) key: Key,
-    pub(crate) mark: bool,
-}
-
 /// The keys by serial. Serials rise by one, and none is given twice.
 #[derive(Drop)]
 pub struct KeyTable {
-    slots: BTreeMap<u32, Slot>,
+    keys: BTreeMap<u32, Key>,
     next: u32,
 }
 
@@ -41,12 +32,11 @@ impl Model for KeyTable {
 
     ghost Value = { Keys };
 
-    ghost use Rattle.krs_keys.specs.Table.{unmarked};
     ghost use Rattle.krs_model.specs.Table.{IsBelow};
 
-    ghost view = { λ t. record { keys = unmarked t.slots.entries; next = t.next } };
+    ghost view = { λ t. record { keys = t.keys.entries; next = t.next } };
 
-    ghost invariant = { λ t. IsBelow (unmarked t.slots.entries) t.next };
+    ghost invariant = { λ t. IsBelow t.keys.entries t.next };
 }
 
 impl KeyTable {
@@ -55,7 +45,7 @@ impl KeyTable {
         ensures { result ≡ record { keys = []; next = next } }
     {
         KeyTable {
-            slots: BTreeMap::new(alloc),
+            keys: BTreeMap::new(alloc),
             next,
         }
     }
@@ -69,43 +59,39 @@ impl KeyTable {
     }
 
     /// How many keys there are. They stand by rising serial.
-    #[tactic(auto, using(crate::proofs::SlotsLemmas::length_map, crate::proofs::SlotsLemmas::keys_map))]
     pub fn len(&self) -> usize
         ensures len { result ≡ length self.now.keys }
         ensures ordered { IsStrictlySortedBy nat_cmp (keys_of self.now.keys) }
     {
-        self.slots.len()
+        self.keys.len()
     }
 
     /// The key at a serial.
-    #[tactic(auto, using(krs_model::proofs::Tables::at_map))]
     pub fn get(&self, serial: Serial) -> Option<&Key>
         ensures { option_copied result ≡ at self.now.keys serial }
     {
-        match self.slots.get(&serial.number()) {
-            Some(slot) => Some(&slot.key),
-            None => None,
-        }
+        self.keys.get(&serial.number())
     }
 
     /// The keyring of the least serial that a caller may join by this name: keyctl(2), KEYCTL_JOIN_SESSION_KEYRING.
     pub fn joinable(&self, desc: &[u8], caller: &Caller, clock: u64) -> Option<Serial>
         ensures { result ≡ joinable_in clock caller.now desc.now self.now.keys }
     {
-        joinable_in(&self.slots, desc, caller, clock)
+        joinable_in(&self.keys, desc, caller, clock)
     }
 
     /// One more key, under the next serial, which is answered: ENOSPC, ENOMEM.
     pub fn insert(&mut self, key: Key) -> Result<Serial, Errno>
         ensures serial { IfOk result (λ n. n ≡ self.old.next) }
         ensures ok { OnOk result (self.new ≡ with_key self.old key) }
+        ensures left { OnOk result (AreLeft self.old.next 1) }
         ensures error { IfErr result (λ e. e ≡ insert_error self.old.next 1) }
         ensures err { OnErr result (self.new ≡ self.old) }
     {
         if self.next > LAST_SERIAL {
             return Err(Errno::ENOSPC);
         }
-        match put_in(&mut self.slots, self.next, key) {
+        match put_in(&mut self.keys, self.next, key) {
             Ok(()) => {
                 let serial = Serial::new(self.next);
                 self.next += 1;
@@ -115,17 +101,19 @@ impl KeyTable {
         }
     }
 
-    /// Two more keys, under consecutive serials, the first of which is answered: ENOSPC, ENOMEM. A refusal leaves neither.
+    /// Two more keys, under consecutive serials, the first of which is answered: ENOSPC, ENOMEM. A refusal leaves
+    /// neither.
     pub fn insert_two(&mut self, first: Key, second: Key) -> Result<Serial, Errno>
         ensures serial { IfOk result (λ n. n ≡ self.old.next) }
         ensures ok { OnOk result (self.new ≡ with_key (with_key self.old first) second) }
+        ensures left { OnOk result (AreLeft self.old.next 2) }
         ensures error { IfErr result (λ e. e ≡ insert_error self.old.next 2) }
         ensures err { OnErr result (self.new ≡ self.old) }
     {
         if self.next >= LAST_SERIAL {
             return Err(Errno::ENOSPC);
         }
-        match put_two(&mut self.slots, self.next, first, second) {
+        match put_two(&mut self.keys, self.next, first, second) {
             Ok(()) => {
                 let serial = Serial::new(self.next);
                 self.next += 2;
@@ -144,14 +132,17 @@ impl KeyTable {
         key: Key,
     ) -> Result<Option<Serial>, Errno>
         ensures displaced { IfOk result (λ old. old ≡ displaced_at (put self.old.keys self.old.next key) ring name) }
-        ensures ok { OnOk result (self.new ≡ record { keys = alter (put self.old.keys self.old.next key) ring (with_entry name self.old.next); next = self.old.next + 1 }) }
+        ensures ok { OnOk result (self.new ≡ with_linked_key self.old ring name key) }
+        ensures left { OnOk result (AreLeft self.old.next 1) }
+        ensures room { OnOk result (is_refused (links_at (put self.old.keys self.old.next key) ring) name ≡ false) }
         ensures error { IfErr result (IsLinkedError (put self.old.keys self.old.next key) self.old.next ring name) }
         ensures err { OnErr result (self.new ≡ self.old) }
     {
-        if self.next > LAST_SERIAL {
+        let serial = self.next;
+        if serial > LAST_SERIAL {
             return Err(Errno::ENOSPC);
         }
-        let displaced = put_linked(&mut self.slots, self.next, ring.number(), name, key)?;
+        let displaced = put_linked(&mut self.keys, serial, ring.number(), name, key)?;
         self.next += 1;
         Ok(displaced)
     }
@@ -164,12 +155,13 @@ impl KeyTable {
         serial: Serial,
     ) -> Result<Option<Serial>, Errno>
         ensures displaced { IfOk result (λ old. old ≡ displaced_at self.old.keys ring name) }
-        ensures ok { OnOk result (self.new ≡ record self.old { keys = alter self.old.keys ring (with_entry name serial) }) }
+        ensures ok { OnOk result (self.new
+            ≡ record self.old { keys = alter self.old.keys ring (with_entry name serial) }) }
         ensures room { OnOk result (is_refused (links_at self.old.keys ring) name ≡ false) }
         ensures error { IfErr result (λ e. e ≡ link_error (links_at self.old.keys ring) name) }
         ensures err { OnErr result (self.new ≡ self.old) }
     {
-        let displaced = link_in(&mut self.slots, ring.number(), name, serial)?;
+        let displaced = link_in(&mut self.keys, ring.number(), name, serial)?;
         Ok(displaced)
     }
 
@@ -177,31 +169,21 @@ impl KeyTable {
     pub fn unlink(&mut self, ring: Serial, serial: Serial)
         ensures { self.new ≡ record self.old { keys = alter self.old.keys ring (without_key serial) } }
     {
-        unlink_in(&mut self.slots, ring.number(), serial);
+        unlink_in(&mut self.keys, ring.number(), serial);
     }
 
     /// Takes a key out of all keyrings. It takes no memory. keyctl(2), KEYCTL_INVALIDATE.
     pub fn unlink_all(&mut self, serial: Serial)
         ensures { self.new ≡ record self.old { keys = map_values (without_key serial) self.old.keys } }
     {
-        unlink_all_in(&mut self.slots, serial);
-    }
-
-    /// Whether a change of the key at a serial takes a link out.
-    pub fn lets_go(&self, serial: Serial, change: &Change) -> bool
-        ensures { result ≡ lets_go change.now (at self.now.keys serial) }
-    {
-        match (change, self.get(serial)) {
-            (Change::Revoked | Change::Cleared, Some(key)) => key.content.links_some(),
-            _ => false,
-        }
+        unlink_all_in(&mut self.keys, serial);
     }
 
     /// Changes the key at a serial, where there is one.
     pub fn set(&mut self, serial: Serial, change: Change)
         ensures { self.new ≡ record self.old { keys = alter self.old.keys serial (changed change) } }
     {
-        change_in(&mut self.slots, serial.number(), change);
+        change_in(&mut self.keys, serial.number(), change);
     }
 
     /// Takes out the key at a serial, which no key gets again, and answers it.
@@ -210,76 +192,58 @@ impl KeyTable {
         ensures keys { self.new ≡ record self.old { keys = without self.old.keys serial } }
         ensures gone { at self.new.keys serial ≡ None }
     {
-        take_out(&mut self.slots, serial.number())
-    }
-
-    /// Just the keys stay that are attached, or linked by what stays.
-    pub fn sweep(
-        &mut self,
-        contexts: &BTreeMap<u32, Context>,
-        processes: &BTreeMap<u32, Option<Serial>>,
-        uids: &BTreeMap<u32, UidRings>,
-    )
-        ensures keys { Sweeps (context_roots contexts.now.entries ++ (process_roots processes.now.entries ++ uid_roots uids.now.entries)) self.old.keys self.new.keys }
-        ensures next { self.new.next ≡ self.old.next }
-    {
-        sweep(&mut self.slots, contexts, processes, uids);
+        take_out(&mut self.keys, serial.number())
     }
 }
 
 fn joinable_in(
-    slots: &BTreeMap<u32, Slot>,
+    keys: &BTreeMap<u32, Key>,
     desc: &[u8],
     caller: &Caller,
     clock: u64,
 ) -> Option<Serial>
-    ensures { result ≡ joinable_in clock caller.now desc.now (unmarked slots.now.entries) }
+    ensures { result ≡ joinable_in clock caller.now desc.now keys.now.entries }
 {
-    for (serial, slot) in slots {
-        if slot.key.is_joinable(desc, caller, clock) {
+    for (serial, key) in keys {
+        if key.is_joinable(desc, caller, clock) {
             return Some(Serial::new(*serial));
         }
     }
     None
 }
 
-#[tactic(auto, using(krs_model::proofs::Tables::put_map))]
-fn put_in(slots: &mut BTreeMap<u32, Slot>, serial: u32, key: Key) -> Result<(), AllocError>
-    ensures ok { OnOk result (unmarked slots.new.entries ≡ put (unmarked slots.old.entries) serial key) }
-    ensures err { OnErr result (slots.new.entries ≡ slots.old.entries) }
+fn put_in(keys: &mut BTreeMap<u32, Key>, serial: u32, key: Key) -> Result<(), AllocError>
+    ensures ok { OnOk result (keys.new.entries ≡ put keys.old.entries serial key) }
+    ensures err { OnErr result (keys.new.entries ≡ keys.old.entries) }
 {
-    slots.insert(serial, Slot { key, mark: false })?;
+    keys.insert(serial, key)?;
     Ok(())
 }
 
-#[tactic(auto, using(krs_model::proofs::Tables::without_map, krs_model::proofs::Tables::at_map))]
-fn take_out(slots: &mut BTreeMap<u32, Slot>, serial: u32) -> Option<Key>
-    ensures key { result ≡ at (unmarked slots.old.entries) serial }
-    ensures keys { unmarked slots.new.entries ≡ without (unmarked slots.old.entries) serial }
-    ensures gone { at (unmarked slots.new.entries) serial ≡ None }
+fn take_out(keys: &mut BTreeMap<u32, Key>, serial: u32) -> Option<Key>
+    ensures key { result ≡ at keys.old.entries serial }
+    ensures keys { keys.new.entries ≡ without keys.old.entries serial }
+    ensures gone { at keys.new.entries serial ≡ None }
 {
-    match slots.remove(&serial) {
-        Some(slot) => Some(slot.key),
-        None => None,
-    }
+    keys.remove(&serial)
 }
 
 /// Two keys under consecutive serials. A refusal leaves neither.
 #[tactic(auto, using(krs_model::proofs::Tables::without_put))]
 fn put_two(
-    slots: &mut BTreeMap<u32, Slot>,
+    keys: &mut BTreeMap<u32, Key>,
     serial: u32,
     first: Key,
     second: Key,
 ) -> Result<(), AllocError>
-    requires fits { serial ≤ 2147483646 }
-    requires absent { at (unmarked slots.old.entries) serial ≡ None }
-    ensures ok { OnOk result (unmarked slots.new.entries ≡ put (put (unmarked slots.old.entries) serial first) (serial + 1) second) }
-    ensures err { OnErr result (unmarked slots.new.entries ≡ unmarked slots.old.entries) }
+    requires fits { serial < 4294967295 }
+    requires absent { at keys.old.entries serial ≡ None }
+    ensures ok { OnOk result (keys.new.entries ≡ put (put keys.old.entries serial first) (serial + 1) second) }
+    ensures err { OnErr result (keys.new.entries ≡ keys.old.entries) }
 {
-    put_in(slots, serial, first)?;
-    if put_in(slots, serial + 1, second).is_err() {
-        let _ = take_out(slots, serial);
+    put_in(keys, serial, first)?;
+    if put_in(keys, serial + 1, second).is_err() {
+        let _ = take_out(keys, serial);
         return Err(AllocError);
     }
     Ok(())
@@ -288,71 +252,73 @@ fn put_two(
 /// A key that a keyring links, and the serial that this displaces. A refusal leaves neither.
 #[tactic(auto, using(krs_model::proofs::Tables::without_put))]
 fn put_linked(
-    slots: &mut BTreeMap<u32, Slot>,
+    keys: &mut BTreeMap<u32, Key>,
     serial: u32,
     ring: u32,
     name: Name,
     key: Key,
 ) -> Result<Option<Serial>, Errno>
-    requires absent { at (unmarked slots.old.entries) serial ≡ None }
-    ensures displaced { IfOk result (λ old. old ≡ displaced_at (put (unmarked slots.old.entries) serial key) ring name) }
-    ensures ok { OnOk result (unmarked slots.new.entries ≡ alter (put (unmarked slots.old.entries) serial key) ring (with_entry name serial)) }
-    ensures error { IfErr result (IsLinkError (put (unmarked slots.old.entries) serial key) ring name) }
-    ensures err { OnErr result (unmarked slots.new.entries ≡ unmarked slots.old.entries) }
+    requires absent { at keys.old.entries serial ≡ None }
+    ensures displaced { IfOk result (λ old. old ≡ displaced_at (put keys.old.entries serial key) ring name) }
+    ensures ok { OnOk result (keys.new.entries
+        ≡ alter (put keys.old.entries serial key) ring (with_entry name serial)) }
+    ensures room { OnOk result (is_refused (links_at (put keys.old.entries serial key) ring) name ≡ false) }
+    ensures error { IfErr result (IsLinkError (put keys.old.entries serial key) ring name) }
+    ensures err { OnErr result (keys.new.entries ≡ keys.old.entries) }
 {
-    if put_in(slots, serial, key).is_err() {
+    if put_in(keys, serial, key).is_err() {
         return Err(Errno::ENOMEM);
     }
-    match link_in(slots, ring, name, Serial::new(serial)) {
+    match link_in(keys, ring, name, Serial::new(serial)) {
         Ok(displaced) => Ok(displaced),
         Err(error) => {
-            let _ = take_out(slots, serial);
+            let _ = take_out(keys, serial);
             Err(error)
         }
     }
 }
 
-fn change_in(slots: &mut BTreeMap<u32, Slot>, serial: u32, change: Change)
-    ensures { unmarked slots.new.entries ≡ alter (unmarked slots.old.entries) serial (changed change) }
+fn change_in(keys: &mut BTreeMap<u32, Key>, serial: u32, change: Change)
+    ensures { keys.new.entries ≡ alter keys.old.entries serial (changed change) }
 {
-    match slots.get_mut(&serial) {
-        Some(slot) => slot.key.change(change),
+    match keys.get_mut(&serial) {
+        Some(key) => key.change(change),
         None => {}
     }
 }
 
-fn unlink_in(slots: &mut BTreeMap<u32, Slot>, ring: u32, serial: Serial)
-    ensures { unmarked slots.new.entries ≡ alter (unmarked slots.old.entries) ring (without_key serial) }
+fn unlink_in(keys: &mut BTreeMap<u32, Key>, ring: u32, serial: Serial)
+    ensures { keys.new.entries ≡ alter keys.old.entries ring (without_key serial) }
 {
-    match slots.get_mut(&ring) {
-        Some(slot) => slot.key.unlink_key(serial),
+    match keys.get_mut(&ring) {
+        Some(key) => key.unlink_key(serial),
         None => {}
     }
 }
 
-fn unlink_all_in(slots: &mut BTreeMap<u32, Slot>, serial: Serial)
-    ensures { unmarked slots.new.entries ≡ map_values (without_key serial) (unmarked slots.old.entries) }
+fn unlink_all_in(keys: &mut BTreeMap<u32, Key>, serial: Serial)
+    ensures { keys.new.entries ≡ map_values (without_key serial) keys.old.entries }
 {
-    slots.retain(|_ring, slot| {
-        slot.key.unlink_key(serial);
+    keys.retain(|_ring, key| {
+        key.unlink_key(serial);
         true
     });
 }
 
 fn link_in(
-    slots: &mut BTreeMap<u32, Slot>,
+    keys: &mut BTreeMap<u32, Key>,
     ring: u32,
     name: Name,
     serial: Serial,
 ) -> Result<Option<Serial>, Errno>
-    ensures displaced { IfOk result (λ old. old ≡ displaced_at (unmarked slots.old.entries) ring name) }
-    ensures ok { OnOk result (unmarked slots.new.entries ≡ alter (unmarked slots.old.entries) ring (with_entry name serial)) }
-    ensures room { OnOk result (is_refused (links_at (unmarked slots.old.entries) ring) name ≡ false) }
-    ensures error { IfErr result (λ e. e ≡ link_error (links_at (unmarked slots.old.entries) ring) name) }
-    ensures err { OnErr result (unmarked slots.new.entries ≡ unmarked slots.old.entries) }
+    ensures displaced { IfOk result (λ old. old ≡ displaced_at keys.old.entries ring name) }
+    ensures ok { OnOk result (keys.new.entries ≡ alter keys.old.entries ring (with_entry name serial)) }
+    ensures room { OnOk result (is_refused (links_at keys.old.entries ring) name ≡ false) }
+    ensures error { IfErr result (λ e. e ≡ link_error (links_at keys.old.entries ring) name) }
+    ensures err { OnErr result (keys.new.entries ≡ keys.old.entries) }
 {
-    match slots.get_mut(&ring) {
-        Some(slot) => slot.key.link(name, serial),
+    match keys.get_mut(&ring) {
+        Some(key) => key.link(name, serial),
         None => Ok(None),
     }
 }

@@ -3,7 +3,6 @@
 
 mod key;
 mod key_table;
-mod sweep;
 
 pub use key::{Change, Content, Key};
 pub use key_table::KeyTable;

@@ -2,7 +2,6 @@ use crate::{Change, Content, Key, KeyTable};
 use krs_links::Links;
 use krs_types::{Blob, Body, Desc, Errno, Kind, Name, Perm, Serial};
 use std::alloc::{AllocError, Global};
-use std::collections::BTreeMap;
 use std::test::Fail;
 
 fn name(alloc: Global, kind: Kind, desc: &[u8]) -> Result<Name, AllocError> {
@@ -54,6 +53,13 @@ fn told(key: Option<&Key>) -> Option<(u32, u32, u32, Option<u64>, bool)> {
     }
 }
 
+fn links_some(key: Option<&Key>) -> bool {
+    match key {
+        Some(key) => key.content.links_some(),
+        None => false,
+    }
+}
+
 #[test]
 fn keys_rise_and_change(rt: HostRuntime) -> Result<(), Fail> {
     let alloc = rt.alloc();
@@ -98,15 +104,10 @@ fn a_link_displaces_its_match(rt: HostRuntime) -> Result<(), Fail> {
         assert!(rt; keys.insert_linked(ring, link, made) == Ok(displaced));
         assert!(rt; keys.next() == next);
     }
-    assert!(rt; keys.lets_go(ring, &Change::Revoked));
-    assert!(rt; !keys.lets_go(Serial::new(5), &Change::Revoked));
-    // Nothing is attached, so nothing stays.
-    keys.sweep(
-        &BTreeMap::new(alloc),
-        &BTreeMap::new(alloc),
-        &BTreeMap::new(alloc),
-    );
-    assert!(rt; told(keys.get(ring)).is_none());
+    assert!(rt; links_some(keys.get(ring)));
+    assert!(rt; !links_some(keys.get(Serial::new(5))));
+    keys.unlink(ring, Serial::new(5));
+    assert!(rt; !links_some(keys.get(ring)));
     assert!(rt; keys.next() == 6);
     Ok(())
 }

@@ -1,5 +1,5 @@
 -- In an acyclic state a closed choice is that of the held keys.
-use Rattle.std.proofs.Common.{◌≡◌, ℕ, zero, suc, ◌+◌, ◌≤◌, ◌==◌, ◌||◌, List, [], ◌∷◌, Option, Some, None, Bool}
+use Rattle.std.proofs.Common.{◌≡◌, ℕ, zero, suc, ◌+◌, ◌≤◌, ◌==◌, ◌||◌, List, [], ◌∷◌, Bool}
 use Rattle.std.proofs.Common.{true, false, length, refl, ◌∙◌, sym, subst, arith, inl, inr, ⊎_elim}
 use Rattle.std.specs.Option.{IsSome}
 use Rattle.std.specs.List.{AllByRecursion, IsDistinct, list_any}
@@ -13,27 +13,27 @@ use Rattle.std.proofs.lemmas.Map.Steps.{length-le_from_keys}
 use Rattle.krs_model.specs.Table.{Table, at}
 use Rattle.krs_model.specs.State.{Key}
 use Rattle.krs_model.specs.Levels.{is_in}
-use Rattle.krs_model.specs.Sweep.{IsHeld, Attached, Linked, PicksHeld, linked_by}
+use Rattle.krs_model.specs.Sweep.{IsHeld, Attached, Linked, PicksHeld}
 use Rattle.krs_model.specs.Reach.{Reaches, Directly, Further, IsAcyclic, links_in}
 use Rattle.krs_model.specs.Anchored.{IsAnchored, IsClosedChoice}
 use Rattle.krs_model.proofs.Tables.{same_at}
 use Rattle.krs_model.proofs.Levels.{or_true, same_is}
 use Rattle.krs_model.proofs.Reaching.{reaches_on}
+use Rattle.krs_model.proofs.Sweeps.{linking_is_there}
 
-linking_is_there : (k : ℕ) (o : Option Key) → is_in k (linked_by o) ≡ true → IsSome o
-linking_is_there k None h = absurd (true≢false (sym h))
-linking_is_there k (Some key) h = refl
-
-in_head : (k : ℕ) (ks : List ℕ) → is_in k (k ∷ ks) ≡ true
+-- the first of a list is in it
+pub in_head : (k : ℕ) (ks : List ℕ) → is_in k (k ∷ ks) ≡ true
 in_head k ks = rw (same_is k k refl) refl
 
-other_is : (x k : ℕ) → (x ≡ k → ⊥) → (x == k) ≡ false
+-- another number is not the same by test
+pub other_is : (x k : ℕ) → (x ≡ k → ⊥) → (x == k) ≡ false
 other_is x k h = elim (x == k) as (λ b. (x == k) ≡ b → b ≡ false) [
   | true ↦ λ t. absurd (h (grind (arith, nat_tests)))
   | false ↦ λ t. refl
 ] refl
 
-in_rest : (q k : ℕ) (ks : List ℕ) → (q ≡ k → ⊥) → is_in q (k ∷ ks) ≡ true → is_in q ks ≡ true
+-- what is in a list and is not its first is in the rest
+pub in_rest : (q k : ℕ) (ks : List ℕ) → (q ≡ k → ⊥) → is_in q (k ∷ ks) ≡ true → is_in q ks ≡ true
 in_rest q k ks n h = subst (λ b. (b || is_in q ks) ≡ true) (other_is k q (λ s. n (sym s))) h
 
 is_at_other : (q k : ℕ) → (q ≡ k → ⊥) → is_at (nat_cmp q) k ≡ false

@@ -1,14 +1,20 @@
 -- A reply leads to one state, and a history to one: what is called for of a queue and taken from it is determined.
-use Rattle.std.proofs.Common.{◌≡◌, ℕ, List, [], ◌∷◌, ◌++◌, map, Result, Ok, Err, refl, ap, ◌∙◌, sym, subst}
+-- So is the reply, want of memory aside.
+use Rattle.std.proofs.Common.{◌≡◌, ℕ, List, [], ◌∷◌, ◌++◌, map, true, Result, Ok, Err, refl, ap, ◌∙◌, sym, subst}
+use Rattle.std.proofs.Common.{⊎_elim}
+use Rattle.std.specs.Prelude.{◌≢◌}
 use Rattle.krs_types.specs.declared.errno.Errno.{Errno}
+use Rattle.krs_types.specs.declared.errno.Errno.TheVariants.{ENOMEM}
 use Rattle.krs_types.specs.declared.ask.Answer.{Answer}
+use Rattle.krs_types.specs.declared.ask.Ask.{Ask}
 use Rattle.krs_types.specs.declared.ask.Op.{Op}
 use Rattle.krs_types.specs.declared.event.Event.{Event}
 use Rattle.krs_types.specs.declared.note.Record.{Record}
 use Rattle.krs_model.specs.State.{State, raised}
 use Rattle.krs_model.specs.Sound.{IsSound}
 use Rattle.krs_model.specs.Sweep.{IsSweep}
-use Rattle.krs_model.specs.Step.{Step, Serves, Ends, posts_by}
+use Rattle.krs_model.specs.Outcome.{Outcome}
+use Rattle.krs_model.specs.Step.{Step, Serves, Ends, outcome_of, grows, posts_by}
 use Rattle.krs_model.specs.History.{IsLegal}
 use Rattle.krs_model.specs.Receiving.{called_for, Takes, HasMoves, NoMoves, FurtherMoves}
 use Rattle.krs_model.specs.Notes.Posting.{posted_in}
@@ -16,7 +22,7 @@ use Rattle.krs_model.specs.Notes.Stream.{Move, Posted, Took}
 use Rattle.krs_model.proofs.Sweeps.{one_sweep}
 use Rattle.krs_model.proofs.Coming.{same_state}
 use Rattle.krs_model.proofs.Soundness.{step_sound}
-use Rattle.krs_model.proofs.Receiving.{step_read, takes_some, takes_one}
+use Rattle.krs_model.proofs.ReadRecords.{step_read, takes_some, takes_one}
 
 -- an accepted ask leaves one state
 pub one_served :
@@ -39,6 +45,37 @@ pub one_step : (old a b : State) (event : Event) → Step old event a → Step o
 unfolding Step
 one_step old a b event f g =
     one_end (raised old event.moment) a b event.lane event.ask.context event.ask.op event.reply f g
+
+-- the reply of what an ask comes to
+abbrev replied : Outcome → Result Answer Errno
+replied (Ok done) = Ok done.1
+replied (Err e) = Err e
+
+reply_is :
+    (s new : State) (client context : ℕ) (op : Op) (reply : Result Answer Errno) → Ends s client context op reply new
+    → reply ≢ Err ENOMEM → reply ≡ replied (outcome_of s client context op)
+reply_is s new client context op (Ok answer) ends memory = sym (ap replied ends.meant)
+reply_is s new client context op (Err e) ends memory =
+    let error : Errno → Result Answer Errno = λ x. Err x in
+    ⊎_elim (λ (meant : outcome_of s client context op ≡ Err e). sym (ap replied meant))
+    (λ (wanting : (e ≡ ENOMEM) × (grows op ≡ true)). absurd (memory (ap error wanting.0))) ends.0
+
+-- what is asked of a state is answered with one reply, but for want of memory
+pub one_reply :
+    (old a b : State) (e f : Event) → e.lane ≡ f.lane → e.moment ≡ f.moment → e.ask ≡ f.ask → Step old e a
+    → Step old f b → e.reply ≢ Err ENOMEM → f.reply ≢ Err ENOMEM → e.reply ≡ f.reply
+unfolding Step
+one_reply old a b e f lane moment ask first second memory other =
+    let meant : ℕ → ℕ → Ask → Outcome = λ n at_moment asked.
+    outcome_of (raised old at_moment) n asked.context asked.op in
+    let this : e.reply ≡ replied (meant e.lane e.moment e.ask) =
+    reply_is (raised old e.moment) a e.lane e.ask.context e.ask.op e.reply first memory in
+    let that : f.reply ≡ replied (meant f.lane f.moment f.ask) =
+    reply_is (raised old f.moment) b f.lane f.ask.context f.ask.op f.reply second other in
+    let same : meant e.lane e.moment e.ask ≡ meant f.lane f.moment f.ask =
+    ap (λ (n : ℕ). meant n e.moment e.ask) lane
+    ∙ (ap (λ (n : ℕ). meant f.lane n e.ask) moment ∙ ap (λ (x : Ask). meant f.lane f.moment x) ask) in
+    this ∙ (ap replied same ∙ sym that)
 
 -- and so does a history
 pub one_history :

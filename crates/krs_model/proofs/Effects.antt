@@ -40,12 +40,10 @@ use Rattle.krs_model.specs.Asks.Watching.{open_queue, set_filter, read_queue, cl
 use Rattle.krs_model.proofs.Lookups.{look_up_usable}
 use Rattle.krs_model.proofs.Naming.{found_serial, refused_is}
 use Rattle.krs_model.proofs.Coming.{Comes, bind_ok, same_ok}
-use Rattle.krs_model.proofs.Coming.{hello_comes, thread_comes, fork_comes, exec_comes, get_id_comes, join_comes}
-use Rattle.krs_model.proofs.Coming.{search_comes, request_comes, add_comes, update_comes, revoke_comes}
-use Rattle.krs_model.proofs.Coming.{invalidate_comes}
-use Rattle.krs_model.proofs.Coming.{chown_comes, set_perm_comes, set_timeout_comes, link_comes, unlink_comes}
-use Rattle.krs_model.proofs.Coming.{clear_comes}
-use Rattle.krs_model.proofs.Coming.{read_comes, describe_comes, exit_comes}
+use Rattle.krs_model.proofs.ComingAsks.{hello_comes, thread_comes, fork_comes, exec_comes, get_id_comes, join_comes}
+use Rattle.krs_model.proofs.ComingAsks.{search_comes, request_comes, add_comes, update_comes, revoke_comes}
+use Rattle.krs_model.proofs.ComingAsks.{invalidate_comes, chown_comes, set_perm_comes, set_timeout_comes, link_comes}
+use Rattle.krs_model.proofs.ComingAsks.{unlink_comes, clear_comes, read_comes, describe_comes, exit_comes}
 
 -- the queues with these in their place
 abbrev pub with_table : State → Table Queue → State

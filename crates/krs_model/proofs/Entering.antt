@@ -29,7 +29,7 @@ use Rattle.krs_model.proofs.Tables.{at_put_same}
 use Rattle.krs_model.proofs.Levels.{true_or, same_is, in_left, in_right, in_one}
 use Rattle.krs_model.proofs.Sweeps.{there_self, found_there}
 use Rattle.krs_model.proofs.Making.{IsMade, NoneMade, ThreadMade, ProcessMade, made_for_is}
-use Rattle.krs_model.proofs.Standing.{Stands, IsPut, same_stands, key_stands, at_put, there_alter}
+use Rattle.krs_model.proofs.Standing.{Stands, same_stands, key_stands, there_put, there_alter}
 use Rattle.krs_model.proofs.Roots.{context_keys, uid_keys, attached_either, attached_alter, attached_fewer}
 use Rattle.krs_model.proofs.Roots.{attachments, own_process, in_processes, attached_at, attached_by, in_context}
 use Rattle.krs_model.proofs.Roots.{in_process, in_uid}
@@ -41,11 +41,6 @@ only_in k n h =
 
 pub some_there : {X : Type 0} (es : Table X) (k : ℕ) (v : X) → at es k ≡ Some v → IsSome (at es k)
 some_there es k v h = rw h refl
-
-still_there : {X : Type 0} (es : Table X) (n k : ℕ) (v : X) → IsSome (at es k) → IsSome (at (put es n v) k)
-still_there es n k v h =
-    ⊎_elim (λ (r : IsPut es n v k). some_there (put es n v) k v r.1)
-    (λ same. subst IsSome (sym same) h) (at_put es n k v)
 
 new_is_there : {X : Type 0} (es : Table X) (n k : ℕ) (v : X) → k ≡ n → IsSome (at (put es n v) k)
 new_is_there es n k v e =
@@ -96,7 +91,7 @@ entered_stands s client c session there stands =
     (λ h. stands.attached k (in_uid s k h)) i in
     let placed : ArePlaced after.contexts after.processes = λ p i.
     ⊎_elim (λ mine. new_is_there s.processes s.next_context p None (only_in p s.next_context mine))
-    (λ was. still_there s.processes s.next_context p None (placed_in s stands.placed p was))
+    (λ was. there_put s.processes s.next_context p None (placed_in s stands.placed p was))
     (attached_either own_process s.contexts s.next_context context p i) in
     same_stands s after refl refl attached (in_placed after placed) stands
 
@@ -131,7 +126,7 @@ with_uid_stands s c None stands =
     let mine : UidRings = record { user = Some n; session = Some (n + 1) } in
     let one = put s.keys n a in
     let there : ℕ → Type 0 = λ k. IsSome (at after.keys k) in
-    let first : there n = still_there one (n + 1) n b (some_there one n a (at_put_same s.keys n a)) in
+    let first : there n = there_put one (n + 1) n b (some_there one n a (at_put_same s.keys n a)) in
     let second : there (n + 1) = some_there after.keys (n + 1) b (at_put_same one (n + 1) b) in
     let attached : AllAttached after = λ k i.
     attached_by (context_roots s.contexts) (process_roots s.processes) (uid_roots after.uids) k

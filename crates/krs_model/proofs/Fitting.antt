@@ -12,8 +12,7 @@ use Rattle.krs_model.specs.Notes.Bytes.{is_loss, bytes_of, Fits, AllFit}
 use Rattle.krs_model.specs.Notes.Front.{front, behind}
 use Rattle.krs_model.specs.Notes.Waiting.{total_room, ends_with_loss, with_loss, after_post}
 use Rattle.krs_model.specs.Notes.Posting.{Note, Post, watches_at, note_for, removal_for, posts_of, posts}
-use Rattle.krs_model.specs.Notes.Posting.{after_note, records_for}
-use Rattle.krs_model.proofs.Posting.{after_notes}
+use Rattle.krs_model.specs.Notes.Posting.{after_note, after_notes, records_for}
 
 pub each_filter : (P : Watch → Type 0) (p : Watch → Bool) (ws : List Watch) → Each P ws → Each P (filter p ws)
 each_filter P p [] h = tt
@@ -61,10 +60,6 @@ posts_for q (p ∷ ps) h =
       | true ↦ (h.0, posts_for q ps h.1)
       | false ↦ posts_for q ps h.1
     ]
-
-pub all_fit : (notes : List Record) → AllPost notes → AllFit notes
-all_fit [] h = tt
-all_fit (note ∷ notes) h = (h.0.fits, all_fit notes h.1)
 
 -- the notes of a key go out by watches, whose numbers fit
 told_fit :

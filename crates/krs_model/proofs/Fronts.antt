@@ -20,7 +20,7 @@ use Rattle.krs_model.proofs.Coming.{bind_ok, same_ok}
 use Rattle.krs_model.proofs.Effects.{queue_there, readable_is}
 
 -- a front fits its room
-front_size : (room : ℕ) (rs : List Record) → length (bytes_of_all (front room rs)) ≤ room
+pub front_size : (room : ℕ) (rs : List Record) → length (bytes_of_all (front room rs)) ≤ room
 front_size room [] = omega arith
 front_size room (r ∷ rs) =
     let left = room - length (bytes_of r) in
@@ -61,7 +61,9 @@ longest room (n ∷ ns) (x ∷ some) others e h =
       | false ↦ λ t. absurd (omega (arith, leb-false _ _ t))
     ] refl
 
-longest_front : (room : ℕ) (notes : List Record) → IsLongestFront room notes (front room notes) (behind room notes)
+-- no longer front fits
+pub longest_front :
+    (room : ℕ) (notes : List Record) → IsLongestFront room notes (front room notes) (behind room notes)
 longest_front room notes =
     record { whole = whole room notes; fits = front_size room notes; longest = longest room notes }
 

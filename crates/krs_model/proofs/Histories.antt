@@ -1,5 +1,5 @@
 -- What a queue gives to its reader over a history is its stream.
-use Rattle.std.proofs.Common.{◌≡◌, ℕ, ◌<◌, ◌≤◌, ◌&&◌, List, [], ◌++◌, Some, None, Bool, true, false, map, nat_le}
+use Rattle.std.proofs.Common.{◌≡◌, ℕ, ◌<◌, ◌≤◌, List, [], ◌++◌, Some, None, true, map, nat_le}
 use Rattle.std.proofs.Common.{refl, ap, ◌∙◌, sym, subst, arith, ⊎_elim, append_assoc}
 use Rattle.std.proofs.lemmas.Bool.{leb-true, cases_lt}
 use Rattle.std.proofs.lemmas.Option.{none-some, same_Some}
@@ -12,9 +12,11 @@ use Rattle.krs_model.specs.Receiving.{called_for, HasMoves, NoMoves, FurtherMove
 use Rattle.krs_model.specs.Notes.Stream.{Move, Posted, Took, taken, stream}
 use Rattle.krs_model.specs.Notes.Waiting.{is_capacity, MovesTo}
 use Rattle.krs_model.specs.Asks.Watching.{new_queue}
+use Rattle.krs_model.proofs.Names.{and_left}
 use Rattle.krs_model.proofs.Soundness.{step_sound}
 use Rattle.krs_model.proofs.Streams.{gives_its_stream}
-use Rattle.krs_model.proofs.Receiving.{Stays, moves_append, step_after, step_nothing, step_gone, step_next, step_opened}
+use Rattle.krs_model.proofs.Receiving.{Stays, moves_append, step_after, step_nothing}
+use Rattle.krs_model.proofs.Numbers.{step_gone, step_next, step_opened}
 
 -- nothing was called for and nothing taken
 no_moves :
@@ -112,12 +114,8 @@ record Begins (capacity : ℕ) (moves : List Move) (q : ℕ) (end : State) : Typ
   some : 1 ≤ capacity
   leads : Leads (new_queue 0 capacity) moves q end
 
-first_of : (a b : Bool) → (a && b) ≡ true → a ≡ true
-first_of true b h = refl
-first_of false b h = h
-
 some_capacity : (capacity : ℕ) → is_capacity capacity ≡ true → 1 ≤ capacity
-some_capacity capacity h = leb-true 1 capacity (first_of (nat_le 1 capacity) (nat_le capacity 512) h)
+some_capacity capacity h = leb-true 1 capacity (and_left (nat_le 1 capacity) (nat_le capacity 512) h)
 
 same_leads :
     (client capacity q : ℕ) (moves : List Move) (end : State) → Leads (new_queue client capacity) moves q end

@@ -12,13 +12,14 @@ use Rattle.krs_types.specs.declared.ask.Answer.{Answer}
 use Rattle.krs_types.specs.declared.ask.Op.{Op}
 use Rattle.krs_model.specs.Table.{Table, at, put, alter, without, IsBelow, IsDistinct}
 use Rattle.krs_model.specs.State.{State, Queue}
-use Rattle.krs_model.specs.Queues.{Queues, Watch, queues_of, place_cmp, watch_at, with_watch, without_watch}
+use Rattle.krs_model.specs.Queues.{Queues, Watch, queues_of, queues_without, place_cmp, watch_at, with_watch}
+use Rattle.krs_model.specs.Queues.{without_watch}
 use Rattle.krs_model.specs.Orderly.{Each, IsWatch, IsQueue, AreOrderly}
 use Rattle.krs_model.specs.Sweep.{IsSweep, live_watches}
 use Rattle.krs_model.specs.Notes.Waiting.{is_capacity}
-use Rattle.krs_model.specs.Notes.Posting.{Post, after_note, post_all, posted, records_for}
+use Rattle.krs_model.specs.Notes.Posting.{Post, after_note, after_notes, post_all, posted, records_for}
 use Rattle.krs_model.specs.Notes.Telling.{named, ended_where, ended_by}
-use Rattle.krs_model.specs.Asks.Leaving.{left, queues_without}
+use Rattle.krs_model.specs.Asks.Leaving.{left}
 use Rattle.krs_model.specs.Asks.Watching.{new_queue, with_queue, with_filter, after_read, without_queue, watches_of}
 use Rattle.krs_model.proofs.Tables.{at_alter_none, at_filter_none, at_without_none, at_without_other, at_or_apart}
 use Rattle.krs_model.proofs.Tables.{below_put}
@@ -26,11 +27,11 @@ use Rattle.krs_model.proofs.Entries.{at_alter, alter_distinct, filter_distinct, 
 use Rattle.krs_model.proofs.Entries.{at_without_same, at_filter_some, has_entry}
 use Rattle.krs_model.proofs.Levels.{same_is}
 use Rattle.krs_model.proofs.Standing.{IsPut, at_put, there_put, there_alter}
-use Rattle.krs_model.proofs.Posting.{after_notes, at_post_all}
+use Rattle.krs_model.proofs.Posting.{at_post_all}
 use Rattle.krs_model.proofs.Fitting.{each_filter, each_on, ArePosts, posts_for, after_notes_fit, behind_fit}
 use Rattle.krs_model.proofs.Rising.{filter_rising, each_without, without_rising, each_with, with_rising}
 use Rattle.krs_model.proofs.Effects.{Effect, OfKeys, Opens, Filters, Reads, Closes, Watches, Unwatches, Leaves}
-use Rattle.krs_model.proofs.Serials.{small_there}
+use Rattle.krs_model.proofs.Counting.{small_there}
 
 each_filter_on :
     (P Q : Watch → Type 0) (p : Watch → Bool) (ws : List Watch) → ((w : Watch) → p w ≡ true → P w → Q w) → Each P ws

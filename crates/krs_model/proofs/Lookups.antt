@@ -15,7 +15,8 @@ use Rattle.krs_model.specs.Possession.{possessed}
 use Rattle.krs_model.specs.Lookup.{serial_of, if_usable, look_up}
 use Rattle.krs_model.specs.Linking.{ring_links, link_named, has_room}
 use Rattle.krs_model.specs.Usable.{IsUsable}
-use Rattle.krs_model.specs.Asks.Adding.{is_updatable, Updated, Made, if_room, over_match, by_match, place_of, IsRing}
+use Rattle.krs_model.specs.Asks.Adding.{Updated, Made, if_room, over_match, by_match, place_of, IsRing}
+use Rattle.krs_model.specs.Asks.Changing.{is_updatable}
 
 usable : (s : State) (c : Context) (want : Want) (serial : ℕ) (key : Key) (x : ℕ × Key) → at s.keys serial ≡ Some key → if_usable s c want serial key ≡ Ok x → IsUsable s c want x
 usable s c want serial key x there h =

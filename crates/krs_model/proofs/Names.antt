@@ -7,7 +7,7 @@ use Rattle.krs_types.specs.declared.kind.Kind.TheVariants.{User, Logon, Keyring}
 use Rattle.krs_types.specs.declared.name.Name.{Name}
 use Rattle.krs_types.specs.Name.{same_name, kind_number}
 
-and_left : (a b : Bool) → (a && b) ≡ true → a ≡ true
+pub and_left : (a b : Bool) → (a && b) ≡ true → a ≡ true
 and_left true b h = refl
 and_left false b h = h
 

@@ -20,7 +20,7 @@ use Rattle.krs_model.specs.Notes.Telling.{ended_by}
 use Rattle.krs_model.proofs.Rising.{filter_rising}
 use Rattle.krs_model.proofs.Effects.{Effect}
 use Rattle.krs_model.proofs.Keeping.{effect_orderly}
-use Rattle.krs_model.proofs.Receiving.{swept_drops_none}
+use Rattle.krs_model.proofs.Calling.{swept_drops_none}
 use Rattle.krs_model.proofs.Swept.{EndsOne, effect_ends}
 
 -- posts of watches of a key behind one of that key

@@ -1,18 +1,12 @@
 -- What posts do to each queue.
 use Rattle.std.proofs.Common.{◌≡◌, ℕ, ◌==◌, List, [], ◌∷◌, ◌++◌, Option, Some, None, true, false, cond, filter, map}
-use Rattle.std.proofs.Common.{refl, ap}
-use Rattle.std.proofs.Common.{◌∙◌}
+use Rattle.std.proofs.Common.{refl, ap, ◌∙◌}
 use Rattle.std.specs.Option.{option_map}
 use Rattle.krs_types.specs.declared.note.Record.{Record}
 use Rattle.krs_model.specs.Table.{Table, at, alter}
 use Rattle.krs_model.specs.State.{Queue}
-use Rattle.krs_model.specs.Notes.Posting.{Post, after_note, post_all, records_for}
+use Rattle.krs_model.specs.Notes.Posting.{Post, after_note, after_notes, post_all, records_for}
 use Rattle.krs_model.proofs.Entries.{same_test, at_alter}
-
--- a queue once these came, one after the other
-abbrev pub after_notes : List Record → Queue → Queue
-after_notes [] queue = queue
-after_notes (note ∷ notes) queue = after_notes notes (after_note note queue)
 
 none_came : (o : Option Queue) → o ≡ option_map (after_notes []) o
 none_came None = refl

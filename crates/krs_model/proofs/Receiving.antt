@@ -1,15 +1,14 @@
--- What a step calls for of a queue, what it takes from it, and what it makes of it.
-use Rattle.std.proofs.Common.{◌≡◌, ℕ, ◌-◌, ◌==◌, ◌<◌, ◌≤◌, List, [], ◌∷◌, ◌++◌, Option, Some, None, Bool, true, false}
-use Rattle.std.proofs.Common.{not, cond, filter, map}
-use Rattle.std.proofs.Common.{flat_map, length, nat_le, Result, Ok, Err, refl, ap, ◌∙◌, sym, subst, arith, ◌⊎◌, inl}
+-- What a step takes from a queue, and what it makes of it.
+use Rattle.std.proofs.Common.{◌≡◌, ℕ, ◌-◌, List, [], ◌∷◌, ◌++◌, Some, None, true, false}
+use Rattle.std.proofs.Common.{cond, map}
+use Rattle.std.proofs.Common.{length, nat_le, Result, Ok, Err, refl, ap, ◌∙◌, sym, subst, arith, ◌⊎◌, inl}
 use Rattle.std.proofs.Common.{inr, ⊎_elim}
-use Rattle.std.specs.Option.{IsSome, is_some, option_map}
+use Rattle.std.specs.Option.{option_map}
 use Rattle.std.specs.Ordering.{nat_cmp}
 use Rattle.std.specs.BTreeMap.{is_at}
-use Rattle.std.proofs.lemmas.Bool.{true≢false, eqb-true}
+use Rattle.std.proofs.lemmas.Bool.{true≢false}
 use Rattle.std.proofs.lemmas.Option.{none-some, same_Some}
 use Rattle.std.proofs.lemmas.List.{append-nil}
-use Rattle.std.proofs.lemmas.List.Filters.{length-filter_both}
 use Rattle.krs_types.specs.declared.errno.Errno.{Errno}
 use Rattle.krs_types.specs.declared.ask.Answer.{Answer}
 use Rattle.krs_types.specs.declared.ask.Answer.TheVariants.{Number, Bytes}
@@ -17,218 +16,34 @@ use Rattle.krs_types.specs.declared.ask.Op.{Op}
 use Rattle.krs_types.specs.declared.ask.Op.TheVariants.{OpenQueue, ReadQueue}
 use Rattle.krs_types.specs.declared.event.Event.{Event}
 use Rattle.krs_types.specs.declared.note.Record.{Record}
-use Rattle.krs_model.specs.Table.{Table, at, put, alter, without}
-use Rattle.krs_model.specs.State.{State, Key, Queue, raised}
-use Rattle.krs_model.specs.Queues.{Queues, Watch, queues_of}
-use Rattle.krs_model.specs.Orderly.{Each, IsWatch, AreOrderly}
+use Rattle.krs_model.specs.Table.{at, put, alter, without}
+use Rattle.krs_model.specs.State.{State, Queue, raised}
+use Rattle.krs_model.specs.Queues.{Queues, queues_without}
 use Rattle.krs_model.specs.Sound.{IsSound}
-use Rattle.krs_model.specs.Sweep.{IsSweep, IsSwept}
-use Rattle.krs_model.specs.Step.{Step, Serves, Ends, outcome_of, posts_by, watches_left}
-use Rattle.krs_model.specs.Receiving.{called, called_for, IsRead, Takes, IsOpening}
+use Rattle.krs_model.specs.Sweep.{IsSwept}
+use Rattle.krs_model.specs.Step.{Step, Serves, Ends, posts_by}
+use Rattle.krs_model.specs.Receiving.{called, called_for, Takes}
 use Rattle.krs_model.specs.Notes.Bytes.{bytes_of, bytes_of_all, AllFit}
 use Rattle.krs_model.specs.Notes.Front.{front, behind}
 use Rattle.krs_model.specs.Notes.Stream.{Move, Posted, Took}
 use Rattle.krs_model.specs.Notes.Waiting.{MovesTo}
-use Rattle.krs_model.specs.Notes.Posting.{Note, Post, note_for, removal_for, passes_at, posts_of, watches_at}
-use Rattle.krs_model.specs.Notes.Posting.{dropped_watches, after_note, post_all, records_for}
+use Rattle.krs_model.specs.Notes.Posting.{after_note, after_notes, records_for}
 use Rattle.krs_model.specs.Notes.Telling.{notes_of, ended_by}
-use Rattle.krs_model.specs.Asks.Leaving.{left, queues_without}
+use Rattle.krs_model.specs.Asks.Leaving.{left}
 use Rattle.krs_model.specs.Asks.Watching.{new_queue, with_filter, after_read}
-use Rattle.krs_model.proofs.Tables.{at_alter_none, at_filter_none, at_without_none, at_or_apart, at_alter_same}
+use Rattle.krs_model.proofs.Tables.{at_or_apart, at_alter_same}
 use Rattle.krs_model.proofs.Tables.{at_alter_other}
-use Rattle.krs_model.proofs.Tables.{at_put_other, at_put_same, at_without_other, is_at_same}
+use Rattle.krs_model.proofs.Tables.{at_put_other, at_without_other, is_at_same}
 use Rattle.krs_model.proofs.Entries.{at_filter_some, at_without_same}
-use Rattle.krs_model.proofs.Sweeps.{one_sweep, swept_sweep}
-use Rattle.krs_model.proofs.Posting.{after_notes, at_post_all, records_for-append}
-use Rattle.krs_model.proofs.Fitting.{each_filter, each_on, AllPost, posts_for, front_fit}
-use Rattle.krs_model.proofs.Rising.{each_without, each_with}
+use Rattle.krs_model.proofs.Fitting.{AllPost, posts_for, front_fit}
 use Rattle.krs_model.proofs.Spelling.{spelled_once}
 use Rattle.krs_model.proofs.Effects.{Effect, OfKeys, Opens, Filters, Reads, Closes, Watches, Unwatches, Leaves}
 use Rattle.krs_model.proofs.Effects.{effect_of}
 use Rattle.krs_model.proofs.Effects.{is_of_queues}
-use Rattle.krs_model.proofs.Keeping.{ended_watch, effect_orderly}
+use Rattle.krs_model.proofs.Keeping.{effect_orderly}
 use Rattle.krs_model.proofs.Coming.{same_ok}
 use Rattle.krs_model.proofs.Soundness.{posts_by_fit, raised_sound}
-
--- nothing is posted to a queue that is not there
-none_of_note :
-    (queues : Table Queue) (q : ℕ) (ps : List Post) → at queues q ≡ None
-    → records_for q (filter (λ p. passes_at (at queues p.0) p.1) ps) ≡ []
-none_of_note queues q [] none = refl
-none_of_note queues q (p ∷ ps) none =
-    let more = none_of_note queues q ps none in
-    let rest = filter (λ d. passes_at (at queues d.0) d.1) ps in
-    elim (p.0 == q) as (λ b. (p.0 == q) ≡ b
-    → records_for q (cond (passes_at (at queues p.0) p.1) (p ∷ rest) rest) ≡ []) [
-      | true ↦ λ t.
-          let here : at queues p.0 ≡ None = ap (λ (n : ℕ). at queues n) (eqb-true p.0 q t) ∙ none in
-          ap (λ (o : Option Queue). records_for q (cond (passes_at o p.1) (p ∷ rest) rest)) here ∙ more
-      | false ↦ λ t.
-          elim (passes_at (at queues p.0) p.1) as (λ b. records_for q (cond b (p ∷ rest) rest) ≡ []) [
-            | true ↦ rw t more
-            | false ↦ more
-          ]
-    ] refl
-
-none_of_notes :
-    (s : Queues) (q : ℕ) (notes : List Note) → at s.queues q ≡ None
-    → records_for q (flat_map (posts_of s) notes) ≡ []
-none_of_notes s q [] none = refl
-none_of_notes s q (note ∷ notes) none =
-    records_for-append q (posts_of s note) (flat_map (posts_of s) notes)
-    ∙ (ap (λ (rs : List Record). rs ++ records_for q (flat_map (posts_of s) notes))
-    (none_of_note s.queues q (map (note_for note) (watches_at note.key s.watches)) none)
-    ∙ none_of_notes s q notes none)
-
--- a watch of a queue that is there
-abbrev pub IsKnown : Table Queue → Watch → Type 0
-IsKnown queues w = IsSome (at queues w.0.1)
-
-none_of_ended :
-    (queues : Table Queue) (q : ℕ) (ws : List Watch) → Each (IsKnown queues) ws → at queues q ≡ None
-    → records_for q (map removal_for ws) ≡ []
-none_of_ended queues q [] h none = refl
-none_of_ended queues q (w ∷ ws) h none =
-    let more = none_of_ended queues q ws h.1 none in
-    elim (w.0.1 == q) as (λ b. (w.0.1 == q) ≡ b
-    → map (λ d. d.1) (cond b (removal_for w ∷ filter (λ d. d.0 == q) (map removal_for ws))
-    (filter (λ d. d.0 == q) (map removal_for ws))) ≡ []) [
-      | true ↦ λ t. absurd (true≢false (sym (sym (ap is_some
-          (ap (λ (n : ℕ). at queues n) (eqb-true w.0.1 q t) ∙ none)) ∙ h.0)))
-      | false ↦ λ t. more
-    ] refl
-
-known_append :
-    (queues : Table Queue) (vs ws : List Watch) → Each (IsKnown queues) vs → Each (IsKnown queues) ws
-    → Each (IsKnown queues) (vs ++ ws)
-known_append queues [] ws f g = g
-known_append queues (v ∷ vs) ws f g = (f.0, known_append queues vs ws f.1 g)
-
-known_watches : (q : Queues) → AreOrderly q → Each (IsKnown q.queues) q.watches
-known_watches q orderly = each_on (IsWatch q.queues) (IsKnown q.queues) q.watches (λ w is. is.queue) orderly.watches
-
--- the watches that an ask leaves, before the sweep, are of queues that were there before it
-left_known :
-    (s : State) (client context : ℕ) (op : Op) (mid : State) (answer : Answer)
-    → Effect s client context op mid answer → AreOrderly (queues_of s) → Each (IsKnown s.queues) mid.watches
-unfolding left
-left_known s client context _ _ _ (OfKeys op new answer other comes none) orderly =
-    subst (λ (q : Queues). Each (IsKnown s.queues) q.watches) (sym comes.queues) (known_watches (queues_of s) orderly)
-left_known s client context _ _ _ (Opens capacity fits) orderly = known_watches (queues_of s) orderly
-left_known s client context _ _ _ (Filters number entries queue there) orderly = known_watches (queues_of s) orderly
-left_known s client context _ _ _ (Reads number room queue there) orderly = known_watches (queues_of s) orderly
-left_known s client context _ _ _ (Closes number queue there) orderly =
-    each_filter (IsKnown s.queues) _ s.watches (known_watches (queues_of s) orderly)
-left_known s client context _ _ _ (Watches id watch_id number key n queue here there asked small) orderly =
-    each_with (IsKnown s.queues) s.watches key number n (rw there refl) (λ w known. known)
-    (known_watches (queues_of s) orderly)
-left_known s client context _ _ _ (Unwatches id watch_id number key n queue here names there asked is) orderly =
-    each_without (IsKnown s.queues) s.watches key number (known_watches (queues_of s) orderly)
-left_known s client context _ _ _ Leaves orderly =
-    each_filter (IsKnown s.queues) _ s.watches (known_watches (queues_of s) orderly)
-
--- the watches that an ask leaves, told of what it comes to
-dropped_is :
-    (meant : Result (State × Answer) Errno) (mid : State) (answer : Answer) (keys : Table Key)
-    → meant ≡ Ok (mid, answer)
-    → dropped_watches keys (watches_left meant) ≡ dropped_watches keys mid.watches
-dropped_is meant mid answer keys is =
-    ap (λ (m : Result (State × Answer) Errno). dropped_watches keys (watches_left m)) is
-
--- an accepted ask calls for nothing of a queue that was not there
-pub none_called :
-    (s mid : State) (client context : ℕ) (op : Op) (answer : Answer) (keys : Table Key) (q : ℕ) → IsSound s
-    → outcome_of s client context op ≡ Ok (mid, answer) → at s.queues q ≡ None
-    → records_for q (posts_by s client context op answer keys) ≡ []
-none_called s mid client context op answer keys q sound meant none =
-    let notes = notes_of s client context op answer in
-    let effect = effect_of s client context op mid answer meant in
-    let ended = ended_by s client context op in
-    let dropped = dropped_watches keys (watches_left (outcome_of s client context op)) in
-    let ended_known : Each (IsKnown s.queues) ended = each_on (IsWatch s.queues) (IsKnown s.queues) ended
-    (λ w is. is.queue) (ended_watch s client context op mid answer effect sound.few sound.orderly) in
-    let left : Each (IsKnown s.queues) (dropped_watches keys mid.watches) = each_filter (IsKnown s.queues) _ mid.watches
-    (left_known s client context op mid answer effect sound.orderly) in
-    let dropped_known : Each (IsKnown s.queues) dropped = subst (Each (IsKnown s.queues))
-    (sym (dropped_is (outcome_of s client context op) mid answer keys meant)) left in
-    records_for-append q (flat_map (posts_of (queues_of s)) notes) (map removal_for (ended ++ dropped))
-    ∙ (ap (λ (rs : List Record). rs ++ records_for q (map removal_for (ended ++ dropped)))
-    (none_of_notes (queues_of s) q notes none)
-    ∙ none_of_ended s.queues q (ended ++ dropped) (known_append s.queues ended dropped ended_known dropped_known) none)
-
--- what a queue is after a step, by what it was before the sweep
-served_queues :
-    {s new : State} {client context : ℕ} {op : Op} {answer : Answer} (serves : Serves s client context op answer new)
-    → new.queues ≡ post_all (posts_by s client context op answer new.keys) serves.mid.queues
-served_queues {s} {new} {client} {context} {op} {answer} serves =
-    let swept = serves.swept in
-    let keys : swept.keys ≡ new.keys = sym (ap (λ (t : State). t.keys) serves.posted) in
-    ap (λ (t : State). t.queues) serves.posted
-    ∙ (ap (post_all (posts_by s client context op answer swept.keys)) (ap (λ (t : State). t.queues) serves.sweep.rest)
-    ∙ ap (λ (ks : Table Key). post_all (posts_by s client context op answer ks) serves.mid.queues) keys)
-
-pub served_at :
-    {s new : State} {client context : ℕ} {op : Op} {answer : Answer} (serves : Serves s client context op answer new)
-    (q : ℕ)
-    → at new.queues q
-    ≡ option_map (after_notes (records_for q (posts_by s client context op answer new.keys))) (at serves.mid.queues q)
-served_at {s} {new} {client} {context} {op} {answer} serves q =
-    let ps = posts_by s client context op answer new.keys in
-    ap (λ (queues : Table Queue). at queues q) (served_queues serves) ∙ at_post_all ps serves.mid.queues q
-
-pub served_next :
-    {s new : State} {client context : ℕ} {op : Op} {answer : Answer} (serves : Serves s client context op answer new)
-    → new.next_queue ≡ serves.mid.next_queue
-served_next serves =
-    ap (λ (t : State). t.next_queue) serves.posted ∙ ap (λ (t : State). t.next_queue) serves.sweep.rest
-
-none_long : (ws : List Watch) → length ws ≡ 0 → ws ≡ []
-none_long [] h = refl
-none_long (w ∷ ws) h = absurd (omega arith)
-
--- where a filter leaves all, what it takes away is nothing
-dropped_none : (p : Watch → Bool) (ws : List Watch) → filter p ws ≡ ws → filter (λ w. not (p w)) ws ≡ []
-dropped_none p ws h =
-    let both = length-filter_both p (λ w. not (p w)) (λ w. refl) ws in
-    let all : length (filter p ws) ≡ length ws = ap length h in
-    none_long (filter (λ w. not (p w)) ws) (omega arith)
-
--- the sweep of what is swept takes no watch away
-pub swept_drops_none :
-    (mid swept : State) → IsSwept mid → IsSweep mid swept → dropped_watches swept.keys mid.watches ≡ []
-swept_drops_none mid swept is sweep =
-    let same : swept ≡ mid = one_sweep mid swept mid sweep (swept_sweep mid is) in
-    ap (λ (t : State). dropped_watches t.keys mid.watches) same
-    ∙ dropped_none (λ w. is_some (at mid.keys w.0.0)) mid.watches is.watches
-
--- what an accepted ask posts that has no notes, ends no watch and leaves a swept state
-pub posts_none :
-    {s new : State} {client context : ℕ} {op : Op} {answer : Answer} (serves : Serves s client context op answer new)
-    → notes_of s client context op answer ≡ [] → ended_by s client context op ≡ [] → IsSwept serves.mid
-    → posts_by s client context op answer new.keys ≡ []
-posts_none {s} {new} {client} {context} {op} {answer} serves no_notes none_ended is =
-    let meant = outcome_of s client context op in
-    let keys : new.keys ≡ serves.swept.keys = ap (λ (t : State). t.keys) serves.posted in
-    let dropped : dropped_watches new.keys (watches_left meant) ≡ [] =
-    dropped_is meant serves.mid answer new.keys serves.meant
-    ∙ (ap (λ (ks : Table Key). dropped_watches ks serves.mid.watches) keys
-    ∙ swept_drops_none serves.mid serves.swept is serves.sweep) in
-    rw (no_notes, none_ended, dropped) refl
-
--- of a queue that the sweep leaves none, where the ask has no notes and ends no watch
-gone_called :
-    {s new : State} {client context : ℕ} {op : Op} {answer : Answer} (serves : Serves s client context op answer new)
-    (q : ℕ) → notes_of s client context op answer ≡ [] → ended_by s client context op ≡ []
-    → AreOrderly (queues_of serves.mid) → at serves.mid.queues q ≡ None
-    → records_for q (posts_by s client context op answer new.keys) ≡ []
-gone_called {s} {new} {client} {context} {op} {answer} serves q no_notes none_ended orderly none =
-    let mid = serves.mid in
-    let meant = outcome_of s client context op in
-    let dropped = dropped_watches new.keys mid.watches in
-    let known : Each (IsKnown mid.queues) dropped =
-    each_filter (IsKnown mid.queues) _ mid.watches (known_watches (queues_of mid) orderly) in
-    rw (no_notes, none_ended) (ap (λ (ws : List Watch). records_for q (map removal_for ws))
-    (dropped_is meant mid answer new.keys serves.meant) ∙ none_of_ended mid.queues q dropped known none)
+use Rattle.krs_model.proofs.Calling.{none_called, served_at, posts_none, gone_called}
 
 -- moves one after the other
 pub moves_append :
@@ -312,23 +127,23 @@ still_after {q = q} {rs = rs} told queue mine took there capacity waiting none =
     )
 
 -- which queue an ask reads
-abbrev queue_read : Op → ℕ
+abbrev pub queue_read : Op → ℕ
 queue_read (ReadQueue queue room) = queue
 queue_read op = 0
 
-abbrev queue_capacity : Op → ℕ
+abbrev pub queue_capacity : Op → ℕ
 queue_capacity (OpenQueue capacity) = capacity
 queue_capacity op = 0
 
-abbrev number_given : Answer → ℕ
+abbrev pub number_given : Answer → ℕ
 number_given (Number n) = n
 number_given answer = 0
 
-abbrev bytes_given : Answer → List ℕ
+abbrev pub bytes_given : Answer → List ℕ
 bytes_given (Bytes bytes) = bytes
 bytes_given answer = []
 
-no_other : (q number : ℕ) → number ≡ q → is_at (nat_cmp q) number ≡ false → ⊥
+pub no_other : (q number : ℕ) → number ≡ q → is_at (nat_cmp q) number ≡ false → ⊥
 no_other q number same apart =
     true≢false (sym (is_at_same q) ∙ subst (λ (k : ℕ). is_at (nat_cmp q) k ≡ false) same apart)
 
@@ -461,7 +276,7 @@ takes_answer q event took answer takes reply = record {
       no read.room bytes read.asked (same_ok event.reply answer (Bytes bytes) reply read.gave));
 }
 
-not_both : (reply : Result Answer Errno) (answer : Answer) (e : Errno) → reply ≡ Ok answer → reply ≡ Err e → ⊥
+pub not_both : (reply : Result Answer Errno) (answer : Answer) (e : Errno) → reply ≡ Ok answer → reply ≡ Err e → ⊥
 not_both reply answer e ok err = absurd cc
 
 refused_takes :
@@ -525,213 +340,3 @@ step_nothing old new event q took sound step takes none =
           (λ bytes read. answer_unread up new event.lane event.ask.context event.ask.op event.reply q read.room
           bytes step none read.asked read.gave),
     )
-
--- a number that was given is not given again
-effect_gone :
-    (s : State) (client context : ℕ) (op : Op) (mid : State) (answer : Answer) (q : ℕ) → q < s.next_queue
-    → at s.queues q ≡ None → Effect s client context op mid answer → at mid.queues q ≡ None
-unfolding left
-effect_gone s client context _ _ _ q lt none (OfKeys op mid answer other comes stays) =
-    ap (λ (x : Queues). at x.queues q) comes.queues ∙ none
-effect_gone s client context _ _ _ q lt none (Opens capacity fits) =
-    ⊎_elim (λ (e : q ≡ s.next_queue). absurd (omega arith))
-    (λ apart. at_put_other s.queues s.next_queue q (new_queue client capacity) apart ∙ none)
-    (at_or_apart q s.next_queue)
-effect_gone s client context _ _ _ q lt none (Filters number entries queue there) =
-    at_alter_none s.queues number q (with_filter entries) none
-effect_gone s client context _ _ _ q lt none (Reads number room queue there) =
-    at_alter_none s.queues number q (after_read room) none
-effect_gone s client context _ _ _ q lt none (Closes number queue there) = at_without_none s.queues number q none
-effect_gone s client context _ _ _ q lt none (Watches id watch_id number key n queue here there is small) = none
-effect_gone s client context _ _ _ q lt none (Unwatches id watch_id number key n queue here names there is has) = none
-effect_gone s client context _ _ _ q lt none Leaves = at_filter_none _ s.queues q none
-
-ends_gone :
-    (s new : State) (client context : ℕ) (op : Op) (reply : Result Answer Errno) (q : ℕ)
-    → Ends s client context op reply new → q < s.next_queue → at s.queues q ≡ None → at new.queues q ≡ None
-ends_gone s new client context op (Ok answer) q serves lt none =
-    let mid = serves.mid in
-    let rs = records_for q (posts_by s client context op answer new.keys) in
-    served_at serves q ∙ ap (option_map (after_notes rs)) (effect_gone s client context op mid answer q lt none
-    (effect_of s client context op mid answer serves.meant))
-ends_gone s new client context op (Err e) q ends lt none = ap (λ (t : State). at t.queues q) ends.1 ∙ none
-
-pub step_gone :
-    (old new : State) (event : Event) (q : ℕ) → Step old event new → q < old.next_queue → at old.queues q ≡ None
-    → at new.queues q ≡ None
-unfolding Step
-step_gone old new event q step lt none =
-    ends_gone (raised old event.moment) new event.lane event.ask.context event.ask.op event.reply q step lt none
-
--- numbers rise
-effect_next :
-    (s : State) (client context : ℕ) (op : Op) (mid : State) (answer : Answer) → Effect s client context op mid answer
-    → s.next_queue ≤ mid.next_queue
-unfolding left
-effect_next s client context _ _ _ (OfKeys op mid answer other comes stays) =
-    let same : mid.next_queue ≡ s.next_queue = ap (λ (x : Queues). x.next_queue) comes.queues in
-    omega arith
-effect_next s client context _ _ _ (Opens capacity fits) = omega arith
-effect_next s client context _ _ _ (Filters number entries queue there) = omega arith
-effect_next s client context _ _ _ (Reads number room queue there) = omega arith
-effect_next s client context _ _ _ (Closes number queue there) = omega arith
-effect_next s client context _ _ _ (Watches id watch_id number key n queue here there is small) = omega arith
-effect_next s client context _ _ _ (Unwatches id watch_id number key n queue here names there is has) = omega arith
-effect_next s client context _ _ _ Leaves = omega arith
-
-ends_next :
-    (s new : State) (client context : ℕ) (op : Op) (reply : Result Answer Errno) → Ends s client context op reply new
-    → s.next_queue ≤ new.next_queue
-ends_next s new client context op (Ok answer) serves =
-    let mid = serves.mid in
-    let more : s.next_queue ≤ mid.next_queue = effect_next s client context op mid answer
-    (effect_of s client context op mid answer serves.meant) in
-    let same : new.next_queue ≡ mid.next_queue = served_next serves in
-    omega arith
-ends_next s new client context op (Err e) ends =
-    let same : new.next_queue ≡ s.next_queue = ap (λ (t : State). t.next_queue) ends.1 in
-    omega arith
-
-pub step_next :
-    (old new : State) (event : Event) → Step old event new → old.next_queue ≤ new.next_queue
-unfolding Step
-step_next old new event step =
-    ends_next (raised old event.moment) new event.lane event.ask.context event.ask.op event.reply step
-
--- a queue that is opened gets the next number, and nothing waits in it
-record Opened (s mid : State) (client q capacity : ℕ) : Type 0 where
-  number : q ≡ s.next_queue
-  there : at mid.queues q ≡ Some (new_queue client capacity)
-
-opened_by :
-    (s : State) (client context : ℕ) (op : Op) (mid : State) (answer : Answer) (q capacity : ℕ)
-    → op ≡ OpenQueue capacity → answer ≡ Number q → Effect s client context op mid answer
-    → Opened s mid client q capacity
-opened_by s client context _ _ _ q capacity asked gave (OfKeys op mid answer other comes stays) =
-    absurd (true≢false (sym (ap is_of_queues asked) ∙ other))
-opened_by s client context _ _ _ q capacity asked gave (Opens other fits) =
-    let size : other ≡ capacity = ap queue_capacity asked in
-    let number : s.next_queue ≡ q = ap number_given gave in
-    let n = s.next_queue in
-    let here : at (put s.queues n (new_queue client other)) n ≡ Some (new_queue client other) =
-    at_put_same s.queues n (new_queue client other) in
-    record {
-      number = sym number;
-      there = subst
-          (λ (k : ℕ). at (put s.queues n (new_queue client other)) k ≡ Some (new_queue client capacity)) number
-          (here ∙ ap (λ (c : ℕ). Some (new_queue client c)) size);
-    }
-opened_by s client context _ _ _ q capacity asked gave (Filters number entries queue there) = absurd cc
-opened_by s client context _ _ _ q capacity asked gave (Reads number other queue there) = absurd cc
-opened_by s client context _ _ _ q capacity asked gave (Closes number queue there) = absurd cc
-opened_by s client context _ _ _ q capacity asked gave (Watches id watch_id number key n queue here there is small) =
-    absurd cc
-opened_by s client context _ _ _ q capacity asked gave
-    (Unwatches id watch_id number key n queue here names there is has) = absurd cc
-opened_by s client context _ _ _ q capacity asked gave Leaves = absurd cc
-
-ends_opened :
-    (s new : State) (client context : ℕ) (op : Op) (reply : Result Answer Errno) (q capacity : ℕ) → IsSound s
-    → Ends s client context op reply new → op ≡ OpenQueue capacity → reply ≡ Ok (Number q)
-    → (q ≡ s.next_queue) × (at new.queues q ≡ Some (new_queue client capacity))
-ends_opened s new client context op (Ok answer) q capacity sound serves asked gave =
-    let mid = serves.mid in
-    let effect = effect_of s client context op mid answer serves.meant in
-    let is : answer ≡ Number q = same_ok (Ok answer) answer (Number q) refl gave in
-    let opened = opened_by s client context op mid answer q capacity asked is effect in
-    let none : at s.queues q ≡ None = sound.orderly.unused q (let e = opened.number in omega arith) in
-    let nothing = none_called s mid client context op answer new.keys q sound serves.meant none in
-    let rs = records_for q (posts_by s client context op answer new.keys) in (
-      opened.number,
-      served_at serves q ∙ (ap (option_map (after_notes rs)) opened.there
-          ∙ ap (λ (notes : List Record). Some (after_notes notes (new_queue client capacity))) nothing),
-    )
-ends_opened s new client context op (Err e) q capacity sound ends asked gave = absurd cc
-
-pub step_opened :
-    (old new : State) (event : Event) (q capacity : ℕ) → IsSound old → Step old event new → IsOpening q capacity event
-    → (q ≡ old.next_queue) × (at new.queues q ≡ Some (new_queue event.lane capacity))
-unfolding Step
-step_opened old new event q capacity sound step opening =
-    ends_opened (raised old event.moment) new event.lane event.ask.context event.ask.op event.reply q capacity
-    (raised_sound old event.moment sound) step opening.asked opening.gave
-
--- whether an ask is an accepted read of a queue
-pub data Reading (q : ℕ) (op : Op) (answer : Answer) : Type 0 where
-  IsReading :
-      (room : ℕ) (notes : List Record) → op ≡ ReadQueue q room → AllFit notes → answer ≡ Bytes (bytes_of_all notes)
-      → Reading q op answer
-  NotReading : ((room : ℕ) (bytes : List ℕ) → op ≡ ReadQueue q room → answer ≡ Bytes bytes → ⊥) → Reading q op answer
-
-effect_reading :
-    (s : State) (client context : ℕ) (op : Op) (mid : State) (answer : Answer) (q : ℕ) → IsSound s
-    → Effect s client context op mid answer → Reading q op answer
-effect_reading s client context _ _ _ q sound (OfKeys op mid answer other comes stays) =
-    NotReading (λ room bytes asked gave. true≢false (sym (ap is_of_queues asked) ∙ other))
-effect_reading s client context _ _ _ q sound (Opens capacity fits) = NotReading (λ room bytes asked gave. absurd cc)
-effect_reading s client context _ _ _ q sound (Filters number entries queue there) =
-    NotReading (λ room bytes asked gave. absurd cc)
-effect_reading s client context _ _ _ q sound (Reads number room queue there) =
-    let fits = front_fit room queue.waiting (sound.orderly.queues number queue there).fit in
-    ⊎_elim (λ (e : q ≡ number).
-    IsReading room (front room queue.waiting) (ap (λ (k : ℕ). ReadQueue k room) (sym e)) fits refl)
-    (λ apart. NotReading (λ other bytes asked gave. no_other q number (ap queue_read asked) apart))
-    (at_or_apart q number)
-effect_reading s client context _ _ _ q sound (Closes number queue there) =
-    NotReading (λ room bytes asked gave. absurd cc)
-effect_reading s client context _ _ _ q sound (Watches id watch_id number key n queue here there is small) =
-    NotReading (λ room bytes asked gave. absurd cc)
-effect_reading s client context _ _ _ q sound (Unwatches id watch_id number key n queue here names there is has) =
-    NotReading (λ room bytes asked gave. absurd cc)
-effect_reading s client context _ _ _ q sound Leaves = NotReading (λ room bytes asked gave. absurd cc)
-
--- whether an event is
-pub data Read (q : ℕ) (event : Event) : Type 0 where
-  IsOne : (notes : List Record) → AllFit notes → IsRead q event (bytes_of_all notes) → Read q event
-  IsNone : ((bytes : List ℕ) → IsRead q event bytes → ⊥) → Read q event
-
-answer_read :
-    (q : ℕ) (event : Event) (answer : Answer) → event.reply ≡ Ok answer → Reading q event.ask.op answer → Read q event
-answer_read q event answer reply (IsReading room notes asked fits gave) =
-    IsOne notes fits (record { room = room; asked = asked; gave = reply ∙ ap (λ (a : Answer). Ok a) gave })
-answer_read q event answer reply (NotReading never) =
-    IsNone (λ bytes read. never read.room bytes read.asked
-    (same_ok event.reply answer (Bytes bytes) reply read.gave))
-
-ends_read :
-    (s new : State) (event : Event) (reply : Result Answer Errno) (q : ℕ) → event.reply ≡ reply → IsSound s
-    → Ends s event.lane event.ask.context event.ask.op reply new → Read q event
-ends_read s new event (Ok answer) q is sound serves =
-    let effect = effect_of s event.lane event.ask.context event.ask.op serves.mid answer serves.meant in
-    answer_read q event answer is
-    (effect_reading s event.lane event.ask.context event.ask.op serves.mid answer q sound effect)
-ends_read s new event (Err e) q is sound ends =
-    IsNone (λ bytes read. not_both event.reply (Bytes bytes) e read.gave is)
-
-pub step_read : (old new : State) (event : Event) (q : ℕ) → IsSound old → Step old event new → Read q event
-unfolding Step
-step_read old new event q sound step =
-    ends_read (raised old event.moment) new event event.reply q refl (raised_sound old event.moment sound) step
-
-same_bytes : (event : Event) (a b : List ℕ) → event.reply ≡ Ok (Bytes a) → event.reply ≡ Ok (Bytes b) → a ≡ b
-same_bytes event a b h k = ap bytes_given (same_ok event.reply (Bytes a) (Bytes b) h k)
-
--- an event's reply spells one list of records
-pub takes_some : (q : ℕ) (event : Event) → Read q event → (took : List Record) × Takes q event took
-takes_some q event (IsOne notes fits read) = (
-  notes,
-  record {
-    spelled = λ bytes other. (fits, same_bytes event bytes (bytes_of_all notes) other.gave read.gave);
-    nothing = λ never. absurd (never (bytes_of_all notes) read);
-  },
-)
-takes_some q event (IsNone never) =
-    ([], record { spelled = λ bytes read. absurd (never bytes read); nothing = λ none. refl })
-
-pub takes_one :
-    (q : ℕ) (event : Event) (a b : List Record) → Read q event → Takes q event a → Takes q event b → a ≡ b
-takes_one q event a b (IsOne notes fits read) f g =
-    let left = f.spelled (bytes_of_all notes) read in
-    let right = g.spelled (bytes_of_all notes) read in
-    spelled_once a b left.0 right.0 (sym left.1 ∙ right.1)
-takes_one q event a b (IsNone never) f g = f.nothing never ∙ sym (g.nothing never)

@@ -1,5 +1,6 @@
 -- Laws of a search: how searches join, and where an answer stands.
-use Rattle.std.proofs.Common.{◌≡◌, ◌⊎◌, ◌<◌, ◌≤◌, ℕ, zero, suc, ◌||◌, Bool, true, false, cond, List, [], ◌∷◌, ◌++◌, Option, None, Some, Ok, Err, refl, ap, ◌∙◌, sym, inl, inr, ⊎_elim, arith}
+use Rattle.std.proofs.Common.{◌≡◌, ◌⊎◌, ◌<◌, ◌≤◌, ℕ, zero, suc, ◌||◌, Bool, true, false, cond, List, [], ◌∷◌, ◌++◌}
+use Rattle.std.proofs.Common.{Option, None, Some, Ok, Err, refl, ap, ◌∙◌, sym, inl, inr, ⊎_elim, arith}
 use Rattle.std.specs.List.{find, list_any, flat_map, slice_get}
 use Rattle.std.specs.Option.{option_or}
 use Rattle.std.proofs.lemmas.Bool.{cases_lt}
@@ -12,7 +13,9 @@ use Rattle.krs_types.specs.Refusing.{or_refuse}
 use Rattle.krs_model.specs.State.{State}
 use Rattle.krs_model.specs.Possession.{attached}
 use Rattle.krs_model.specs.Levels.{level, levels}
-use Rattle.krs_model.specs.Search.{Searcher, searcher_of, entered, searched, is_answer, is_revoked, is_expired, is_denied, fault, fault_among, sought, found_by, found, requested, weightier, or_next}
+use Rattle.krs_model.specs.Search.{Searcher, searcher_of, entered, searched, is_answer, is_revoked, is_expired}
+use Rattle.krs_model.specs.Search.{is_denied, fault, fault_among, sought, found_by, found, requested, weightier}
+use Rattle.krs_model.specs.Search.{or_next}
 use Rattle.krs_model.specs.Laws.{IsBefore, IsFirstAnswer, HasNoAnswer, in_turn}
 
 -- the weightier of two faults is that of the matches of both

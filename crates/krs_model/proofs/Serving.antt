@@ -11,28 +11,16 @@ use Rattle.krs_model.specs.State.{State, Key, Queue, raised}
 use Rattle.krs_model.specs.Queues.{Queues, Watch, queues_of, watch_at}
 use Rattle.krs_model.specs.Reach.{IsAcyclic, links_in}
 use Rattle.krs_model.specs.Sound.{IsSound}
-use Rattle.krs_model.specs.Sweep.{IsSweep, IsSwept, live_watches}
+use Rattle.krs_model.specs.Sweep.{IsSweep, live_watches}
 use Rattle.krs_model.specs.Step.{Serves, outcome_of, posts_by, watches_left}
 use Rattle.krs_model.specs.Serving.{Tells, SweepsOut}
 use Rattle.krs_model.specs.Notes.Posting.{Note, Post, removal_for, posts_of, posts, dropped_watches, posted_in}
 use Rattle.krs_model.specs.Notes.Telling.{notes_of, ended_by, named}
-use Rattle.krs_model.proofs.Sweeps.{swept_sweep}
 use Rattle.krs_model.proofs.Posting.{post_all-append}
 use Rattle.krs_model.proofs.Effects.{Effect, OfKeys, Opens, Filters, Reads, Closes, Watches, Unwatches, Leaves}
 use Rattle.krs_model.proofs.Effects.{effect_of}
 use Rattle.krs_model.proofs.Keeping.{ended_set}
-use Rattle.krs_model.proofs.Receiving.{swept_drops_none}
 use Rattle.krs_model.proofs.Soundness.{served_sound, served_acyclic, raised_sound}
-
--- posts before the sweep are posts after it
-pub posted_sweep :
-    (ps : List Post) (mid swept : State) → IsSweep mid swept → IsSweep (posted_in ps mid) (posted_in ps swept)
-posted_sweep ps mid swept sweep = record {
-  kept = sweep.kept;
-  picks = sweep.picks;
-  keys = sweep.keys;
-  rest = ap (posted_in ps) sweep.rest;
-}
 
 -- what is swept after posts is what was swept before them, with those posts
 pub record SweptBefore (ps : List Post) (mid new : State) : Type 0 where
@@ -104,18 +92,6 @@ serves_in_turn {s} {told} {new} {client} {context} {op} {answer} tells sweeps =
           ∙ (posted_twice ps (gone mid swept.keys) swept ∙ ap (λ (qs : List Post). posted_in qs swept) all)));
     }
 
--- the sweep of what is swept is nothing to do
-pub sweeps_nothing : (told : State) → IsSwept told → SweepsOut told told
-sweeps_nothing told is = record {
-  swept = told;
-  sweep = swept_sweep told is;
-  posted = sym (posted_nothing _ told (ap (map removal_for) (swept_drops_none told told is (swept_sweep told is))));
-}
-
--- posts leave a swept state swept
-pub posted_swept : (ps : List Post) (s : State) → IsSwept s → IsSwept (posted_in ps s)
-posted_swept ps s is = record { keys = is.keys; watches = is.watches }
-
 -- an ask that tells nothing
 pub tells_nothing :
     {s mid : State} {client context : ℕ} {op : Op} {answer : Answer}
@@ -125,19 +101,6 @@ tells_nothing {s} {mid} {client} {context} {op} {answer} meant no_notes none_end
     let ps = posts (queues_of s) (notes_of s client context op answer) (ended_by s client context op) in
     let nothing : ps ≡ [] = rw (no_notes, none_ended) refl in
     record { mid = mid; meant = meant; posted = sym (posted_nothing ps mid nothing) }
-
--- an ask that tells one note
-pub tells_note :
-    {s mid told : State} {client context : ℕ} {op : Op} {answer : Answer} (note : Note)
-    → outcome_of s client context op ≡ Ok (mid, answer) → notes_of s client context op answer ≡ note ∷ []
-    → ended_by s client context op ≡ [] → told ≡ posted_in (posts_of (queues_of s) note) mid
-    → Tells s client context op answer told
-tells_note {s} {mid} {told} {client} {context} {op} {answer} note meant notes none_ended posted =
-    let one : posts_of (queues_of s) note
-    ≡ posts (queues_of s) (notes_of s client context op answer) (ended_by s client context op) =
-    let ps = posts_of (queues_of s) note in
-    rw (notes, none_ended) (sym (append-nil (ps ++ []) ∙ append-nil ps)) in
-    record { mid = mid; meant = meant; posted = posted ∙ ap (λ (ps : List Post). posted_in ps mid) one }
 
 -- an ask that ends one watch
 pub tells_ended :

@@ -1,9 +1,8 @@
 -- The bytes of records are those of no other records: which record comes first is guessed by its type, subtype and
 -- length.
-use Rattle.std.specs.Prelude.{slice_index, nat_lt, if◌then◌else◌}
-use Rattle.std.proofs.Common.{◌≡◌, ℕ, ◌+◌, ◌*◌, ◌/◌, ◌%◌, ◌<◌, ◌≤◌, ◌==◌, ◌&&◌, List, [], ◌∷◌, ◌++◌, Option, Some}
-use Rattle.std.proofs.Common.{None, length, ltb, false, refl, sym, ap, ◌∙◌, arith}
-use Rattle.std.specs.Option.{option_map}
+use Rattle.std.proofs.Common.{◌≡◌, ℕ, ◌+◌, ◌*◌, ◌/◌, ◌%◌, ◌<◌, ◌≤◌, List, [], ◌∷◌, ◌++◌, Some, length, ltb, false}
+use Rattle.std.proofs.Common.{refl, sym, ap, ◌∙◌, arith}
+use Rattle.std.specs.List.{slice_index}
 use Rattle.std.specs.Int.{w32, w64, to_le_bytes, from_le_bytes}
 use Rattle.std.proofs.lemmas.Nat.{from_le_bytes-to_le_bytes_4, from_le_bytes-to_le_bytes_8}
 use Rattle.std.proofs.lemmas.Bool.{le-ltb}
@@ -14,37 +13,7 @@ use Rattle.krs_types.specs.declared.note.KeyEvent.{KeyEvent}
 use Rattle.krs_types.specs.declared.note.KeyEvent.TheVariants.{Instantiated, Updated, Linked, Unlinked, Cleared}
 use Rattle.krs_types.specs.declared.note.KeyEvent.TheVariants.{Revoked, Invalidated, Setattr}
 use Rattle.krs_model.specs.Notes.Bytes.{event_number, bytes_of, bytes_of_all, Fits, AllFit, Begins}
-
--- the event of a subtype
-abbrev event_numbered : ℕ → Option KeyEvent
-event_numbered n =
-    if n == 0 then Some Instantiated
-    else if n == 1 then Some Updated
-    else if n == 2 then Some Linked
-    else if n == 3 then Some Unlinked
-    else if n == 4 then Some Cleared
-    else if n == 5 then Some Revoked
-    else if n == 6 then Some Invalidated
-    else if n == 7 then Some Setattr
-    else None
-
--- four bytes and eight of them from a place on
-abbrev four : List ℕ → ℕ → List ℕ
-four xs i = slice_index xs i ∷ slice_index xs (i + 1) ∷ slice_index xs (i + 2) ∷ slice_index xs (i + 3) ∷ []
-
-abbrev eight : List ℕ → ℕ → List ℕ
-eight xs i =
-    slice_index xs i ∷ slice_index xs (i + 1) ∷ slice_index xs (i + 2) ∷ slice_index xs (i + 3) ∷ four xs (i + 4)
-
-abbrev guess : List ℕ → Option Record
-guess xs =
-    if nat_lt (length xs) 8 then None
-    else if (slice_index xs 0 == 0) && (slice_index xs 3 == 1) then Some Loss
-    else if nat_lt (length xs) 16 then None
-    else if slice_index xs 0 == 1 then
-    option_map (λ e. Key e (slice_index xs 5) (from_le_bytes w32 (four xs 8)) (from_le_bytes w32 (four xs 12)))
-    (event_numbered (slice_index xs 3))
-    else Some (Removal (slice_index xs 5) (from_le_bytes w64 (eight xs 8)))
+use Rattle.krs_model.specs.Notes.Guess.{guess, event_numbered, four, eight}
 
 -- the two words in front of every record
 header_is : (t n s w : ℕ) (tail : List ℕ) → t < 256 → n < 256 → s < 256 → w < 256 →
@@ -60,7 +29,7 @@ header_is t n s w tail ht hn hs hw =
     let h : (s + 256 * w) / 16777216 % 256 ≡ 0 = omega arith in
     rw (a, b, c, d, e, f, g, h) refl
 
-event_small : (e : KeyEvent) → event_number e < 256
+pub event_small : (e : KeyEvent) → event_number e < 256
 event_small Instantiated = omega arith
 event_small Updated = omega arith
 event_small Linked = omega arith
@@ -80,12 +49,12 @@ event_numbered-event_number Revoked = refl
 event_numbered-event_number Invalidated = refl
 event_numbered-event_number Setattr = refl
 
-bytes_of-Key : (e : KeyEvent) (w k a : ℕ) → w < 256 →
+pub bytes_of-Key : (e : KeyEvent) (w k a : ℕ) → w < 256 →
     bytes_of (Key e w k a) ≡ 1 ∷ 0 ∷ 0 ∷ event_number e ∷ 16 ∷ w ∷ 0 ∷ 0 ∷ (to_le_bytes w32 k ++ to_le_bytes w32 a)
 bytes_of-Key e w k a h = header_is 1 (event_number e) 16 w (to_le_bytes w32 k ++ to_le_bytes w32 a) (omega arith)
     (event_small e) (omega arith) h
 
-bytes_of-Removal : (w id : ℕ) → w < 256 → bytes_of (Removal w id)
+pub bytes_of-Removal : (w id : ℕ) → w < 256 → bytes_of (Removal w id)
     ≡ 0 ∷ 0 ∷ 0 ∷ 0 ∷ 16 ∷ w ∷ 0 ∷ 0 ∷ to_le_bytes w64 id
 bytes_of-Removal w id h = header_is 0 0 16 w (to_le_bytes w64 id) (omega arith) (omega arith) (omega arith) h
 
@@ -123,7 +92,7 @@ guess-append (Removal w id) rest h =
     ∙ ap (λ n. Some (Removal w n)) (from_le_bytes-to_le_bytes_8 id h.1))
 guess-append Loss rest h = guess-loss (bytes_of Loss ++ rest) (omega arith) refl refl
 
-guess-begins : (r : Record) (bytes : List ℕ) → Fits r → Begins (bytes_of r) bytes → guess bytes ≡ Some r
+pub guess-begins : (r : Record) (bytes : List ℕ) → Fits r → Begins (bytes_of r) bytes → guess bytes ≡ Some r
 guess-begins r bytes h b = ap guess b.1 ∙ guess-append r b.0 h
 
 no_bytes : (r : Record) (rest : List ℕ) → [] ≡ bytes_of r ++ rest → ⊥

@@ -21,6 +21,7 @@ use Rattle.krs_model.proofs.Tables.{at_alter_none, at_map}
 use Rattle.krs_model.proofs.Tables.{at_kept, below_put, below_filter}
 use Rattle.krs_model.proofs.Reaching.{AddsAtMost, From, acyclic_fewer, acyclic_adds}
 use Rattle.krs_model.proofs.Counts.{IsPart, part_in, none_part, count_on, in_with_link, one_linked}
+use Rattle.krs_model.proofs.Sweeps.{linking_is_there}
 
 -- sound but for the sweep
 pub record Stands (s : State) : Type 0 where
@@ -77,9 +78,9 @@ abbrev IsChanged : {X : Type 0} → Table X → ℕ → (X → X) → ℕ → Ty
 IsChanged es n f k = (k ≡ n) × (at (alter es n f) k ≡ option_map f (at es k))
 
 -- what is at a number after a change at one
-at_alter :
+at_change :
     {X : Type 0} (es : Table X) (n k : ℕ) (f : X → X) → (IsChanged es n f k) ⊎ (at (alter es n f) k ≡ at es k)
-at_alter es n k f =
+at_change es n k f =
     let there : at (alter es n f) n ≡ option_map f (at es n) = at_alter_same es n f in
     ⊎_elim (λ (e : k ≡ n). inl (e, subst (λ (z : ℕ). at (alter es n f) z ≡ option_map f (at es z)) (sym e) there))
     (λ apart. inr (at_alter_other es n k f apart)) (at_or_apart k n)
@@ -96,7 +97,7 @@ pub there_alter :
     {X : Type 0} (es : Table X) (n : ℕ) (f : X → X) (k : ℕ) → IsSome (at es k) → IsSome (at (alter es n f) k)
 there_alter es n f k h =
     ⊎_elim (λ (r : IsChanged es n f k). subst IsSome (sym r.1) (mapped_there f (at es k) h))
-    (λ same. subst IsSome (sym same) h) (at_alter es n k f)
+    (λ same. subst IsSome (sym same) h) (at_change es n k f)
 
 -- the name of a key stays
 abbrev pub NameStays : (Key → Key) → Type 0
@@ -112,7 +113,7 @@ named_alter :
     → is_named name (at (alter es n f) k) ≡ is_named name (at es k)
 named_alter es n f k name stays =
     ⊎_elim (λ (r : IsChanged es n f k). ap (is_named name) r.1 ∙ named_mapped f (at es k) name stays)
-    (λ same. ap (is_named name) same) (at_alter es n k f)
+    (λ same. ap (is_named name) same) (at_change es n k f)
 
 -- the links of a key become fewer, or stay, and its name stays
 pub record Lessens (f : Key → Key) : Type 0 where
@@ -127,7 +128,7 @@ less_alter : (es : Table Key) (n : ℕ) (f : Key → Key) → Lessens f → IsLe
 less_alter es n f lessens = record {
   links = λ j. ⊎_elim (λ (r : IsChanged es n f j).
       subst (HasPart (links_in es j)) (sym r.1) (mapped_part f (at es j) lessens))
-      (λ same. subst (HasPart (links_in es j)) (sym same) (λ p. omega arith)) (at_alter es n j f);
+      (λ same. subst (HasPart (links_in es j)) (sym same) (λ p. omega arith)) (at_change es n j f);
   names = λ name k h. sym (named_alter es n f k name lessens.named) ∙ h;
 }
 
@@ -191,10 +192,6 @@ linking_kept : (b : Bool) (o : Option Key) (k : ℕ) → is_in k (linked_by (con
 linking_kept true o k h = refl
 linking_kept false o k h = absurd (true≢false (sym h))
 
-linker_there : (k : ℕ) (o : Option Key) → is_in k (linked_by o) ≡ true → IsSome o
-linker_there k None h = absurd (true≢false (sym h))
-linker_there k (Some v) h = refl
-
 -- the keys that a sweep keeps, with the watches at whatever keys
 kept_stands :
     (s : State) (kept : ℕ → Bool) (watches : List ((ℕ × ℕ) × ℕ)) → PicksHeld s.keys (roots s) kept → Stands s
@@ -210,7 +207,7 @@ kept_stands s kept watches picks stands =
           let was : LinksTo k (at s.keys j) = part_in (links_in keys j) (links_in s.keys j) k (less.links j) i in
           let links : LinksTo k (cond (kept j) (at s.keys j) None) = subst (LinksTo k) (at_kept kept s.keys j) i in
           let still : kept j ≡ true = linking_kept (kept j) (at s.keys j) k links in
-          let held = picks.only j (linker_there k (at s.keys j) was) still in
+          let held = picks.only j (linking_is_there k (at s.keys j) was) still in
           stays k (Linked j k held was) (stands.linked j k was);
       attached = λ k i. stays k (Attached k i) (stands.attached k i);
       placed = stands.placed;
@@ -352,7 +349,7 @@ linked_stands s ring serial displaced there opens alike stands =
     ⊎_elim (λ (r : IsChanged s.keys ring f j).
     ⊎_elim (λ (was : is_in k (links_in s.keys j) ≡ true). inl was) (λ (e : k ≡ serial). inr (r.0, e))
     (in_mapped displaced serial (at s.keys j) k (subst (LinksTo k) r.1 i)))
-    (λ e. inl (subst (LinksTo k) e i)) (at_alter s.keys ring j f) in
+    (λ e. inl (subst (LinksTo k) e i)) (at_change s.keys ring j f) in
     let stays : NameStays f = λ v name. refl in
     record {
       acyclic = acyclic_adds (links_in s.keys) (links_in keys) ring serial adds opens stands.acyclic;
@@ -369,7 +366,7 @@ linked_stands s ring serial displaced there opens alike stands =
           subst (HasOne p) (sym r.1) (one_mapped displaced p serial (at s.keys q)
           (λ mine k i. alike name mine k (subst (λ (z : ℕ). is_in k (links_in s.keys z) ≡ true) r.0 i))
           (stands.once q name)))
-          (λ e. subst (HasOne p) (sym e) (stands.once q name)) (at_alter s.keys ring q f) in
+          (λ e. subst (HasOne p) (sym e) (stands.once q name)) (at_change s.keys ring q f) in
           omega arith;
       unused = λ q le. at_alter_none s.keys ring q f (stands.unused q le);
     }

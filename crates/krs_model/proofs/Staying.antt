@@ -1,11 +1,9 @@
 -- Between an ask and its sweep each watch is at a key that is there: an ask takes no key away.
-use Rattle.std.proofs.Common.{◌≡◌, ℕ, List, [], ◌∷◌, Bool, true, false, not, cond, filter, length}
-use Rattle.std.proofs.Common.{refl, ap, sym, subst, arith}
-use Rattle.std.specs.Option.{IsSome, is_some}
-use Rattle.std.proofs.lemmas.List.Filters.{length-filter_both}
+use Rattle.std.proofs.Common.{◌≡◌, ℕ, List, [], ◌∷◌}
+use Rattle.std.proofs.Common.{refl, ap, sym, subst}
 use Rattle.krs_types.specs.declared.ask.Answer.{Answer}
 use Rattle.krs_types.specs.declared.ask.Op.{Op}
-use Rattle.krs_model.specs.Table.{Table, at}
+use Rattle.krs_model.specs.Table.{Table}
 use Rattle.krs_model.specs.State.{State, Key, raised}
 use Rattle.krs_model.specs.Queues.{Queues, Watch}
 use Rattle.krs_model.specs.Orderly.{Each}
@@ -16,33 +14,10 @@ use Rattle.krs_model.specs.Notes.Posting.{dropped_watches}
 use Rattle.krs_model.specs.Asks.Leaving.{left}
 use Rattle.krs_model.proofs.Fitting.{each_filter, each_on}
 use Rattle.krs_model.proofs.Rising.{each_with, each_without}
-use Rattle.krs_model.proofs.Effects.{Effect, OfKeys, Opens, Filters, Reads, Closes, Watches, Unwatches, Leaves, effect_of}
+use Rattle.krs_model.proofs.Effects.{Effect, OfKeys, Opens, Filters, Reads, Closes, Watches, Unwatches, Leaves}
+use Rattle.krs_model.proofs.Effects.{effect_of}
 use Rattle.krs_model.proofs.Soundness.{raised_sound}
-
--- the watch is at a key that is there
-abbrev pub IsLive : Table Key → Watch → Type 0
-IsLive keys w = IsSome (at keys w.0.0)
-
--- a filter that leaves a list longer than its rest has left the first
-too_long : (p : Watch → Bool) (w : Watch) (ws : List Watch) → filter p ws ≡ w ∷ ws → ⊥
-too_long p w ws h =
-    let both = length-filter_both p (λ v. not (p v)) (λ v. refl) ws in
-    let all : length (filter p ws) ≡ length (w ∷ ws) = ap length h in
-    omega arith
-
-pub live_each : (keys : Table Key) (ws : List Watch) → live_watches keys ws ≡ ws → Each (IsLive keys) ws
-live_each keys [] h = tt
-live_each keys (w ∷ ws) h =
-    let rest = live_watches keys ws in
-    elim (is_some (at keys w.0.0)) as
-    (λ b. is_some (at keys w.0.0) ≡ b → cond b (w ∷ rest) rest ≡ w ∷ ws → Each (IsLive keys) (w ∷ ws)) [
-      | true ↦ λ t same. let tail : rest ≡ ws = cc in (t, live_each keys ws tail)
-      | false ↦ λ t same. absurd (too_long (λ v. is_some (at keys v.0.0)) w ws same)
-    ] refl h
-
-pub each_live : (keys : Table Key) (ws : List Watch) → Each (IsLive keys) ws → live_watches keys ws ≡ ws
-each_live keys [] h = refl
-each_live keys (w ∷ ws) h = rw h.0 (ap (λ (vs : List Watch). w ∷ vs) (each_live keys ws h.1))
+use Rattle.krs_model.proofs.Swept.{IsLive, live_each, each_live}
 
 no_dead : (keys : Table Key) (ws : List Watch) → Each (IsLive keys) ws → dropped_watches keys ws ≡ []
 no_dead keys [] h = refl
@@ -80,4 +55,5 @@ told_live {old} {up} {told} {client} {context} {op} {answer} moment sound raise 
     let mid = tells.mid in
     let live = effect_live up client context op mid answer (effect_of up client context op mid answer tells.meant)
     (live_each up.keys up.watches above.swept.watches) in
-    subst (λ (t : State). live_watches t.keys t.watches ≡ t.watches) (sym tells.posted) (each_live mid.keys mid.watches live)
+    subst (λ (t : State). live_watches t.keys t.watches ≡ t.watches) (sym tells.posted)
+    (each_live mid.keys mid.watches live)

@@ -1,18 +1,18 @@
 -- Laws of sweeps.
-use Rattle.std.proofs.Common.{◌≡◌, ℕ, List, [], ◌∷◌, ◌++◌, Option, Some, None, Bool, true, false, cond, filter, flat_map, refl, ap, ◌∙◌, sym, subst, ⊎_elim}
+use Rattle.std.proofs.Common.{◌≡◌, ℕ, List, [], ◌∷◌, Option, Some, None, Bool, true, false, cond, filter, refl, ap}
+use Rattle.std.proofs.Common.{◌∙◌, sym, subst}
 use Rattle.std.specs.List.{find}
 use Rattle.std.proofs.lemmas.Option.{none-some, same_Some}
-use Rattle.std.specs.Ordering.{nat_cmp, match_ordering, is_eq}
-use Rattle.std.specs.declared.cmp.Ordering.TheVariants.{Less, Equal, Greater}
+use Rattle.std.specs.Ordering.{nat_cmp}
 use Rattle.std.specs.Option.{IsSome, is_some}
 use Rattle.std.specs.BTreeMap.{is_at}
 use Rattle.std.proofs.lemmas.Bool.{true≢false}
-use Rattle.krs_model.specs.Table.{Table, at, put}
+use Rattle.krs_model.specs.Table.{Table, at}
 use Rattle.krs_model.specs.State.{State, Key}
 use Rattle.krs_model.specs.Levels.{is_in}
-use Rattle.krs_model.specs.Sweep.{IsHeld, Attached, Linked, PicksHeld, AllHeld, IsSweep, IsSwept, live_watches, linked_by, roots}
+use Rattle.krs_model.specs.Sweep.{IsHeld, Attached, Linked, PicksHeld, AllHeld, IsSweep, IsSwept, live_watches}
+use Rattle.krs_model.specs.Sweep.{linked_by, roots}
 use Rattle.krs_model.proofs.Tables.{at_kept, is_at_same}
-use Rattle.krs_model.proofs.Levels.{in_left, in_right, in_one}
 
 filter_all : {X : Type 0} (xs : List X) → xs ≡ filter (λ x. true) xs
 filter_all [] = refl
@@ -35,7 +35,8 @@ swept_sweep s swept = record {
   rest = ap (λ ws. record s { watches = ws }) (sym swept.watches);
 }
 
-linking_is_there : (k : ℕ) (o : Option Key) → is_in k (linked_by o) ≡ true → IsSome o
+-- a key that links another is there
+pub linking_is_there : (k : ℕ) (o : Option Key) → is_in k (linked_by o) ≡ true → IsSome o
 linking_is_there k None h = absurd (true≢false (sym h))
 linking_is_there k (Some key) h = refl
 
@@ -73,26 +74,6 @@ sweep_swept old new s =
 pub held_on : (old new : Table Key) (before after : List ℕ) → ((k : ℕ) → is_in k before ≡ true → is_in k after ≡ true) → ((j k : ℕ) → is_in k (linked_by (at old j)) ≡ true → is_in k (linked_by (at new j)) ≡ true) → (k : ℕ) → IsHeld old before k → IsHeld new after k
 held_on old new before after attach link _ (Attached k i) = Attached k (attach k i)
 held_on old new before after attach link _ (Linked j k held i) = Linked j k (held_on old new before after attach link j held) (link j k i)
-
--- what was attached by a table is attached by one with a further entry
-pub attached_more : {X : Type 0} (g : X → List ℕ) (es : Table X) (k : ℕ) (v : X) (q : ℕ) → at es k ≡ None → is_in q (flat_map (λ e. g e.1) es) ≡ true → is_in q (flat_map (λ e. g e.1) (put es k v)) ≡ true
-attached_more g [] k v q none h = absurd (true≢false (sym h))
-attached_more {X = X} g (e ∷ es) k v q none h =
-    elim (nat_cmp k e.0) as (λ r. nat_cmp k e.0 ≡ r → cond (is_eq r) (Some e.1) (at es k) ≡ None → is_in q (flat_map (λ (d : ℕ × X). g d.1) (match_ordering r ((k, v) ∷ e ∷ es) ((e.0, v) ∷ es) (e ∷ put es k v))) ≡ true) [
-      | Less ↦ λ t n. in_right q (g v) (g e.1 ++ flat_map (λ d. g d.1) es) h
-      | Equal ↦ λ t n. absurd (none-some e.1 (sym n))
-      | Greater ↦ λ t n. ⊎_elim (λ here. in_left q (g e.1) (flat_map (λ d. g d.1) (put es k v)) here) (λ later. in_right q (g e.1) (flat_map (λ d. g d.1) (put es k v)) (attached_more g es k v q n later)) (in_one q (g e.1) (flat_map (λ d. g d.1) es) h)
-    ] refl none
-
--- what the further entry attaches is attached
-pub attached_put : {X : Type 0} (g : X → List ℕ) (es : Table X) (k : ℕ) (v : X) (q : ℕ) → is_in q (g v) ≡ true → is_in q (flat_map (λ e. g e.1) (put es k v)) ≡ true
-attached_put g [] k v q h = in_left q (g v) [] h
-attached_put {X = X} g (e ∷ es) k v q h =
-    elim (nat_cmp k e.0) as (λ r. is_in q (flat_map (λ (d : ℕ × X). g d.1) (match_ordering r ((k, v) ∷ e ∷ es) ((e.0, v) ∷ es) (e ∷ put es k v))) ≡ true) [
-      | Less ↦ in_left q (g v) (g e.1 ++ flat_map (λ d. g d.1) es) h
-      | Equal ↦ in_left q (g v) (flat_map (λ d. g d.1) es) h
-      | Greater ↦ in_right q (g e.1) (flat_map (λ d. g d.1) (put es k v)) (attached_put g es k v q h)
-    ]
 
 -- the entries of a table are there
 abbrev pub AreThere : Table Key → Table Key → Type 0

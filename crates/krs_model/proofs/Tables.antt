@@ -1,5 +1,6 @@
 -- Laws of tables: what is at a number after a change there.
-use Rattle.std.proofs.Common.{◌≡◌, ℕ, [], ◌∷◌, Some, None, Bool, true, false, cond, filter, arith, ◌+◌, ◌<◌, ◌⊎◌, inl, inr, refl, ap, ◌∙◌, sym, subst}
+use Rattle.std.proofs.Common.{◌≡◌, ℕ, [], ◌∷◌, Some, None, Bool, true, false, cond, filter, arith, ◌+◌, ◌<◌, ◌⊎◌, inl}
+use Rattle.std.proofs.Common.{inr, refl, ap, ◌∙◌, sym, subst}
 use Rattle.std.specs.Option.{option_map}
 use Rattle.std.proofs.lemmas.Map.Entries.{lookup-filter-keys}
 use Rattle.std.proofs.lemmas.Bool.Decides.{nat_tests}
@@ -89,8 +90,6 @@ at_filter_none p (e ∷ es) q h =
 -- what is taken out leaves the numbers that were not given
 pub below_filter : {X : Type 0} (p : ℕ × X → Bool) (es fs : Table X) (n : ℕ) → fs ≡ filter p es → IsBelow es n → IsBelow fs n
 below_filter p es fs n e below = λ q h. ap (λ zs. at zs q) e ∙ at_filter_none p es q (below q h)
-
-pub ruleset alter_lent = (alter_some, alter_none)
 
 -- a map's values seen through f
 pub at_map : {X Y : Type 0} (f : X → Y) (es : Table X) (k : ℕ) → at (map_values f es) k ≡ option_map f (at es k)

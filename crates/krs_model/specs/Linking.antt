@@ -1,5 +1,6 @@
 -- One more link in a keyring: keyctl(2), KEYCTL_LINK; add_key(2).
-use Rattle.std.specs.Prelude.{ℕ, List, [], ◌∷◌, Bool, false, length, nat_le, if◌then◌else◌, Option, None, Some, Result, Ok, Err, find}
+use Rattle.std.specs.Prelude.{ℕ, List, [], ◌∷◌, Bool, false, length, nat_le, if◌then◌else◌, Option, None, Some, Result}
+use Rattle.std.specs.Prelude.{Ok, Err, find}
 use Rattle.krs_types.specs.declared.errno.Errno.{Errno}
 use Rattle.krs_types.specs.declared.errno.Errno.TheVariants.{ENOTDIR, ENFILE}
 use Rattle.krs_types.specs.declared.name.Name.{Name}

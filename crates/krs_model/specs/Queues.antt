@@ -1,5 +1,5 @@
 -- The queues of a store and what they watch: core-api/watch_queue.rst, "Watch List (Notification Source) API".
-use Rattle.std.specs.Prelude.{ℕ, ◌==◌, List, [], Option, Result, Ok, Err, if◌then◌else◌}
+use Rattle.std.specs.Prelude.{ℕ, ◌==◌, not, List, [], filter, Option, Result, Ok, Err, if◌then◌else◌}
 use Rattle.std.specs.Ordering.{nat_cmp, ordering_then}
 use Rattle.std.specs.declared.cmp.Ordering.{Ordering}
 use Rattle.std.specs.BTreeMap.{is_at, insert_entry}
@@ -42,6 +42,10 @@ abbrev pub queue_of : Table Queue → ℕ → ℕ → Result Queue Errno
 queue_of queues client number = do
   queue ← or_refuse EBADF (at queues number)
   if_own_queue client queue
+
+-- the queues of the other clients
+abbrev pub queues_without : ℕ → Table Queue → Table Queue
+queues_without client es = filter (λ e. not (e.1.client == client)) es
 
 -- by key, then by queue
 abbrev pub place_cmp : ℕ × ℕ → ℕ × ℕ → Ordering

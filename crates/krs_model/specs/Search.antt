@@ -1,5 +1,6 @@
 -- Which key a search finds: keyctl(2), KEYCTL_SEARCH; request_key(2); keyrings(7), "Searching for keys".
-use Rattle.std.specs.Prelude.{ℕ, ◌&&◌, List, [], ◌∷◌, Bool, false, not, nat_lt, Option, None, Some, Result, Ok, Err, if◌then◌else◌, find, flat_map}
+use Rattle.std.specs.Prelude.{ℕ, ◌&&◌, List, [], ◌∷◌, Bool, false, not, nat_lt, Option, None, Some, Result, Ok, Err}
+use Rattle.std.specs.Prelude.{if◌then◌else◌, find, flat_map}
 use Rattle.std.specs.List.{list_any}
 use Rattle.krs_types.specs.declared.caller.Caller.{Caller}
 use Rattle.krs_types.specs.declared.context.Context.{Context}

@@ -6,7 +6,10 @@ use Rattle.krs_types.specs.declared.errno.Errno.TheVariants.{ENOMEM}
 use Rattle.krs_types.specs.declared.ask.Answer.{Answer}
 use Rattle.krs_types.specs.declared.ask.Answer.TheVariants.{Nothing}
 use Rattle.krs_types.specs.declared.ask.Op.{Op}
-use Rattle.krs_types.specs.declared.ask.Op.TheVariants.{Hello, Thread, Fork, Exec, GetId, Join, Search, Request, Add, Update, Revoke, Invalidate, Chown, SetPerm, SetTimeout, Link, Unlink, Clear, Read, Describe, Watch, OpenQueue, SetFilter, ReadQueue, CloseQueue, Exit, Leave}
+use Rattle.krs_types.specs.declared.ask.Op.TheVariants.{Hello, Thread, Fork, Exec, GetId, Join, Search, Request, Add}
+use Rattle.krs_types.specs.declared.ask.Op.TheVariants.{Update, Revoke, Invalidate, Chown, SetPerm, SetTimeout, Link}
+use Rattle.krs_types.specs.declared.ask.Op.TheVariants.{Unlink, Clear, Read, Describe, Watch, OpenQueue, SetFilter}
+use Rattle.krs_types.specs.declared.ask.Op.TheVariants.{ReadQueue, CloseQueue, Exit, Leave}
 use Rattle.krs_types.specs.declared.event.Event.{Event}
 use Rattle.krs_model.specs.Table.{Table}
 use Rattle.krs_model.specs.State.{State, Key, raised}

@@ -1,10 +1,12 @@
-ghost use Rattle.std.specs.Prelude.{◌≡◌, ◌↔◌, ◌++◌, ℕ, ℤ, List, [], Bool, Ok, Err, IsErr, IsSome, Some, true, false};
+ghost use Rattle.std.specs.Prelude.{◌≡◌, ◌≢◌, ◌↔◌, ◌++◌, ℕ, ℤ, List, [], Bool, true, false};
+ghost use Rattle.std.specs.Prelude.{Ok, Err, IsErr, IsSome, Some};
 ghost use Rattle.krs_types.specs.declared.caller.Caller.{Caller};
 ghost use Rattle.krs_types.specs.declared.context.Context.{Context};
 ghost use Rattle.krs_types.specs.declared.ask.Answer.{Answer};
 ghost use Rattle.krs_types.specs.declared.ask.Op.{Op};
 ghost use Rattle.krs_types.specs.declared.ask.Op.TheVariants.{Revoke, Read};
 ghost use Rattle.krs_types.specs.declared.errno.Errno.{Errno};
+ghost use Rattle.krs_types.specs.declared.errno.Errno.TheVariants.{ENOMEM};
 ghost use Rattle.krs_types.specs.declared.event.Event.{Event};
 ghost use Rattle.krs_types.specs.declared.name.Name.{Name};
 ghost use Rattle.krs_types.specs.declared.rights.Want.{Want};
@@ -40,20 +42,22 @@ pub fn possession_comes_by_links()
     ensures { (s : State) (c : Context) (k : ℕ) → possessed s c k ≡ true → ComesByLinks s c k }
 {}
 
-/// Without possession the rights are those of one byte alone: the user's, the group's or the others'. keyrings(7), "Access
-/// rights"; profile, group byte counts alone.
+/// Without possession the rights are those of one byte alone: the user's, the group's or the others'. keyrings(7),
+/// "Access rights"; profile, group byte counts alone.
 pub fn rights_come_from_one_byte()
     ensures { (mask uid gid : ℕ) (caller : Caller) → IsOneByte mask uid gid caller (granted mask uid gid caller false) }
 {}
 
 /// What a look-up for a right finds was not revoked, has not expired, and grants the right.
 pub fn look_ups_find_usable_keys()
-    ensures { (s : State) (c : Context) (id : ℤ) (want : Want) (found : ℕ × Key) → look_up s c id want ≡ Ok found → IsUsable s c want found }
+    ensures { (s : State) (c : Context) (id : ℤ) (want : Want) (found : ℕ × Key)
+        → look_up s c id want ≡ Ok found → IsUsable s c want found }
 {}
 
 /// A refusal changes nothing but the clock.
 pub fn refusals_change_the_clock_alone()
-    ensures { (old new : State) (event : Event) → Step old event new → IsErr event.reply → new ≡ raised old event.moment }
+    ensures { (old new : State) (event : Event)
+        → Step old event new → IsErr event.reply → new ≡ raised old event.moment }
 {}
 
 /// A state has one sweep.
@@ -71,8 +75,8 @@ pub fn a_sweep_sweeps()
     ensures { (old new : State) → IsSweep old new → IsSwept new }
 {}
 
-/// Where no keyring reaches itself, the closed choice is that of the held keys: what is left by counts of holders is what
-/// attachments reach. keyrings(7), "Anchoring keys".
+/// Where no keyring reaches itself, the closed choice is that of the held keys: what is left by counts of holders is
+/// what attachments reach. keyrings(7), "Anchoring keys".
 pub fn a_closed_choice_is_the_held_keys()
     ensures { (keys : Table Key) (attached : List ℕ) (kept : ℕ → Bool) → IsAcyclic (links_in keys)
         → (IsClosedChoice keys attached kept) ↔ (PicksHeld keys attached kept) }
@@ -127,15 +131,18 @@ pub fn histories_end_sound()
     ensures { (n : ℕ) (events : List Event) (end : State) → IsLegal (starting_at n) events end → IsSound end }
 {}
 
-/// A reply leads to one state: what is asked at a moment and what it is answered with determine all that a store is then.
+/// A reply leads to one state: what is asked at a moment and what it is answered with determine all that a store is
+/// then. So do the state and what is asked of it determine the reply, but that memory may be wanting.
 pub fn a_reply_leads_to_one_state()
     ensures step { (old a b : State) (event : Event) → Step old event a → Step old event b → a ≡ b }
+    ensures reply { (old a b : State) (e f : Event) → e.lane ≡ f.lane → e.moment ≡ f.moment → e.ask ≡ f.ask
+        → Step old e a → Step old f b → e.reply ≢ Err ENOMEM → f.reply ≢ Err ENOMEM → e.reply ≡ f.reply }
     ensures history { (start a b : State) (events : List Event)
         → IsLegal start events a → IsLegal start events b → a ≡ b }
 {}
 
-/// A step may be taken in turn: the effect of an ask, its notes, the sweep, the removal records. The notes go out by the
-/// watches and filters of the state before the ask all the same. Profile, order of notes.
+/// A step may be taken in turn: the effect of an ask, its notes, the sweep, the removal records. The notes go out by
+/// the watches and filters of the state before the ask all the same. Profile, order of notes.
 pub fn a_step_may_be_taken_in_turn()
     ensures { (s told new : State) (client context : ℕ) (op : Op) (answer : Answer)
         → Tells s client context op answer told → SweepsOut told new → Serves s client context op answer new }
@@ -175,8 +182,8 @@ pub fn histories_move_queues()
 {}
 
 /// Of a queue that was opened in a history and is still open, the records that READ_QUEUE's replies spell, followed by
-/// those that wait, are its stream: the records that its watches and filter call for, with a loss after the last that was
-/// kept wherever some were dropped. Of any queue that was opened, what was read begins that stream.
+/// those that wait, are its stream: the records that its watches and filter call for, with a loss after the last that
+/// was kept wherever some were dropped. Of any queue that was opened, what was read begins that stream.
 /// core-api/watch_queue.rst, "Watch Queue (Notification Output) API".
 pub fn queues_give_their_streams()
     ensures open { (start end : State) (events : List Event) (moves : List Move) (q capacity : ℕ) (queue : Queue)

@@ -1,2 +1,1 @@
-pub mod BytesLemmas
 pub mod SpellingLemmas

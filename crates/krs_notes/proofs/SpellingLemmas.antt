@@ -1,14 +1,17 @@
 -- Bytes of records, taken apart as their reader does it.
-use Rattle.std.proofs.Common.{◌≡◌, ℕ, ◌+◌, ◌*◌, ◌/◌, ◌%◌, ◌<◌, ◌≤◌, List, [], ◌∷◌, ◌++◌, length, zero, suc, get_or, refl, sym, ap, ◌∙◌, arith}
+use Rattle.std.proofs.Common.{◌≡◌, ℕ, ◌+◌, ◌*◌, ◌/◌, ◌%◌, ◌<◌, ◌≤◌, List, [], ◌∷◌, ◌++◌, Some, length, zero, suc}
+use Rattle.std.proofs.Common.{get_or, refl, sym, ap, ◌∙◌, arith}
 use Rattle.std.specs.Int.{w32, to_le_bytes, from_le_bytes}
 use Rattle.std.specs.Int.RustNames.{bit_and}
 use Rattle.std.proofs.lemmas.Nat.{from_le_bytes-to_le_bytes_4, le_bytes_4, and_mask}
 use Rattle.std.proofs.lemmas.Nat.Bits.{and_high_mask}
+use Rattle.std.proofs.lemmas.List.{append-nil}
 use Rattle.krs_types.specs.declared.note.Record.{Record}
 use Rattle.krs_types.specs.declared.note.Record.TheVariants.{Key, Removal, Loss}
-use Rattle.krs_model.specs.Notes.Bytes.{type_of, subtype_of, size_of, watch_of, kind_word, info_of, tail_of, bytes_of, Fits}
-use Rattle.krs_notes.specs.Laws.{word_at, EachIsSpelled, HasOneSpelling}
-use Rattle.krs_notes.proofs.BytesLemmas.{event_small}
+use Rattle.krs_model.specs.Notes.Bytes.{type_of, subtype_of, size_of, watch_of, kind_word, info_of, tail_of, bytes_of}
+use Rattle.krs_model.specs.Notes.Bytes.{Fits}
+use Rattle.krs_model.proofs.Spelling.{event_small, guess-begins}
+use Rattle.krs_notes.specs.Laws.{word_at, EachIsSpelled, HasOneSpelling, NoneBeginsAnother}
 
 subtype_small : (r : Record) → subtype_of r < 256
 subtype_small (Key e w k a) = event_small e
@@ -99,3 +102,10 @@ one_spelling r (a ∷ b ∷ c ∷ d ∷ []) small s = let z = size_large r in le
 one_spelling r (a ∷ b ∷ c ∷ d ∷ e ∷ []) small s = let z = size_large r in let t = s.size in absurd (omega arith)
 one_spelling r (a ∷ b ∷ c ∷ d ∷ e ∷ f ∷ []) small s = let z = size_large r in let t = s.size in absurd (omega arith)
 one_spelling r (a ∷ b ∷ c ∷ d ∷ e ∷ f ∷ g ∷ []) small s = let z = size_large r in let t = s.size in absurd (omega arith)
+
+-- one that began another would be the guess of the other's bytes
+pub none_begins_another : NoneBeginsAnother
+none_begins_another r s hr hs b =
+    let one : Some s ≡ Some r = sym (guess-begins s (bytes_of s) hs ([], sym (append-nil (bytes_of s))))
+    ∙ guess-begins r (bytes_of s) hr b in
+    cc

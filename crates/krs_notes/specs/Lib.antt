@@ -1,2 +1,1 @@
-pub mod Guess
 pub mod Laws

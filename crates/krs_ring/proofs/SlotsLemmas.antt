@@ -1,5 +1,7 @@
 -- Slots, and the waiting list that they stand for.
-use Rattle.std.proofs.Common.{◌≡◌, ℕ, ◌+◌, ◌*◌, ◌-◌, ◌≤◌, ◌<◌, Bool, true, false, List, [], ◌∷◌, ◌++◌, Some, None, length, take, suc, ltb, length-append, refl, sym, ap, ◌∙◌, append_assoc, arith}
+use Rattle.std.proofs.Common.{◌≡◌, ℕ, ◌+◌, ◌*◌, ◌-◌, ◌≤◌, ◌<◌, Bool, true, false, List, [], ◌∷◌, ◌++◌, Some, None}
+use Rattle.std.proofs.Common.{length}
+use Rattle.std.proofs.Common.{take, suc, ltb, length-append, refl, sym, ap, ◌∙◌, append_assoc, arith}
 use Rattle.std.specs.List.{slice_get}
 use Rattle.std.proofs.lemmas.Bool.{lt-ltb, le-ltb}
 use Rattle.circular_buffer.specs.Buffer.{Buffer, buffer, keep_last, last_item}
@@ -13,7 +15,7 @@ use Rattle.krs_ring.specs.Ring.{Ring}
 use Rattle.krs_ring.specs.Slots.{notes_of, marked, HasNoLoss}
 use Rattle.krs_ring.specs.View.{ring_of}
 use Rattle.krs_ring.specs.declared.ring.Slot.{Slot}
-use Rattle.krs_ring.proofs.StreamLemmas.{total_room-append, ends_lost, ends_lost-append, marked_list, with_loss-is}
+use Rattle.krs_model.proofs.Streams.{total_room-append, ends_lost, ends_lost-append, marked_list, with_loss-is}
 
 notes_of-append : (a b : List Slot) → notes_of (a ++ b) ≡ notes_of a ++ notes_of b
 notes_of-append [] b = refl

@@ -12,7 +12,7 @@ use Rattle.krs_model.proofs.Serving.{posted_nothing}
 use Rattle.krs_model.proofs.Staying.{none_dropped}
 use Rattle.krs_keys.specs.declared.key.Key.{Key}
 use Rattle.krs_keys.specs.Keys.{shown}
-use Rattle.krs_keys.specs.Marks.{Sweeps}
+use Rattle.krs_keys.specs.Kept.{Sweeps}
 use Rattle.krs_watch.specs.Changes.{swept}
 use Rattle.krs_store.specs.declared.tables.Tables.TheInside.{Inside}
 use Rattle.krs_store.specs.View.{state_of}

@@ -40,9 +40,10 @@ use Rattle.krs_model.proofs.Roots.{uid_keys, attached_at, in_uid}
 use Rattle.krs_model.proofs.Standing.{not_there}
 use Rattle.krs_model.proofs.Lookups.{look_up_usable}
 use Rattle.krs_model.proofs.Making.{made_thread, made_process}
-use Rattle.krs_model.proofs.MadeLemmas.{HasMade, HasMadeFor, MadeNone, MadeOne, thread_has, process_has}
-use Rattle.krs_model.proofs.MadeLemmas.{made_for_has, IsFit, sound_fit, look_up_other, look_up_new}
-use Rattle.krs_model.proofs.MadeLemmas.{linked_new, linked_into_new, linked_into_self, place_of_new, got_new}
+use Rattle.krs_model.proofs.NewKeyring.{HasMade, HasMadeFor, MadeNone, MadeOne, thread_has, process_has, made_for_has}
+use Rattle.krs_model.proofs.NewLookups.{look_up_other, look_up_new}
+use Rattle.krs_model.proofs.NewLinks.{IsFit, sound_fit, linked_new, linked_into_new, linked_into_self, place_of_new}
+use Rattle.krs_model.proofs.NewLinks.{got_new}
 use Rattle.krs_store.specs.declared.asks.making.Special.{Special}
 use Rattle.krs_store.specs.declared.asks.making.Special.TheVariants.{Thread, Process}
 use Rattle.krs_store.specs.Specials.{special_name, with_ring, IsMissing, id_of, Makes, is_coming_as, is_coming}

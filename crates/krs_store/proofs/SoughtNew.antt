@@ -1,11 +1,12 @@
 -- SEARCH and REQUEST where a thread or process keyring is made for the destination, from what the store has looked up
 -- to what they come to.
-use Rattle.std.proofs.Common.{◌≡◌, ◌≢◌, ℕ, ℤ, to_z, of_z, FitsSigned, List, Option, None, Some, Bool, true, false}
-use Rattle.std.proofs.Common.{Result, Ok, Err, refl, ap, ◌∙◌, sym, subst, cond}
+use Rattle.std.proofs.Common.{◌≡◌, ◌≢◌, ℕ, ℤ, to_z, of_z, FitsSigned, List, [], ◌∷◌, Option, None, Some, Bool}
+use Rattle.std.proofs.Common.{true, false, Result, Ok, Err, refl, ap, ◌∙◌, sym, subst, cond}
 use Rattle.std.specs.Int.{w32}
 use Rattle.std.specs.List.{flat_map, find}
 use Rattle.std.specs.Option.{IsSome, option_to_list}
 use Rattle.std.proofs.lemmas.Int.{to_z-of_z}
+use Rattle.std.proofs.lemmas.Option.{none-some, same_Some}
 use Rattle.krs_types.specs.declared.errno.Errno.{Errno}
 use Rattle.krs_types.specs.declared.errno.Errno.TheVariants.{ENOKEY, EACCES, ELOOP}
 use Rattle.krs_types.specs.declared.ask.Answer.TheVariants.{Number}
@@ -35,9 +36,9 @@ use Rattle.krs_model.specs.Asks.Finding.{if_linkable, is_wanted}
 use Rattle.krs_model.proofs.Lookups.{look_up_usable}
 use Rattle.krs_model.proofs.Searching.{found_is_first}
 use Rattle.krs_model.proofs.Standing.{not_there}
-use Rattle.krs_model.proofs.MadeLemmas.{found_into_new, found_into_self, linked_into_new, sought_into_new}
-use Rattle.krs_model.proofs.MadeLemmas.{requested_into_new, requested_with}
-use Rattle.krs_keys.proofs.Marks.{find_sound}
+use Rattle.krs_model.proofs.NewSearches.{requested_with}
+use Rattle.krs_model.proofs.NewLinks.{found_into_new, found_into_self, linked_into_new, sought_into_new}
+use Rattle.krs_model.proofs.NewLinks.{requested_into_new}
 use Rattle.krs_store.specs.declared.asks.making.Special.{Special}
 use Rattle.krs_store.specs.declared.asks.making.Special.TheVariants.{Thread, Process}
 use Rattle.krs_store.specs.Found.{if_granted, found_below}
@@ -60,6 +61,15 @@ first_found : (e : Errno) (o : Option ℕ) (k : ℕ) → or_refuse e o ≡ Ok k 
 first_found e None k h = cc
 first_found e (Some x) k h = cc
 
+-- what is found passes the test
+find_passes : (p : ℕ → Bool) (xs : List ℕ) (k : ℕ) → find p xs ≡ Some k → p k ≡ true
+find_passes p [] k h = absurd (none-some k h)
+find_passes p (x ∷ xs) k h =
+    elim (p x) as (λ b. p x ≡ b → cond b (Some x) (find p xs) ≡ Some k → p k ≡ true) [
+      | true ↦ λ t m. subst (λ (z : ℕ). p z ≡ true) (same_Some x k m) t
+      | false ↦ λ t m. find_passes p xs k m
+    ] refl h
+
 requested_there :
     (s : State) (c : Context) (name : Name) (k : ℕ) → requested s c name ≡ Ok k → IsSome (at s.keys k)
 unfolding requested
@@ -67,7 +77,7 @@ requested_there s c name k h =
     let by = searcher_of s c in
     let serials = flat_map (searched by) (attached s c) in
     let first = first_found _ (find (is_answer by name) serials) k h in
-    match_there name (is_open by k) (at s.keys k) (find_sound (is_answer by name) serials k first).1
+    match_there name (is_open by k) (at s.keys k) (find_passes (is_answer by name) serials k first)
 
 before_there :
     (special : Special) (s : State) (c : Context) (name : Name) (k : ℕ) → found_before special s c name ≡ Ok k

@@ -19,13 +19,12 @@ use Rattle.krs_model.specs.State as model
 use Rattle.krs_model.specs.Possession.{links_of}
 use Rattle.krs_model.specs.Levels.{is_in}
 use Rattle.krs_model.specs.Linking.{link_named, linking}
-use Rattle.krs_model.specs.Sweep.{IsHeld, Linked, PicksHeld, IsSweep, AllHeld, live_watches, roots}
+use Rattle.krs_model.specs.Sweep.{IsHeld, Linked, PicksHeld, IsSweep, live_watches, roots}
 use Rattle.krs_model.specs.Asks.Hello.{uid_ring, with_uid}
 use Rattle.krs_model.specs.Lookup.{look_up}
 use Rattle.krs_model.specs.Asks.Adding.{made, new_key, IsRing, place_of, by_match}
 use Rattle.krs_model.proofs.Tables.{at_map, put_map, alter_map, filter_map_keys, below_put, at_put_same, at_put_other, at_or_apart}
 use Rattle.krs_model.proofs.Levels.{or_true, same_is}
-use Rattle.krs_model.proofs.Sweeping.{changed_swept}
 use Rattle.krs_store.specs.declared.tables.Tables.TheInside.{Inside}
 use Rattle.krs_keys.specs.declared.key.Key.{Key}
 use Rattle.krs_keys.specs.declared.key.Content.{Content}
@@ -34,12 +33,8 @@ use Rattle.krs_links.specs.Links.{LinkList, serials, linked_as}
 use Rattle.krs_keys.specs.Keys.{seen, seen_content, shown, content_links, name_at, AreNamed, AreFit, IsOfKind, AreOfKind, with_entry, entered, FindsByName, displaced_at, displaced_by}
 use Rattle.krs_store.specs.Making.{maker_key, first_content, uid_key}
 use Rattle.krs_model.specs.Asks.Adding as adding
-use Rattle.krs_keys.specs.Marks.{Sweeps}
+use Rattle.krs_keys.specs.Kept.{Sweeps}
 use Rattle.krs_keys.specs.Table.{Keys, with_key}
-use Rattle.krs_keys.specs.declared.key.Change.{Change}
-use Rattle.krs_keys.specs.Changes.{lets_go, meant_change}
-use Rattle.krs_keys.proofs.ChangesLemmas.{links_left, seen-changed}
-use Rattle.krs_model.specs.Asks.Changing.{changed}
 use Rattle.krs_store.specs.View.{state_of, IsSound}
 use Rattle.krs_keys.proofs.KeysLemmas.{seen-with_entry, found_named, serials-content}
 use Rattle.krs_keys.proofs.KindsLemmas.{kinds_alter, kinds_put, kinds_kept, linked_kind}
@@ -181,19 +176,6 @@ neither false d h = (refl, h)
 pub is_none : {X : Type 0} (o : Option X) → is_some o ≡ false → o ≡ None
 is_none None h = refl
 is_none (Some x) h = absurd (true≢false h)
-
-key_shown_at : (es : Table Key) (k : ℕ) (v : model.Key) → at (shown es) k ≡ Some v → (key : Key) × (at es k ≡ Some key) × (seen key ≡ v)
-key_shown_at es k v h = key_shown (at es k) v (sym (at_map seen es k) ∙ h)
-
--- a change of one key that lets go of nothing leaves every key held
-pub change_swept : (s : Inside) (k : ℕ) (x : Change) → lets_go x (at s.keys.keys k) ≡ false → AllHeld (state_of s) → AllHeld (changed (state_of s) k (meant_change x))
-change_swept s k x kept swept =
-    changed_swept (state_of s) k (meant_change x)
-    (λ v q there i. let is = key_shown_at s.keys.keys k v there in
-    subst (λ (w : model.Key). is_in q (links_of (meant_change x w).content) ≡ true) is.2
-    (subst (λ (w : model.Key). is_in q (links_of w.content) ≡ true) (seen-changed x is.0)
-    (links_left x is.0 q (ap (lets_go x) (sym is.1) ∙ kept) (subst (λ (w : model.Key). is_in q (links_of w.content) ≡ true) (sym is.2) i))))
-    swept
 
 -- where an added key goes is told by the name that the links have
 pub place_told : (s : model.State) (c : Context) (name : Name) (id : ℤ) (ring : ℕ) (key : Key) (links : LinkList) → look_up s c id (Granted WRITE) ≡ Ok (ring, seen key) → key.content ≡ Links links → FindsByName s.keys key → place_of s c name id ≡ by_match s c ring (serials links) (linked_as links name)

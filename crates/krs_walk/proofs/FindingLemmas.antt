@@ -16,13 +16,13 @@ use Rattle.krs_model.specs.State.{Key, State}
 use Rattle.krs_model.specs.Levels.{level, levels, is_in}
 use Rattle.krs_model.specs.Possession.{links_of, possessed, process_ring}
 use Rattle.krs_model.specs.Reach.{is_ring}
-use Rattle.krs_model.specs.Search.{Searcher, entered, open_links, is_open, is_answer, is_revoked, is_expired, is_denied, searched, searcher_of, sought, found, found_by, requested, or_next}
+use Rattle.krs_model.specs.Search.{Searcher, entered, open_links, is_open, is_answer, is_revoked, is_expired, is_denied, searched, sought, found, found_by, requested, or_next}
 use Rattle.krs_model.specs.Sweep.{linked_by}
 use Rattle.krs_model.proofs.Levels.{levels_more}
 use Rattle.krs_model.proofs.Searching.{sought_append}
 use Rattle.krs_walk.specs.Lists.{join}
 use Rattle.krs_walk.specs.Walks.{OnlyRingsLink}
-use Rattle.krs_walk.specs.Searching.{entered_rings, searcher_with, found_with, requested_with}
+use Rattle.krs_walk.specs.Searching.{entered_rings, found_with, requested_with}
 use Rattle.krs_walk.proofs.ListsLemmas.{fresh, join_fresh, join_append, any_join, in_none, in_head, in_cons}
 use Rattle.krs_walk.proofs.LevelsLemmas.{Covers, follow_fresh, at_next}
 use Rattle.krs_walk.proofs.HeldLemmas.{walk_at, joined_front}
@@ -276,10 +276,6 @@ found_in_turn by name a b d first second third e f g =
     ∙ (ap (sought by name) (sym (flat_map-append (searched by) (a ++ b) d)) ∙ ap (λ (zs : List ℕ). sought by name (flat_map (searched by) zs)) (append_assoc a b d))))
 
 -- over a store's own context and moment
-pub searcher_is : (s : State) (c : Context) → searcher_with s.keys s.clock c (process_ring s c.process) ≡ searcher_of s c
-unfolding possessed
-searcher_is s c = refl
-
 pub found_is : (s : State) (c : Context) (head : ℕ) (name : Name) → found_with s.keys s.clock c (process_ring s c.process) head name ≡ found s c head name
 unfolding found possessed
 found_is s c head name = refl

@@ -11,7 +11,7 @@ use Rattle.krs_types.specs.Name.{same_name}
 use Rattle.krs_model.specs.Table.{Table, at}
 use Rattle.krs_model.specs.State as model
 use Rattle.krs_model.specs.Levels.{level, levels, is_in}
-use Rattle.krs_model.specs.Possession.{followed, links_of, possessed, process_ring}
+use Rattle.krs_model.specs.Possession.{followed, links_of}
 use Rattle.krs_model.specs.Reach.{is_ring}
 use Rattle.krs_model.specs.Sweep.{linked_by}
 use Rattle.krs_model.proofs.Levels.{in_flat}
@@ -183,8 +183,3 @@ head_possessed keys clock c ring serial only h = possession_splits keys clock c 
 -- any other is where it is linked
 pub linked_possessed : (keys : Table model.Key) (clock : ℕ) (c : Context) (ring : Option ℕ) (serial : ℕ) → OnlyRingsLink keys → is_in serial (attached_with c ring) ≡ false → possessed_with keys clock c ring serial ≡ is_linked keys clock c ring serial
 linked_possessed keys clock c ring serial only h = possession_splits keys clock c ring serial only ∙ ap (λ b. b || is_linked keys clock c ring serial) h
-
--- over a store's own context and moment
-pub possessed_is : (s : model.State) (c : Context) (serial : ℕ) → possessed_with s.keys s.clock c (process_ring s c.process) serial ≡ possessed s c serial
-unfolding possessed
-possessed_is s c serial = refl

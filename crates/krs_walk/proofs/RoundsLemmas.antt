@@ -73,6 +73,14 @@ search_goes_on p f heads n start all next s h e =
       not_yet = any_all p f heads n start all s.walk ∙ none;
     }
 
+-- the heads are asked, and what they link joins the list
+pub search_behind :
+    (p : ℕ → Bool) (f : ℕ → List ℕ) (heads all next : List ℕ) → all ≡ join [] heads → list_any p heads ≡ false
+    → next ≡ join all (flat_map f (drop 0 all)) → IsSearch p f heads 1 (length all) next
+search_behind p f heads all next e none j =
+    search_goes_on p f heads 0 0 all next (search_starts p f heads all e)
+    (ap (list_any p) e ∙ (any_join p [] heads ∙ none)) j
+
 any_here : (p : ℕ → Bool) (all : List ℕ) (place : ℕ) → place < length all → list_any p (drop place all) ≡ (p (get_or all place 0) || list_any p (drop (place + 1) all))
 any_here p all place lt = ap (list_any p) (drop_more all place 0 lt)
 

@@ -1,7 +1,7 @@
 -- The keyrings of a level, visited one after the other.
-use Rattle.std.proofs.Common.{◌≡◌, ◌≤◌, ◌<◌, ◌+◌, ℕ, List, [], length, drop, get_or, Result, Err, refl, ap, ◌∙◌, sym, arith}
+use Rattle.std.proofs.Common.{◌≡◌, ◌≤◌, ◌<◌, ◌+◌, ℕ, List, length, drop, get_or, Result, Err, ap, ◌∙◌, sym, arith}
 use Rattle.std.specs.List.{flat_map}
-use Rattle.std.proofs.lemmas.List.{append-nil, drop_all, drop_more, get_or_append_left}
+use Rattle.std.proofs.lemmas.List.{drop_more, get_or_append_left}
 use Rattle.krs_types.specs.declared.errno.Errno.{Errno}
 use Rattle.krs_types.specs.declared.name.Name.{Name}
 use Rattle.krs_model.specs.Search.{Searcher, entered, sought, or_next}
@@ -9,16 +9,13 @@ use Rattle.krs_model.proofs.Searching.{sought_append}
 use Rattle.krs_walk.specs.Lists.{join}
 use Rattle.krs_walk.specs.Searching.{entered_rings}
 use Rattle.krs_walk.proofs.RoundsLemmas.{IsRound, Grown, round_more, longer}
-use Rattle.krs_walk.proofs.SoughtLemmas.{next_none, next_next}
+use Rattle.krs_walk.proofs.SoughtLemmas.{next_next}
 
 -- the keyrings of a level before this place were visited: their links have this fault, what is left gives the rest
 pub record IsVisit (by : Searcher) (name : Name) (first all : List ℕ) (start place : ℕ) (before fault : Errno) : Type 0 where
   pub within : length first ≤ length all
   pub round : IsRound (entered_rings by) first all start place
   pub left : or_next (Err fault) (sought by name (flat_map (entered by) (drop place first))) ≡ or_next (Err before) (sought by name (flat_map (entered by) (drop start first)))
-
-pub visit_starts : (by : Searcher) (name : Name) (first : List ℕ) (start : ℕ) (before : Errno) → IsVisit by name first first start start before before
-visit_starts by name first start before = record { within = omega arith; round = record { rest = refl; grown = ([], sym (append-nil first)) }; left = refl }
 
 one_visit : (by : Searcher) (name : Name) (first : List ℕ) (place : ℕ) (fault : Errno) → place < length first →
     or_next (Err fault) (sought by name (flat_map (entered by) (drop place first)))
@@ -50,13 +47,3 @@ visit_goes_on by name first all next start place here before fault more v lt e h
       round = round_more (entered_rings by) first all next start place here v.round lt e j;
       left = visited by name first all start place here before fault (Err more) v lt e h;
     }
-
-pub visit_ends : (by : Searcher) (name : Name) (first all : List ℕ) (start place : ℕ) (before fault : Errno) → IsVisit by name first all start place before fault → length first ≤ place →
-    Err fault ≡ or_next (Err before) (sought by name (flat_map (entered by) (drop start first)))
-visit_ends by name first all start place before fault v le =
-    sym (ap (λ (zs : List ℕ). or_next (Err fault) (sought by name (flat_map (entered by) zs))) (drop_all place first le) ∙ next_none (Err fault)) ∙ v.left
-
-pub visit_joined : (by : Searcher) (name : Name) (first all : List ℕ) (start place : ℕ) (before fault : Errno) → IsVisit by name first all start place before fault → length first ≤ place →
-    all ≡ join first (flat_map (entered_rings by) (drop start first))
-visit_joined by name first all start place before fault v le =
-    sym (ap (λ (zs : List ℕ). join all (flat_map (entered_rings by) zs)) (drop_all place first le)) ∙ v.round.rest

@@ -1,4 +1,4 @@
-ghost use Rattle.std.specs.Prelude.{◌≡◌, ◌≤◌, [], Some, drop, length, IfOk, OnOk};
+ghost use Rattle.std.specs.Prelude.{◌≡◌, ◌≤◌, [], false, Some, drop, length, IfOk, OnOk};
 ghost use Rattle.std.specs.List.{list_any};
 ghost use Rattle.std.specs.Option.{option_to_list};
 ghost use Rattle.krs_model.specs.Levels.{is_in};
@@ -43,14 +43,15 @@ impl Walker {
                 if attached_link(keys, context, process_ring, clock, key, serial) {
                     return Ok(true);
                 }
-                self.is_linked(keys, context, process_ring, clock, key, serial)
+                self.is_linked_below(keys, context, process_ring, clock, key, serial)
             }
             None => Ok(false),
         }
     }
 
-    /// Whether a followed keyring of the first seven levels links a key.
-    fn is_linked(
+    /// Whether a followed keyring of the first seven levels links a key, where no attached one does: these are the
+    /// first level, and are not asked again.
+    fn is_linked_below(
         &self,
         keys: &KeyTable,
         context: &Context,
@@ -61,11 +62,13 @@ impl Walker {
     ) -> Result<bool, AllocError>
         requires fit { AreFit keys.now.keys }
         requires key { at keys.now.keys serial ≡ Some key.now }
+        requires attached { list_any (links_it (shown keys.now.keys) clock context.now.caller serial)
+            (attached_with context.now process_ring) ≡ false }
         ensures { IfOk result (λ b. b ≡ is_linked (shown keys.now.keys) clock context.now process_ring serial) }
     {
         let mut seen = self.attached(context, process_ring)?;
-        let mut start = 0usize;
-        for level in 0..LEVELS {
+        let mut start = next_level(keys, &context.caller, clock, &mut seen, 0)?;
+        for level in 1..LEVELS {
             let _ = level;
             if level_links(keys, &context.caller, clock, &seen, start, key, serial) {
                 return Ok(true);

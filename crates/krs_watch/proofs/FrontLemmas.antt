@@ -1,7 +1,8 @@
 -- Fronts of a waiting list.
-use Rattle.std.proofs.Common.{◌≡◌, ℕ, ◌-◌, ◌≤◌, true, false, cond, leb, List, [], ◌∷◌, Some, None, length, refl, sym, ap, ◌∙◌, arith, length-append}
+use Rattle.std.proofs.Common.{◌≡◌, ℕ, ◌-◌, ◌≤◌, true, false, cond, leb, List, [], ◌∷◌, Some, None, length, refl, sym}
+use Rattle.std.proofs.Common.{ap}
+use Rattle.std.proofs.Common.{◌∙◌, arith, length-append}
 use Rattle.std.specs.List.{slice_get}
-use Rattle.std.proofs.lemmas.Bool.{leb-true}
 use Rattle.krs_types.specs.declared.note.Record.{Record}
 use Rattle.krs_model.specs.Notes.Bytes.{bytes_of, bytes_of_all}
 use Rattle.krs_model.specs.Notes.Front.{front, behind}
@@ -33,18 +34,19 @@ first_within room (q ∷ rs) r h f =
     let same : length (bytes_of r) ≡ length (bytes_of q) = ap (λ (x : Record). length (bytes_of x)) e in
     rw g (omega (arith, length-append (bytes_of q) (bytes_of_all (front (room - length (bytes_of q)) rs))))
 
--- a front fits its room
-pub front_size : (room : ℕ) (rs : List Record) → length (bytes_of_all (front room rs)) ≤ room
-front_size room [] = omega arith
-front_size room (r ∷ rs) = elim (leb (length (bytes_of r)) room) as (λ b. leb (length (bytes_of r)) room ≡ b → length (bytes_of_all (cond b (r ∷ front (room - length (bytes_of r)) rs) [])) ≤ room) [
-  | true ↦ λ t. let more = front_size (room - length (bytes_of r)) rs in omega (arith, leb-true _ _ t, length-append (bytes_of r) (bytes_of_all (front (room - length (bytes_of r)) rs)))
-  | false ↦ λ t. omega arith
-] refl
-
 -- a front is no larger than the list
 pub front_less : (room : ℕ) (rs : List Record) → length (bytes_of_all (front room rs)) ≤ length (bytes_of_all rs)
 front_less room [] = omega arith
-front_less room (r ∷ rs) = elim (leb (length (bytes_of r)) room) as (λ b. length (bytes_of_all (cond b (r ∷ front (room - length (bytes_of r)) rs) [])) ≤ length (bytes_of_all (r ∷ rs))) [
-  | true ↦ let more = front_less (room - length (bytes_of r)) rs in omega (arith, length-append (bytes_of r) (bytes_of_all (front (room - length (bytes_of r)) rs)), length-append (bytes_of r) (bytes_of_all rs))
-  | false ↦ omega arith
-]
+front_less room (r ∷ rs) =
+    let left = room - length (bytes_of r) in
+    elim (leb (length (bytes_of r)) room) as
+    (λ b. length (bytes_of_all (cond b (r ∷ front left rs) [])) ≤ length (bytes_of_all (r ∷ rs))) [
+      | true ↦
+          let more = front_less left rs in
+          omega (
+            arith,
+            length-append (bytes_of r) (bytes_of_all (front left rs)),
+            length-append (bytes_of r) (bytes_of_all rs),
+          )
+      | false ↦ omega arith
+    ]

@@ -2,6 +2,5 @@ pub mod TablesLemmas
 pub mod OffersLemmas
 pub mod FrontLemmas
 pub mod ChangesLemmas
-pub mod LawsLemmas
 pub mod PlacesLemmas
 pub mod WatchersLemmas

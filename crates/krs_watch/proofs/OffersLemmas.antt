@@ -1,10 +1,11 @@
 -- Records that come to queues, by their filters or whatever these are.
-use Rattle.std.proofs.Common.{◌≡◌, ℕ, List, [], ◌∷◌, true, false, cond, Option, Some, None, filter, refl, ap, subst, ◌∙◌}
+use Rattle.std.proofs.Common.{◌≡◌, ℕ, List, [], ◌∷◌, true, false, cond, Option, Some, None, filter, refl, ap, ◌∙◌}
 use Rattle.std.specs.Option.{option_map}
 use Rattle.std.specs.Ordering.{nat_cmp}
 use Rattle.std.specs.BTreeMap.{is_at}
 use Rattle.krs_model.specs.Table.{Table, at, alter}
-use Rattle.krs_model.proofs.Tables.{alter_none, at_alter_same, at_alter_other, same_at}
+use Rattle.krs_model.proofs.Tables.{alter_none}
+use Rattle.krs_model.proofs.Entries.{at_alter}
 use Rattle.krs_types.specs.declared.note.Record.{Record}
 use Rattle.krs_model.specs.State.{Queue}
 use Rattle.krs_model.specs.Notes.Filter.{passes_if_any}
@@ -16,14 +17,6 @@ use Rattle.krs_watch.proofs.TablesLemmas.{alter_same, alter_still}
 filter_stays : (r : Record) (o : Option Queue) (s : Record) → passes_at (option_map (offered r) o) s ≡ passes_at o s
 filter_stays r None s = refl
 filter_stays r (Some queue) s = elim (passes_if_any queue.filter r) as (λ b. passes_if_any (cond b (after_note r queue) queue).filter s ≡ passes_if_any queue.filter s) [ true ↦ refl | false ↦ refl ]
-
--- what is at a number after a change at that one or another
-pub at_alter : {X : Type 0} (es : Table X) (k q : ℕ) (f : X → X) →
-    at (alter es k f) q ≡ cond (is_at (nat_cmp q) k) (option_map f (at es q)) (at es q)
-at_alter es k q f = elim (is_at (nat_cmp q) k) as (λ b. is_at (nat_cmp q) k ≡ b → at (alter es k f) q ≡ cond b (option_map f (at es q)) (at es q)) [
-  | true ↦ λ t. subst (λ (n : ℕ). at (alter es n f) q ≡ option_map f (at es q)) (same_at q k t) (at_alter_same es q f)
-  | false ↦ λ t. at_alter_other es k q f t
-] refl
 
 passes_same : (queues : Table Queue) (k q : ℕ) (r s : Record) →
     passes_at (at (alter queues k (offered r)) q) s ≡ passes_at (at queues q) s

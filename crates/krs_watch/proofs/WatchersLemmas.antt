@@ -5,8 +5,8 @@ use Rattle.krs_types.specs.declared.note.Record.{Record}
 use Rattle.krs_model.specs.Table.{Table, at}
 use Rattle.krs_model.specs.State.{Queue}
 use Rattle.krs_model.specs.Queues.{Watch}
-use Rattle.krs_model.specs.Notes.Posting.{Note, Post, note_for, passes_at, watches_at}
-use Rattle.krs_watch.specs.Laws.{records_for, watches_between, NotesReachTheirWatchers}
+use Rattle.krs_model.specs.Notes.Posting.{Note, Post, note_for, passes_at, watches_at, records_for}
+use Rattle.krs_watch.specs.Laws.{watches_between, NotesReachTheirWatchers}
 
 module _ (queues : Table Queue) (note : Note) (q : ℕ) where
   -- the filter of its queue passes it

@@ -1,5 +1,5 @@
 -- How what a method gives and leaves is compared to the definitions.
-use Rattle.std.specs.Prelude.{◌≡◌, ℕ, Bool, ◌==◌, not, [], ◌∷◌, map, filter, IsOk, Result, Ok, Err}
+use Rattle.std.specs.Prelude.{◌≡◌, ℕ, Bool, not, [], ◌∷◌, map, filter, IsOk, Result, Ok, Err}
 use Rattle.krs_types.specs.declared.errno.Errno.{Errno}
 use Rattle.krs_types.specs.declared.fault.Fault.{Fault}
 use Rattle.krs_types.specs.declared.fault.Fault.TheVariants.{Memory, Refused}
@@ -8,7 +8,7 @@ use Rattle.krs_types.specs.Refusing.{◌>>=◌}
 use Rattle.krs_model.specs.Table.{Table}
 use Rattle.krs_model.specs.State.{Queue}
 use Rattle.krs_model.specs.Queues.{Queues, queue_of}
-use Rattle.krs_model.specs.Notes.Posting.{watches_at, removal_for, posted}
+use Rattle.krs_model.specs.Notes.Posting.{removal_for, posted}
 use Rattle.krs_model.specs.Asks.Watching.{Change, unwatched}
 
 -- a fault is the refusal that is meant, or want of memory for what is accepted
@@ -36,12 +36,6 @@ abbrev pub watch_ended : Queues → ℕ → ℕ → ℕ → Change (Unit {0})
 watch_ended s client number key = do
   ended ← unwatched s client number key
   Ok (posted ((number, Removal ended.1 key) ∷ []) ended.0, tt)
-
--- the watches of a key end, and their queues get removal records
-abbrev pub key_dropped : Queues → ℕ → Queues
-key_dropped s key =
-    posted (map removal_for (watches_at key s.watches))
-    (record s { watches = filter (λ w. not (w.0.0 == key)) s.watches })
 
 -- the watches of keys that are not there end, and their queues get removal records, by rising key, then queue
 abbrev pub swept : (ℕ → Bool) → Queues → Queues

@@ -1,16 +1,12 @@
 -- What the laws say of posts and reads.
-use Rattle.std.specs.Prelude.{◌≡◌, ℕ, ◌==◌, ◌&&◌, List, [], ◌∷◌, map, filter}
+use Rattle.std.specs.Prelude.{◌≡◌, ℕ, ◌==◌, ◌&&◌, List, map, filter}
 use Rattle.std.specs.Option.{option_map}
 use Rattle.krs_types.specs.declared.note.Record.{Record}
 use Rattle.krs_model.specs.Table.{Table, at}
 use Rattle.krs_model.specs.State.{Queue}
 use Rattle.krs_model.specs.Queues.{Queues, Watch}
 use Rattle.krs_model.specs.Notes.Front.{front, behind, IsLongestFront}
-use Rattle.krs_model.specs.Notes.Posting.{Note, Post, note_for, passes_at, posts_of, after_note, post_all}
-
--- the records that are for a queue, in order
-abbrev pub records_for : ℕ → List Post → List Record
-records_for number posts = map (λ p. p.1) (filter (λ p. p.0 == number) posts)
+use Rattle.krs_model.specs.Notes.Posting.{Note, Post, note_for, passes_at, posts_of, after_notes, post_all, records_for}
 
 -- the watches of a key by a queue
 abbrev pub watches_between : ℕ → ℕ → List Watch → List Watch
@@ -21,12 +17,8 @@ abbrev pub NotesReachTheirWatchers : Type 0
 NotesReachTheirWatchers =
     (s : Queues) (note : Note) (number : ℕ) →
     records_for number (posts_of s note)
-    ≡ filter (passes_at (at s.queues number)) (map (λ w. (note_for note w).1) (watches_between note.key number s.watches))
-
--- a queue once these came, one after the other
-abbrev pub after_notes : List Record → Queue → Queue
-after_notes [] queue = queue
-after_notes (note ∷ notes) queue = after_notes notes (after_note note queue)
+    ≡ filter (passes_at (at s.queues number))
+    (map (λ w. (note_for note w).1) (watches_between note.key number s.watches))
 
 -- posts change each queue by the records that are for it, in order, and in no other way
 abbrev pub PostsReachTheirQueues : Type 0

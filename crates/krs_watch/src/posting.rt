@@ -1,8 +1,7 @@
-ghost use Rattle.std.specs.Prelude.{◌≡◌, ◌==◌, not, false, filter, map};
-ghost use Rattle.krs_types.specs.declared.note.Record.TheVariants.{Removal};
+ghost use Rattle.std.specs.Prelude.{◌≡◌, false, map};
 ghost use Rattle.krs_model.specs.Table.{alter};
 ghost use Rattle.krs_model.specs.Notes.Bytes.{is_loss};
-ghost use Rattle.krs_model.specs.Notes.Posting.{watches_at, note_for, removal_for, posts_of, after_note, post_all};
+ghost use Rattle.krs_model.specs.Notes.Posting.{watches_at, note_for, after_note};
 ghost use Rattle.krs_watch.specs.Offers.{offered, offer_all};
 
 use crate::queue::NoteQueue;
@@ -67,29 +66,6 @@ pub(crate) fn post_note(
                     watch: *id,
                     key,
                     aux,
-                },
-            );
-        }
-    }
-}
-
-/// A removal record comes to all that watch the key.
-pub(crate) fn post_removals(
-    queues: &mut BTreeMap<u32, NoteQueue>,
-    watches: &BTreeMap<Place, u8>,
-    key: u32,
-)
-    ensures { queues.new.entries ≡ post_all
-        (map removal_for (watches_at key watches.now.entries)) queues.old.entries }
-{
-    for (place, id) in around(watches, key) {
-        if place.0 == key {
-            post(
-                queues,
-                place.1,
-                Record::Removal {
-                    watch: *id,
-                    id: u64::from(key),
                 },
             );
         }

@@ -1,16 +1,15 @@
 ghost use Rattle.std.specs.Prelude.{◌≡◌, ◌==◌, not, filter, map, is_ok};
 ghost use Rattle.std.specs.List.{list_any};
-ghost use Rattle.krs_model.specs.Queues.{no_queues, queue_of};
+ghost use Rattle.krs_model.specs.Queues.{no_queues, queue_of, queues_without};
 ghost use Rattle.krs_model.specs.Notes.Posting.{posts_of, posted, post_all, removal_for};
-ghost use Rattle.krs_model.specs.Asks.Leaving.{queues_without};
 ghost use Rattle.krs_model.specs.Asks.Watching.{opened, filtered, read_out, closed, watched, without_client, watches_of};
 ghost use Rattle.krs_model.specs.Table.{alter};
 ghost use Rattle.krs_model.specs.Asks.Watching.{with_filter};
 ghost use Rattle.krs_watch.specs.Reads.{ReadsAt};
-ghost use Rattle.krs_watch.specs.Changes.{Leads, LeadsAlways, OwnsQueue, watch_ended, key_dropped, swept};
+ghost use Rattle.krs_watch.specs.Changes.{Leads, LeadsAlways, OwnsQueue, watch_ended, swept};
 
 use crate::keys::KeySet;
-use crate::posting::{Place, post, post_note, post_removals};
+use crate::posting::{Place, post, post_note};
 use crate::queue::NoteQueue;
 use krs_notes::Filter;
 use krs_ring::NoteRing;
@@ -167,14 +166,6 @@ impl WatchQueues {
         post_dropped(&mut self.queues, &self.watches, keys);
         keep_live(&mut self.watches, keys);
     }
-
-    /// The end of all watches of a key that was dropped, of which records go to their queues.
-    pub fn drop_key(&mut self, key: Serial)
-        ensures { self.new ≡ key_dropped self.old key }
-    {
-        post_removals(&mut self.queues, &self.watches, key.number());
-        end_watches_at(&mut self.watches, key.number());
-    }
 }
 
 /// A removal record comes to each queue that watches a key which is not there.
@@ -241,12 +232,6 @@ fn end_watches_of(watches: &mut BTreeMap<Place, u8>, number: u32)
     ensures { watches.new.entries ≡ filter (λ w. not (w.0.1 == number)) watches.old.entries }
 {
     watches.retain(|place, _id| place.1 != number);
-}
-
-fn end_watches_at(watches: &mut BTreeMap<Place, u8>, key: u32)
-    ensures { watches.new.entries ≡ filter (λ w. not (w.0.0 == key)) watches.old.entries }
-{
-    watches.retain(|place, _id| place.0 != key);
 }
 
 fn drop_queues(queues: &mut BTreeMap<u32, NoteQueue>, client: u32)

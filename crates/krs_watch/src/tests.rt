@@ -29,6 +29,17 @@ fn expect_refused(rt: &impl Abort, queues: &mut WatchQueues, room: u32, errno: E
     }
 }
 
+/// The keys below a serial are there.
+struct Below(u32);
+
+impl KeySet for Below {
+    ghost has = { λ keys k. nat_lt k keys.0 };
+
+    fn has(&self, key: Serial) -> bool {
+        key.number() < self.0
+    }
+}
+
 /// uapi linux/keyctl.h, KEYCTL_WATCH_KEY; Documentation/security/keys/core.rst:
 /// the greatest id, a key that is watched already, the end of a watch.
 #[test]
@@ -85,24 +96,13 @@ fn filters_notes(rt: HostRuntime) -> Result<(), Fail> {
     assert_eq!(rt; refused, Err(Errno::EINVAL));
     queues.post_all(KeyEvent::Setattr, Serial::new(5), 0);
     queues.post_all(KeyEvent::Updated, Serial::new(5), 0);
-    queues.drop_key(Serial::new(5));
+    queues.sweep(&Below(5));
     let both = [
         1, 0, 0, 1, 16, 9, 0, 0, 5, 0, 0, 0, 0, 0, 0, 0, 0, 0, 0, 0, 16, 9, 0, 0, 5, 0, 0, 0, 0, 0,
         0, 0,
     ];
     expect(&rt, &mut queues, 64, both.as_slice())?;
     Ok(())
-}
-
-/// The keys below a serial are there.
-struct Below(u32);
-
-impl KeySet for Below {
-    ghost has = { λ keys k. nat_lt k keys.0 };
-
-    fn has(&self, key: Serial) -> bool {
-        key.number() < self.0
-    }
 }
 
 /// Removal records by rising serial, of the keys that are gone: profile, order of notes.

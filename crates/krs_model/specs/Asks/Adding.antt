@@ -1,5 +1,6 @@
 -- ADD: a new key in a keyring, or a new payload for the key that stands there. add_key(2).
-use Rattle.std.specs.Prelude.{◌≡◌, ℕ, ℤ, ◌+◌, ◌&&◌, List, [], Bool, true, nat_lt, if◌then◌else◌, Option, None, Some, false, Result, Ok, Err}
+use Rattle.std.specs.Prelude.{◌≡◌, ℕ, ℤ, ◌+◌, ◌&&◌, List, [], nat_lt, if◌then◌else◌, Option, None, Some, false}
+use Rattle.std.specs.Prelude.{Result, Ok, Err}
 use Rattle.krs_types.specs.declared.errno.Errno.{Errno}
 use Rattle.krs_types.specs.declared.errno.Errno.TheVariants.{EACCES, ENOSPC}
 use Rattle.krs_types.specs.declared.kind.Kind.{Kind}
@@ -18,7 +19,7 @@ use Rattle.krs_model.specs.Possession.{possessed}
 use Rattle.krs_model.specs.Lookup.{context_of, look_up}
 use Rattle.krs_model.specs.Making.{made_for}
 use Rattle.krs_model.specs.Linking.{ring_links, link_named, linking, has_room}
-use Rattle.krs_model.specs.Asks.Changing.{changed, updated}
+use Rattle.krs_model.specs.Asks.Changing.{changed, is_updatable, updated}
 use Rattle.krs_model.specs.Outcome.{Outcome}
 
 -- what is asked for is a key that may be made, and this is its name
@@ -39,13 +40,8 @@ if_room s ring links displaced = do
   room ← has_room links displaced
   if nat_lt 2147483647 s.next_serial then Err ENOSPC else Ok (Made ring)
 
--- a keyring is not updated: profile, dead matches are displaced
-abbrev pub is_updatable : Kind → Bool
-is_updatable User = true
-is_updatable Logon = true
-is_updatable Keyring = false
-
--- a match that is alive and can be updated is updated, where it grants WRITE; any other is displaced
+-- a match that is alive and can be updated is updated, where it grants WRITE; any other is displaced: profile, dead
+-- matches are displaced
 abbrev pub over_match : State → Context → ℕ → List ℕ → ℕ → Option Key → Result Place Errno
 over_match s c ring links found None = if_room s ring links None
 over_match s c ring links found (Some key) =

@@ -1,5 +1,6 @@
 -- UPDATE, SETPERM, CHOWN, SET_TIMEOUT and REVOKE: a change of one key. keyctl(2).
-use Rattle.std.specs.Prelude.{ℕ, ℤ, ◌+◌, ◌==◌, ◌&&◌, ◌||◌, List, [], true, Bool, min, if◌then◌else◌, Option, None, Some, Result, Ok, Err}
+use Rattle.std.specs.Prelude.{ℕ, ℤ, ◌+◌, ◌==◌, ◌&&◌, ◌||◌, List, [], true, false, Bool, min, if◌then◌else◌, Option}
+use Rattle.std.specs.Prelude.{None, Some, Result, Ok, Err}
 use Rattle.krs_types.specs.declared.errno.Errno.{Errno}
 use Rattle.krs_types.specs.declared.errno.Errno.TheVariants.{EACCES, EOPNOTSUPP}
 use Rattle.krs_types.specs.declared.kind.Kind.{Kind}
@@ -31,10 +32,14 @@ abbrev pub updated : List ℕ → Key → Key
 updated payload key = record key { content = paid_with payload key.content; expiry = None }
 
 -- a keyring is not updated: KEYCTL_UPDATE, "EOPNOTSUPP"
+abbrev pub is_updatable : Kind → Bool
+is_updatable User = true
+is_updatable Logon = true
+is_updatable Keyring = false
+
+-- the type can be updated: KEYCTL_UPDATE, "EOPNOTSUPP"
 abbrev pub updatable : Kind → Result Kind Errno
-updatable User = Ok User
-updatable Logon = Ok Logon
-updatable Keyring = Err EOPNOTSUPP
+updatable kind = if is_updatable kind then Ok kind else Err EOPNOTSUPP
 
 -- another payload for a key that may be written: KEYCTL_UPDATE; how long it may be: profile, update range
 unfoldable pub update : State → ℕ → ℕ → ℤ → List ℕ → Outcome

@@ -1,5 +1,6 @@
 -- HELLO: a new context of a client, and the keyrings of a uid that has none. user-keyring(7), user-session-keyring(7).
-use Rattle.std.specs.Prelude.{ℕ, ◌+◌, ◌==◌, ◌&&◌, ◌||◌, ◌++◌, ◌∷◌, List, [], false, nat_lt, nat_le, if◌then◌else◌, Option, None, Some, Result, Ok, Err, codes, decimal, count_by, is_none}
+use Rattle.std.specs.Prelude.{ℕ, ◌+◌, ◌==◌, ◌&&◌, ◌||◌, ◌++◌, ◌∷◌, List, [], false, nat_lt, nat_le, if◌then◌else◌}
+use Rattle.std.specs.Prelude.{Option, None, Some, Result, Ok, Err, codes, decimal, count_by, is_none}
 use Rattle.std.specs.Map.{values_of}
 use Rattle.krs_types.specs.declared.errno.Errno.{Errno}
 use Rattle.krs_types.specs.declared.errno.Errno.TheVariants.{EINVAL, ENOSPC}

@@ -1,5 +1,6 @@
 -- JOIN: another session keyring. keyctl(2), KEYCTL_JOIN_SESSION_KEYRING; session-keyring(7).
-use Rattle.std.specs.Prelude.{ℕ, ◌==◌, ◌&&◌, ◌||◌, List, Bool, true, false, length, nat_lt, bytes_eq, find, if◌then◌else◌, Option, None, Some, Result, Ok, Err, codes}
+use Rattle.std.specs.Prelude.{ℕ, ◌==◌, ◌&&◌, ◌||◌, List, Bool, true, false, length, nat_lt, bytes_eq, find}
+use Rattle.std.specs.Prelude.{if◌then◌else◌, Option, None, Some, Result, Ok, Err, codes}
 use Rattle.std.specs.List.{list_any}
 use Rattle.krs_types.specs.declared.errno.Errno.{Errno}
 use Rattle.krs_types.specs.declared.errno.Errno.TheVariants.{EINVAL, EPERM}

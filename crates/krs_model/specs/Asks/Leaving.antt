@@ -7,31 +7,15 @@ use Rattle.krs_types.specs.declared.context.Context.{Context}
 use Rattle.krs_types.specs.declared.ask.Answer.TheVariants.{Nothing}
 use Rattle.krs_types.specs.Refusing.{◌>>=◌}
 use Rattle.krs_model.specs.Table.{Table, without}
-use Rattle.krs_model.specs.State.{State, Queue}
+use Rattle.krs_model.specs.State.{State}
+use Rattle.krs_model.specs.Queues.{queues_of, with_queues}
 use Rattle.krs_model.specs.Lookup.{context_of}
+use Rattle.krs_model.specs.Asks.Watching.{without_client}
 use Rattle.krs_model.specs.Outcome.{Outcome}
 
 -- the contexts of the other clients
 abbrev pub contexts_without : ℕ → Table Context → Table Context
 contexts_without client es = filter (λ e. not (e.1.client == client)) es
-
--- the queues of the other clients
-abbrev pub queues_without : ℕ → Table Queue → Table Queue
-queues_without client es = filter (λ e. not (e.1.client == client)) es
-
--- the queues and contexts of the client go; then what has no context left: processes and uids, and what has no queue
--- left: watches. Profile, leaving
-unfoldable pub left : State → ℕ → State
-left s client =
-    let contexts = contexts_without client s.contexts in
-    let queues = queues_without client s.queues in
-    record s {
-      contexts = contexts;
-      processes = filter (λ e. list_any (λ c. c.process == e.0) (values_of contexts)) s.processes;
-      uids = filter (λ e. list_any (λ c. c.caller.uid == e.0) (values_of contexts)) s.uids;
-      queues = queues;
-      watches = filter (λ w. list_any (λ e. e.0 == w.0.1) queues) s.watches;
-    }
 
 -- a context of the process is there
 abbrev pub has_process : Table Context → ℕ → Bool
@@ -40,6 +24,18 @@ has_process contexts process = list_any (λ c. c.process == process) (values_of 
 -- a context of the uid is there
 abbrev pub has_uid : Table Context → ℕ → Bool
 has_uid contexts uid = list_any (λ c. c.caller.uid == uid) (values_of contexts)
+
+-- the queues and contexts of the client go; then what has no context left: processes and uids, and what has no queue
+-- left: watches. Profile, leaving
+unfoldable pub left : State → ℕ → State
+left s client =
+    let contexts = contexts_without client s.contexts in
+    let rest : State = record s {
+      contexts = contexts;
+      processes = filter (λ e. has_process contexts e.0) s.processes;
+      uids = filter (λ e. has_uid contexts e.0) s.uids;
+    } in
+    with_queues rest (without_client (queues_of s) client)
 
 -- the context ends; its process ends with the last context of it: process-keyring(7); and the two keyrings of its uid
 -- are let go of with the uid's last context: user-keyring(7); profile, user keyrings stay

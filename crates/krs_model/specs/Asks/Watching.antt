@@ -1,6 +1,7 @@
 -- OPEN_QUEUE, SET_FILTER, READ_QUEUE, CLOSE_QUEUE and WATCH: core-api/watch_queue.rst;
 -- uapi linux/keyctl.h, KEYCTL_WATCH_KEY; Documentation/security/keys/core.rst.
-use Rattle.std.specs.Prelude.{ℕ, ℤ, pos, negsuc, zero, suc, ◌+◌, ◌==◌, not, List, [], length, filter, nat_le, nat_lt, is_some, if◌then◌else◌, Option, None, Some, Result, Ok, Err}
+use Rattle.std.specs.Prelude.{ℕ, ℤ, pos, negsuc, zero, suc, ◌+◌, ◌==◌, not, List, [], length, filter, nat_le, nat_lt}
+use Rattle.std.specs.Prelude.{is_some, if◌then◌else◌, Option, None, Some, Result, Ok, Err}
 use Rattle.std.specs.List.{list_any}
 use Rattle.krs_types.specs.declared.errno.Errno.{Errno}
 use Rattle.krs_types.specs.declared.errno.Errno.TheVariants.{EINVAL, ENFILE, ENOSPC, EBUSY, EBADSLT}
@@ -11,13 +12,13 @@ use Rattle.krs_types.specs.Rights.{VIEW}
 use Rattle.krs_types.specs.Refusing.{◌>>=◌, or_refuse}
 use Rattle.krs_model.specs.Table.{Table, alter, put, without}
 use Rattle.krs_model.specs.State.{State, Queue}
-use Rattle.krs_model.specs.Queues.{Queues, Watch, queues_of, with_queues, queue_of, watch_at, with_watch, without_watch}
+use Rattle.krs_model.specs.Queues.{Queues, Watch, queues_of, with_queues, queue_of, queues_without, watch_at}
+use Rattle.krs_model.specs.Queues.{with_watch, without_watch}
 use Rattle.krs_model.specs.Notes.Bytes.{bytes_of_all}
 use Rattle.krs_model.specs.Notes.Filter.{filter_of}
 use Rattle.krs_model.specs.Notes.Waiting.{is_capacity}
 use Rattle.krs_model.specs.Notes.Front.{behind, readable}
 use Rattle.krs_model.specs.Lookup.{context_of, look_up}
-use Rattle.krs_model.specs.Asks.Leaving.{queues_without}
 use Rattle.krs_model.specs.Asks.Linked.{unless}
 use Rattle.krs_model.specs.Outcome.{Outcome}
 

@@ -5,7 +5,8 @@ use Rattle.std.specs.Int.{w32, w64, to_le_bytes}
 use Rattle.krs_types.specs.declared.note.Record.{Record}
 use Rattle.krs_types.specs.declared.note.Record.TheVariants.{Key, Removal, Loss}
 use Rattle.krs_types.specs.declared.note.KeyEvent.{KeyEvent}
-use Rattle.krs_types.specs.declared.note.KeyEvent.TheVariants.{Instantiated, Updated, Linked, Unlinked, Cleared, Revoked, Invalidated, Setattr}
+use Rattle.krs_types.specs.declared.note.KeyEvent.TheVariants.{Instantiated, Updated, Linked, Unlinked, Cleared}
+use Rattle.krs_types.specs.declared.note.KeyEvent.TheVariants.{Revoked, Invalidated, Setattr}
 
 -- the record that tells of dropped ones
 abbrev pub is_loss : Record → Bool

@@ -1,6 +1,7 @@
 -- Which records the filter of a watch queue lets pass: core-api/watch_queue.rst, "Event Filtering"; uapi
 -- linux/watch_queue.h, struct watch_notification_filter.
-use Rattle.std.specs.Prelude.{ℕ, ◌/◌, ◌%◌, ◌^◌, ◌==◌, ◌&&◌, Bool, true, List, length, slice_index, nat_le, if◌then◌else◌, Option, None, Some, Result, Ok, Err}
+use Rattle.std.specs.Prelude.{ℕ, ◌/◌, ◌%◌, ◌^◌, ◌==◌, ◌&&◌, Bool, true, List, length, slice_index, nat_le}
+use Rattle.std.specs.Prelude.{if◌then◌else◌, Option, None, Some, Result, Ok, Err}
 use Rattle.std.specs.List.{list_all, list_any}
 use Rattle.std.specs.Int.{w32, bit_not}
 use Rattle.std.specs.Int.RustNames.{bit_and}

@@ -1,6 +1,7 @@
 -- What an accepted ask posts, and where it goes: core-api/watch_queue.rst, "Watch Subscription API" and "Notification
 -- Posting API"; uapi linux/keyctl.h, KEYCTL_WATCH_KEY; Documentation/security/keys/core.rst.
-use Rattle.std.specs.Prelude.{ℕ, ◌==◌, ◌++◌, List, [], ◌∷◌, Bool, false, Option, None, Some, map, filter, flat_map, is_some, not}
+use Rattle.std.specs.Prelude.{ℕ, ◌==◌, ◌++◌, List, [], ◌∷◌, Bool, false, Option, None, Some, map, filter, flat_map}
+use Rattle.std.specs.Prelude.{is_some, not}
 use Rattle.std.specs.Option.{option_to_list}
 use Rattle.krs_types.specs.declared.note.Record.{Record}
 use Rattle.krs_types.specs.declared.note.Record.TheVariants.{Key, Removal}
@@ -59,6 +60,11 @@ dropped_watches keys watches = filter (λ w. not (is_some (at keys w.0.0))) watc
 -- the queue once a record came
 abbrev pub after_note : Record → Queue → Queue
 after_note note queue = record queue { waiting = after_post queue.capacity note queue.waiting }
+
+-- the queue once these came, one after the other
+abbrev pub after_notes : List Record → Queue → Queue
+after_notes [] queue = queue
+after_notes (note ∷ notes) queue = after_notes notes (after_note note queue)
 
 -- the queues once these came, one after the other
 abbrev pub post_all : List Post → Table Queue → Table Queue

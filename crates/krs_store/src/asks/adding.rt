@@ -1,6 +1,7 @@
 ghost use Rattle.std.specs.Prelude.{◌≡◌, ◌≤◌, ◌+◌, ◌||◌, is_some, length, IfOk, OnOk, OnErr};
 ghost use Rattle.krs_model.specs.Outcome.{Leads, Gives, Is};
-ghost use Rattle.krs_model.specs.Asks.Adding.{admitted, if_room, by_match, place_of, first_perm, is_updatable, new_key, made, IsRing, add};
+ghost use Rattle.krs_model.specs.Asks.Adding.{admitted, if_room, by_match, place_of, first_perm, new_key, made, IsRing, add};
+ghost use Rattle.krs_model.specs.Asks.Changing.{is_updatable};
 ghost use Rattle.krs_store.specs.Places.{meant, HasSerial};
 ghost use Rattle.krs_links.specs.Links.{serials};
 ghost use Rattle.krs_model.specs.Sound.{IsSound};

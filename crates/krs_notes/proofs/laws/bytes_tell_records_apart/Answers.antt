@@ -1,5 +1,5 @@
-use Rattle.krs_notes.proofs.BytesLemmas.{none_begins_another, are_read_one_way}
-use Rattle.krs_notes.proofs.SpellingLemmas.{each_is_spelled, one_spelling}
+use Rattle.krs_model.proofs.Spelling.{spelled_once}
+use Rattle.krs_notes.proofs.SpellingLemmas.{each_is_spelled, one_spelling, none_begins_another}
 use Rattle.krs_notes.proofs.laws.bytes_tell_records_apart.Goals as goal
 
 pub returns-clause-spelled : goal.returns-clause-spelled
@@ -12,4 +12,4 @@ pub returns-clause-apart : goal.returns-clause-apart
 returns-clause-apart c = none_begins_another
 
 pub returns-clause-lists : goal.returns-clause-lists
-returns-clause-lists c = are_read_one_way
+returns-clause-lists c = spelled_once

@@ -1,5 +1,5 @@
-use Rattle.krs_watch.proofs.LawsLemmas.{per_queue}
+use Rattle.krs_model.proofs.Posting.{at_post_all}
 use Rattle.krs_watch.proofs.laws.posts_reach_their_queues.Goals as goal
 
 pub returns : goal.returns
-returns c = per_queue
+returns c = at_post_all

@@ -21,9 +21,9 @@ returns-then-attached_link c =
 
 pub returns-else-attached_link : goal.returns-else-attached_link
 returns-else-attached_link c =
-    subst (λ (v : Bool). IfOk c.is_linked.result (λ b. b ≡ v))
+    subst (λ (v : Bool). IfOk c.is_linked_below.result (λ b. b ≡ v))
     (sym (linked_possessed (shown c.args.keys.now.keys) c.args.clock c.args.context.now c.args.process_ring c.args.serial c.requires.only (sym c.is_attached.ensures ∙ c.if-is_attached.false)))
-    c.is_linked.ensures
+    c.is_linked_below.ensures
 
 pub returns-in-None : goal.returns-in-None
 returns-in-None c =

@@ -2,7 +2,7 @@ use Rattle.krs_model.specs.Levels.{is_in}
 use Rattle.krs_keys.specs.Keys.{shown}
 use Rattle.krs_walk.specs.Walks.{followed_at, followed_rings, attached_with}
 use Rattle.krs_walk.proofs.RoundsLemmas.{IsSearch}
-use Rattle.krs_walk.proofs.walker.Walker.is_linked.Given as goal
+use Rattle.krs_walk.proofs.walker.Walker.is_linked_below.Given as goal
 
 abbrev pub invariant-loop-level : goal.invariant-loop-level
 invariant-loop-level l =

@@ -1,7 +1,0 @@
-use Rattle.std.proofs.Common.{◌≡◌}
-use Rattle.krs_model.specs.Sweep.{context_roots}
-use Rattle.krs_keys.specs.Marks.{open_in}
-use Rattle.krs_keys.proofs.sweep.open_context.Given as goal
-
-abbrev pub invariant-loop-number : goal.invariant-loop-number
-invariant-loop-number l = open_in l.slots.entries (context_roots l.number-iterator) ≡ open_in l.slots.entries (context_roots l.contexts.entries)

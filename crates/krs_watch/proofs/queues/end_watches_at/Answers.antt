@@ -1,8 +1,0 @@
-use Rattle.std.proofs.Common.{nat_eq, not, rules}
-use Rattle.std.proofs.lemmas.Map.Made.{filter_same_pairs}
-use Rattle.krs_watch.proofs.queues.end_watches_at.Goals as goal
-
-pub returns : goal.returns
-returns c =
-    filter_same_pairs _ (λ e. not (nat_eq e.0.0 c.args.key)) _ (λ k v b w f' t. search rules)
-    c.args.watches.now.entries c.retain.new.self.entries c.retain.ensures.filtered
