@@ -4,3 +4,5 @@ pub mod Fitting
 pub mod ChangesLemmas
 pub mod KindsLemmas
 pub mod Unlinking
+pub mod HashedLemmas
+pub mod Joining

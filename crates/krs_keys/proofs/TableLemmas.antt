@@ -1,43 +1,17 @@
 -- Laws of the table of keys.
-use Rattle.std.proofs.Common.{◌≡◌, ℕ, map, [], ◌∷◌, Option, Some, None, Bool, true, false, cond, Result, Ok, Err}
-use Rattle.std.proofs.Common.{refl, ap, ◌∙◌, sym}
+use Rattle.std.proofs.Common.{◌≡◌, [], ◌∷◌, Option, Some, None, Bool, true, false, cond, Result, Ok, Err}
+use Rattle.std.proofs.Common.{refl, ap}
 use Rattle.std.specs.Option.{option_map}
-use Rattle.std.specs.Ordering.{nat_cmp}
-use Rattle.std.specs.BTreeMap.{is_at}
-use Rattle.std.specs.Map.{set_value, keys_of}
+use Rattle.std.specs.Map.{keys_of}
 use Rattle.std.specs.Result.{OnOk, OnErr, IfOk, IfErr}
 use Rattle.std.proofs.lemmas.Option.{none-some, same_Some}
-use Rattle.krs_model.specs.Table.{Table, at, alter, map_values}
-use Rattle.krs_model.proofs.Tables.{alter_some}
+use Rattle.krs_model.specs.Table.{Table, map_values}
 use Rattle.krs_keys.specs.declared.key.Key.{Key}
-
--- a key written back changed
-pub written :
-    (es : Table Key) (k : ℕ) (f : Key → Key) (was new : Key) → at es k ≡ Some was → new ≡ f was
-    → set_value (is_at (nat_cmp k)) es new ≡ alter es k f
-written es k f was new there h = ap (λ v. set_value (is_at (nat_cmp k)) es v) h ∙ alter_some es k f was there
-
--- a key written back as it was
-pub unwritten :
-    (es : Table Key) (k : ℕ) (was new : Key) → at es k ≡ Some was → new ≡ was
-    → set_value (is_at (nat_cmp k)) es new ≡ es
-unwritten [] k was new there h = refl
-unwritten (e ∷ es) k was new there h =
-    elim (is_at (nat_cmp k) e.0) as (λ b. cond b (Some e.1) (at es k) ≡ Some was
-    → cond b ((e.0, new) ∷ es) (e ∷ set_value (is_at (nat_cmp k)) es new) ≡ e ∷ es) [
-      | true ↦ λ q. ap (λ z. (e.0, z) ∷ es) (h ∙ sym (same_Some e.1 was q))
-      | false ↦ λ q. ap (λ zs. e ∷ zs) (unwritten es k was new q h)
-    ] there
 
 -- a map's values seen through f: its keys
 pub keys_map : {X Y : Type 0} (f : X → Y) (es : Table X) → keys_of (map_values f es) ≡ keys_of es
 keys_map f [] = refl
 keys_map f (e ∷ es) = ap (λ ks. e.0 ∷ ks) (keys_map f es)
-
--- all values changed
-pub all_mapped : {X : Type 0} (f : X → X) (es : Table X) → map (λ e. (e.0, f e.1)) es ≡ map_values f es
-all_mapped f [] = refl
-all_mapped f (e ∷ es) = ap (λ zs. (e.0, f e.1) ∷ zs) (all_mapped f es)
 
 -- the key of which a changed one comes
 pub mapped_some :

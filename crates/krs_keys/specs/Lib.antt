@@ -2,3 +2,4 @@ pub mod Keys
 pub mod Changes
 pub mod Table
 pub mod Kept
+pub mod Hashed

@@ -10,20 +10,21 @@ ghost use Rattle.krs_keys.specs.Changes.{changed};
 ghost use Rattle.krs_keys.specs.Table.{with_key, with_linked_key, AreLeft};
 ghost use Rattle.krs_keys.specs.Table.{insert_error, IsLinkError, IsLinkedError};
 ghost use Rattle.krs_keys.specs.Keys.{joinable_in};
+ghost use Rattle.krs_keys.specs.Hashed.{by_serial, is_sooner};
 
 use crate::{Change, Key};
 use krs_types::{Caller, Errno, Name, Serial};
 use std::alloc::{AllocError, Global};
-use std::collections::BTreeMap;
+use std::collections::HashMap;
 use std::marker::Model;
 
 /// The last serial that a key may get: profile, serials run out.
 const LAST_SERIAL: u32 = 2_147_483_647;
 
-/// The keys by serial. Serials rise by one, and none is given twice.
+/// The keys by serial, in no order. Serials rise by one, and none is given twice.
 #[derive(Drop)]
 pub struct KeyTable {
-    keys: BTreeMap<u32, Key>,
+    keys: HashMap<u32, Key>,
     next: u32,
 }
 
@@ -33,10 +34,11 @@ impl Model for KeyTable {
     ghost Value = { Keys };
 
     ghost use Rattle.krs_model.specs.Table.{IsBelow};
+    ghost use Rattle.krs_keys.specs.Hashed.{by_serial};
 
-    ghost view = { λ t. record { keys = t.keys.entries; next = t.next } };
+    ghost view = { λ t. record { keys = by_serial t.keys.entries; next = t.next } };
 
-    ghost invariant = { λ t. IsBelow t.keys.entries t.next };
+    ghost invariant = { λ t. IsBelow (by_serial t.keys.entries) t.next };
 }
 
 impl KeyTable {
@@ -45,7 +47,7 @@ impl KeyTable {
         ensures { result ≡ record { keys = []; next = next } }
     {
         KeyTable {
-            keys: BTreeMap::new(alloc),
+            keys: HashMap::new(alloc),
             next,
         }
     }
@@ -196,34 +198,46 @@ impl KeyTable {
     }
 }
 
-fn joinable_in(
-    keys: &BTreeMap<u32, Key>,
-    desc: &[u8],
-    caller: &Caller,
-    clock: u64,
-) -> Option<Serial>
-    ensures { result ≡ joinable_in clock caller.now desc.now keys.now.entries }
+/// The least serial of a keyring that a caller may join. The keys come in no order.
+fn joinable_in(keys: &HashMap<u32, Key>, desc: &[u8], caller: &Caller, clock: u64) -> Option<Serial>
+    ensures { result ≡ joinable_in clock caller.now desc.now (by_serial keys.now.entries) }
 {
+    let mut least = None;
     for (serial, key) in keys {
-        if key.is_joinable(desc, caller, clock) {
-            return Some(Serial::new(*serial));
+        if is_sooner(*serial, least) && key.is_joinable(desc, caller, clock) {
+            least = Some(*serial);
         }
     }
-    None
+    match least {
+        Some(serial) => Some(Serial::new(serial)),
+        None => None,
+    }
 }
 
-fn put_in(keys: &mut BTreeMap<u32, Key>, serial: u32, key: Key) -> Result<(), AllocError>
-    ensures ok { OnOk result (keys.new.entries ≡ put keys.old.entries serial key) }
-    ensures err { OnErr result (keys.new.entries ≡ keys.old.entries) }
+/// Whether a serial is less than the one that was found, if any was.
+fn is_sooner(serial: u32, found: Option<u32>) -> bool
+    ensures { result ≡ is_sooner serial found }
+{
+    match found {
+        Some(other) => serial < other,
+        None => true,
+    }
+}
+
+/// Puts a key at a serial. A refusal leaves what is there.
+fn put_in(keys: &mut HashMap<u32, Key>, serial: u32, key: Key) -> Result<(), AllocError>
+    ensures ok { OnOk result (by_serial keys.new.entries ≡ put (by_serial keys.old.entries) serial key) }
+    ensures err { OnErr result (by_serial keys.new.entries ≡ by_serial keys.old.entries) }
 {
     keys.insert(serial, key)?;
     Ok(())
 }
 
-fn take_out(keys: &mut BTreeMap<u32, Key>, serial: u32) -> Option<Key>
-    ensures key { result ≡ at keys.old.entries serial }
-    ensures keys { keys.new.entries ≡ without keys.old.entries serial }
-    ensures gone { at keys.new.entries serial ≡ None }
+/// Takes out the key at a serial, and answers it.
+fn take_out(keys: &mut HashMap<u32, Key>, serial: u32) -> Option<Key>
+    ensures key { result ≡ at (by_serial keys.old.entries) serial }
+    ensures keys { by_serial keys.new.entries ≡ without (by_serial keys.old.entries) serial }
+    ensures gone { at (by_serial keys.new.entries) serial ≡ None }
 {
     keys.remove(&serial)
 }
@@ -231,15 +245,16 @@ fn take_out(keys: &mut BTreeMap<u32, Key>, serial: u32) -> Option<Key>
 /// Two keys under consecutive serials. A refusal leaves neither.
 #[tactic(auto, using(krs_model::proofs::Tables::without_put))]
 fn put_two(
-    keys: &mut BTreeMap<u32, Key>,
+    keys: &mut HashMap<u32, Key>,
     serial: u32,
     first: Key,
     second: Key,
 ) -> Result<(), AllocError>
     requires fits { serial < 4294967295 }
-    requires absent { at keys.old.entries serial ≡ None }
-    ensures ok { OnOk result (keys.new.entries ≡ put (put keys.old.entries serial first) (serial + 1) second) }
-    ensures err { OnErr result (keys.new.entries ≡ keys.old.entries) }
+    requires absent { at (by_serial keys.old.entries) serial ≡ None }
+    ensures ok { OnOk result (by_serial keys.new.entries
+        ≡ put (put (by_serial keys.old.entries) serial first) (serial + 1) second) }
+    ensures err { OnErr result (by_serial keys.new.entries ≡ by_serial keys.old.entries) }
 {
     put_in(keys, serial, first)?;
     if put_in(keys, serial + 1, second).is_err() {
@@ -252,19 +267,21 @@ fn put_two(
 /// A key that a keyring links, and the serial that this displaces. A refusal leaves neither.
 #[tactic(auto, using(krs_model::proofs::Tables::without_put))]
 fn put_linked(
-    keys: &mut BTreeMap<u32, Key>,
+    keys: &mut HashMap<u32, Key>,
     serial: u32,
     ring: u32,
     name: Name,
     key: Key,
 ) -> Result<Option<Serial>, Errno>
-    requires absent { at keys.old.entries serial ≡ None }
-    ensures displaced { IfOk result (λ old. old ≡ displaced_at (put keys.old.entries serial key) ring name) }
-    ensures ok { OnOk result (keys.new.entries
-        ≡ alter (put keys.old.entries serial key) ring (with_entry name serial)) }
-    ensures room { OnOk result (is_refused (links_at (put keys.old.entries serial key) ring) name ≡ false) }
-    ensures error { IfErr result (IsLinkError (put keys.old.entries serial key) ring name) }
-    ensures err { OnErr result (keys.new.entries ≡ keys.old.entries) }
+    requires absent { at (by_serial keys.old.entries) serial ≡ None }
+    ensures displaced { IfOk result (λ old. old
+        ≡ displaced_at (put (by_serial keys.old.entries) serial key) ring name) }
+    ensures ok { OnOk result (by_serial keys.new.entries
+        ≡ alter (put (by_serial keys.old.entries) serial key) ring (with_entry name serial)) }
+    ensures room { OnOk result
+        (is_refused (links_at (put (by_serial keys.old.entries) serial key) ring) name ≡ false) }
+    ensures error { IfErr result (IsLinkError (put (by_serial keys.old.entries) serial key) ring name) }
+    ensures err { OnErr result (by_serial keys.new.entries ≡ by_serial keys.old.entries) }
 {
     if put_in(keys, serial, key).is_err() {
         return Err(Errno::ENOMEM);
@@ -278,8 +295,9 @@ fn put_linked(
     }
 }
 
-fn change_in(keys: &mut BTreeMap<u32, Key>, serial: u32, change: Change)
-    ensures { keys.new.entries ≡ alter keys.old.entries serial (changed change) }
+/// Changes the key at a serial, where there is one.
+fn change_in(keys: &mut HashMap<u32, Key>, serial: u32, change: Change)
+    ensures { by_serial keys.new.entries ≡ alter (by_serial keys.old.entries) serial (changed change) }
 {
     match keys.get_mut(&serial) {
         Some(key) => key.change(change),
@@ -287,8 +305,9 @@ fn change_in(keys: &mut BTreeMap<u32, Key>, serial: u32, change: Change)
     }
 }
 
-fn unlink_in(keys: &mut BTreeMap<u32, Key>, ring: u32, serial: Serial)
-    ensures { keys.new.entries ≡ alter keys.old.entries ring (without_key serial) }
+/// Takes a key out of one keyring.
+fn unlink_in(keys: &mut HashMap<u32, Key>, ring: u32, serial: Serial)
+    ensures { by_serial keys.new.entries ≡ alter (by_serial keys.old.entries) ring (without_key serial) }
 {
     match keys.get_mut(&ring) {
         Some(key) => key.unlink_key(serial),
@@ -296,8 +315,9 @@ fn unlink_in(keys: &mut BTreeMap<u32, Key>, ring: u32, serial: Serial)
     }
 }
 
-fn unlink_all_in(keys: &mut BTreeMap<u32, Key>, serial: Serial)
-    ensures { keys.new.entries ≡ map_values (without_key serial) keys.old.entries }
+/// Takes a key out of all keyrings.
+fn unlink_all_in(keys: &mut HashMap<u32, Key>, serial: Serial)
+    ensures { by_serial keys.new.entries ≡ map_values (without_key serial) (by_serial keys.old.entries) }
 {
     keys.retain(|_ring, key| {
         key.unlink_key(serial);
@@ -305,17 +325,19 @@ fn unlink_all_in(keys: &mut BTreeMap<u32, Key>, serial: Serial)
     });
 }
 
+/// One more link in a keyring, and the serial that it displaces.
 fn link_in(
-    keys: &mut BTreeMap<u32, Key>,
+    keys: &mut HashMap<u32, Key>,
     ring: u32,
     name: Name,
     serial: Serial,
 ) -> Result<Option<Serial>, Errno>
-    ensures displaced { IfOk result (λ old. old ≡ displaced_at keys.old.entries ring name) }
-    ensures ok { OnOk result (keys.new.entries ≡ alter keys.old.entries ring (with_entry name serial)) }
-    ensures room { OnOk result (is_refused (links_at keys.old.entries ring) name ≡ false) }
-    ensures error { IfErr result (λ e. e ≡ link_error (links_at keys.old.entries ring) name) }
-    ensures err { OnErr result (keys.new.entries ≡ keys.old.entries) }
+    ensures displaced { IfOk result (λ old. old ≡ displaced_at (by_serial keys.old.entries) ring name) }
+    ensures ok { OnOk result (by_serial keys.new.entries
+        ≡ alter (by_serial keys.old.entries) ring (with_entry name serial)) }
+    ensures room { OnOk result (is_refused (links_at (by_serial keys.old.entries) ring) name ≡ false) }
+    ensures error { IfErr result (λ e. e ≡ link_error (links_at (by_serial keys.old.entries) ring) name) }
+    ensures err { OnErr result (by_serial keys.new.entries ≡ by_serial keys.old.entries) }
 {
     match keys.get_mut(&ring) {
         Some(key) => key.link(name, serial),

@@ -1,11 +1,12 @@
 use Rattle.std.proofs.Common.{◌+◌, refl, arith}
 use Rattle.krs_model.specs.Table.{put}
 use Rattle.krs_model.proofs.Tables.{below_put}
+use Rattle.krs_keys.specs.Hashed.{by_serial}
 use Rattle.krs_keys.proofs.key_table.KeyTable.insert_two.Goals as goal
 
 pub invariant_of-self : goal.invariant_of-self
 invariant_of-self c =
-    let es = c.self.inside.keys.entries in
+    let es = by_serial c.self.inside.keys.entries in
     let n = c.self.inside.next in
     λ q h. below_put (put es n c.args.first) _ (n + 1) c.args.second c.in-Ok.ensures.ok
     (below_put es _ n c.args.first refl c.self.invariant) q (omega arith)

@@ -1,8 +1,9 @@
 use Rattle.std.proofs.Common.{ap, ◌∙◌}
 use Rattle.krs_model.specs.Table.{at}
 use Rattle.krs_model.proofs.Tables.{at_without_none}
+use Rattle.krs_keys.specs.Hashed.{by_serial}
 use Rattle.krs_keys.proofs.key_table.KeyTable.remove.Goals as goal
 
 pub invariant_of-self : goal.invariant_of-self
 invariant_of-self c = λ q h. ap (λ zs. at zs q) c.take_out.ensures.keys
-    ∙ at_without_none c.self.inside.keys.entries _ q (c.self.invariant q h)
+    ∙ at_without_none (by_serial c.self.inside.keys.entries) _ q (c.self.invariant q h)
