@@ -4,30 +4,31 @@ ghost use Rattle.krs_model.specs.Table.{at, without};
 ghost use Rattle.krs_model.specs.Sweep.{linked_by};
 ghost use Rattle.krs_keys.specs.Keys.{shown};
 ghost use Rattle.krs_keys.specs.Kept.{KeepsAnchored};
+ghost use Rattle.krs_keys.specs.Hashed.{by_serial};
 ghost use Rattle.krs_hold.specs.Tally.{AreExact};
 ghost use Rattle.krs_hold.specs.Chain.{numbers_of, IsChained, Spares, gone_all, total_weight};
 
-use crate::counts::{Count, holders, let_go_all, rest};
+use crate::counts::{Count, forget, holders, let_go_all, rest};
 use krs_keys::KeyTable;
 use krs_types::Serial;
-use std::collections::BTreeMap;
+use std::collections::HashMap;
 
 /// Drops a key and its count, and lets go of what it linked. The first of the chain is answered.
 #[tactic(auto, using(krs_model::proofs::Tables::at_map))]
 fn drop_key(
     keys: &mut KeyTable,
-    counts: &mut BTreeMap<u32, Count>,
+    counts: &mut HashMap<u32, Count>,
     first: Option<u32>,
     serial: u32,
 ) -> Option<u32>
     ensures keys { keys.new ≡ record keys.old { keys = without keys.old.keys serial } }
     ensures gone { at keys.new.keys serial ≡ None }
-    ensures no_count { at (without counts.old.entries serial) serial ≡ None }
-    ensures counts { gone_all (record { counts = without counts.old.entries serial; first = first })
+    ensures no_count { at (without (by_serial counts.old.entries) serial) serial ≡ None }
+    ensures counts { gone_all (record { counts = without (by_serial counts.old.entries) serial; first = first })
         (linked_by (at (shown keys.old.keys) serial))
-        ≡ record { counts = counts.new.entries; first = result } }
+        ≡ record { counts = by_serial counts.new.entries; first = result } }
 {
-    let _ = counts.remove(&serial);
+    forget(counts, serial);
     match keys.remove(Serial::new(serial)) {
         Some(key) => let_go_all(counts, first, key.entries()),
         None => first,
@@ -36,15 +37,15 @@ fn drop_key(
 
 /// Takes the first out of the chain, and drops its key where nothing holds it. The first of the
 /// chain is answered.
-fn look(keys: &mut KeyTable, counts: &mut BTreeMap<u32, Count>, serial: u32) -> Option<u32>
-    requires { IsChained counts.old.entries (Some serial) }
-    ensures chained { IsChained counts.new.entries result }
-    ensures less { total_weight counts.new.entries < total_weight counts.old.entries }
+fn look(keys: &mut KeyTable, counts: &mut HashMap<u32, Count>, serial: u32) -> Option<u32>
+    requires { IsChained (by_serial counts.old.entries) (Some serial) }
+    ensures chained { IsChained (by_serial counts.new.entries) result }
+    ensures less { total_weight (by_serial counts.new.entries) < total_weight (by_serial counts.old.entries) }
     ensures exact { (attached : List ℕ)
-        → AreExact keys.old.keys (numbers_of counts.old.entries) attached
-        → AreExact keys.new.keys (numbers_of counts.new.entries) attached }
+        → AreExact keys.old.keys (numbers_of (by_serial counts.old.entries)) attached
+        → AreExact keys.new.keys (numbers_of (by_serial counts.new.entries)) attached }
     ensures spared { (attached : List ℕ)
-        → AreExact keys.old.keys (numbers_of counts.old.entries) attached
+        → AreExact keys.old.keys (numbers_of (by_serial counts.old.entries)) attached
         → Spares attached keys.old.keys keys.new.keys }
     ensures next { keys.new.next ≡ keys.old.next }
 {
@@ -56,14 +57,14 @@ fn look(keys: &mut KeyTable, counts: &mut BTreeMap<u32, Count>, serial: u32) -> 
 }
 
 /// Drops each key that nothing holds, and then those that only dropped keys held.
-pub(crate) fn sweep(keys: &mut KeyTable, counts: &mut BTreeMap<u32, Count>, mut first: Option<u32>)
-    requires { IsChained counts.old.entries first }
-    ensures chained { IsChained counts.new.entries None }
+pub(crate) fn sweep(keys: &mut KeyTable, counts: &mut HashMap<u32, Count>, mut first: Option<u32>)
+    requires { IsChained (by_serial counts.old.entries) first }
+    ensures chained { IsChained (by_serial counts.new.entries) None }
     ensures exact { (attached : List ℕ)
-        → AreExact keys.old.keys (numbers_of counts.old.entries) attached
-        → AreExact keys.new.keys (numbers_of counts.new.entries) attached }
+        → AreExact keys.old.keys (numbers_of (by_serial counts.old.entries)) attached
+        → AreExact keys.new.keys (numbers_of (by_serial counts.new.entries)) attached }
     ensures anchored { (attached : List ℕ)
-        → AreExact keys.old.keys (numbers_of counts.old.entries) attached
+        → AreExact keys.old.keys (numbers_of (by_serial counts.old.entries)) attached
         → KeepsAnchored attached keys.old.keys keys.new.keys }
     ensures next { keys.new.next ≡ keys.old.next }
 {

@@ -1,13 +1,14 @@
 //! The counts by serial, and the chain through those that wait for a look.
 ghost use Rattle.std.specs.Prelude.{◌≡◌, ◌<◌, ◌^◌, ◌-◌, Some, cond, drop};
 ghost use Rattle.std.specs.Prelude.{replicate};
-ghost use Rattle.krs_model.specs.Table.{at, alter};
+ghost use Rattle.krs_model.specs.Table.{at, alter, without};
 ghost use Rattle.krs_links.specs.Links.{serials};
+ghost use Rattle.krs_keys.specs.Hashed.{by_serial};
 ghost use Rattle.krs_hold.specs.Chain.{holders_at, next_at, falls_at, lowered, raised, rested};
 ghost use Rattle.krs_hold.specs.Chain.{gone, gone_all};
 
 use krs_types::{Name, Serial};
-use std::collections::BTreeMap;
+use std::collections::HashMap;
 
 /// What holds a key.
 #[derive(Clone, Copy)]
@@ -32,8 +33,8 @@ impl Count {
 }
 
 /// Another count in the place of the one that is there.
-fn set(counts: &mut BTreeMap<u32, Count>, serial: u32, count: Count)
-    ensures { counts.new.entries ≡ alter counts.old.entries serial (λ c. count) }
+fn set(counts: &mut HashMap<u32, Count>, serial: u32, count: Count)
+    ensures { by_serial counts.new.entries ≡ alter (by_serial counts.old.entries) serial (λ c. count) }
 {
     match counts.get_mut(&serial) {
         Some(slot) => *slot = count,
@@ -41,24 +42,38 @@ fn set(counts: &mut BTreeMap<u32, Count>, serial: u32, count: Count)
     }
 }
 
-/// How many hold a key.
-pub(crate) fn holders(counts: &BTreeMap<u32, Count>, serial: u32) -> u64
-    ensures { result ≡ holders_at (at counts.now.entries serial) }
+/// The count of a key.
+fn count_at(counts: &HashMap<u32, Count>, serial: u32) -> Option<Count>
+    ensures { result ≡ at (by_serial counts.now.entries) serial }
 {
-    match counts.get(&serial) {
+    counts.get(&serial).copied()
+}
+
+/// Takes out the count of a key.
+pub(crate) fn forget(counts: &mut HashMap<u32, Count>, serial: u32)
+    ensures counts { by_serial counts.new.entries ≡ without (by_serial counts.old.entries) serial }
+    ensures gone { at (by_serial counts.new.entries) serial ≡ None }
+{
+    let _ = counts.remove(&serial);
+}
+
+/// How many hold a key.
+pub(crate) fn holders(counts: &HashMap<u32, Count>, serial: u32) -> u64
+    ensures { result ≡ holders_at (at (by_serial counts.now.entries) serial) }
+{
+    match count_at(counts, serial) {
         Some(count) => count.holders,
         None => 0,
     }
 }
 
 /// One holder more.
-pub(crate) fn raise(counts: &mut BTreeMap<u32, Count>, serial: u32)
-    requires { holders_at (at counts.old.entries serial) < 2 ^ 64 - 1 }
-    ensures { counts.new.entries ≡ alter counts.old.entries serial raised }
+pub(crate) fn raise(counts: &mut HashMap<u32, Count>, serial: u32)
+    requires { holders_at (at (by_serial counts.old.entries) serial) < 2 ^ 64 - 1 }
+    ensures { by_serial counts.new.entries ≡ alter (by_serial counts.old.entries) serial raised }
 {
-    match counts.get(&serial) {
+    match count_at(counts, serial) {
         Some(count) => {
-            let count = *count;
             let more = Count {
                 holders: count.holders + 1,
                 ..count
@@ -71,16 +86,15 @@ pub(crate) fn raise(counts: &mut BTreeMap<u32, Count>, serial: u32)
 
 /// One holder less. The first of the chain is answered.
 pub(crate) fn let_go(
-    counts: &mut BTreeMap<u32, Count>,
+    counts: &mut HashMap<u32, Count>,
     first: Option<u32>,
     serial: u32,
 ) -> Option<u32>
-    ensures counts { counts.new.entries ≡ alter counts.old.entries serial (lowered first) }
-    ensures first { result ≡ cond (falls_at (at counts.old.entries serial)) (Some serial) first }
+    ensures counts { by_serial counts.new.entries ≡ alter (by_serial counts.old.entries) serial (lowered first) }
+    ensures first { result ≡ cond (falls_at (at (by_serial counts.old.entries) serial)) (Some serial) first }
 {
-    match counts.get(&serial) {
+    match count_at(counts, serial) {
         Some(count) => {
-            let count = *count;
             if count.falls() {
                 let last = Count {
                     holders: 0,
@@ -104,12 +118,12 @@ pub(crate) fn let_go(
 
 /// One holder less for each of these links. The first of the chain is answered.
 pub(crate) fn let_go_all(
-    counts: &mut BTreeMap<u32, Count>,
+    counts: &mut HashMap<u32, Count>,
     mut first: Option<u32>,
     links: &[(Name, Serial)],
 ) -> Option<u32>
-    ensures { gone_all (record { counts = counts.old.entries; first = first }) (serials links.now)
-        ≡ record { counts = counts.new.entries; first = result } }
+    ensures { gone_all (record { counts = by_serial counts.old.entries; first = first }) (serials links.now)
+        ≡ record { counts = by_serial counts.new.entries; first = result } }
 {
     for link in links {
         first = let_go(counts, first, link.1.number());
@@ -119,13 +133,13 @@ pub(crate) fn let_go_all(
 
 /// So many holders less. The first of the chain is answered.
 pub(crate) fn let_go_times(
-    counts: &mut BTreeMap<u32, Count>,
+    counts: &mut HashMap<u32, Count>,
     mut first: Option<u32>,
     serial: u32,
     mut left: u64,
 ) -> Option<u32>
-    ensures { gone_all (record { counts = counts.old.entries; first = first })
-        (replicate left serial) ≡ record { counts = counts.new.entries; first = result } }
+    ensures { gone_all (record { counts = by_serial counts.old.entries; first = first })
+        (replicate left serial) ≡ record { counts = by_serial counts.new.entries; first = result } }
 {
     while left > 0 {
         first = let_go(counts, first, serial);
@@ -135,13 +149,12 @@ pub(crate) fn let_go_times(
 }
 
 /// Takes the first out of the chain. The one after it is answered.
-pub(crate) fn rest(counts: &mut BTreeMap<u32, Count>, serial: u32) -> Option<u32>
-    ensures counts { counts.new.entries ≡ alter counts.old.entries serial rested }
-    ensures next { result ≡ next_at (at counts.old.entries serial) }
+pub(crate) fn rest(counts: &mut HashMap<u32, Count>, serial: u32) -> Option<u32>
+    ensures counts { by_serial counts.new.entries ≡ alter (by_serial counts.old.entries) serial rested }
+    ensures next { result ≡ next_at (at (by_serial counts.old.entries) serial) }
 {
-    match counts.get(&serial) {
+    match count_at(counts, serial) {
         Some(count) => {
-            let count = *count;
             let rested = Count {
                 waiting: false,
                 ..count

@@ -16,14 +16,14 @@ use crate::counts::{Count, holders, let_go, let_go_all, let_go_times, raise};
 use krs_keys::{Change, KeyTable};
 use krs_types::{Errno, Name, Serial};
 use std::alloc::Global;
-use std::collections::BTreeMap;
+use std::collections::HashMap;
 use std::marker::Model;
 
 /// How many links and attachments hold each key. Through the counts runs a chain, which has each
 /// key that nothing holds, and some that something holds again.
 #[derive(Drop)]
 pub struct Holders {
-    counts: BTreeMap<u32, Count>,
+    counts: HashMap<u32, Count>,
     first: Option<u32>,
 }
 
@@ -34,10 +34,11 @@ impl Model for Holders {
     ghost Value = { Table ℕ };
 
     ghost use Rattle.krs_hold.specs.Chain.{numbers_of, IsChained};
+    ghost use Rattle.krs_keys.specs.Hashed.{by_serial};
 
-    ghost view = { λ h. numbers_of h.counts.entries };
+    ghost view = { λ h. numbers_of (by_serial h.counts.entries) };
 
-    ghost invariant = { λ h. IsChained h.counts.entries h.first };
+    ghost invariant = { λ h. IsChained (by_serial h.counts.entries) h.first };
 }
 
 impl Holders {
@@ -46,7 +47,7 @@ impl Holders {
         ensures { result ≡ [] }
     {
         Holders {
-            counts: BTreeMap::new(alloc),
+            counts: HashMap::new(alloc),
             first: None,
         }
     }

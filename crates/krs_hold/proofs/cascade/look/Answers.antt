@@ -3,6 +3,7 @@ use Rattle.krs_hold.specs.Chain.{Chained}
 use Rattle.krs_hold.proofs.Steps.{IsRested, rest_weighs, kept_chain, kept_exact}
 use Rattle.krs_hold.proofs.Steps.{dropped_chain, dropped_weighs, dropped_exact, dropped_spares}
 use Rattle.krs_hold.proofs.Anchoring.{spares_all}
+use Rattle.krs_keys.specs.Hashed.{by_serial}
 use Rattle.krs_hold.proofs.cascade.look.Goals as goal
 
 pub returns-then-holders-gt0-clause-chained : goal.returns-then-holders-gt0-clause-chained
@@ -28,15 +29,15 @@ returns-then-holders-gt0-clause-spared c = λ a h. spares_all a c.args.keys.now.
 
 pub returns-clause-chained : goal.returns-clause-chained
 returns-clause-chained c =
-    let u : Chained = record { counts = c.drop_key.new.counts.entries; first = c.drop_key.result } in
-    dropped_chain c.args.keys.now.keys c.args.counts.now.entries c.args.serial _ _ u
+    let u : Chained = record { counts = by_serial c.drop_key.new.counts.entries; first = c.drop_key.result } in
+    dropped_chain c.args.keys.now.keys (by_serial c.args.counts.now.entries) c.args.serial _ _ u
     (record { chained = c.requires; counts = c.rest-next.ensures.counts; after = c.rest-next.ensures.next })
     (record { no_count = c.drop_key.ensures.no_count; counts = c.drop_key.ensures.counts })
 
 pub returns-clause-less : goal.returns-clause-less
 returns-clause-less c =
-    let u : Chained = record { counts = c.drop_key.new.counts.entries; first = c.drop_key.result } in
-    dropped_weighs c.args.keys.now.keys c.args.counts.now.entries c.args.serial _ _ u
+    let u : Chained = record { counts = by_serial c.drop_key.new.counts.entries; first = c.drop_key.result } in
+    dropped_weighs c.args.keys.now.keys (by_serial c.args.counts.now.entries) c.args.serial _ _ u
     (record { chained = c.requires; counts = c.rest-next.ensures.counts; after = c.rest-next.ensures.next })
     (record { no_count = c.drop_key.ensures.no_count; counts = c.drop_key.ensures.counts })
 
@@ -45,9 +46,10 @@ empty n m e h = omega (arith, e, h)
 
 pub returns-clause-exact : goal.returns-clause-exact
 returns-clause-exact c = λ a h.
-    let u : Chained = record { counts = c.drop_key.new.counts.entries; first = c.drop_key.result } in
-    dropped_exact c.args.keys.now.keys c.drop_key.new.keys.keys a c.args.serial c.rest-next.new.counts.entries
-    c.rest-next.result u (ap (λ t. t.keys) c.drop_key.ensures.keys) c.drop_key.ensures.gone
+    let u : Chained = record { counts = by_serial c.drop_key.new.counts.entries; first = c.drop_key.result } in
+    dropped_exact c.args.keys.now.keys c.drop_key.new.keys.keys a c.args.serial
+    (by_serial c.rest-next.new.counts.entries) c.rest-next.result u (ap (λ t. t.keys) c.drop_key.ensures.keys)
+    c.drop_key.ensures.gone
     (record { no_count = c.drop_key.ensures.no_count; counts = c.drop_key.ensures.counts })
     (empty _ _ c.holders.ensures c.if-holders-gt0.false)
     (kept_exact _ a _ _ _ _
@@ -55,7 +57,8 @@ returns-clause-exact c = λ a h.
 
 pub returns-clause-spared : goal.returns-clause-spared
 returns-clause-spared c = λ a h.
-    dropped_spares c.args.keys.now.keys c.drop_key.new.keys.keys a c.args.serial c.rest-next.new.counts.entries
+    dropped_spares c.args.keys.now.keys c.drop_key.new.keys.keys a c.args.serial
+    (by_serial c.rest-next.new.counts.entries)
     (ap (λ t. t.keys) c.drop_key.ensures.keys) c.drop_key.ensures.gone
     (empty _ _ c.holders.ensures c.if-holders-gt0.false)
     (kept_exact _ a _ _ _ _

@@ -3,6 +3,7 @@ use Rattle.krs_keys.specs.Keys.{shown}
 use Rattle.krs_hold.specs.Chain.{IsChained}
 use Rattle.krs_hold.proofs.Exact.{counted_from}
 use Rattle.krs_hold.proofs.Anchoring.{spares_all, spares_on, keeps_anchored}
+use Rattle.krs_keys.specs.Hashed.{by_serial}
 use Rattle.krs_hold.proofs.cascade.sweep.Goals as goal
 
 pub dropping-init : goal.dropping-init
@@ -28,7 +29,8 @@ dropping-preserved c =
 
 pub returns-clause-anchored : goal.returns-clause-anchored
 returns-clause-anchored c = λ a h.
-    keeps_anchored a c.args.keys.now.keys c.dropping.keys.keys c.dropping.counts.entries c.len.ensures.ordered
-    (subst (λ (o : Option ℕ). IsChained c.dropping.counts.entries o) c.in_default.is c.dropping.invariant.chained)
-    (counted_from (shown c.dropping.keys.keys) a [] c.dropping.counts.entries (c.dropping.invariant.exact a h))
+    let left = by_serial c.dropping.counts.entries in
+    keeps_anchored a c.args.keys.now.keys c.dropping.keys.keys left c.len.ensures.ordered
+    (subst (λ (o : Option ℕ). IsChained left o) c.in_default.is c.dropping.invariant.chained)
+    (counted_from (shown c.dropping.keys.keys) a [] left (c.dropping.invariant.exact a h))
     (c.dropping.invariant.spared a h)

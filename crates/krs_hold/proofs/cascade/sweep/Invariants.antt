@@ -1,18 +1,19 @@
 use Rattle.std.proofs.Common.{◌≡◌, ℕ, List}
 use Rattle.krs_hold.specs.Tally.{AreExact}
 use Rattle.krs_hold.specs.Chain.{numbers_of, IsChained, Spares, total_weight}
+use Rattle.krs_keys.specs.Hashed.{by_serial}
 use Rattle.krs_hold.proofs.cascade.sweep.Given as goal
 
 -- the counts stay exact, each count of 0 waits, and no key has gone that was anchored by one that stays
 abbrev pub invariant-dropping : goal.invariant-dropping
 invariant-dropping l = record {
-  chained : IsChained l.counts.entries l.first;
-  exact : (attached : List ℕ) → AreExact l.fn.keys.keys (numbers_of l.fn.counts.entries) attached
-      → AreExact l.keys.keys (numbers_of l.counts.entries) attached;
-  spared : (attached : List ℕ) → AreExact l.fn.keys.keys (numbers_of l.fn.counts.entries) attached
+  chained : IsChained (by_serial l.counts.entries) l.first;
+  exact : (attached : List ℕ) → AreExact l.fn.keys.keys (numbers_of (by_serial l.fn.counts.entries)) attached
+      → AreExact l.keys.keys (numbers_of (by_serial l.counts.entries)) attached;
+  spared : (attached : List ℕ) → AreExact l.fn.keys.keys (numbers_of (by_serial l.fn.counts.entries)) attached
       → Spares attached l.fn.keys.keys l.keys.keys;
   next : l.keys.next ≡ l.fn.keys.next;
 }
 
 abbrev pub decreases-dropping : goal.decreases-dropping
-decreases-dropping l = total_weight l.counts.entries
+decreases-dropping l = total_weight (by_serial l.counts.entries)

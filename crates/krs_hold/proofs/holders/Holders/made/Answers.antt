@@ -1,27 +1,40 @@
 use Rattle.std.proofs.Common.{ap, sym, ◌∙◌}
+use Rattle.std.specs.Option.{is_some}
 use Rattle.krs_hold.specs.Tally.{with_number}
 use Rattle.krs_hold.proofs.Numbers.{number_stays, no_number, number_made, chain_made}
+use Rattle.krs_keys.specs.Hashed.{by_serial}
+use Rattle.krs_keys.proofs.HashedLemmas.{at_by_serial, by_serial_put}
 use Rattle.krs_hold.proofs.holders.Holders.made.Goals as goal
 
 pub returns-then-contains_key-clause-ok : goal.returns-then-contains_key-clause-ok
 returns-then-contains_key-clause-ok c =
-    number_stays c.self.inside.counts.entries _ c.number-serial.result c.self.view_is
-    (sym c.contains_key.ensures ∙ c.if-contains_key.true)
+    let es = c.self.inside.counts.entries in
+    let there = ap is_some (at_by_serial es c.number-serial.result)
+    ∙ (sym c.contains_key.ensures ∙ c.if-contains_key.true) in
+    number_stays (by_serial es) _ c.number-serial.result c.self.view_is there
     ∙ ap (λ k. with_number k c.args.self.now) c.number-serial.ensures
 
 pub invariant_of-self : goal.invariant_of-self
 invariant_of-self c =
-    chain_made c.self.inside.counts.entries _ c.self.inside.first _ (sym c.contains_key.ensures
-    ∙ c.if-contains_key.false)
-    c.in-Ok.ensures.entries c.self.invariant
+    let es = c.self.inside.counts.entries in
+    let absent = ap is_some (at_by_serial es c.number-serial.result)
+    ∙ (sym c.contains_key.ensures ∙ c.if-contains_key.false) in
+    chain_made (by_serial es) _ c.self.inside.first _ absent (by_serial_put es _ _ _ c.in-Ok.ensures.updates.0)
+    c.self.invariant
 
 pub returns-in-Ok-clause-ok : goal.returns-in-Ok-clause-ok
 returns-in-Ok-clause-ok c =
-    number_made c.self.inside.counts.entries _ c.self.inside.first _ _ c.self.view_is
-    (sym c.contains_key.ensures ∙ c.if-contains_key.false) c.in-Ok.ensures.entries
+    let es = c.self.inside.counts.entries in
+    let absent = ap is_some (at_by_serial es c.number-serial.result)
+    ∙ (sym c.contains_key.ensures ∙ c.if-contains_key.false) in
+    number_made (by_serial es) _ c.self.inside.first _ _ c.self.view_is absent
+    (by_serial_put es _ _ _ c.in-Ok.ensures.updates.0)
     ∙ ap (λ k. with_number k c.args.self.now) c.number-serial.ensures
 
 pub returns-in-Err-clause-there : goal.returns-in-Err-clause-there
 returns-in-Err-clause-there c = λ there.
-    absurd (no_number c.self.inside.counts.entries c.args.self.now c.args.serial c.number-serial.result
-    c.number-serial.ensures c.self.view_is (sym c.contains_key.ensures ∙ c.if-contains_key.false) there)
+    let es = c.self.inside.counts.entries in
+    let absent = ap is_some (at_by_serial es c.number-serial.result)
+    ∙ (sym c.contains_key.ensures ∙ c.if-contains_key.false) in
+    absurd (no_number (by_serial es) c.args.self.now c.args.serial c.number-serial.result c.number-serial.ensures
+    c.self.view_is absent there)
