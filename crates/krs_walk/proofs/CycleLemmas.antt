@@ -14,7 +14,8 @@ use Rattle.krs_model.specs.Reach.{Reaches, Directly, Further, links_in, nested_i
 use Rattle.krs_model.proofs.Levels.{levels_on}
 use Rattle.krs_model.proofs.Tables.{same_at}
 use Rattle.krs_walk.specs.Lists.{join}
-use Rattle.krs_walk.specs.Walks.{Closes, OnlyRingsLink}
+use Rattle.krs_model.specs.Laws.{ClosesCycle}
+use Rattle.krs_walk.specs.Walks.{OnlyRingsLink}
 use Rattle.krs_walk.proofs.ListsLemmas.{Within, fresh, join_fresh, in_join, in_join_left, in_append, in_head, in_tail, in_cons, in_none, in_single, same_is, is_same}
 use Rattle.krs_walk.proofs.LevelsLemmas.{Covers, covers_more, levels_next, levels_fewer}
 use Rattle.krs_walk.proofs.ReachLemmas.{one_more, nested_fewer, nested_ring, closes_links, closes_nested, from_levels}
@@ -28,7 +29,7 @@ Placed links key all = (i : ℕ) → i < length all → is_in (get_or all i 0) (
 pub record IsWalk (links : ℕ → List ℕ) (key goal place : ℕ) (all : List ℕ) : Type 0 where
   pub within : place ≤ length all
   pub start : is_in key all ≡ true
-  pub sound : (k : ℕ) → is_in k all ≡ true → Closes links key k
+  pub sound : (k : ℕ) → is_in k all ≡ true → ClosesCycle links key k
   pub placed : Placed links key all
   pub covers : Covers links all (take place all)
   pub missed : is_in goal (take place all) ≡ false
@@ -119,7 +120,7 @@ closed_reach links _ _ all c s (Directly j k h) = c j s k h
 closed_reach links _ _ all c s (Further j k l p h) = c k (closed_reach links j k all c s p) l h
 
 -- a walk that has examined its whole list has come to all that is reached
-pub walk_misses : (links : ℕ → List ℕ) (key goal place : ℕ) (all : List ℕ) → IsWalk links key goal place all → length all ≤ place → Closes links key goal → ⊥
+pub walk_misses : (links : ℕ → List ℕ) (key goal place : ℕ) (all : List ℕ) → IsWalk links key goal place all → length all ≤ place → ClosesCycle links key goal → ⊥
 walk_misses links key goal place all w le closes =
     let whole : take place all ≡ all = take_all place all le in
     let missed : is_in goal all ≡ false = ap (is_in goal) (sym whole) ∙ w.missed in
@@ -128,8 +129,8 @@ walk_misses links key goal place all w le closes =
     (λ (r : Reaches links key goal). true≢false (sym (closed_reach links key goal all covers w.start r) ∙ missed))
     closes
 
-pub walk_finds : (links : ℕ → List ℕ) (key goal place : ℕ) (all : List ℕ) → IsWalk links key goal place all → place < length all → get_or all place 0 ≡ goal → Closes links key goal
-walk_finds links key goal place all w lt e = subst (λ (z : ℕ). Closes links key z) e (w.sound (get_or all place 0) (in_place all place lt))
+pub walk_finds : (links : ℕ → List ℕ) (key goal place : ℕ) (all : List ℕ) → IsWalk links key goal place all → place < length all → get_or all place 0 ≡ goal → ClosesCycle links key goal
+walk_finds links key goal place all w lt e = subst (λ (z : ℕ). ClosesCycle links key z) e (w.sound (get_or all place 0) (in_place all place lt))
 
 -- the serials that have a key
 abbrev serials_of : Table Key → List ℕ
@@ -147,7 +148,7 @@ ring_there : (o : Option Key) → is_ring o ≡ true → is_some o ≡ true
 ring_there None h = h
 ring_there (Some key) h = refl
 
-reached_there : (keys : Table Key) (key k : ℕ) → is_some (at keys key) ≡ true → Closes (nested_in keys) key k → is_some (at keys k) ≡ true
+reached_there : (keys : Table Key) (key k : ℕ) → is_some (at keys key) ≡ true → ClosesCycle (nested_in keys) key k → is_some (at keys k) ≡ true
 reached_there keys key k there (inl e) = subst (λ (z : ℕ). is_some (at keys z) ≡ true) e there
 reached_there keys _ _ there (inr (Directly j k h)) = ring_there (at keys k) (nested_ring keys j k h)
 reached_there keys _ _ there (inr (Further j k l p h)) = ring_there (at keys l) (nested_ring keys k l h)
@@ -167,11 +168,11 @@ found_closes keys key goal place all there w once lt e =
     let here : is_in goal (levels (nested_in keys) (key ∷ []) (place + 1)) ≡ true = subst (λ (z : ℕ). is_in z (levels (nested_in keys) (key ∷ []) (place + 1)) ≡ true) e (w.placed place lt) in
     levels_up (links_in keys) (key ∷ []) goal (place + 1) (length keys) up (levels_fewer (nested_in keys) (links_in keys) (key ∷ []) (place + 1) goal (nested_fewer keys) here)
 
-pub found_reached : (keys : Table Key) (key goal place : ℕ) (all : List ℕ) → IsWalk (nested_in keys) key goal place all → place < length all → get_or all place 0 ≡ goal → Closes (links_in keys) key goal
+pub found_reached : (keys : Table Key) (key goal place : ℕ) (all : List ℕ) → IsWalk (nested_in keys) key goal place all → place < length all → get_or all place 0 ≡ goal → ClosesCycle (links_in keys) key goal
 found_reached keys key goal place all w lt e = closes_links keys key goal (walk_finds (nested_in keys) key goal place all w lt e)
 
 -- what it misses closes none
-pub missed_reached : (keys : Table Key) (key goal place : ℕ) (all : List ℕ) → OnlyRingsLink keys → is_ring (at keys goal) ≡ true → IsWalk (nested_in keys) key goal place all → length all ≤ place → Closes (links_in keys) key goal → ⊥
+pub missed_reached : (keys : Table Key) (key goal place : ℕ) (all : List ℕ) → OnlyRingsLink keys → is_ring (at keys goal) ≡ true → IsWalk (nested_in keys) key goal place all → length all ≤ place → ClosesCycle (links_in keys) key goal → ⊥
 missed_reached keys key goal place all only ring w le closing =
     walk_misses (nested_in keys) key goal place all w le (closes_nested keys key goal only ring closing)
 

@@ -1,14 +1,11 @@
 -- What a key table keeps of the nested keyrings is what the definitions see.
-use Rattle.std.proofs.Common.{◌≡◌, ℕ, [], ◌∷◌, Option, Some, None, true, false, cond, filter, refl, ap, ◌∙◌, sym, ◌⊎◌, ⊎_elim}
+use Rattle.std.proofs.Common.{◌≡◌, ℕ, [], ◌∷◌, Option, Some, None, true, false, cond, filter, refl, ap, ◌∙◌, sym}
 use Rattle.std.specs.Option.{option_map}
 use Rattle.std.proofs.lemmas.Option.{none-some, same_Some}
 use Rattle.krs_types.specs.declared.name.Name.{Name}
 use Rattle.krs_types.specs.Kind.{same_kind}
 use Rattle.krs_types.specs.declared.kind.Kind.TheVariants.{Keyring}
 use Rattle.krs_model.specs.Table.{Table, at}
-use Rattle.krs_model.specs.Levels.{is_in}
-use Rattle.krs_walk.specs.Walks.{OnlyRingsLink}
-use Rattle.krs_walk.proofs.ListsLemmas.{in_none}
 use Rattle.krs_model.specs.Reach.{is_ring, nested_in}
 use Rattle.krs_model.specs.Sweep.{linked_by}
 use Rattle.krs_model.proofs.Tables.{at_map}
@@ -44,19 +41,3 @@ rings_there keys serial key fit there =
 pub no_rings_there : (keys : Table Key) (serial : ℕ) → at keys serial ≡ None → nested_in (shown keys) serial ≡ []
 no_rings_there keys serial none =
     ap (λ o. filter (λ k. is_ring (at (shown keys) k)) (linked_by o)) (at_map seen keys serial ∙ ap (option_map seen) none)
-
--- a key is a keyring, or links nothing
-abbrev pub RingsOrEmpty : Table Key → Type 0
-RingsOrEmpty keys = (serial : ℕ) (key : Key) → at keys serial ≡ Some key → (names.is_ring key.name ≡ true) ⊎ (content_links key.content ≡ [])
-
-ring_or_empty : (keys : Table Key) (j k : ℕ) (o : Option Key) → at keys j ≡ o → RingsOrEmpty keys → is_in k (linked_by (option_map seen o)) ≡ true → is_ring (option_map seen o) ≡ true
-ring_or_empty keys j k None there each m = absurd (in_none k m)
-ring_or_empty keys j k (Some key) there each m =
-    ⊎_elim (λ (ring : names.is_ring key.name ≡ true). ring)
-    (λ (empty : content_links key.content ≡ []). absurd (in_none k (ap (λ zs. is_in k (serials zs)) (sym empty) ∙ (ap (is_in k) (serials-content key.content) ∙ m))))
-    (each j key there)
-
--- then only keyrings link
-pub only_rings : (keys : Table Key) → RingsOrEmpty keys → OnlyRingsLink (shown keys)
-only_rings keys each j k m =
-    ap is_ring (at_map seen keys j) ∙ ring_or_empty keys j k (at keys j) refl each (ap (λ o. is_in k (linked_by o)) (sym (at_map seen keys j)) ∙ m)

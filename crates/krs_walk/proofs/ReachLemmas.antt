@@ -5,7 +5,8 @@ use Rattle.krs_model.specs.State.{Key}
 use Rattle.krs_model.specs.Levels.{level, levels, is_in}
 use Rattle.krs_model.specs.Reach.{Reaches, Directly, Further, links_in, nested_in, is_ring}
 use Rattle.krs_model.proofs.Levels.{in_flat}
-use Rattle.krs_walk.specs.Walks.{Closes, OnlyRingsLink}
+use Rattle.krs_model.specs.Laws.{ClosesCycle}
+use Rattle.krs_walk.specs.Walks.{OnlyRingsLink}
 use Rattle.krs_walk.proofs.ListsLemmas.{in_head, in_tail, in_cons, in_none, in_one, in_single}
 use Rattle.krs_walk.proofs.LevelsLemmas.{Fewer}
 
@@ -35,7 +36,7 @@ nested_fewer keys j k m = (from_filter (λ q. is_ring (at keys q)) (links_in key
 pub nested_ring : (keys : Table Key) (j k : ℕ) → is_in k (nested_in keys j) ≡ true → is_ring (at keys k) ≡ true
 nested_ring keys j k m = (from_filter (λ q. is_ring (at keys q)) (links_in keys j) k m).0
 
-pub one_more : (links : ℕ → List ℕ) (a j b : ℕ) → Closes links a j → is_in b (links j) ≡ true → Reaches links a b
+pub one_more : (links : ℕ → List ℕ) (a j b : ℕ) → ClosesCycle links a j → is_in b (links j) ≡ true → Reaches links a b
 one_more links a j b (inl e) h = Directly a b (subst (λ (z : ℕ). is_in b (links z) ≡ true) (sym e) h)
 one_more links a j b (inr p) h = Further a j b p h
 
@@ -49,15 +50,15 @@ reaches_nested keys _ _ only ring (Directly a b h) = Directly a b (in_filter (λ
 reaches_nested keys _ _ only ring (Further a j b p h) =
     Further a j b (reaches_nested keys a j only (only j b h) p) (in_filter (λ q. is_ring (at keys q)) (links_in keys j) b h ring)
 
-pub closes_links : (keys : Table Key) (a b : ℕ) → Closes (nested_in keys) a b → Closes (links_in keys) a b
+pub closes_links : (keys : Table Key) (a b : ℕ) → ClosesCycle (nested_in keys) a b → ClosesCycle (links_in keys) a b
 closes_links keys a b (inl e) = inl e
 closes_links keys a b (inr p) = inr (reaches_fewer (nested_in keys) (links_in keys) a b (nested_fewer keys) p)
 
-pub closes_nested : (keys : Table Key) (a b : ℕ) → OnlyRingsLink keys → is_ring (at keys b) ≡ true → Closes (links_in keys) a b → Closes (nested_in keys) a b
+pub closes_nested : (keys : Table Key) (a b : ℕ) → OnlyRingsLink keys → is_ring (at keys b) ≡ true → ClosesCycle (links_in keys) a b → ClosesCycle (nested_in keys) a b
 closes_nested keys a b only ring (inl e) = inl e
 closes_nested keys a b only ring (inr p) = inr (reaches_nested keys a b only ring p)
 
-from_level : (links : ℕ → List ℕ) (key n k : ℕ) → is_in k (level links (key ∷ []) n) ≡ true → Closes links key k
+from_level : (links : ℕ → List ℕ) (key n k : ℕ) → is_in k (level links (key ∷ []) n) ≡ true → ClosesCycle links key k
 unfolding level
 from_level links key zero k m = inl (sym (in_single k key m))
 from_level links key (suc n) k m =
@@ -65,7 +66,7 @@ from_level links key (suc n) k m =
     inr (one_more links key from.0 k (from_level links key n from.0 from.1) from.2)
 
 -- the levels have nothing else than the key and what is reached from it
-pub from_levels : (links : ℕ → List ℕ) (key n k : ℕ) → is_in k (levels links (key ∷ []) n) ≡ true → Closes links key k
+pub from_levels : (links : ℕ → List ℕ) (key n k : ℕ) → is_in k (levels links (key ∷ []) n) ≡ true → ClosesCycle links key k
 unfolding levels
 from_levels links key zero k m = absurd (in_none k m)
 from_levels links key (suc n) k m =

@@ -1,5 +1,5 @@
 -- What the walks answer, over the keys of the definitions.
-use Rattle.std.specs.Prelude.{◌≡◌, ◌⊎◌, ℕ, ◌+◌, List, ◌++◌, Bool, true, false, ◌&&◌, ◌==◌, filter, flat_map, drop, Option, None, Some}
+use Rattle.std.specs.Prelude.{◌≡◌, ℕ, ◌+◌, List, ◌++◌, Bool, true, false, ◌&&◌, ◌==◌, filter, flat_map, drop, Option, None, Some}
 use Rattle.std.specs.List.{list_any}
 use Rattle.std.specs.Option.{option_to_list}
 use Rattle.krs_types.specs.declared.caller.Caller.{Caller}
@@ -14,15 +14,11 @@ use Rattle.krs_model.specs.Levels.{levels, is_in}
 use Rattle.krs_types.specs.Rights.{has_all, SEARCH}
 use Rattle.krs_model.specs.Access.{is_alive, rights_on}
 use Rattle.krs_model.specs.Possession.{followed}
-use Rattle.krs_model.specs.Reach.{Reaches, links_in, is_ring, has_chain}
+use Rattle.krs_model.specs.Reach.{links_in, is_ring, has_chain}
 
 -- only keyrings link keys: keyrings(7), "Keyrings"
 abbrev pub OnlyRingsLink : Table Key → Type 0
 OnlyRingsLink keys = (j k : ℕ) → is_in k (links_in keys j) ≡ true → is_ring (at keys j) ≡ true
-
--- the key is the keyring, or links lead from the key to the keyring: keyctl(2), KEYCTL_LINK, "EDEADLK"
-abbrev pub Closes : (ℕ → List ℕ) → ℕ → ℕ → Type 0
-Closes links key ring = (key ≡ ring) ⊎ Reaches links key ring
 
 -- the longest chain of nested keyrings that hangs down from the key has that many links: profile, nesting depth
 pub record IsHeight (keys : Table Key) (key height : ℕ) : Type 0 where

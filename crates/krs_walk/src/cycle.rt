@@ -2,7 +2,8 @@ ghost use Rattle.std.specs.Prelude.{◌≡◌, [], true, IfOk, IsOk, IsTrue, IsS
 ghost use Rattle.krs_model.specs.Table.{at};
 ghost use Rattle.krs_model.specs.Reach.{is_ring, links_in, nested_in, closes};
 ghost use Rattle.krs_keys.specs.Keys.{shown, AreFit};
-ghost use Rattle.krs_walk.specs.Walks.{Closes, OnlyRingsLink};
+ghost use Rattle.krs_model.specs.Laws.{ClosesCycle};
+ghost use Rattle.krs_walk.specs.Walks.{OnlyRingsLink};
 
 use crate::keyrings::rings_of;
 use crate::{Visits, Walker};
@@ -23,7 +24,7 @@ impl Walker {
         requires key { IsSome (at (shown keys.now.keys) key) }
         requires ring { is_ring (at (shown keys.now.keys) ring) ≡ true }
         ensures closes { IfOk result (λ b. b ≡ closes (shown keys.now.keys) key ring) }
-        ensures reached { IfOk result (λ b. IsTrue b ↔ Closes (links_in (shown keys.now.keys)) key ring) }
+        ensures reached { IfOk result (λ b. IsTrue b ↔ ClosesCycle (links_in (shown keys.now.keys)) key ring) }
         ensures leaf { nested_in (shown keys.now.keys) key ≡ [] → IsOk result }
     {
         if key == ring {
@@ -42,7 +43,7 @@ impl Walker {
         requires key { IsSome (at (shown keys.now.keys) key) }
         requires ring { is_ring (at (shown keys.now.keys) ring) ≡ true }
         ensures closes { IfOk result (λ b. b ≡ closes (shown keys.now.keys) key ring) }
-        ensures reached { IfOk result (λ b. IsTrue b ↔ Closes (links_in (shown keys.now.keys)) key ring) }
+        ensures reached { IfOk result (λ b. IsTrue b ↔ ClosesCycle (links_in (shown keys.now.keys)) key ring) }
     {
         let mut seen = Visits::new(self.alloc);
         seen.join(&[key])?;
