@@ -1,12 +1,14 @@
 -- A script between two lines, and how it ends from there.
-use Rattle.std.proofs.Common.{ℕ, ◌≡◌, ◌⊎◌, inl, inr, List, [], ◌∷◌, ◌++◌, Option, None, Some, IfSome, Ok, Err, refl, sym, append_assoc, append-nil}
-use Rattle.std.specs.Io.KnownBytes.{append_known, IsAtEnd}
+use Rattle.std.proofs.Common.{ℕ, ◌≡◌, ◌≢◌, ◌⊎◌, inl, inr, Bool, List, [], ◌∷◌, ◌++◌, Option, None, Some, IfSome}
+use Rattle.std.proofs.Common.{Result, Ok, Err, refl, sym, ap, ◌∙◌, subst, append_assoc, append-nil}
+use Rattle.std.specs.Io.KnownBytes.{append_known, Appends, IsAtEnd}
 use Rattle.std.proofs.KnownBytes.{Appends-nil, Appends-trans}
 use Rattle.krs_ctl.specs.declared.script.Script.{Script}
 use Rattle.krs_ctl.specs.declared.stop.Stop.{Stop}
 use Rattle.krs_ctl.specs.declared.stop.Stop.TheVariants.{Usage, Memory, Reading, Printing}
 use Rattle.krs_ctl.specs.Lines.{lines_of, ReadsLines}
-use Rattle.krs_ctl.specs.Writing.{Prints}
+use Rattle.krs_ctl.specs.Writing.{Prints, Finishes}
+use Rattle.krs_ctl.specs.Script.{status_of, last_line}
 use Rattle.krs_ctl.specs.Running.{TakesLine, TakesLines, ObeysLine, BeginsWith, Runs}
 use Rattle.krs_ctl.proofs.RunningLemmas.{TakesLines-more}
 
@@ -186,3 +188,34 @@ module _ (input left : Option (List ℕ)) (old now : Script) where
     shows = tt;
     prints = λ other. absurd (other refl);
   }
+
+-- where nothing waited before
+unwaited : (c w : Option (List ℕ)) (text : List ℕ) → Appends (append_known c []) w text → Appends c w text
+unwaited None w text a = tt
+unwaited (Some x) None text a = a
+unwaited (Some x) (Some y) text a = a ∙ ap (λ l. l ++ text) (append-nil x)
+
+-- what was printed, and then the last line
+printed_last :
+    (c w v : Option (List ℕ)) (p q text last : List ℕ) → p ≡ [] → Prints c p w q text
+    → Appends (append_known w q) v last
+    → Appends c v (text ++ last)
+printed_last c w v p q text last none prints adds =
+    unwaited c v (text ++ last) (Appends-trans (append_known c []) (append_known w q) v text last
+    (subst (λ z. Appends (append_known c z) (append_known w q) text) none prints) adds)
+
+-- a script that ends has printed its lines and then its last line, with the status of that; or writing failed
+pub script_ends :
+    (c w v : Option (List ℕ)) (p q text : List ℕ) (stopped : Result (Unit {0}) Stop) (refused : Bool) (status : ℕ)
+    → p ≡ [] → (stopped ≢ Err Printing → Prints c p w q text) → Finishes w q v stopped refused status
+    → ((status ≡ status_of stopped refused) × Appends c v (text ++ last_line stopped)) ⊎ (status ≡ 3)
+script_ends c w v p q text stopped refused status none prints (inr three) = inr three
+script_ends c w v p q text (Ok u) refused status none prints (inl (is, adds)) =
+    inl (is, printed_last c w v p q text _ none (prints (λ e. cc)) adds)
+script_ends c w v p q text (Err Usage) refused status none prints (inl (is, adds)) =
+    inl (is, printed_last c w v p q text _ none (prints (λ e. cc)) adds)
+script_ends c w v p q text (Err Memory) refused status none prints (inl (is, adds)) =
+    inl (is, printed_last c w v p q text _ none (prints (λ e. cc)) adds)
+script_ends c w v p q text (Err Reading) refused status none prints (inl (is, adds)) =
+    inl (is, printed_last c w v p q text _ none (prints (λ e. cc)) adds)
+script_ends c w v p q text (Err Printing) refused status none prints (inl (is, adds)) = inr is

@@ -57,24 +57,43 @@ fn with_session(alloc: Global, session: Option<Serial>) -> Context {
     }
 }
 
+/// What is possessed by a context whose session keyring is key 3, where it and key 4 are keyrings that link nothing.
+fn check_possession(rt: &impl Abort, alloc: Global, keys: &KeyTable) -> Result<(), Fault>
+    requires fit { AreFit keys.now.keys }
+    requires only { OnlyRingsLink (shown keys.now.keys) }
+{
+    let (three, four) = (Serial::new(3), Serial::new(4));
+    let walker = Walker::new(alloc);
+    assert!(rt; walker.height_of(keys, three)? == 0);
+    let context = with_session(alloc, Some(three));
+    assert!(rt; walker.possesses(keys, &context, None, 0, three)?);
+    assert!(rt; walker.possesses(keys, &context, Some(four), 0, four)?);
+    assert!(rt; !walker.possesses(keys, &context, None, 0, four)?);
+    Ok(())
+}
+
 #[test]
-fn walks_of_two_keyrings(rt: HostRuntime) -> Result<(), Fail> {
+fn possession_of_two_keyrings(rt: HostRuntime) -> Result<(), Fail> {
+    let alloc = rt.alloc();
+    let mut keys = KeyTable::starting_at(alloc, 3);
+    let first = ring(alloc, b"a", None, false)?;
+    let second = ring(alloc, b"b", None, false)?;
+    assert!(rt; keys.insert_two(first, second) == Ok(Serial::new(3)));
+    check_possession(&rt, alloc, &keys)?;
+    Ok(())
+}
+
+#[test]
+fn cycles_of_two_keyrings(rt: HostRuntime) -> Result<(), Fail> {
     let alloc = rt.alloc();
     let (three, four) = (Serial::new(3), Serial::new(4));
     let mut keys = KeyTable::starting_at(alloc, 3);
-    let (first, second) = (
-        ring(alloc, b"a", None, false)?,
-        ring(alloc, b"b", None, false)?,
-    );
+    let first = ring(alloc, b"a", None, false)?;
+    let second = ring(alloc, b"b", None, false)?;
     assert!(rt; keys.insert_two(first, second) == Ok(three));
     let walker = Walker::new(alloc);
     assert!(rt; walker.would_cycle(&keys, three, three)?);
     assert!(rt; !walker.would_cycle(&keys, three, four)?);
-    assert!(rt; walker.height_of(&keys, three)? == 0);
-    let context = with_session(alloc, Some(three));
-    assert!(rt; walker.possesses(&keys, &context, None, 0, three)?);
-    assert!(rt; walker.possesses(&keys, &context, Some(four), 0, four)?);
-    assert!(rt; !walker.possesses(&keys, &context, None, 0, four)?);
     Ok(())
 }
 
