@@ -60,7 +60,7 @@ impl KeyTable {
         self.next
     }
 
-    /// How many keys there are. They stand by rising serial.
+    /// How many keys there are. A contract sees them by rising serial.
     pub fn len(&self) -> usize
         ensures len { result ≡ length self.now.keys }
         ensures ordered { IsStrictlySortedBy nat_cmp (keys_of self.now.keys) }
