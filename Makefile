@@ -16,6 +16,7 @@ run: build
 test:
 	rt ci
 
-# Nanoseconds per ask.
+# Nanoseconds per ask, on one processor where taskset is there to pin it.
 bench:
-	cd crates/krs_bench && rt run -- all
+	cd crates/krs_bench && rt run >/dev/null
+	cd crates/krs_bench && $$(command -v taskset >/dev/null && echo taskset -c 0) out/krs_bench all

@@ -1,56 +1,46 @@
 //! Times asks of a store with few and with many keys linked in one keyring. Run by hand: `make bench`.
 #![tactic(auto)]
 
-mod bench;
+mod operation;
+mod ops;
 mod session;
-mod unlink;
+mod stock;
+mod timing;
 
 use anyhow::Result;
-use bench::{Operation, nanoseconds};
-use session::session_nanoseconds;
+use operation::{OPERATIONS, Operation};
 use std::env;
-use unlink::unlink_nanoseconds;
+use timing::{Way, nanoseconds};
 
 /// How many keys are linked in the keyring.
 const COUNTS: [u32; 3] = [10, 1_000, 10_000];
 
-const OPERATIONS: [Operation; 4] = [
-    Operation::Read,
-    Operation::Describe,
-    Operation::Add,
-    Operation::Update,
-];
-
 const USAGE: &str = "\
 usage: krs_bench OPERATION [COUNT]
-OPERATION is read, describe, add (a new key), update (ADD on a match), unlink or all; COUNT is how many keys the user
-keyring links: 10, 1000 and 10000 in turn if it is 0 or left out. Prints nanoseconds per ask of the store, and through a
-session over memory; payloads have 32 bytes. With unlink COUNT is how many keys another uid has, and LINK and UNLINK of
-one key in a small keyring are timed together.
+OPERATION is all, or one of these:
+  read      READ of a key
+  update    UPDATE of a key
+  match     ADD of a key that is there
+  add       ADD of a new key, and UNLINK of it
+  search    SEARCH of a key in the user keyring
+  describe  DESCRIBE of a key
+  link      LINK and UNLINK of one key
+  watched   UPDATE of a watched key, and READ_QUEUE of its record
+  apart     LINK and UNLINK of one key in a small keyring, where another uid has the links
+COUNT is how many keys the user keyring links: 10, 1000 and 10000 in turn if it is left out. Prints the nanoseconds of an
+ask, or of two, in the store, and through a session over memory: the median of ten runs. Payloads have 32 bytes.
 ";
 
 fn main(rt: HostRuntime) -> Result<()> {
     let words: Vec<String> = env::args(&rt)?.collect(rt.alloc())?;
     let name = words.get(1).map_or("", |word| word.as_str());
-    let count = words.get(2).map_or(Ok(0), |word| word.as_str().parse());
+    let count = words.get(2).map_or("", |word| word.as_str());
     let mut is_usage = true;
-    for operation in OPERATIONS {
-        if name == operation.name() || name == "all" {
-            match count {
-                Ok(0) => run_all(&rt, operation)?,
-                Ok(count) => run(&rt, operation, count)?,
-                Err(_) => break,
-            }
+    for (word, operation) in OPERATIONS {
+        if name == word || name == "all" {
+            print_rows(&rt, word, operation, count)?;
             is_usage = false;
         }
-    }
-    if name == "unlink" || name == "all" {
-        match count {
-            Ok(0) => print_all_unlinks(&rt)?,
-            Ok(count) => print_unlink(&rt, count)?,
-            Err(_) => return Ok(rt.print(USAGE)?),
-        }
-        is_usage = false;
     }
     if is_usage {
         rt.print(USAGE)?;
@@ -58,30 +48,20 @@ fn main(rt: HostRuntime) -> Result<()> {
     Ok(())
 }
 
-fn run_all(rt: &HostRuntime, operation: Operation) -> Result<()> {
+/// The row of a count, or those of all.
+fn print_rows(rt: &HostRuntime, name: &str, operation: Operation, count: &str) -> Result<()> {
+    if let Ok(count) = count.parse() {
+        return print_row(rt, name, operation, count);
+    }
     for count in COUNTS {
-        run(rt, operation, count)?;
+        print_row(rt, name, operation, count)?;
     }
     Ok(())
 }
 
-fn print_all_unlinks(rt: &HostRuntime) -> Result<()> {
-    for count in COUNTS {
-        print_unlink(rt, count)?;
-    }
-    Ok(())
-}
-
-fn print_unlink(rt: &HostRuntime, count: u32) -> Result<()> {
-    let each = unlink_nanoseconds(rt, count)?;
-    println!(rt; "link and unlink with {count} keys of another uid: {each} ns")?;
-    Ok(())
-}
-
-fn run(rt: &HostRuntime, operation: Operation, count: u32) -> Result<()> {
-    let name = operation.name();
-    let each = nanoseconds(rt, operation, count)?;
-    let in_session = session_nanoseconds(rt, operation, count)?;
-    println!(rt; "{name} with {count} links: {each} ns, through a session {in_session} ns")?;
+fn print_row(rt: &HostRuntime, name: &str, operation: Operation, count: u32) -> Result<()> {
+    let in_store = nanoseconds(rt, operation, count, Way::Store)?;
+    let in_session = nanoseconds(rt, operation, count, Way::Session)?;
+    println!(rt; "{name} with {count} links: {in_store} ns, through a session {in_session} ns")?;
     Ok(())
 }
