@@ -35,13 +35,13 @@ pub(crate) fn context_count(contexts: &BTreeMap<u32, Context>, client: u32) -> u
     contexts.values().filter(|c| c.client == client).count()
 }
 
-fn has_process(contexts: &BTreeMap<u32, Context>, process: u32) -> bool
+pub(crate) fn has_process(contexts: &BTreeMap<u32, Context>, process: u32) -> bool
     ensures { result ≡ has_process contexts.now.entries process }
 {
     contexts.values().any(|c| c.process == process)
 }
 
-fn has_uid(contexts: &BTreeMap<u32, Context>, uid: u32) -> bool
+pub(crate) fn has_uid(contexts: &BTreeMap<u32, Context>, uid: u32) -> bool
     ensures { result ≡ has_uid contexts.now.entries uid }
 {
     contexts.values().any(|c| c.caller.uid == uid)
