@@ -1,7 +1,7 @@
 -- A thread or process keyring that is made and attached: what it comes to in the definitions, and who holds what.
 use Rattle.std.proofs.Common.{◌≡◌, ◌+◌, ◌≤◌, ℕ, List, [], ◌∷◌, ◌++◌, Option, Some, None, true, false}
 use Rattle.std.proofs.Common.{refl, ap, ◌∙◌, sym, subst, arith, ⊎_elim}
-use Rattle.std.specs.Prelude.{nat_lt, Result, Ok, Err, codes, IfOk}
+use Rattle.std.specs.Prelude.{nat_lt, Result, Ok, codes, IfOk}
 use Rattle.std.specs.Option.{IsSome, option_map, option_to_list, unwrap_or}
 use Rattle.std.specs.Ordering.{nat_cmp, match_ordering}
 use Rattle.std.specs.declared.cmp.Ordering.TheVariants.{Less, Equal, Greater}
@@ -16,7 +16,6 @@ use Rattle.krs_types.specs.Kind.{same_kind}
 use Rattle.krs_types.specs.declared.ask.Answer.{Answer}
 use Rattle.krs_types.specs.declared.ask.Answer.TheVariants.{Number}
 use Rattle.krs_types.specs.declared.errno.Errno.{Errno}
-use Rattle.krs_types.specs.declared.errno.Errno.TheVariants.{ENOSPC}
 use Rattle.krs_model.specs.Table.{Table, at, put, alter, IsBelow}
 use Rattle.krs_model.specs.State as model
 use Rattle.krs_model.specs.Sweep.{roots, context_roots, process_roots, uid_roots}
@@ -233,14 +232,6 @@ pub within_next :
     → within_serials s (Ok (t, answer)) ≡ Ok (t, answer)
 within_next s t answer next few =
     let low : nat_lt 2147483648 t.next_serial ≡ false = grind (arith, nat_tests) in
-    let up : nat_lt s.next_serial t.next_serial ≡ true = grind (arith, nat_tests) in
-    rw (up, low) refl
-
-pub without_next :
-    (s t : model.State) (answer : Answer) → t.next_serial ≡ s.next_serial + 1 → 2147483648 ≤ s.next_serial
-    → within_serials s (Ok (t, answer)) ≡ Err ENOSPC
-without_next s t answer next many =
-    let low : nat_lt 2147483648 t.next_serial ≡ true = grind (arith, nat_tests) in
     let up : nat_lt s.next_serial t.next_serial ≡ true = grind (arith, nat_tests) in
     rw (up, low) refl
 

@@ -7,7 +7,7 @@ use Rattle.krs_types.specs.declared.errno.Errno.{Errno}
 use Rattle.krs_types.specs.declared.errno.Errno.TheVariants.{ESRCH}
 use Rattle.std.specs.Result.{IsErrAnd}
 use Rattle.krs_types.specs.declared.fault.Fault.{Fault}
-use Rattle.krs_types.specs.declared.fault.Fault.TheVariants.{Memory, Refused}
+use Rattle.krs_types.specs.declared.fault.Fault.TheVariants.{Refused}
 use Rattle.krs_model.specs.Outcome.{Outcome, Leads}
 use Rattle.krs_types.specs.declared.ask.Answer.{Answer}
 use Rattle.krs_types.specs.declared.ask.Answer.TheVariants.{Number, Nothing}
@@ -30,8 +30,7 @@ use Rattle.krs_hold.specs.Tally.{times, IsTallied, all_less}
 use Rattle.krs_hold.proofs.Times.{times-append}
 use Rattle.krs_hold.proofs.Gathered.{times-put, times-filter, times-alter}
 use Rattle.krs_hold.proofs.Tallies.{tallied_attached, tallied_let_go_all}
-use Rattle.krs_ctx.specs.Anchors.{Anchors}
-use Rattle.krs_ctx.specs.Told.{Enters, enterable, greeted, opened}
+use Rattle.krs_ctx.specs.Told.{enterable, greeted, opened}
 use Rattle.krs_ctx.proofs.ToldLemmas.{threaded, forked}
 use Rattle.krs_store.specs.Holding.{more_of}
 use Rattle.krs_store.proofs.Counting.{counted_of, more_tallied, context_tallied, less_then, session_attached}
@@ -313,9 +312,3 @@ known_tallied keys s t client n c rings numbers no_context no_process there h ta
     (sym session)
     (entered_tallied keys s client c rings.session numbers no_context no_process (session_attached s c.uid rings there)
     tallied))
-
--- a fault leaves the contexts as they were
-pub enters_same :
-    (old new : Anchors) (x : Fault) (meant : State → Outcome) → Enters old (Err x) new meant → new ≡ old
-enters_same old new Memory meant h = h.1
-enters_same old new (Refused e) meant h = h.1

@@ -13,18 +13,16 @@ use Rattle.krs_model.specs.Table.{Table, at, alter}
 use Rattle.krs_model.specs.State as model
 use Rattle.krs_model.specs.Levels.{is_in}
 use Rattle.krs_model.specs.Possession.{links_of}
-use Rattle.krs_model.specs.Sweep.{AllHeld, linked_by}
+use Rattle.krs_model.specs.Sweep.{linked_by}
 use Rattle.krs_model.specs.Reach.{links_in, is_ring}
-use Rattle.krs_model.specs.Linking.{has_room, is_named, link_named, linking, linked_content}
-use Rattle.krs_model.specs.Asks.Changing.{changed}
+use Rattle.krs_model.specs.Linking.{has_room, link_named, linking}
 use Rattle.krs_model.specs.Asks.Linked.{name_of}
 use Rattle.krs_model.proofs.Tables.{at_map, alter_map}
-use Rattle.krs_model.proofs.Sweeping.{changed_swept, linked_still}
 use Rattle.krs_links.specs.Links.{LinkList, linked_as, serials, is_refused}
 use Rattle.krs_keys.specs.declared.key.Key.{Key}
 use Rattle.krs_keys.specs.declared.key.Content.{Content}
 use Rattle.krs_keys.specs.declared.key.Content.TheVariants.{Payload, Links}
-use Rattle.krs_keys.specs.Keys.{content_links, seen, seen_content, shown, name_at, links_by, links_at, AreNamed, AreFit, IsOfKind, AreOfKind, displaced_by, displaced_at, with_entry, entered}
+use Rattle.krs_keys.specs.Keys.{content_links, seen, seen_content, shown, name_at, links_by, links_at, AreNamed, AreFit, IsOfKind, AreOfKind, with_entry, entered}
 use Rattle.krs_keys.proofs.Fitting.{fit_alter, named_linked}
 use Rattle.krs_keys.proofs.KeysLemmas.{serials-content, found_named, seen-with_entry}
 use Rattle.krs_store.specs.declared.tables.Tables.TheInside.{Inside}
@@ -32,7 +30,7 @@ use Rattle.std.specs.Int.{w32, to_le_bytes}
 use Rattle.krs_model.specs.Asks.Reading.{serial_bytes}
 use Rattle.krs_walk.specs.Walks.{OnlyRingsLink}
 use Rattle.krs_model.specs.Asks.Adding.{IsRing}
-use Rattle.krs_store.specs.View.{state_of, IsSound}
+use Rattle.krs_store.specs.View.{state_of}
 use Rattle.krs_store.specs.Linked.{name_in, room_in, has_link}
 
 name_shown : (o : Option Key) (name : Name) → option_map name_of (option_map seen o) ≡ Some name → option_map (λ (k : Key). k.name) o ≡ Some name
@@ -59,10 +57,6 @@ none_named names (Some key) h = h key refl
 pub ring_named : (es : Table Key) (ring : ℕ) → AreFit es → AreNamed (name_at es) (links_at es ring)
 ring_named es ring fit = none_named (name_at es) (at es ring) (λ key there. fit ring key there)
 
-displaced_is : (name : Name) (o : Option Key) → displaced_by name o ≡ linked_as (links_by o) name
-displaced_is name None = refl
-displaced_is name (Some key) = refl
-
 has_link-serials : (serial : ℕ) (links : LinkList) → has_link serial links ≡ is_in serial (serials links)
 has_link-serials serial [] = refl
 has_link-serials serial (link ∷ links) = ap (λ b. (link.1 == serial) || b) (has_link-serials serial links)
@@ -85,20 +79,6 @@ fit_linked es ring serial name fit there =
 pub shown_linked : (es : Table Key) (ring serial : ℕ) (name : Name) → AreFit es → shown (alter es ring (with_entry name serial)) ≡ alter (shown es) ring (linking (shown es) name serial)
 shown_linked es ring serial name fit =
     alter_map seen es ring (with_entry name serial) (linking (shown es) name serial) (λ v is. seen-with_entry es name serial v (fit ring v is))
-
-links_stay : (keys : Table model.Key) (name : Name) (serial q : ℕ) (content : model.Content) → link_named keys name (links_of content) ≡ None → is_in q (links_of content) ≡ true → is_in q (links_of (linked_content (λ k. is_named name (at keys k)) serial content)) ≡ true
-links_stay keys name serial q (model.Payload bytes) none h = h
-links_stay keys name serial q (model.Links links) none h = linked_still (λ k. is_named name (at keys k)) links serial q none h
-
--- one link more, where none is displaced, leaves every key held
-pub linked_swept : (s : Inside) (ring serial : ℕ) (name : Name) → IsSound s → displaced_at s.keys.keys ring name ≡ None → AllHeld (state_of s) → AllHeld (changed (state_of s) ring (linking (shown s.keys.keys) name serial))
-linked_swept s ring serial name sound none swept =
-    let es = s.keys.keys in
-    let same : links_in (shown es) ring ≡ serials (links_at es ring) = links_shown es ring in
-    let found : link_named (shown es) name (links_in (shown es) ring) ≡ None =
-    ap (link_named (shown es) name) same ∙ (found_named es name (links_at es ring) (ring_named es ring sound.fit) ∙ (sym (displaced_is name (at es ring)) ∙ none)) in
-    changed_swept (state_of s) ring (linking (shown es) name serial)
-    (λ v q there i. links_stay (shown es) name serial q v.content (subst (λ (o : Option model.Key). link_named (shown es) name (linked_by o) ≡ None) there found) i) swept
 
 length-serials : (links : LinkList) → length (serials links) ≡ length links
 length-serials [] = refl

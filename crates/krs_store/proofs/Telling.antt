@@ -1,8 +1,7 @@
 -- What the store's own steps come to in the definitions.
-use Rattle.std.proofs.Common.{◌≡◌, ℕ, ℤ, ◌+◌, ◌≤◌, Ok, length, ◌==◌, ◌||◌, List, [], ◌∷◌, Option, Some, None, Bool, true, false, refl, ap, ◌∙◌, sym, subst, arith, ⊎_elim}
+use Rattle.std.proofs.Common.{◌≡◌, ℕ, ℤ, ◌+◌, ◌≤◌, Ok, length, ◌==◌, List, [], ◌∷◌, Option, Some, None, Bool, true, refl, ap, ◌∙◌, sym, subst, arith, ⊎_elim}
 use Rattle.std.specs.Prelude.{codes}
-use Rattle.std.specs.Option.{IsSome, is_some, option_map}
-use Rattle.std.proofs.lemmas.Bool.{true≢false}
+use Rattle.std.specs.Option.{IsSome, option_map}
 use Rattle.std.specs.Cmp.{unsigned_tied}
 use Rattle.std.proofs.lemmas.Bool.Decides.{nat_tests}
 use Rattle.std.proofs.lemmas.Option.{none-some, same_Some}
@@ -39,10 +38,6 @@ use Rattle.krs_store.specs.View.{state_of, IsSound}
 use Rattle.krs_keys.proofs.KeysLemmas.{seen-with_entry, found_named, serials-content}
 use Rattle.krs_keys.proofs.KindsLemmas.{kinds_alter, kinds_put, kinds_kept, linked_kind}
 use Rattle.krs_keys.proofs.Fitting.{fit_alter, fit_put, fit_kept, named_linked, LinksKept}
-
--- nothing is shown where nothing is
-pub shown_none : (es : Table Key) (k : ℕ) → at es k ≡ None → at (shown es) k ≡ None
-shown_none es k h = at_map seen es k ∙ ap (option_map seen) h
 
 key_shown : (o : Option Key) (x : model.Key) → option_map seen o ≡ Some x → (key : Key) × (o ≡ Some key) × (seen key ≡ x)
 key_shown None x h = absurd (none-some x h)
@@ -168,14 +163,6 @@ sweep_told s new sound sweeps =
       kinds = kinds_kept es kept sound.kinds;
       sweep = record { kept = kept; picks = sweeps.picks; keys = filter_map_keys seen es kept; rest = refl };
     })
-
-pub neither : (b d : Bool) → (b || d) ≡ false → (b ≡ false) × (d ≡ false)
-neither true d h = absurd (true≢false h)
-neither false d h = (refl, h)
-
-pub is_none : {X : Type 0} (o : Option X) → is_some o ≡ false → o ≡ None
-is_none None h = refl
-is_none (Some x) h = absurd (true≢false h)
 
 -- where an added key goes is told by the name that the links have
 pub place_told : (s : model.State) (c : Context) (name : Name) (id : ℤ) (ring : ℕ) (key : Key) (links : LinkList) → look_up s c id (Granted WRITE) ≡ Ok (ring, seen key) → key.content ≡ Links links → FindsByName s.keys key → place_of s c name id ≡ by_match s c ring (serials links) (linked_as links name)

@@ -1,4 +1,4 @@
-ghost use Rattle.std.specs.Prelude.{◌≡◌, ◌≤◌, ◌+◌, ◌||◌, is_some, length, IfOk, OnOk, OnErr};
+ghost use Rattle.std.specs.Prelude.{◌≡◌, ◌≤◌, ◌||◌, length, IfOk, OnOk, OnErr};
 ghost use Rattle.krs_model.specs.Outcome.{Leads, Gives, Is};
 ghost use Rattle.krs_model.specs.Asks.Adding.{admitted, if_room, by_match, place_of, first_perm, new_key, made, IsRing, add};
 ghost use Rattle.krs_model.specs.Asks.Changing.{is_updatable};
@@ -15,9 +15,6 @@ use krs_types::{
     Answer, Blob, Body, Context, Desc, Errno, Fault, Kind, Name, Perm, Rights, Serial, Want,
 };
 use std::alloc::{AllocError, Global};
-
-/// How many links a keyring has at most: profile, full keyrings.
-const MAX_LINKS: usize = 65535;
 
 /// The last serial that a key may get: profile, serials run out.
 pub(crate) const LAST_SERIAL: u32 = 2_147_483_647;
@@ -53,7 +50,7 @@ impl Tables {
         ensures place { Is meant result (if_room self.now ring (serials links.now) displaced) }
         ensures serial { IfOk result (HasSerial self.now.next_serial) }
     {
-        if displaced.is_none() && links.len() >= MAX_LINKS {
+        if displaced.is_none() && links.is_full() {
             return Err(Errno::ENFILE);
         }
         if self.keys.next() > LAST_SERIAL {

@@ -1,6 +1,5 @@
-ghost use Rattle.std.specs.Prelude.{◌≡◌, IfOk};
+ghost use Rattle.std.specs.Prelude.{IfOk};
 ghost use Rattle.krs_model.specs.Outcome.{Leads, Gives, Is};
-ghost use Rattle.krs_model.specs.Linking.{ring_links};
 ghost use Rattle.krs_model.specs.Search.{found, requested};
 ghost use Rattle.krs_model.specs.Asks.Adding.{IsRing};
 ghost use Rattle.krs_model.specs.Lookup.{context_of};

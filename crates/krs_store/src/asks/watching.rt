@@ -1,4 +1,4 @@
-ghost use Rattle.std.specs.Prelude.{◌≡◌, ◌≢◌, Err};
+ghost use Rattle.std.specs.Prelude.{◌≢◌, Err};
 ghost use Rattle.krs_types.specs.declared.ask.Op.TheVariants.{Watch};
 ghost use Rattle.krs_types.specs.declared.fault.Fault.TheVariants.{Memory};
 ghost use Rattle.krs_model.specs.Outcome.{Leads};
