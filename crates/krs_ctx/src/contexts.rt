@@ -164,8 +164,8 @@ impl Contexts {
         Ok(self.next as u32)
     }
 
-    /// A context in a process of its own, for a caller that was checked. The keyrings of its uid come with the uid's first
-    /// context: whoever asks makes them, and takes the context back where that fails. EINVAL, ENOSPC, ENOMEM.
+    /// A context in a process of its own, for a caller that was checked. The keyrings of its uid come with the uid's
+    /// first context: whoever asks makes them, and takes the context back where that fails. EINVAL, ENOSPC, ENOMEM.
     pub fn hello(
         &mut self,
         client: u32,
@@ -254,8 +254,8 @@ impl Contexts {
         Ok(())
     }
 
-    /// Takes back the context that was made last, with its process and the keyrings of its uid: for a HELLO whose uid's
-    /// keyrings could not be made after all.
+    /// Takes back the context that was made last, with its process and the keyrings of its uid: for a HELLO whose
+    /// uid's keyrings could not be made after all.
     pub fn take_back(&mut self, number: u32, uid: u32)
         requires { self.old.next_context ≡ number + 1 }
         ensures { self.new ≡ taken_back self.old number uid }
