@@ -1,5 +1,7 @@
 -- What further contexts, and EXEC, owe the numbers of holders.
-use Rattle.std.proofs.Common.{◌≡◌, ℕ, ◌+◌, ◌==◌, ◌&&◌, ◌||◌, ◌++◌, List, [], ◌∷◌, Bool, true, false, not, filter, cond, if◌then◌else◌, Option, None, Some, Result, Ok, Err, refl, ap, sym, ◌∙◌, subst, arith}
+use Rattle.std.proofs.Common.{◌≡◌, ℕ, ◌+◌, ◌==◌, ◌&&◌, ◌||◌, ◌++◌, List, [], ◌∷◌, Bool, true, false, not, filter}
+use Rattle.std.proofs.Common.{cond, if◌then◌else◌, Option, None, Some, Result, Ok, Err, refl, ap, sym, ◌∙◌, subst}
+use Rattle.std.proofs.Common.{arith}
 use Rattle.std.specs.Option.{option_to_list, unwrap_or, IfSome}
 use Rattle.std.specs.Ordering.{nat_cmp}
 use Rattle.std.specs.BTreeMap.{is_at}
@@ -155,7 +157,8 @@ pub fork_tallied :
 fork_tallied keys s t client number n c numbers no_context no_process own h tallied =
     subst (λ (z : State). IsTallied keys (roots z) [] (more_of c.session numbers))
     (fork_opens s t client number n c own h)
-    (entered_tallied keys s client c.caller c.session numbers no_context no_process (session_held s client number c own)
+    (entered_tallied keys s client c.caller c.session numbers no_context no_process
+    (session_held s client number c own)
     tallied)
 
 filter_alter :
@@ -181,7 +184,8 @@ filter_same :
 filter_same p r [] same = refl
 filter_same p r (x ∷ xs) same =
     let rest = filter_same p r xs same in
-    rw (same x) (elim (r x) as (λ b. cond b (x ∷ filter p xs) (filter p xs) ≡ cond b (x ∷ filter r xs) (filter r xs)) [
+    rw (same x) (elim (r x) as (λ b. cond b (x ∷ filter p xs) (filter p xs)
+    ≡ cond b (x ∷ filter r xs) (filter r xs)) [
       | true ↦ ap (λ zs. x ∷ zs) rest
       | false ↦ rest
     ])
@@ -274,8 +278,10 @@ pub exec_tallied :
 exec_tallied keys s t client number c numbers own h tallied =
     let ended = context_roots (filter (ends c.process number) s.contexts) in
     let ring = option_to_list (process_ring s c.process) in
-    subst (λ (zs : Table ℕ). IsTallied keys (roots t) [] zs) (sym (less_then ended (option_to_list c.thread) ring numbers))
-    (subst (λ (z : State). IsTallied keys (roots z) [] (all_less ((ended ++ option_to_list c.thread) ++ ring) numbers))
+    subst (λ (zs : Table ℕ). IsTallied keys (roots t) [] zs) (sym (less_then ended (option_to_list c.thread)
+    ring numbers))
+    (subst (λ (z : State). IsTallied keys (roots z) [] (all_less
+    ((ended ++ option_to_list c.thread) ++ ring) numbers))
     (exec_is s t client number c own h)
     (held_less keys s (execed s number c) ((ended ++ option_to_list c.thread) ++ ring) numbers
     (λ q. execed_times s number q c (own_there s client number c own)) tallied))
@@ -304,11 +310,13 @@ pub known_tallied :
     → IsTallied keys (roots t) [] (more_of rings.session numbers)
 known_tallied keys s t client n c rings numbers no_context no_process there h tallied =
     let opens : opened s client c None ≡ t =
-    ap (λ (x : State × Answer). x.0) (one_accepted (enterable s client) (opened s client c None, Number s.next_context)
+    ap (λ (x : State × Answer). x.0) (one_accepted (enterable s client)
+    (opened s client c None, Number s.next_context)
     (t, Number n) h) in
     let session : user_session_ring (at s.uids c.uid) ≡ rings.session = rw there refl in
     subst (λ (z : State). IsTallied keys (roots z) [] (more_of rings.session numbers)) opens
     (subst (λ (o : Option ℕ). IsTallied keys (roots (with_context s client c o)) [] (more_of rings.session numbers))
     (sym session)
-    (entered_tallied keys s client c rings.session numbers no_context no_process (session_attached s c.uid rings there)
+    (entered_tallied keys s client c rings.session numbers no_context no_process
+    (session_attached s c.uid rings there)
     tallied))

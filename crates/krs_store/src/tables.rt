@@ -209,7 +209,8 @@ impl Tables {
         self.clock = self.clock.max(moment);
     }
 
-    /// Just the keys stay that are attached, or linked by what stays. The watches of the others end with removal records.
+    /// Just the keys stay that are attached, or linked by what stays. The watches of the others end with removal
+    /// records.
     pub(crate) fn sweep(&mut self)
         requires acyclic { IsAcyclic (links_in self.old.keys) }
         requires live { live_watches self.old.keys self.old.watches ≡ self.old.watches }
