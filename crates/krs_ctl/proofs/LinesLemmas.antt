@@ -1,5 +1,6 @@
 -- The lines of bytes, one after the other.
-use Rattle.std.proofs.Common.{ℕ, ◌≡◌, ◌==◌, ◌<◌, length, IfSome, ◌⊎◌, inl, inr, List, [], ◌∷◌, true, false, Option, None, Some, refl, ap, arith, if◌then◌else◌}
+use Rattle.std.proofs.Common.{ℕ, ◌≡◌, ◌==◌, ◌<◌, length, IfSome, ◌⊎◌, inl, inr, List, [], ◌∷◌, true, false, Option}
+use Rattle.std.proofs.Common.{None, Some, refl, ap, arith, if◌then◌else◌}
 use Rattle.std.proofs.lemmas.Bool.Decides.{nat_tests}
 use Rattle.std.proofs.lemmas.Grind.{common_steps}
 use Rattle.std.specs.Io.BufRead.{take_through, drop_through, first_piece, strip_last, ends_with_byte, DropsThrough}

@@ -1,5 +1,6 @@
 -- The bytes of a keyring's links, and how keys are listed.
-use Rattle.std.proofs.Common.{ℕ, ◌≡◌, ◌<◌, ◌^◌, ◌%◌, ◌==◌, ◌∙◌, List, [], ◌∷◌, length, Result, Ok, refl, ap, sym, true}
+use Rattle.std.proofs.Common.{ℕ, ◌≡◌, ◌<◌, ◌^◌, ◌%◌, ◌==◌, ◌∙◌, List, [], ◌∷◌, length, Result, Ok, refl, ap, sym}
+use Rattle.std.proofs.Common.{true}
 use Rattle.std.specs.List.{AllByRecursion}
 use Rattle.std.proofs.lemmas.Nat.{from_le_bytes-to_le_bytes_4}
 use Rattle.std.proofs.Math.Nat.{mul-mod_right}

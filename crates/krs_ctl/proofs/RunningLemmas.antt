@@ -1,5 +1,6 @@
 -- Lines of a script, one after the other.
-use Rattle.std.proofs.Common.{ℕ, ◌≡◌, ◌⊎◌, inl, inr, List, [], ◌∷◌, ◌++◌, false, Some, Result, Ok, Err, OnOk, IfErr, refl, sym, ap, ◌∙◌, append_assoc, append-nil, ◌==◌, length, map, Bor}
+use Rattle.std.proofs.Common.{ℕ, ◌≡◌, ◌⊎◌, inl, inr, List, [], ◌∷◌, ◌++◌, false, Some, Result, Ok, Err, OnOk, IfErr}
+use Rattle.std.proofs.Common.{refl, sym, ap, ◌∙◌, append_assoc, append-nil, ◌==◌, length, map, Bor}
 use Rattle.krs_ctl.specs.declared.output.Output.{Output}
 use Rattle.krs_ctl.specs.declared.command.Command.{Command}
 use Rattle.krs_ctl.specs.declared.script.Script.{Script}

@@ -1,9 +1,15 @@
 -- The commands of a client, a row each: docs/FORMAT.md, "Commands".
-use Rattle.std.specs.Prelude.{ℕ, ℤ, pos, Bool, true, false, if◌then◌else◌, List, [], ◌∷◌, find, bytes_eq, codes, Option, None, Some}
+use Rattle.std.specs.Prelude.{ℕ, ℤ, pos, Bool, true, false, if◌then◌else◌, List, [], ◌∷◌, find, bytes_eq, codes}
+use Rattle.std.specs.Prelude.{Option, None, Some}
 use Rattle.krs_types.specs.declared.ask.Op.{Op}
 use Rattle.krs_types.specs.declared.ask.Op.TheVariants as op
 use Rattle.krs_ctl.specs.declared.command.name.CommandName.{CommandName}
-use Rattle.krs_ctl.specs.declared.command.name.CommandName.TheVariants.{Hello, Context, Moment, Thread, Fork, Exec, Exit, Add, Newring, Id, Join, Update, Print, Rlist, Rdescribe, Revoke, Invalidate, Clear, Chown, Chgrp, SetPerm, Timeout, Link, Unlink, Search, Request, Open, Closeq, Watch, Filter, Readq, Leave}
+use Rattle.krs_ctl.specs.declared.command.name.CommandName.TheVariants.{Hello, Context, Moment, Thread, Fork, Exec}
+use Rattle.krs_ctl.specs.declared.command.name.CommandName.TheVariants.{Exit, Add, Newring, Id, Join, Update, Print}
+use Rattle.krs_ctl.specs.declared.command.name.CommandName.TheVariants.{Rlist, Rdescribe, Revoke, Invalidate, Clear}
+use Rattle.krs_ctl.specs.declared.command.name.CommandName.TheVariants.{Chown, Chgrp, SetPerm, Timeout, Link, Unlink}
+use Rattle.krs_ctl.specs.declared.command.name.CommandName.TheVariants.{Search, Request, Open, Closeq, Watch, Filter}
+use Rattle.krs_ctl.specs.declared.command.name.CommandName.TheVariants.{Readq, Leave}
 use Rattle.krs_ctl.specs.declared.command.Command.{Command}
 use Rattle.krs_ctl.specs.declared.command.Command.TheVariants as command
 use Rattle.krs_ctl.specs.Parsed.{◌>>=◌}

@@ -7,8 +7,8 @@ abbrev pub lines_of : List ℕ → List (List ℕ)
 lines_of [] = []
 lines_of (b ∷ bs) = if b == 10 then [] ∷ lines_of bs else onto_first b (lines_of bs)
 
--- From what a reader had left to what it has left these lines were read. Of a reader that does not tell its bytes this
--- says nothing.
+-- From what a reader had left to what it has left these lines were read. Of a reader that does not tell its bytes
+-- this says nothing.
 abbrev pub ReadsLines : Option (List ℕ) → Option (List ℕ) → List (List ℕ) → Type 0
 ReadsLines None left lines = ⊤
 ReadsLines (Some bytes) None lines = ⊥

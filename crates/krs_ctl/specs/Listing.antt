@@ -1,5 +1,7 @@
--- How the bytes of a key or a queue are listed: docs/FORMAT.md, "What is printed", "Commands"; profile, hidden describe.
-use Rattle.std.specs.Prelude.{ℕ, ◌≡◌, ◌≢◌, ◌<◌, ◌^◌, ◌==◌, ◌%◌, ◌&&◌, List, Bool, false, length, nat_eq, if◌then◌else◌, codes, Result, Ok, Err}
+-- How the bytes of a key or a queue are listed: docs/FORMAT.md, "What is printed", "Commands"; profile, hidden
+-- describe.
+use Rattle.std.specs.Prelude.{ℕ, ◌≡◌, ◌≢◌, ◌<◌, ◌^◌, ◌==◌, ◌%◌, ◌&&◌, List, Bool, false, length, nat_eq}
+use Rattle.std.specs.Prelude.{if◌then◌else◌, codes, Result, Ok, Err}
 use Rattle.std.specs.List.{starts_with, AllByRecursion}
 use Rattle.krs_types.specs.declared.errno.Errno.{Errno}
 use Rattle.krs_types.specs.declared.ask.Answer.{Answer}
@@ -18,7 +20,8 @@ is_keyring (Ok Nothing) = false
 is_keyring (Ok (Number n)) = false
 is_keyring (Err e) = false
 
--- what the bytes that READ gave are shown as, by the reply to DESCRIBE: a keyring's as serials, all others as they are
+-- what the bytes that READ gave are shown as, by the reply to DESCRIBE: a keyring's as serials, all others as they
+-- are
 abbrev pub listing : List ℕ → Result Answer Errno → Output
 listing bytes described =
     if is_keyring described && (length bytes % 4 == 0) then Serials bytes else Reply (Ok (Bytes bytes))

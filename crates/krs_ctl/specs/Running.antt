@@ -1,5 +1,6 @@
 -- What a script does to its store and what it prints: docs/FORMAT.md, "Lines and words", "Commands" and "Statuses".
-use Rattle.std.specs.Prelude.{ℕ, ℤ, ◌≡◌, ◌≢◌, ◌⊎◌, ◌==◌, ◌||◌, List, [], ◌∷◌, ◌++◌, Bool, false, length, ⊤, MatchBool, IfSome, Option, Some, None, Result, Ok, Err}
+use Rattle.std.specs.Prelude.{ℕ, ℤ, ◌≡◌, ◌≢◌, ◌⊎◌, ◌==◌, ◌||◌, List, [], ◌∷◌, ◌++◌, Bool, false, length, ⊤, MatchBool}
+use Rattle.std.specs.Prelude.{IfSome, Option, Some, None, Result, Ok, Err}
 use Rattle.std.specs.Result.{is_err}
 use Rattle.std.specs.Io.KnownBytes.{Appends}
 use Rattle.krs_types.specs.declared.errno.Errno.{Errno}
@@ -93,7 +94,8 @@ StopsBehind input lines (Err Memory) = BeginsWith input lines
 StopsBehind input lines (Err Reading) = BeginsWith input lines
 StopsBehind input lines (Err Printing) = BeginsWith input lines
 
--- What of the text was printed: all of it; a beginning where memory was wanting; of a writer that failed nothing is known.
+-- What of the text was printed: all of it; a beginning where memory was wanting; of a writer that failed nothing is
+-- known.
 abbrev pub IsPrinted : Result (Unit {0}) Stop → List ℕ → List ℕ → Type 0
 IsPrinted (Ok _) text printed = printed ≡ text
 IsPrinted (Err Usage) text printed = printed ≡ text
@@ -101,8 +103,8 @@ IsPrinted (Err Memory) text printed = (rest : List ℕ) × (text ≡ printed ++ 
 IsPrinted (Err Reading) text printed = printed ≡ text
 IsPrinted (Err Printing) text printed = ⊤
 
--- What became of one line, and what was printed: it was obeyed; it is no command; memory was wanting, before it or for
--- what it prints; or writing failed.
+-- What became of one line, and what was printed: it was obeyed; it is no command; memory was wanting, before it or
+-- for what it prints; or writing failed.
 abbrev pub ObeysLine : Script → List ℕ → Script → (List ℕ → Type 0) → Result (Unit {0}) Stop → Type 0
 ObeysLine old line new Printed (Ok _) = (text : List ℕ) × TakesLine old line text new × Printed text
 ObeysLine old line new Printed (Err Usage) =

@@ -1,5 +1,6 @@
 ghost use Rattle.std.specs.Prelude.{◌≡◌, ◌++◌, ◌∷◌, [], IfOk, OnOk};
-ghost use Rattle.krs_ctl.specs.Printing.{is_printable, serials_in, shown, shown_bytes, shown_refusal, shown_reply, shown_serials, with_serial};
+ghost use Rattle.krs_ctl.specs.Printing.{is_printable, serials_in, shown, shown_bytes, shown_refusal, shown_reply};
+ghost use Rattle.krs_ctl.specs.Printing.{shown_serials, with_serial};
 
 use crate::output::Output;
 use krs_types::{Answer, Errno, Reply};

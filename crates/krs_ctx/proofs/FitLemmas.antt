@@ -1,5 +1,6 @@
 -- What is true of all anchors stays so.
-use Rattle.std.proofs.Common.{◌≡◌, ℕ, ◌+◌, ◌<◌, ◌≤◌, ◌==◌, [], ◌∷◌, Option, Some, None, Bool, true, false, cond, filter, if◌then◌else◌, arith, refl, ap, ◌∙◌, sym, subst, ⊎_elim}
+use Rattle.std.proofs.Common.{◌≡◌, ℕ, ◌+◌, ◌<◌, ◌≤◌, ◌==◌, [], ◌∷◌, Option, Some, None, Bool, true, false, cond}
+use Rattle.std.proofs.Common.{filter, if◌then◌else◌, arith, refl, ap, ◌∙◌, sym, subst, ⊎_elim}
 use Rattle.std.specs.Option.{IsSome, option_map}
 use Rattle.std.proofs.lemmas.Option.{none-some}
 use Rattle.std.proofs.lemmas.Bool.{true≢false}
@@ -12,10 +13,12 @@ use Rattle.krs_types.specs.declared.context.Context.{Context}
 use Rattle.krs_model.specs.Table.{Table, at, put, without, alter, map_values, IsBelow}
 use Rattle.krs_model.specs.Asks.Leaving.{has_process}
 use Rattle.krs_model.proofs.Levels.{or_true, same_is}
-use Rattle.krs_model.proofs.Tables.{at_map, at_put_same, at_put_other, at_alter_same, at_alter_other, at_alter_none, at_or_apart, at_without_none, at_without_other, at_kept, below_put, below_filter}
+use Rattle.krs_model.proofs.Tables.{at_map, at_put_same, at_put_other, at_alter_same, at_alter_other, at_alter_none}
+use Rattle.krs_model.proofs.Tables.{at_or_apart, at_without_none, at_without_other, at_kept, below_put, below_filter}
 use Rattle.krs_ctx.specs.Anchors.{Anchors, Each, IsEntered, IsFit}
 use Rattle.krs_model.proofs.Standing.{there_map}
-use Rattle.krs_ctx.proofs.EachLemmas.{each_on, each_both, each_filter, each_put, each_without, each_alter, each_at, each_below}
+use Rattle.krs_ctx.proofs.EachLemmas.{each_on, each_both, each_filter, each_put, each_without, each_alter, each_at}
+use Rattle.krs_ctx.proofs.EachLemmas.{each_below}
 
 -- a table whose numbers are below one is below the next
 below_more : {X : Type 0} (es : Table X) (n : ℕ) → IsBelow es n → IsBelow es (n + 1)

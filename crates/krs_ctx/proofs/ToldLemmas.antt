@@ -1,5 +1,6 @@
 -- What the asks of contexts come to, once their refusals are known.
-use Rattle.std.proofs.Common.{◌≡◌, ℕ, ◌+◌, ◌≤◌, [], ◌∷◌, cond, arith, ◌==◌, ◌||◌, not, filter, true, false, if◌then◌else◌, Option, Some, None, ap, Result, Ok, Err, IsOk, refl, ◌∙◌, sym, subst}
+use Rattle.std.proofs.Common.{◌≡◌, ℕ, ◌+◌, ◌≤◌, [], ◌∷◌, cond, arith, ◌==◌, ◌||◌, not, filter, true, false}
+use Rattle.std.proofs.Common.{if◌then◌else◌, Option, Some, None, ap, Result, Ok, Err, IsOk, refl, ◌∙◌, sym, subst}
 use Rattle.krs_types.specs.declared.errno.Errno.{Errno}
 use Rattle.std.specs.Result.{IsErrAnd}
 use Rattle.krs_types.specs.declared.fault.Fault.{Fault}
@@ -146,7 +147,8 @@ exec_told s t old new client number c own is contexts processes uids next =
 without_none : {X : Type 0} (es : Table X) (k : ℕ) → at es k ≡ None → without es k ≡ es
 without_none [] k h = refl
 without_none (e ∷ es) k h =
-    elim (is_at (nat_cmp k) e.0) as (λ b. cond b (Some e.1) (at es k) ≡ None → cond b es (e ∷ without es k) ≡ e ∷ es) [
+    elim (is_at (nat_cmp k) e.0) as (λ b. cond b (Some e.1) (at es k) ≡ None
+    → cond b es (e ∷ without es k) ≡ e ∷ es) [
       | true ↦ λ n. absurd cc
       | false ↦ λ n. ap (λ zs. e ∷ zs) (without_none es k n)
     ] h

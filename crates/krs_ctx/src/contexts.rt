@@ -7,7 +7,7 @@ ghost use Rattle.krs_model.specs.Outcome.{Is};
 ghost use Rattle.krs_model.specs.Making.{thread_to};
 ghost use Rattle.krs_model.specs.Asks.Entering.{thread, fork, exec, without_thread};
 ghost use Rattle.krs_model.specs.Asks.Joining.{session_to};
-ghost use Rattle.krs_model.specs.Asks.Leaving.{exit, left};
+ghost use Rattle.krs_model.specs.Asks.Leaving.{exit, has_process, has_uid, left};
 ghost use Rattle.krs_ctx.specs.Anchors.{IsFit, anchored, anchors_of};
 ghost use Rattle.krs_ctx.specs.Told.{Enters, Does, Opens, OpensWith, enterable, greeted};
 ghost use Rattle.krs_ctx.specs.Told.{CanBeTakenBack, taken_back, changed, with_ring};
@@ -15,8 +15,8 @@ ghost use Rattle.krs_ctx.specs.Told.{anchors_without};
 
 use crate::maps::{
     context_count, detach_contexts, detach_processes, detach_uids, drop_contexts, drop_processes,
-    drop_uids, end_others, end_process, end_uid, enter, enter_first, own_context, put_new,
-    set_ring, set_session, set_thread, take_out,
+    drop_uids, end_others, end_process, end_uid, enter, enter_first, has_process, has_uid,
+    own_context, put_new, set_ring, set_session, set_thread, take_out,
 };
 use krs_types::{Caller, Context, Errno, Fault, Serial, UidRings};
 use std::alloc::{AllocError, Global};
@@ -87,6 +87,20 @@ impl Contexts {
         &self.uids
     }
 
+    /// Whether a process has a context.
+    pub fn has_process(&self, process: u32) -> bool
+        ensures { result ≡ has_process self.now.contexts process }
+    {
+        has_process(&self.contexts, process)
+    }
+
+    /// Whether a uid has a context.
+    pub fn has_uid(&self, uid: u32) -> bool
+        ensures { result ≡ has_uid self.now.contexts uid }
+    {
+        has_uid(&self.contexts, uid)
+    }
+
     /// The context of that number, where it is the client's: ESRCH.
     #[tactic(auto, unfolding(krs_model::specs::Lookup::context_of))]
     pub fn context_of(&self, client: u32, number: u32) -> Result<&Context, Errno>
@@ -150,8 +164,8 @@ impl Contexts {
         Ok(self.next as u32)
     }
 
-    /// A context in a process of its own, for a caller that was checked. The keyrings of its uid come with the uid's first
-    /// context: whoever asks makes them, and takes the context back where that fails. EINVAL, ENOSPC, ENOMEM.
+    /// A context in a process of its own, for a caller that was checked. The keyrings of its uid come with the uid's
+    /// first context: whoever asks makes them, and takes the context back where that fails. EINVAL, ENOSPC, ENOMEM.
     pub fn hello(
         &mut self,
         client: u32,
@@ -240,8 +254,8 @@ impl Contexts {
         Ok(())
     }
 
-    /// Takes back the context that was made last, with its process and the keyrings of its uid: for a HELLO whose uid's
-    /// keyrings could not be made after all.
+    /// Takes back the context that was made last, with its process and the keyrings of its uid: for a HELLO whose
+    /// uid's keyrings could not be made after all.
     pub fn take_back(&mut self, number: u32, uid: u32)
         requires { self.old.next_context ≡ number + 1 }
         ensures { self.new ≡ taken_back self.old number uid }

@@ -1,5 +1,4 @@
 ghost use Rattle.std.specs.Prelude.{◌≡◌, ◌==◌, ◌||◌, not, filter, if◌then◌else◌, None, OnOk, OnErr, count_by};
-ghost use Rattle.std.specs.List.{list_any};
 ghost use Rattle.std.specs.BTreeMap.{values};
 ghost use Rattle.krs_model.specs.Table.{at, put, without, alter, map_values};
 ghost use Rattle.krs_model.specs.Asks.Invalidating.{detached, context_without, rings_without};
@@ -35,13 +34,13 @@ pub(crate) fn context_count(contexts: &BTreeMap<u32, Context>, client: u32) -> u
     contexts.values().filter(|c| c.client == client).count()
 }
 
-fn has_process(contexts: &BTreeMap<u32, Context>, process: u32) -> bool
+pub(crate) fn has_process(contexts: &BTreeMap<u32, Context>, process: u32) -> bool
     ensures { result ≡ has_process contexts.now.entries process }
 {
     contexts.values().any(|c| c.process == process)
 }
 
-fn has_uid(contexts: &BTreeMap<u32, Context>, uid: u32) -> bool
+pub(crate) fn has_uid(contexts: &BTreeMap<u32, Context>, uid: u32) -> bool
     ensures { result ≡ has_uid contexts.now.entries uid }
 {
     contexts.values().any(|c| c.caller.uid == uid)

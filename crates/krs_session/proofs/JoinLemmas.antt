@@ -23,23 +23,27 @@ abbrev pub Joins : {W : Type 0} → (W → List ℕ → W → Type 0) → Type 0
 Joins {W} took = (a b c : W) (xs ys : List ℕ) → took a xs b → took b ys c → took a (xs ++ ys) c
 
 module _ {W : Type 0} (took : W → List ℕ → W → Type 0) (joins : Joins took) where
-  pub taken_more : (a b c : W) (bytes left : List ℕ) (n : ℕ) → Taken took a b bytes left → took b (take n left) c → Taken took a c bytes (drop n left)
+  pub taken_more : (a b c : W) (bytes left : List ℕ) (n : ℕ) → Taken took a b bytes left → took b (take n left) c
+      → Taken took a c bytes (drop n left)
   taken_more a b c bytes left n t more =
       record {
         front = t.front ++ take n left;
-        whole = append_assoc t.front (take n left) (drop n left) ∙ ap (λ (x : List ℕ). t.front ++ x) (take-append-drop n left) ∙ t.whole;
+        whole = append_assoc t.front (take n left) (drop n left)
+            ∙ ap (λ (x : List ℕ). t.front ++ x) (take-append-drop n left) ∙ t.whole;
         taken = joins a b c t.front (take n left) t.taken more;
       }
 
-  -- nothing is left
-  pub taken_all : (a b : W) (bytes left : List ℕ) → Taken took a b bytes left → left ≡ [] → took a bytes b
-  taken_all a b bytes left t none =
-      let e : t.front ≡ bytes = sym (append-nil t.front) ∙ ap (λ (x : List ℕ). t.front ++ x) (sym none) ∙ t.whole in
-      subst (λ (x : List ℕ). took a x b) e t.taken
-
-  pub taken_part : (a b c : W) (bytes left more : List ℕ) → Taken took a b bytes left → Begins more left → took b more c → TookFront (λ front. took a front c) bytes
-  taken_part a b c bytes left more t begins new =
-      (t.front ++ more, (begins.0, append_assoc t.front more begins.0 ∙ ap (λ (x : List ℕ). t.front ++ x) begins.1 ∙ t.whole), joins a b c t.front more t.taken new)
+  pub taken_part : (a b c : W) (bytes left more : List ℕ) → Taken took a b bytes left → Begins more left
+      → took b more c → TookFront (λ front. took a front c) bytes
+  taken_part a b c bytes left more t begins new = (
+    t.front ++ more,
+    (
+      begins.0,
+      append_assoc t.front more begins.0 ∙ ap (λ (x : List ℕ). t.front ++ x) begins.1
+          ∙ t.whole,
+    ),
+    joins a b c t.front more t.taken new,
+  )
 
 -- ---- events
 
@@ -47,28 +51,37 @@ lanes_join : (lane : ℕ) (xs ys : List Event) → AllOfLane lane xs → AllOfLa
 lanes_join lane [] ys a b = b
 lanes_join lane (x ∷ xs) ys a b = (a.0, lanes_join lane xs ys a.1 b)
 
-pub asked_joins : {S C : Type 0} (leads : S → List Event → S → Type 0) (ticked : C → List ℕ → C → Type 0) (lane : ℕ) (s0 s1 s2 : S) (c0 c1 c2 : C) (xs ys : List Event)
+pub asked_joins : {S C : Type 0} (leads : S → List Event → S → Type 0) (ticked : C → List ℕ → C → Type 0) (lane : ℕ)
+    (s0 s1 s2 : S) (c0 c1 c2 : C) (xs ys : List Event)
     → ((a b c : S) (p q : List Event) → leads a p b → leads b q c → leads a (p ++ q) c) → Joins ticked
-    → Asked leads ticked lane s0 s1 c0 c1 xs → Asked leads ticked lane s1 s2 c1 c2 ys → Asked leads ticked lane s0 s2 c0 c2 (xs ++ ys)
+    → Asked leads ticked lane s0 s1 c0 c1 xs → Asked leads ticked lane s1 s2 c1 c2 ys
+    → Asked leads ticked lane s0 s2 c0 c2 (xs ++ ys)
 asked_joins leads ticked lane s0 s1 s2 c0 c1 c2 xs ys led ticks a b =
     record {
       led = led s0 s1 s2 xs ys a.led b.led;
-      moments = subst (λ (m : List ℕ). ticked c0 m c2) (sym (map-append (λ (e : Event). e.moment) xs ys)) (ticks c0 c1 c2 (moments_of xs) (moments_of ys) a.moments b.moments);
+      moments = subst (λ (m : List ℕ). ticked c0 m c2) (sym (map-append (λ (e : Event). e.moment) xs ys))
+          (ticks c0 c1 c2 (moments_of xs) (moments_of ys) a.moments b.moments);
       lanes = lanes_join lane xs ys a.lanes b.lanes;
     }
 
 -- ---- what was written
 
 module _ {W : Type 0} (took : W → List ℕ → W → Type 0) (joins : Joins took) where
-  pub front_joins : (w0 w1 w2 : W) (xs ys : List ℕ) → took w0 xs w1 → TookFront (λ f. took w1 f w2) ys → TookFront (λ f. took w0 f w2) (xs ++ ys)
-  front_joins w0 w1 w2 xs ys a b =
-      (xs ++ b.0, (b.1.0, append_assoc xs b.0 b.1.0 ∙ ap (λ (x : List ℕ). xs ++ x) b.1.1), joins w0 w1 w2 xs b.0 a b.2)
+  pub front_joins : (w0 w1 w2 : W) (xs ys : List ℕ) → took w0 xs w1 → TookFront (λ f. took w1 f w2) ys
+      → TookFront (λ f. took w0 f w2) (xs ++ ys)
+  front_joins w0 w1 w2 xs ys a b = (
+    xs ++ b.0,
+    (b.1.0, append_assoc xs b.0 b.1.0 ∙ ap (λ (x : List ℕ). xs ++ x) b.1.1),
+    joins w0 w1 w2 xs b.0 a b.2,
+  )
 
-  front_longer : (w0 w1 : W) (xs ys : List ℕ) → TookFront (λ f. took w0 f w1) xs → TookFront (λ f. took w0 f w1) (xs ++ ys)
+  front_longer : (w0 w1 : W) (xs ys : List ℕ) → TookFront (λ f. took w0 f w1) xs
+      → TookFront (λ f. took w0 f w1) (xs ++ ys)
   front_longer w0 w1 xs ys a =
       (a.0, (a.1.0 ++ ys, sym (append_assoc a.0 a.1.0 ys) ∙ ap (λ (x : List ℕ). x ++ ys) a.1.1), a.2)
 
-  pub wrote_joins : (w0 w1 w2 : W) (xs ys : List ℕ) (result : Option Ended) → took w0 xs w1 → Wrote took w1 w2 ys result → Wrote took w0 w2 (xs ++ ys) result
+  pub wrote_joins : (w0 w1 w2 : W) (xs ys : List ℕ) (result : Option Ended) → took w0 xs w1
+      → Wrote took w1 w2 ys result → Wrote took w0 w2 (xs ++ ys) result
   wrote_joins w0 w1 w2 xs ys None a b = joins w0 w1 w2 xs ys a b
   wrote_joins w0 w1 w2 xs ys (Some Write) a b = front_joins w0 w1 w2 xs ys a b
   wrote_joins w0 w1 w2 xs ys (Some Memory) a b = front_joins w0 w1 w2 xs ys a b
@@ -77,7 +90,8 @@ module _ {W : Type 0} (took : W → List ℕ → W → Type 0) (joins : Joins to
   wrote_joins w0 w1 w2 xs ys (Some Read) a b = absurd b
   wrote_joins w0 w1 w2 xs ys (Some Turns) a b = absurd b
 
-  wrote_stopped : (w0 w1 : W) (xs ys : List ℕ) (stop : Ended) → Wrote took w0 w1 xs (Some stop) → Wrote took w0 w1 (xs ++ ys) (Some stop)
+  wrote_stopped : (w0 w1 : W) (xs ys : List ℕ) (stop : Ended) → Wrote took w0 w1 xs (Some stop)
+      → Wrote took w0 w1 (xs ++ ys) (Some stop)
   wrote_stopped w0 w1 xs ys Write a = front_longer w0 w1 xs ys a
   wrote_stopped w0 w1 xs ys Memory a = front_longer w0 w1 xs ys a
   wrote_stopped w0 w1 xs ys Closed a = absurd a
@@ -85,32 +99,49 @@ module _ {W : Type 0} (took : W → List ℕ → W → Type 0) (joins : Joins to
   wrote_stopped w0 w1 xs ys Read a = absurd a
   wrote_stopped w0 w1 xs ys Turns a = absurd a
 
-  pub wrote_next : (w0 w1 w2 : W) (xs ys : List ℕ) (stop result : Option Ended) → Wrote took w0 w1 xs stop → WroteNext took w1 w2 ys stop result → Wrote took w0 w2 (xs ++ ys) result
+  pub wrote_next : (w0 w1 w2 : W) (xs ys : List ℕ) (stop result : Option Ended) → Wrote took w0 w1 xs stop
+      → WroteNext took w1 w2 ys stop result → Wrote took w0 w2 (xs ++ ys) result
   wrote_next w0 w1 w2 xs ys None result a b = wrote_joins w0 w1 w2 xs ys result a b
   wrote_next w0 w1 w2 xs ys (Some stop) result a b =
-      subst (λ (r : Option Ended). Wrote took w0 w2 (xs ++ ys) r) (sym b.1) (subst (λ (w : W). Wrote took w0 w (xs ++ ys) (Some stop)) (sym b.0) (wrote_stopped w0 w1 xs ys stop a))
+      subst (λ (r : Option Ended). Wrote took w0 w2 (xs ++ ys) r) (sym b.1)
+      (subst (λ (w : W). Wrote took w0 w (xs ++ ys) (Some stop)) (sym b.0) (wrote_stopped w0 w1 xs ys stop a))
 
-pub stops_next : (old mid new : ℕ) (stop result : Option Ended) → StopsBy old mid stop → StopsNext mid new stop result → StopsBy old new result
+pub stops_next : (old mid new : ℕ) (stop result : Option Ended) → StopsBy old mid stop → StopsNext mid new stop result
+    → StopsBy old new result
 stops_next old mid new None result a b = subst (λ (n : ℕ). StopsBy n new result) a b
-stops_next old mid new (Some stop) result a b = subst (λ (r : Option Ended). StopsBy old new r) (sym b.1) (subst (λ (n : ℕ). StopsBy old n (Some stop)) (sym b.0) a)
+stops_next old mid new (Some stop) result a b =
+    subst (λ (r : Option Ended). StopsBy old new r) (sym b.1)
+    (subst (λ (n : ℕ). StopsBy old n (Some stop)) (sym b.0) a)
 
 -- ---- one more ask
 
-module _ {S C W : Type 0} (leads : S → List Event → S → Type 0) (ticked : C → List ℕ → C → Type 0) (took : W → List ℕ → W → Type 0)
-    (led : (a b c : S) (p q : List Event) → leads a p b → leads b q c → leads a (p ++ q) c) (ticks : Joins ticked) (joins : Joins took) where
-  pub answers_more : (lane : ℕ) (s0 s1 s2 : S) (c0 c1 c2 : C) (w0 w1 w2 : W) (frames : List Framed) (framed : Framed) (event : Event) (stop result : Option Ended)
-      → Answers leads ticked took lane s0 s1 c0 c1 w0 w1 frames stop → event.ask ≡ framed.ask → Asked leads ticked lane s1 s2 c1 c2 (event ∷ [])
-      → WroteNext took w1 w2 (reply_frame event.reply) stop result → Answers leads ticked took lane s0 s2 c0 c2 w0 w2 (frames ++ framed ∷ []) result
+module _ {S C W : Type 0} (leads : S → List Event → S → Type 0) (ticked : C → List ℕ → C → Type 0)
+    (took : W → List ℕ → W → Type 0)
+    (led : (a b c : S) (p q : List Event) → leads a p b → leads b q c → leads a (p ++ q) c) (ticks : Joins ticked)
+    (joins : Joins took) where
+  pub answers_more : (lane : ℕ) (s0 s1 s2 : S) (c0 c1 c2 : C) (w0 w1 w2 : W) (frames : List Framed) (framed : Framed)
+      (event : Event) (stop result : Option Ended)
+      → Answers leads ticked took lane s0 s1 c0 c1 w0 w1 frames stop → event.ask ≡ framed.ask
+      → Asked leads ticked lane s1 s2 c1 c2 (event ∷ [])
+      → WroteNext took w1 w2 (reply_frame event.reply) stop result
+      → Answers leads ticked took lane s0 s2 c0 c2 w0 w2 (frames ++ framed ∷ []) result
   answers_more lane s0 s1 s2 c0 c1 c2 w0 w1 w2 frames framed event stop result a same one wrote =
-      let text : session_text (a.events ++ event ∷ []) ≡ session_text a.events ++ reply_frame event.reply = flat_map-append (λ (x : Event). reply_frame x.reply) a.events (event ∷ []) ∙ ap (λ (x : List ℕ). session_text a.events ++ x) (append-nil (reply_frame event.reply)) in
+      let text : session_text (a.events ++ event ∷ []) ≡ session_text a.events ++ reply_frame event.reply =
+      flat_map-append (λ (x : Event). reply_frame x.reply) a.events (event ∷ [])
+      ∙ ap (λ (x : List ℕ). session_text a.events ++ x) (append-nil (reply_frame event.reply)) in
       record {
         events = a.events ++ event ∷ [];
-        order = map-append (λ (x : Event). x.ask) a.events (event ∷ []) ∙ ap (λ (x : List Ask). x ++ event.ask ∷ []) a.order ∙ ap (λ (x : Ask). asks_in frames ++ x ∷ []) same ∙ sym (map-append (λ (x : Framed). x.ask) frames (framed ∷ []));
+        order = map-append (λ (x : Event). x.ask) a.events (event ∷ [])
+            ∙ ap (λ (x : List Ask). x ++ event.ask ∷ []) a.order ∙ ap (λ (x : Ask). asks_in frames ++ x ∷ []) same
+            ∙ sym (map-append (λ (x : Framed). x.ask) frames (framed ∷ []));
         asked = asked_joins leads ticked lane s0 s1 s2 c0 c1 c2 a.events (event ∷ []) led ticks a.asked one;
-        wrote = subst (λ (x : List ℕ). Wrote took w0 w2 x result) (sym text) (wrote_next took joins w0 w1 w2 (session_text a.events) (reply_frame event.reply) stop result a.wrote wrote);
+        wrote = subst (λ (x : List ℕ). Wrote took w0 w2 x result) (sym text)
+            (wrote_next took joins w0 w1 w2 (session_text a.events) (reply_frame event.reply) stop result
+            a.wrote wrote);
       }
 
-  pub answers_none : (lane : ℕ) (s0 : S) (c0 : C) (w0 : W) → leads s0 [] s0 → ticked c0 [] c0 → took w0 [] w0 → Answers leads ticked took lane s0 s0 c0 c0 w0 w0 [] None
+  pub answers_none : (lane : ℕ) (s0 : S) (c0 : C) (w0 : W) → leads s0 [] s0 → ticked c0 [] c0 → took w0 [] w0
+      → Answers leads ticked took lane s0 s0 c0 c0 w0 w0 [] None
   answers_none lane s0 c0 w0 a b d =
       record {
         events = [];

@@ -1,5 +1,6 @@
 -- How pieces and turns join into a session.
-use Rattle.std.proofs.Common.{◌≡◌, ◌≤◌, ℕ, ◌+◌, ◌*◌, List, [], ◌++◌, length, length-append, refl, sym, ap, subst, ◌∙◌, inl, inr, arith}
+use Rattle.std.proofs.Common.{◌≡◌, ◌≤◌, ℕ, ◌+◌, ◌*◌, List, [], ◌++◌, length, length-append, refl, sym, ap, subst, ◌∙◌}
+use Rattle.std.proofs.Common.{inl, inr, arith}
 use Rattle.std.proofs.lemmas.List.{append-nil, map-append}
 use Rattle.std.proofs.lemmas.List.Concat.{flat_map-append}
 use Rattle.std.specs.Prelude.{Some, None}
@@ -18,18 +19,22 @@ use Rattle.krs_session.specs.Session.{AreFirst, Serves}
 use Rattle.krs_session.specs.Serving.{Asked, PieceServes, FeedsMore, Served, Finished}
 use Rattle.krs_session.proofs.JoinLemmas.{Joins, asked_joins, front_joins}
 
-pub refused_more : (old : End) (piece : List ℕ) (fault : WireFault) → fault_of old ≡ None → Refuses old piece fault → FeedsMore old piece []
+pub refused_more : (old : End) (piece : List ℕ) (fault : WireFault) → fault_of old ≡ None → Refuses old piece fault
+    → FeedsMore old piece []
 refused_more (rest left) piece fault n r = λ before earlier h.
     let x = r.1 before earlier h in
     (x.0, x.1, subst (λ (a : List Framed). Frames (before ++ piece) (a ++ x.0) x.1) (sym (append-nil earlier)) x.2)
 refused_more (bad f) piece fault n r = absurd cc
 
-pub refused_fault : (old : End) (piece : List ℕ) (fault : WireFault) → fault_of old ≡ None → (fault ≡ faults.Memory → ⊥) → Refuses old piece fault → Feeds old piece [] (bad fault)
+pub refused_fault : (old : End) (piece : List ℕ) (fault : WireFault) → fault_of old ≡ None
+    → (fault ≡ faults.Memory → ⊥) → Refuses old piece fault → Feeds old piece [] (bad fault)
 refused_fault (rest left) piece fault n other r = r.0 other
 refused_fault (bad f) piece fault n other r = absurd cc
 
 -- the session so far, where nothing has ended it
-pub record SoFar {R S C W : Type 0} (gave : R → List ℕ → R → Type 0) (leads : S → List Event → S → Type 0) (ticked : C → List ℕ → C → Type 0) (took : W → List ℕ → W → Type 0) (lane made : ℕ) (r0 r1 : R) (s0 s1 : S) (c0 c1 : C) (w0 w1 : W) (f1 : End) : Type 0 where
+pub record SoFar {R S C W : Type 0} (gave : R → List ℕ → R → Type 0) (leads : S → List Event → S → Type 0)
+    (ticked : C → List ℕ → C → Type 0) (took : W → List ℕ → W → Type 0) (lane made : ℕ) (r0 r1 : R) (s0 s1 : S)
+    (c0 c1 : C) (w0 w1 : W) (f1 : End) : Type 0 where
   pub bytes : List ℕ
   pub frames : List Framed
   pub events : List Event
@@ -40,47 +45,71 @@ pub record SoFar {R S C W : Type 0} (gave : R → List ℕ → R → Type 0) (le
   pub cut : Frames bytes frames f1
   pub wrote : took w0 (session_text events) w1
 
-fed_on : (f0 f1 : End) (bytes piece : List ℕ) (frames more : List Framed) → fault_of f0 ≡ None → Frames bytes frames f0 → Feeds f0 piece more f1 → Frames (bytes ++ piece) (frames ++ more) f1
+fed_on : (f0 f1 : End) (bytes piece : List ℕ) (frames more : List Framed) → fault_of f0 ≡ None
+    → Frames bytes frames f0 → Feeds f0 piece more f1 → Frames (bytes ++ piece) (frames ++ more) f1
 fed_on (bad f) f1 bytes piece frames more n h fed = absurd cc
 fed_on (rest left) f1 bytes piece frames more n h fed = fed bytes frames h
 
-fed_first : (f0 : End) (bytes piece : List ℕ) (frames more : List Framed) → fault_of f0 ≡ None → Frames bytes frames f0 → FeedsMore f0 piece more
+fed_first : (f0 : End) (bytes piece : List ℕ) (frames more : List Framed) → fault_of f0 ≡ None
+    → Frames bytes frames f0 → FeedsMore f0 piece more
     → AreFirst (bytes ++ piece) (frames ++ more)
 fed_first (bad f) bytes piece frames more n h fed = absurd cc
 fed_first (rest left) bytes piece frames more n h fed = let x = fed bytes frames h in (x.0, (x.1, x.2))
 
-whole_cut : (f1 : End) (bytes : List ℕ) (frames : List Framed) → fault_of f1 ≡ None → Frames bytes frames f1 → (left : List ℕ) × Frames bytes frames (rest left)
+whole_cut : (f1 : End) (bytes : List ℕ) (frames : List Framed) → fault_of f1 ≡ None → Frames bytes frames f1
+    → (left : List ℕ) × Frames bytes frames (rest left)
 whole_cut (rest left) bytes frames n h = (left, h)
 whole_cut (bad f) bytes frames n h = absurd cc
 
-unread_cut : (f0 : End) (bytes piece : List ℕ) (frames more : List Framed) → fault_of f0 ≡ None → Frames bytes frames f0 → piece ≡ [] → more ≡ [] → (left : List ℕ) × Frames (bytes ++ piece) (frames ++ more) (rest left)
+unread_cut : (f0 : End) (bytes piece : List ℕ) (frames more : List Framed) → fault_of f0 ≡ None
+    → Frames bytes frames f0 → piece ≡ [] → more ≡ [] → (left : List ℕ)
+    × Frames (bytes ++ piece) (frames ++ more) (rest left)
 unread_cut f0 bytes piece frames more n h no-piece no-more =
-    let w = whole_cut f0 bytes frames n h in
-    (w.0, subst (λ (p : List ℕ). Frames (bytes ++ p) (frames ++ more) (rest w.0)) (sym no-piece) (subst (λ (m : List Framed). Frames (bytes ++ []) (frames ++ m) (rest w.0)) (sym no-more) (rw (append-nil bytes, append-nil frames) w.1)))
+    let w = whole_cut f0 bytes frames n h in (
+      w.0,
+      subst (λ (p : List ℕ). Frames (bytes ++ p) (frames ++ more) (rest w.0)) (sym no-piece)
+          (subst (λ (m : List Framed). Frames (bytes ++ []) (frames ++ m) (rest w.0)) (sym no-more)
+          (rw (append-nil bytes, append-nil frames) w.1)),
+    )
 
 -- what a session served before a piece and with it, where it ends there
 module _ {W : Type 0} (took : W → List ℕ → W → Type 0) (joins : Joins took) where
-  piece_ends : (w0 w1 w2 : W) (f0 f1 : End) (bytes piece : List ℕ) (frames more : List Framed) (xs ys : List ℕ) (ended : Ended) → fault_of f0 ≡ None → Frames bytes frames f0 → took w0 xs w1
-      → PieceServes took w1 w2 f0 f1 piece more ys (Some ended) → Serves (λ text. took w0 text w2) (bytes ++ piece) (frames ++ more) (xs ++ ys) ended
-  piece_ends w0 w1 w2 f0 f1 bytes piece frames more xs ys (Wire fault) n h t p = (fed_on f0 (bad fault) bytes piece frames more n h p.0, joins w0 w1 w2 xs ys t p.1)
-  piece_ends w0 w1 w2 f0 f1 bytes piece frames more xs ys Write n h t p = ((f1, fed_on f0 f1 bytes piece frames more n h p.0), front_joins took joins w0 w1 w2 xs ys t p.1)
-  piece_ends w0 w1 w2 f0 f1 bytes piece frames more xs ys Memory n h t (inl p) = inl ((f1, fed_on f0 f1 bytes piece frames more n h p.0), front_joins took joins w0 w1 w2 xs ys t p.1)
-  piece_ends w0 w1 w2 f0 f1 bytes piece frames more xs ys Memory n h t (inr p) = inr (fed_first f0 bytes piece frames more n h p.0, joins w0 w1 w2 xs ys t p.1)
-  piece_ends w0 w1 w2 f0 f1 bytes piece frames more xs ys Closed n h t p = (unread_cut f0 bytes piece frames more n h p.0 p.1, joins w0 w1 w2 xs ys t p.2)
-  piece_ends w0 w1 w2 f0 f1 bytes piece frames more xs ys Read n h t p = (unread_cut f0 bytes piece frames more n h p.0 p.1, joins w0 w1 w2 xs ys t p.2)
+  piece_ends : (w0 w1 w2 : W) (f0 f1 : End) (bytes piece : List ℕ) (frames more : List Framed) (xs ys : List ℕ)
+      (ended : Ended) → fault_of f0 ≡ None → Frames bytes frames f0 → took w0 xs w1
+      → PieceServes took w1 w2 f0 f1 piece more ys (Some ended)
+      → Serves (λ text. took w0 text w2) (bytes ++ piece) (frames ++ more) (xs ++ ys) ended
+  piece_ends w0 w1 w2 f0 f1 bytes piece frames more xs ys (Wire fault) n h t p =
+      (fed_on f0 (bad fault) bytes piece frames more n h p.0, joins w0 w1 w2 xs ys t p.1)
+  piece_ends w0 w1 w2 f0 f1 bytes piece frames more xs ys Write n h t p =
+      ((f1, fed_on f0 f1 bytes piece frames more n h p.0), front_joins took joins w0 w1 w2 xs ys t p.1)
+  piece_ends w0 w1 w2 f0 f1 bytes piece frames more xs ys Memory n h t (inl p) =
+      inl ((f1, fed_on f0 f1 bytes piece frames more n h p.0), front_joins took joins w0 w1 w2 xs ys t p.1)
+  piece_ends w0 w1 w2 f0 f1 bytes piece frames more xs ys Memory n h t (inr p) =
+      inr (fed_first f0 bytes piece frames more n h p.0, joins w0 w1 w2 xs ys t p.1)
+  piece_ends w0 w1 w2 f0 f1 bytes piece frames more xs ys Closed n h t p =
+      (unread_cut f0 bytes piece frames more n h p.0 p.1, joins w0 w1 w2 xs ys t p.2)
+  piece_ends w0 w1 w2 f0 f1 bytes piece frames more xs ys Read n h t p =
+      (unread_cut f0 bytes piece frames more n h p.0 p.1, joins w0 w1 w2 xs ys t p.2)
   piece_ends w0 w1 w2 f0 f1 bytes piece frames more xs ys Turns n h t p = absurd p
 
 text_joins : (xs ys : List Event) → session_text xs ++ session_text ys ≡ session_text (xs ++ ys)
 text_joins xs ys = sym (flat_map-append (λ (x : Event). reply_frame x.reply) xs ys)
 
-order_joins : (xs ys : List Event) (fs gs : List Framed) → asks_of xs ≡ asks_in fs → asks_of ys ≡ asks_in gs → asks_of (xs ++ ys) ≡ asks_in (fs ++ gs)
+order_joins : (xs ys : List Event) (fs gs : List Framed) → asks_of xs ≡ asks_in fs → asks_of ys ≡ asks_in gs
+    → asks_of (xs ++ ys) ≡ asks_in (fs ++ gs)
 order_joins xs ys fs gs a b =
-    map-append (λ (x : Event). x.ask) xs ys ∙ ap (λ (x : List Ask). x ++ asks_of ys) a ∙ ap (λ (x : List Ask). asks_in fs ++ x) b ∙ sym (map-append (λ (x : Framed). x.ask) fs gs)
+    map-append (λ (x : Event). x.ask) xs ys ∙ ap (λ (x : List Ask). x ++ asks_of ys) a
+    ∙ ap (λ (x : List Ask). asks_in fs ++ x) b ∙ sym (map-append (λ (x : Framed). x.ask) fs gs)
 
-module _ {R S C W : Type 0} (gave : R → List ℕ → R → Type 0) (leads : S → List Event → S → Type 0) (ticked : C → List ℕ → C → Type 0) (took : W → List ℕ → W → Type 0)
-    (gives : Joins gave) (led : (a b c : S) (p q : List Event) → leads a p b → leads b q c → leads a (p ++ q) c) (ticks : Joins ticked) (takes : Joins took) where
-  pub so_far_more : (lane made mid : ℕ) (r0 r1 r2 : R) (s0 s1 s2 : S) (c0 c1 c2 : C) (w0 w1 w2 : W) (f1 f2 : End) (piece : List ℕ) → fault_of f1 ≡ None
-      → SoFar gave leads ticked took lane made r0 r1 s0 s1 c0 c1 w0 w1 f1 → gave r1 piece r2 → length piece ≤ 4096 → mid ≡ lane → Served leads ticked took mid s1 s2 c1 c2 w1 w2 f1 f2 piece None → SoFar gave leads ticked took lane (made + 1) r0 r2 s0 s2 c0 c2 w0 w2 f2
+module _ {R S C W : Type 0} (gave : R → List ℕ → R → Type 0) (leads : S → List Event → S → Type 0)
+    (ticked : C → List ℕ → C → Type 0) (took : W → List ℕ → W → Type 0)
+    (gives : Joins gave) (led : (a b c : S) (p q : List Event) → leads a p b → leads b q c → leads a (p ++ q) c)
+    (ticks : Joins ticked) (takes : Joins took) where
+  pub so_far_more : (lane made mid : ℕ) (r0 r1 r2 : R) (s0 s1 s2 : S) (c0 c1 c2 : C) (w0 w1 w2 : W) (f1 f2 : End)
+      (piece : List ℕ) → fault_of f1 ≡ None
+      → SoFar gave leads ticked took lane made r0 r1 s0 s1 c0 c1 w0 w1 f1 → gave r1 piece r2 → length piece ≤ 4096
+      → mid ≡ lane → Served leads ticked took mid s1 s2 c1 c2 w1 w2 f1 f2 piece None
+      → SoFar gave leads ticked took lane (made + 1) r0 r2 s0 s2 c0 c2 w0 w2 f2
   so_far_more lane made mid r0 r1 r2 s0 s1 s2 c0 c1 c2 w0 w1 w2 f1 f2 piece n a g small same served =
       let b = subst (λ (n : ℕ). Served leads ticked took n s1 s2 c1 c2 w1 w2 f1 f2 piece None) same served in
       record {
@@ -92,11 +121,15 @@ module _ {R S C W : Type 0} (gave : R → List ℕ → R → Type 0) (leads : S 
         order = order_joins a.events b.events a.frames b.frames a.order b.order;
         asked = asked_joins leads ticked lane s0 s1 s2 c0 c1 c2 a.events b.events led ticks a.asked b.asked;
         cut = fed_on f1 f2 a.bytes piece a.frames b.frames n a.cut b.served.0;
-        wrote = subst (λ (x : List ℕ). took w0 x w2) (text_joins a.events b.events) (takes w0 w1 w2 (session_text a.events) (session_text b.events) a.wrote b.served.2);
+        wrote = subst (λ (x : List ℕ). took w0 x w2) (text_joins a.events b.events)
+            (takes w0 w1 w2 (session_text a.events) (session_text b.events) a.wrote b.served.2);
       }
 
-  pub so_far_ends : (lane made reads mid : ℕ) (r0 r1 r2 : R) (s0 s1 s2 : S) (c0 c1 c2 : C) (w0 w1 w2 : W) (f1 f2 : End) (piece : List ℕ) (ended : Ended) → fault_of f1 ≡ None
-      → SoFar gave leads ticked took lane made r0 r1 s0 s1 c0 c1 w0 w1 f1 → gave r1 piece r2 → length piece ≤ 4096 → reads ≡ made + 1 → mid ≡ lane → Served leads ticked took mid s1 s2 c1 c2 w1 w2 f1 f2 piece (Some ended) → Finished gave leads ticked took lane reads r0 r2 s0 s2 c0 c2 w0 w2 ended
+  pub so_far_ends : (lane made reads mid : ℕ) (r0 r1 r2 : R) (s0 s1 s2 : S) (c0 c1 c2 : C) (w0 w1 w2 : W)
+      (f1 f2 : End) (piece : List ℕ) (ended : Ended) → fault_of f1 ≡ None
+      → SoFar gave leads ticked took lane made r0 r1 s0 s1 c0 c1 w0 w1 f1 → gave r1 piece r2 → length piece ≤ 4096
+      → reads ≡ made + 1 → mid ≡ lane → Served leads ticked took mid s1 s2 c1 c2 w1 w2 f1 f2 piece (Some ended)
+      → Finished gave leads ticked took lane reads r0 r2 s0 s2 c0 c2 w0 w2 ended
   so_far_ends lane made reads mid r0 r1 r2 s0 s1 s2 c0 c1 c2 w0 w1 w2 f1 f2 piece ended n a g small all same served =
       let b = subst (λ (n : ℕ). Served leads ticked took n s1 s2 c1 c2 w1 w2 f1 f2 piece (Some ended)) same served in
       record {
@@ -107,11 +140,14 @@ module _ {R S C W : Type 0} (gave : R → List ℕ → R → Type 0) (leads : S 
         size = omega (arith, a.size, length-append a.bytes piece);
         order = order_joins a.events b.events a.frames b.frames a.order b.order;
         asked = asked_joins leads ticked lane s0 s1 s2 c0 c1 c2 a.events b.events led ticks a.asked b.asked;
-        served = subst (λ (x : List ℕ). Serves (λ text. took w0 text w2) (a.bytes ++ piece) (a.frames ++ b.frames) x ended) (text_joins a.events b.events)
-            (piece_ends took takes w0 w1 w2 f1 f2 a.bytes piece a.frames b.frames (session_text a.events) (session_text b.events) ended n a.cut a.wrote b.served);
+        served = subst (λ (x : List ℕ). Serves (λ text. took w0 text w2) (a.bytes ++ piece) (a.frames ++ b.frames) x
+            ended) (text_joins a.events b.events)
+            (piece_ends took takes w0 w1 w2 f1 f2 a.bytes piece a.frames b.frames (session_text a.events)
+            (session_text b.events) ended n a.cut a.wrote b.served);
       }
 
-  pub so_far_none : (lane : ℕ) (r : R) (s : S) (c : C) (w : W) (f : End) → gave r [] r → leads s [] s → ticked c [] c → took w [] w → Frames [] [] f → SoFar gave leads ticked took lane 0 r r s s c c w w f
+  pub so_far_none : (lane : ℕ) (r : R) (s : S) (c : C) (w : W) (f : End) → gave r [] r → leads s [] s → ticked c [] c
+      → took w [] w → Frames [] [] f → SoFar gave leads ticked took lane 0 r r s s c c w w f
   so_far_none lane r s c w f a b d e h =
       record {
         bytes = [];

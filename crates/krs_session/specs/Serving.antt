@@ -10,7 +10,8 @@ use Rattle.krs_session.specs.Events.{asks_of, asks_in, moments_of, session_text,
 use Rattle.krs_session.specs.Session.{TookFront, Serves}
 
 -- the seat's new events: its lane's, at the clock's answers in order
-pub record Asked {S C : Type 0} (leads : S → List Event → S → Type 0) (ticked : C → List ℕ → C → Type 0) (lane : ℕ) (s0 s1 : S) (c0 c1 : C) (events : List Event) : Type 0 where
+pub record Asked {S C : Type 0} (leads : S → List Event → S → Type 0) (ticked : C → List ℕ → C → Type 0) (lane : ℕ)
+    (s0 s1 : S) (c0 c1 : C) (events : List Event) : Type 0 where
   pub led : leads s0 events s1
   pub moments : ticked c0 (moments_of events) c1
   pub lanes : AllOfLane lane events
@@ -36,7 +37,8 @@ StopsBy old new (Some Read) = ⊥
 StopsBy old new (Some Turns) = ⊥
 
 -- one more text, where nothing stopped the writing before
-abbrev pub WroteNext : {W : Type 0} → (W → List ℕ → W → Type 0) → W → W → List ℕ → Option Ended → Option Ended → Type 0
+abbrev pub WroteNext : {W : Type 0} → (W → List ℕ → W → Type 0) → W → W → List ℕ → Option Ended
+    → Option Ended → Type 0
 WroteNext took w0 w1 text None result = Wrote took w0 w1 text result
 WroteNext took w0 w1 text (Some stop) result = (w1 ≡ w0) × (result ≡ Some stop)
 
@@ -45,7 +47,9 @@ StopsNext old new None result = StopsBy old new result
 StopsNext old new (Some stop) result = (new ≡ old) × (result ≡ Some stop)
 
 -- the asks of these frames were made, and the replies were written
-pub record Answers {S C W : Type 0} (leads : S → List Event → S → Type 0) (ticked : C → List ℕ → C → Type 0) (took : W → List ℕ → W → Type 0) (lane : ℕ) (s0 s1 : S) (c0 c1 : C) (w0 w1 : W) (frames : List Framed) (stop : Option Ended) : Type 0 where
+pub record Answers {S C W : Type 0} (leads : S → List Event → S → Type 0) (ticked : C → List ℕ → C → Type 0)
+    (took : W → List ℕ → W → Type 0) (lane : ℕ) (s0 s1 : S) (c0 c1 : C) (w0 w1 : W) (frames : List Framed)
+    (stop : Option Ended) : Type 0 where
   pub events : List Event
   pub order : asks_of events ≡ asks_in frames
   pub asked : Asked leads ticked lane s0 s1 c0 c1 events
@@ -54,23 +58,31 @@ pub record Answers {S C W : Type 0} (leads : S → List Event → S → Type 0) 
 -- for every stream that ended so, with this piece behind it: these frames come next, and maybe more
 abbrev pub FeedsMore : End → List ℕ → List Framed → Type 0
 FeedsMore (rest left) piece frames =
-    (before : List ℕ) (earlier : List Framed) → Frames before earlier (rest left) → (more : List Framed) × (end : End) × Frames (before ++ piece) ((earlier ++ frames) ++ more) end
+    (before : List ℕ) (earlier : List Framed) → Frames before earlier (rest left)
+    → (more : List Framed) × (end : End) × Frames (before ++ piece) ((earlier ++ frames) ++ more) end
 FeedsMore (bad fault) piece frames = ⊥
 
--- what a piece of the stream led to: which frames were asked of it, and how much of their text was written, by what ended
--- the session there
-abbrev pub PieceServes : {W : Type 0} → (W → List ℕ → W → Type 0) → W → W → End → End → List ℕ → List Framed → List ℕ → Option Ended → Type 0
-PieceServes took w0 w1 f0 f1 piece frames text None = Feeds f0 piece frames f1 × (fault_of f1 ≡ None) × took w0 text w1
-PieceServes took w0 w1 f0 f1 piece frames text (Some (Wire fault)) = Feeds f0 piece frames (bad fault) × took w0 text w1
-PieceServes took w0 w1 f0 f1 piece frames text (Some Write) = Feeds f0 piece frames f1 × TookFront (λ bytes. took w0 bytes w1) text
+-- what a piece of the stream led to: which frames were asked of it, and how much of their text was written, by what
+-- ended the session there
+abbrev pub PieceServes : {W : Type 0} → (W → List ℕ → W → Type 0) → W → W → End → End → List ℕ → List Framed → List ℕ
+    → Option Ended → Type 0
+PieceServes took w0 w1 f0 f1 piece frames text None =
+    Feeds f0 piece frames f1 × (fault_of f1 ≡ None) × took w0 text w1
+PieceServes took w0 w1 f0 f1 piece frames text (Some (Wire fault)) =
+    Feeds f0 piece frames (bad fault) × took w0 text w1
+PieceServes took w0 w1 f0 f1 piece frames text (Some Write) =
+    Feeds f0 piece frames f1 × TookFront (λ bytes. took w0 bytes w1) text
 PieceServes took w0 w1 f0 f1 piece frames text (Some Memory) =
-    (Feeds f0 piece frames f1 × TookFront (λ bytes. took w0 bytes w1) text) ⊎ (FeedsMore f0 piece frames × took w0 text w1)
+    (Feeds f0 piece frames f1 × TookFront (λ bytes. took w0 bytes w1) text)
+    ⊎ (FeedsMore f0 piece frames × took w0 text w1)
 PieceServes took w0 w1 f0 f1 piece frames text (Some Closed) = (piece ≡ []) × (frames ≡ []) × took w0 text w1
 PieceServes took w0 w1 f0 f1 piece frames text (Some Read) = (piece ≡ []) × (frames ≡ []) × took w0 text w1
 PieceServes took w0 w1 f0 f1 piece frames text (Some Turns) = ⊥
 
 -- a piece was cut, its frames were asked, and the replies were written
-pub record Served {S C W : Type 0} (leads : S → List Event → S → Type 0) (ticked : C → List ℕ → C → Type 0) (took : W → List ℕ → W → Type 0) (lane : ℕ) (s0 s1 : S) (c0 c1 : C) (w0 w1 : W) (f0 f1 : End) (piece : List ℕ) (stop : Option Ended) : Type 0 where
+pub record Served {S C W : Type 0} (leads : S → List Event → S → Type 0) (ticked : C → List ℕ → C → Type 0)
+    (took : W → List ℕ → W → Type 0) (lane : ℕ) (s0 s1 : S) (c0 c1 : C) (w0 w1 : W) (f0 f1 : End) (piece : List ℕ)
+    (stop : Option Ended) : Type 0 where
   pub frames : List Framed
   pub events : List Event
   pub order : asks_of events ≡ asks_in frames
@@ -98,7 +110,9 @@ TurnEndsBy e0 e1 r0 r1 w0 w1 (Some (Wire fault)) = Unit {0}
 TurnEndsBy e0 e1 r0 r1 w0 w1 (Some Turns) = ⊥
 
 -- a whole session but for its LEAVE; a read gives at most 4096 bytes
-pub record Finished {R S C W : Type 0} (gave : R → List ℕ → R → Type 0) (leads : S → List Event → S → Type 0) (ticked : C → List ℕ → C → Type 0) (took : W → List ℕ → W → Type 0) (lane reads : ℕ) (r0 r1 : R) (s0 s1 : S) (c0 c1 : C) (w0 w1 : W) (ended : Ended) : Type 0 where
+pub record Finished {R S C W : Type 0} (gave : R → List ℕ → R → Type 0) (leads : S → List Event → S → Type 0)
+    (ticked : C → List ℕ → C → Type 0) (took : W → List ℕ → W → Type 0) (lane reads : ℕ) (r0 r1 : R) (s0 s1 : S)
+    (c0 c1 : C) (w0 w1 : W) (ended : Ended) : Type 0 where
   pub bytes : List ℕ
   pub frames : List Framed
   pub events : List Event

@@ -25,26 +25,28 @@ AreWhole bytes frames = (left : List ℕ) × Frames bytes frames (rest left)
 abbrev pub TookFront : (List ℕ → Type 0) → List ℕ → Type 0
 TookFront took text = (front : List ℕ) × Begins front text × took front
 
--- Which frames were asked of those in the bytes read, and how much of their replies' text was written, by what ended the
--- session: all of both, but where a write failed, or memory was refused. Refused for a reply it ends the writing, and refused
--- to the feed it ends the cut.
+-- Which frames were asked of those in the bytes read, and how much of their replies' text was written, by what ended
+-- the session: all of both, but where a write failed, or memory was refused. Refused for a reply it ends the writing,
+-- and refused to the feed it ends the cut.
 abbrev pub Serves : (List ℕ → Type 0) → List ℕ → List Framed → List ℕ → Ended → Type 0
 Serves took bytes frames text Closed = AreWhole bytes frames × took text
 Serves took bytes frames text Read = AreWhole bytes frames × took text
 Serves took bytes frames text Turns = AreWhole bytes frames × took text
 Serves took bytes frames text (Wire fault) = Frames bytes frames (bad fault) × took text
 Serves took bytes frames text Write = AreAll bytes frames × TookFront took text
-Serves took bytes frames text Memory = (AreAll bytes frames × TookFront took text) ⊎ (AreFirst bytes frames × took text)
+Serves took bytes frames text Memory =
+    (AreAll bytes frames × TookFront took text) ⊎ (AreFirst bytes frames × took text)
 
 -- what is asked last; it looks at no context
 abbrev pub leave : Ask
 leave = record { context = 0; op = Leave }
 
--- A session over ends, a seat and a clock: `gave` and `took` say which bytes were given and taken, `led` which events lead
--- from the seat before to the seat after, `ticked` what the clock answered. The events are the asks of the frames in the
--- bytes given, in order, and then LEAVE; their moments are the clock's answers; what was taken is the frames of their
--- replies, without that of LEAVE. A read gives at most 4096 bytes.
-pub record Session (gave : List ℕ → Type 0) (led : List Event → Type 0) (ticked : List ℕ → Type 0) (took : List ℕ → Type 0) (lane reads : ℕ) (ended : Ended) : Type 0 where
+-- A session over ends, a seat and a clock: `gave` and `took` say which bytes were given and taken, `led` which events
+-- lead from the seat before to the seat after, `ticked` what the clock answered. The events are the asks of the
+-- frames in the bytes given, in order, and then LEAVE; their moments are the clock's answers; what was taken is the
+-- frames of their replies, without that of LEAVE. A read gives at most 4096 bytes.
+pub record Session (gave : List ℕ → Type 0) (led : List Event → Type 0) (ticked : List ℕ → Type 0)
+    (took : List ℕ → Type 0) (lane reads : ℕ) (ended : Ended) : Type 0 where
   pub bytes : List ℕ
   pub frames : List Framed
   pub events : List Event
@@ -58,8 +60,8 @@ pub record Session (gave : List ℕ → Type 0) (led : List Event → Type 0) (t
   pub leave : last.ask ≡ leave
   pub served : Serves took bytes frames (session_text events) ended
 
--- Why a session ended, by what its ends counted before and after: reads into room, those that gave no bytes, failed reads;
--- failed writes, with those that took none of a piece that isn't empty.
+-- Why a session ended, by what its ends counted before and after: reads into room, those that gave no bytes, failed
+-- reads; failed writes, with those that took none of a piece that isn't empty.
 abbrev pub EndsBy : (turns reads0 reads1 empties0 empties1 failed0 failed1 unwritten0 unwritten1 : ℕ) → Ended → Type 0
 EndsBy turns n0 n1 e0 e1 r0 r1 w0 w1 Turns = n1 ≡ n0 + turns
 EndsBy turns n0 n1 e0 e1 r0 r1 w0 w1 Closed = e0 < e1

@@ -1,5 +1,6 @@
-//! One connection: asks in, replies out, and LEAVE last. docs/FORMAT.md, "A connection". The ends of the connection, the
-//! clock and the desk are traits that tell what they gave, took and answered, so `run` says what a whole session did.
+//! One connection: asks in, replies out, and LEAVE last. docs/FORMAT.md, "A connection". The ends of the connection,
+//! the clock and the desk are traits that tell what they gave, took and answered, so `run` says what a whole session
+//! did.
 #![tactic(auto)]
 
 mod asking;

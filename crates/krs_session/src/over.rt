@@ -56,7 +56,8 @@ impl<E: Read> Source for Over<E> {
 
     ghost starts = { λ a. Consumes-nil (E.remaining (over_end a)) };
 
-    ghost joins = { λ a b c xs ys p q. Consumes-trans (E.remaining (over_end a)) (E.remaining (over_end b)) (E.remaining (over_end c)) xs ys p q };
+    ghost joins = { λ a b c xs ys p q. Consumes-trans (E.remaining (over_end a))
+        (E.remaining (over_end b)) (E.remaining (over_end c)) xs ys p q };
 
     fn read(&mut self, room: &mut [u8]) -> Result<usize, Failed> {
         if !room.is_empty() {
@@ -87,7 +88,8 @@ impl<E: Write> Sink for Over<E> {
 
     ghost starts = { λ a. Appends-nil (E.contents (over_end a)) };
 
-    ghost joins = { λ a b c xs ys p q. Appends-trans (E.contents (over_end a)) (E.contents (over_end b)) (E.contents (over_end c)) xs ys p q };
+    ghost joins = { λ a b c xs ys p q. Appends-trans (E.contents (over_end a))
+        (E.contents (over_end b)) (E.contents (over_end c)) xs ys p q };
 
     fn write(&mut self, piece: &[u8]) -> Result<usize, Failed> {
         match self.end.write(piece) {

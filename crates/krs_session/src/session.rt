@@ -129,10 +129,10 @@ fn serve<H, R: Source, W: Sink, S, D: Keeper<S, H>, C: Clock, G: Gate>(
     Ended::Turns
 }
 
-/// Serves a connection to its end: docs/FORMAT.md, "A connection". A turn is one read of at most 4096 bytes, and after
-/// `turns` turns the session ends. Each ask takes one answer of the clock, and passes the gate before it goes to the
-/// desk and after its reply is there. However the session ends, LEAVE is asked last in the same way, and its reply is
-/// not written.
+/// Serves a connection to its end: docs/FORMAT.md, "A connection". A turn is one read of at most 4096 bytes, and
+/// after `turns` turns the session ends. Each ask takes one answer of the clock, and passes the gate before it goes
+/// to the desk and after its reply is there. However the session ends, LEAVE is asked last in the same way, and its
+/// reply is not written.
 pub fn run<H, R: Source, W: Sink, S, D: Keeper<S, H>, C: Clock, G: Gate>(
     rt: &H,
     alloc: Global,

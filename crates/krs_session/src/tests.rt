@@ -50,8 +50,8 @@ const CHANGED: [u8; 58] = [
     4, 0, 0, 0, 0, 0, 0, 0, 4, 0, 0, 0, 0x80, 0, 0, 0,
 ];
 
-// Behind HELLO and ADD: in context 1 SEARCH from -4 for user alpha, without a destination; REQUEST of user alpha, without
-// one; THREAD; FORK; EXEC; EXIT; in context 3 READ of 5; in context 1 READ of 5.
+// Behind HELLO and ADD: in context 1 SEARCH from -4 for user alpha, without a destination; REQUEST of user alpha,
+// without one; THREAD; FORK; EXEC; EXIT; in context 3 READ of 5; in context 1 READ of 5.
 const CONTEXTS: [u8; 142] = [
     0x1d, 0, 0, 0, 1, 0, 0x0a, 0, 1, 0, 0, 0, 0xfc, 0xff, 0xff, 0xff, 4, 0, 0x75, 0x73, 0x65, 0x72,
     5, 0, 0x61, 0x6c, 0x70, 0x68, 0x61, 0, 0, 0, 0, //
@@ -73,8 +73,8 @@ const CAME_AND_WENT: [u8; 82] = [
     6, 0, 0, 0, 0, 0, 0, 0, 0x73, 0x33, 4, 0, 0, 0, 3, 0, 0, 0,
 ];
 
-// In context 1, behind HELLO and ADD: GET_ID of -1 with create; INVALIDATE of 5; READ of 5; JOIN without a name; GET_ID
-// of -3 without create.
+// In context 1, behind HELLO and ADD: GET_ID of -1 with create; INVALIDATE of 5; READ of 5; JOIN without a name;
+// GET_ID of -3 without create.
 const KEYRINGS: [u8; 80] = [
     0x0d, 0, 0, 0, 1, 0, 0, 0, 1, 0, 0, 0, 0xff, 0xff, 0xff, 0xff, 1, //
     0x0c, 0, 0, 0, 1, 0, 0x15, 0, 1, 0, 0, 0, 5, 0, 0, 0, //
@@ -89,9 +89,9 @@ const ATTACHED: [u8; 52] = [
     8, 0, 0, 0, 0, 0, 0, 0, 7, 0, 0, 0, 8, 0, 0, 0, 0, 0, 0, 0, 7, 0, 0, 0,
 ];
 
-// Behind HELLO and ADD: OPEN_QUEUE of 4 records; SET_FILTER of queue 1 to updated notes; in context 1 WATCH of 5 by queue 1
-// with the id 9, SET_TIMEOUT of 5 to 60 seconds, UPDATE of 5 to `s4`; READ_QUEUE of queue 1 into 64 bytes, twice;
-// CLOSE_QUEUE of queue 1; READ_QUEUE of queue 1 into 16 bytes.
+// Behind HELLO and ADD: OPEN_QUEUE of 4 records; SET_FILTER of queue 1 to updated notes; in context 1 WATCH of 5 by
+// queue 1 with the id 9, SET_TIMEOUT of 5 to 60 seconds, UPDATE of 5 to `s4`; READ_QUEUE of queue 1 into 64 bytes,
+// twice; CLOSE_QUEUE of queue 1; READ_QUEUE of queue 1 into 16 bytes.
 #[rattlefmt::skip]
 const QUEUES: [u8; 222] = [
     0x0c, 0, 0, 0, 1, 0, 8, 1, 0, 0, 0, 0, 4, 0, 0, 0,
@@ -209,24 +209,35 @@ fn ends(rt: HostRuntime) {
     let fails = Then::Fails;
     let bad = Ended::Wire(WireFault::BadLength);
     let cases = [
-        Case { name: "byte by byte", stream: &ASKS, reads: (1, 1, closed), writes: ALL, turns: 99, ended: Ended::Closed, asked: 4, written: 34 },
-        Case { name: "three bytes a write", stream: &ASKS, reads: ALL, writes: (3, 4096, closed), turns: 99, ended: Ended::Closed, asked: 4, written: 34 },
-        Case { name: "mid-frame", stream: &ASKS[..70], reads: ALL, writes: ALL, turns: 99, ended: Ended::Closed, asked: 3, written: 24 },
-        Case { name: "length 7", stream: &[7, 0, 0, 0], reads: ALL, writes: ALL, turns: 99, ended: bad, asked: 1, written: 0 },
-        Case { name: "length 65537", stream: &[1, 0, 1, 0], reads: (1, 1, closed), writes: ALL, turns: 99, ended: bad, asked: 1, written: 0 },
-        Case { name: "a read fails", stream: &ASKS, reads: (24, 51, fails), writes: ALL, turns: 99, ended: Ended::Read, asked: 4, written: 34 },
-        Case { name: "a write fails", stream: &ASKS, reads: ALL, writes: (4096, 20, fails), turns: 99, ended: Ended::Write, asked: 4, written: 20 },
-        Case { name: "a write takes none", stream: &ASKS, reads: (24, 35, closed), writes: (5, 5, closed), turns: 99, ended: Ended::Write, asked: 2, written: 5 },
-        Case { name: "two turns", stream: &ASKS, reads: (24, 35, closed), writes: ALL, turns: 2, ended: Ended::Turns, asked: 3, written: 24 },
-        Case { name: "no turns", stream: &ASKS, reads: ALL, writes: ALL, turns: 0, ended: Ended::Turns, asked: 1, written: 0 },
+        Case { name: "byte by byte", stream: &ASKS, reads: (1, 1, closed), writes: ALL,
+            turns: 99, ended: Ended::Closed, asked: 4, written: 34 },
+        Case { name: "three bytes a write", stream: &ASKS, reads: ALL, writes: (3, 4096, closed),
+            turns: 99, ended: Ended::Closed, asked: 4, written: 34 },
+        Case { name: "mid-frame", stream: &ASKS[..70], reads: ALL, writes: ALL,
+            turns: 99, ended: Ended::Closed, asked: 3, written: 24 },
+        Case { name: "length 7", stream: &[7, 0, 0, 0], reads: ALL, writes: ALL,
+            turns: 99, ended: bad, asked: 1, written: 0 },
+        Case { name: "length 65537", stream: &[1, 0, 1, 0], reads: (1, 1, closed), writes: ALL,
+            turns: 99, ended: bad, asked: 1, written: 0 },
+        Case { name: "a read fails", stream: &ASKS, reads: (24, 51, fails), writes: ALL,
+            turns: 99, ended: Ended::Read, asked: 4, written: 34 },
+        Case { name: "a write fails", stream: &ASKS, reads: ALL, writes: (4096, 20, fails),
+            turns: 99, ended: Ended::Write, asked: 4, written: 20 },
+        Case { name: "a write takes none", stream: &ASKS, reads: (24, 35, closed), writes: (5, 5, closed),
+            turns: 99, ended: Ended::Write, asked: 2, written: 5 },
+        Case { name: "two turns", stream: &ASKS, reads: (24, 35, closed), writes: ALL,
+            turns: 2, ended: Ended::Turns, asked: 3, written: 24 },
+        Case { name: "no turns", stream: &ASKS, reads: ALL, writes: ALL,
+            turns: 0, ended: Ended::Turns, asked: 1, written: 0 },
     ];
     for case in &cases {
         check(&rt, rt.alloc(), case);
     }
 }
 
-// A session over bytes in memory, and what `run` tells of it there: where it was closed, some front of the input is cut
-// into frames, whose asks are those of a legal history, and the output is the text of its replies, without LEAVE's.
+// A session over bytes in memory, and what `run` tells of it there: where it was closed, some front of the input is
+// cut into frames, whose asks are those of a legal history, and the output is the text of its replies, without
+// LEAVE's.
 fn converse(
     rt: &impl Abort,
     alloc: Global,

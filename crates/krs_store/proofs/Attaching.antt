@@ -1,7 +1,7 @@
 -- A thread or process keyring that is made and attached: what it comes to in the definitions, and who holds what.
 use Rattle.std.proofs.Common.{◌≡◌, ◌+◌, ◌≤◌, ℕ, List, [], ◌∷◌, ◌++◌, Option, Some, None, true, false}
 use Rattle.std.proofs.Common.{refl, ap, ◌∙◌, sym, subst, arith, ⊎_elim}
-use Rattle.std.specs.Prelude.{nat_lt, Result, Ok, Err, codes, IfOk}
+use Rattle.std.specs.Prelude.{nat_lt, Result, Ok, codes, IfOk}
 use Rattle.std.specs.Option.{IsSome, option_map, option_to_list, unwrap_or}
 use Rattle.std.specs.Ordering.{nat_cmp, match_ordering}
 use Rattle.std.specs.declared.cmp.Ordering.TheVariants.{Less, Equal, Greater}
@@ -16,7 +16,6 @@ use Rattle.krs_types.specs.Kind.{same_kind}
 use Rattle.krs_types.specs.declared.ask.Answer.{Answer}
 use Rattle.krs_types.specs.declared.ask.Answer.TheVariants.{Number}
 use Rattle.krs_types.specs.declared.errno.Errno.{Errno}
-use Rattle.krs_types.specs.declared.errno.Errno.TheVariants.{ENOSPC}
 use Rattle.krs_model.specs.Table.{Table, at, put, alter, IsBelow}
 use Rattle.krs_model.specs.State as model
 use Rattle.krs_model.specs.Sweep.{roots, context_roots, process_roots, uid_roots}
@@ -39,7 +38,8 @@ use Rattle.krs_hold.specs.Tally.{times, number_at, with_number, one_more, IsTall
 use Rattle.krs_hold.proofs.Times.{times-append, times-cons}
 use Rattle.krs_hold.proofs.Gathered.{times-alter}
 use Rattle.krs_hold.proofs.Places.{is_some_alter}
-use Rattle.krs_hold.proofs.Tallies.{tallied_with, tallied_hold, tallied_attached, some_with, number_with, number_other}
+use Rattle.krs_hold.proofs.Tallies.{tallied_with, tallied_hold, tallied_attached, some_with, number_with}
+use Rattle.krs_hold.proofs.Tallies.{number_other}
 use Rattle.krs_hold.proofs.KeyTallies.{tallied_insert}
 use Rattle.krs_store.specs.declared.asks.making.Special.{Special}
 use Rattle.krs_store.specs.declared.asks.making.Special.TheVariants.{Thread, Process}
@@ -71,7 +71,8 @@ attached_times Thread maker s n q place =
     omega (arith, a, none, new, was, is)
 attached_times Process maker s n q place =
     let altered = alter s.processes maker.process (λ (was : Option ℕ). Some n) in
-    let a = times-alter (λ (x : Option ℕ). option_to_list x) s.processes maker.process (λ (was : Option ℕ). Some n) q None
+    let a =
+    times-alter (λ (x : Option ℕ). option_to_list x) s.processes maker.process (λ (was : Option ℕ). Some n) q None
     place in
     let others = uid_roots s.uids in
     let was = times-append q (context_roots s.contexts) (process_roots s.processes ++ others) in
@@ -98,7 +99,8 @@ named_other s k name unused named =
     (λ apart. apart) (at_or_apart k n)
 
 not_at : (k n : ℕ) → is_at (nat_cmp k) n ≡ false → k ≡ n → ⊥
-not_at k n apart e = absurd (true≢false (sym (subst (λ (z : ℕ). is_at (nat_cmp k) z ≡ true) e (is_at_same k)) ∙ apart))
+not_at k n apart e =
+    absurd (true≢false (sym (subst (λ (z : ℕ). is_at (nat_cmp k) z ≡ true) e (is_at_same k)) ∙ apart))
 
 -- a count that is raised leaves room at another
 pub room_beside :
@@ -150,7 +152,8 @@ ring_counted s special maker links None attached unused are h =
     let stays : IsSome (at (one_more n a) n) = is_some_alter a n n (λ z. z + 1) ∙ there in
     tallied_insert es attached (n ∷ []) (n ∷ []) (one_more n a) n (ring_key special maker links)
     (unused n (omega arith)) stays
-    (λ q. let e : times q (serials links) ≡ 0 = ap (λ (ls : LinkList). times q (serials ls)) are in omega (arith, e)) one
+    (λ q. let e : times q (serials links) ≡ 0 = ap (λ (ls : LinkList). times q (serials ls)) are in
+    omega (arith, e)) one
 ring_counted s special maker links (Some k) attached unused are h =
     let es = s.keys.keys in
     let n = s.keys.next in
@@ -195,7 +198,8 @@ ring_sound s special maker links linked keys contexts numbers sound unused place
       fit = fit_put es n key (unused n (omega arith)) (ring_fits s special maker links linked unused are) sound.fit;
       kinds = kinds_put es n key (ring_kind special) sound.kinds;
       tallied =
-          tallied_attached (shown after) (roots base) (roots (anchored base (attached_as special maker n (anchors_of base))))
+          tallied_attached (shown after) (roots base) (roots (anchored base
+          (attached_as special maker n (anchors_of base))))
           (n ∷ []) [] (more_of linked (one_more n (with_number n s.holders)))
           (λ q. let e = attached_times special maker base n q place in omega (arith, e))
           (ring_counted s special maker links linked (roots base) unused are sound.tallied);
@@ -233,14 +237,6 @@ pub within_next :
     → within_serials s (Ok (t, answer)) ≡ Ok (t, answer)
 within_next s t answer next few =
     let low : nat_lt 2147483648 t.next_serial ≡ false = grind (arith, nat_tests) in
-    let up : nat_lt s.next_serial t.next_serial ≡ true = grind (arith, nat_tests) in
-    rw (up, low) refl
-
-pub without_next :
-    (s t : model.State) (answer : Answer) → t.next_serial ≡ s.next_serial + 1 → 2147483648 ≤ s.next_serial
-    → within_serials s (Ok (t, answer)) ≡ Err ENOSPC
-without_next s t answer next many =
-    let low : nat_lt 2147483648 t.next_serial ≡ true = grind (arith, nat_tests) in
     let up : nat_lt s.next_serial t.next_serial ≡ true = grind (arith, nat_tests) in
     rw (up, low) refl
 

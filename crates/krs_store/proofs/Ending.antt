@@ -1,5 +1,6 @@
 -- What the ends of contexts owe the numbers of holders.
-use Rattle.std.proofs.Common.{◌≡◌, ℕ, ◌+◌, ◌==◌, ◌&&◌, ◌||◌, ◌++◌, List, [], ◌∷◌, Bool, true, false, not, filter, cond, refl, ap, sym, ◌∙◌, subst, arith}
+use Rattle.std.proofs.Common.{◌≡◌, ℕ, ◌+◌, ◌==◌, ◌&&◌, ◌||◌, ◌++◌, List, [], ◌∷◌, Bool, true, false, not, filter}
+use Rattle.std.proofs.Common.{cond, refl, ap, sym, ◌∙◌, subst, arith}
 use Rattle.std.proofs.Common.{Option, None, Some, Result, Ok}
 use Rattle.std.specs.Option.{option_to_list, unwrap_or}
 use Rattle.std.specs.List.{list_any}
@@ -57,7 +58,8 @@ cut_times :
 cut_times g true es k q = omega arith
 cut_times g false es k q = sym (times-without g es k q)
 
-ring_given : (o : Option (Option ℕ)) → given_by (λ (x : Option ℕ). option_to_list x) o ≡ option_to_list (unwrap_or o None)
+ring_given : (o : Option (Option ℕ)) → given_by (λ (x : Option ℕ). option_to_list x) o
+    ≡ option_to_list (unwrap_or o None)
 ring_given None = refl
 ring_given (Some ring) = refl
 
@@ -99,7 +101,9 @@ exited_times s number q c there =
     let l : times q (cond in_process [] (given_by (λ (x : Option ℕ). option_to_list x) (at s.processes c.process)))
     ≡ times q ring =
     ap (λ (zs : List ℕ). times q (cond in_process [] zs)) (ring_given (at s.processes c.process)) in
-    let m = cut_times (λ (x : UidRings). option_to_list x.user ++ option_to_list x.session) in_uid s.uids c.caller.uid q in
+    let m =
+    cut_times (λ (x : UidRings). option_to_list x.user ++ option_to_list x.session) in_uid s.uids
+    c.caller.uid q in
     let n : times q (cond in_uid [] (given_by (λ (x : UidRings). option_to_list x.user ++ option_to_list x.session)
     (at s.uids c.caller.uid))) ≡ times q rings =
     ap (λ (zs : List ℕ). times q (cond in_uid [] zs)) (rings_given (at s.uids c.caller.uid)) in

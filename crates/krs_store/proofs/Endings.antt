@@ -1,5 +1,5 @@
--- EXEC and EXIT are refused where the context is not the client's, CLOSE_QUEUE where the queue is not, and for nothing
--- else.
+-- EXEC and EXIT are refused where the context is not the client's, CLOSE_QUEUE where the queue is not, and for
+-- nothing else.
 use Rattle.std.proofs.Common.{◌≡◌, ◌==◌, ℕ, true, false, Option, None, Some, Result, Ok, Err, cond, subst}
 use Rattle.krs_types.specs.declared.errno.Errno.{Errno}
 use Rattle.krs_types.specs.declared.errno.Errno.TheVariants.{ESRCH, EBADF, ENOMEM}
@@ -48,12 +48,14 @@ ended_with q = (q, tt)
 exec_fault : (s : State) (client number : ℕ) (e : Errno) → exec s client number ≡ Err e → ESRCH ≡ e
 unfolding exec
 exec_fault s client number e h =
-    context_fault s client number e (accepted_fault (context_of s client number) (λ c. end_of (execed s number c)) e h)
+    context_fault s client number e (accepted_fault (context_of s client number)
+    (λ c. end_of (execed s number c)) e h)
 
 exit_fault : (s : State) (client number : ℕ) (e : Errno) → exit s client number ≡ Err e → ESRCH ≡ e
 unfolding exit
 exit_fault s client number e h =
-    context_fault s client number e (accepted_fault (context_of s client number) (λ c. end_of (exited s number c)) e h)
+    context_fault s client number e (accepted_fault (context_of s client number)
+    (λ c. end_of (exited s number c)) e h)
 
 -- a refusal of EXEC is not want of memory
 pub exec_refuses :

@@ -1,5 +1,7 @@
 -- What further contexts, and EXEC, owe the numbers of holders.
-use Rattle.std.proofs.Common.{◌≡◌, ℕ, ◌+◌, ◌==◌, ◌&&◌, ◌||◌, ◌++◌, List, [], ◌∷◌, Bool, true, false, not, filter, cond, if◌then◌else◌, Option, None, Some, Result, Ok, Err, refl, ap, sym, ◌∙◌, subst, arith}
+use Rattle.std.proofs.Common.{◌≡◌, ℕ, ◌+◌, ◌==◌, ◌&&◌, ◌||◌, ◌++◌, List, [], ◌∷◌, Bool, true, false, not, filter}
+use Rattle.std.proofs.Common.{cond, if◌then◌else◌, Option, None, Some, Result, Ok, Err, refl, ap, sym, ◌∙◌, subst}
+use Rattle.std.proofs.Common.{arith}
 use Rattle.std.specs.Option.{option_to_list, unwrap_or, IfSome}
 use Rattle.std.specs.Ordering.{nat_cmp}
 use Rattle.std.specs.BTreeMap.{is_at}
@@ -7,7 +9,7 @@ use Rattle.krs_types.specs.declared.errno.Errno.{Errno}
 use Rattle.krs_types.specs.declared.errno.Errno.TheVariants.{ESRCH}
 use Rattle.std.specs.Result.{IsErrAnd}
 use Rattle.krs_types.specs.declared.fault.Fault.{Fault}
-use Rattle.krs_types.specs.declared.fault.Fault.TheVariants.{Memory, Refused}
+use Rattle.krs_types.specs.declared.fault.Fault.TheVariants.{Refused}
 use Rattle.krs_model.specs.Outcome.{Outcome, Leads}
 use Rattle.krs_types.specs.declared.ask.Answer.{Answer}
 use Rattle.krs_types.specs.declared.ask.Answer.TheVariants.{Number, Nothing}
@@ -30,8 +32,7 @@ use Rattle.krs_hold.specs.Tally.{times, IsTallied, all_less}
 use Rattle.krs_hold.proofs.Times.{times-append}
 use Rattle.krs_hold.proofs.Gathered.{times-put, times-filter, times-alter}
 use Rattle.krs_hold.proofs.Tallies.{tallied_attached, tallied_let_go_all}
-use Rattle.krs_ctx.specs.Anchors.{Anchors}
-use Rattle.krs_ctx.specs.Told.{Enters, enterable, greeted, opened}
+use Rattle.krs_ctx.specs.Told.{enterable, greeted, opened}
 use Rattle.krs_ctx.proofs.ToldLemmas.{threaded, forked}
 use Rattle.krs_store.specs.Holding.{more_of}
 use Rattle.krs_store.proofs.Counting.{counted_of, more_tallied, context_tallied, less_then, session_attached}
@@ -156,7 +157,8 @@ pub fork_tallied :
 fork_tallied keys s t client number n c numbers no_context no_process own h tallied =
     subst (λ (z : State). IsTallied keys (roots z) [] (more_of c.session numbers))
     (fork_opens s t client number n c own h)
-    (entered_tallied keys s client c.caller c.session numbers no_context no_process (session_held s client number c own)
+    (entered_tallied keys s client c.caller c.session numbers no_context no_process
+    (session_held s client number c own)
     tallied)
 
 filter_alter :
@@ -182,7 +184,8 @@ filter_same :
 filter_same p r [] same = refl
 filter_same p r (x ∷ xs) same =
     let rest = filter_same p r xs same in
-    rw (same x) (elim (r x) as (λ b. cond b (x ∷ filter p xs) (filter p xs) ≡ cond b (x ∷ filter r xs) (filter r xs)) [
+    rw (same x) (elim (r x) as (λ b. cond b (x ∷ filter p xs) (filter p xs)
+    ≡ cond b (x ∷ filter r xs) (filter r xs)) [
       | true ↦ ap (λ zs. x ∷ zs) rest
       | false ↦ rest
     ])
@@ -275,8 +278,10 @@ pub exec_tallied :
 exec_tallied keys s t client number c numbers own h tallied =
     let ended = context_roots (filter (ends c.process number) s.contexts) in
     let ring = option_to_list (process_ring s c.process) in
-    subst (λ (zs : Table ℕ). IsTallied keys (roots t) [] zs) (sym (less_then ended (option_to_list c.thread) ring numbers))
-    (subst (λ (z : State). IsTallied keys (roots z) [] (all_less ((ended ++ option_to_list c.thread) ++ ring) numbers))
+    subst (λ (zs : Table ℕ). IsTallied keys (roots t) [] zs) (sym (less_then ended (option_to_list c.thread)
+    ring numbers))
+    (subst (λ (z : State). IsTallied keys (roots z) [] (all_less
+    ((ended ++ option_to_list c.thread) ++ ring) numbers))
     (exec_is s t client number c own h)
     (held_less keys s (execed s number c) ((ended ++ option_to_list c.thread) ++ ring) numbers
     (λ q. execed_times s number q c (own_there s client number c own)) tallied))
@@ -305,17 +310,13 @@ pub known_tallied :
     → IsTallied keys (roots t) [] (more_of rings.session numbers)
 known_tallied keys s t client n c rings numbers no_context no_process there h tallied =
     let opens : opened s client c None ≡ t =
-    ap (λ (x : State × Answer). x.0) (one_accepted (enterable s client) (opened s client c None, Number s.next_context)
+    ap (λ (x : State × Answer). x.0) (one_accepted (enterable s client)
+    (opened s client c None, Number s.next_context)
     (t, Number n) h) in
     let session : user_session_ring (at s.uids c.uid) ≡ rings.session = rw there refl in
     subst (λ (z : State). IsTallied keys (roots z) [] (more_of rings.session numbers)) opens
     (subst (λ (o : Option ℕ). IsTallied keys (roots (with_context s client c o)) [] (more_of rings.session numbers))
     (sym session)
-    (entered_tallied keys s client c rings.session numbers no_context no_process (session_attached s c.uid rings there)
+    (entered_tallied keys s client c rings.session numbers no_context no_process
+    (session_attached s c.uid rings there)
     tallied))
-
--- a fault leaves the contexts as they were
-pub enters_same :
-    (old new : Anchors) (x : Fault) (meant : State → Outcome) → Enters old (Err x) new meant → new ≡ old
-enters_same old new Memory meant h = h.1
-enters_same old new (Refused e) meant h = h.1

@@ -1,5 +1,6 @@
 -- What JOIN owes the definitions, and the numbers of holders.
-use Rattle.std.proofs.Common.{◌≡◌, ℕ, ◌+◌, ◌≤◌, ◌==◌, ◌&&◌, ◌++◌, List, [], ◌∷◌, Bool, true, false, cond, length, if◌then◌else◌, Option, None, Some, Ok, refl, ap, sym, ◌∙◌, subst, arith}
+use Rattle.std.proofs.Common.{◌≡◌, ℕ, ◌+◌, ◌≤◌, ◌==◌, ◌&&◌, ◌++◌, List, [], ◌∷◌, Bool, true, false, cond, length}
+use Rattle.std.proofs.Common.{if◌then◌else◌, Option, None, Some, Ok, refl, ap, sym, ◌∙◌, subst, arith}
 use Rattle.std.specs.Prelude.{find, codes, nat_lt}
 use Rattle.std.specs.Option.{option_map, option_to_list, IsSome, IfSome}
 use Rattle.std.specs.Ordering.{nat_cmp}
@@ -15,7 +16,8 @@ use Rattle.krs_model.specs.State.{State}
 use Rattle.krs_model.specs.Sweep.{roots, context_roots, process_roots, uid_roots}
 use Rattle.krs_model.specs.Lookup.{context_of}
 use Rattle.krs_model.specs.Making.{with_new, within_serials}
-use Rattle.krs_model.specs.Asks.Joining.{join, joinable, session_named, session_joined, session_ring, session_to, joined_to}
+use Rattle.krs_model.specs.Asks.Joining.{join, joinable, session_named, session_joined, session_ring, session_to}
+use Rattle.krs_model.specs.Asks.Joining.{joined_to}
 use Rattle.krs_model.proofs.Tables.{is_at_same}
 use Rattle.krs_model.proofs.Roots.{context_keys}
 use Rattle.krs_keys.specs.declared.key.Key.{Key}

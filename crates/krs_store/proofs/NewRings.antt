@@ -249,7 +249,10 @@ stands_for_other special s number c ring key new coming is =
 -- what the keyring links, where it is linked to what was found
 abbrev links_new : Special → State → ℕ → Context → ℕ × Key → Outcome
 links_new special s number c found =
-    linked_into (with_ring special s number c) (s.next_serial, special_ring (special_name special).desc c.caller) found
+    linked_into (with_ring special s number c) (
+      s.next_serial,
+      special_ring (special_name special).desc c.caller,
+    ) found
     >>= (λ new. Ok (new, Nothing))
 
 link_met :

@@ -10,7 +10,8 @@ use Rattle.krs_types.specs.declared.ask.Answer.{Answer}
 use Rattle.krs_types.specs.declared.ask.Answer.TheVariants.{Nothing, Number, Bytes}
 use Rattle.krs_types.specs.declared.ask.Op.{Op}
 use Rattle.krs_types.specs.declared.ask.Op.TheVariants.{Hello, Thread, Fork, Exec, GetId, Join, Search, Request, Add}
-use Rattle.krs_types.specs.declared.ask.Op.TheVariants.{Update, Revoke, Invalidate, Chown, SetPerm, SetTimeout, Link, Unlink}
+use Rattle.krs_types.specs.declared.ask.Op.TheVariants.{Update, Revoke, Invalidate, Chown, SetPerm, SetTimeout, Link}
+use Rattle.krs_types.specs.declared.ask.Op.TheVariants.{Unlink}
 use Rattle.krs_types.specs.declared.ask.Op.TheVariants.{Clear, Read, Describe, Watch, OpenQueue, SetFilter, ReadQueue}
 use Rattle.krs_types.specs.declared.ask.Op.TheVariants.{CloseQueue, Exit, Leave}
 use Rattle.krs_types.specs.declared.note.KeyEvent.TheVariants.{Updated, Linked}
@@ -41,7 +42,8 @@ record TellsNone (s : State) (client context : ℕ) (op : Op) (r : Result Answer
 
 -- each ask is of one sort or the other
 ran_as :
-    (s : State) (client context : ℕ) (op : Op) (r : Result Answer Fault) (new : State) → Runs s client context op r new
+    (s : State) (client context : ℕ) (op : Op) (r : Result Answer Fault) (new : State)
+    → Runs s client context op r new
     → EndsNone s client context op r new ⊎ TellsNone s client context op r new
 ran_as s client context (Hello caller) r new ran = inl (record { none_ended = refl; leads = ran })
 ran_as s client context Thread r new ran = inl (record { none_ended = refl; leads = ran })

@@ -48,7 +48,8 @@ linked_tests s into serial key =
 
 into_is :
     (s : State) (into : ℕ × Key) (serial : ℕ) (key : Key) → IsFoundRing s into
-    → within_serials s (◌>>=◌ {B = State × Answer} (linked_into s into (serial, key)) (λ new. Ok (new, Number serial)))
+    → within_serials s (◌>>=◌ {B = State × Answer} (linked_into s into (serial, key))
+    (λ new. Ok (new, Number serial)))
     ≡ linked_tests s into.0 serial key
 into_is s into serial key is =
     rw is.links (by_tests s (changed s into.0 (linking s.keys (name_of key) serial)) (Number serial)

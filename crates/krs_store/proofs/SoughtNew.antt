@@ -234,7 +234,8 @@ fails_first Memory first next h = tt
 fails_first (Refused x) first next h = rw h refl
 
 -- what SEARCH has looked up, with a destination that is made
-pub record SeeksNew (special : Special) (s : State) (client number : ℕ) (head : ℤ) (type_name desc : List ℕ) (dest : ℤ)
+pub record SeeksNew (special : Special) (s : State) (client number : ℕ) (head : ℤ)
+    (type_name desc : List ℕ) (dest : ℤ)
     (c : Context) (name : Name) (from : ℕ × Key) : Type 0 where
   pub own : context_of s client number ≡ Ok c
   pub named : sought_name type_name desc ≡ Ok name

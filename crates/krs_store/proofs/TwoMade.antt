@@ -79,7 +79,8 @@ room_before :
     (numbers : Table ℕ) (n m : ℕ) → is_at (nat_cmp n) m ≡ false
     → one_more n (with_number m numbers) ≡ with_number m (one_more n numbers)
 room_before numbers n m apart =
-    let same : is_some (at (one_more n numbers) m) ≡ is_some (at numbers m) = is_some_alter numbers n m (λ z. z + 1) in
+    let same : is_some (at (one_more n numbers) m) ≡ is_some (at numbers m) =
+    is_some_alter numbers n m (λ z. z + 1) in
     rw same (elim (is_some (at numbers m)) as (λ b. one_more n (cond b numbers (put numbers m 0))
     ≡ cond b (one_more n numbers) (put (one_more n numbers) m 0)) [
       | true ↦ refl
@@ -184,7 +185,8 @@ two_made special s maker name payload one two ring key new anchors r1 r2 r3 r4 w
     (subst (HasPlace special maker) (sym view) place)
     (x.ring_is ∙ ap (λ k. ring_key special maker ((name, k) ∷ [])) x.second) x.key_is x.keys
     (x.anchors_are ∙ ap (λ k. attached_as special maker k s.contexts) x.first)
-    (two_counted s.holders r1 r2 r3 r4 s.keys.next (s.keys.next + 1) one two x.first x.second x.room x.more_room x.held
+    (two_counted s.holders r1 r2 r3 r4 s.keys.next (s.keys.next + 1) one two x.first x.second x.room
+    x.more_room x.held
     x.both_held)
 
 -- room that is there is left by a holder more of another key
@@ -202,7 +204,8 @@ some_left n h = grind (arith, nat_tests, unsigned_tied 2147483647 (n + 1))
 
 -- the new key of the client, where two serials are left
 pub adding_told :
-    (special : Special) (s new : model.State) (client number serial : ℕ) (name : Name) (payload : List ℕ) (c : Context)
+    (special : Special) (s new : model.State) (client number serial : ℕ) (name : Name) (payload : List ℕ)
+    (c : Context)
     (maker : Maker) → context_of s client number ≡ Ok c → maker ≡ maker_of number c → s.next_serial ≤ 2147483646
     → new ≡ made (ring_at special maker [] s) s.next_serial name (new_key name payload maker.uid maker.gid)
     → serial ≡ s.next_serial + 1 → adding_made special s client number name payload ≡ Ok (new, Number serial)

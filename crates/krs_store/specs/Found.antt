@@ -26,7 +26,8 @@ found_below s c head name = do
   found s c head.0 name
 
 abbrev pub if_granted : State → Context → ℕ → Key → Result Key Errno
-if_granted s c serial key = if has_all (rights_on key c.caller (possessed s c serial)) LINK then Ok key else Err EACCES
+if_granted s c serial key =
+    if has_all (rights_on key c.caller (possessed s c serial)) LINK then Ok key else Err EACCES
 
 -- the key at a serial, which grants LINK
 abbrev pub linkable : State → Context → ℕ → Result Key Errno

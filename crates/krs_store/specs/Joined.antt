@@ -40,4 +40,5 @@ session_in s number = option_map (λ c. c.session) (at s.contexts number)
 
 -- a new key is the session keyring of a context
 abbrev pub joined_anew : model.State → ℕ → model.Key → Outcome
-joined_anew s number key = within_serials s (Ok (joined_to (with_new s key) number s.next_serial, Number s.next_serial))
+joined_anew s number key =
+    within_serials s (Ok (joined_to (with_new s key) number s.next_serial, Number s.next_serial))

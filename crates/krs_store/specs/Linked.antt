@@ -36,5 +36,6 @@ has_link serial links = list_any (λ link. link.1 == serial) links
 
 -- the keyring does not link the key any more, where it did; else nothing has changed
 abbrev pub Takes : State → Result (Unit {0}) Errno → State → ℕ → ℕ → Type 0
-Takes old (Ok done) new ring serial = (is_in serial (links_in old.keys ring) ≡ true) × (new ≡ changed old ring (without_link serial))
+Takes old (Ok done) new ring serial =
+    (is_in serial (links_in old.keys ring) ≡ true) × (new ≡ changed old ring (without_link serial))
 Takes old (Err e) new ring serial = (is_in serial (links_in old.keys ring) ≡ false) × ((e ≡ ENOENT) × (new ≡ old))

@@ -1,5 +1,6 @@
 -- The thread and process keyrings that the store makes.
-use Rattle.std.specs.Prelude.{◌≡◌, ◌==◌, ℕ, ℤ, ◌+◌, List, [], ◌∷◌, None, Some, Option, Bool, true, false, codes, nat_lt, if◌then◌else◌, Result, Ok, Err}
+use Rattle.std.specs.Prelude.{◌≡◌, ◌==◌, ℕ, ℤ, ◌+◌, List, [], ◌∷◌, None, Some, Option, Bool, true, false, codes}
+use Rattle.std.specs.Prelude.{nat_lt, if◌then◌else◌, Result, Ok, Err}
 use Rattle.krs_types.specs.declared.errno.Errno.{Errno}
 use Rattle.krs_types.specs.declared.errno.Errno.TheVariants.{ENOKEY, EDEADLK, ELOOP, ENOSPC}
 use Rattle.krs_types.specs.declared.ask.Answer.{Answer}
@@ -18,7 +19,8 @@ use Rattle.krs_model.specs.Possession.{process_ring}
 use Rattle.krs_model.specs.Lookup.{context_of}
 use Rattle.krs_model.specs.Linking.{linking}
 use Rattle.krs_model.specs.Reach.{has_chain}
-use Rattle.krs_model.specs.Making.{with_new, with_thread, with_process, thread_to, special_ring, made_for, within_serials}
+use Rattle.krs_model.specs.Making.{with_new, with_thread, with_process, thread_to, special_ring, made_for}
+use Rattle.krs_model.specs.Making.{within_serials}
 use Rattle.krs_model.specs.Asks.Adding.{made, new_key}
 use Rattle.krs_model.specs.Asks.Changing.{changed}
 use Rattle.krs_model.specs.Asks.Linked.{unless, name_of}
@@ -110,7 +112,10 @@ abbrev pub adding_made : Special → State → ℕ → ℕ → Name → List ℕ
 adding_made special s client number name payload = do
   c ← context_of s client number
   room ← unless (nat_lt 2147483647 (s.next_serial + 1)) ENOSPC
-  Ok (made (with_ring special s number c) s.next_serial name (new_key name payload c.caller.uid c.caller.gid), Number (s.next_serial + 1))
+  Ok (
+    made (with_ring special s number c) s.next_serial name (new_key name payload c.caller.uid c.caller.gid),
+    Number (s.next_serial + 1),
+  )
 
 -- the name is that of the keyring
 abbrev pub is_of_name : Special → Context → Name → Bool

@@ -73,7 +73,8 @@ abbrev pub posts_told : Queues → Option Note → List Post
 posts_told q None = []
 posts_told q (Some note) = posts_of q note
 
--- What an ask comes to before its note is posted. WATCH tells no note, and posts the removal record of the watch that it ends.
+-- What an ask comes to before its note is posted. WATCH tells no note, and posts the removal record of the watch that
+-- it ends.
 abbrev pub Runs : State → ℕ → ℕ → Op → Result Answer Fault → State → Type 0
 Runs s client context (Watch id queue watch) result new = LeadsTold s client context (Watch id queue watch) result new
 Runs s client context op result new = Leads s result new (outcome_of s client context op)

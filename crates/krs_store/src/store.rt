@@ -11,9 +11,9 @@ use krs_types::{Ask, Errno, Fault, Reply};
 use std::alloc::Global;
 use std::marker::Model;
 
-/// A key store: keyrings(7) for one thread. Between two asks it is sound: no keyring reaches itself, a keyring has one
-/// link for a type and description, links and attachments are of keys that are there, and every key is attached or
-/// linked by one that is held.
+/// A key store: keyrings(7) for one thread. Between two asks it is sound: no keyring reaches itself, a keyring has
+/// one link for a type and description, links and attachments are of keys that are there, and every key is attached
+/// or linked by one that is held.
 #[derive(Drop)]
 pub struct Store {
     tables: Tables,
@@ -48,8 +48,8 @@ impl Store {
         }
     }
 
-    /// Serves one ask of a client at a moment, in seconds: one step of the store. An accepted ask has its effect; its note
-    /// is posted; then the sweep drops what is not held, and posts removal records. Profile, order of notes.
+    /// Serves one ask of a client at a moment, in seconds: one step of the store. An accepted ask has its effect; its
+    /// note is posted; then the sweep drops what is not held, and posts removal records. Profile, order of notes.
     #[tactic(auto, unfolding(krs_model::specs::Step::Step))]
     pub fn apply(&mut self, client: u32, moment: u64, ask: Ask) -> Reply
         ensures step { Step self.old (event_of client moment ask result) self.new }

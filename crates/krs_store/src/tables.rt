@@ -1,6 +1,6 @@
-ghost use Rattle.std.specs.Prelude.{◌≡◌, ◌≤◌, ◌+◌, Some, IfSome, IfOk, OnOk, OnErr, IsErrOf, true};
+ghost use Rattle.std.specs.Prelude.{◌≡◌, ◌≤◌, Some, IfSome, IfOk, IsErrOf, true};
 ghost use Rattle.std.specs.Option.{option_map};
-ghost use Rattle.krs_model.specs.Table.{at, put, alter};
+ghost use Rattle.krs_model.specs.Table.{at};
 ghost use Rattle.krs_model.specs.State.{starting_at, raised};
 ghost use Rattle.krs_model.specs.Possession.{process_ring, possessed};
 ghost use Rattle.krs_model.specs.Lookup.{context_of, serial_of, look_up};
@@ -161,6 +161,7 @@ impl Tables {
     }
 
     /// One ask in the state that it finds.
+    #[rattlefmt::skip]
     fn run(&mut self, client: u32, ask: Ask) -> Result<Answer, Fault>
         requires sound { IsSound self.old }
         ensures step { Runs self.old client ask.context ask.op result self.new }
@@ -172,26 +173,12 @@ impl Tables {
             Op::Thread => self.thread(client, context),
             Op::Fork => self.fork(client, context),
             Op::Exec => self.exec(client, context),
-            Op::Search {
-                head,
-                type_name,
-                desc,
-                dest,
-            } => self.search(client, context, head, type_name, desc, dest),
-            Op::Request {
-                type_name,
-                desc,
-                dest,
-            } => self.request(client, context, type_name, desc, dest),
+            Op::Search { head, type_name, desc, dest } => self.search(client, context, head, type_name, desc, dest),
+            Op::Request { type_name, desc, dest } => self.request(client, context, type_name, desc, dest),
             Op::GetId { id, create } => self.get_id(client, context, id, create),
             Op::Join { name } => self.join(client, context, name),
             Op::Invalidate { id } => self.invalidate(client, context, id),
-            Op::Add {
-                type_name,
-                desc,
-                payload,
-                ring,
-            } => self.add(client, context, type_name, desc, payload, ring),
+            Op::Add { type_name, desc, payload, ring } => self.add(client, context, type_name, desc, payload, ring),
             Op::Update { id, payload } => self.update(client, context, id, payload),
             Op::Revoke { id } => self.revoke(client, context, id),
             Op::Chown { id, uid, gid } => self.chown(client, context, id, uid, gid),
@@ -222,7 +209,8 @@ impl Tables {
         self.clock = self.clock.max(moment);
     }
 
-    /// Just the keys stay that are attached, or linked by what stays. The watches of the others end with removal records.
+    /// Just the keys stay that are attached, or linked by what stays. The watches of the others end with removal
+    /// records.
     pub(crate) fn sweep(&mut self)
         requires acyclic { IsAcyclic (links_in self.old.keys) }
         requires live { live_watches self.old.keys self.old.watches ≡ self.old.watches }

@@ -1,5 +1,6 @@
 -- Layers of nested keyrings, as a walk makes them, and what they say of the height.
-use Rattle.std.proofs.Common.{◌≡◌, ◌≤◌, ◌==◌, ◌<◌, ◌+◌, ◌-◌, ℕ, zero, suc, List, ◌++◌, [], ◌∷◌, true, false, length, take, arith, get_or, refl, ap, ◌∙◌, sym, subst}
+use Rattle.std.proofs.Common.{◌≡◌, ◌≤◌, ◌==◌, ◌<◌, ◌+◌, ◌-◌, ℕ, zero, suc, List, ◌++◌, [], ◌∷◌, true, false, length}
+use Rattle.std.proofs.Common.{take, arith, get_or, refl, ap, ◌∙◌, sym, subst}
 use Rattle.std.proofs.lemmas.Bool.{true≢false}
 use Rattle.std.proofs.lemmas.Bool.Decides.{nat_tests}
 use Rattle.std.proofs.lemmas.List.{take_more, flat_map_more}
@@ -16,20 +17,26 @@ use Rattle.krs_walk.proofs.ListsLemmas.{join_append, join_fresh, in_none}
 use Rattle.krs_walk.proofs.LevelsLemmas.{follow_fresh}
 
 -- the links of one keyring more of a layer
-pub layer_more : (f : ℕ → List ℕ) (layer all next : List ℕ) (i : ℕ) → i < length layer → all ≡ join [] (flat_map f (take i layer)) → next ≡ join all (f (get_or layer i 0)) → next ≡ join [] (flat_map f (take (i + 1) layer))
+pub layer_more : (f : ℕ → List ℕ) (layer all next : List ℕ) (i : ℕ) → i < length layer
+    → all ≡ join [] (flat_map f (take i layer)) → next ≡ join all (f (get_or layer i 0))
+    → next ≡ join [] (flat_map f (take (i + 1) layer))
 layer_more f layer all next i lt h e =
-    e ∙ (ap (λ zs. join zs (f (get_or layer i 0))) h ∙ (sym (join_append [] (flat_map f (take i layer)) (f (get_or layer i 0)))
-    ∙ ap (join []) (flat_map_more f [] (take i layer) (get_or layer i 0) ∙ ap (flat_map f) (sym (take_more layer i 0 lt)))))
+    e ∙ (ap (λ zs. join zs (f (get_or layer i 0))) h ∙ (sym (join_append [] (flat_map f (take i layer))
+    (f (get_or layer i 0)))
+    ∙ ap (join []) (flat_map_more f [] (take i layer) (get_or layer i 0)
+    ∙ ap (flat_map f) (sym (take_more layer i 0 lt)))))
 
 -- each of a level once
 abbrev pub IsLayer : (ℕ → List ℕ) → List ℕ → ℕ → List ℕ → Type 0
 IsLayer links heads n layer = layer ≡ join [] (level links heads n)
 
-pub layer_starts : (links : ℕ → List ℕ) (key : ℕ) (layer : List ℕ) → layer ≡ key ∷ [] → IsLayer links (key ∷ []) 0 layer
+pub layer_starts : (links : ℕ → List ℕ) (key : ℕ) (layer : List ℕ) → layer ≡ key ∷ []
+    → IsLayer links (key ∷ []) 0 layer
 unfolding level
 layer_starts links key layer e = e
 
-pub layer_next : (links : ℕ → List ℕ) (heads : List ℕ) (n : ℕ) (layer next : List ℕ) → IsLayer links heads n layer → next ≡ join [] (flat_map links layer) → IsLayer links heads (n + 1) next
+pub layer_next : (links : ℕ → List ℕ) (heads : List ℕ) (n : ℕ) (layer next : List ℕ) → IsLayer links heads n layer
+    → next ≡ join [] (flat_map links layer) → IsLayer links heads (n + 1) next
 layer_next links heads n layer next h e =
     e ∙ (ap (λ zs. join [] (flat_map links zs)) (h ∙ join_fresh [] (level links heads n))
     ∙ (sym (follow_fresh links [] [] (level links heads n) (λ j m. absurd (in_none j m)))
@@ -48,13 +55,15 @@ none_length [] h = refl
 none_length (x ∷ xs) h = let no : 0 < length (x ∷ xs) = omega arith in absurd (grind (arith, nat_tests))
 
 -- a layer with a keyring has a chain
-pub layer_chain : (keys : Table Key) (key n : ℕ) (layer : List ℕ) → IsLayer (nested_in keys) (key ∷ []) n layer → (length layer == 0) ≡ false → has_chain keys key n ≡ true
+pub layer_chain : (keys : Table Key) (key n : ℕ) (layer : List ℕ) → IsLayer (nested_in keys) (key ∷ []) n layer
+    → (length layer == 0) ≡ false → has_chain keys key n ≡ true
 unfolding has_chain
 layer_chain keys key n layer h some =
     sym (some_joined (level (nested_in keys) (key ∷ []) n)) ∙ (ap is_some_in (sym h) ∙ some_length layer some)
 
 -- one with none has none
-pub layer_ends : (keys : Table Key) (key n : ℕ) (layer : List ℕ) → IsLayer (nested_in keys) (key ∷ []) n layer → (length layer == 0) ≡ true → has_chain keys key n ≡ false
+pub layer_ends : (keys : Table Key) (key n : ℕ) (layer : List ℕ) → IsLayer (nested_in keys) (key ∷ []) n layer
+    → (length layer == 0) ≡ true → has_chain keys key n ≡ false
 unfolding has_chain
 layer_ends keys key n layer h none =
     sym (some_joined (level (nested_in keys) (key ∷ []) n)) ∙ (ap is_some_in (sym h) ∙ none_length layer none)
@@ -66,10 +75,13 @@ none_flat links (x ∷ xs) h = absurd (true≢false h)
 none_on : (keys : Table Key) (key n m : ℕ) → has_chain keys key n ≡ false → has_chain keys key (n + m) ≡ false
 unfolding has_chain level
 none_on keys key n zero h = simp unary_clauses h
-none_on keys key n (suc m) h = simp unary_clauses (none_flat (nested_in keys) (level (nested_in keys) (key ∷ []) (n + m)) (none_on keys key n m h))
+none_on keys key n (suc m) h =
+    simp unary_clauses (none_flat (nested_in keys) (level (nested_in keys) (key ∷ []) (n + m))
+    (none_on keys key n m h))
 
 -- and no longer one
-pub none_longer : (keys : Table Key) (key n m : ℕ) → n ≤ m → has_chain keys key n ≡ false → has_chain keys key m ≡ false
+pub none_longer : (keys : Table Key) (key n m : ℕ) → n ≤ m → has_chain keys key n ≡ false
+    → has_chain keys key m ≡ false
 none_longer keys key n m le h =
     let e : n + (m - n) ≡ m = omega arith in
     subst (λ (z : ℕ). has_chain keys key z ≡ false) e (none_on keys key n (m - n) h)

@@ -1,5 +1,6 @@
 -- Laws of lists of serials, and of joining them.
-use Rattle.std.proofs.Common.{◌≡◌, ◌⊎◌, ℕ, ◌==◌, ◌||◌, List, [], ◌∷◌, ◌++◌, Bool, true, false, cond, refl, ap, ◌∙◌, sym, subst, inl, inr, ⊎_elim, arith, append_assoc}
+use Rattle.std.proofs.Common.{◌≡◌, ◌⊎◌, ℕ, ◌==◌, ◌||◌, List, [], ◌∷◌, ◌++◌, Bool, true, false, cond, refl, ap, ◌∙◌}
+use Rattle.std.proofs.Common.{sym, subst, inl, inr, ⊎_elim, arith, append_assoc}
 use Rattle.std.proofs.lemmas.Bool.{true≢false}
 use Rattle.std.proofs.lemmas.Bool.Decides.{nat_tests}
 use Rattle.std.proofs.lemmas.List.{append-nil}
@@ -34,7 +35,8 @@ in_tail k x xs h = or_right (x == k) (is_in k xs) h
 
 pub in_cons : (k x : ℕ) (xs : List ℕ) → is_in k (x ∷ xs) ≡ true → (k ≡ x) ⊎ (is_in k xs ≡ true)
 in_cons k x xs h =
-    ⊎_elim (λ (e : (x == k) ≡ true). inl (sym (is_same x k e))) (λ (m : is_in k xs ≡ true). inr m) (or_one (x == k) (is_in k xs) h)
+    ⊎_elim (λ (e : (x == k) ≡ true). inl (sym (is_same x k e))) (λ (m : is_in k xs ≡ true). inr m)
+    (or_one (x == k) (is_in k xs) h)
 
 pub in_append : (k : ℕ) (xs ys : List ℕ) → is_in k (xs ++ ys) ≡ (is_in k xs || is_in k ys)
 in_append k xs ys = list_any-append (λ q. q == k) xs ys
@@ -66,7 +68,8 @@ fresh seen (x ∷ xs) = cond (is_in x seen) (fresh seen xs) (x ∷ fresh (seen +
 pub join_fresh : (seen xs : List ℕ) → join seen xs ≡ seen ++ fresh seen xs
 join_fresh seen [] = sym (append-nil seen)
 join_fresh seen (x ∷ xs) =
-    elim (is_in x seen) as (λ b. join (cond b seen (seen ++ x ∷ [])) xs ≡ seen ++ cond b (fresh seen xs) (x ∷ fresh (seen ++ x ∷ []) xs)) [
+    elim (is_in x seen) as (λ b. join (cond b seen (seen ++ x ∷ [])) xs
+    ≡ seen ++ cond b (fresh seen xs) (x ∷ fresh (seen ++ x ∷ []) xs)) [
       | true ↦ join_fresh seen xs
       | false ↦ join_fresh (seen ++ x ∷ []) xs ∙ append_assoc seen (x ∷ []) (fresh (seen ++ x ∷ []) xs)
     ]
@@ -79,7 +82,8 @@ join_append seen (x ∷ xs) ys = join_append (cond (is_in x seen) seen (seen ++ 
 pub join_within : (seen xs : List ℕ) → Within xs seen → join seen xs ≡ seen
 join_within seen [] h = refl
 join_within seen (x ∷ xs) h =
-    ap (λ b. join (cond b seen (seen ++ x ∷ [])) xs) (h x (in_head x xs)) ∙ join_within seen xs (λ k m. h k (in_tail k x xs m))
+    ap (λ b. join (cond b seen (seen ++ x ∷ [])) xs) (h x (in_head x xs))
+    ∙ join_within seen xs (λ k m. h k (in_tail k x xs m))
 
 pub in_join_left : (seen xs : List ℕ) (k : ℕ) → is_in k seen ≡ true → is_in k (join seen xs) ≡ true
 in_join_left seen xs k h = ap (is_in k) (join_fresh seen xs) ∙ in_left k seen (fresh seen xs) h
@@ -99,10 +103,12 @@ pub in_join : (seen xs : List ℕ) (k : ℕ) → is_in k (join seen xs) ≡ true
 in_join seen [] k h = inl h
 in_join seen (x ∷ xs) k h =
     ⊎_elim (λ (m : is_in k (cond (is_in x seen) seen (seen ++ x ∷ [])) ≡ true).
-    elim (is_in x seen) as (λ b. is_in k (cond b seen (seen ++ x ∷ [])) ≡ true → (is_in k seen ≡ true) ⊎ (is_in k (x ∷ xs) ≡ true)) [
+    elim (is_in x seen) as (λ b. is_in k (cond b seen (seen ++ x ∷ [])) ≡ true
+    → (is_in k seen ≡ true) ⊎ (is_in k (x ∷ xs) ≡ true)) [
       | true ↦ λ n. inl n
       | false ↦ λ n. ⊎_elim (λ (l : is_in k seen ≡ true). inl l)
-          (λ (r : is_in k (x ∷ []) ≡ true). inr (subst (λ (z : ℕ). is_in z (x ∷ xs) ≡ true) (sym (in_single k x r)) (in_head x xs)))
+          (λ (r : is_in k (x ∷ []) ≡ true). inr (subst (λ (z : ℕ). is_in z (x ∷ xs) ≡ true) (sym (in_single k x r))
+          (in_head x xs)))
           (in_one k seen (x ∷ []) n)
     ] m)
     (λ (m : is_in k xs ≡ true). inr (in_tail k x xs m))
@@ -111,7 +117,8 @@ in_join seen (x ∷ xs) k h =
 pub any_at : (p : ℕ → Bool) (x : ℕ) (xs : List ℕ) → is_in x xs ≡ true → p x ≡ true → list_any p xs ≡ true
 any_at p x [] h t = absurd (in_none x h)
 any_at p x (y ∷ xs) h t =
-    ⊎_elim (λ (e : x ≡ y). or_left (p y) (list_any p xs) (sym (ap p e) ∙ t)) (λ (m : is_in x xs ≡ true). or_right (p y) (list_any p xs) (any_at p x xs m t)) (in_cons x y xs h)
+    ⊎_elim (λ (e : x ≡ y). or_left (p y) (list_any p xs) (sym (ap p e) ∙ t))
+    (λ (m : is_in x xs ≡ true). or_right (p y) (list_any p xs) (any_at p x xs m t)) (in_cons x y xs h)
 
 or_twice : (a b c : Bool) → (b ≡ true → a ≡ true) → (a || c) ≡ (a || (b || c))
 or_twice true b c h = refl
@@ -122,7 +129,10 @@ or_twice false false c h = refl
 pub any_join : (p : ℕ → Bool) (seen xs : List ℕ) → list_any p (join seen xs) ≡ list_any p (seen ++ xs)
 any_join p seen [] = ap (list_any p) (sym (append-nil seen))
 any_join p seen (x ∷ xs) =
-    elim (is_in x seen) as (λ b. is_in x seen ≡ b → list_any p (join (cond b seen (seen ++ x ∷ [])) xs) ≡ list_any p (seen ++ x ∷ xs)) [
-      | true ↦ λ m. any_join p seen xs ∙ (list_any-append p seen xs ∙ (or_twice (list_any p seen) (p x) (list_any p xs) (λ t. any_at p x seen m t) ∙ sym (list_any-append p seen (x ∷ xs))))
+    elim (is_in x seen) as (λ b. is_in x seen ≡ b → list_any p (join (cond b seen (seen ++ x ∷ [])) xs)
+    ≡ list_any p (seen ++ x ∷ xs)) [
+      | true ↦ λ m. any_join p seen xs ∙ (list_any-append p seen xs
+          ∙ (or_twice (list_any p seen) (p x) (list_any p xs) (λ t. any_at p x seen m t)
+          ∙ sym (list_any-append p seen (x ∷ xs))))
       | false ↦ λ m. any_join p (seen ++ x ∷ []) xs ∙ ap (list_any p) (append_assoc seen (x ∷ []) xs)
     ] refl

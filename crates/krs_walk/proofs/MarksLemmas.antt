@@ -1,5 +1,6 @@
 -- Laws of marks, and how many serials a list has that has none twice.
-use Rattle.std.proofs.Common.{◌≡◌, ◌≤◌, ◌<◌, ◌^◌, ◌==◌, ◌||◌, ℕ, Bool, true, false, cond, List, [], ◌∷◌, ◌++◌, length, eqb, refl, ap, ◌∙◌, sym, arith, ⊎_elim}
+use Rattle.std.proofs.Common.{◌≡◌, ◌≤◌, ◌<◌, ◌^◌, ◌==◌, ◌||◌, ℕ, Bool, true, false, cond, List, [], ◌∷◌, ◌++◌, length}
+use Rattle.std.proofs.Common.{eqb, refl, ap, ◌∙◌, sym, arith, ⊎_elim}
 use Rattle.std.proofs.lemmas.Bool.Decides.{nat_tests}
 use Rattle.std.proofs.lemmas.Map.Keys.{IsDistinct-push}
 use Rattle.std.proofs.lemmas.Map.Steps.{length-le_from_distinct_below}
@@ -16,9 +17,11 @@ added : (k key : ℕ) (b : Bool) → cond (is_at (nat_cmp key) k) true b ≡ (b 
 added k key true = elim (is_at (nat_cmp key) k) as (λ d. cond d true true ≡ true) [ true ↦ refl | false ↦ refl ]
 added k key false = grind (arith, nat_tests, unsigned_tied key k)
 
-pub marked_push : (keys : List ℕ) (k number key : ℕ) (b : Bool) → number ≡ key → b ≡ is_in k keys → cond (is_at (nat_cmp number) k) true b ≡ is_in k (keys ++ key ∷ [])
+pub marked_push : (keys : List ℕ) (k number key : ℕ) (b : Bool) → number ≡ key → b ≡ is_in k keys
+    → cond (is_at (nat_cmp number) k) true b ≡ is_in k (keys ++ key ∷ [])
 marked_push keys k number key b e h =
-    ap (λ (z : ℕ). cond (is_at (nat_cmp z) k) true b) e ∙ (added k key b ∙ (ap (λ d. d || ((key == k) || false)) h ∙ sym (in_append k keys (key ∷ []))))
+    ap (λ (z : ℕ). cond (is_at (nat_cmp z) k) true b) e ∙ (added k key b
+    ∙ (ap (λ d. d || ((key == k) || false)) h ∙ sym (in_append k keys (key ∷ []))))
 
 pub none_twice : (keys : List ℕ) → keys ≡ [] → IsDistinct eqb keys
 unfolding IsDistinct
@@ -30,12 +33,15 @@ swapped x k = grind (arith, nat_tests)
 -- the test of a member, with its sides changed
 pub member_is_in : (k : ℕ) (keys : List ℕ) → list_any (eqb k) keys ≡ is_in k keys
 member_is_in k [] = refl
-member_is_in k (x ∷ keys) = ap (λ b. b || list_any (eqb k) keys) (swapped k x) ∙ ap (λ b. (x == k) || b) (member_is_in k keys)
+member_is_in k (x ∷ keys) =
+    ap (λ b. b || list_any (eqb k) keys) (swapped k x) ∙ ap (λ b. (x == k) || b) (member_is_in k keys)
 
-pub distinct_push : (keys : List ℕ) (key : ℕ) → IsDistinct eqb keys → is_in key keys ≡ false → IsDistinct eqb (keys ++ key ∷ [])
+pub distinct_push : (keys : List ℕ) (key : ℕ) → IsDistinct eqb keys → is_in key keys ≡ false
+    → IsDistinct eqb (keys ++ key ∷ [])
 distinct_push keys key d h = IsDistinct-push nat_eq_equiv keys key d (member_is_in key keys ∙ h)
 
-pub small_push : (keys : List ℕ) (key : ℕ) → ((k : ℕ) → is_in k keys ≡ true → k < 2 ^ 32) → key < 2 ^ 32 → (k : ℕ) → is_in k (keys ++ key ∷ []) ≡ true → k < 2 ^ 32
+pub small_push : (keys : List ℕ) (key : ℕ) → ((k : ℕ) → is_in k keys ≡ true → k < 2 ^ 32) → key < 2 ^ 32 → (k : ℕ)
+    → is_in k (keys ++ key ∷ []) ≡ true → k < 2 ^ 32
 small_push keys key h l k m =
     ⊎_elim (λ (w : is_in k keys ≡ true). h k w)
     (λ (r : is_in k (key ∷ []) ≡ true). let e : k ≡ key = in_single k key r in omega (arith, l, e))

@@ -1,5 +1,6 @@
 -- One key of a level, in the walk by levels.
-use Rattle.std.proofs.Common.{◌≡◌, ◌≤◌, ◌<◌, arith, ◌+◌, ℕ, ◌||◌, Bool, true, false, List, [], ◌++◌, length, take, drop, get_or, refl, ap, ◌∙◌, sym, append_assoc}
+use Rattle.std.proofs.Common.{◌≡◌, ◌≤◌, ◌<◌, arith, ◌+◌, ℕ, ◌||◌, Bool, true, false, List, [], ◌++◌, length, take}
+use Rattle.std.proofs.Common.{drop, get_or, refl, ap, ◌∙◌, sym, append_assoc}
 use Rattle.std.proofs.lemmas.List.{take_at, drop_all, drop_more, get_or_append_left, length-append, take-append-drop}
 use Rattle.std.proofs.lemmas.List.Folds.{list_any-append}
 use Rattle.std.specs.List.{flat_map, list_any}
@@ -18,28 +19,40 @@ pub record IsRound (f : ℕ → List ℕ) (first all : List ℕ) (start place : 
   pub rest : join all (flat_map f (drop place first)) ≡ join first (flat_map f (drop start first))
   pub grown : Grown first all
 
-pub round_more : (f : ℕ → List ℕ) (first all next : List ℕ) (start place here : ℕ) → IsRound f first all start place → place < length first → here ≡ get_or all place 0 → next ≡ join all (f here) → IsRound f first next start (place + 1)
+pub round_more : (f : ℕ → List ℕ) (first all next : List ℕ) (start place here : ℕ) → IsRound f first all start place
+    → place < length first → here ≡ get_or all place 0 → next ≡ join all (f here)
+    → IsRound f first next start (place + 1)
 round_more f first all next start place here r lt h e =
-    let same : here ≡ get_or first place 0 = h ∙ (ap (λ zs. get_or zs place 0) r.grown.1 ∙ get_or_append_left first r.grown.0 0 place lt) in
+    let same : here ≡ get_or first place 0 =
+    h ∙ (ap (λ zs. get_or zs place 0) r.grown.1 ∙ get_or_append_left first r.grown.0 0 place lt) in
     record {
       rest = ap (λ zs. join zs (flat_map f (drop (place + 1) first))) (e ∙ ap (λ k. join all (f k)) same)
           ∙ (sym (join_append all (f (get_or first place 0)) (flat_map f (drop (place + 1) first)))
           ∙ (ap (λ zs. join all (flat_map f zs)) (sym (drop_more first place 0 lt)) ∙ r.rest));
-      grown = (r.grown.0 ++ fresh all (f here), e ∙ (join_fresh all (f here) ∙ (ap (λ zs. zs ++ fresh all (f here)) r.grown.1 ∙ append_assoc first r.grown.0 (fresh all (f here)))));
+      grown = (
+        r.grown.0 ++ fresh all (f here),
+        e ∙ (join_fresh all (f here)
+            ∙ (ap (λ zs. zs ++ fresh all (f here)) r.grown.1 ∙ append_assoc first r.grown.0 (fresh all (f here)))),
+      );
     }
 
 pub longer : (all xs next : List ℕ) → next ≡ join all xs → length all ≤ length next
 longer all xs next e =
-    let grown : length next ≡ length all + length (fresh all xs) = ap length (e ∙ join_fresh all xs) ∙ length-append all (fresh all xs) in
+    let grown : length next ≡ length all + length (fresh all xs) =
+    ap length (e ∙ join_fresh all xs) ∙ length-append all (fresh all xs) in
     omega arith
 
-any_parts : (p : ℕ → Bool) (start : ℕ) (all : List ℕ) → list_any p all ≡ (list_any p (take start all) || list_any p (drop start all))
-any_parts p start all = ap (list_any p) (sym (take-append-drop start all)) ∙ list_any-append p (take start all) (drop start all)
+any_parts : (p : ℕ → Bool) (start : ℕ) (all : List ℕ) → list_any p all
+    ≡ (list_any p (take start all) || list_any p (drop start all))
+any_parts p start all =
+    ap (list_any p) (sym (take-append-drop start all)) ∙ list_any-append p (take start all) (drop start all)
 
-any_all : (p : ℕ → Bool) (f : ℕ → List ℕ) (heads : List ℕ) (n start : ℕ) (all : List ℕ) → IsAt f heads n start all → list_any p (levels f heads (n + 1)) ≡ list_any p all
+any_all : (p : ℕ → Bool) (f : ℕ → List ℕ) (heads : List ℕ) (n start : ℕ) (all : List ℕ) → IsAt f heads n start all
+    → list_any p (levels f heads (n + 1)) ≡ list_any p all
 any_all p f heads n start all at_level = sym (ap (list_any p) at_level.upto ∙ any_join p [] (levels f heads (n + 1)))
 
-any_up : (p : ℕ → Bool) (f : ℕ → List ℕ) (heads : List ℕ) (n m : ℕ) → n ≤ m → list_any p (levels f heads n) ≡ true → list_any p (levels f heads m) ≡ true
+any_up : (p : ℕ → Bool) (f : ℕ → List ℕ) (heads : List ℕ) (n m : ℕ) → n ≤ m → list_any p (levels f heads n) ≡ true
+    → list_any p (levels f heads m) ≡ true
 any_up p f heads n m le h =
     let r = any_from p (levels f heads n) h in
     any_at p r.0 (levels f heads m) (levels_up f heads r.0 n m le r.1) r.2
@@ -51,21 +64,31 @@ pub record IsSearch (p : ℕ → Bool) (f : ℕ → List ℕ) (heads : List ℕ)
   pub missed : list_any p (take start all) ≡ false
   pub not_yet : list_any p (levels f heads n) ≡ false
 
-pub search_starts : (p : ℕ → Bool) (f : ℕ → List ℕ) (heads all : List ℕ) → all ≡ join [] heads → IsSearch p f heads 0 0 all
+pub search_starts : (p : ℕ → Bool) (f : ℕ → List ℕ) (heads all : List ℕ) → all ≡ join [] heads
+    → IsSearch p f heads 0 0 all
 unfolding levels
-search_starts p f heads all e = record { within = omega arith; walk = at_heads f heads all e; missed = refl; not_yet = refl }
+search_starts p f heads all e =
+    record { within = omega arith; walk = at_heads f heads all e; missed = refl; not_yet = refl }
 
 -- a key of this level passes
-pub search_finds : (p : ℕ → Bool) (f : ℕ → List ℕ) (heads : List ℕ) (n m start : ℕ) (all : List ℕ) → IsSearch p f heads n start all → n < m → list_any p (drop start all) ≡ true → list_any p (levels f heads m) ≡ true
+pub search_finds : (p : ℕ → Bool) (f : ℕ → List ℕ) (heads : List ℕ) (n m start : ℕ) (all : List ℕ)
+    → IsSearch p f heads n start all → n < m → list_any p (drop start all) ≡ true
+    → list_any p (levels f heads m) ≡ true
 search_finds p f heads n m start all s lt h =
     let up : n + 1 ≤ m = omega arith in
-    any_up p f heads (n + 1) m up (any_all p f heads n start all s.walk ∙ (any_parts p start all ∙ or_right (list_any p (take start all)) (list_any p (drop start all)) h))
+    any_up p f heads (n + 1) m up (any_all p f heads n start all s.walk
+    ∙ (any_parts p start all ∙ or_right (list_any p (take start all)) (list_any p (drop start all)) h))
 
 -- none does, and what they link joins the list
-pub search_goes_on : (p : ℕ → Bool) (f : ℕ → List ℕ) (heads : List ℕ) (n start : ℕ) (all next : List ℕ) → IsSearch p f heads n start all → list_any p (drop start all) ≡ false → next ≡ join all (flat_map f (drop start all)) → IsSearch p f heads (n + 1) (length all) next
+pub search_goes_on : (p : ℕ → Bool) (f : ℕ → List ℕ) (heads : List ℕ) (n start : ℕ) (all next : List ℕ)
+    → IsSearch p f heads n start all → list_any p (drop start all) ≡ false
+    → next ≡ join all (flat_map f (drop start all)) → IsSearch p f heads (n + 1) (length all) next
 search_goes_on p f heads n start all next s h e =
-    let none : list_any p all ≡ false = any_parts p start all ∙ (ap (λ b. b || list_any p (drop start all)) s.missed ∙ h) in
-    let front : take (length all) next ≡ all = ap (take (length all)) (e ∙ join_fresh all (flat_map f (drop start all))) ∙ take_at all (fresh all (flat_map f (drop start all))) (length all) refl in
+    let none : list_any p all ≡ false =
+    any_parts p start all ∙ (ap (λ b. b || list_any p (drop start all)) s.missed ∙ h) in
+    let front : take (length all) next ≡ all =
+    ap (take (length all)) (e ∙ join_fresh all (flat_map f (drop start all)))
+    ∙ take_at all (fresh all (flat_map f (drop start all))) (length all) refl in
     record {
       within = longer all (flat_map f (drop start all)) next e;
       walk = at_next f heads n start all next s.walk e;
@@ -81,20 +104,26 @@ search_behind p f heads all next e none j =
     search_goes_on p f heads 0 0 all next (search_starts p f heads all e)
     (ap (list_any p) e ∙ (any_join p [] heads ∙ none)) j
 
-any_here : (p : ℕ → Bool) (all : List ℕ) (place : ℕ) → place < length all → list_any p (drop place all) ≡ (p (get_or all place 0) || list_any p (drop (place + 1) all))
+any_here : (p : ℕ → Bool) (all : List ℕ) (place : ℕ) → place < length all
+    → list_any p (drop place all) ≡ (p (get_or all place 0) || list_any p (drop (place + 1) all))
 any_here p all place lt = ap (list_any p) (drop_more all place 0 lt)
 
 -- one key of a level that passes, or does not
-pub any_passes : (p : ℕ → Bool) (all : List ℕ) (place here : ℕ) → place < length all → here ≡ get_or all place 0 → p here ≡ true → list_any p (drop place all) ≡ true
-any_passes p all place here lt e t = any_here p all place lt ∙ ap (λ b. b || list_any p (drop (place + 1) all)) (sym (ap p e) ∙ t)
+pub any_passes : (p : ℕ → Bool) (all : List ℕ) (place here : ℕ) → place < length all → here ≡ get_or all place 0
+    → p here ≡ true → list_any p (drop place all) ≡ true
+any_passes p all place here lt e t =
+    any_here p all place lt ∙ ap (λ b. b || list_any p (drop (place + 1) all)) (sym (ap p e) ∙ t)
 
-pub any_fails : (p : ℕ → Bool) (all : List ℕ) (place here : ℕ) → place < length all → here ≡ get_or all place 0 → p here ≡ false → list_any p (drop (place + 1) all) ≡ list_any p (drop place all)
-any_fails p all place here lt e t = sym (any_here p all place lt ∙ ap (λ b. b || list_any p (drop (place + 1) all)) (sym (ap p e) ∙ t))
+pub any_fails : (p : ℕ → Bool) (all : List ℕ) (place here : ℕ) → place < length all → here ≡ get_or all place 0
+    → p here ≡ false → list_any p (drop (place + 1) all) ≡ list_any p (drop place all)
+any_fails p all place here lt e t =
+    sym (any_here p all place lt ∙ ap (λ b. b || list_any p (drop (place + 1) all)) (sym (ap p e) ∙ t))
 
 pub any_past : (p : ℕ → Bool) (all : List ℕ) (place : ℕ) → length all ≤ place → list_any p (drop place all) ≡ false
 any_past p all place le = ap (list_any p) (drop_all place all le)
 
 -- a head passes
-pub head_passes : (p : ℕ → Bool) (f : ℕ → List ℕ) (heads : List ℕ) (m : ℕ) → 1 ≤ m → list_any p heads ≡ true → list_any p (levels f heads m) ≡ true
+pub head_passes : (p : ℕ → Bool) (f : ℕ → List ℕ) (heads : List ℕ) (m : ℕ) → 1 ≤ m → list_any p heads ≡ true
+    → list_any p (levels f heads m) ≡ true
 unfolding level levels
 head_passes p f heads m le h = any_up p f heads 1 m le h

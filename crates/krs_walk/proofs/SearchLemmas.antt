@@ -1,5 +1,6 @@
 -- What a keyring's links come to in a search, and those of a level.
-use Rattle.std.proofs.Common.{◌≡◌, ℕ, ◌&&◌, Bool, true, false, cond, List, [], ◌∷◌, filter, None, Some, Err, refl, ap, ◌∙◌, sym}
+use Rattle.std.proofs.Common.{◌≡◌, ℕ, ◌&&◌, Bool, true, false, cond, List, [], ◌∷◌, filter, None, Some, Err, refl, ap}
+use Rattle.std.proofs.Common.{◌∙◌, sym}
 use Rattle.std.proofs.lemmas.Bool.{true≢false}
 use Rattle.krs_types.specs.declared.errno.Errno.{Errno}
 use Rattle.krs_model.specs.Table.{Table, at}
@@ -22,18 +23,21 @@ use Rattle.krs_walk.proofs.ListsLemmas.{in_head}
 use Rattle.krs_walk.proofs.KeyringsLemmas.{nested_serials}
 use Rattle.krs_walk.proofs.SoughtLemmas.{next_none, seen_there, unseen}
 
-a_link : (content : Content) → links_some content ≡ true → (k : ℕ) × (is_in k (links_of (seen_content content)) ≡ true)
+a_link : (content : Content) → links_some content ≡ true → (k : ℕ)
+    × (is_in k (links_of (seen_content content)) ≡ true)
 a_link (Payload bytes) h = absurd (true≢false (sym h))
 a_link (Links []) h = absurd (true≢false (sym h))
 a_link (Links (link ∷ links)) h = (link.1, in_head link.1 (serials links))
 
 -- what links is a keyring
-pub linking_ring : (keys : Table Key) (ring : ℕ) (key : Key) → OnlyRingsLink (shown keys) → at keys ring ≡ Some key → links_some key.content ≡ true → is_ring (at (shown keys) ring) ≡ true
+pub linking_ring : (keys : Table Key) (ring : ℕ) (key : Key) → OnlyRingsLink (shown keys) → at keys ring ≡ Some key
+    → links_some key.content ≡ true → is_ring (at (shown keys) ring) ≡ true
 linking_ring keys ring key only there h =
     let k = a_link key.content h in
     only ring k.0 (ap (λ o. is_in k.0 (linked_by o)) (seen_there keys ring key there) ∙ k.1)
 
-opened : (content : Content) (b : Bool) → cond b (links_of (seen_content content)) [] ≡ cond (links_some content && b) (serials (content_links content)) []
+opened : (content : Content) (b : Bool) → cond b (links_of (seen_content content)) []
+    ≡ cond (links_some content && b) (serials (content_links content)) []
 opened (Payload bytes) true = refl
 opened (Payload bytes) false = refl
 opened (Links []) true = refl
@@ -41,26 +45,33 @@ opened (Links []) false = refl
 opened (Links (link ∷ links)) b = refl
 
 -- the links that are examined of a key that is there
-pub entered_there : (s : Search) (ring : ℕ) (key : Key) (b : Bool) → at s.keys.now.keys ring ≡ Some key → (links_some key.content && is_open (searcher_for s) ring (seen key)) ≡ b →
+pub entered_there : (s : Search) (ring : ℕ) (key : Key) (b : Bool) → at s.keys.now.keys ring ≡ Some key
+    → (links_some key.content && is_open (searcher_for s) ring (seen key)) ≡ b →
     entered (searcher_for s) ring ≡ cond b (serials (content_links key.content)) []
 entered_there s ring key b there h =
     ap (open_links (searcher_for s) ring) (seen_there s.keys.now.keys ring key there)
-    ∙ (opened key.content (is_open (searcher_for s) ring (seen key)) ∙ ap (λ (d : Bool). cond d (serials (content_links key.content)) []) h)
+    ∙ (opened key.content (is_open (searcher_for s) ring (seen key))
+    ∙ ap (λ (d : Bool). cond d (serials (content_links key.content)) []) h)
 
 pub entered_absent : (s : Search) (ring : ℕ) → at s.keys.now.keys ring ≡ None → entered (searcher_for s) ring ≡ []
 entered_absent s ring none = ap (open_links (searcher_for s) ring) (unseen s.keys.now.keys ring none)
 
-pub rings_entered : (s : Search) (ring : ℕ) (key : Key) → AreFit s.keys.now.keys → at s.keys.now.keys ring ≡ Some key → (links_some key.content && is_open (searcher_for s) ring (seen key)) ≡ true →
+pub rings_entered : (s : Search) (ring : ℕ) (key : Key) → AreFit s.keys.now.keys → at s.keys.now.keys ring ≡ Some key
+    → (links_some key.content && is_open (searcher_for s) ring (seen key)) ≡ true →
     entered_rings (searcher_for s) ring ≡ serials (nested (content_links key.content))
 rings_entered s ring key fit there h =
     let passes = λ (k : ℕ). is_ring (at (shown s.keys.now.keys) k) in
-    ap (filter passes) (entered_there s ring key true there h) ∙ sym (nested_serials s.keys.now.keys (content_links key.content) (fit ring key there))
+    ap (filter passes) (entered_there s ring key true there h)
+    ∙ sym (nested_serials s.keys.now.keys (content_links key.content) (fit ring key there))
 
 -- a keyring of which nothing is examined
-pub nothing_sought : (s : Search) (ring : ℕ) (fault : Errno) → entered (searcher_for s) ring ≡ [] → Err fault ≡ or_next (Err fault) (sought_in s (entered (searcher_for s) ring))
-nothing_sought s ring fault h = sym (ap (λ (zs : List ℕ). or_next (Err fault) (sought_in s zs)) h ∙ next_none (Err fault))
+pub nothing_sought : (s : Search) (ring : ℕ) (fault : Errno) → entered (searcher_for s) ring ≡ []
+    → Err fault ≡ or_next (Err fault) (sought_in s (entered (searcher_for s) ring))
+nothing_sought s ring fault h =
+    sym (ap (λ (zs : List ℕ). or_next (Err fault) (sought_in s zs)) h ∙ next_none (Err fault))
 
-pub nothing_joined : (s : Search) (ring : ℕ) (all : List ℕ) → entered (searcher_for s) ring ≡ [] → all ≡ join all (entered_rings (searcher_for s) ring)
+pub nothing_joined : (s : Search) (ring : ℕ) (all : List ℕ) → entered (searcher_for s) ring ≡ []
+    → all ≡ join all (entered_rings (searcher_for s) ring)
 nothing_joined s ring all h =
     let passes = λ (k : ℕ). is_ring (at (shown s.keys.now.keys) k) in
     sym (ap (λ (zs : List ℕ). join all (filter passes zs)) h)

@@ -1,5 +1,6 @@
 -- What keys come to in a search, one by one and joined.
-use Rattle.std.proofs.Common.{◌≡◌, ℕ, ◌&&◌, ◌||◌, nat_lt, Bool, true, false, not, cond, [], ◌∷◌, Option, None, Some, Result, Ok, Err, refl, ap, ◌∙◌, sym, arith}
+use Rattle.std.proofs.Common.{◌≡◌, ℕ, ◌&&◌, ◌||◌, nat_lt, Bool, true, false, not, cond, [], ◌∷◌, Option, None, Some}
+use Rattle.std.proofs.Common.{Result, Ok, Err, refl, ap, ◌∙◌, sym, arith}
 use Rattle.std.specs.List.{find}
 use Rattle.std.specs.Option.{option_map}
 use Rattle.std.proofs.lemmas.Bool.Decides.{nat_tests}
@@ -12,7 +13,8 @@ use Rattle.krs_model.specs.Table.{Table, at}
 use Rattle.krs_model.specs.State as model
 use Rattle.krs_model.specs.Access.{is_over}
 use Rattle.krs_model.specs.Linking.{is_named}
-use Rattle.krs_model.specs.Search.{Searcher, grants_search, is_open, is_match, fault, sought, weight, weightier, or_next}
+use Rattle.krs_model.specs.Search.{Searcher, grants_search, is_open, is_match, fault, sought, weight, weightier}
+use Rattle.krs_model.specs.Search.{or_next}
 use Rattle.krs_model.proofs.Tables.{at_map}
 use Rattle.krs_model.proofs.Searching.{sought_append}
 use Rattle.krs_links.specs.Links.{LinkList, serials, linked_as}
@@ -36,15 +38,19 @@ no_less m n k h i = grind (arith, nat_tests)
 
 weightiest : (e f g : Errno) → weightier (weightier e f) g ≡ weightier e (weightier f g)
 weightiest e f g =
-    elim (nat_lt (weight e) (weight f)) as (λ a. nat_lt (weight e) (weight f) ≡ a → weightier (cond a f e) g ≡ weightier e (weightier f g)) [
-      | true ↦ λ t. elim (nat_lt (weight f) (weight g)) as (λ b. nat_lt (weight f) (weight g) ≡ b → cond b g f ≡ weightier e (cond b g f)) [
-        | true ↦ λ u. sym (ap (λ b. cond b g e) (less_on (weight e) (weight f) (weight g) t u))
-        | false ↦ λ u. sym (ap (λ b. cond b f e) t)
-      ] refl
-      | false ↦ λ t. elim (nat_lt (weight f) (weight g)) as (λ b. nat_lt (weight f) (weight g) ≡ b → weightier e g ≡ weightier e (cond b g f)) [
-        | true ↦ λ u. refl
-        | false ↦ λ u. ap (λ b. cond b g e) (no_less (weight e) (weight f) (weight g) t u) ∙ sym (ap (λ b. cond b f e) t)
-      ] refl
+    elim (nat_lt (weight e) (weight f)) as (λ a. nat_lt (weight e) (weight f) ≡ a
+    → weightier (cond a f e) g ≡ weightier e (weightier f g)) [
+      | true ↦ λ t. elim (nat_lt (weight f) (weight g)) as (λ b. nat_lt (weight f) (weight g) ≡ b
+          → cond b g f ≡ weightier e (cond b g f)) [
+            | true ↦ λ u. sym (ap (λ b. cond b g e) (less_on (weight e) (weight f) (weight g) t u))
+            | false ↦ λ u. sym (ap (λ b. cond b f e) t)
+          ] refl
+      | false ↦ λ t. elim (nat_lt (weight f) (weight g)) as (λ b. nat_lt (weight f) (weight g) ≡ b
+          → weightier e g ≡ weightier e (cond b g f)) [
+            | true ↦ λ u. refl
+            | false ↦ λ u. ap (λ b. cond b g e) (no_less (weight e) (weight f) (weight g) t u)
+                ∙ sym (ap (λ b. cond b f e) t)
+          ] refl
     ] refl
 
 pub next_next : (a b c : Result ℕ Errno) → or_next (or_next a b) c ≡ or_next a (or_next b c)
@@ -60,22 +66,29 @@ verdict named revoked over granted serial =
     (cond (named && ((not revoked && not over) && granted)) (Some serial) None)
 
 one_key : (by : Searcher) (name : Name) (serial : ℕ) (key : model.Key) → at by.keys serial ≡ Some key →
-    sought by name (serial ∷ []) ≡ verdict (is_named name (Some key)) key.revoked (is_over by.clock key.expiry) (grants_search by serial key) serial
+    sought by name (serial ∷ []) ≡ verdict (is_named name (Some key)) key.revoked (is_over by.clock key.expiry)
+    (grants_search by serial key) serial
 one_key by name serial key there =
-    ap (λ o. or_refuse (fault (is_match name (λ (k : model.Key). k.revoked) o || false) (is_match name (λ (k : model.Key). is_over by.clock k.expiry) o || false) (is_match name (λ (k : model.Key). not (grants_search by serial k)) o || false))
+    ap (λ o. or_refuse (fault (is_match name (λ (k : model.Key). k.revoked) o || false)
+    (is_match name (λ (k : model.Key). is_over by.clock k.expiry) o || false)
+    (is_match name (λ (k : model.Key). not (grants_search by serial k)) o || false))
     (cond (is_match name (is_open by serial) o) (Some serial) None)) there
 
-pub key_comes_to : (by : Searcher) (name : Name) (serial : ℕ) (key : model.Key) (named revoked over granted : Bool) → at by.keys serial ≡ Some key →
-    is_named name (Some key) ≡ named → key.revoked ≡ revoked → is_over by.clock key.expiry ≡ over → grants_search by serial key ≡ granted →
+pub key_comes_to : (by : Searcher) (name : Name) (serial : ℕ) (key : model.Key) (named revoked over granted : Bool)
+    → at by.keys serial ≡ Some key →
+    is_named name (Some key) ≡ named → key.revoked ≡ revoked → is_over by.clock key.expiry ≡ over
+    → grants_search by serial key ≡ granted →
     sought by name (serial ∷ []) ≡ verdict named revoked over granted serial
 key_comes_to by name serial key named revoked over granted there a b c d = one_key by name serial key there ∙ cc
 
-unnamed_matches : (name : Name) (holds : model.Key → Bool) (o : Option model.Key) → is_named name o ≡ false → is_match name holds o ≡ false
+unnamed_matches : (name : Name) (holds : model.Key → Bool) (o : Option model.Key) → is_named name o ≡ false
+    → is_match name holds o ≡ false
 unnamed_matches name holds None h = refl
 unnamed_matches name holds (Some key) h = ap (λ b. b && holds key) h
 
 -- a key of another name, or none
-pub unnamed_comes_to : (by : Searcher) (name : Name) (serial : ℕ) → is_named name (at by.keys serial) ≡ false → sought by name (serial ∷ []) ≡ Err ENOKEY
+pub unnamed_comes_to : (by : Searcher) (name : Name) (serial : ℕ) → is_named name (at by.keys serial) ≡ false
+    → sought by name (serial ∷ []) ≡ Err ENOKEY
 unnamed_comes_to by name serial h =
     rw (
       unnamed_matches name (is_open by serial) (at by.keys serial) h,
@@ -85,7 +98,8 @@ unnamed_comes_to by name serial h =
     ) refl
 
 -- a key that is there is seen there
-pub seen_there : (keys : Table Key) (serial : ℕ) (key : Key) → at keys serial ≡ Some key → at (shown keys) serial ≡ Some (seen key)
+pub seen_there : (keys : Table Key) (serial : ℕ) (key : Key) → at keys serial ≡ Some key
+    → at (shown keys) serial ≡ Some (seen key)
 seen_there keys serial key there = at_map seen keys serial ∙ ap (option_map seen) there
 
 pub unseen : (keys : Table Key) (serial : ℕ) → at keys serial ≡ None → at (shown keys) serial ≡ None
@@ -97,15 +111,21 @@ sought_link by name None = Err ENOKEY
 sought_link by name (Some serial) = sought by name (serial ∷ [])
 
 -- among the links of a keyring no other than that of the name counts
-pub links_come_to : (keys : Table Key) (by : Searcher) (name : Name) (links : LinkList) → by.keys ≡ shown keys → AreNamed (name_at keys) links → sought by name (serials links) ≡ sought_link by name (linked_as links name)
+pub links_come_to : (keys : Table Key) (by : Searcher) (name : Name) (links : LinkList) → by.keys ≡ shown keys
+    → AreNamed (name_at keys) links → sought by name (serials links) ≡ sought_link by name (linked_as links name)
 links_come_to keys by name [] same named = refl
 links_come_to keys by name (link ∷ links) same named =
     sought_append by name (link.1 ∷ []) (serials links)
-    ∙ (elim (same_name name link.0) as (λ b. same_name name link.0 ≡ b → or_next (sought by name (link.1 ∷ [])) (sought by name (serials links)) ≡ sought_link by name (option_map (λ (l : Name × ℕ). l.1) (cond b (Some link) (find (λ (l : Name × ℕ). same_name name l.0) links)))) [
+    ∙ (elim (same_name name link.0) as (λ b. same_name name link.0 ≡ b
+    → or_next (sought by name (link.1 ∷ [])) (sought by name (serials links))
+    ≡ sought_link by name (option_map (λ (l : Name × ℕ). l.1)
+    (cond b (Some link) (find (λ (l : Name × ℕ). same_name name l.0) links)))) [
       | true ↦ λ t. ap (or_next (sought by name (link.1 ∷ [])))
-          (links_come_to keys by name links same named.1 ∙ ap (sought_link by name) (ap (linked_as links) (equal_names name link.0 t) ∙ named.2))
+          (links_come_to keys by name links same named.1 ∙ ap (sought_link by name)
+          (ap (linked_as links) (equal_names name link.0 t) ∙ named.2))
           ∙ next_none (sought by name (link.1 ∷ []))
       | false ↦ λ t. ap (λ r. or_next r (sought by name (serials links)))
-          (unnamed_comes_to by name link.1 (ap (λ (ks : Table model.Key). is_named name (at ks link.1)) same ∙ (named_at keys name link.0 link.1 named.0 ∙ t)))
+          (unnamed_comes_to by name link.1 (ap (λ (ks : Table model.Key). is_named name (at ks link.1)) same
+          ∙ (named_at keys name link.0 link.1 named.0 ∙ t)))
           ∙ (sym (sought_append by name [] (serials links)) ∙ links_come_to keys by name links same named.1)
     ] refl)

@@ -12,33 +12,47 @@ use Rattle.krs_walk.proofs.RoundsLemmas.{IsRound, Grown, round_more, longer}
 use Rattle.krs_walk.proofs.SoughtLemmas.{next_next}
 
 -- the keyrings of a level before this place were visited: their links have this fault, what is left gives the rest
-pub record IsVisit (by : Searcher) (name : Name) (first all : List ℕ) (start place : ℕ) (before fault : Errno) : Type 0 where
+pub record IsVisit (by : Searcher) (name : Name) (first all : List ℕ) (start place : ℕ)
+    (before fault : Errno) : Type 0 where
   pub within : length first ≤ length all
   pub round : IsRound (entered_rings by) first all start place
-  pub left : or_next (Err fault) (sought by name (flat_map (entered by) (drop place first))) ≡ or_next (Err before) (sought by name (flat_map (entered by) (drop start first)))
+  pub left : or_next (Err fault) (sought by name (flat_map (entered by) (drop place first)))
+      ≡ or_next (Err before) (sought by name (flat_map (entered by) (drop start first)))
 
 one_visit : (by : Searcher) (name : Name) (first : List ℕ) (place : ℕ) (fault : Errno) → place < length first →
     or_next (Err fault) (sought by name (flat_map (entered by) (drop place first)))
-    ≡ or_next (or_next (Err fault) (sought by name (entered by (get_or first place 0)))) (sought by name (flat_map (entered by) (drop (place + 1) first)))
+    ≡ or_next (or_next (Err fault) (sought by name (entered by (get_or first place 0))))
+    (sought by name (flat_map (entered by) (drop (place + 1) first)))
 one_visit by name first place fault lt =
     ap (λ (zs : List ℕ). or_next (Err fault) (sought by name (flat_map (entered by) zs))) (drop_more first place 0 lt)
-    ∙ (ap (or_next (Err fault)) (sought_append by name (entered by (get_or first place 0)) (flat_map (entered by) (drop (place + 1) first)))
-    ∙ sym (next_next (Err fault) (sought by name (entered by (get_or first place 0))) (sought by name (flat_map (entered by) (drop (place + 1) first)))))
+    ∙ (ap (or_next (Err fault)) (sought_append by name (entered by (get_or first place 0))
+    (flat_map (entered by) (drop (place + 1) first)))
+    ∙ sym (next_next (Err fault) (sought by name (entered by (get_or first place 0)))
+    (sought by name (flat_map (entered by) (drop (place + 1) first)))))
 
-same_place : (first all : List ℕ) (place here : ℕ) → Grown first all → place < length first → here ≡ get_or all place 0 → here ≡ get_or first place 0
-same_place first all place here grown lt e = e ∙ (ap (λ zs. get_or zs place 0) grown.1 ∙ get_or_append_left first grown.0 0 place lt)
+same_place : (first all : List ℕ) (place here : ℕ) → Grown first all → place < length first
+    → here ≡ get_or all place 0 → here ≡ get_or first place 0
+same_place first all place here grown lt e =
+    e ∙ (ap (λ zs. get_or zs place 0) grown.1 ∙ get_or_append_left first grown.0 0 place lt)
 
 -- what the visit of one keyring comes to
-pub visited : (by : Searcher) (name : Name) (first all : List ℕ) (start place here : ℕ) (before fault : Errno) (r : Result ℕ Errno) → IsVisit by name first all start place before fault → place < length first → here ≡ get_or all place 0 →
+pub visited : (by : Searcher) (name : Name) (first all : List ℕ) (start place here : ℕ) (before fault : Errno)
+    (r : Result ℕ Errno) → IsVisit by name first all start place before fault → place < length first
+    → here ≡ get_or all place 0 →
     r ≡ or_next (Err fault) (sought by name (entered by here)) →
-    or_next r (sought by name (flat_map (entered by) (drop (place + 1) first))) ≡ or_next (Err before) (sought by name (flat_map (entered by) (drop start first)))
+    or_next r (sought by name (flat_map (entered by) (drop (place + 1) first)))
+    ≡ or_next (Err before) (sought by name (flat_map (entered by) (drop start first)))
 visited by name first all start place here before fault r v lt e h =
     let same = same_place first all place here v.round.grown lt e in
-    ap (λ (q : Result ℕ Errno). or_next q (sought by name (flat_map (entered by) (drop (place + 1) first)))) (h ∙ ap (λ (k : ℕ). or_next (Err fault) (sought by name (entered by k))) same)
+    ap (λ (q : Result ℕ Errno). or_next q (sought by name (flat_map (entered by) (drop (place + 1) first))))
+    (h ∙ ap (λ (k : ℕ). or_next (Err fault) (sought by name (entered by k))) same)
     ∙ (sym (one_visit by name first place fault lt) ∙ v.left)
 
-pub visit_goes_on : (by : Searcher) (name : Name) (first all next : List ℕ) (start place here : ℕ) (before fault more : Errno) → IsVisit by name first all start place before fault → place < length first → here ≡ get_or all place 0 →
-    Err more ≡ or_next (Err fault) (sought by name (entered by here)) → next ≡ join all (entered_rings by here) → IsVisit by name first next start (place + 1) before more
+pub visit_goes_on : (by : Searcher) (name : Name) (first all next : List ℕ) (start place here : ℕ)
+    (before fault more : Errno) → IsVisit by name first all start place before fault → place < length first
+    → here ≡ get_or all place 0 →
+    Err more ≡ or_next (Err fault) (sought by name (entered by here)) → next ≡ join all (entered_rings by here)
+    → IsVisit by name first next start (place + 1) before more
 visit_goes_on by name first all next start place here before fault more v lt e h j =
     let up : length all ≤ length next = longer all (entered_rings by here) next j in
     let within : length first ≤ length all = v.within in

@@ -1,5 +1,6 @@
 -- What the walks answer, over the keys of the definitions.
-use Rattle.std.specs.Prelude.{◌≡◌, ℕ, ◌+◌, List, ◌++◌, Bool, true, false, ◌&&◌, ◌==◌, filter, flat_map, drop, Option, None, Some}
+use Rattle.std.specs.Prelude.{◌≡◌, ℕ, ◌+◌, List, ◌++◌, Bool, true, false, ◌&&◌, ◌==◌, filter, flat_map, drop, Option}
+use Rattle.std.specs.Prelude.{None, Some}
 use Rattle.std.specs.List.{list_any}
 use Rattle.std.specs.Option.{option_to_list}
 use Rattle.krs_types.specs.declared.caller.Caller.{Caller}

@@ -97,7 +97,8 @@ fn cycles_of_two_keyrings(rt: HostRuntime) -> Result<(), Fail> {
     Ok(())
 }
 
-/// Whether the session keyring is attached, the clock, the head and the description that are searched, and the answer.
+/// Whether the session keyring is attached, the clock, the head and the description that are searched, and the
+/// answer.
 #[rattlefmt::skip]
 const SEARCHES: [(bool, u64, u32, &[u8], Result<u32, Errno>); 5] = [
     (true, 8, 3, b"a", Ok(3)),

@@ -21,7 +21,8 @@ pub stops_full : (room : ℕ) (rs : List Record) (r : Record) → Some r ≡ sli
 stops_full room [] r h f = absurd cc
 stops_full room (q ∷ rs) r h f =
     let e : r ≡ q = cc in
-    let g : leb (length (bytes_of q)) room ≡ false = ap (λ (x : Record). leb (length (bytes_of x)) room) (sym e) ∙ f in
+    let g : leb (length (bytes_of q)) room ≡ false =
+    ap (λ (x : Record). leb (length (bytes_of x)) room) (sym e) ∙ f in
     record { nothing = rw g refl; all = rw g refl }
 
 -- the first of a front is in it

@@ -15,7 +15,8 @@ pub filter_within : {X : Type 0} (p q : X → Bool) (xs : List X) → ((x : X) �
     filter p (filter q xs) ≡ filter p xs
 filter_within p q [] h = refl
 filter_within p q (x ∷ xs) h =
-    elim (p x) as (λ b. p x ≡ b → filter p (cond (q x) (x ∷ filter q xs) (filter q xs)) ≡ cond b (x ∷ filter p xs) (filter p xs)) [
+    elim (p x) as (λ b. p x ≡ b → filter p (cond (q x) (x ∷ filter q xs) (filter q xs))
+    ≡ cond b (x ∷ filter p xs) (filter p xs)) [
       | true ↦ λ t. rw (h x t) (rw t (ap (λ zs. x ∷ zs) (filter_within p q xs h)))
       | false ↦ λ t. elim (q x) as (λ d. filter p (cond d (x ∷ filter q xs) (filter q xs)) ≡ filter p xs) [
         | true ↦ rw t (filter_within p q xs h)
@@ -38,16 +39,20 @@ starts k n = rw (same k) (least n)
 
 -- from the key's first place to the next key's
 pub between_keys : (key : ℕ) (watches : List Watch) →
-    watches_at key (filter (λ w. range_contains place_cmp (Included (key, 0)) (Excluded (key + 1, 0)) w.0) watches) ≡ watches_at key watches
+    watches_at key (filter (λ w. range_contains place_cmp (Included (key, 0)) (Excluded (key + 1, 0)) w.0) watches)
+    ≡ watches_at key watches
 between_keys key watches =
-    filter_within (λ w. eqb w.0.0 key) (λ w. range_contains place_cmp (Included (key, 0)) (Excluded (key + 1, 0)) w.0) watches (λ w t.
+    filter_within (λ w. eqb w.0.0 key) (λ w. range_contains place_cmp (Included (key, 0)) (Excluded (key + 1, 0)) w.0)
+    watches (λ w t.
     let k : w.0.0 ≡ key = eqb-true w.0.0 key t in
     rw (k, starts key w.0.1, above key w.0.1) refl)
 
 -- from the key's first place on
 pub from_key : (key : ℕ) (watches : List Watch) →
-    watches_at key (filter (λ w. range_contains place_cmp (Included (key, 0)) Unbounded w.0) watches) ≡ watches_at key watches
+    watches_at key (filter (λ w. range_contains place_cmp (Included (key, 0)) Unbounded w.0) watches)
+    ≡ watches_at key watches
 from_key key watches =
-    filter_within (λ w. eqb w.0.0 key) (λ w. range_contains place_cmp (Included (key, 0)) Unbounded w.0) watches (λ w t.
+    filter_within (λ w. eqb w.0.0 key) (λ w. range_contains place_cmp (Included (key, 0)) Unbounded w.0)
+    watches (λ w t.
     let k : w.0.0 ≡ key = eqb-true w.0.0 key t in
     rw (k, starts key w.0.1) refl)

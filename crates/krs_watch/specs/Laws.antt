@@ -6,7 +6,8 @@ use Rattle.krs_model.specs.Table.{Table, at}
 use Rattle.krs_model.specs.State.{Queue}
 use Rattle.krs_model.specs.Queues.{Queues, Watch}
 use Rattle.krs_model.specs.Notes.Front.{front, behind, IsLongestFront}
-use Rattle.krs_model.specs.Notes.Posting.{Note, Post, note_for, passes_at, posts_of, after_notes, post_all, records_for}
+use Rattle.krs_model.specs.Notes.Posting.{Note, Post, note_for, passes_at, posts_of, after_notes, post_all}
+use Rattle.krs_model.specs.Notes.Posting.{records_for}
 
 -- the watches of a key by a queue
 abbrev pub watches_between : ℕ → ℕ → List Watch → List Watch

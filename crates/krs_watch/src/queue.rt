@@ -1,8 +1,8 @@
-ghost use Rattle.std.specs.Prelude.{◌≡◌, ◌≤◌, ◌+◌, ◌++◌, ◌==◌, false, nat_le, length, vec_len, vec_capacity, OnOk, OnErr, IfOk, IsOk};
+ghost use Rattle.std.specs.Prelude.{◌≡◌, ◌≤◌, ◌+◌, ◌++◌, ◌==◌, false, nat_le, length, vec_len, vec_capacity, OnOk};
+ghost use Rattle.std.specs.Prelude.{OnErr, IfOk, IsOk};
 ghost use Rattle.krs_model.specs.Notes.Bytes.{is_loss, bytes_of, bytes_of_all};
 ghost use Rattle.krs_model.specs.Notes.Front.{front, behind};
 ghost use Rattle.krs_model.specs.Notes.Posting.{after_note};
-ghost use Rattle.krs_model.specs.Notes.Waiting.{is_capacity};
 ghost use Rattle.krs_model.specs.Asks.Watching.{new_queue, with_filter};
 ghost use Rattle.krs_watch.specs.Reads.{ReadsQueue};
 ghost use Rattle.krs_watch.specs.Offers.{offered};

@@ -1,8 +1,9 @@
-ghost use Rattle.std.specs.Prelude.{◌≡◌, ◌==◌, not, filter, map, is_ok};
+ghost use Rattle.std.specs.Prelude.{◌≡◌, ◌==◌, not, filter, map};
 ghost use Rattle.std.specs.List.{list_any};
-ghost use Rattle.krs_model.specs.Queues.{no_queues, queue_of, queues_without};
+ghost use Rattle.krs_model.specs.Queues.{no_queues, queues_without};
 ghost use Rattle.krs_model.specs.Notes.Posting.{posts_of, posted, post_all, removal_for};
-ghost use Rattle.krs_model.specs.Asks.Watching.{opened, filtered, read_out, closed, watched, without_client, watches_of};
+ghost use Rattle.krs_model.specs.Asks.Watching.{opened, filtered, read_out, closed, watched, without_client};
+ghost use Rattle.krs_model.specs.Asks.Watching.{watches_of};
 ghost use Rattle.krs_model.specs.Table.{alter};
 ghost use Rattle.krs_model.specs.Asks.Watching.{with_filter};
 ghost use Rattle.krs_watch.specs.Reads.{ReadsAt};

@@ -1,5 +1,7 @@
 -- An ask's frame is cut as that ask, and a frame that is cut is that ask's.
-use Rattle.std.proofs.Common.{◌≡◌, ℕ, ◌-◌, ◌^◌, ◌<◌, ◌≤◌, Bool, true, false, cond, eqb, ltb, ◌||◌, List, [], ◌∷◌, ◌++◌, length, take, drop, Option, Some, None, Result, Ok, Err, refl, sym, ap, subst, ◌∙◌, append_assoc, arith, inl, inr, ◌⊎◌, length-append}
+use Rattle.std.proofs.Common.{◌≡◌, ℕ, ◌-◌, ◌^◌, ◌<◌, ◌≤◌, Bool, true, false, cond, eqb, ltb, List, [], ◌∷◌, ◌++◌}
+use Rattle.std.proofs.Common.{length, take, drop, Option, Some, None, Result, Ok, Err, refl, sym, ap, subst, ◌∙◌}
+use Rattle.std.proofs.Common.{append_assoc, arith, inl, inr, length-append}
 use Rattle.std.specs.Int.{w16, w32, to_le_bytes}
 use Rattle.std.proofs.lemmas.Bool.{ltb-false, le-ltb, eqb-true}
 use Rattle.std.proofs.lemmas.List.{take_at, drop_at, append-nil, take-append-drop, length-take}
@@ -8,13 +10,27 @@ use Rattle.krs_wire.specs.declared.fault.WireFault.TheVariants.{BadVersion, BadO
 use Rattle.krs_types.specs.declared.ask.Ask.{Ask}
 use Rattle.krs_wire.specs.declared.framed.Framed.{Framed}
 use Rattle.krs_types.specs.declared.ask.Op.{Op}
-use Rattle.krs_types.specs.declared.ask.Op.TheVariants.{Hello, Thread, Fork, Exec, GetId, Join, Search, Request, Add, Update, Revoke, Invalidate, Chown, SetPerm, SetTimeout, Link, Unlink, Clear, Read, Describe, Watch, OpenQueue, SetFilter, ReadQueue, CloseQueue, Exit, Leave}
-use Rattle.krs_wire.specs.Field.{Field, number, signed, sized, flag, both, counted, nothing, repeated, built, whole}
+use Rattle.krs_types.specs.declared.ask.Op.TheVariants.{Hello, Thread, Fork, Exec, GetId, Join, Search, Request, Add}
+use Rattle.krs_types.specs.declared.ask.Op.TheVariants.{Update, Revoke, Invalidate, Chown, SetPerm, SetTimeout, Link}
+use Rattle.krs_types.specs.declared.ask.Op.TheVariants.{Unlink, Clear, Read, Describe, Watch, OpenQueue, SetFilter}
+use Rattle.krs_types.specs.declared.ask.Op.TheVariants.{ReadQueue, CloseQueue, Exit, Leave}
+use Rattle.krs_wire.specs.Field.{Field, number, signed, sized, flag, both, counted, nothing, repeated, whole}
 use Rattle.krs_wire.specs.Faulting.{after, or_bad_body}
-use Rattle.krs_wire.specs.Bodies.{id_field, text_field, thread_of, fork_of, exec_of, exit_of, get_id_fields, get_id_of, join_of, search_fields, search_of, request_fields, request_of, hello_fields, hello_of, add_fields, add_of, update_fields, update_of, revoke_of, invalidate_of, chown_fields, chown_of, id_number_fields, set_perm_of, set_timeout_of, link_fields, link_of, unlink_of, clear_of, read_of, describe_of, watch_fields, watch_of, open_queue_of, entry_of, entry_parts, entry_field, entries_field, set_filter_fields, set_filter_of, read_queue_fields, read_queue_of, close_queue_of, leave_of, number_of_op, body_of_op, FitsOp}
-use Rattle.krs_wire.specs.Frame.{rest, Frames, front_of, front_by, front_in, is_bad_length, framed_of, framed_by, op_of, head_fields}
+use Rattle.krs_wire.specs.Bodies.{id_field, text_field, thread_of, fork_of, exec_of, exit_of, get_id_fields}
+use Rattle.krs_wire.specs.Bodies.{get_id_of, join_of, search_fields, search_of, request_fields, request_of}
+use Rattle.krs_wire.specs.Bodies.{hello_fields, hello_of, add_fields, add_of, update_fields, update_of, revoke_of}
+use Rattle.krs_wire.specs.Bodies.{invalidate_of, chown_fields, chown_of, id_number_fields, set_perm_of}
+use Rattle.krs_wire.specs.Bodies.{set_timeout_of, link_fields, link_of, unlink_of, clear_of, read_of, describe_of}
+use Rattle.krs_wire.specs.Bodies.{watch_fields, watch_of, open_queue_of, entry_of, entry_parts, entry_field}
+use Rattle.krs_wire.specs.Bodies.{entries_field, set_filter_fields, set_filter_of, read_queue_fields, read_queue_of}
+use Rattle.krs_wire.specs.Bodies.{close_queue_of, leave_of, number_of_op, body_of_op, FitsOp}
+use Rattle.krs_wire.specs.Frame.{rest, Frames, front_of, front_by, front_in, is_bad_length, framed_of, framed_by}
+use Rattle.krs_wire.specs.Frame.{op_of, head_fields}
 use Rattle.krs_wire.specs.Spelling.{framed, ask_text, ask_frame, FitsAsk}
-use Rattle.krs_wire.proofs.FieldLemmas.{IsBytes, IsBytes-take, IsExact, wide16, wide32, number_exact, signed_exact, sized_exact, flag_exact, both_exact, nothing_exact, built_exact, whole_again, whole_takes}
+use Rattle.krs_wire.proofs.CaseLemmas.{chosen, or_false, ok_body}
+use Rattle.krs_wire.proofs.FieldLemmas.{IsBytes, IsBytes-take, IsExact, wide16, wide32, number_exact, signed_exact}
+use Rattle.krs_wire.proofs.FieldLemmas.{sized_exact, flag_exact, both_exact, nothing_exact, built_exact, whole_again}
+use Rattle.krs_wire.proofs.FieldLemmas.{whole_takes}
 use Rattle.krs_wire.proofs.CountLemmas.{counted_exact, repeated_exact}
 use Rattle.krs_wire.proofs.CutLemmas.{IsFront, in_made, in_parts}
 
@@ -22,10 +38,16 @@ id_exact : IsExact id_field
 id_exact = signed_exact
 
 add_exact : IsExact add_fields
-add_exact = both_exact (sized w16) (both (sized w16) (both (sized w32) id_field)) (sized_exact w16 wide16) (both_exact (sized w16) (both (sized w32) id_field) (sized_exact w16 wide16) (both_exact (sized w32) id_field (sized_exact w32 wide32) id_exact))
+add_exact =
+    both_exact (sized w16) (both (sized w16) (both (sized w32) id_field)) (sized_exact w16 wide16)
+    (both_exact (sized w16) (both (sized w32) id_field) (sized_exact w16 wide16)
+    (both_exact (sized w32) id_field (sized_exact w32 wide32) id_exact))
 
 hello_exact : IsExact hello_fields
-hello_exact = both_exact (number w32) (both (number w32) (counted (number w32))) (number_exact w32 wide32) (both_exact (number w32) (counted (number w32)) (number_exact w32 wide32) (counted_exact (number w32) (number_exact w32 wide32)))
+hello_exact =
+    both_exact (number w32) (both (number w32) (counted (number w32))) (number_exact w32 wide32)
+    (both_exact (number w32) (counted (number w32)) (number_exact w32 wide32)
+    (counted_exact (number w32) (number_exact w32 wide32)))
 
 update_exact : IsExact update_fields
 update_exact = both_exact id_field (sized w32) id_exact (sized_exact w32 wide32)
@@ -89,7 +111,9 @@ set_filter_exact : IsExact set_filter_fields
 set_filter_exact = both_exact (number w32) entries_field number32_exact entries_exact
 
 head_exact : IsExact head_fields
-head_exact = both_exact (number w16) (both (number w16) (number w32)) (number_exact w16 wide16) (both_exact (number w16) (number w32) (number_exact w16 wide16) (number_exact w32 wide32))
+head_exact =
+    both_exact (number w16) (both (number w16) (number w32)) (number_exact w16 wide16)
+    (both_exact (number w16) (number w32) (number_exact w16 wide16) (number_exact w32 wide32))
 
 op_again : (op : Op) → FitsOp op → op_of (number_of_op op) (body_of_op op) ≡ Ok op
 unfolding op_of
@@ -115,7 +139,8 @@ op_again (Clear id) h = ap or_bad_body (whole_again id_field id_exact clear_of i
 op_again (Link key ring) h = ap or_bad_body (whole_again link_fields link_exact link_of (key, ring) h)
 op_again (Unlink key ring) h = ap or_bad_body (whole_again link_fields link_exact unlink_of (key, ring) h)
 op_again (Read id) h = ap or_bad_body (whole_again id_field id_exact read_of id h)
-op_again (Hello caller) h = ap or_bad_body (whole_again hello_fields hello_exact hello_of (caller.uid, (caller.gid, caller.groups)) h)
+op_again (Hello caller) h =
+    ap or_bad_body (whole_again hello_fields hello_exact hello_of (caller.uid, (caller.gid, caller.groups)) h)
 op_again (Watch id queue watch) h =
     ap or_bad_body (whole_again watch_fields watch_exact watch_of (id, (queue, watch)) h)
 op_again (OpenQueue capacity) h =
@@ -126,7 +151,8 @@ op_again (ReadQueue queue room) h =
     ap or_bad_body (whole_again read_queue_fields two_exact read_queue_of (queue, room) h)
 op_again (CloseQueue queue) h = ap or_bad_body (whole_again (number w32) number32_exact close_queue_of queue h)
 op_again Leave h = ap or_bad_body (whole_again nothing nothing_exact leave_of tt h)
-op_again (Add type_name desc payload ring) h = ap or_bad_body (whole_again add_fields add_exact add_of (type_name, (desc, (payload, ring))) h)
+op_again (Add type_name desc payload ring) h =
+    ap or_bad_body (whole_again add_fields add_exact add_of (type_name, (desc, (payload, ring))) h)
 
 op_small : (op : Op) → number_of_op op < 256 ^ 2
 op_small (GetId id create) = omega arith
@@ -160,7 +186,9 @@ op_small (Add type_name desc payload ring) = omega arith
 framed_again : (ask : Ask) → FitsAsk ask → framed_of (ask_text ask) ≡ Ok (framed ask)
 unfolding framed_of
 framed_again ask h =
-    let first = head_exact.again (1, (number_of_op ask.op, ask.context)) (body_of_op ask.op) (omega arith, (op_small ask.op, h.context)) in
+    let first =
+    head_exact.again (1, (number_of_op ask.op, ask.context)) (body_of_op ask.op)
+    (omega arith, (op_small ask.op, h.context)) in
     ap framed_by first ∙ rw (op_again ask.op h.op) refl
 
 good_length : (n : ℕ) → 8 ≤ n → n ≤ 65536 → is_bad_length n ≡ false
@@ -169,35 +197,40 @@ good_length n low high =
     let b : ltb 65536 n ≡ false = le-ltb _ _ high in
     rw (a, b) refl
 
-pub front_again : (ask : Ask) (more : List ℕ) → FitsAsk ask → front_of (ask_frame ask ++ more) ≡ Ok (Some (framed ask, more))
+pub front_again : (ask : Ask) (more : List ℕ) → FitsAsk ask
+    → front_of (ask_frame ask ++ more) ≡ Ok (Some (framed ask, more))
 unfolding front_of
 front_again ask more h =
     let text = ask_text ask in
     let n = length text in
     let size = h.size in
-    let low : 8 ≤ n = omega (arith, length-append (head_fields.spell (1, (number_of_op ask.op, ask.context))) (body_of_op ask.op)) in
-    let first : (number w32).read (to_le_bytes w32 n ++ (text ++ more)) ≡ Some (n, text ++ more) = (number_exact w32 wide32).again n (text ++ more) (omega (arith, size)) in
+    let low : 8 ≤ n =
+    omega (
+      arith,
+      length-append (head_fields.spell (1, (number_of_op ask.op, ask.context)))
+          (body_of_op ask.op),
+    ) in
+    let first : (number w32).read (to_le_bytes w32 n ++ (text ++ more)) ≡ Some (n, text ++ more) =
+    (number_exact w32 wide32).again n (text ++ more) (omega (arith, size)) in
     let front : IsFront n (text ++ more) (framed ask) more = record {
       good = good_length n low size;
       whole = omega (arith, length-append text more);
       says = ap framed_of (take_at text more n refl) ∙ framed_again ask h;
       left = drop_at text more n refl;
     } in
-    ap (λ (x : List ℕ). front_by ((number w32).read x)) (append_assoc (to_le_bytes w32 n) text more) ∙ ap front_by first ∙ in_made n (text ++ more) (framed ask) more front
+    ap (λ (x : List ℕ). front_by ((number w32).read x)) (append_assoc (to_le_bytes w32 n) text more)
+    ∙ ap front_by first ∙ in_made n (text ++ more) (framed ask) more front
 
 pub nothing_left : front_of [] ≡ Ok None
 unfolding front_of
 nothing_left = refl
 
-pub one_frame : (bytes : List ℕ) (ask : Ask) → FitsAsk ask → bytes ≡ ask_frame ask → Frames bytes (framed ask ∷ []) (rest [])
+pub one_frame : (bytes : List ℕ) (ask : Ask) → FitsAsk ask → bytes ≡ ask_frame ask
+    → Frames bytes (framed ask ∷ []) (rest [])
 one_frame bytes ask h e =
     ([], ap front_of (e ∙ sym (append-nil (ask_frame ask))) ∙ front_again ask [] h, (nothing_left, refl))
 
 -- ---- what is cut is spelled so
-
-chosen : {A : Type 0} (b : Bool) (x y z : A) → cond b x y ≡ z → ((b ≡ true) × (x ≡ z)) ⊎ ((b ≡ false) × (y ≡ z))
-chosen true x y z e = inl (refl, e)
-chosen false x y z e = inr (refl, e)
 
 abbrev no_op : Result Op WireFault
 no_op = Err BadOp
@@ -207,16 +240,20 @@ record OpTakes (which : ℕ) (body : List ℕ) (op : Op) : Type 0 where
   body-is : body ≡ body_of_op op
   fits : FitsOp op
 
-ok_body : {A : Type 0} (o : Option A) (x : A) → or_bad_body o ≡ Ok x → o ≡ Some x
-ok_body None x e = absurd cc
-ok_body (Some y) x e = cc
-
 -- a row of the table
-row_takes : {A : Type 0} (f : Field A) (make : A → Op) (no-of : ℕ) → IsExact f → ((x : A) → number_of_op (make x) ≡ no-of) → ((x : A) → body_of_op (make x) ≡ f.spell x) → ((x : A) → f.Fits x → FitsOp (make x))
-    → (which : ℕ) (body : List ℕ) (op : Op) → IsBytes body → eqb which no-of ≡ true → or_bad_body (whole f make body) ≡ Ok op → OpTakes which body op
+row_takes : {A : Type 0} (f : Field A) (make : A → Op) (no-of : ℕ) → IsExact f
+    → ((x : A) → number_of_op (make x) ≡ no-of) → ((x : A) → body_of_op (make x) ≡ f.spell x)
+    → ((x : A) → f.Fits x → FitsOp (make x))
+    → (which : ℕ) (body : List ℕ) (op : Op) → IsBytes body → eqb which no-of ≡ true
+    → or_bad_body (whole f make body) ≡ Ok op → OpTakes which body op
 row_takes f make no-of exact numbered spelled fitting which body op bytes test e =
     let t = whole_takes f exact make body op bytes (ok_body (whole f make body) op e) in
-    let made : OpTakes which body (make t.0) = record { number = eqb-true _ _ test ∙ sym (numbered t.0); body-is = t.1 ∙ sym (spelled t.0); fits = fitting t.0 t.2 } in
+    let made : OpTakes which body (make t.0) =
+    record {
+      number = eqb-true _ _ test ∙ sym (numbered t.0);
+      body-is = t.1 ∙ sym (spelled t.0);
+      fits = fitting t.0 t.2;
+    } in
     subst (λ (o : Op). OpTakes which body o) t.3 made
 
 -- a row of the table, or what the rows behind it say
@@ -270,7 +307,8 @@ op_takes which body op bytes =
     row_or (number w32) close_queue_of 267 number32_exact (λ x. refl) (λ x. refl) (λ x k. k) which body op _ bytes (
     no_row which body op)))))))))))))))))))))))))))
 
-after_ok : {A B : Type 0} (f : A → Result B WireFault) (r : Result A WireFault) (y : B) → after f r ≡ Ok y → (x : A) × (r ≡ Ok x) × (f x ≡ Ok y)
+after_ok : {A B : Type 0} (f : A → Result B WireFault) (r : Result A WireFault) (y : B) → after f r ≡ Ok y
+    → (x : A) × (r ≡ Ok x) × (f x ≡ Ok y)
 after_ok f (Ok x) y e = (x, refl, e)
 after_ok f (Err d) y e = absurd cc
 
@@ -284,16 +322,21 @@ said_is a b e = cc
 abbrev made : ℕ → Op → Framed
 made context op = record { ask = record { context = context; op = op } }
 
-guard_version : {A : Type 0} (b : Bool) (x : Result A WireFault) (y : A) → cond b x (Err BadVersion) ≡ Ok y → (b ≡ true) × (x ≡ Ok y)
+guard_version : {A : Type 0} (b : Bool) (x : Result A WireFault) (y : A) → cond b x (Err BadVersion) ≡ Ok y
+    → (b ≡ true) × (x ≡ Ok y)
 guard_version true x y e = (refl, e)
 guard_version false x y e = absurd cc
 
 head_some : (o : Option ((ℕ × (ℕ × ℕ)) × List ℕ)) (f : Framed) → framed_by o ≡ Ok f
-    → (h : (ℕ × (ℕ × ℕ)) × List ℕ) × (o ≡ Some h) × (eqb h.0.0 1 ≡ true) × (after (λ op. said (made h.0.1.1 op)) (op_of h.0.1.0 h.1) ≡ Ok f)
+    → (h : (ℕ × (ℕ × ℕ)) × List ℕ) × (o ≡ Some h) × (eqb h.0.0 1 ≡ true)
+    × (after (λ op. said (made h.0.1.1 op)) (op_of h.0.1.0 h.1) ≡ Ok f)
 head_some None f e = absurd cc
-head_some (Some h) f e = let g = guard_version (eqb h.0.0 1) (after (λ op. said (made h.0.1.1 op)) (op_of h.0.1.0 h.1)) f e in (h, refl, g.0, g.1)
+head_some (Some h) f e =
+    let g = guard_version (eqb h.0.0 1) (after (λ op. said (made h.0.1.1 op)) (op_of h.0.1.0 h.1)) f e in
+    (h, refl, g.0, g.1)
 
-framed_takes : (frame : List ℕ) (f : Framed) → IsBytes frame → framed_of frame ≡ Ok f → (frame ≡ ask_text f.ask) × (f.ask.context < 256 ^ 4) × FitsOp f.ask.op
+framed_takes : (frame : List ℕ) (f : Framed) → IsBytes frame → framed_of frame ≡ Ok f
+    → (frame ≡ ask_text f.ask) × (f.ask.context < 256 ^ 4) × FitsOp f.ask.op
 unfolding framed_of
 framed_takes frame f bytes e =
     let h = head_some (head_fields.read frame) f e in
@@ -302,19 +345,21 @@ framed_takes frame f bytes e =
     let op = op_takes h.0.0.1.0 h.0.1 o.0 t.more_fits o.1 in
     let whole-frame : Framed = made h.0.0.1.1 o.0 in
     let version : h.0.0.0 ≡ 1 = eqb-true _ _ h.2 in
-    let text : frame ≡ ask_text whole-frame.ask = t.parts ∙ ap (λ (v : ℕ). head_fields.spell (v, (h.0.0.1.0, h.0.0.1.1)) ++ h.0.1) version ∙ ap (λ (k : ℕ). head_fields.spell (1, (k, h.0.0.1.1)) ++ h.0.1) op.number ∙ ap (λ (b : List ℕ). head_fields.spell (1, (number_of_op o.0, h.0.0.1.1)) ++ b) op.body-is in
+    let text : frame ≡ ask_text whole-frame.ask =
+    t.parts ∙ ap (λ (v : ℕ). head_fields.spell (v, (h.0.0.1.0, h.0.0.1.1)) ++ h.0.1) version
+    ∙ ap (λ (k : ℕ). head_fields.spell (1, (k, h.0.0.1.1)) ++ h.0.1) op.number
+    ∙ ap (λ (b : List ℕ). head_fields.spell (1, (number_of_op o.0, h.0.0.1.1)) ++ b) op.body-is in
     let context : whole-frame.ask.context < 256 ^ 4 = t.fits.1.1 in
-    subst (λ (a : Framed). (frame ≡ ask_text a.ask) × (a.ask.context < 256 ^ 4) × FitsOp a.ask.op) (said_is whole-frame f o.2) (text, context, op.fits)
+    subst (λ (a : Framed). (frame ≡ ask_text a.ask) × (a.ask.context < 256 ^ 4) × FitsOp a.ask.op)
+    (said_is whole-frame f o.2) (text, context, op.fits)
 
-number_some : (o : Option (ℕ × List ℕ)) (f : Framed) (more : List ℕ) → front_by o ≡ Ok (Some (f, more)) → (x : ℕ × List ℕ) × (o ≡ Some x) × (front_in x.0 x.1 ≡ Ok (Some (f, more)))
+number_some : (o : Option (ℕ × List ℕ)) (f : Framed) (more : List ℕ) → front_by o ≡ Ok (Some (f, more))
+    → (x : ℕ × List ℕ) × (o ≡ Some x) × (front_in x.0 x.1 ≡ Ok (Some (f, more)))
 number_some None f more e = absurd cc
 number_some (Some x) f more e = (x, refl, e)
 
-or_false : (a b : Bool) → (a || b) ≡ false → b ≡ false
-or_false true b e = absurd cc
-or_false false b e = e
-
-pub front_takes : (bytes : List ℕ) (f : Framed) (more : List ℕ) → IsBytes bytes → front_of bytes ≡ Ok (Some (f, more)) → (bytes ≡ ask_frame f.ask ++ more) × FitsAsk f.ask
+pub front_takes : (bytes : List ℕ) (f : Framed) (more : List ℕ) → IsBytes bytes → front_of bytes ≡ Ok (Some (f, more))
+    → (bytes ≡ ask_frame f.ask ++ more) × FitsAsk f.ask
 unfolding front_of
 front_takes bytes f more fits e =
     let x = number_some ((number w32).read bytes) f more e in
@@ -324,16 +369,24 @@ front_takes bytes f more fits e =
     let parts = in_parts n r f more x.2 in
     let a = framed_takes (take n r) f (IsBytes-take n r t.more_fits) parts.says in
     let whole-n = parts.whole in
-    let len : length (ask_text f.ask) ≡ n = sym (ap (λ (y : List ℕ). length y) a.0) ∙ omega (arith, length-take n r, whole-n) in
+    let len : length (ask_text f.ask) ≡ n =
+    sym (ap (λ (y : List ℕ). length y) a.0) ∙ omega (arith, length-take n r, whole-n) in
     let size : n ≤ 65536 = ltb-false 65536 n (or_false (ltb n 8) (ltb 65536 n) parts.good) in
-    let rest-is : r ≡ ask_text f.ask ++ more = sym (take-append-drop n r) ∙ ap (λ (y : List ℕ). y ++ drop n r) a.0 ∙ ap (λ (y : List ℕ). ask_text f.ask ++ y) parts.left in (
-      t.parts ∙ ap (λ (y : List ℕ). to_le_bytes w32 n ++ y) rest-is ∙ ap (λ (k : ℕ). to_le_bytes w32 k ++ (ask_text f.ask ++ more)) (sym len) ∙ sym (append_assoc (to_le_bytes w32 (length (ask_text f.ask))) (ask_text f.ask) more),
+    let rest-is : r ≡ ask_text f.ask ++ more =
+    sym (take-append-drop n r) ∙ ap (λ (y : List ℕ). y ++ drop n r) a.0
+    ∙ ap (λ (y : List ℕ). ask_text f.ask ++ y) parts.left in (
+      t.parts ∙ ap (λ (y : List ℕ). to_le_bytes w32 n ++ y) rest-is
+          ∙ ap (λ (k : ℕ). to_le_bytes w32 k ++ (ask_text f.ask ++ more)) (sym len)
+          ∙ sym (append_assoc (to_le_bytes w32 (length (ask_text f.ask))) (ask_text f.ask) more),
       record { context = a.1; op = a.2; size = omega (arith, len, size) },
     )
 
 -- ---- the length written over the first four bytes
 
-pub sized_over : (items text out : List ℕ) (len : ℕ) → items ≡ to_le_bytes w32 0 ++ text → len ≡ length items - 4 → out ≡ to_le_bytes w32 len ++ drop 4 items → out ≡ (sized w32).spell text
+pub sized_over : (items text out : List ℕ) (len : ℕ) → items ≡ to_le_bytes w32 0 ++ text → len ≡ length items - 4
+    → out ≡ to_le_bytes w32 len ++ drop 4 items → out ≡ (sized w32).spell text
 sized_over items text out len items-are len-is out-is =
-    let same : len ≡ length text = omega (arith, ap (λ (x : List ℕ). length x) items-are, length-append (to_le_bytes w32 0) text) in
-    out-is ∙ ap (λ (x : List ℕ). to_le_bytes w32 len ++ drop 4 x) items-are ∙ ap (λ (n : ℕ). to_le_bytes w32 n ++ text) same
+    let same : len ≡ length text =
+    omega (arith, ap (λ (x : List ℕ). length x) items-are, length-append (to_le_bytes w32 0) text) in
+    out-is ∙ ap (λ (x : List ℕ). to_le_bytes w32 len ++ drop 4 x) items-are
+    ∙ ap (λ (n : ℕ). to_le_bytes w32 n ++ text) same

@@ -1,5 +1,7 @@
 -- How frames go on: with the next frame, and with the next piece.
-use Rattle.std.proofs.Common.{◌≡◌, ℕ, zero, suc, ◌+◌, ◌-◌, ◌<◌, ◌≤◌, Bool, true, false, cond, ltb, List, [], ◌∷◌, ◌++◌, length, take, drop, Option, Some, None, Result, Ok, Err, refl, sym, ap, subst, ◌∙◌, append_assoc, arith, length-drop, length-append}
+use Rattle.std.proofs.Common.{◌≡◌, ℕ, zero, suc, ◌+◌, ◌-◌, ◌<◌, ◌≤◌, Bool, true, false, cond, ltb, List, [], ◌∷◌}
+use Rattle.std.proofs.Common.{◌++◌, length, take, drop, Option, Some, None, Result, Ok, Err, refl, sym, ap, subst}
+use Rattle.std.proofs.Common.{◌∙◌, arith, length-drop, length-append}
 use Rattle.std.proofs.lemmas.Bool.{ltb-false, le-ltb}
 use Rattle.std.proofs.lemmas.List.{drop-drop, append-nil, take-append-le, drop-append-le}
 use Rattle.std.specs.Int.{w32, from_le_bytes}
@@ -10,21 +12,23 @@ use Rattle.krs_wire.specs.Faulting.{after}
 use Rattle.krs_wire.specs.Frame.{End, rest, bad, Frames, front_of, front_by, front_in, is_bad_length, framed_of}
 use Rattle.krs_wire.specs.Feeding.{Feeds, GoesOn, Refuses, end_of}
 
-pub suffix : (m n : ℕ) (xs : List ℕ) → m + n ≤ length xs → drop n (drop m xs) ≡ drop (length xs - length (drop n (drop m xs))) xs
+pub suffix : (m n : ℕ) (xs : List ℕ) → m + n ≤ length xs → drop n (drop m xs)
+    ≡ drop (length xs - length (drop n (drop m xs))) xs
 suffix m n xs fits =
     let joined : drop n (drop m xs) ≡ drop (m + n) xs = drop-drop n m xs in
-    let len : length xs - length (drop n (drop m xs)) ≡ m + n = omega (arith, ap length joined, length-drop (m + n) xs) in
+    let len : length xs - length (drop n (drop m xs)) ≡ m + n =
+    omega (arith, ap length joined, length-drop (m + n) xs) in
     joined ∙ ap (λ (k : ℕ). drop k xs) (sym len)
 
 -- what the frames of the rest say of the whole
 abbrev pub Continues : List ℕ → List Framed → List ℕ → Type 0
-Continues bytes frames left = (more : List Framed) (end : End) → Frames left more end → Frames bytes (frames ++ more) end
+Continues bytes frames left =
+    (more : List Framed) (end : End) → Frames left more end → Frames bytes (frames ++ more) end
 
-pub continues_more : (bytes left more : List ℕ) (frames : List Framed) (framed : Framed) → front_of left ≡ Ok (Some (framed, more)) → Continues bytes frames left → Continues bytes (frames ++ framed ∷ []) more
-continues_more bytes left more frames framed e so_far others end f = rw append_assoc (so_far (framed ∷ others) end (more, e, f))
-
-pub continues_end : (bytes left : List ℕ) (frames : List Framed) (end : End) → Frames left [] end → Continues bytes frames left → Frames bytes frames end
-continues_end bytes left frames end f so_far = subst (λ (x : List Framed). Frames bytes x end) (append-nil frames) (so_far [] end f)
+pub continues_end : (bytes left : List ℕ) (frames : List Framed) (end : End) → Frames left [] end
+    → Continues bytes frames left → Frames bytes frames end
+continues_end bytes left frames end f so_far =
+    subst (λ (x : List Framed). Frames bytes x end) (append-nil frames) (so_far [] end f)
 
 -- ---- the front of a longer stream
 
@@ -41,7 +45,9 @@ found x = Ok (Some x)
 found_is : (x y : Framed × List ℕ) → found x ≡ found y → x ≡ y
 found_is x y e = cc
 
-asked : (left more : List ℕ) (framed : Framed) (r : Result Framed WireFault) → after {B = Option (Framed × List ℕ)} (λ a. Ok (Some (a, left))) r ≡ Ok (Some (framed, more)) → (r ≡ Ok framed) × (left ≡ more)
+asked : (left more : List ℕ) (framed : Framed) (r : Result Framed WireFault)
+    → after {B = Option (Framed × List ℕ)} (λ a. Ok (Some (a, left))) r ≡ Ok (Some (framed, more))
+    → (r ≡ Ok framed) × (left ≡ more)
 asked left more framed (Ok a) e =
     let p = found_is (a, left) (framed, more) e in
     (ap (λ (x : Framed × List ℕ). reply x.0) p, ap (λ (x : Framed × List ℕ). x.1) p)
@@ -53,19 +59,27 @@ pub record IsFront (n : ℕ) (bytes : List ℕ) (framed : Framed) (more : List �
   pub says : framed_of (take n bytes) ≡ Ok framed
   pub left : drop n bytes ≡ more
 
-pub in_parts : (n : ℕ) (bytes : List ℕ) (framed : Framed) (more : List ℕ) → front_in n bytes ≡ Ok (Some (framed, more)) → IsFront n bytes framed more
+pub in_parts : (n : ℕ) (bytes : List ℕ) (framed : Framed) (more : List ℕ)
+    → front_in n bytes ≡ Ok (Some (framed, more)) → IsFront n bytes framed more
 in_parts n bytes framed more e =
-    let a = not_first (is_bad_length n) (Err BadLength) (cond (ltb (length bytes) n) (Ok None) (after (λ x. Ok (Some (x, drop n bytes))) (framed_of (take n bytes)))) (Ok (Some (framed, more))) (λ h. cc) e in
-    let b = not_first (ltb (length bytes) n) (Ok None) (after (λ x. Ok (Some (x, drop n bytes))) (framed_of (take n bytes))) (Ok (Some (framed, more))) (λ h. cc) a.1 in
+    let a =
+    not_first (is_bad_length n) (Err BadLength) (cond (ltb (length bytes) n) (Ok None)
+    (after (λ x. Ok (Some (x, drop n bytes))) (framed_of (take n bytes)))) (Ok (Some (framed, more)))
+    (λ h. cc) e in
+    let b =
+    not_first (ltb (length bytes) n) (Ok None) (after (λ x. Ok (Some (x, drop n bytes)))
+    (framed_of (take n bytes))) (Ok (Some (framed, more))) (λ h. cc) a.1 in
     let d = asked (drop n bytes) more framed (framed_of (take n bytes)) b.1 in
     record { good = a.0; whole = ltb-false _ _ b.0; says = d.0; left = d.1 }
 
-pub in_made : (n : ℕ) (bytes : List ℕ) (framed : Framed) (more : List ℕ) → IsFront n bytes framed more → front_in n bytes ≡ Ok (Some (framed, more))
+pub in_made : (n : ℕ) (bytes : List ℕ) (framed : Framed) (more : List ℕ) → IsFront n bytes framed more
+    → front_in n bytes ≡ Ok (Some (framed, more))
 in_made n bytes framed more h =
     let long : ltb (length bytes) n ≡ false = le-ltb _ _ h.whole in
     rw (h.good, long, h.says, h.left) refl
 
-in_more : (n : ℕ) (bytes : List ℕ) (framed : Framed) (more x : List ℕ) → IsFront n bytes framed more → IsFront n (bytes ++ x) framed (more ++ x)
+in_more : (n : ℕ) (bytes : List ℕ) (framed : Framed) (more x : List ℕ) → IsFront n bytes framed more
+    → IsFront n (bytes ++ x) framed (more ++ x)
 in_more n bytes framed more x h =
     let fits = h.whole in
     record {
@@ -75,48 +89,68 @@ in_more n bytes framed more x h =
       left = drop-append-le n bytes x fits ∙ ap (λ (y : List ℕ). y ++ x) h.left;
     }
 
-front_test : (b : Bool) (n : ℕ) (bytes : List ℕ) (framed : Framed) (more : List ℕ) → front_by (cond b None (Some (n, bytes))) ≡ Ok (Some (framed, more)) → (b ≡ false) × (front_in n bytes ≡ Ok (Some (framed, more)))
+front_test : (b : Bool) (n : ℕ) (bytes : List ℕ) (framed : Framed) (more : List ℕ)
+    → front_by (cond b None (Some (n, bytes))) ≡ Ok (Some (framed, more))
+    → (b ≡ false) × (front_in n bytes ≡ Ok (Some (framed, more)))
 front_test true n bytes framed more e = absurd cc
 front_test false n bytes framed more e = (refl, e)
 
-front_parts : (bytes : List ℕ) (framed : Framed) (more : List ℕ) → front_of bytes ≡ Ok (Some (framed, more)) → (4 ≤ length bytes) × IsFront (from_le_bytes w32 (take 4 bytes)) (drop 4 bytes) framed more
+front_parts : (bytes : List ℕ) (framed : Framed) (more : List ℕ) → front_of bytes ≡ Ok (Some (framed, more))
+    → (4 ≤ length bytes) × IsFront (from_le_bytes w32 (take 4 bytes)) (drop 4 bytes) framed more
 unfolding front_of
 front_parts bytes framed more e =
     let a = front_test (ltb (length bytes) 4) (from_le_bytes w32 (take 4 bytes)) (drop 4 bytes) framed more e in
     (ltb-false _ _ a.0, in_parts _ _ framed more a.1)
 
-front_made : (bytes : List ℕ) (framed : Framed) (more : List ℕ) → 4 ≤ length bytes → IsFront (from_le_bytes w32 (take 4 bytes)) (drop 4 bytes) framed more → front_of bytes ≡ Ok (Some (framed, more))
+front_made : (bytes : List ℕ) (framed : Framed) (more : List ℕ) → 4 ≤ length bytes
+    → IsFront (from_le_bytes w32 (take 4 bytes)) (drop 4 bytes) framed more
+    → front_of bytes ≡ Ok (Some (framed, more))
 unfolding front_of
 front_made bytes framed more long h =
     let test : ltb (length bytes) 4 ≡ false = le-ltb _ _ long in
     rw test (in_made _ _ framed more h)
 
-pub front_more : (bytes : List ℕ) (framed : Framed) (more x : List ℕ) → front_of bytes ≡ Ok (Some (framed, more)) → front_of (bytes ++ x) ≡ Ok (Some (framed, more ++ x))
+pub front_more : (bytes : List ℕ) (framed : Framed) (more x : List ℕ) → front_of bytes ≡ Ok (Some (framed, more))
+    → front_of (bytes ++ x) ≡ Ok (Some (framed, more ++ x))
 front_more bytes framed more x e =
     let h = front_parts bytes framed more e in
     let long = h.0 in
-    let same : from_le_bytes w32 (take 4 (bytes ++ x)) ≡ from_le_bytes w32 (take 4 bytes) = ap (from_le_bytes w32) (take-append-le 4 bytes x long) in
+    let same : from_le_bytes w32 (take 4 (bytes ++ x)) ≡ from_le_bytes w32 (take 4 bytes) =
+    ap (from_le_bytes w32) (take-append-le 4 bytes x long) in
     let left : drop 4 (bytes ++ x) ≡ drop 4 bytes ++ x = drop-append-le 4 bytes x long in
     let P : ℕ → List ℕ → Type 0 = λ n b. IsFront n b framed (more ++ x) in
     let h2 = in_more _ _ framed more x h.1 in
-    front_made (bytes ++ x) framed (more ++ x) (omega (arith, length-append bytes x, long)) (subst (λ (n : ℕ). P n (drop 4 (bytes ++ x))) (sym same) (subst (λ (b : List ℕ). P (from_le_bytes w32 (take 4 bytes)) b) (sym left) h2))
+    front_made (bytes ++ x) framed (more ++ x) (omega (arith, length-append bytes x, long))
+    (subst (λ (n : ℕ). P n (drop 4 (bytes ++ x))) (sym same)
+    (subst (λ (b : List ℕ). P (from_le_bytes w32 (take 4 bytes)) b) (sym left) h2))
 
-pub front_shorter : (bytes : List ℕ) (framed : Framed) (more : List ℕ) → front_of bytes ≡ Ok (Some (framed, more)) → length more < length bytes
+pub front_shorter : (bytes : List ℕ) (framed : Framed) (more : List ℕ) → front_of bytes ≡ Ok (Some (framed, more))
+    → length more < length bytes
 front_shorter bytes framed more e =
     let h = front_parts bytes framed more e in
-    omega (arith, h.0, ap length h.1.left, length-drop (from_le_bytes w32 (take 4 bytes)) (drop 4 bytes), length-drop 4 bytes)
+    omega (
+      arith,
+      h.0,
+      ap length h.1.left,
+      length-drop (from_le_bytes w32 (take 4 bytes)) (drop 4 bytes),
+      length-drop 4 bytes,
+    )
 
 -- ---- pieces
 
-pub fed : (left piece : List ℕ) (frames : List Framed) (end : End) → Frames (left ++ piece) frames end → (before : List ℕ) (earlier : List Framed) → Frames before earlier (rest left) → Frames (before ++ piece) (earlier ++ frames) end
+pub fed : (left piece : List ℕ) (frames : List Framed) (end : End) → Frames (left ++ piece) frames end
+    → (before : List ℕ) (earlier : List Framed) → Frames before earlier (rest left)
+    → Frames (before ++ piece) (earlier ++ frames) end
 fed left piece frames end f before [] h = subst (λ (b : List ℕ). Frames (b ++ piece) frames end) h.1 f
-fed left piece frames end f before (framed ∷ earlier) h = (h.0 ++ piece, front_more before framed h.0 piece h.1, fed left piece frames end f h.0 earlier h.2)
+fed left piece frames end f before (framed ∷ earlier) h =
+    (h.0 ++ piece, front_more before framed h.0 piece h.1, fed left piece frames end f h.0 earlier h.2)
 
 -- each stream has frames and an end
 abbrev Ends : List ℕ → Type 0
 Ends bytes = (frames : List Framed) × (end : End) × Frames bytes frames end
 
-ends_at : (bytes : List ℕ) → ((b : List ℕ) → length b < length bytes → Ends b) → (r : Result (Option (Framed × List ℕ)) WireFault) → front_of bytes ≡ r → Ends bytes
+ends_at : (bytes : List ℕ) → ((b : List ℕ) → length b < length bytes → Ends b)
+    → (r : Result (Option (Framed × List ℕ)) WireFault) → front_of bytes ≡ r → Ends bytes
 ends_at bytes shorter (Ok None) e = ([], rest bytes, (e, refl))
 ends_at bytes shorter (Ok (Some found)) e =
     let others = shorter found.1 (front_shorter bytes found.0 found.1 e) in
@@ -125,7 +159,8 @@ ends_at bytes shorter (Err fault) e = ([], bad fault, e)
 
 ends_in : (fuel : ℕ) (bytes : List ℕ) → length bytes < fuel → Ends bytes
 ends_in zero bytes lt = absurd (omega (arith, lt))
-ends_in (suc fuel) bytes lt = ends_at bytes (λ b below. ends_in fuel b (omega (arith, below, lt))) (front_of bytes) refl
+ends_in (suc fuel) bytes lt =
+    ends_at bytes (λ b below. ends_in fuel b (omega (arith, below, lt))) (front_of bytes) refl
 
 pub total : (bytes : List ℕ) → (frames : List Framed) × (end : End) × Frames bytes frames end
 total bytes = ends_in (suc (length bytes)) bytes (omega arith)
@@ -137,18 +172,24 @@ goes_on left piece before earlier h =
 
 -- ---- a feed
 
-is_unfailed : (old : End) (fault : Option WireFault) (left : List ℕ) → old ≡ end_of fault left → fault ≡ None → old ≡ rest left
+is_unfailed : (old : End) (fault : Option WireFault) (left : List ℕ) → old ≡ end_of fault left → fault ≡ None
+    → old ≡ rest left
 is_unfailed old fault left e none = e ∙ ap (λ (f : Option WireFault). end_of f left) none
 
-pub feeds : (old new : End) (fault : Option WireFault) (left piece : List ℕ) (frames : List Framed) → old ≡ end_of fault left → fault ≡ None → Frames (left ++ piece) frames new → Feeds old piece frames new
+pub feeds : (old new : End) (fault : Option WireFault) (left piece : List ℕ) (frames : List Framed)
+    → old ≡ end_of fault left → fault ≡ None → Frames (left ++ piece) frames new → Feeds old piece frames new
 feeds old new fault left piece frames e none f =
     let P : End → Type 0 = λ x. Feeds x piece frames new in
     subst P (sym (is_unfailed old fault left e none)) (fed left piece frames new f)
 
-pub refuses : (old : End) (fault : Option WireFault) (left piece : List ℕ) (why : WireFault) → old ≡ end_of fault left → fault ≡ None → ((why ≡ Memory → ⊥) → Frames (left ++ piece) [] (bad why)) → Refuses old piece why
+pub refuses : (old : End) (fault : Option WireFault) (left piece : List ℕ) (why : WireFault) → old ≡ end_of fault left
+    → fault ≡ None → ((why ≡ Memory → ⊥) → Frames (left ++ piece) [] (bad why)) → Refuses old piece why
 refuses old fault left piece why e none f =
     let P : End → Type 0 = λ x. Refuses x piece why in
-    subst P (sym (is_unfailed old fault left e none)) ((λ other. fed left piece [] (bad why) (f other)), goes_on left piece)
+    subst P (sym (is_unfailed old fault left e none)) (
+      (λ other. fed left piece [] (bad why) (f other)),
+      goes_on left piece,
+    )
 
 pub is_nothing : {A : Type 0} (xs : List A) → length xs ≡ 0 → xs ≡ []
 is_nothing [] e = refl
@@ -156,7 +197,8 @@ is_nothing (x ∷ xs) e = absurd (omega (arith, e))
 
 -- ---- one cut
 
-pub cut_again : (bytes : List ℕ) (fs gs : List Framed) (d e : End) → Frames bytes fs d → Frames bytes gs e → (fs ≡ gs) × (d ≡ e)
+pub cut_again : (bytes : List ℕ) (fs gs : List Framed) (d e : End) → Frames bytes fs d → Frames bytes gs e
+    → (fs ≡ gs) × (d ≡ e)
 cut_again bytes [] [] (rest l) (rest m) h k = (refl, ap rest (h.1 ∙ sym k.1))
 cut_again bytes [] [] (rest l) (bad f) h k = let same = sym h.0 ∙ k in absurd cc
 cut_again bytes [] [] (bad f) (rest m) h k = let same = sym k.0 ∙ h in absurd cc
@@ -167,6 +209,8 @@ cut_again bytes (f ∷ fs) [] d (rest m) h k = let same = sym k.0 ∙ h.1 in abs
 cut_again bytes (f ∷ fs) [] d (bad g) h k = let same = sym k ∙ h.1 in absurd cc
 cut_again bytes (f ∷ fs) (g ∷ gs) d e h k =
     let same = found_is (f, h.0) (g, k.0) (sym h.1 ∙ k.1) in
-    let later = cut_again h.0 fs gs d e h.2 (subst (λ (b : List ℕ). Frames b gs e) (sym (ap (λ (x : Framed × List ℕ). x.1) same)) k.2) in
+    let later =
+    cut_again h.0 fs gs d e h.2 (subst (λ (b : List ℕ). Frames b gs e)
+    (sym (ap (λ (x : Framed × List ℕ). x.1) same)) k.2) in
     let first : f ≡ g = ap (λ (x : Framed × List ℕ). x.0) same in
     (ap (λ (x : Framed). x ∷ fs) first ∙ ap (λ (xs : List Framed). g ∷ xs) later.0, later.1)

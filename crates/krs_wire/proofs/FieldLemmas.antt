@@ -1,10 +1,13 @@
 -- Each field is exact: what is read is spelled so, and what is spelled is read.
-use Rattle.std.proofs.Common.{◌≡◌, ℕ, suc, ◌+◌, ◌^◌, ◌<◌, ◌≤◌, Bool, true, false, cond, eqb, ltb, List, [], ◌∷◌, ◌++◌, length, get_or, take, drop, Option, Some, None, refl, sym, ap, subst, ◌∙◌, append_assoc, arith, inl, inr}
+use Rattle.std.proofs.Common.{◌≡◌, ℕ, suc, ◌+◌, ◌^◌, ◌<◌, ◌≤◌, Bool, true, false, cond, eqb, ltb, List, [], ◌∷◌, ◌++◌}
+use Rattle.std.proofs.Common.{length, get_or, take, drop, Option, Some, None, refl, sym, ap, subst, ◌∙◌, append_assoc}
+use Rattle.std.proofs.Common.{arith, inl, inr}
 use Rattle.std.specs.Option.{option_and_then}
 use Rattle.std.specs.Prelude.{ℤ, FitsSigned}
 use Rattle.std.specs.Int.{Width, w16, w32, byte_len, from_le_bytes, to_le_bytes, cast_signed, cast_unsigned}
 use Rattle.std.proofs.lemmas.Bool.{cases_lt, ltb-false, le-ltb, eqb-true}
-use Rattle.std.proofs.lemmas.List.{take_at, drop_at, take-append-drop, length-append, length-take, get_or-drop, get_or-take, get_or_past, append-nil, nil_from_length}
+use Rattle.std.proofs.lemmas.List.{take_at, drop_at, take-append-drop, length-append, length-take, get_or-drop}
+use Rattle.std.proofs.lemmas.List.{get_or-take, get_or_past, append-nil, nil_from_length}
 use Rattle.std.proofs.lemmas.Nat.{le_bytes_2, le_bytes_4, from_le_bytes-to_le_bytes_2, from_le_bytes-to_le_bytes_4}
 use Rattle.std.proofs.lemmas.Int.{to_z-of_z, of_z-to_z}
 use Rattle.std.proofs.Math.Facts.{Fits-of_z, sfits_to_z}
@@ -30,11 +33,13 @@ pub record Takes {A : Type 0} (f : Field A) (bytes : List ℕ) (x : A) (more : L
   pub more_fits : IsBytes more
 
 pub record IsExact {A : Type 0} (f : Field A) : Type 0 where
-  pub takes : (bytes : List ℕ) (x : A) (more : List ℕ) → IsBytes bytes → f.read bytes ≡ Some (x, more) → Takes f bytes x more
+  pub takes : (bytes : List ℕ) (x : A) (more : List ℕ) → IsBytes bytes → f.read bytes ≡ Some (x, more)
+      → Takes f bytes x more
   pub again : (x : A) (more : List ℕ) → f.Fits x → f.read (f.spell x ++ more) ≡ Some (x, more)
 
 -- the value of a step that did not fail
-pub bind_some : {A B : Type 0} (o : Option A) (f : A → Option B) (y : B) → option_and_then f o ≡ Some y → (x : A) × (o ≡ Some x) × (f x ≡ Some y)
+pub bind_some : {A B : Type 0} (o : Option A) (f : A → Option B) (y : B) → option_and_then f o ≡ Some y
+    → (x : A) × (o ≡ Some x) × (f x ≡ Some y)
 bind_some (Some x) f y e = (x, refl, e)
 bind_some None f y e = absurd cc
 
@@ -53,7 +58,8 @@ some_is x y e = cc
 
 pub record IsWide (w : Width) : Type 0 where
   pub len : (n : ℕ) → length (to_le_bytes w n) ≡ byte_len w
-  pub back : (bytes : List ℕ) → length bytes ≡ byte_len w → IsBytes bytes → to_le_bytes w (from_le_bytes w bytes) ≡ bytes
+  pub back : (bytes : List ℕ) → length bytes ≡ byte_len w → IsBytes bytes
+      → to_le_bytes w (from_le_bytes w bytes) ≡ bytes
   pub again : (n : ℕ) → n < 256 ^ byte_len w → from_le_bytes w (to_le_bytes w n) ≡ n
   pub below : (bytes : List ℕ) → IsBytes bytes → from_le_bytes w bytes < 256 ^ byte_len w
 
@@ -73,31 +79,46 @@ wide32 = record {
   below = λ bytes fits. omega (arith, fits 0, fits 1, fits 2, fits 3);
 }
 
-number_takes : (w : Width) → IsWide w → (bytes : List ℕ) (n : ℕ) (more : List ℕ) → IsBytes bytes → (number w).read bytes ≡ Some (n, more) → Takes (number w) bytes n more
+number_takes : (w : Width) → IsWide w → (bytes : List ℕ) (n : ℕ) (more : List ℕ) → IsBytes bytes
+    → (number w).read bytes ≡ Some (n, more) → Takes (number w) bytes n more
 number_takes w wide bytes n more fits e =
-    let g = guard_some (ltb (length bytes) (byte_len w)) (from_le_bytes w (take (byte_len w) bytes), drop (byte_len w) bytes) (n, more) e in
+    let g =
+    guard_some (ltb (length bytes) (byte_len w)) (
+      from_le_bytes w (take (byte_len w) bytes),
+      drop (byte_len w) bytes,
+    ) (n, more) e in
     let long : byte_len w ≤ length bytes = ltb-false _ _ g.0 in
     let n-is : from_le_bytes w (take (byte_len w) bytes) ≡ n = ap (λ (p : ℕ × List ℕ). p.0) g.1 in
     let more-is : drop (byte_len w) bytes ≡ more = ap (λ (p : ℕ × List ℕ). p.1) g.1 in
-    let front : to_le_bytes w n ≡ take (byte_len w) bytes = rw (← n-is) (wide.back (take (byte_len w) bytes) (omega (arith, length-take (byte_len w) bytes)) (IsBytes-take (byte_len w) bytes fits)) in
+    let front : to_le_bytes w n ≡ take (byte_len w) bytes =
+    rw (← n-is) (wide.back (take (byte_len w) bytes) (omega (arith, length-take (byte_len w) bytes))
+    (IsBytes-take (byte_len w) bytes fits)) in
     record {
       parts = rw (front, ← more-is) (sym (take-append-drop (byte_len w) bytes));
       fits = rw (← n-is) (wide.below (take (byte_len w) bytes) (IsBytes-take (byte_len w) bytes fits));
       more_fits = rw (← more-is) (IsBytes-drop (byte_len w) bytes fits);
     }
 
-number_again : (w : Width) → IsWide w → (n : ℕ) (more : List ℕ) → n < 256 ^ byte_len w → (number w).read (to_le_bytes w n ++ more) ≡ Some (n, more)
+number_again : (w : Width) → IsWide w → (n : ℕ) (more : List ℕ) → n < 256 ^ byte_len w
+    → (number w).read (to_le_bytes w n ++ more) ≡ Some (n, more)
 number_again w wide n more lt =
     let len = wide.len n in
-    let long : ltb (length (to_le_bytes w n ++ more)) (byte_len w) ≡ false = le-ltb _ _ (omega (arith, length-append (to_le_bytes w n) more)) in
-    rw (long, take_at (to_le_bytes w n) more (byte_len w) len, drop_at (to_le_bytes w n) more (byte_len w) len, wide.again n lt) refl
+    let long : ltb (length (to_le_bytes w n ++ more)) (byte_len w) ≡ false =
+    le-ltb _ _ (omega (arith, length-append (to_le_bytes w n) more)) in
+    rw (
+      long,
+      take_at (to_le_bytes w n) more (byte_len w) len,
+      drop_at (to_le_bytes w n) more (byte_len w) len,
+      wide.again n lt,
+    ) refl
 
 pub number_exact : (w : Width) → IsWide w → IsExact (number w)
 number_exact w wide = record { takes = number_takes w wide; again = number_again w wide }
 
 -- ---- signed numbers
 
-signed_takes : (bytes : List ℕ) (z : ℤ) (more : List ℕ) → IsBytes bytes → (signed w32).read bytes ≡ Some (z, more) → Takes (signed w32) bytes z more
+signed_takes : (bytes : List ℕ) (z : ℤ) (more : List ℕ) → IsBytes bytes → (signed w32).read bytes ≡ Some (z, more)
+    → Takes (signed w32) bytes z more
 signed_takes bytes z more fits e =
     let b = bind_some ((number w32).read bytes) (λ n. Some (cast_signed w32 n.0, n.1)) (z, more) e in
     let t = number_takes w32 wide32 bytes b.0.0 b.0.1 fits b.1 in
@@ -110,9 +131,12 @@ signed_takes bytes z more fits e =
     } in
     subst (λ (p : ℤ × List ℕ). Takes (signed w32) bytes p.0 p.1) same made
 
-signed_again : (z : ℤ) (more : List ℕ) → FitsSigned w32 z → (signed w32).read (to_le_bytes w32 (cast_unsigned w32 z) ++ more) ≡ Some (z, more)
+signed_again : (z : ℤ) (more : List ℕ) → FitsSigned w32 z → (signed w32).read
+    (to_le_bytes w32 (cast_unsigned w32 z) ++ more) ≡ Some (z, more)
 signed_again z more fits =
-    ap (option_and_then (λ (n : ℕ × List ℕ). Some (cast_signed w32 n.0, n.1))) (number_again w32 wide32 (cast_unsigned w32 z) more (let small = Fits-of_z {w = w32} fits in omega (arith, small)))
+    ap (option_and_then (λ (n : ℕ × List ℕ). Some (cast_signed w32 n.0, n.1)))
+    (number_again w32 wide32 (cast_unsigned w32 z) more (let small = Fits-of_z {w = w32} fits in
+    omega (arith, small)))
     ∙ ap (λ (y : ℤ). Some (y, more)) (to_z-of_z w32 z fits)
 
 pub signed_exact : IsExact (signed w32)
@@ -120,9 +144,12 @@ signed_exact = record { takes = signed_takes; again = signed_again }
 
 -- ---- bytes behind their length
 
-sized_takes : (w : Width) → IsWide w → (bytes text more : List ℕ) → IsBytes bytes → (sized w).read bytes ≡ Some (text, more) → Takes (sized w) bytes text more
+sized_takes : (w : Width) → IsWide w → (bytes text more : List ℕ) → IsBytes bytes
+    → (sized w).read bytes ≡ Some (text, more) → Takes (sized w) bytes text more
 sized_takes w wide bytes text more fits e =
-    let b = bind_some ((number w).read bytes) (λ n. cond (ltb (length n.1) n.0) None (Some (take n.0 n.1, drop n.0 n.1))) (text, more) e in
+    let b =
+    bind_some ((number w).read bytes) (λ n. cond (ltb (length n.1) n.0) None (Some (take n.0 n.1, drop n.0 n.1)))
+    (text, more) e in
     let n = b.0 in
     let t = number_takes w wide bytes n.0 n.1 fits b.1 in
     let g = guard_some (ltb (length n.1) n.0) (take n.0 n.1, drop n.0 n.1) (text, more) b.2 in
@@ -131,16 +158,27 @@ sized_takes w wide bytes text more fits e =
     let small : n.0 < 256 ^ byte_len w = t.fits in
     let fits2 : length (take n.0 n.1) < 256 ^ byte_len w = subst (λ (k : ℕ). k < 256 ^ byte_len w) (sym len) small in
     let whole2 : bytes ≡ (to_le_bytes w (length (take n.0 n.1)) ++ take n.0 n.1) ++ drop n.0 n.1 =
-    t.parts ∙ ap (λ (x : List ℕ). to_le_bytes w n.0 ++ x) (sym (take-append-drop n.0 n.1)) ∙ sym (append_assoc (to_le_bytes w n.0) (take n.0 n.1) (drop n.0 n.1)) ∙ ap (λ (k : ℕ). (to_le_bytes w k ++ take n.0 n.1) ++ drop n.0 n.1) (sym len) in
-    let made : Takes (sized w) bytes (take n.0 n.1) (drop n.0 n.1) = record { parts = whole2; fits = fits2; more_fits = IsBytes-drop n.0 n.1 t.more_fits } in
+    t.parts ∙ ap (λ (x : List ℕ). to_le_bytes w n.0 ++ x) (sym (take-append-drop n.0 n.1))
+    ∙ sym (append_assoc (to_le_bytes w n.0) (take n.0 n.1) (drop n.0 n.1))
+    ∙ ap (λ (k : ℕ). (to_le_bytes w k ++ take n.0 n.1) ++ drop n.0 n.1) (sym len) in
+    let made : Takes (sized w) bytes (take n.0 n.1) (drop n.0 n.1) =
+    record { parts = whole2; fits = fits2; more_fits = IsBytes-drop n.0 n.1 t.more_fits } in
     subst (λ (p : List ℕ × List ℕ). Takes (sized w) bytes p.0 p.1) g.1 made
 
-sized_again : (w : Width) → IsWide w → (text more : List ℕ) → length text < 256 ^ byte_len w → (sized w).read ((to_le_bytes w (length text) ++ text) ++ more) ≡ Some (text, more)
+sized_again : (w : Width) → IsWide w → (text more : List ℕ) → length text < 256 ^ byte_len w
+    → (sized w).read ((to_le_bytes w (length text) ++ text) ++ more) ≡ Some (text, more)
 sized_again w wide text more lt =
-    let long : ltb (length (text ++ more)) (length text) ≡ false = le-ltb _ _ (omega (arith, length-append text more)) in
-    let then : ℕ × List ℕ → Option (List ℕ × List ℕ) = λ n. cond (ltb (length n.1) n.0) None (Some (take n.0 n.1, drop n.0 n.1)) in
+    let long : ltb (length (text ++ more)) (length text) ≡ false =
+    le-ltb _ _ (omega (arith, length-append text more)) in
+    let then : ℕ × List ℕ → Option (List ℕ × List ℕ) =
+    λ n. cond (ltb (length n.1) n.0) None (Some (take n.0 n.1, drop n.0 n.1)) in
     let first = number_again w wide (length text) (text ++ more) lt in
-    ap (λ (x : List ℕ). (sized w).read x) (append_assoc (to_le_bytes w (length text)) text more) ∙ ap (option_and_then then) first ∙ rw (long, take_at text more (length text) refl, drop_at text more (length text) refl) refl
+    ap (λ (x : List ℕ). (sized w).read x) (append_assoc (to_le_bytes w (length text)) text more)
+    ∙ ap (option_and_then then) first ∙ rw (
+      long,
+      take_at text more (length text) refl,
+      drop_at text more (length text) refl,
+    ) refl
 
 pub sized_exact : (w : Width) → IsWide w → IsExact (sized w)
 sized_exact w wide = record { takes = sized_takes w wide; again = sized_again w wide }
@@ -192,22 +230,29 @@ nothing_exact = record {
 }
 
 module _ {A B : Type 0} (f : Field A) (g : Field B) (exact_f : IsExact f) (exact_g : IsExact g) where
-  both_takes : (bytes : List ℕ) (x : A × B) (more : List ℕ) → IsBytes bytes → (both f g).read bytes ≡ Some (x, more) → Takes (both f g) bytes x more
+  both_takes : (bytes : List ℕ) (x : A × B) (more : List ℕ) → IsBytes bytes → (both f g).read bytes ≡ Some (x, more)
+      → Takes (both f g) bytes x more
   both_takes bytes x more fits e =
-      let a = bind_some (f.read bytes) (λ a. option_and_then (λ b. Some ((a.0, b.0), b.1)) (g.read a.1)) (x, more) e in
+      let a =
+      bind_some (f.read bytes) (λ a. option_and_then (λ b. Some ((a.0, b.0), b.1)) (g.read a.1)) (x, more) e in
       let b = bind_some (g.read a.0.1) (λ b. Some ((a.0.0, b.0), b.1)) (x, more) a.2 in
       let t = exact_f.takes bytes a.0.0 a.0.1 fits a.1 in
       let u = exact_g.takes a.0.1 b.0.0 b.0.1 t.more_fits b.1 in
       let made : Takes (both f g) bytes (a.0.0, b.0.0) b.0.1 = record {
-        parts = t.parts ∙ ap (λ (y : List ℕ). f.spell a.0.0 ++ y) u.parts ∙ sym (append_assoc (f.spell a.0.0) (g.spell b.0.0) b.0.1);
+        parts = t.parts ∙ ap (λ (y : List ℕ). f.spell a.0.0 ++ y) u.parts
+            ∙ sym (append_assoc (f.spell a.0.0) (g.spell b.0.0) b.0.1);
         fits = (t.fits, u.fits);
         more_fits = u.more_fits;
       } in
-      subst (λ (p : (A × B) × List ℕ). Takes (both f g) bytes p.0 p.1) (some_is ((a.0.0, b.0.0), b.0.1) (x, more) b.2) made
+      subst (λ (p : (A × B) × List ℕ). Takes (both f g) bytes p.0 p.1)
+      (some_is ((a.0.0, b.0.0), b.0.1) (x, more) b.2) made
 
-  both_again : (x : A × B) (more : List ℕ) → (both f g).Fits x → (both f g).read ((both f g).spell x ++ more) ≡ Some (x, more)
+  both_again : (x : A × B) (more : List ℕ) → (both f g).Fits x
+      → (both f g).read ((both f g).spell x ++ more) ≡ Some (x, more)
   both_again x more h =
-      ap (λ (y : List ℕ). (both f g).read y) (append_assoc (f.spell x.0) (g.spell x.1) more) ∙ ap (option_and_then (λ (a : A × List ℕ). option_and_then (λ (b : B × List ℕ). Some ((a.0, b.0), b.1)) (g.read a.1))) (exact_f.again x.0 (g.spell x.1 ++ more) h.0)
+      ap (λ (y : List ℕ). (both f g).read y) (append_assoc (f.spell x.0) (g.spell x.1) more)
+      ∙ ap (option_and_then (λ (a : A × List ℕ). option_and_then (λ (b : B × List ℕ). Some ((a.0, b.0), b.1))
+      (g.read a.1))) (exact_f.again x.0 (g.spell x.1 ++ more) h.0)
       ∙ ap (option_and_then (λ (b : B × List ℕ). Some ((x.0, b.0), b.1))) (exact_g.again x.1 more h.1)
 
   pub both_exact : IsExact (both f g)
@@ -249,10 +294,12 @@ guard_none false x y e = absurd cc
 module _ {A B : Type 0} (f : Field A) (exact : IsExact f) (make : A → B) where
   pub whole_again : (x : A) → f.Fits x → whole f make (f.spell x) ≡ Some (make x)
   whole_again x h =
-      let one : f.read (f.spell x) ≡ Some (x, []) = ap (λ (y : List ℕ). f.read y) (sym (append-nil (f.spell x))) ∙ exact.again x [] h in
+      let one : f.read (f.spell x) ≡ Some (x, []) =
+      ap (λ (y : List ℕ). f.read y) (sym (append-nil (f.spell x))) ∙ exact.again x [] h in
       ap (option_and_then (λ (a : A × List ℕ). cond (eqb (length a.1) 0) (Some (make a.0)) None)) one
 
-  pub whole_takes : (bytes : List ℕ) (y : B) → IsBytes bytes → whole f make bytes ≡ Some y → (x : A) × (bytes ≡ f.spell x) × f.Fits x × (make x ≡ y)
+  pub whole_takes : (bytes : List ℕ) (y : B) → IsBytes bytes → whole f make bytes ≡ Some y
+      → (x : A) × (bytes ≡ f.spell x) × f.Fits x × (make x ≡ y)
   whole_takes bytes y fits e =
       let a = bind_some (f.read bytes) (λ a. cond (eqb (length a.1) 0) (Some (make a.0)) None) y e in
       let g = guard_none (eqb (length a.0.1) 0) (make a.0.0) y a.2 in

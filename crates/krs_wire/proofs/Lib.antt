@@ -1,3 +1,4 @@
+pub mod CaseLemmas
 pub mod FieldLemmas
 pub mod CountLemmas
 pub mod CutLemmas

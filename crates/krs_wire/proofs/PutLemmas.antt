@@ -1,5 +1,6 @@
 -- Bytes that are put behind others.
-use Rattle.std.proofs.Common.{◌≡◌, ◌+◌, ◌<◌, List, [], ◌∷◌, ◌++◌, ℕ, length, get_or, take, Result, Ok, Err, OnOk, ap, sym, subst, ◌∙◌, append_assoc}
+use Rattle.std.proofs.Common.{◌≡◌, ◌+◌, ◌<◌, List, [], ◌∷◌, ◌++◌, ℕ, length, get_or, take, Result, Ok, Err, OnOk, ap}
+use Rattle.std.proofs.Common.{sym, subst, ◌∙◌, append_assoc}
 use Rattle.std.proofs.lemmas.List.{take_more, flat_map_more}
 use Rattle.std.specs.List.{flat_map, AllByRecursion}
 use Rattle.krs_wire.specs.Field.{Field}

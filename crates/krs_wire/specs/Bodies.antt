@@ -1,10 +1,13 @@
--- The bodies of the operations: number, fields and ask of each. docs/FORMAT.md, "The asks"; the numbers up to 32 are those
--- of uapi linux/keyctl.h.
+-- The bodies of the operations: number, fields and ask of each. docs/FORMAT.md, "The asks"; the numbers up to 32 are
+-- those of uapi linux/keyctl.h.
 use Rattle.std.specs.Prelude.{Bool, ℕ, ℤ, List}
 use Rattle.std.specs.Int.{w16, w32}
 use Rattle.krs_types.specs.declared.caller.Caller.{Caller}
 use Rattle.krs_types.specs.declared.ask.Op.{Op}
-use Rattle.krs_types.specs.declared.ask.Op.TheVariants.{Hello, Thread, Fork, Exec, GetId, Join, Search, Request, Add, Update, Revoke, Invalidate, Chown, SetPerm, SetTimeout, Link, Unlink, Clear, Read, Describe, Watch, OpenQueue, SetFilter, ReadQueue, CloseQueue, Exit, Leave}
+use Rattle.krs_types.specs.declared.ask.Op.TheVariants.{Hello, Thread, Fork, Exec, GetId, Join, Search, Request, Add}
+use Rattle.krs_types.specs.declared.ask.Op.TheVariants.{Update, Revoke, Invalidate, Chown, SetPerm, SetTimeout, Link}
+use Rattle.krs_types.specs.declared.ask.Op.TheVariants.{Unlink, Clear, Read, Describe, Watch, OpenQueue, SetFilter}
+use Rattle.krs_types.specs.declared.ask.Op.TheVariants.{ReadQueue, CloseQueue, Exit, Leave}
 use Rattle.krs_types.specs.declared.note.FilterEntry.{FilterEntry}
 use Rattle.krs_wire.specs.Field.{Field, number, signed, sized, flag, both, counted, nothing, repeated, built}
 

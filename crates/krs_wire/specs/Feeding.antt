@@ -17,7 +17,8 @@ fault_of (bad fault) = Some fault
 -- for every stream that ended so, with this piece behind it: these are its new frames, and its new end
 abbrev pub Feeds : End → List ℕ → List Framed → End → Type 0
 Feeds (rest left) piece frames new =
-    (before : List ℕ) (earlier : List Framed) → Frames before earlier (rest left) → Frames (before ++ piece) (earlier ++ frames) new
+    (before : List ℕ) (earlier : List Framed) → Frames before earlier (rest left)
+    → Frames (before ++ piece) (earlier ++ frames) new
 Feeds (bad old) piece frames new = ⊥
 
 -- the stream goes on from what came before in some way
@@ -27,8 +28,8 @@ GoesOn (rest left) piece =
     (frames : List Framed) × (end : End) × Frames (before ++ piece) (earlier ++ frames) end
 GoesOn (bad old) piece = ⊥
 
--- a piece that is refused completes no frame before its fault; one that is refused for memory is not taken; a feed that has
--- failed answers its fault
+-- a piece that is refused completes no frame before its fault; one that is refused for memory is not taken; a feed
+-- that has failed answers its fault
 abbrev pub Refuses : End → List ℕ → WireFault → Type 0
 Refuses (bad old) piece fault = fault ≡ old
 Refuses (rest left) piece fault = (fault ≢ Memory → Feeds (rest left) piece [] (bad fault)) × GoesOn (rest left) piece

@@ -1,6 +1,7 @@
--- Fields of frames: how each is spelled and how it is read. What fits is read again as it was spelled. docs/FORMAT.md,
--- "Fields of bodies".
-use Rattle.std.specs.Prelude.{◌≡◌, Bool, true, false, ℕ, ℤ, FitsSigned, zero, suc, ◌<◌, ◌^◌, ◌==◌, List, [], ◌∷◌, ◌++◌, length, take, drop, Option, Some, None, nat_lt, if◌then◌else◌}
+-- Fields of frames: how each is spelled and how it is read. What fits is read again as it was spelled.
+-- docs/FORMAT.md, "Fields of bodies".
+use Rattle.std.specs.Prelude.{◌≡◌, Bool, true, false, ℕ, ℤ, FitsSigned, zero, suc, ◌<◌, ◌^◌, ◌==◌, List, [], ◌∷◌}
+use Rattle.std.specs.Prelude.{◌++◌, length, take, drop, Option, Some, None, nat_lt, if◌then◌else◌}
 use Rattle.std.specs.Option.{option_and_then}
 use Rattle.std.specs.List.{flat_map, AllByRecursion}
 use Rattle.std.specs.Int.{Width, w32, byte_len, from_le_bytes, to_le_bytes, cast_signed, cast_unsigned}
@@ -16,7 +17,8 @@ abbrev pub number : Width → Field ℕ
 number w = record {
   Fits = λ n. n < 256 ^ byte_len w;
   spell = λ n. to_le_bytes w n;
-  read = λ bytes. if nat_lt (length bytes) (byte_len w) then None else Some (from_le_bytes w (take (byte_len w) bytes), drop (byte_len w) bytes);
+  read = λ bytes. if nat_lt (length bytes) (byte_len w) then None else Some
+      (from_le_bytes w (take (byte_len w) bytes), drop (byte_len w) bytes);
 }
 
 -- a signed number of a width, little-endian, in two's complement
@@ -32,7 +34,8 @@ abbrev pub sized : Width → Field (List ℕ)
 sized w = record {
   Fits = λ bytes. length bytes < 256 ^ byte_len w;
   spell = λ bytes. to_le_bytes w (length bytes) ++ bytes;
-  read = λ bytes. option_and_then (λ n. if nat_lt (length n.1) n.0 then None else Some (take n.0 n.1, drop n.0 n.1)) ((number w).read bytes);
+  read = λ bytes. option_and_then (λ n. if nat_lt (length n.1) n.0 then None else Some (take n.0 n.1, drop n.0 n.1))
+      ((number w).read bytes);
 }
 
 -- what a flag at the front says: its byte has to be 0 or 1
@@ -67,7 +70,8 @@ both f g = record {
 -- so many of a field
 unfoldable pub many_read : {A : Type 0} → Field A → ℕ → List ℕ → Option (List A × List ℕ)
 many_read f zero bytes = Some ([], bytes)
-many_read f (suc n) bytes = option_and_then (λ a. option_and_then (λ b. Some (a.0 ∷ b.0, b.1)) (many_read f n a.1)) (f.read bytes)
+many_read f (suc n) bytes =
+    option_and_then (λ a. option_and_then (λ b. Some (a.0 ∷ b.0, b.1)) (many_read f n a.1)) (f.read bytes)
 
 -- a count of 32 bits, and that many of a field
 abbrev pub counted : {A : Type 0} → Field A → Field (List A)

@@ -1,6 +1,7 @@
--- The cut of a stream of bytes into frames: docs/FORMAT.md, "What a stream is cut into". It speaks of the whole stream and
--- knows no pieces. The faults come in the order of docs/FORMAT.md, "Faults of an ask's frame".
-use Rattle.std.specs.Prelude.{◌≡◌, Bool, ℕ, ◌==◌, ◌||◌, List, [], ◌∷◌, length, take, drop, Option, Some, None, Result, Ok, Err, nat_lt, if◌then◌else◌}
+-- The cut of a stream of bytes into frames: docs/FORMAT.md, "What a stream is cut into". It speaks of the whole
+-- stream and knows no pieces. The faults come in the order of docs/FORMAT.md, "Faults of an ask's frame".
+use Rattle.std.specs.Prelude.{◌≡◌, Bool, ℕ, ◌==◌, ◌||◌, List, [], ◌∷◌, length, take, drop, Option, Some, None, Result}
+use Rattle.std.specs.Prelude.{Ok, Err, nat_lt, if◌then◌else◌}
 use Rattle.std.specs.Int.{w16, w32}
 use Rattle.krs_types.specs.declared.ask.Op.{Op}
 use Rattle.krs_wire.specs.declared.fault.WireFault.{WireFault}
@@ -8,7 +9,13 @@ use Rattle.krs_wire.specs.declared.fault.WireFault.TheVariants.{BadLength, BadVe
 use Rattle.krs_wire.specs.declared.framed.Framed.{Framed}
 use Rattle.krs_wire.specs.Field.{Field, number, both, nothing, whole}
 use Rattle.krs_wire.specs.Faulting.{after, or_bad_body}
-use Rattle.krs_wire.specs.Bodies.{id_field, text_field, hello_fields, hello_of, thread_of, fork_of, exec_of, exit_of, get_id_fields, get_id_of, join_of, search_fields, search_of, request_fields, request_of, add_fields, add_of, update_fields, update_of, revoke_of, invalidate_of, chown_fields, chown_of, id_number_fields, set_perm_of, set_timeout_of, link_fields, link_of, unlink_of, clear_of, read_of, describe_of, watch_fields, watch_of, open_queue_of, set_filter_fields, set_filter_of, read_queue_fields, read_queue_of, close_queue_of, leave_of}
+use Rattle.krs_wire.specs.Bodies.{id_field, text_field, hello_fields, hello_of, thread_of, fork_of, exec_of, exit_of}
+use Rattle.krs_wire.specs.Bodies.{get_id_fields, get_id_of, join_of, search_fields, search_of, request_fields}
+use Rattle.krs_wire.specs.Bodies.{request_of, add_fields, add_of, update_fields, update_of, revoke_of, invalidate_of}
+use Rattle.krs_wire.specs.Bodies.{chown_fields, chown_of, id_number_fields, set_perm_of, set_timeout_of, link_fields}
+use Rattle.krs_wire.specs.Bodies.{link_of, unlink_of, clear_of, read_of, describe_of, watch_fields, watch_of}
+use Rattle.krs_wire.specs.Bodies.{open_queue_of, set_filter_fields, set_filter_of, read_queue_fields, read_queue_of}
+use Rattle.krs_wire.specs.Bodies.{close_queue_of, leave_of}
 
 -- what a body says for an operation's number
 unfoldable pub op_of : ℕ → List ℕ → Result Op WireFault
@@ -49,7 +56,8 @@ head_fields = both (number w16) (both (number w16) (number w32))
 abbrev pub framed_by : Option ((ℕ × (ℕ × ℕ)) × List ℕ) → Result Framed WireFault
 framed_by None = Err BadBody
 framed_by (Some (head, body)) =
-    if head.0 == 1 then after (λ op. Ok (record { ask = record { context = head.1.1; op = op } })) (op_of head.1.0 body)
+    if head.0 == 1 then after (λ op. Ok (record { ask = record { context = head.1.1; op = op } }))
+    (op_of head.1.0 body)
     else Err BadVersion
 
 -- what a whole frame says behind its length
@@ -84,4 +92,5 @@ pub data End : Type 0 where
 abbrev pub Frames : List ℕ → List Framed → End → Type 0
 Frames bytes [] (rest left) = (front_of bytes ≡ Ok None) × (left ≡ bytes)
 Frames bytes [] (bad fault) = front_of bytes ≡ Err fault
-Frames bytes (framed ∷ frames) end = (more : List ℕ) × (front_of bytes ≡ Ok (Some (framed, more))) × Frames more frames end
+Frames bytes (framed ∷ frames) end =
+    (more : List ℕ) × (front_of bytes ≡ Ok (Some (framed, more))) × Frames more frames end

@@ -1,10 +1,14 @@
 -- The frame of a reply: docs/FORMAT.md, "A reply's frame", "Faults of a reply".
-use Rattle.std.specs.Prelude.{◌≡◌, Bool, ℕ, ◌+◌, ◌<◌, ◌≤◌, ◌^◌, ◌==◌, ◌||◌, List, [], ◌++◌, length, take, nat_lt, find, if◌then◌else◌, Option, Some, None, Result, Ok, Err}
+use Rattle.std.specs.Prelude.{◌≡◌, Bool, ℕ, ◌+◌, ◌<◌, ◌≤◌, ◌^◌, ◌==◌, ◌||◌, List, [], ◌++◌, length, take, nat_lt}
+use Rattle.std.specs.Prelude.{find, if◌then◌else◌, Option, Some, None, Result, Ok, Err}
 use Rattle.std.specs.Int.{w32, to_le_bytes}
 use Rattle.krs_types.specs.declared.ask.Answer.{Answer}
 use Rattle.krs_types.specs.declared.ask.Answer.TheVariants.{Nothing, Number, Bytes}
 use Rattle.krs_types.specs.declared.ask.Op.{Op}
-use Rattle.krs_types.specs.declared.ask.Op.TheVariants.{Hello, Thread, Fork, Exec, GetId, Join, Search, Request, Add, Update, Revoke, Invalidate, Chown, SetPerm, SetTimeout, Link, Unlink, Clear, Read, Describe, Watch, OpenQueue, SetFilter, ReadQueue, CloseQueue, Exit, Leave}
+use Rattle.krs_types.specs.declared.ask.Op.TheVariants.{Hello, Thread, Fork, Exec, GetId, Join, Search, Request, Add}
+use Rattle.krs_types.specs.declared.ask.Op.TheVariants.{Update, Revoke, Invalidate, Chown, SetPerm, SetTimeout, Link}
+use Rattle.krs_types.specs.declared.ask.Op.TheVariants.{Unlink, Clear, Read, Describe, Watch, OpenQueue, SetFilter}
+use Rattle.krs_types.specs.declared.ask.Op.TheVariants.{ReadQueue, CloseQueue, Exit, Leave}
 use Rattle.krs_types.specs.declared.errno.Errno.{Errno}
 use Rattle.krs_types.specs.Errno.{number_of, errnos}
 use Rattle.krs_wire.specs.declared.fault.WireFault.{WireFault}

@@ -32,12 +32,15 @@ pub record FitsAsk (ask : Ask) : Type 0 where
 -- each frame that is cut is that of its ask
 abbrev pub EachCutIsSpelled : Type 0
 EachCutIsSpelled =
-    (bytes : List ℕ) (framed : Framed) (more : List ℕ) → ((i : ℕ) → slice_index bytes i < 256) → front_of bytes ≡ Ok (Some (framed, more)) →
+    (bytes : List ℕ) (framed : Framed) (more : List ℕ) → ((i : ℕ) → slice_index bytes i < 256)
+    → front_of bytes ≡ Ok (Some (framed, more)) →
     (bytes ≡ ask_frame framed.ask ++ more) × FitsAsk framed.ask
 
 -- the frame of each ask is cut as that ask, whatever follows it
 abbrev pub EachSpellingIsCut : Type 0
-EachSpellingIsCut = (framed : Framed) (more : List ℕ) → FitsAsk framed.ask → front_of (ask_frame framed.ask ++ more) ≡ Ok (Some (framed, more))
+EachSpellingIsCut =
+    (framed : Framed) (more : List ℕ) → FitsAsk framed.ask → front_of (ask_frame framed.ask ++ more)
+    ≡ Ok (Some (framed, more))
 
 -- each stream is cut in some way
 abbrev pub EachStreamIsCut : Type 0
@@ -46,5 +49,6 @@ EachStreamIsCut = (bytes : List ℕ) → (frames : List Framed) × (end : End) �
 -- two cuts of one stream are the same
 abbrev pub CutsAgree : Type 0
 CutsAgree =
-    (bytes : List ℕ) (frames others : List Framed) (end other : End) → Frames bytes frames end → Frames bytes others other →
+    (bytes : List ℕ) (frames others : List Framed) (end other : End) → Frames bytes frames end
+    → Frames bytes others other →
     (frames ≡ others) × (end ≡ other)

@@ -3,7 +3,13 @@ ghost use Rattle.std.specs.Prelude.{◌≡◌, ◌<◌, ◌-◌, drop, IfOk, IfS
 ghost use Rattle.std.specs.Int.{w32};
 ghost use Rattle.krs_wire.specs.Field.{number, whole};
 ghost use Rattle.krs_wire.specs.Faulting.{Gives, or_bad_body};
-ghost use Rattle.krs_wire.specs.Bodies.{add_fields, add_of, chown_fields, chown_of, clear_of, describe_of, get_id_fields, get_id_of, hello_fields, hello_of, id_field, id_number_fields, invalidate_of, join_of, link_fields, link_of, read_of, request_fields, request_of, revoke_of, search_fields, search_of, set_perm_of, set_timeout_of, text_field, unlink_of, update_fields, update_of, watch_fields, watch_of, open_queue_of, set_filter_fields, set_filter_of, read_queue_fields, read_queue_of, close_queue_of};
+ghost use Rattle.krs_wire.specs.Bodies.{add_fields, add_of, chown_fields, chown_of, clear_of, describe_of};
+ghost use Rattle.krs_wire.specs.Bodies.{get_id_fields, get_id_of, hello_fields, hello_of, id_field, id_number_fields};
+ghost use Rattle.krs_wire.specs.Bodies.{invalidate_of, join_of, link_fields, link_of, read_of, request_fields};
+ghost use Rattle.krs_wire.specs.Bodies.{request_of, revoke_of, search_fields, search_of, set_perm_of, set_timeout_of};
+ghost use Rattle.krs_wire.specs.Bodies.{text_field, unlink_of, update_fields, update_of, watch_fields, watch_of};
+ghost use Rattle.krs_wire.specs.Bodies.{open_queue_of, set_filter_fields, set_filter_of, read_queue_fields};
+ghost use Rattle.krs_wire.specs.Bodies.{read_queue_of, close_queue_of};
 ghost use Rattle.krs_wire.specs.Frame.{op_of, framed_of, front_of};
 
 use crate::fields::{

@@ -1,8 +1,14 @@
 ghost use Rattle.std.specs.Prelude.{◌≡◌, ◌≤◌, ◌<◌, ◌^◌, ◌++◌, [], ◌∷◌, length, drop, vec_len, IfOk, IfErr, OnOk};
 ghost use Rattle.std.specs.Int.{w16, w32, to_le_bytes};
 ghost use Rattle.std.specs.List.{flat_map, AllByRecursion};
-ghost use Rattle.krs_wire.specs.Bodies.{number_of_op, body_of_op, FitsOp, id_field, text_field, blob_field, groups_field, hello_fields, hello_parts, add_fields, add_parts, update_fields, update_parts, chown_fields, chown_parts, id_number_fields, id_number_parts, link_fields, link_parts, get_id_fields, get_id_parts, request_fields, request_parts, search_fields, search_parts, watch_fields, watch_parts, entry_field, entries_field, set_filter_fields, set_filter_parts, read_queue_fields, read_queue_parts};
-ghost use Rattle.krs_wire.specs.Field.{flag, number, repeated};
+ghost use Rattle.krs_wire.specs.Bodies.{number_of_op, body_of_op, FitsOp, id_field, text_field, blob_field};
+ghost use Rattle.krs_wire.specs.Bodies.{groups_field, hello_fields, hello_parts, add_fields, add_parts};
+ghost use Rattle.krs_wire.specs.Bodies.{update_fields, update_parts, chown_fields, chown_parts, id_number_fields};
+ghost use Rattle.krs_wire.specs.Bodies.{id_number_parts, link_fields, link_parts, get_id_fields, get_id_parts};
+ghost use Rattle.krs_wire.specs.Bodies.{request_fields, request_parts, search_fields, search_parts, watch_fields};
+ghost use Rattle.krs_wire.specs.Bodies.{watch_parts, entry_field, entries_field, set_filter_fields, set_filter_parts};
+ghost use Rattle.krs_wire.specs.Bodies.{read_queue_fields, read_queue_parts};
+ghost use Rattle.krs_wire.specs.Field.{flag, number};
 ghost use Rattle.krs_wire.specs.Frame.{Frames, rest};
 ghost use Rattle.krs_wire.specs.Spelling.{framed, ask_text, ask_frame, IsTooLong};
 

@@ -7,8 +7,8 @@ use crate::{Framed, WireFault};
 use std::alloc::Global;
 use std::marker::Model;
 
-/// The reading end of a connection: pieces of a stream in, whole frames out. A contract sees how the stream ends so far: in
-/// the beginning of a frame, or in a fault.
+/// The reading end of a connection: pieces of a stream in, whole frames out. A contract sees how the stream ends so
+/// far: in the beginning of a frame, or in a fault.
 #[derive(Drop)]
 pub struct Feed {
     alloc: Global,
@@ -116,8 +116,8 @@ impl Feed {
     }
 
     /// Takes the next piece of the stream, and answers the frames that are whole now. A fault behind them shows in
-    /// `fault`, and is what every later piece is answered with. A piece that is refused for want of memory is not taken,
-    /// and the feed has failed.
+    /// `fault`, and is what every later piece is answered with. A piece that is refused for want of memory is not
+    /// taken, and the feed has failed.
     pub fn feed(&mut self, piece: &[u8]) -> Result<Vec<Framed>, WireFault>
         ensures frames { IfOk result (λ frames. Feeds self.old piece.now frames.items self.new) }
         ensures refused { IfErr result (Refuses self.old piece.now) }

@@ -1,5 +1,5 @@
-//! Frames on a connection: the cut of a stream of bytes into asks, and the spelling of asks and replies. docs/FORMAT.md,
-//! "Frames"; profile, own frames. A contract sees a feed as the end of its stream so far.
+//! Frames on a connection: the cut of a stream of bytes into asks, and the spelling of asks and replies.
+//! docs/FORMAT.md, "Frames"; profile, own frames. A contract sees a feed as the end of its stream so far.
 #![tactic(auto)]
 
 mod asks;

@@ -2,7 +2,8 @@ ghost use Rattle.std.specs.Prelude.{◌≡◌, ◌≤◌, IfOk, IfErr, IfSome, l
 ghost use Rattle.std.specs.Int.{w32};
 ghost use Rattle.krs_wire.specs.Faulting.{Gives};
 ghost use Rattle.krs_wire.specs.Field.{number};
-ghost use Rattle.krs_wire.specs.Reply.{answer_of, frame_of, reply_by, reply_front, reply_frame, shape_of, Finds, IsAtFront};
+ghost use Rattle.krs_wire.specs.Reply.{answer_of, frame_of, reply_by, reply_front, reply_frame, shape_of, Finds};
+ghost use Rattle.krs_wire.specs.Reply.{IsAtFront};
 
 use crate::fields::{ended, u32_at};
 use crate::{Shape, WireFault};
@@ -97,8 +98,8 @@ fn front_reply(alloc: Global, op: &Op, bytes: &[u8]) -> Result<Option<(Reply, us
     Ok(Some((reply, len + 4)))
 }
 
-/// The reply at the front of the bytes to an ask of this operation, and how many bytes it takes. None where it is not whole
-/// and its length, where it is there, is good.
+/// The reply at the front of the bytes to an ask of this operation, and how many bytes it takes. None where it is not
+/// whole and its length, where it is there, is good.
 pub fn decode_reply(
     alloc: Global,
     op: &Op,

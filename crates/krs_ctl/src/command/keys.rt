@@ -1,7 +1,8 @@
 //! Commands of one key.
 
 ghost use Rattle.std.specs.Prelude.{map};
-ghost use Rattle.krs_ctl.specs.Command.{add_of, update_of, print_of, rlist_of, rdescribe_of, revoke_of, invalidate_of, chown_of, chgrp_of, setperm_of, timeout_of};
+ghost use Rattle.krs_ctl.specs.Command.{add_of, update_of, print_of, rlist_of, rdescribe_of, revoke_of};
+ghost use Rattle.krs_ctl.specs.Command.{invalidate_of, chown_of, chgrp_of, setperm_of, timeout_of};
 ghost use Rattle.krs_ctl.specs.Parsed.{Reads};
 
 use crate::command::Command;

@@ -4,8 +4,8 @@ use std::alloc::Global;
 use std::process::Abort;
 use std::test::Fail;
 
-/// A context that ended is still the current one, and is no context. With the last context of a uid its keyrings go, and
-/// the next one makes them anew.
+/// A context that ended is still the current one, and is no context. With the last context of a uid its keyrings go,
+/// and the next one makes them anew.
 #[rattlefmt::skip]
 const LAST_CONTEXT: [(&str, &str); 12] = [
     ("hello 1000 1000", "1"),
@@ -22,7 +22,8 @@ const LAST_CONTEXT: [(&str, &str); 12] = [
     ("rdescribe 5", "error 126 ENOKEY"),
 ];
 
-/// A thread keyring that its process keyring links outlives its context. Both go with the last context of the process.
+/// A thread keyring that its process keyring links outlives its context. Both go with the last context of the
+/// process.
 #[rattlefmt::skip]
 const LAST_OF_A_PROCESS: [(&str, &str); 13] = [
     ("hello 1000 1000", "1"),

@@ -43,7 +43,8 @@ const SET_AND_ENDED: [(&str, &str); 18] = [
     ("closeq 1", "ok"),
 ];
 
-/// A queue of one record that three notes come to: the first, and a loss for the others. The room is for whole records.
+/// A queue of one record that three notes come to: the first, and a loss for the others. The room is for whole
+/// records.
 #[rattlefmt::skip]
 const FULL: [(&str, &str); 11] = [
     ("hello 1000 1000", "1"),

@@ -1,6 +1,7 @@
-ghost use Rattle.std.specs.Prelude.{◌≡◌, ◌≤◌, ◌+◌, ◌||◌, is_some, length, IfOk, OnOk, OnErr};
+ghost use Rattle.std.specs.Prelude.{◌≡◌, ◌≤◌, ◌||◌, length, IfOk, OnOk, OnErr};
 ghost use Rattle.krs_model.specs.Outcome.{Leads, Gives, Is};
-ghost use Rattle.krs_model.specs.Asks.Adding.{admitted, if_room, by_match, place_of, first_perm, new_key, made, IsRing, add};
+ghost use Rattle.krs_model.specs.Asks.Adding.{admitted, if_room, by_match, place_of, first_perm, new_key, made};
+ghost use Rattle.krs_model.specs.Asks.Adding.{IsRing, add};
 ghost use Rattle.krs_model.specs.Asks.Changing.{is_updatable};
 ghost use Rattle.krs_store.specs.Places.{meant, HasSerial};
 ghost use Rattle.krs_links.specs.Links.{serials};
@@ -16,9 +17,6 @@ use krs_types::{
 };
 use std::alloc::{AllocError, Global};
 
-/// How many links a keyring has at most: profile, full keyrings.
-const MAX_LINKS: usize = 65535;
-
 /// The last serial that a key may get: profile, serials run out.
 pub(crate) const LAST_SERIAL: u32 = 2_147_483_647;
 
@@ -33,7 +31,8 @@ pub(crate) enum Place {
 /// What is asked for is a key that may be made: its kind.
 #[tactic(auto, unfolding(krs_model::specs::Asks::Adding::admitted))]
 fn admitted(type_name: &[u8], desc: &[u8], payload: &[u8]) -> Result<Kind, Errno>
-    ensures name { Is (λ k. record { kind = k; desc = desc.now }) result (admitted type_name.now desc.now payload.now) }
+    ensures name { Is (λ k. record { kind = k; desc = desc.now }) result
+        (admitted type_name.now desc.now payload.now) }
     ensures desc { OnOk result (length desc.now ≤ 4095) }
     ensures payload { OnOk result (length payload.now ≤ 32767) }
 {
@@ -53,7 +52,7 @@ impl Tables {
         ensures place { Is meant result (if_room self.now ring (serials links.now) displaced) }
         ensures serial { IfOk result (HasSerial self.now.next_serial) }
     {
-        if displaced.is_none() && links.len() >= MAX_LINKS {
+        if displaced.is_none() && links.is_full() {
             return Err(Errno::ENFILE);
         }
         if self.keys.next() > LAST_SERIAL {

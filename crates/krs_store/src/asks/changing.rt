@@ -1,6 +1,7 @@
 ghost use Rattle.std.specs.Prelude.{◌≡◌, ◌||◌};
 ghost use Rattle.krs_model.specs.Outcome.{Leads, Is};
-ghost use Rattle.krs_model.specs.Asks.Changing.{changed, updatable, update, if_owner, set_perm, if_may_own, chown, expiry_after, set_timeout, revoke};
+ghost use Rattle.krs_model.specs.Asks.Changing.{changed, updatable, update, if_owner, set_perm, if_may_own, chown};
+ghost use Rattle.krs_model.specs.Asks.Changing.{expiry_after, set_timeout, revoke};
 ghost use Rattle.krs_keys.specs.Keys.{seen};
 ghost use Rattle.krs_keys.specs.Changes.{meant_change};
 

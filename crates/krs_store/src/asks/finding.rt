@@ -1,6 +1,5 @@
-ghost use Rattle.std.specs.Prelude.{◌≡◌, IfOk};
+ghost use Rattle.std.specs.Prelude.{IfOk};
 ghost use Rattle.krs_model.specs.Outcome.{Leads, Gives, Is};
-ghost use Rattle.krs_model.specs.Linking.{ring_links};
 ghost use Rattle.krs_model.specs.Search.{found, requested};
 ghost use Rattle.krs_model.specs.Asks.Adding.{IsRing};
 ghost use Rattle.krs_model.specs.Lookup.{context_of};
@@ -34,8 +33,8 @@ pub(crate) fn sought_name(type_name: Blob, desc: Blob) -> Result<Name, Errno>
 }
 
 impl Tables {
-    /// A key of that type and description, from a keyring on, and a link to it in a destination other than 0, which is
-    /// made where it is wanted: keyctl(2), KEYCTL_SEARCH.
+    /// A key of that type and description, from a keyring on, and a link to it in a destination other than 0, which
+    /// is made where it is wanted: keyctl(2), KEYCTL_SEARCH.
     #[tactic(auto, unfolding(krs_model::specs::Asks::Finding::search_from))]
     pub(crate) fn search(
         &mut self,
@@ -66,8 +65,8 @@ impl Tables {
         self.link_found(client, number, into, serial)
     }
 
-    /// A key of that type and description, from the attached keyrings on, and a link to it in a destination other than
-    /// 0, which is made where it is wanted: request_key(2).
+    /// A key of that type and description, from the attached keyrings on, and a link to it in a destination other
+    /// than 0, which is made where it is wanted: request_key(2).
     #[tactic(auto, unfolding(krs_model::specs::Asks::Finding::request))]
     pub(crate) fn request(
         &mut self,
@@ -95,7 +94,8 @@ impl Tables {
         self.link_found(client, number, into, serial)
     }
 
-    /// What a request finds where this keyring is made for its destination; where that is the keyring itself, EDEADLK.
+    /// What a request finds where this keyring is made for its destination; where that is the keyring itself,
+    /// EDEADLK.
     fn find_beside(&self, context: &Context, special: Special, name: &Name) -> Result<Serial, Fault>
         ensures { Gives (λ k. k) result (beside special self.now context.now name.now) }
     {

@@ -46,7 +46,8 @@ fn uid_key(name: Name, links: Links, caller: &Caller) -> Key
 /// The user keyring of a uid, and its user-session keyring, which links the first under this serial.
 fn uid_keys(alloc: Global, caller: &Caller, first: Serial) -> Result<(Key, Key), AllocError>
     ensures user { IfOk result (λ keys. keys.0 ≡ uid_key (codes "_uid.") [] caller.now) }
-    ensures session { IfOk result (λ keys. keys.1 ≡ uid_key (codes "_uid_ses.") ((keys.0.name, first) ∷ []) caller.now) }
+    ensures session { IfOk result (λ keys. keys.1
+        ≡ uid_key (codes "_uid_ses.") ((keys.0.name, first) ∷ []) caller.now) }
 {
     let name = uid_name(alloc, "_uid.", caller.uid)?;
     let session_name = uid_name(alloc, "_uid_ses.", caller.uid)?;

@@ -15,8 +15,8 @@ use krs_links::Links;
 use krs_types::{Answer, Blob, Caller, Desc, Errno, Fault, Kind, Name, Perm, Serial};
 use std::alloc::{AllocError, Global};
 
-/// Whether JOIN takes this name: none, or a description that a keyring may have. EINVAL of its length and bytes, EPERM
-/// where it begins with a dot. keyctl(2), KEYCTL_JOIN_SESSION_KEYRING; profile, limits.
+/// Whether JOIN takes this name: none, or a description that a keyring may have. EINVAL of its length and bytes,
+/// EPERM where it begins with a dot. keyctl(2), KEYCTL_JOIN_SESSION_KEYRING; profile, limits.
 fn check_session_name(name: &[u8]) -> Result<(), Errno>
     ensures value { result ≡ session_named name.now }
     ensures bound { OnOk result (length name.now ≤ 4095) }

@@ -10,6 +10,7 @@ ghost use Rattle.krs_hold.specs.Tally.{all_less};
 ghost use Rattle.krs_model.specs.Asks.Leaving.{contexts_without, has_process, has_uid, left, exit};
 
 use crate::tables::Tables;
+use krs_ctx::Contexts;
 use krs_hold::Holders;
 use krs_types::{Answer, Context, Fault, Serial, UidRings};
 use std::collections::BTreeMap;
@@ -46,51 +47,28 @@ impl Tables {
         self.contexts.exit(client, context)?;
         self.holders.let_go_of(thread);
         self.holders.let_go_of(session);
-        let contexts = self.contexts.contexts();
-        let_go_process(&mut self.holders, contexts, process, ring);
-        let_go_uid(&mut self.holders, contexts, uid, rings);
+        let_go_process(&mut self.holders, &self.contexts, process, ring);
+        let_go_uid(&mut self.holders, &self.contexts, uid, rings);
         Ok(Answer::Nothing)
     }
 }
 
-fn has_process(contexts: &BTreeMap<u32, Context>, process: u32) -> bool
-    ensures { result ≡ has_process contexts.now.entries process }
-{
-    contexts.values().any(|c| c.process == process)
-}
-
-fn has_uid(contexts: &BTreeMap<u32, Context>, uid: u32) -> bool
-    ensures { result ≡ has_uid contexts.now.entries uid }
-{
-    contexts.values().any(|c| c.caller.uid == uid)
-}
-
 /// Lets go of the keyring of a process that has no context.
-fn let_go_process(
-    holders: &mut Holders,
-    contexts: &BTreeMap<u32, Context>,
-    process: u32,
-    ring: Option<Serial>,
-)
-    ensures { holders.new ≡ all_less (cond (has_process contexts.now.entries process)
+fn let_go_process(holders: &mut Holders, contexts: &Contexts, process: u32, ring: Option<Serial>)
+    ensures { holders.new ≡ all_less (cond (has_process contexts.now.contexts process)
         [] (option_to_list ring)) holders.old }
 {
-    if !has_process(contexts, process) {
+    if !contexts.has_process(process) {
         holders.let_go_of(ring);
     }
 }
 
 /// Lets go of the keyrings of a uid that has no context.
-fn let_go_uid(
-    holders: &mut Holders,
-    contexts: &BTreeMap<u32, Context>,
-    uid: u32,
-    rings: Option<UidRings>,
-)
-    ensures { holders.new ≡ all_less (cond (has_uid contexts.now.entries uid)
+fn let_go_uid(holders: &mut Holders, contexts: &Contexts, uid: u32, rings: Option<UidRings>)
+    ensures { holders.new ≡ all_less (cond (has_uid contexts.now.contexts uid)
         [] (rings_of rings)) holders.old }
 {
-    if has_uid(contexts, uid) {
+    if contexts.has_uid(uid) {
         return;
     }
     if let Some(rings) = rings {

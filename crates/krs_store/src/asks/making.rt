@@ -8,7 +8,8 @@ ghost use Rattle.krs_model.specs.Outcome.{Leads};
 ghost use Rattle.krs_model.specs.Sound.{IsSound};
 ghost use Rattle.krs_types.specs.Name.{same_name};
 ghost use Rattle.krs_store.specs.Making.{maker_key};
-ghost use Rattle.krs_store.specs.Specials.{made_as, special_name, ring_key, Makes, IsMissing, ring_made, linking_made, adding_made};
+ghost use Rattle.krs_store.specs.Specials.{made_as, special_name, ring_key, Makes, IsMissing, ring_made};
+ghost use Rattle.krs_store.specs.Specials.{linking_made, adding_made};
 ghost use Rattle.krs_store.specs.Specials.{maker_of, attached_as, HasPlace, AreLinksTo, ring_at};
 
 use crate::asks::adding::{LAST_SERIAL, new_key};

@@ -184,8 +184,8 @@ impl Tables {
         }
     }
 
-    /// The keyring that an id stands for links a new key, or a key that is there is updated. A keyring that is made with
-    /// the key has no watch yet.
+    /// The keyring that an id stands for links a new key, or a key that is there is updated. A keyring that is made
+    /// with the key has no watch yet.
     fn about_added(&self, client: u32, number: u32, ring: i32) -> Telling
         ensures { result ≡ OfAdded (result_ok (named self.now client number ring)) self.now.next_serial }
     {

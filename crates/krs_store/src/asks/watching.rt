@@ -1,4 +1,4 @@
-ghost use Rattle.std.specs.Prelude.{◌≡◌, ◌≢◌, Err};
+ghost use Rattle.std.specs.Prelude.{◌≢◌, Err};
 ghost use Rattle.krs_types.specs.declared.ask.Op.TheVariants.{Watch};
 ghost use Rattle.krs_types.specs.declared.fault.Fault.TheVariants.{Memory};
 ghost use Rattle.krs_model.specs.Outcome.{Leads};
@@ -10,7 +10,8 @@ use krs_types::{Answer, Fault, FilterEntries, Rights, Serial, Want};
 use krs_watch::watch_id;
 
 impl Tables {
-    /// A queue of that many records, by its number: core-api/watch_queue.rst, "Watch Queue (Notification Output) API".
+    /// A queue of that many records, by its number: core-api/watch_queue.rst, "Watch Queue (Notification Output)
+    /// API".
     #[tactic(auto, unfolding(krs_model::specs::Asks::Watching::open_queue))]
     pub(crate) fn open_queue(&mut self, client: u32, capacity: u32) -> Result<Answer, Fault>
         ensures { Leads self.old result self.new (open_queue self.old client capacity) }

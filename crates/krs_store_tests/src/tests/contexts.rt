@@ -198,8 +198,8 @@ fn one_serial_is_left(rt: HostRuntime) -> Result<(), Fail> {
     Ok(())
 }
 
-/// For a run in which one growth is refused: the ask that it hits answers ENOMEM and changes nothing, and made again it
-/// gives the row's answer.
+/// For a run in which one growth is refused: the ask that it hits answers ENOMEM and changes nothing, and made again
+/// it gives the row's answer.
 #[test]
 fn a_refused_growth_makes_nothing(rt: HostRuntime) -> Result<(), Fail> {
     run(&rt, rt.alloc(), Store::new(rt.alloc()), &MADE)?;

@@ -85,8 +85,8 @@ const BY_NAME: [Row; 12] = [
     (0, 2, Want::Bytes(b"keyring;1000;1000;3f1b0000;work")),
 ];
 
-/// The user's byte of the mask counts for its user, and the others' byte for others. Neither an expired keyring is joined
-/// nor one that ADD made. A session keyring is gone that its last context left.
+/// The user's byte of the mask counts for its user, and the others' byte for others. Neither an expired keyring is
+/// joined nor one that ADD made. A session keyring is gone that its last context left.
 #[rattlefmt::skip]
 const BY_WHOM: [Row; 20] = [
     (0, 0, Want::Number(1)),

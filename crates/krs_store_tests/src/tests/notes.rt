@@ -124,8 +124,8 @@ const ADDING: [Row; 11] = [
     (0, 9, Want::Bytes(&[5, 0, 0, 0, 7, 0, 0, 0])),
 ];
 
-/// A watch has an id of 0 to 255, is set once, and ends once. The id is looked at before the key, and the key before the
-/// queue.
+/// A watch has an id of 0 to 255, is set once, and ends once. The id is looked at before the key, and the key before
+/// the queue.
 #[rattlefmt::skip]
 const WATCHING: [Row; 20] = [
     (0, 0, Want::Number(1)),

@@ -13,4 +13,5 @@ returns-in-Ok c =
     let some : 0 < length c.args.word.now = grind (arith, nat_tests, c.if-is_empty.ensures) in
     let short : length c.args.word.now ≤ 8 = omega arith in
     rw c.ok.ensures.value (hexadecimal_from_radix c.args.word.now c.from_str_radix.result some short
-    (sym c.if-not-has_hexadecimal_digits_alone.ensures) (rw c.in-Ok.ensures.cases.0 at c.from_str_radix.ensures.value))
+    (sym c.if-not-has_hexadecimal_digits_alone.ensures) (rw c.in-Ok.ensures.cases.0
+    at c.from_str_radix.ensures.value))

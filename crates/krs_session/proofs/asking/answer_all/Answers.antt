@@ -5,7 +5,8 @@ use Rattle.krs_session.proofs.asking.answer_all.Goals as goal
 
 pub frames-init : goal.frames-init
 frames-init g c = record {
-  state = answers_none g.D.Keeper.leads g.C.Clock.ticked g.W.Sink.took g.met.D.Keeper.joins g.met.C.Clock.joins g.met.W.Sink.joins _ _ _ _
+  state = answers_none g.D.Keeper.leads g.C.Clock.ticked g.W.Sink.took g.met.D.Keeper.joins g.met.C.Clock.joins
+      g.met.W.Sink.joins _ _ _ _
       (g.met.D.Keeper.starts _) (g.met.C.Clock.starts _) (g.met.W.Sink.starts _);
   count = refl;
   ready = c.requires.ready;
@@ -16,9 +17,12 @@ pub frames-preserved : goal.frames-preserved
 frames-preserved g c =
     let e = c.answer_one-stop.ensures in
     let i = c.frames.invariant in
-    let one = subst (λ (n : ℕ). Asked g.D.Keeper.leads g.C.Clock.ticked n c.frames.seat c.answer_one-stop.new.seat c.frames.clock c.answer_one-stop.new.clock (e.asked.0 ∷ [])) i.lane e.asked.2 in
+    let one =
+    subst (λ (n : ℕ). Asked g.D.Keeper.leads g.C.Clock.ticked n c.frames.seat c.answer_one-stop.new.seat
+    c.frames.clock c.answer_one-stop.new.clock (e.asked.0 ∷ [])) i.lane e.asked.2 in
     record {
-      state = answers_more g.D.Keeper.leads g.C.Clock.ticked g.W.Sink.took g.met.D.Keeper.joins g.met.C.Clock.joins g.met.W.Sink.joins
+      state = answers_more g.D.Keeper.leads g.C.Clock.ticked g.W.Sink.took g.met.D.Keeper.joins g.met.C.Clock.joins
+          g.met.W.Sink.joins
           _ _ _ _ _ _ _ _ _ _ _ _ e.asked.0 _ _ i.state e.asked.1 one e.asked.3;
       count = stops_next _ _ _ _ _ i.count e.count;
       ready = e.ready;

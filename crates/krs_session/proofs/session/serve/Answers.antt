@@ -5,8 +5,10 @@ use Rattle.krs_session.proofs.session.serve.Goals as goal
 
 pub loop-made-init : goal.loop-made-init
 loop-made-init g c = record {
-  state = so_far_none g.R.Source.gave g.D.Keeper.leads g.C.Clock.ticked g.W.Sink.took g.met.R.Source.joins g.met.D.Keeper.joins g.met.C.Clock.joins g.met.W.Sink.joins
-      _ _ _ _ _ _ (g.met.R.Source.starts _) (g.met.D.Keeper.starts _) (g.met.C.Clock.starts _) (g.met.W.Sink.starts _) c.new-feed.ensures.empty;
+  state = so_far_none g.R.Source.gave g.D.Keeper.leads g.C.Clock.ticked g.W.Sink.took g.met.R.Source.joins
+      g.met.D.Keeper.joins g.met.C.Clock.joins g.met.W.Sink.joins
+      _ _ _ _ _ _ (g.met.R.Source.starts _) (g.met.D.Keeper.starts _) (g.met.C.Clock.starts _) (g.met.W.Sink.starts _)
+      c.new-feed.ensures.empty;
   unfailed = ap fault_of c.new-feed.ensures.nothing;
   reads = omega arith;
   empties = refl;
@@ -20,15 +22,18 @@ pub returns-in-Some-clause-finished : goal.returns-in-Some-clause-finished
 returns-in-Some-clause-finished g c =
     let i = c.loop-made.invariant in
     let e = c.in-Some.ensures in
-    so_far_ends g.R.Source.gave g.D.Keeper.leads g.C.Clock.ticked g.W.Sink.took g.met.R.Source.joins g.met.D.Keeper.joins g.met.C.Clock.joins g.met.W.Sink.joins
-    _ _ _ _ _ _ _ _ _ _ _ _ _ _ _ _ _ _ e.served.0 c.in-Some.ended i.unfailed i.state e.served.1 e.served.2 (omega (arith, e.reads, i.reads)) i.lane e.served.3
+    so_far_ends g.R.Source.gave g.D.Keeper.leads g.C.Clock.ticked g.W.Sink.took g.met.R.Source.joins
+    g.met.D.Keeper.joins g.met.C.Clock.joins g.met.W.Sink.joins
+    _ _ _ _ _ _ _ _ _ _ _ _ _ _ _ _ _ _ e.served.0 c.in-Some.ended i.unfailed i.state e.served.1 e.served.2
+    (omega (arith, e.reads, i.reads)) i.lane e.served.3
 
 pub loop-made-preserved : goal.loop-made-preserved
 loop-made-preserved g c =
     let i = c.loop-made.invariant in
     let e = c.in_default.ensures in
     record {
-      state = so_far_more g.R.Source.gave g.D.Keeper.leads g.C.Clock.ticked g.W.Sink.took g.met.R.Source.joins g.met.D.Keeper.joins g.met.C.Clock.joins g.met.W.Sink.joins
+      state = so_far_more g.R.Source.gave g.D.Keeper.leads g.C.Clock.ticked g.W.Sink.took g.met.R.Source.joins
+          g.met.D.Keeper.joins g.met.C.Clock.joins g.met.W.Sink.joins
           _ _ _ _ _ _ _ _ _ _ _ _ _ _ _ _ _ e.served.0 i.unfailed i.state e.served.1 e.served.2 i.lane e.served.3;
       unfailed = e.served.3.served.1;
       reads = omega (arith, e.reads, i.reads);

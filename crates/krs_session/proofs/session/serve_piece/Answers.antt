@@ -17,5 +17,8 @@ returns-in_default-clause-served g c = record {
   events = [];
   order = refl;
   asked = record { led = g.met.D.Keeper.starts _; moments = g.met.C.Clock.starts _; lanes = tt };
-  served = (refused_fault _ _ _ c.requires.unfailed c.in_default.not-Memory c.in-Err.ensures.refused, g.met.W.Sink.starts _);
+  served = (
+    refused_fault _ _ _ c.requires.unfailed c.in_default.not-Memory c.in-Err.ensures.refused,
+    g.met.W.Sink.starts _,
+  );
 }

@@ -5,19 +5,23 @@ use Rattle.krs_model.specs.Reach.{is_ring}
 use Rattle.krs_keys.specs.Keys.{shown}
 use Rattle.krs_walk.proofs.PossessionLemmas.{followed_nested, followed_absent, unfollowed}
 use Rattle.krs_walk.proofs.possession.followed_rings.Goals as goal
-use Rattle.krs_walk.proofs.possession.followed_rings.Goals.{in_default-via-in-Some+else-is_followed, in_default-via-in_default}
+use Rattle.krs_walk.proofs.possession.followed_rings.Goals.{in_default-via-in-Some+else-is_followed}
+use Rattle.krs_walk.proofs.possession.followed_rings.Goals.{in_default-via-in_default}
 
 pub returns-in-Some : goal.returns-in-Some
 returns-in-Some c =
-    c.rings_in.ensures ∙ followed_nested c.args.keys.now.keys c.args.clock c.args.caller.now c.args.serial c.in-Some.key.now c.requires
+    c.rings_in.ensures ∙ followed_nested c.args.keys.now.keys c.args.clock c.args.caller.now c.args.serial
+    c.in-Some.key.now c.requires
     (sym c.get.ensures ∙ ap option_copied c.in-Some.is) (sym c.is_followed.ensures ∙ c.if-is_followed.true)
 
 pub returns-in_default : goal.returns-in_default
 returns-in_default c =
     let keys = c.args.keys.now.keys in
     elim c.in_default.branch [
-      | in_default-via-in-Some+else-is_followed w ↦ ap (filter (λ k. is_ring (at (shown keys) k))) (sym (unfollowed keys c.args.clock c.args.caller.now c.args.serial w.in-Some.key.now
+      | in_default-via-in-Some+else-is_followed w ↦ ap (filter (λ k. is_ring (at (shown keys) k)))
+          (sym (unfollowed keys c.args.clock c.args.caller.now c.args.serial w.in-Some.key.now
           (sym c.get.ensures ∙ ap option_copied w.in-Some.is) (sym w.is_followed.ensures ∙ w.if-is_followed.false)))
-      | in_default-via-in_default w ↦ ap (filter (λ k. is_ring (at (shown keys) k))) (sym (followed_absent keys c.args.clock c.args.caller.now c.args.serial
+      | in_default-via-in_default w ↦ ap (filter (λ k. is_ring (at (shown keys) k)))
+          (sym (followed_absent keys c.args.clock c.args.caller.now c.args.serial
           (sym c.get.ensures ∙ ap option_copied w.in_default.is)))
     ]

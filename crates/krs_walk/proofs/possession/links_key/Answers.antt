@@ -9,12 +9,15 @@ use Rattle.krs_walk.proofs.possession.links_key.Goals as goal
 pub returns-in-Some : goal.returns-in-Some
 returns-in-Some c =
     c.is_found.ensures ∙ (ap (is_found c.args.serial) c.find_in.ensures
-    ∙ followed_links c.args.keys.now.keys c.args.clock c.args.caller.now c.args.ring c.args.serial c.in-Some.holder.now c.args.key.now.name c.requires.fit
-    (sym c.get.ensures ∙ ap option_copied c.in-Some.is) (sym c.is_followed.ensures ∙ c.if-is_followed.true) (ap (option_map (λ (k : Key). k.name)) c.requires.key))
+    ∙ followed_links c.args.keys.now.keys c.args.clock c.args.caller.now c.args.ring c.args.serial
+    c.in-Some.holder.now c.args.key.now.name c.requires.fit
+    (sym c.get.ensures ∙ ap option_copied c.in-Some.is) (sym c.is_followed.ensures ∙ c.if-is_followed.true)
+    (ap (option_map (λ (k : Key). k.name)) c.requires.key))
 
 pub returns-in_default : goal.returns-in_default
 returns-in_default c =
-    ap (is_in c.args.serial) (sym (unfollowed c.args.keys.now.keys c.args.clock c.args.caller.now c.args.ring c.in-Some.holder.now
+    ap (is_in c.args.serial) (sym (unfollowed c.args.keys.now.keys c.args.clock c.args.caller.now c.args.ring
+    c.in-Some.holder.now
     (sym c.get.ensures ∙ ap option_copied c.in-Some.is) (sym c.is_followed.ensures ∙ c.if-is_followed.false)))
 
 pub returns-in_default-2 : goal.returns-in_default-2

@@ -12,7 +12,8 @@ returns-in-Some c =
     let watches = c.args.watches.now.entries in
     let next : c.in-Some.next ≡ key + 1 = c.in-Some.ensures.1 in
     ap (λ (ws : List Watch). watches_at key ws) (c.range.ensures.between tt)
-    ∙ subst (λ (n : ℕ). watches_at key (filter (λ w. range_contains place_cmp (Included (key, 0)) (Excluded (n, 0)) w.0) watches) ≡ watches_at key watches) (sym next) (between_keys key watches)
+    ∙ subst (λ (n : ℕ). watches_at key (filter (λ w. range_contains place_cmp (Included (key, 0)) (Excluded (n, 0))
+    w.0) watches) ≡ watches_at key watches) (sym next) (between_keys key watches)
 
 pub returns-in-None : goal.returns-in-None
 returns-in-None c =

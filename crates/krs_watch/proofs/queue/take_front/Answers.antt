@@ -20,18 +20,23 @@ taking-init c =
     let most : length (bytes_of_all waiting) ≤ c.byte_bound.result = c.byte_bound.ensures.fits in
     let bound : c.byte_bound.result ≤ 12296 = c.byte_bound.ensures.bound in
     record {
-      bytes = ap (λ (xs : List ℕ). xs ++ bytes_of_all (front (room - vec_len b) waiting)) c.in_ok-bytes.ensures.items ∙ ap (λ (n : ℕ). bytes_of_all (front n waiting)) left;
+      bytes = ap (λ (xs : List ℕ). xs ++ bytes_of_all (front (room - vec_len b) waiting)) c.in_ok-bytes.ensures.items
+          ∙ ap (λ (n : ℕ). bytes_of_all (front n waiting)) left;
       rest = ap (λ (n : ℕ). behind n waiting) left;
       same = refl;
       within = omega arith;
-      grown = rw left (let size = front_size room waiting in let less = front_less room waiting in let exact = c.in_ok-bytes.ensures.exact in let least = c.min-most.ensures in omega arith);
+      grown = rw left (let size = front_size room waiting in let less = front_less room waiting in
+          let exact = c.in_ok-bytes.ensures.exact in let least = c.min-most.ensures in omega arith);
       bound = rw left (let less = front_less room waiting in omega arith);
     }
 
 pub returns-in_err-append-clause-same : goal.returns-in_err-append-clause-same
 returns-in_err-append-clause-same c =
-    let fit : leb (length (bytes_of c.in-Some.note)) (c.args.room - vec_len c.taking.bytes) ≡ true = rw (← c.len.ensures) (sym c.if-not-fits.ensures) in
-    let first = first_within (c.args.room - vec_len c.taking.bytes) c.taking.ring.waiting c.in-Some.note c.in-Some.ensures fit in
+    let fit : leb (length (bytes_of c.in-Some.note)) (c.args.room - vec_len c.taking.bytes) ≡ true =
+    rw (← c.len.ensures) (sym c.if-not-fits.ensures) in
+    let first =
+    first_within (c.args.room - vec_len c.taking.bytes) c.taking.ring.waiting c.in-Some.note
+    c.in-Some.ensures fit in
     let grown = c.taking.invariant.grown in
     absurd (true≢false (sym (c.in_err-append.ensures.succeeds (omega arith))))
 
@@ -39,10 +44,12 @@ pub returns-clause-bytes : goal.returns-clause-bytes
 returns-clause-bytes c =
     let left = c.args.room - vec_len c.taking.bytes in
     let stops : Stops left c.taking.ring.waiting = elim c.match-first.branch [
-      | in-Some+then-not-fits w ↦ stops_full left c.taking.ring.waiting w.in-Some.note w.in-Some.ensures (rw (← w.len.ensures) (sym w.if-not-fits.ensures))
+      | in-Some+then-not-fits w ↦ stops_full left c.taking.ring.waiting w.in-Some.note w.in-Some.ensures
+          (rw (← w.len.ensures) (sym w.if-not-fits.ensures))
       | in_default w ↦ stops_empty left c.taking.ring.waiting (sym w.in_default.is ∙ c.first.ensures)
     ] in
-    sym (append-nil c.taking.bytes.items) ∙ (ap (λ (rs : List Record). c.taking.bytes.items ++ bytes_of_all rs) (sym stops.nothing) ∙ c.taking.invariant.bytes)
+    sym (append-nil c.taking.bytes.items) ∙ (ap (λ (rs : List Record). c.taking.bytes.items ++ bytes_of_all rs)
+    (sym stops.nothing) ∙ c.taking.invariant.bytes)
 
 pub returns-clause-bound : goal.returns-clause-bound
 returns-clause-bound c = let bound = c.taking.invariant.bound in omega arith
@@ -51,9 +58,12 @@ pub returns-clause-rest : goal.returns-clause-rest
 returns-clause-rest c =
     let left = c.args.room - vec_len c.taking.bytes in
     let stops : Stops left c.taking.ring.waiting = elim c.match-first.branch [
-      | in-Some+then-not-fits w ↦ stops_full left c.taking.ring.waiting w.in-Some.note w.in-Some.ensures (rw (← w.len.ensures) (sym w.if-not-fits.ensures))
+      | in-Some+then-not-fits w ↦ stops_full left c.taking.ring.waiting w.in-Some.note w.in-Some.ensures
+          (rw (← w.len.ensures) (sym w.if-not-fits.ensures))
       | in_default w ↦ stops_empty left c.taking.ring.waiting (sym w.in_default.is ∙ c.first.ensures)
     ] in
-    let rest : c.taking.ring.waiting ≡ behind c.args.room c.args.ring.now.waiting = sym stops.all ∙ c.taking.invariant.rest in
+    let rest : c.taking.ring.waiting ≡ behind c.args.room c.args.ring.now.waiting =
+    sym stops.all ∙ c.taking.invariant.rest in
     let ring : ℕ → List Record → Ring = λ n rs. record { capacity = n; waiting = rs } in
-    ap (λ (n : ℕ). ring n c.taking.ring.waiting) c.taking.invariant.same ∙ ap (λ (rs : List Record). ring c.args.ring.now.capacity rs) rest
+    ap (λ (n : ℕ). ring n c.taking.ring.waiting) c.taking.invariant.same
+    ∙ ap (λ (rs : List Record). ring c.args.ring.now.capacity rs) rest

@@ -5,5 +5,6 @@ use Rattle.krs_watch.proofs.queues.keep_watches.Goals as goal
 
 pub returns : goal.returns
 returns c =
-    filter_same_pairs _ (λ w. list_any (λ e. nat_eq e.0 w.0.1) c.args.queues.now.entries) _ (λ k v b w f' t. search rules)
+    filter_same_pairs _ (λ w. list_any (λ e. nat_eq e.0 w.0.1) c.args.queues.now.entries) _
+    (λ k v b w f' t. search rules)
     c.args.watches.now.entries c.retain.new.self.entries c.retain.ensures.filtered

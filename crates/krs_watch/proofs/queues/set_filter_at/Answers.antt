@@ -16,4 +16,5 @@ returns-in-Some c =
 pub returns-in-None : goal.returns-in-None
 returns-in-None c =
     ap (λ m. m.entries) c.get_mut.follows.holds-at-none
-    ∙ sym (alter_none c.args.queues.now.entries c.args.number (with_filter c.args.filter) (sym c.in-None.ensures.value))
+    ∙ sym (alter_none c.args.queues.now.entries c.args.number (with_filter c.args.filter)
+    (sym c.in-None.ensures.value))

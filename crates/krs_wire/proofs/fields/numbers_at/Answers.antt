@@ -7,12 +7,19 @@ use Rattle.krs_wire.proofs.fields.numbers_at.Goals as goal
 
 pub loop-preserved : goal.loop-preserved
 loop-preserved c =
-    let next = many_on (number w32) c.loop.numbers.items c.args.count c.loop.counter c.loop.rest.now c.in-Ok.number c.in-Ok.after.now _ c.loop-test.true c.in-Ok.ensures c.loop.invariant in
+    let next =
+    many_on (number w32) c.loop.numbers.items c.args.count c.loop.counter c.loop.rest.now c.in-Ok.number
+    c.in-Ok.after.now _ c.loop-test.true c.in-Ok.ensures c.loop.invariant in
     let pushed : c.push.new.self.items ≡ c.loop.numbers.items ++ c.in-Ok.number ∷ [] = search rules in
-    subst (λ (xs : List ℕ). with_front xs (many_read (number w32) (c.args.count - (c.loop.counter + 1)) c.in-Ok.after.now) ≡ many_read (number w32) c.args.count c.args.bytes.now) (sym pushed) next
+    subst (λ (xs : List ℕ). with_front xs (many_read (number w32) (c.args.count - (c.loop.counter + 1))
+    c.in-Ok.after.now) ≡ many_read (number w32) c.args.count c.args.bytes.now) (sym pushed) next
 
 pub returns : goal.returns
-returns c = ap (λ o. or_bad_body o) (many_done (number w32) c.loop.numbers.items c.args.count c.loop.counter c.loop.rest.now _ c.loop-test.false c.loop.invariant)
+returns c =
+    ap (λ o. or_bad_body o) (many_done (number w32) c.loop.numbers.items c.args.count c.loop.counter c.loop.rest.now _
+    c.loop-test.false c.loop.invariant)
 
 pub returns-in-Err : goal.returns-in-Err
-returns-in-Err c = λ other. many_ends (number w32) c.loop.numbers.items c.args.count c.loop.counter c.loop.rest.now c.in-Err.fault _ c.loop-test.true (c.in-Err.ensures other) c.loop.invariant
+returns-in-Err c =
+    λ other. many_ends (number w32) c.loop.numbers.items c.args.count c.loop.counter c.loop.rest.now c.in-Err.fault _
+    c.loop-test.true (c.in-Err.ensures other) c.loop.invariant

@@ -1,4 +1,4 @@
-use Rattle.std.proofs.Common.{rules, ◌≡◌, ◌++◌, ◌-◌, ◌+◌, List, ℕ, [], ◌∷◌, ap, sym, subst}
+use Rattle.std.proofs.Common.{rules, ◌≡◌, ◌++◌, ◌-◌, ◌+◌, List, [], ◌∷◌, ap, sym, subst}
 use Rattle.krs_types.specs.declared.note.FilterEntry.{FilterEntry}
 use Rattle.krs_wire.specs.Bodies.{entry_field}
 use Rattle.krs_wire.specs.Field.{many_read}

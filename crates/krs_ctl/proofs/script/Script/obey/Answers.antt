@@ -12,5 +12,7 @@ returns g c =
     c.in_ok-words.words.ok.0 c.if-is_empty.ensures in
     let is : command_of (words_of c.args.line.now) ≡ Some c.in_ok-command.command =
     rw (c.as_slice.ensures.value, c.in_ok-words.ensures) at c.in_ok-command.ensures in
-    ObeysLine-command c.args.self.now c.act-output.new.self c.args.line.now c.in_ok-command.command c.act-output.result _
-    c.print_output.result kept is c.act-output.ensures c.print_output.ensures.ok c.print_output.ensures.memory c.print_output.ensures.causes
+    ObeysLine-command c.args.self.now c.act-output.new.self c.args.line.now c.in_ok-command.command
+    c.act-output.result _
+    c.print_output.result kept is c.act-output.ensures c.print_output.ensures.ok c.print_output.ensures.memory
+    c.print_output.ensures.causes

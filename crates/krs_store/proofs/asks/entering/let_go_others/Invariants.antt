@@ -5,5 +5,7 @@ use Rattle.krs_store.proofs.asks.entering.let_go_others.Given as goal
 
 abbrev pub invariant-loop-other : goal.invariant-loop-other
 invariant-loop-other l =
-    all_less (context_roots (filter (λ e. (e.1.process == l.process) && not (e.0 == l.number)) l.other-iterator)) l.holders
-    ≡ all_less (context_roots (filter (λ e. (e.1.process == l.process) && not (e.0 == l.number)) l.contexts.entries)) l.initial.holders
+    all_less (context_roots (filter (λ e. (e.1.process == l.process) && not (e.0 == l.number))
+    l.other-iterator)) l.holders
+    ≡ all_less (context_roots (filter (λ e. (e.1.process == l.process) && not (e.0 == l.number)) l.contexts.entries))
+    l.initial.holders

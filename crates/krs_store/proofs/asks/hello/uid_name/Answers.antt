@@ -5,5 +5,6 @@ use Rattle.krs_store.proofs.asks.hello.uid_name.Goals as goal
 
 pub new-requires-2 : goal.new-requires-2
 new-requires-2 c =
-    let digits : length (decimal c.args.uid) ≤ 10 = length-decimal-le 10 c.args.uid (omega arith) (omega arith) (omega arith) in
+    let digits : length (decimal c.args.uid) ≤ 10 =
+    length-decimal-le 10 c.args.uid (omega arith) (omega arith) (omega arith) in
     rw (c.new.ensures, c.into_bytes.ensures.value, c.in_ok-desc.ensures.ok, length-append) (omega arith)

@@ -6,5 +6,7 @@ use Rattle.krs_store.proofs.asks.leaving.let_go_processes.Given as goal
 
 abbrev pub invariant-loop-process : goal.invariant-loop-process
 invariant-loop-process l =
-    all_less (process_roots (filter (λ e. not (has_process (contexts_without l.client l.contexts.entries) e.0)) l.process-iterator)) l.holders
-    ≡ all_less (process_roots (filter (λ e. not (has_process (contexts_without l.client l.contexts.entries) e.0)) l.processes.entries)) l.initial.holders
+    all_less (process_roots (filter (λ e. not (has_process (contexts_without l.client l.contexts.entries) e.0))
+    l.process-iterator)) l.holders
+    ≡ all_less (process_roots (filter (λ e. not (has_process (contexts_without l.client l.contexts.entries) e.0))
+    l.processes.entries)) l.initial.holders

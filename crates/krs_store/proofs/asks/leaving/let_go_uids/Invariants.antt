@@ -6,5 +6,7 @@ use Rattle.krs_store.proofs.asks.leaving.let_go_uids.Given as goal
 
 abbrev pub invariant-loop-uid : goal.invariant-loop-uid
 invariant-loop-uid l =
-    all_less (uid_roots (filter (λ e. not (has_uid (contexts_without l.client l.contexts.entries) e.0)) l.uid-iterator)) l.holders
-    ≡ all_less (uid_roots (filter (λ e. not (has_uid (contexts_without l.client l.contexts.entries) e.0)) l.uids.entries)) l.initial.holders
+    all_less (uid_roots (filter (λ e. not (has_uid (contexts_without l.client l.contexts.entries) e.0))
+    l.uid-iterator)) l.holders
+    ≡ all_less (uid_roots (filter (λ e. not (has_uid (contexts_without l.client l.contexts.entries) e.0))
+    l.uids.entries)) l.initial.holders

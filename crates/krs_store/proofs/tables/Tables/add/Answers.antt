@@ -15,7 +15,8 @@ returns-in-Some c =
     let own = c.in_ok-context.ensures in
     let special = c.in-Some.special in
     let makes : Makes (Some special) s c.args.number x c.args.ring =
-    subst (Makes (Some special) s c.args.number x) (to_z-of_z w32 c.args.ring c.ranges.ring) c.in-Some.ensures.makes in
+    subst (Makes (Some special) s c.args.number x) (to_z-of_z w32 c.args.ring c.ranges.ring)
+    c.in-Some.ensures.makes in
     let new = is_new special s c.args.client c.args.number x c.args.ring makes c.requires.sound own in
     let name : Name = record { kind = c.in_ok-kind.kind; desc = c.args.desc } in
     let admits : admitted c.args.type_name c.args.desc c.args.payload ≡ Ok name =

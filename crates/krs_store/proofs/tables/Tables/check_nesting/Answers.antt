@@ -12,11 +12,14 @@ would_cycle-requires-clause-only c = only_rings c.self.inside.keys.keys c.self.i
 
 pub would_cycle-requires-clause-ring : goal.would_cycle-requires-clause-ring
 would_cycle-requires-clause-ring c =
-    is_keyring c.self.inside c.args.ring c.self.invariant.kinds (subst (λ (t : State). IsRing t c.args.ring) (sym c.self.view_is) c.requires.ring)
+    is_keyring c.self.inside c.args.ring c.self.invariant.kinds
+    (subst (λ (t : State). IsRing t c.args.ring) (sym c.self.view_is) c.requires.ring)
 
 pub returns : goal.returns
 unfolding nestable
 returns c =
     let keys = shown c.self.inside.keys.keys in
-    let no_cycle : closes keys c.args.key c.args.ring ≡ false = sym c.in_ok-would_cycle.ensures.closes ∙ c.if-branch.false in
-    subst (λ (t : State). nestable t.keys c.args.ring c.args.key ≡ Ok (tt {0})) c.self.view_is (rw (no_cycle, c.in_ok-_height.ensures.shallow) refl)
+    let no_cycle : closes keys c.args.key c.args.ring ≡ false =
+    sym c.in_ok-would_cycle.ensures.closes ∙ c.if-branch.false in
+    subst (λ (t : State). nestable t.keys c.args.ring c.args.key ≡ Ok (tt {0})) c.self.view_is
+    (rw (no_cycle, c.in_ok-_height.ensures.shallow) refl)

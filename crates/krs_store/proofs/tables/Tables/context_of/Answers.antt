@@ -7,5 +7,6 @@ use Rattle.krs_store.proofs.tables.Tables.context_of.Goals as goal
 
 pub returns : goal.returns
 returns c =
-    subst (λ (t : State). Is (λ x. x.now) c.context_of.result (context_of t c.args.client c.args.number)) c.self.view_is
+    subst (λ (t : State). Is (λ x. x.now) c.context_of.result (context_of t c.args.client c.args.number))
+    c.self.view_is
     (c.context_of.ensures (state_of c.self.inside))

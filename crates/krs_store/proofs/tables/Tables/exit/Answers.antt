@@ -1,6 +1,5 @@
 use Rattle.std.proofs.Common.{◌≡◌, ◌∙◌, ℕ, [], Option, cond, Ok, ap, sym, subst}
 use Rattle.std.specs.Option.{option_to_list}
-use Rattle.krs_types.specs.declared.context.Context.{Context}
 use Rattle.krs_types.specs.declared.context.UidRings.{UidRings}
 use Rattle.krs_model.specs.Table.{Table, at}
 use Rattle.krs_model.specs.State.{State}
@@ -27,25 +26,22 @@ invariant_of-self-2 c =
     c.in_ok-own.ensures in
     let ring : c.process_ring-ring.result ≡ process_ring s own.process =
     c.process_ring-ring.ensures ∙ ap (λ (z : State). process_ring z own.process) (sym c.self.view_is) in
-    let here = c.contexts-contexts.ensures.value in
-    let process : Table Context → Option ℕ → Table ℕ = λ es o.
-    all_less (cond (has_process es own.process) [] (option_to_list o)) c.let_go_of-2.new.self in
-    let uid : Table Context → Option UidRings → Table ℕ = λ es o.
-    all_less (cond (has_uid es own.caller.uid) [] (rings_of o)) c.let_go_process.new.holders in
+    let process : Option ℕ → Table ℕ = λ o.
+    all_less (cond (has_process t.contexts own.process) [] (option_to_list o)) c.let_go_of-2.new.self in
+    let uid : Option UidRings → Table ℕ = λ o.
+    all_less (cond (has_uid t.contexts own.caller.uid) [] (rings_of o)) c.let_go_process.new.holders in
     record {
       fit = c.self.invariant.fit;
       kinds = c.self.invariant.kinds;
       tallied =
           subst (λ (zs : Table ℕ). AreExact keys zs (roots t))
           (sym (c.let_go_uid.ensures
-          ∙ (ap (λ es. uid es c.rings-rings.result) here
-          ∙ (ap (uid t.contexts) c.rings-rings.ensures
+          ∙ (ap uid c.rings-rings.ensures
           ∙ ap (all_less (cond (has_uid t.contexts own.caller.uid) [] (rings_of (at s.uids own.caller.uid))))
           (c.let_go_process.ensures
-          ∙ (ap (λ es. process es c.process_ring-ring.result) here
-          ∙ (ap (process t.contexts) ring
+          ∙ (ap process ring
           ∙ ap (all_less (ended_ring s t own))
-          (c.let_go_of-2.ensures ∙ ap (all_less (option_to_list own.session)) c.let_go_of.ensures))))))))
+          (c.let_go_of-2.ensures ∙ ap (all_less (option_to_list own.session)) c.let_go_of.ensures))))))
           (exit_tallied (shown keys) s t c.args.client c.args.context own c.self.inside.holders found
           (c.in_ok-exit.ensures s) c.self.invariant.tallied);
     }

@@ -36,7 +36,8 @@ invariant_of-self-2 c =
       tallied =
           subst (λ (zs : Table ℕ). AreExact keys zs (roots t)) (sym c.hold_of.ensures)
           (fork_tallied (shown keys) s t c.args.client c.args.context c.in_ok-number.number own c.self.inside.holders
-          (fresh.contexts s.next_context last) (fresh.processes s.next_context last) found (c.in_ok-number.ensures s) c.self.invariant.tallied);
+          (fresh.contexts s.next_context last) (fresh.processes s.next_context last) found (c.in_ok-number.ensures s)
+          c.self.invariant.tallied);
     }
 
 pub returns : goal.returns

@@ -18,7 +18,8 @@ pub returns-then-first-gt-LAST_OF_TWO : goal.returns-then-first-gt-LAST_OF_TWO
 returns-then-first-gt-LAST_OF_TWO c =
     let next : c.args.self.now.next_serial ≡ c.next-first.result =
     ap (λ (t : State). t.next_serial) (sym c.self.view_is) ∙ sym c.next-first.ensures.value in
-    let gone : 2147483646 < c.args.self.now.next_serial = rw next (grind (arith, nat_tests, c.if-first-gt-LAST_OF_TWO.true)) in (
+    let gone : 2147483646 < c.args.self.now.next_serial =
+    rw next (grind (arith, nat_tests, c.if-first-gt-LAST_OF_TWO.true)) in (
       hello_serials c.args.self.now c.args.client c.args.caller c.requires.known c.requires.absent gone
           (ap (λ (t : State). enterable t c.args.client) (sym c.self.view_is)
           ∙ sym (c.in_ok-can_enter.ensures.given (state_of c.self.inside))),

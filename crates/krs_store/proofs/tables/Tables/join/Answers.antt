@@ -26,7 +26,8 @@ returns-in-Some c =
     c.in-Some.ensures.serial
     ∙ ap (λ (name : List ℕ). option_map (λ (e : ℕ × Key). e.0) (joinable s own.caller name)) c.as_slice-2.ensures in
     subst (λ (meant : Outcome). Leads s c.join_found.result c.join_found.new.self meant)
-    (sym (join_finds s c.args.client c.args.number c.in-Some.ring c.args.name own c.in_ok-context.ensures named found))
+    (sym (join_finds s c.args.client c.args.number c.in-Some.ring c.args.name own c.in_ok-context.ensures
+    named found))
     c.join_found.ensures
 
 pub returns-in_ok-key-in-None : goal.returns-in_ok-key-in-None

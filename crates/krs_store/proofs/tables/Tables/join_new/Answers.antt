@@ -38,12 +38,14 @@ invariant_of-self-in-Ok c =
     let anchors : c.attach_session.new.self ≡ changed s.contexts c.args.number (session_to n) =
     c.attach_session.ensures ∙ ap (λ k. changed s.contexts c.args.number (session_to k)) ring in
     subst (λ (k : Keys).
-    IsSound (record s { keys = k; contexts = c.attach_session.new.self; holders = c.let_go_of.new.self })) (sym c.in-Ok.ensures.ok)
+    IsSound (record s { keys = k; contexts = c.attach_session.new.self; holders = c.let_go_of.new.self }))
+    (sym c.in-Ok.ensures.ok)
     (record {
       fit = empty_fit es n key none c.requires.empty c.self.invariant.fit;
       kinds = empty_kinds es n key c.requires.empty c.self.invariant.kinds;
       tallied =
-          subst (λ (t : Anchors). AreExact (put es n key) c.let_go_of.new.self (roots (anchored base t))) (sym anchors)
+          subst (λ (t : Anchors). AreExact (put es n key) c.let_go_of.new.self (roots (anchored base t)))
+          (sym anchors)
           (subst (λ (zs : Table ℕ). AreExact (put es n key) zs (roots (joined_to base c.args.number n))) (sym numbers)
           (made_joined_tallied es base c.args.number n left key s.holders none c.requires.empty own
           c.self.invariant.tallied));

@@ -29,7 +29,8 @@ invariant_of-self c =
           (c.let_go_contexts.ensures
           ∙ ap (λ es. all_less (context_roots (filter (λ e. e.1.client == c.args.client) es)) s.holders) contexts)
           (c.let_go_processes.ensures
-          ∙ (ap (λ es. all_less (process_roots (filter (λ e. not (has_process (contexts_without c.args.client es) e.0))
+          ∙ (ap (λ es. all_less (process_roots (filter (λ e. not
+          (has_process (contexts_without c.args.client es) e.0))
           c.processes.result.now.entries)) c.let_go_contexts.new.holders) contexts
           ∙ ap (λ es. all_less (process_roots (filter (λ e. not (has_process cs e.0)) es))
           c.let_go_contexts.new.holders) c.processes.ensures))

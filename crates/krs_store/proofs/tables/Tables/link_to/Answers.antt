@@ -45,13 +45,15 @@ returns-in_err-put_link c =
     let x = c.in_ok-context.context.now in
     let own = c.in_ok-context.ensures in
     let there = makes_own None s c.args.client c.args.number x c.args.ring own c.requires.there in
-    let l = looks_up s c.args.client c.args.number c.args.key c.args.ring x into found _ c.ranges.key c.ranges.ring own
+    let l =
+    looks_up s c.args.client c.args.number c.args.key c.args.ring x into found _ c.ranges.key c.ranges.ring own
     there c.in_ok-ring.ensures.found c.in_ok-serial.ensures.found c.in_ok-links_of.ensures nests in
     let puts : Puts s (Err c.in_err-put_link.field-0.0) c.put_link.new.self into.0 (name_of found.1) found.0 =
     rw (sym c.new-3.ensures, sym c.in_ok-name.ensures) c.in_err-put_link.ensures in
     let told = link_failed s c.put_link.new.self c.args.client c.args.number c.args.key c.args.ring x into found
     c.in_err-put_link.field-0.0 l puts in
-    let answer = err_from_is_err_and c.from_residual-in_err-put_link.result c.from_residual-in_err-put_link.ensures.1 in
+    let answer =
+    err_from_is_err_and c.from_residual-in_err-put_link.result c.from_residual-in_err-put_link.ensures.1 in
     rw (answer.1, answer.2) told
 
 pub returns : goal.returns
@@ -64,7 +66,8 @@ returns c =
     let x = c.in_ok-context.context.now in
     let own = c.in_ok-context.ensures in
     let there = makes_own None s c.args.client c.args.number x c.args.ring own c.requires.there in
-    let l = looks_up s c.args.client c.args.number c.args.key c.args.ring x into found _ c.ranges.key c.ranges.ring own
+    let l =
+    looks_up s c.args.client c.args.number c.args.key c.args.ring x into found _ c.ranges.key c.ranges.ring own
     there c.in_ok-ring.ensures.found c.in_ok-serial.ensures.found c.in_ok-links_of.ensures nests in
     let puts : Puts s (Ok (tt {0})) c.put_link.new.self into.0 (name_of found.1) found.0 =
     rw (sym c.new-3.ensures, sym c.new-4.ensures, sym c.in_ok-name.ensures) c.in_ok-put_link.ensures in

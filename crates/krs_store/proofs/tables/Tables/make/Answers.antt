@@ -17,7 +17,8 @@ use Rattle.krs_store.proofs.Counting.{made_tallied, first_links}
 use Rattle.krs_store.specs.declared.tables.Tables.TheInside.{Inside}
 use Rattle.krs_store.proofs.tables.Tables.make.Goals as goal
 
-room_sound : (s : Inside) (numbers : Table ℕ) (k : ℕ) → IsSound s → numbers ≡ with_number k s.holders → IsSound (record s { holders = numbers })
+room_sound : (s : Inside) (numbers : Table ℕ) (k : ℕ) → IsSound s → numbers ≡ with_number k s.holders
+    → IsSound (record s { holders = numbers })
 room_sound s numbers k sound e = record {
   fit = sound.fit;
   kinds = sound.kinds;
@@ -26,11 +27,13 @@ room_sound s numbers k sound e = record {
 }
 
 pub invariant_of-self-then-not-has_room : goal.invariant_of-self-then-not-has_room
-invariant_of-self-then-not-has_room c = room_sound c.self.inside c.made.new.self c.new-serial.result c.self.invariant c.in-Ok.ensures.ok
+invariant_of-self-then-not-has_room c =
+    room_sound c.self.inside c.made.new.self c.new-serial.result c.self.invariant c.in-Ok.ensures.ok
 
 pub invariant_of-self-in-Err : goal.invariant_of-self-in-Err
 invariant_of-self-in-Err c =
-    subst (λ (k : Keys). IsSound (record c.self.inside { keys = k; holders = c.made.new.self })) (sym c.in-Err.ensures.err)
+    subst (λ (k : Keys). IsSound (record c.self.inside { keys = k; holders = c.made.new.self }))
+    (sym c.in-Err.ensures.err)
     (room_sound c.self.inside c.made.new.self c.new-serial.result c.self.invariant c.in-Ok.ensures.ok)
 
 pub invariant_of-self-in-Ok-insert_linked : goal.invariant_of-self-in-Ok-insert_linked
@@ -48,20 +51,29 @@ invariant_of-self-in-Ok-insert_linked c =
     c.in-Ok-insert_linked.ensures.displaced
     ∙ (ap (λ (k : Key). displaced_at (put es n k) c.args.ring c.in_ok-link.link) c.new_key-key.ensures
     ∙ ap (displaced_at (put es n key) c.args.ring) c.in_ok-link.ensures) in
-    let ring : IsRing (state_of s) c.args.ring = subst (λ (t : State). IsRing t c.args.ring) (sym c.self.view_is) c.requires.ring in
-    let told = made_told s c.insert_linked.new.self c.args.ring c.args.name c.args.payload c.args.uid c.args.gid c.self.invariant c.next.ensures.unused ring here in
+    let ring : IsRing (state_of s) c.args.ring =
+    subst (λ (t : State). IsRing t c.args.ring) (sym c.self.view_is) c.requires.ring in
+    let told =
+    made_told s c.insert_linked.new.self c.args.ring c.args.name c.args.payload c.args.uid c.args.gid
+    c.self.invariant c.next.ensures.unused ring here in
     let here_n : n ≤ n = omega arith in
     let serial : c.new-serial.result ≡ n = c.new-serial.ensures ∙ c.next.ensures.value in
-    let numbers : c.let_go_of.new.self ≡ all_less (option_to_list (displaced_at (put es n key) c.args.ring c.args.name)) (one_more n (with_number n s.holders)) =
+    let numbers : c.let_go_of.new.self ≡ all_less (option_to_list
+    (displaced_at (put es n key) c.args.ring c.args.name)) (one_more n (with_number n s.holders)) =
     c.let_go_of.ensures
-    ∙ (ap (all_less (option_to_list c.in-Ok-insert_linked.displaced)) (c.hold.ensures ∙ (ap (one_more c.new-serial.result) c.in-Ok.ensures.ok ∙ ap (λ k. one_more k (with_number k s.holders)) serial))
+    ∙ (ap (all_less (option_to_list c.in-Ok-insert_linked.displaced))
+    (c.hold.ensures ∙ (ap (one_more c.new-serial.result) c.in-Ok.ensures.ok
+    ∙ ap (λ k. one_more k (with_number k s.holders)) serial))
     ∙ ap (λ (o : Option ℕ). all_less (option_to_list o) (one_more n (with_number n s.holders))) displaced) in
     record {
       fit = told.fit;
       kinds = told.kinds;
       tallied = subst (λ (zs : Table ℕ). AreExact c.insert_linked.new.self.keys zs (roots (state_of s))) (sym numbers)
-          (subst (λ (k : Keys). AreExact k.keys (all_less (option_to_list (displaced_at (put es n key) c.args.ring c.args.name)) (one_more n (with_number n s.holders))) (roots (state_of s))) (sym here)
-          (made_tallied s (roots (state_of s)) c.args.ring c.args.name key (c.next.ensures.unused n here_n) (first_links c.args.name.kind c.args.payload) ring c.self.invariant.tallied));
+          (subst (λ (k : Keys). AreExact k.keys (all_less (option_to_list
+          (displaced_at (put es n key) c.args.ring c.args.name)) (one_more n (with_number n s.holders)))
+          (roots (state_of s))) (sym here)
+          (made_tallied s (roots (state_of s)) c.args.ring c.args.name key (c.next.ensures.unused n here_n)
+          (first_links c.args.name.kind c.args.payload) ring c.self.invariant.tallied));
     }
 
 pub returns-in-Ok-insert_linked-clause-ok : goal.returns-in-Ok-insert_linked-clause-ok
@@ -75,7 +87,11 @@ returns-in-Ok-insert_linked-clause-ok c =
     let here : c.insert_linked.new.self ≡ after key c.args.name =
     c.in-Ok-insert_linked.ensures.ok
     ∙ (ap (λ k. after k c.in_ok-link.link) c.new_key-key.ensures ∙ ap (after key) c.in_ok-link.ensures) in
-    let ring : IsRing (state_of s) c.args.ring = subst (λ (t : State). IsRing t c.args.ring) (sym c.self.view_is) c.requires.ring in
-    let told = made_told s c.insert_linked.new.self c.args.ring c.args.name c.args.payload c.args.uid c.args.gid c.self.invariant c.next.ensures.unused ring here in
+    let ring : IsRing (state_of s) c.args.ring =
+    subst (λ (t : State). IsRing t c.args.ring) (sym c.self.view_is) c.requires.ring in
+    let told =
+    made_told s c.insert_linked.new.self c.args.ring c.args.name c.args.payload c.args.uid c.args.gid
+    c.self.invariant c.next.ensures.unused ring here in
     told.is ∙ (ap (λ (t : State). made t c.args.ring c.args.name (seen key)) c.self.view_is
-    ∙ ap (made c.args.self.now c.args.ring c.args.name) (seen-maker_key c.args.name c.args.payload c.args.uid c.args.gid))
+    ∙ ap (made c.args.self.now c.args.ring c.args.name) (seen-maker_key c.args.name c.args.payload c.args.uid
+    c.args.gid))

@@ -21,5 +21,6 @@ returns c =
     let there : at s.keys c.args.serial ≡ Some (seen c.in_ok-key.key.now) =
     sym c.key.ensures.value ∙ ap (option_map (λ (k : Bor Key). seen k.now)) c.in_ok-key.ensures.ok_part in
     linking_done c.args.special s c.make_ring.new.self c.args.client c.args.number c.args.serial
-    c.in_ok-context_of.field-0.now c.of-maker.result (seen c.in_ok-key.key.now) c.args.answer c.in_ok-context_of.ensures
+    c.in_ok-context_of.field-0.now c.of-maker.result (seen c.in_ok-key.key.now) c.args.answer
+    c.in_ok-context_of.ensures
     c.of-maker.ensures there short c.in_ok-check_serial.ensures.ok c.in_ok-make_ring.ensures.ok

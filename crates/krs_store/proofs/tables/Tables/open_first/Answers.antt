@@ -94,10 +94,12 @@ returns-in-Ok c =
     let b = c.args.session in
     let mid = c.hello.new.self in
     let next : c.args.self.now.next_serial ≡ n = ap (λ (t : State). t.next_serial) (sym c.self.view_is) in
-    let few : n ≤ 2147483646 = subst (λ (t : State). t.next_serial ≤ 2147483646) (sym c.self.view_is) c.requires.serials in
+    let few : n ≤ 2147483646 =
+    subst (λ (t : State). t.next_serial ≤ 2147483646) (sym c.self.view_is) c.requires.serials in
     let made : b ≡ uid_key (codes "_uid_ses.") ((a.name, n) ∷ []) x =
     c.requires.session ∙ ap (λ k. uid_key (codes "_uid_ses.") ((a.name, k) ∷ []) x) next in
-    let told = first_told s c.insert_two.new.self x a b c.self.invariant c.next-first.ensures.unused c.requires.user made
+    let told =
+    first_told s c.insert_two.new.self x a b c.self.invariant c.next-first.ensures.unused c.requires.user made
     c.in-Ok.ensures.ok in
     let no_uid : at base.uids x.uid ≡ None =
     subst (λ (t : State). at t.uids x.uid ≡ None) (sym c.self.view_is) c.requires.absent in

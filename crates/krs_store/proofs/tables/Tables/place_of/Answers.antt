@@ -20,7 +20,11 @@ returns-in-Links-clause-place c =
     let passed = to_z-of_z w32 c.args.ring c.ranges.ring in
     let found : look_up s x c.args.ring (Granted WRITE) ≡ Ok (c.in_ok-ring.ring, seen c.in_ok-ring.key.now) =
     ap (λ id. look_up s x id (Granted WRITE)) (sym passed) ∙ c.in_ok-ring.ensures.found in
-    let told = place_told s x c.args.name.now c.args.ring c.in_ok-ring.ring c.in_ok-ring.key.now links found c.in-Links.is c.in_ok-ring.ensures.named in
-    let asked : model.by_match s x c.new.result (serials links) c.find.result ≡ model.by_match s x c.in_ok-ring.ring (serials links) (linked_as links c.args.name.now) =
-    ap (λ r. model.by_match s x r (serials links) c.find.result) c.new.ensures ∙ ap (model.by_match s x c.in_ok-ring.ring (serials links)) c.find.ensures in
+    let told =
+    place_told s x c.args.name.now c.args.ring c.in_ok-ring.ring c.in_ok-ring.key.now links found c.in-Links.is
+    c.in_ok-ring.ensures.named in
+    let asked : model.by_match s x c.new.result (serials links) c.find.result
+    ≡ model.by_match s x c.in_ok-ring.ring (serials links) (linked_as links c.args.name.now) =
+    ap (λ r. model.by_match s x r (serials links) c.find.result) c.new.ensures
+    ∙ ap (model.by_match s x c.in_ok-ring.ring (serials links)) c.find.ensures in
     subst (Gives meant c.by_match.result) (asked ∙ sym told) c.by_match.ensures.place

@@ -21,14 +21,18 @@ pub invariant_of-self : goal.invariant_of-self
 invariant_of-self c =
     let s = c.self.inside in
     let es = s.keys.keys in
-    let there = name_kept s c.args.serial c.args.name (subst (λ (t : State). name_in t c.args.serial ≡ Some c.args.name) (sym c.self.view_is) c.requires.named) in
+    let there =
+    name_kept s c.args.serial c.args.name (subst (λ (t : State). name_in t c.args.serial ≡ Some c.args.name)
+    (sym c.self.view_is) c.requires.named) in
     let ring = subst (λ (t : State). IsRing t c.args.ring) (sym c.self.view_is) c.requires.ring in
     record {
       fit = rw c.in-Ok.ensures.ok (fit_linked es c.args.ring c.args.serial c.args.name c.self.invariant.fit there);
-      kinds = rw c.in-Ok.ensures.ok (kinds_alter es c.args.ring _ (linked_kind c.args.name c.args.serial) c.self.invariant.kinds);
+      kinds = rw c.in-Ok.ensures.ok (kinds_alter es c.args.ring _ (linked_kind c.args.name c.args.serial)
+          c.self.invariant.kinds);
       tallied = subst (λ (zs : Table ℕ). AreExact c.link.new.self.keys zs (roots (state_of s)))
           (sym (c.let_go_of.ensures ∙ ap (all_less (option_to_list c.in-Ok.displaced)) c.hold.ensures))
-          (rw (c.in-Ok.ensures.ok, c.in-Ok.ensures.displaced) (linked_tallied s (roots (state_of s)) c.args.ring c.args.serial c.args.name there ring c.self.invariant.tallied));
+          (rw (c.in-Ok.ensures.ok, c.in-Ok.ensures.displaced) (linked_tallied s (roots (state_of s)) c.args.ring
+          c.args.serial c.args.name there ring c.self.invariant.tallied));
     }
 
 pub returns-in-Ok : goal.returns-in-Ok
@@ -36,9 +40,11 @@ returns-in-Ok c =
     let s = c.self.inside in
     let es = s.keys.keys in (
       subst (λ (t : State). room_in t.keys c.args.ring c.args.name ≡ Ok (tt {0})) c.self.view_is
-          (room_told es c.args.ring c.args.name c.self.invariant.fit ∙ ap (λ (b : Bool). cond b (Err ENFILE) (Ok (tt {0}))) c.in-Ok.ensures.room),
+          (room_told es c.args.ring c.args.name c.self.invariant.fit
+          ∙ ap (λ (b : Bool). cond b (Err ENFILE) (Ok (tt {0}))) c.in-Ok.ensures.room),
       ap (λ zs. record (state_of s) { keys = shown zs.keys; next_serial = zs.next }) c.in-Ok.ensures.ok
-          ∙ (ap (λ zs. record (state_of s) { keys = zs }) (shown_linked es c.args.ring c.args.serial c.args.name c.self.invariant.fit)
+          ∙ (ap (λ zs. record (state_of s) { keys = zs }) (shown_linked es c.args.ring c.args.serial c.args.name
+          c.self.invariant.fit)
           ∙ ap (λ (t : State). changed t c.args.ring (linking t.keys c.args.name c.args.serial)) c.self.view_is),
     )
 
@@ -48,6 +54,9 @@ returns-in-Err-ENFILE c =
     let es = s.keys.keys in (
       subst (λ (t : State). room_in t.keys c.args.ring c.args.name ≡ Err ENFILE) c.self.view_is
           (room_told es c.args.ring c.args.name c.self.invariant.fit
-          ∙ ap (λ (b : Bool). cond b (Err ENFILE) (Ok (tt {0}))) (refused_full (is_refused (links_at es c.args.ring) c.args.name) (sym c.in-Err-ENFILE.field-0-is ∙ c.in-Err-ENFILE.ensures.error))),
-      ap (λ zs. record (state_of s) { keys = shown zs.keys; next_serial = zs.next }) c.in-Err-ENFILE.ensures.err ∙ c.self.view_is,
+          ∙ ap (λ (b : Bool). cond b (Err ENFILE) (Ok (tt {0})))
+          (refused_full (is_refused (links_at es c.args.ring) c.args.name)
+          (sym c.in-Err-ENFILE.field-0-is ∙ c.in-Err-ENFILE.ensures.error))),
+      ap (λ zs. record (state_of s) { keys = shown zs.keys; next_serial = zs.next }) c.in-Err-ENFILE.ensures.err
+          ∙ c.self.view_is,
     )

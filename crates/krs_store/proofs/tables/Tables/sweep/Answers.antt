@@ -44,7 +44,8 @@ pub returns-else-len-before : goal.returns-else-len-before
 returns-else-len-before c =
     let s = c.self.inside in
     let acyclic = subst (λ (t : State). IsAcyclic (links_in t.keys)) (sym c.self.view_is) c.requires.acyclic in
-    let live = subst (λ (t : State). live_watches t.keys t.watches ≡ t.watches) (sym c.self.view_is) c.requires.live in
+    let live =
+    subst (λ (t : State). live_watches t.keys t.watches ≡ t.watches) (sym c.self.view_is) c.requires.live in
     let sweeps = c.sweep.ensures.swept (roots (state_of s)) c.self.invariant.tallied acyclic in
     let told = sweep_told s c.sweep.new.keys.keys c.self.invariant sweeps in
     let many : c.len-before.result ≤ c.len.result = c.if-len-before.false in

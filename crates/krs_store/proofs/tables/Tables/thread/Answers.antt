@@ -35,7 +35,8 @@ invariant_of-self-2 c =
       kinds = c.self.invariant.kinds;
       tallied =
           subst (λ (zs : Table ℕ). AreExact keys zs (roots t)) (sym c.hold_of.ensures)
-          (thread_tallied (shown keys) s t c.args.client c.args.context c.in_ok-number.number own c.self.inside.holders
+          (thread_tallied (shown keys) s t c.args.client c.args.context c.in_ok-number.number own
+          c.self.inside.holders
           (fresh.contexts s.next_context last) found (c.in_ok-number.ensures s) c.self.invariant.tallied);
     }
 

@@ -6,13 +6,16 @@ use Rattle.krs_walk.proofs.held.HeldRings.has.Goals as goal
 
 pub returns-then-self-eq-LEVELS-clause-has : goal.returns-then-self-eq-LEVELS-clause-has
 returns-then-self-eq-LEVELS-clause-has c =
-    sym (not_possessed c.args.search.now c.walk.self c.args.ring c.walk.invariant c.requires.only c.requires.ring c.if-self-eq-LEVELS.true (sym c.has.ensures ∙ c.walk-test.true))
+    sym (not_possessed c.args.search.now c.walk.self c.args.ring c.walk.invariant c.requires.only c.requires.ring
+    c.if-self-eq-LEVELS.true (sym c.has.ensures ∙ c.walk-test.true))
 
 pub returns-clause-has : goal.returns-clause-has
 returns-clause-has c =
-    sym (held_possessed c.args.search.now c.walk.self c.args.ring c.walk.invariant c.requires.only c.requires.ring (sym c.has.ensures ∙ c.walk-test.false))
+    sym (held_possessed c.args.search.now c.walk.self c.args.ring c.walk.invariant c.requires.only c.requires.ring
+    (sym c.has.ensures ∙ c.walk-test.false))
 
 pub returns-then-is_attached-clause-has : goal.returns-then-is_attached-clause-has
 returns-then-is_attached-clause-has c =
     let s = c.args.search.now in
-    sym (head_possessed (shown s.keys.now.keys) s.clock s.context.now s.process_ring c.args.ring c.requires.only (sym c.is_attached.ensures ∙ c.if-is_attached.true))
+    sym (head_possessed (shown s.keys.now.keys) s.clock s.context.now s.process_ring c.args.ring c.requires.only
+    (sym c.is_attached.ensures ∙ c.if-is_attached.true))

@@ -10,7 +10,9 @@ returns-clause-held c =
       | then-self-eq0+in_ok-self w ↦ begun_held c.args.search.now c.args.self.now _ c.requires.held w.if-self-eq0.true
           (ap (λ (h : HeldRings). h.levels + 1) w.self-is) (ap (λ (h : HeldRings). h.start) w.self-is)
           (ap (λ (h : HeldRings). h.seen) w.self-is ∙ w.in_ok-self.ensures)
-      | else-self-eq0+in_ok-self-2 w ↦ next_held c.args.search.now c.args.self.now _ c.requires.held w.if-self-eq0.false c.requires.more
-          (ap (λ (h : HeldRings). h.levels + 1) w.self-is) (ap (λ (h : HeldRings). h.start) w.self-is ∙ w.in_ok-self-2.ensures.place)
+      | else-self-eq0+in_ok-self-2 w ↦ next_held c.args.search.now c.args.self.now _ c.requires.held
+          w.if-self-eq0.false c.requires.more
+          (ap (λ (h : HeldRings). h.levels + 1) w.self-is) (ap (λ (h : HeldRings). h.start) w.self-is
+          ∙ w.in_ok-self-2.ensures.place)
           (ap (λ (h : HeldRings). h.seen) w.self-is ∙ w.in_ok-self-2.ensures.joined)
     ]

@@ -11,8 +11,10 @@ returns-in_default c =
     let s = c.args.self.now in
     elim c.in_default.branch [
       | in_default-via-in-Some+else-eq w ↦ sym (unnamed_comes_to (searcher_for s) s.name.now c.args.serial
-          (ap (is_named s.name.now) (seen_there s.keys.now.keys c.args.serial w.in-Some.key.now (sym c.get.ensures ∙ ap option_copied w.in-Some.is))
+          (ap (is_named s.name.now) (seen_there s.keys.now.keys c.args.serial w.in-Some.key.now
+          (sym c.get.ensures ∙ ap option_copied w.in-Some.is))
           ∙ (sym w.eq.ensures ∙ w.if-eq.false)))
       | in_default-via-in_default w ↦ sym (unnamed_comes_to (searcher_for s) s.name.now c.args.serial
-          (ap (is_named s.name.now) (unseen s.keys.now.keys c.args.serial (sym c.get.ensures ∙ ap option_copied w.in_default.is))))
+          (ap (is_named s.name.now) (unseen s.keys.now.keys c.args.serial
+          (sym c.get.ensures ∙ ap option_copied w.in_default.is))))
     ]

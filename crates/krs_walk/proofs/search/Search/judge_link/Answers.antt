@@ -10,11 +10,13 @@ returns-in-Some c =
     let s = c.args.self.now in
     subst (λ (v : Result ℕ Errno). IfOk c.judge.result (λ r. r ≡ v))
     (ap (sought_link (searcher_for s) s.name.now) (sym c.in-Some.is ∙ c.find_in.ensures)
-    ∙ sym (links_come_to s.keys.now.keys (searcher_for s) s.name.now (content_links c.args.content.now) refl c.requires.named))
+    ∙ sym (links_come_to s.keys.now.keys (searcher_for s) s.name.now (content_links c.args.content.now) refl
+    c.requires.named))
     c.judge.ensures
 
 pub returns-in-None : goal.returns-in-None
 returns-in-None c =
     let s = c.args.self.now in
     ap (sought_link (searcher_for s) s.name.now) (sym c.in-None.is ∙ c.find_in.ensures)
-    ∙ sym (links_come_to s.keys.now.keys (searcher_for s) s.name.now (content_links c.args.content.now) refl c.requires.named)
+    ∙ sym (links_come_to s.keys.now.keys (searcher_for s) s.name.now (content_links c.args.content.now) refl
+    c.requires.named)

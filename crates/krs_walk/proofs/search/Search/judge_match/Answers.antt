@@ -7,23 +7,29 @@ use Rattle.krs_walk.proofs.search.Search.judge_match.Goals as goal
 pub returns-then-key : goal.returns-then-key
 returns-then-key c =
     let s = c.args.self.now in
-    sym (key_comes_to (searcher_for s) s.name.now c.args.serial (seen c.args.key.now) _ _ _ _ (seen_there s.keys.now.keys c.args.serial c.args.key.now c.requires.key)
+    sym (key_comes_to (searcher_for s) s.name.now c.args.serial (seen c.args.key.now) _ _ _ _
+    (seen_there s.keys.now.keys c.args.serial c.args.key.now c.requires.key)
     c.requires.named c.if-key.true refl refl)
 
 pub returns-then-is_over : goal.returns-then-is_over
 returns-then-is_over c =
     let s = c.args.self.now in
-    sym (key_comes_to (searcher_for s) s.name.now c.args.serial (seen c.args.key.now) _ _ _ _ (seen_there s.keys.now.keys c.args.serial c.args.key.now c.requires.key)
+    sym (key_comes_to (searcher_for s) s.name.now c.args.serial (seen c.args.key.now) _ _ _ _
+    (seen_there s.keys.now.keys c.args.serial c.args.key.now c.requires.key)
     c.requires.named c.if-key.false (sym c.is_over.ensures ∙ c.if-is_over.true) refl)
 
 pub returns-then-branch : goal.returns-then-branch
 returns-then-branch c =
     let s = c.args.self.now in
-    sym (key_comes_to (searcher_for s) s.name.now c.args.serial (seen c.args.key.now) _ _ _ _ (seen_there s.keys.now.keys c.args.serial c.args.key.now c.requires.key)
-    c.requires.named c.if-key.false (sym c.is_over.ensures ∙ c.if-is_over.false) (sym c.in_ok-grants.ensures ∙ c.if-branch.true))
+    sym (key_comes_to (searcher_for s) s.name.now c.args.serial (seen c.args.key.now) _ _ _ _
+    (seen_there s.keys.now.keys c.args.serial c.args.key.now c.requires.key)
+    c.requires.named c.if-key.false (sym c.is_over.ensures ∙ c.if-is_over.false)
+    (sym c.in_ok-grants.ensures ∙ c.if-branch.true))
 
 pub returns-else-branch : goal.returns-else-branch
 returns-else-branch c =
     let s = c.args.self.now in
-    sym (key_comes_to (searcher_for s) s.name.now c.args.serial (seen c.args.key.now) _ _ _ _ (seen_there s.keys.now.keys c.args.serial c.args.key.now c.requires.key)
-    c.requires.named c.if-key.false (sym c.is_over.ensures ∙ c.if-is_over.false) (sym c.in_ok-grants.ensures ∙ c.if-branch.false))
+    sym (key_comes_to (searcher_for s) s.name.now c.args.serial (seen c.args.key.now) _ _ _ _
+    (seen_there s.keys.now.keys c.args.serial c.args.key.now c.requires.key)
+    c.requires.named c.if-key.false (sym c.is_over.ensures ∙ c.if-is_over.false)
+    (sym c.in_ok-grants.ensures ∙ c.if-branch.false))

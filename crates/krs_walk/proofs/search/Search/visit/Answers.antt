@@ -7,30 +7,39 @@ use Rattle.krs_walk.proofs.search.Search.visit.Goals as goal
 
 pub returns-in_default-clause-sought : goal.returns-in_default-clause-sought
 returns-in_default-clause-sought c =
-    nothing_sought c.args.self.now c.args.ring c.args.fault (entered_absent c.args.self.now c.args.ring (sym c.get.ensures ∙ ap option_copied c.in_default.is))
+    nothing_sought c.args.self.now c.args.ring c.args.fault (entered_absent c.args.self.now c.args.ring
+    (sym c.get.ensures ∙ ap option_copied c.in_default.is))
 
 pub returns-in_default-clause-joined : goal.returns-in_default-clause-joined
 returns-in_default-clause-joined c =
-    nothing_joined c.args.self.now c.args.ring c.args.seen.now (entered_absent c.args.self.now c.args.ring (sym c.get.ensures ∙ ap option_copied c.in_default.is))
+    nothing_joined c.args.self.now c.args.ring c.args.seen.now
+    (entered_absent c.args.self.now c.args.ring (sym c.get.ensures ∙ ap option_copied c.in_default.is))
 
 pub returns-then-not-branch-clause-sought : goal.returns-then-not-branch-clause-sought
 returns-then-not-branch-clause-sought c =
     nothing_sought c.args.self.now c.args.ring c.args.fault
-    (entered_there c.args.self.now c.args.ring c.in-Some.key.now _ (sym c.get.ensures ∙ ap option_copied c.in-Some.is) (sym c.in_ok-enters.ensures.enters ∙ c.if-not-branch.true))
+    (entered_there c.args.self.now c.args.ring c.in-Some.key.now _ (sym c.get.ensures ∙ ap option_copied c.in-Some.is)
+    (sym c.in_ok-enters.ensures.enters ∙ c.if-not-branch.true))
 
 pub returns-then-not-branch-clause-joined : goal.returns-then-not-branch-clause-joined
 returns-then-not-branch-clause-joined c =
     nothing_joined c.args.self.now c.args.ring c.args.seen.now
-    (entered_there c.args.self.now c.args.ring c.in-Some.key.now _ (sym c.get.ensures ∙ ap option_copied c.in-Some.is) (sym c.in_ok-enters.ensures.enters ∙ c.if-not-branch.true))
+    (entered_there c.args.self.now c.args.ring c.in-Some.key.now _ (sym c.get.ensures ∙ ap option_copied c.in-Some.is)
+    (sym c.in_ok-enters.ensures.enters ∙ c.if-not-branch.true))
 
 pub returns-clause-sought : goal.returns-clause-sought
 returns-clause-sought c =
-    subst (λ (zs : List ℕ). IfOk c.examine.result (λ r. r ≡ or_next (Err c.args.fault) (sought_in c.args.self.now zs)))
-    (sym (entered_there c.args.self.now c.args.ring c.in-Some.key.now _ (sym c.get.ensures ∙ ap option_copied c.in-Some.is) (sym c.in_ok-enters.ensures.enters ∙ c.if-not-branch.false)))
+    subst (λ (zs : List ℕ). IfOk c.examine.result (λ r. r ≡ or_next (Err c.args.fault)
+    (sought_in c.args.self.now zs)))
+    (sym (entered_there c.args.self.now c.args.ring c.in-Some.key.now _
+    (sym c.get.ensures ∙ ap option_copied c.in-Some.is) (sym c.in_ok-enters.ensures.enters
+    ∙ c.if-not-branch.false)))
     c.examine.ensures.sought
 
 pub returns-clause-joined : goal.returns-clause-joined
 returns-clause-joined c =
     subst (λ (zs : List ℕ). IfOk c.examine.result (λ r. Joins r c.args.seen.now zs c.examine.new.seen))
-    (sym (rings_entered c.args.self.now c.args.ring c.in-Some.key.now c.requires.fit (sym c.get.ensures ∙ ap option_copied c.in-Some.is) (sym c.in_ok-enters.ensures.enters ∙ c.if-not-branch.false)))
+    (sym (rings_entered c.args.self.now c.args.ring c.in-Some.key.now c.requires.fit
+    (sym c.get.ensures ∙ ap option_copied c.in-Some.is) (sym c.in_ok-enters.ensures.enters
+    ∙ c.if-not-branch.false)))
     c.examine.ensures.joined

@@ -8,7 +8,8 @@ pub returns-in-Ok-clause-sought : goal.returns-in-Ok-clause-sought
 returns-in-Ok-clause-sought c =
     let s = c.args.self.now in
     let l = c.loop-place in
-    visited (searcher_for s) s.name.now c.args.seen.now l.seen c.args.start l.place c.at-here.result c.args.fault l.fault _ l.invariant.visit
+    visited (searcher_for s) s.name.now c.args.seen.now l.seen c.args.start l.place c.at-here.result c.args.fault
+    l.fault _ l.invariant.visit
     (omega (arith, c.len-end.ensures.is)) c.at-here.ensures (sym c.in-Ok.is ∙ c.in_ok-serial.ensures.sought)
 
 pub loop-place-preserved : goal.loop-place-preserved
@@ -17,7 +18,9 @@ loop-place-preserved c =
     let l = c.loop-place in
     record {
       held = c.in_ok-serial.ensures.held;
-      visit = visit_goes_on (searcher_for s) s.name.now c.args.seen.now l.seen c.visit.new.seen c.args.start l.place c.at-here.result c.args.fault l.fault c.in-Err.more l.invariant.visit
+      visit = visit_goes_on (searcher_for s) s.name.now c.args.seen.now l.seen c.visit.new.seen c.args.start l.place
+          c.at-here.result c.args.fault l.fault c.in-Err.more l.invariant.visit
           (omega (arith, c.len-end.ensures.is)) c.at-here.ensures (sym c.in-Err.is ∙ c.in_ok-serial.ensures.sought)
-          (subst (λ (r : Result ℕ Errno). Joins r l.seen (entered_rings (searcher_for s) c.at-here.result) c.visit.new.seen) c.in-Err.is c.in_ok-serial.ensures.joined);
+          (subst (λ (r : Result ℕ Errno). Joins r l.seen (entered_rings (searcher_for s) c.at-here.result)
+          c.visit.new.seen) c.in-Err.is c.in_ok-serial.ensures.joined);
     }

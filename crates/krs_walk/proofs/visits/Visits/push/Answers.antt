@@ -9,7 +9,9 @@ invariant_of-self-in-Ok c =
     let keys = c.self.inside.keys.items in
     let e = c.in_ok-push.ensures.items in
     record {
-      marked = λ k. c.in-Ok.ensures.updates.0 k ∙ (marked_push keys k c.number.result c.args.key _ c.number.ensures (c.self.invariant.marked k) ∙ ap (is_in k) (sym e));
-      once = subst (IsDistinct eqb) (sym e) (distinct_push keys c.args.key c.self.invariant.once (ap (is_in c.args.key) c.self.view_is ∙ c.requires));
+      marked = λ k. c.in-Ok.ensures.updates.0 k ∙ (marked_push keys k c.number.result c.args.key _ c.number.ensures
+          (c.self.invariant.marked k) ∙ ap (is_in k) (sym e));
+      once = subst (IsDistinct eqb) (sym e) (distinct_push keys c.args.key c.self.invariant.once
+          (ap (is_in c.args.key) c.self.view_is ∙ c.requires));
       small = λ k m. small_push keys c.args.key c.self.invariant.small (omega arith) k (ap (is_in k) (sym e) ∙ m);
     }

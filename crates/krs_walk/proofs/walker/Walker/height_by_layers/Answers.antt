@@ -7,7 +7,8 @@ use Rattle.krs_walk.proofs.walker.Walker.height_by_layers.Goals as goal
 
 pub loop-height-init : goal.loop-height-init
 loop-height-init c =
-    let e : c.join.new.self ≡ c.args.key ∷ [] = c.in_ok-join.ensures ∙ ap (λ zs. join zs (c.args.key ∷ [])) c.new-layer.ensures in
+    let e : c.join.new.self ≡ c.args.key ∷ [] =
+    c.in_ok-join.ensures ∙ ap (λ zs. join zs (c.args.key ∷ [])) c.new-layer.ensures in
     record {
       some = rw e refl;
       layer = layer_starts (nested_in (shown c.args.keys.now.keys)) c.args.key c.join.new.self e;
@@ -17,10 +18,13 @@ pub returns-then-is_empty-clause-height : goal.returns-then-is_empty-clause-heig
 returns-then-is_empty-clause-height c =
     let keys = shown c.args.keys.now.keys in
     let l = c.loop-height in
-    let next = layer_next (nested_in keys) (c.args.key ∷ []) l.height l.layer c.in_ok-next.next l.invariant.layer c.in_ok-next.ensures in
+    let next =
+    layer_next (nested_in keys) (c.args.key ∷ []) l.height l.layer c.in_ok-next.next l.invariant.layer
+    c.in_ok-next.ensures in
     record {
       chain = layer_chain keys c.args.key l.height l.layer l.invariant.layer l.invariant.some;
-      longest = layer_ends keys c.args.key (l.height + 1) c.in_ok-next.next next (sym c.is_empty.ensures ∙ c.if-is_empty.true);
+      longest = layer_ends keys c.args.key (l.height + 1) c.in_ok-next.next next
+          (sym c.is_empty.ensures ∙ c.if-is_empty.true);
     }
 
 pub loop-height-preserved : goal.loop-height-preserved
@@ -28,19 +32,27 @@ loop-height-preserved c =
     let l = c.loop-height in
     record {
       some = sym c.is_empty.ensures ∙ c.if-is_empty.false;
-      layer = layer_next (nested_in (shown c.args.keys.now.keys)) (c.args.key ∷ []) l.height l.layer c.in_ok-next.next l.invariant.layer c.in_ok-next.ensures;
+      layer = layer_next (nested_in (shown c.args.keys.now.keys)) (c.args.key ∷ []) l.height l.layer c.in_ok-next.next
+          l.invariant.layer c.in_ok-next.ensures;
     }
 
 pub returns-clause-error : goal.returns-clause-error
 returns-clause-error c =
     let keys = shown c.args.keys.now.keys in
     let l = c.loop-height in
-    let six : l.height ≡ 6 = omega arith in
-    (refl, subst (λ (z : _). has_chain keys c.args.key z ≡ true) six (layer_chain keys c.args.key l.height l.layer l.invariant.layer l.invariant.some))
+    let six : l.height ≡ 6 = omega arith in (
+      refl,
+      subst (λ (z : _). has_chain keys c.args.key z ≡ true) six
+          (layer_chain keys c.args.key l.height l.layer l.invariant.layer l.invariant.some),
+    )
 
 pub returns-then-is_empty-clause-shallow : goal.returns-then-is_empty-clause-shallow
 returns-then-is_empty-clause-shallow c =
     let keys = shown c.args.keys.now.keys in
     let l = c.loop-height in
-    let next = layer_next (nested_in keys) (c.args.key ∷ []) l.height l.layer c.in_ok-next.next l.invariant.layer c.in_ok-next.ensures in
-    none_longer keys c.args.key (l.height + 1) 6 (omega arith) (layer_ends keys c.args.key (l.height + 1) c.in_ok-next.next next (sym c.is_empty.ensures ∙ c.if-is_empty.true))
+    let next =
+    layer_next (nested_in keys) (c.args.key ∷ []) l.height l.layer c.in_ok-next.next l.invariant.layer
+    c.in_ok-next.ensures in
+    none_longer keys c.args.key (l.height + 1) 6 (omega arith)
+    (layer_ends keys c.args.key (l.height + 1) c.in_ok-next.next next
+    (sym c.is_empty.ensures ∙ c.if-is_empty.true))

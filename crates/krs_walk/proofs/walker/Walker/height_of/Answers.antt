@@ -9,10 +9,13 @@ use Rattle.krs_walk.proofs.walker.Walker.height_of.Goals as goal
 pub returns-then-is_empty-clause-height : goal.returns-then-is_empty-clause-height
 returns-then-is_empty-clause-height c =
     leaf_height (shown c.args.keys.now.keys) c.args.key
-    (sym c.rings_of.ensures ∙ nil_from_length c.rings_of.result.now (is_same (length c.rings_of.result.now) 0 (sym c.is_empty.ensures ∙ c.if-is_empty.true)))
+    (sym c.rings_of.ensures ∙ nil_from_length c.rings_of.result.now
+    (is_same (length c.rings_of.result.now) 0 (sym c.is_empty.ensures ∙ c.if-is_empty.true)))
 
 pub returns-then-is_empty-clause-shallow : goal.returns-then-is_empty-clause-shallow
 returns-then-is_empty-clause-shallow c =
     let keys = shown c.args.keys.now.keys in
-    let leaf : nested_in keys c.args.key ≡ [] = sym c.rings_of.ensures ∙ nil_from_length c.rings_of.result.now (is_same (length c.rings_of.result.now) 0 (sym c.is_empty.ensures ∙ c.if-is_empty.true)) in
+    let leaf : nested_in keys c.args.key ≡ [] =
+    sym c.rings_of.ensures ∙ nil_from_length c.rings_of.result.now
+    (is_same (length c.rings_of.result.now) 0 (sym c.is_empty.ensures ∙ c.if-is_empty.true)) in
     none_longer keys c.args.key 1 6 (omega arith) (leaf_height keys c.args.key leaf).longest

@@ -22,8 +22,10 @@ loop-level-preserved c =
     λ k. is_in c.args.serial (followed_at (shown c.args.keys.now.keys) c.args.clock c.args.context.now.caller k) in
     let rings = followed_rings (shown c.args.keys.now.keys) c.args.clock c.args.context.now.caller in
     let heads = attached_with c.args.context.now c.args.process_ring in
-    subst (λ (n : ℕ). IsSearch test rings heads (c.loop-level.level + 1) n c.next_level-in-loop-level.new.seen) (sym c.in_ok-start-2.ensures.place)
-    (search_goes_on test rings heads c.loop-level.level c.loop-level.start c.loop-level.seen c.next_level-in-loop-level.new.seen c.loop-level.invariant
+    subst (λ (n : ℕ). IsSearch test rings heads (c.loop-level.level + 1) n c.next_level-in-loop-level.new.seen)
+    (sym c.in_ok-start-2.ensures.place)
+    (search_goes_on test rings heads c.loop-level.level c.loop-level.start c.loop-level.seen
+    c.next_level-in-loop-level.new.seen c.loop-level.invariant
     (sym c.level_links.ensures ∙ c.if-level_links.false) c.in_ok-start-2.ensures.joined)
 
 pub returns-then-level_links : goal.returns-then-level_links
@@ -32,7 +34,8 @@ returns-then-level_links c =
     λ k. is_in c.args.serial (followed_at (shown c.args.keys.now.keys) c.args.clock c.args.context.now.caller k) in
     let rings = followed_rings (shown c.args.keys.now.keys) c.args.clock c.args.context.now.caller in
     let heads = attached_with c.args.context.now c.args.process_ring in
-    sym (search_finds test rings heads c.loop-level.level 7 c.loop-level.start c.loop-level.seen c.loop-level.invariant (omega arith)
+    sym (search_finds test rings heads c.loop-level.level 7 c.loop-level.start c.loop-level.seen
+    c.loop-level.invariant (omega arith)
     (sym c.level_links.ensures ∙ c.if-level_links.true))
 
 pub returns : goal.returns

@@ -7,4 +7,5 @@ use Rattle.krs_walk.proofs.walker.Walker.is_linked_below.Given as goal
 abbrev pub invariant-loop-level : goal.invariant-loop-level
 invariant-loop-level l =
     IsSearch (λ k. is_in l.serial (followed_at (shown l.keys.keys) l.clock l.context.caller k))
-    (followed_rings (shown l.keys.keys) l.clock l.context.caller) (attached_with l.context l.fn.process_ring) l.level l.start l.seen
+    (followed_rings (shown l.keys.keys) l.clock l.context.caller) (attached_with l.context l.fn.process_ring) l.level
+    l.start l.seen

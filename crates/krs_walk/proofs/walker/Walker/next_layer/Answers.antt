@@ -9,5 +9,9 @@ use Rattle.krs_walk.proofs.walker.Walker.next_layer.Goals as goal
 pub loop-ring-preserved : goal.loop-ring-preserved
 loop-ring-preserved c =
     let links = nested_in (shown c.args.keys.now.keys) in
-    layer_more links c.as_slice-rings.result.now c.loop-ring.next c.join.new.self c.loop-ring.ring-index c.loop-ring-test.true c.loop-ring.invariant
-    (c.in_ok-join.ensures ∙ (ap (join c.loop-ring.next) c.rings_of.ensures ∙ ap (λ (k : ℕ). join c.loop-ring.next (links k)) (c.ring-item.is ∙ get_or_default_zero c.as_slice-rings.result.now c.loop-ring.ring-index c.ring-item.result c.loop-ring-test.true)))
+    layer_more links c.as_slice-rings.result.now c.loop-ring.next c.join.new.self c.loop-ring.ring-index
+    c.loop-ring-test.true c.loop-ring.invariant
+    (c.in_ok-join.ensures ∙ (ap (join c.loop-ring.next) c.rings_of.ensures
+    ∙ ap (λ (k : ℕ). join c.loop-ring.next (links k)) (c.ring-item.is
+    ∙ get_or_default_zero c.as_slice-rings.result.now c.loop-ring.ring-index c.ring-item.result
+    c.loop-ring-test.true)))

@@ -11,6 +11,8 @@ pub returns : goal.returns
 returns c =
     let by = searcher_with (shown c.args.keys.now.keys) c.args.clock c.args.context.now c.args.process_ring in
     subst (λ (r : Result ℕ Errno). Gives (λ k. k) c.refusing.result r)
-    (found_in_turn by c.args.name.now (option_to_list c.args.context.now.thread) (option_to_list c.args.process_ring) (option_to_list c.args.context.now.session)
-    c.in_ok-thread.thread c.in_ok-process.process _ c.in_ok-thread.ensures c.in_ok-process.ensures c.in_ok-find_next.ensures)
+    (found_in_turn by c.args.name.now (option_to_list c.args.context.now.thread) (option_to_list c.args.process_ring)
+    (option_to_list c.args.context.now.session)
+    c.in_ok-thread.thread c.in_ok-process.process _ c.in_ok-thread.ensures c.in_ok-process.ensures
+    c.in_ok-find_next.ensures)
     c.refusing.ensures

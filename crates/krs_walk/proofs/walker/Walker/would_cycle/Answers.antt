@@ -9,20 +9,30 @@ use Rattle.krs_walk.proofs.walker.Walker.would_cycle.Goals as goal
 
 pub returns-then-eq-clause-closes : goal.returns-then-eq-clause-closes
 returns-then-eq-clause-closes c =
-    sym (self_closes (shown c.args.keys.now.keys) c.args.key c.args.ring c.requires.key (is_same c.args.key c.args.ring (sym c.eq.ensures ∙ c.if-eq.true)))
+    sym (self_closes (shown c.args.keys.now.keys) c.args.key c.args.ring c.requires.key
+    (is_same c.args.key c.args.ring (sym c.eq.ensures ∙ c.if-eq.true)))
 
 pub returns-then-is_empty-clause-closes : goal.returns-then-is_empty-clause-closes
 returns-then-is_empty-clause-closes c =
     let keys = shown c.args.keys.now.keys in
-    let leaf : nested_in keys c.args.key ≡ [] = sym c.rings_of.ensures ∙ nil_from_length c.rings_of.result.now (is_same (length c.rings_of.result.now) 0 (sym c.is_empty.ensures ∙ c.if-is_empty.true)) in
+    let leaf : nested_in keys c.args.key ≡ [] =
+    sym c.rings_of.ensures ∙ nil_from_length c.rings_of.result.now
+    (is_same (length c.rings_of.result.now) 0 (sym c.is_empty.ensures ∙ c.if-is_empty.true)) in
     sym (missed_closes keys c.args.key c.args.ring 1 (c.args.key ∷ []) c.requires.only c.requires.ring
-    (leaf_misses (nested_in keys) c.args.key c.args.ring leaf (λ e. true≢false (sym (same_is c.args.key c.args.ring e) ∙ (sym c.eq.ensures ∙ c.if-eq.false)))) (omega arith))
+    (leaf_misses (nested_in keys) c.args.key c.args.ring leaf
+    (λ e. true≢false (sym (same_is c.args.key c.args.ring e) ∙ (sym c.eq.ensures ∙ c.if-eq.false))))
+    (omega arith))
 
 pub returns-then-is_empty-clause-reached : goal.returns-then-is_empty-clause-reached
 returns-then-is_empty-clause-reached c =
     let keys = shown c.args.keys.now.keys in
-    let leaf : nested_in keys c.args.key ≡ [] = sym c.rings_of.ensures ∙ nil_from_length c.rings_of.result.now (is_same (length c.rings_of.result.now) 0 (sym c.is_empty.ensures ∙ c.if-is_empty.true)) in (
+    let leaf : nested_in keys c.args.key ≡ [] =
+    sym c.rings_of.ensures ∙ nil_from_length c.rings_of.result.now
+    (is_same (length c.rings_of.result.now) 0 (sym c.is_empty.ensures ∙ c.if-is_empty.true)) in (
       λ t. absurd (true≢false (sym t)),
-      λ closing. absurd (missed_reached keys c.args.key c.args.ring 1 (c.args.key ∷ []) c.requires.only c.requires.ring
-          (leaf_misses (nested_in keys) c.args.key c.args.ring leaf (λ e. true≢false (sym (same_is c.args.key c.args.ring e) ∙ (sym c.eq.ensures ∙ c.if-eq.false)))) (omega arith) closing),
+      λ closing. absurd (missed_reached keys c.args.key c.args.ring 1 (c.args.key ∷ []) c.requires.only
+          c.requires.ring
+          (leaf_misses (nested_in keys) c.args.key c.args.ring leaf
+          (λ e. true≢false (sym (same_is c.args.key c.args.ring e) ∙ (sym c.eq.ensures ∙ c.if-eq.false))))
+          (omega arith) closing),
     )

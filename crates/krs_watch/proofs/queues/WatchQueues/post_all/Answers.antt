@@ -9,6 +9,9 @@ use Rattle.krs_watch.proofs.queues.WatchQueues.post_all.Goals as goal
 pub returns : goal.returns
 returns c =
     let s = c.self.inside in
-    let made : Table Queue → Queues = λ zs. record { queues = zs; watches = s.watches.entries; next_queue = s.next_queue } in
-    let told = map (note_for (record { event = c.args.event; key = c.number.result; aux = c.args.aux })) (watches_at c.number.result s.watches.entries) in
+    let made : Table Queue → Queues =
+    λ zs. record { queues = zs; watches = s.watches.entries; next_queue = s.next_queue } in
+    let told =
+    map (note_for (record { event = c.args.event; key = c.number.result; aux = c.args.aux }))
+    (watches_at c.number.result s.watches.entries) in
     rw (← c.self.view_is, ← c.number.ensures) (ap made (c.post_note.ensures ∙ offers_are_posts told s.queues.entries))

@@ -9,8 +9,10 @@ pub returns : goal.returns
 returns g c =
     let s = c.self.inside in
     let has = g.K.KeySet.has c.args.keys.now in
-    let made : Table Queue → List Watch → Queues = λ zs ws. record { queues = zs; watches = ws; next_queue = s.next_queue } in
-    let ended = post_all (map removal_for (filter (λ (w : Watch). not (has w.0.0)) s.watches.entries)) s.queues.entries in
+    let made : Table Queue → List Watch → Queues =
+    λ zs ws. record { queues = zs; watches = ws; next_queue = s.next_queue } in
+    let ended =
+    post_all (map removal_for (filter (λ (w : Watch). not (has w.0.0)) s.watches.entries)) s.queues.entries in
     rw (← c.self.view_is) (
     ap (λ (zs : Table Queue). made zs c.keep_live.new.watches.entries) c.post_dropped.ensures
     ∙ ap (λ (ws : List Watch). made ended ws) c.keep_live.ensures

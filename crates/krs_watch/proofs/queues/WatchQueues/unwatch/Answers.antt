@@ -16,14 +16,17 @@ returns c =
     let key = c.args.key in
     let number = c.args.number in
     let id = c.in-Some.watch in
-    let all : Table Queue → List Watch → Queues = λ zs ws. record { queues = zs; watches = ws; next_queue = s.next_queue } in
+    let all : Table Queue → List Watch → Queues =
+    λ zs ws. record { queues = zs; watches = ws; next_queue = s.next_queue } in
     let made : Table Queue → List Watch → Change (Unit {0}) = λ zs ws. Ok (all zs ws, tt) in
     let there : watch_at watches key number ≡ Some id = rw (← c.number.ensures) (sym c.in-Some.ensures.value) in
     let told : c.post.new.queues.entries ≡ alter queues number (after_note (Removal id key)) =
-    c.post.ensures ∙ ap (λ (n : ℕ). alter queues number (after_note (Removal id n))) (c.from-id.ensures ∙ c.number-2.ensures) in
+    c.post.ensures ∙ ap (λ (n : ℕ). alter queues number (after_note (Removal id n)))
+    (c.from-id.ensures ∙ c.number-2.ensures) in
     let left : c.remove.new.self.entries ≡ without_watch watches key number =
     c.remove.ensures.entries ∙ ap (λ (n : ℕ). without_watch watches n number) c.number.ensures in
     rw (← c.self.view_is) (
     ends_watch (all queues watches) c.args.client number key id c.in_ok-check_own.ensures there
-    ∙ (ap (λ (zs : Table Queue). made zs (without_watch watches key number)) (sym told) ∙ ap (λ (ws : List Watch). made c.post.new.queues.entries ws) (sym left))
+    ∙ (ap (λ (zs : Table Queue). made zs (without_watch watches key number)) (sym told)
+    ∙ ap (λ (ws : List Watch). made c.post.new.queues.entries ws) (sym left))
     )
