@@ -22,7 +22,7 @@ both_tests true b both = (refl, both)
 both_tests false b both = absurd cc
 
 -- the first digit, and the others
-split : (c : ℕ) (cs : List ℕ) → list_all is_ascii_hexdigit (c ∷ cs) ≡ true
+pub split : (c : ℕ) (cs : List ℕ) → list_all is_ascii_hexdigit (c ∷ cs) ≡ true
     → (is_ascii_hexdigit c ≡ true) × (list_all is_ascii_hexdigit cs ≡ true)
 split c cs digits = both_tests (is_ascii_hexdigit c) (list_all is_ascii_hexdigit cs) digits
 

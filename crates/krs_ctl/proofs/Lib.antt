@@ -1,5 +1,6 @@
 pub mod NumberLemmas
 pub mod HexadecimalLemmas
+pub mod DataLemmas
 pub mod WordsLemmas
 pub mod EachLemmas
 pub mod LinesLemmas

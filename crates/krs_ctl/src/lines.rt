@@ -1,11 +1,13 @@
-ghost use Rattle.std.specs.Prelude.{◌≡◌, ◌⊎◌, ◌∷◌, [], true, false, Ok, IfErr};
+ghost use Rattle.std.specs.Prelude.{◌≡◌, ◌≢◌, ◌⊎◌, ◌∷◌, [], true, false, Ok, IfErr};
+ghost use Rattle.std.specs.IoError.{error_kind};
+ghost use Rattle.std.specs.declared.io.ErrorKind.TheVariants.{OutOfMemory};
 ghost use Rattle.std.specs.Io.Buffered.{reader_remaining};
 ghost use Rattle.std.specs.Io.KnownBytes.{IsAtEnd};
 ghost use Rattle.std.specs.Io.BufRead.{strip_last};
 ghost use Rattle.krs_ctl.specs.Lines.{ReadsLines};
 
 use crate::stop::Stop;
-use std::io::{BufRead, BufReader, ErrorKind, Read};
+use std::io::{BufRead, BufReader, Error, ErrorKind, Read};
 
 /// Reads the next line, of any length and any bytes, in place of what `line` held, without its newline; whether there
 /// was one. An error of the reader that means want of memory counts as the client's own.
@@ -22,8 +24,18 @@ pub fn read_line<R: Read>(reader: &mut BufReader<R>, line: &mut Vec<u8>) -> Resu
             drop_newline(line);
             Ok(true)
         }
-        Err(error) if error.kind() == ErrorKind::OutOfMemory => Err(Stop::Memory),
-        Err(_) => Err(Stop::Reading),
+        Err(error) => Err(cause_of(&error)),
+    }
+}
+
+/// Why a script stops whose reader failed so.
+fn cause_of(error: &Error) -> Stop
+    ensures memory { error_kind error.now ≡ OutOfMemory → result ≡ Stop.Memory }
+    ensures other { error_kind error.now ≢ OutOfMemory → result ≡ Stop.Reading }
+{
+    match error.kind() {
+        ErrorKind::OutOfMemory => Stop::Memory,
+        _ => Stop::Reading,
     }
 }
 

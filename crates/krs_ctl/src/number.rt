@@ -1,4 +1,4 @@
-ghost use Rattle.std.specs.Prelude.{◌≡◌, map};
+ghost use Rattle.std.specs.Prelude.{◌≡◌, map, Err, IsSome};
 ghost use Rattle.std.specs.Char.{is_ascii_digit, is_ascii_hexdigit};
 ghost use Rattle.std.specs.List.{list_all};
 ghost use Rattle.krs_ctl.specs.Number.{u64_of, u32_of, u32s_of, hexadecimal_of, key_of, data_of, watch_id_of};
@@ -91,16 +91,20 @@ pub fn watch_word(word: &[u8]) -> Option<i32>
     }
 }
 
-/// The payload that a word spells.
+/// The payload that a word spells. Memory is wanting only for a word that spells one.
 pub fn data_word(alloc: Global, word: &[u8]) -> Result<Blob, NoCommand>
-    ensures { Reads result (data_of word.now) }
+    ensures value { Reads result (data_of word.now) }
+    ensures memory { result ≡ Err NoCommand.Memory → IsSome (data_of word.now) }
 {
-    match word.strip_prefix(b"hex:") {
-        None => Ok(Blob::from_slice(alloc, word)?),
-        Some(digits) => match hex::decode(alloc, digits) {
-            Ok(bytes) => Ok(Blob::new(bytes)),
-            Err(hex::FromHexError::OutOfMemory) => Err(NoCommand::Memory),
-            Err(_) => Err(NoCommand::Usage),
-        },
+    let Some(digits) = word.strip_prefix(b"hex:") else {
+        return Ok(Blob::from_slice(alloc, word)?);
+    };
+    if !has_hexadecimal_digits_alone(digits) {
+        return Err(NoCommand::Usage);
+    }
+    match hex::decode(alloc, digits) {
+        Ok(bytes) => Ok(Blob::new(bytes)),
+        Err(hex::FromHexError::OutOfMemory) => Err(NoCommand::Memory),
+        Err(_) => Err(NoCommand::Usage),
     }
 }

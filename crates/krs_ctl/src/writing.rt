@@ -1,6 +1,7 @@
 ghost use Rattle.std.specs.Prelude.{◌≡◌, ◌⊎◌, ◌++◌, ◌∷◌, [], Err, OnOk, IfErr};
 ghost use Rattle.std.specs.Io.KnownBytes.{Appends};
 ghost use Rattle.krs_ctl.specs.Printing.{shown};
+ghost use Rattle.krs_ctl.specs.Script.{status_of, last_line};
 ghost use Rattle.krs_ctl.specs.Writing.{Prints, Finishes};
 
 use crate::output::Output;
@@ -61,18 +62,28 @@ pub fn finish<W: Write>(
     ensures { Finishes (W.contents writer.old) pending.old.items (W.contents writer.new)
         stopped refused result }
 {
-    let (status, last) = match stopped {
-        Ok(()) if refused => (1, ""),
-        Ok(()) => (0, ""),
-        Err(Stop::Usage) => (2, USAGE),
-        Err(Stop::Memory) => (1, OUT_OF_MEMORY),
-        Err(Stop::Reading) => (3, ""),
-        Err(Stop::Printing) => return 3,
-    };
+    let (status, last) = ending(stopped, refused);
+    if let Err(Stop::Printing) = stopped {
+        return status;
+    }
     if write_out(writer, pending).is_err() || write_text(writer, last.as_bytes()).is_err() {
         return 3;
     }
     status
+}
+
+/// The status of a script, and the last line of one that stopped.
+fn ending(stopped: Result<(), Stop>, refused: bool) -> (u8, &'static str)
+    ensures status { result.0 ≡ status_of stopped refused }
+    ensures last { result.1.now ≡ last_line stopped }
+{
+    match stopped {
+        Ok(()) if refused => (1, ""),
+        Ok(()) => (0, ""),
+        Err(Stop::Usage) => (2, USAGE),
+        Err(Stop::Memory) => (1, OUT_OF_MEMORY),
+        Err(Stop::Reading | Stop::Printing) => (3, ""),
+    }
 }
 
 /// Writes bytes and has them out. Nothing is asked of the writer for none.
