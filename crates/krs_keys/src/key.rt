@@ -49,7 +49,7 @@ pub enum Change {
 }
 
 /// Stands for the uid or gid that is there.
-const LEAVE: u32 = 4_294_967_295;
+pub const LEAVE: u32 = 4_294_967_295;
 
 impl Key {
     /// Whether its time is over.

@@ -19,7 +19,7 @@ use std::collections::HashMap;
 use std::marker::Model;
 
 /// The last serial that a key may get: profile, serials run out.
-const LAST_SERIAL: u32 = 2_147_483_647;
+pub const LAST_SERIAL: u32 = 2_147_483_647;
 
 /// The keys by serial, in no order. Serials rise by one, and none is given twice.
 #[derive(Drop)]

@@ -48,7 +48,7 @@ use Rattle.krs_store.specs.declared.tables.Tables.TheInside.{Inside}
 use Rattle.krs_store.specs.Holding.{HasRoom, more_of}
 use Rattle.krs_store.specs.Specials.{with_ring, special_name, ring_key, IsMissing, HasPlace, attached_as, AreLinksTo}
 use Rattle.krs_store.specs.Specials.{ring_at, ring_made, linking_made, maker_of}
-use Rattle.krs_store.specs.View.{state_of, IsSound}
+use Rattle.krs_store.specs.View.{state_of, IsConsistent}
 use Rattle.krs_store.proofs.Entering.{own_there}
 use Rattle.krs_model.proofs.Entering.{own_process_there}
 use Rattle.krs_store.proofs.Linking.{name_kept}
@@ -182,12 +182,12 @@ ring_kind Process = refl
 -- the store with the new keyring is sound
 pub ring_sound :
     (s : Inside) (special : Special) (maker : Maker) (links : LinkList) (linked : Option ℕ) (keys : Keys)
-    (contexts : Anchors) (numbers : Table ℕ) → IsSound s → IsBelow s.keys.keys s.keys.next
+    (contexts : Anchors) (numbers : Table ℕ) → IsConsistent s → IsBelow s.keys.keys s.keys.next
     → HasPlace special maker (state_of s) → AreLinksTo (state_of s) links linked
     → keys ≡ with_key s.keys (ring_key special maker links)
     → contexts ≡ attached_as special maker s.keys.next s.contexts
     → numbers ≡ more_of linked (one_more s.keys.next (with_number s.keys.next s.holders))
-    → IsSound (record s { keys = keys; contexts = contexts; holders = numbers })
+    → IsConsistent (record s { keys = keys; contexts = contexts; holders = numbers })
 ring_sound s special maker links linked keys contexts numbers sound unused place are k c e =
     let es = s.keys.keys in
     let n = s.keys.next in

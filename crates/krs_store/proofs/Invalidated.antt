@@ -13,11 +13,11 @@ use Rattle.krs_hold.proofs.Detached.{tallied_whole}
 use Rattle.krs_ctx.specs.Anchors.{Anchors}
 use Rattle.krs_ctx.specs.Told.{anchors_without}
 use Rattle.krs_store.specs.declared.tables.Tables.TheInside.{Inside}
-use Rattle.krs_store.specs.View.{state_of, IsSound}
+use Rattle.krs_store.specs.View.{state_of, IsConsistent}
 
 -- the store with these parts is sound, and the key is out
 pub record IsDetached (s new : Inside) (serial : ℕ) : Type 0 where
-  pub sound : IsSound new
+  pub sound : IsConsistent new
   pub is : state_of new ≡ invalidated (state_of s) serial
 
 -- each of the three parts lets go of the key
@@ -28,7 +28,7 @@ detached_in s serial = record s {
   holders = all_less (replicate (number_at s.holders serial) serial) s.holders;
 }
 
-detached_sound : (s : Inside) (serial : ℕ) → IsSound s → IsDetached s (detached_in s serial) serial
+detached_sound : (s : Inside) (serial : ℕ) → IsConsistent s → IsDetached s (detached_in s serial) serial
 detached_sound s serial sound =
     let keys = s.keys.keys in
     let new = detached_in s serial in
@@ -45,7 +45,7 @@ detached_sound s serial sound =
     }
 
 pub detached_told :
-    (s : Inside) (serial : ℕ) (keys : Keys) (anchors : Anchors) (numbers : Table ℕ) → IsSound s
+    (s : Inside) (serial : ℕ) (keys : Keys) (anchors : Anchors) (numbers : Table ℕ) → IsConsistent s
     → keys ≡ record s.keys { keys = map_values (without_key serial) s.keys.keys }
     → anchors ≡ anchors_without s.contexts serial
     → numbers ≡ all_less (replicate (number_at s.holders serial) serial) s.holders

@@ -1,3 +1,4 @@
+pub mod Granting
 pub mod Telling
 pub mod Linking
 pub mod Served

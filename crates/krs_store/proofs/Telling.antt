@@ -37,7 +37,7 @@ use Rattle.krs_store.specs.Making.{maker_key, first_content, uid_key}
 use Rattle.krs_model.specs.Asks.Adding as adding
 use Rattle.krs_keys.specs.Kept.{Sweeps}
 use Rattle.krs_keys.specs.Table.{Keys, with_key}
-use Rattle.krs_store.specs.View.{state_of, IsSound}
+use Rattle.krs_store.specs.View.{state_of, IsConsistent}
 use Rattle.krs_keys.proofs.KeysLemmas.{seen-with_entry, found_named, serials-content}
 use Rattle.krs_keys.proofs.KindsLemmas.{kinds_alter, kinds_put, kinds_kept, linked_kind}
 use Rattle.krs_keys.proofs.Fitting.{fit_alter, fit_put, fit_kept, named_linked, LinksKept}
@@ -81,7 +81,7 @@ pub seen-maker_key : (name : Name) (payload : List ℕ) (uid gid : ℕ)
     → seen (maker_key name payload uid gid) ≡ new_key name payload uid gid
 seen-maker_key name payload uid gid = first_seen (maker_key name payload uid gid) name.kind payload
 
-pub made_told : (s : Inside) (new : Keys) (ring : ℕ) (name : Name) (payload : List ℕ) (uid gid : ℕ) → IsSound s
+pub made_told : (s : Inside) (new : Keys) (ring : ℕ) (name : Name) (payload : List ℕ) (uid gid : ℕ) → IsConsistent s
     → IsBelow s.keys.keys s.keys.next → IsRing (state_of s) ring
     → new ≡ record {
       keys = alter (put s.keys.keys s.keys.next (maker_key name payload uid gid)) ring
@@ -127,7 +127,7 @@ pub record IsFirst (s : Inside) (new : Keys) (c : Caller) : Type 0 where
   pub is : shown new.keys ≡ (with_uid (state_of s) c None).keys
   pub next : new.next ≡ s.keys.next + 2
 
-pub first_told : (s : Inside) (new : Keys) (c : Caller) (a b : Key) → IsSound s → IsBelow s.keys.keys s.keys.next
+pub first_told : (s : Inside) (new : Keys) (c : Caller) (a b : Key) → IsConsistent s → IsBelow s.keys.keys s.keys.next
     → a ≡ uid_key (codes "_uid.") [] c → b ≡ uid_key (codes "_uid_ses.") ((a.name, s.keys.next) ∷ []) c
     → new ≡ with_key (with_key s.keys a) b → IsFirst s new c
 first_told s new c a b sound unused ea eb e =
@@ -183,7 +183,7 @@ links_kept es rs kept picks (link ∷ links) named held = (
   links_kept es rs kept picks links named.1 (λ k i. held k (or_true (link.1 == k) (is_in k (serials links)) i)),
 )
 
-pub sweep_told : (s : Inside) (new : Table Key) → IsSound s → Sweeps (roots (state_of s)) s.keys.keys new
+pub sweep_told : (s : Inside) (new : Table Key) → IsConsistent s → Sweeps (roots (state_of s)) s.keys.keys new
     → IsSweptTable s new
 sweep_told s new sound sweeps =
     let es = s.keys.keys in

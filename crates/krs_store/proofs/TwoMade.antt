@@ -30,7 +30,7 @@ use Rattle.krs_store.specs.declared.asks.making.Maker.{Maker}
 use Rattle.krs_store.specs.Making.{maker_key}
 use Rattle.krs_store.specs.Specials.{ring_key, ring_at, attached_as, maker_of}
 use Rattle.krs_store.specs.Specials.{HasPlace, adding_made}
-use Rattle.krs_store.specs.View.{state_of, IsSound}
+use Rattle.krs_store.specs.View.{state_of, IsConsistent}
 use Rattle.krs_store.proofs.Attaching.{ring_alone, ring_sound, ring_told, alter_put}
 use Rattle.krs_store.proofs.Counting.{made_tallied, first_links}
 use Rattle.krs_store.proofs.Telling.{made_told, seen-maker_key}
@@ -98,14 +98,14 @@ alone special s maker = record s {
 -- the store that has the keyring and the new key
 pub record AreMade
     (special : Special) (s : Inside) (maker : Maker) (name : Name) (payload : List ℕ) (t : Inside) : Type 0 where
-  pub sound : IsSound t
+  pub sound : IsConsistent t
   pub is : state_of t
       ≡ made (ring_at special maker [] (state_of s)) s.keys.next name (new_key name payload maker.uid maker.gid)
 
 -- the keyring and the key under the next two serials, the keyring attached, and each of the two held once
 two_told :
     (special : Special) (s : Inside) (maker : Maker) (name : Name) (payload : List ℕ) (ring key : Key) (new : Keys)
-    (anchors : Anchors) (numbers : Table ℕ) → IsSound s → IsBelow s.keys.keys s.keys.next
+    (anchors : Anchors) (numbers : Table ℕ) → IsConsistent s → IsBelow s.keys.keys s.keys.next
     → HasPlace special maker (state_of s) → ring ≡ ring_key special maker ((name, s.keys.next + 1) ∷ [])
     → key ≡ maker_key name payload maker.uid maker.gid → new ≡ with_key (with_key s.keys ring) key
     → anchors ≡ attached_as special maker s.keys.next s.contexts
@@ -177,7 +177,7 @@ pub record AreSteps
 pub two_made :
     (special : Special) (s : Inside) (maker : Maker) (name : Name) (payload : List ℕ) (one two : ℕ) (ring key : Key)
     (new : Keys) (anchors : Anchors) (r1 r2 r3 r4 : Table ℕ) (was : model.State) → state_of s ≡ was
-    → IsSound s → IsBelow s.keys.keys s.keys.next → HasPlace special maker was
+    → IsConsistent s → IsBelow s.keys.keys s.keys.next → HasPlace special maker was
     → AreSteps special s maker name payload one two ring key new anchors r1 r2 r3 r4
     → AreMade special s maker name payload (record s { keys = new; contexts = anchors; holders = r4 })
 two_made special s maker name payload one two ring key new anchors r1 r2 r3 r4 was view sound unused place x =

@@ -1,3 +1,4 @@
+pub mod Granting
 pub mod Making
 pub mod Places
 pub mod Linked

@@ -20,7 +20,7 @@ state_of s = record {
 }
 
 -- Each link has the name of its key. Every key is held, where none was let go of.
-pub record IsSound (s : Inside) : Type 0 where
+pub record IsConsistent (s : Inside) : Type 0 where
   pub fit : AreFit s.keys.keys
   pub kinds : AreOfKind s.keys.keys
   pub tallied : AreExact s.keys.keys s.holders (roots (state_of s))

@@ -11,6 +11,7 @@ ghost use Rattle.krs_model.specs.Sweep.{live_watches};
 ghost use Rattle.krs_model.specs.Reach.{IsAcyclic, links_in};
 ghost use Rattle.krs_model.specs.Sound.{IsSound};
 ghost use Rattle.krs_keys.specs.Keys.{seen, FindsByName};
+ghost use Rattle.krs_store.specs.Granting.{grants_to};
 ghost use Rattle.krs_store.specs.Telling.{Runs};
 
 use krs_ctx::Contexts;
@@ -38,11 +39,11 @@ impl Model for Tables {
 
     ghost Value = { State };
 
-    ghost use Rattle.krs_store.specs.View.{state_of, IsSound};
+    ghost use Rattle.krs_store.specs.View.{state_of, IsConsistent};
 
     ghost view = { state_of };
 
-    ghost invariant = { IsSound };
+    ghost invariant = { IsConsistent };
 }
 
 impl Tables {
@@ -137,11 +138,28 @@ impl Tables {
         if key.is_over(self.clock) {
             return Err(Fault::Refused(Errno::EKEYEXPIRED));
         }
-        let possessed = self.possesses(context, serial)?;
-        if !want.allows(key.grants(&context.caller, possessed), possessed) {
+        if !self.grants(context, serial, key, want)? {
             return Err(Fault::Refused(Errno::EACCES));
         }
         Ok((serial.number(), key))
+    }
+
+    /// Whether a key grants a context what is wanted. Possession is looked for only where it may add something: what is
+    /// granted without it is granted with it.
+    pub(crate) fn grants(
+        &self,
+        context: &Context,
+        serial: Serial,
+        key: &Key,
+        want: Want,
+    ) -> Result<bool, AllocError>
+        ensures { IfOk result (λ b. b ≡ grants_to self.now context.now serial (seen key.now) want) }
+    {
+        if want.allows(key.grants(&context.caller, false), false) {
+            return Ok(true);
+        }
+        let possessed = self.possesses(context, serial)?;
+        Ok(want.allows(key.grants(&context.caller, possessed), possessed))
     }
 
     /// One ask in the state that it finds, and the note of what it did.

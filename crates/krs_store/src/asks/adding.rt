@@ -9,16 +9,12 @@ ghost use Rattle.krs_model.specs.Sound.{IsSound};
 ghost use Rattle.krs_store.specs.Making.{maker_key, first_content, adding_in};
 
 use crate::tables::Tables;
-use bitflags::Flags;
-use krs_keys::{Change, Content, Key};
+use krs_keys::{Change, Content, Key, LAST_SERIAL};
 use krs_links::Links;
 use krs_types::{
     Answer, Blob, Body, Context, Desc, Errno, Fault, Kind, Name, Perm, Rights, Serial, Want,
 };
 use std::alloc::{AllocError, Global};
-
-/// The last serial that a key may get: profile, serials run out.
-pub(crate) const LAST_SERIAL: u32 = 2_147_483_647;
 
 /// Where an added key goes.
 pub(crate) enum Place {
@@ -81,11 +77,7 @@ impl Tables {
         if !key.is_alive(self.clock) || !is_updatable(key.name.kind) {
             return Ok(self.if_room(ring, links, Some(serial))?);
         }
-        let possessed = self.possesses(context, serial)?;
-        if !key
-            .grants(&context.caller, possessed)
-            .contains(Rights::WRITE)
-        {
+        if !self.grants(context, serial, key, Want::Granted(Rights::WRITE))? {
             return Err(Fault::Refused(Errno::EACCES));
         }
         Ok(Place::Update(serial))

@@ -6,11 +6,8 @@ ghost use Rattle.krs_keys.specs.Keys.{seen};
 ghost use Rattle.krs_keys.specs.Changes.{meant_change};
 
 use crate::tables::Tables;
-use krs_keys::{Change, Key};
+use krs_keys::{Change, Key, LEAVE};
 use krs_types::{Answer, Blob, Body, Caller, Errno, Fault, Kind, Perm, Rights, Serial, Want};
-
-/// Stands for the uid or gid that is there.
-const LEAVE: u32 = 4_294_967_295;
 
 impl Tables {
     /// Changes the key at a serial, and nothing else.

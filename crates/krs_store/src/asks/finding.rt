@@ -12,7 +12,6 @@ ghost use Rattle.krs_keys.specs.Keys.{seen};
 use crate::asks::linking::links_of;
 use crate::asks::making::Special;
 use crate::tables::Tables;
-use bitflags::Flags;
 use krs_keys::Key;
 use krs_types::{
     Answer, Blob, Context, Desc, Errno, Fault, Kind, Name, Rights, Serial, Want, check_description,
@@ -167,11 +166,7 @@ impl Tables {
         ensures { Gives (λ key. seen key.now) result (linkable self.now context.now serial) }
     {
         let key = self.key(serial).ok_or(Errno::ENOKEY)?;
-        let possessed = self.possesses(context, serial)?;
-        if !key
-            .grants(&context.caller, possessed)
-            .contains(Rights::LINK)
-        {
+        if !self.grants(context, serial, key, Want::Granted(Rights::LINK))? {
             return Err(Fault::Refused(Errno::EACCES));
         }
         Ok(key)

@@ -7,10 +7,9 @@ ghost use Rattle.krs_model.specs.Asks.Joining.{join, joinable, session_named, jo
 ghost use Rattle.krs_keys.specs.Keys.{seen};
 ghost use Rattle.krs_store.specs.Joined.{joined_ring, session_key, joined_anew, session_in, IsEmptyRing};
 
-use crate::asks::adding::LAST_SERIAL;
 use crate::asks::holding::make_room;
 use crate::tables::Tables;
-use krs_keys::{Content, Key};
+use krs_keys::{Content, Key, LAST_SERIAL};
 use krs_links::Links;
 use krs_types::{Answer, Blob, Caller, Desc, Errno, Fault, Kind, Name, Perm, Serial};
 use std::alloc::{AllocError, Global};

@@ -12,11 +12,11 @@ ghost use Rattle.krs_store.specs.Specials.{made_as, special_name, ring_key, Make
 ghost use Rattle.krs_store.specs.Specials.{linking_made, adding_made};
 ghost use Rattle.krs_store.specs.Specials.{maker_of, attached_as, HasPlace, AreLinksTo, ring_at};
 
-use crate::asks::adding::{LAST_SERIAL, new_key};
+use crate::asks::adding::new_key;
 use crate::asks::holding::{check_room, hold_of, make_room};
 use crate::tables::Tables;
 use krs_ctx::Contexts;
-use krs_keys::{Content, Key};
+use krs_keys::{Content, Key, LAST_SERIAL};
 use krs_links::Links;
 use krs_types::{Answer, Blob, Body, Context, Desc, Errno, Fault, KeyId, Kind, Name, Perm, Serial};
 use krs_walk::Walker;

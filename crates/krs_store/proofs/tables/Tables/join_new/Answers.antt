@@ -11,7 +11,7 @@ use Rattle.krs_hold.specs.Tally.{AreExact, with_number, one_more, all_less}
 use Rattle.krs_ctx.specs.Anchors.{Anchors, anchored}
 use Rattle.krs_ctx.specs.Told.{changed}
 use Rattle.krs_store.specs.Joined.{session_in}
-use Rattle.krs_store.specs.View.{state_of, IsSound}
+use Rattle.krs_store.specs.View.{state_of, IsConsistent}
 use Rattle.krs_store.proofs.Joined.{made_joined_tallied, empty_fit, empty_kinds, joined_anew_is}
 use Rattle.krs_store.proofs.tables.Tables.join_new.Goals as goal
 
@@ -38,7 +38,7 @@ invariant_of-self-in-Ok c =
     let anchors : c.attach_session.new.self ≡ changed s.contexts c.args.number (session_to n) =
     c.attach_session.ensures ∙ ap (λ k. changed s.contexts c.args.number (session_to k)) ring in
     subst (λ (k : Keys).
-    IsSound (record s { keys = k; contexts = c.attach_session.new.self; holders = c.let_go_of.new.self }))
+    IsConsistent (record s { keys = k; contexts = c.attach_session.new.self; holders = c.let_go_of.new.self }))
     (sym c.in-Ok.ensures.ok)
     (record {
       fit = empty_fit es n key none c.requires.empty c.self.invariant.fit;

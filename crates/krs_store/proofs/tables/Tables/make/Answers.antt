@@ -7,7 +7,7 @@ use Rattle.krs_keys.specs.Keys.{with_entry, seen, shown, displaced_at}
 use Rattle.krs_keys.specs.declared.key.Key.{Key}
 use Rattle.krs_keys.specs.Table.{Keys}
 use Rattle.krs_store.specs.Making.{maker_key}
-use Rattle.krs_store.specs.View.{state_of, IsSound}
+use Rattle.krs_store.specs.View.{state_of, IsConsistent}
 use Rattle.krs_store.proofs.Telling.{made_told, seen-maker_key}
 use Rattle.krs_model.specs.Sweep.{roots}
 use Rattle.std.specs.Option.{option_to_list}
@@ -17,8 +17,8 @@ use Rattle.krs_store.proofs.Counting.{made_tallied, first_links}
 use Rattle.krs_store.specs.declared.tables.Tables.TheInside.{Inside}
 use Rattle.krs_store.proofs.tables.Tables.make.Goals as goal
 
-room_sound : (s : Inside) (numbers : Table ℕ) (k : ℕ) → IsSound s → numbers ≡ with_number k s.holders
-    → IsSound (record s { holders = numbers })
+room_sound : (s : Inside) (numbers : Table ℕ) (k : ℕ) → IsConsistent s → numbers ≡ with_number k s.holders
+    → IsConsistent (record s { holders = numbers })
 room_sound s numbers k sound e = record {
   fit = sound.fit;
   kinds = sound.kinds;
@@ -32,7 +32,7 @@ invariant_of-self-then-not-has_room c =
 
 pub invariant_of-self-in-Err : goal.invariant_of-self-in-Err
 invariant_of-self-in-Err c =
-    subst (λ (k : Keys). IsSound (record c.self.inside { keys = k; holders = c.made.new.self }))
+    subst (λ (k : Keys). IsConsistent (record c.self.inside { keys = k; holders = c.made.new.self }))
     (sym c.in-Err.ensures.err)
     (room_sound c.self.inside c.made.new.self c.new-serial.result c.self.invariant c.in-Ok.ensures.ok)
 

@@ -4,7 +4,7 @@ use Rattle.krs_model.specs.Sweep.{roots}
 use Rattle.krs_model.specs.Asks.Adding.{made, new_key}
 use Rattle.krs_keys.specs.Table.{Keys}
 use Rattle.krs_store.specs.Specials.{ring_at}
-use Rattle.krs_store.specs.View.{state_of, IsSound}
+use Rattle.krs_store.specs.View.{state_of, IsConsistent}
 use Rattle.krs_store.proofs.TwoMade.{two_made, room_left}
 use Rattle.krs_store.proofs.tables.Tables.make_two.Goals as goal
 
@@ -19,7 +19,7 @@ pub invariant_of-self-in-Err : goal.invariant_of-self-in-Err
 invariant_of-self-in-Err c =
     let s = c.self.inside in
     let attached = roots (state_of s) in
-    subst (λ (k : Keys). IsSound (record s { keys = k; holders = c.make_room-2.new.holders }))
+    subst (λ (k : Keys). IsConsistent (record s { keys = k; holders = c.make_room-2.new.holders }))
     (sym c.in-Err.ensures.err)
     (record {
       fit = c.self.invariant.fit;

@@ -1,0 +1,12 @@
+-- What a key grants to a context: keyrings(7), "Access rights".
+use Rattle.std.specs.Prelude.{ℕ, Bool}
+use Rattle.krs_types.specs.declared.rights.Want.{Want}
+use Rattle.krs_types.specs.Rights.{allows}
+use Rattle.krs_types.specs.declared.context.Context.{Context}
+use Rattle.krs_model.specs.State.{State, Key}
+use Rattle.krs_model.specs.Access.{rights_on}
+use Rattle.krs_model.specs.Possession.{possessed}
+
+-- the rights of the context on the key at a serial, with the possessor's where it possesses it, are what is wanted
+abbrev pub grants_to : State → Context → ℕ → Key → Want → Bool
+grants_to s c serial key want = allows want (rights_on key c.caller (possessed s c serial)) (possessed s c serial)
