@@ -7,6 +7,3 @@ mod contexts;
 mod maps;
 
 pub use contexts::Contexts;
-
-#[cfg(test)]
-mod tests;

@@ -11,6 +11,3 @@ mod counts;
 mod holders;
 
 pub use holders::Holders;
-
-#[cfg(test)]
-mod tests;

@@ -148,6 +148,3 @@ impl Links {
         }
     }
 }
-
-#[cfg(test)]
-mod tests;

@@ -1,5 +1,5 @@
-//! What a key store is, and what each ask does to it: the definitions that every contract above cites, in `specs/`. The
-//! functions here have no body to speak of: their contracts are laws of the definitions, in the subject's words.
+//! What a key store is, and what each ask does to it: the definitions that every contract above cites, in `specs/`.
+//! The functions here have no body to speak of: their contracts are laws of the definitions, in the subject's words.
 #![tactic(auto)]
 
 mod laws;

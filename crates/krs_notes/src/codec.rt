@@ -123,6 +123,3 @@ fn guess(bytes: &[u8]) -> Option<Record>
         id,
     })
 }
-
-#[cfg(test)]
-mod tests;

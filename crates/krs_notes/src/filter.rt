@@ -1,7 +1,8 @@
 ghost use Rattle.std.specs.Prelude.{◌≡◌};
 ghost use Rattle.std.specs.List.{list_all, list_any};
 ghost use Rattle.std.specs.Option.{option_copied};
-ghost use Rattle.krs_model.specs.Notes.Filter.{filter_of, is_good_filter, is_good_entry, has_subtype, asks_for, passes, passes_if_any};
+ghost use Rattle.krs_model.specs.Notes.Filter.{filter_of, is_good_filter, is_good_entry, has_subtype, asks_for};
+ghost use Rattle.krs_model.specs.Notes.Filter.{passes, passes_if_any};
 
 use crate::subtype::event_number;
 use krs_types::{Errno, FilterEntry, Record};
@@ -114,6 +115,3 @@ fn has_subtype(entry: &FilterEntry, number: u8) -> bool
     let word = entry.subtypes[usize::from(number / 32)];
     (word >> u32::from(number % 32)) % 2 == 1
 }
-
-#[cfg(test)]
-mod tests;

@@ -1,4 +1,5 @@
-ghost use Rattle.std.specs.Prelude.{◌≡◌, ◌+◌, ◌*◌, ◌≤◌, drop, length, false, slice_get, if◌then◌else◌, IsTrue, IfOk, OnOk, IfErr};
+ghost use Rattle.std.specs.Prelude.{◌≡◌, ◌+◌, ◌*◌, ◌≤◌, drop, length, false, slice_get, if◌then◌else◌, IsTrue, IfOk};
+ghost use Rattle.std.specs.Prelude.{OnOk, IfErr};
 ghost use Rattle.circular_buffer.specs.Buffer.{buffer};
 ghost use Rattle.krs_model.specs.Notes.Bytes.{is_loss, bytes_of_all};
 ghost use Rattle.krs_model.specs.Notes.Waiting.{is_capacity, total_room, after_post};
@@ -125,6 +126,3 @@ fn mark_last(slots: &mut HeapCircularBuffer<Slot>)
         let _ = slots.push_back(Slot { lost: true, ..slot });
     }
 }
-
-#[cfg(test)]
-mod tests;

@@ -22,6 +22,3 @@ pub use keeper::Keeper;
 pub use one_desk::{OneDesk, OneSeat};
 pub use over::Over;
 pub use session::run;
-
-#[cfg(test)]
-mod tests;

@@ -1,5 +1,5 @@
-//! The values of a key store: serials, rights, masks, types of keys, errors, callers, asks and replies, and note records.
-//! A contract sees each text, payload or description as its list of bytes, a serial and a mask as a number.
+//! The values of a key store: serials, rights, masks, types of keys, errors, callers, asks and replies, and note
+//! records. A contract sees each text, payload or description as its list of bytes, a serial and a mask as a number.
 #![tactic(auto)]
 
 mod ask;
@@ -31,6 +31,3 @@ pub use name::{Desc, Name};
 pub use note::{FilterEntries, FilterEntry, KeyEvent, Record};
 pub use perm::Perm;
 pub use rights::{Rights, Want};
-
-#[cfg(test)]
-mod tests;

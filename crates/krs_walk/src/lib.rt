@@ -14,6 +14,3 @@ mod walker;
 
 pub use visits::Visits;
 pub use walker::Walker;
-
-#[cfg(test)]
-mod tests;

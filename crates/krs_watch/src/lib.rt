@@ -14,6 +14,3 @@ pub use laws::{
     notes_reach_their_watchers, posts_reach_their_queues, reads_take_the_longest_front,
 };
 pub use queues::WatchQueues;
-
-#[cfg(test)]
-mod tests;

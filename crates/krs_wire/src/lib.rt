@@ -19,6 +19,3 @@ pub use framed::Framed;
 pub use laws::{one_cut, one_spelling};
 pub use replies::{decode_reply, encode_reply};
 pub use shape::Shape;
-
-#[cfg(test)]
-mod tests;

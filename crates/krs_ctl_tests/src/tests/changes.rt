@@ -87,9 +87,33 @@ const OWNERS_BY_ROOT: [(&str, &str); 11] = [
     ("update 5 hex:", "error 22 EINVAL"),
 ];
 
+/// A payload is tested behind the type, and takes the expiry away; an expired key is displaced.
+#[rattlefmt::skip]
+const UPDATED: [(&str, &str); 18] = [
+    ("hello 1000 1000", "1"),
+    ("add logon afs:k x @u", "5"),
+    ("update @u x", "error 95 EOPNOTSUPP"),
+    ("update 5 hex:", "error 22 EINVAL"),
+    ("add user a s3 @u", "6"),
+    ("moment 100", "ok"),
+    ("timeout 6 10", "ok"),
+    ("moment 109", "ok"),
+    ("print 6", "s3"),
+    ("update 6 t4", "ok"),
+    ("moment 110", "ok"),
+    ("print 6", "t4"),
+    ("moment 18446744073709551615", "ok"),
+    ("timeout 6 1", "ok"),
+    ("print 6", "error 127 EKEYEXPIRED"),
+    ("add user a u5 @u", "7"),
+    ("print 6", "error 126 ENOKEY"),
+    ("print 7", "u5"),
+];
+
 /// Every script here has a refusal, so that its status is 1.
-const SCRIPTS: [&[(&str, &str)]; 5] = [
+const SCRIPTS: [&[(&str, &str)]; 6] = [
     &EXPIRY,
+    &UPDATED,
     &LOGON,
     &ONE_CLASS_BYTE,
     &TIMEOUTS_OWNERS_MASKS,

@@ -122,12 +122,59 @@ const COUNTS_AS_MADE: [(&str, &str); 6] = [
     ("newring A @t", "6"),
 ];
 
-/// The two keyrings of the uid take the last serials.
+/// The user's byte of the mask counts for its user, and the others' byte for others. Neither an expired keyring is
+/// joined nor one that ADD made. A session keyring is gone that its last context left. A name is looked at behind the
+/// context.
 #[rattlefmt::skip]
-const LAST_SERIALS: [(&str, &str); 5] = [
+const BY_WHOM: [(&str, &str); 33] = [
+    ("hello 1000 1000", "1"),
+    ("hello 2000 2000", "2"),
+    ("context 1", "ok"),
+    ("join work", "7"),
+    ("context 2", "ok"),
+    ("join work", "8"),
+    ("context 1", "ok"),
+    ("setperm 7 3f130008", "ok"),
+    ("context 2", "ok"),
+    ("join work", "7"),
+    ("context 1", "ok"),
+    ("print 8", "error 126 ENOKEY"),
+    ("join work", "9"),
+    ("context 2", "ok"),
+    ("moment 100", "ok"),
+    ("timeout 7 10", "ok"),
+    ("moment 109", "ok"),
+    ("join work", "7"),
+    ("context 1", "ok"),
+    ("moment 110", "ok"),
+    ("print 7", "error 127 EKEYEXPIRED"),
+    ("context 2", "ok"),
+    ("join work", "10"),
+    ("context 1", "ok"),
+    ("print 7", "error 126 ENOKEY"),
+    ("newring box @s", "11"),
+    ("setperm 11 3f3f0000", "ok"),
+    ("join box", "12"),
+    ("print 9", "error 126 ENOKEY"),
+    ("join .\0", "error 22 EINVAL"),
+    ("join a\0", "error 22 EINVAL"),
+    ("context 3", "ok"),
+    ("join .\0", "error 3 ESRCH"),
+];
+
+/// The two keyrings of the uid take the last serials. The refusals of an ask still come before ENOSPC.
+#[rattlefmt::skip]
+const LAST_SERIALS: [(&str, &str); 12] = [
     ("hello 1000 1000", "1"),
     ("add user k x @u", "error 28 ENOSPC"),
     ("join", "error 28 ENOSPC"),
+    ("link 99 @t", "error 126 ENOKEY"),
+    ("link @u @t", "error 28 ENOSPC"),
+    ("link @t @t", "error 35 EDEADLK"),
+    ("id @t create", "error 28 ENOSPC"),
+    ("id @t", "error 126 ENOKEY"),
+    ("search @u user k @t", "error 126 ENOKEY"),
+    ("request user k @p", "error 126 ENOKEY"),
     ("print @u", ""),
     ("print @us", ":hex:feffff7f"),
 ];
@@ -143,10 +190,11 @@ const ONE_SERIAL: [(&str, &str); 5] = [
 ];
 
 /// Each script with the first serial of its store, and its status.
-const SCRIPTS: [(u32, &[(&str, &str)], u8); 9] = [
+const SCRIPTS: [(u32, &[(&str, &str)], u8); 10] = [
     (3, &PROCESSES, 1),
     (3, &CURRENT, 0),
     (3, &SESSIONS, 1),
+    (3, &BY_WHOM, 1),
     (3, &NEAREST, 0),
     (3, &DEPTH, 1),
     (3, &DESTINATIONS, 1),

@@ -55,6 +55,32 @@ const DISPLACED: [(&str, &str); 9] = [
     ("print 7", "error 126 ENOKEY"),
 ];
 
+/// Two keyrings and their links. A link displaces that of its type and description, and what no keyring links any
+/// more is gone.
+#[rattlefmt::skip]
+const LINKED: [(&str, &str); 20] = [
+    ("hello 1000 1000", "1"),
+    ("newring a @u", "5"),
+    ("add user k one 5", "6"),
+    ("newring b 5", "7"),
+    ("add user k two 7", "8"),
+    ("link 5 7", "error 35 EDEADLK"),
+    ("link 5 5", "error 35 EDEADLK"),
+    ("link 5 6", "error 20 ENOTDIR"),
+    ("unlink 7 6", "error 20 ENOTDIR"),
+    ("clear 6", "error 20 ENOTDIR"),
+    ("unlink 6 7", "error 2 ENOENT"),
+    ("link 8 5", "ok"),
+    ("rlist 5", "8 7"),
+    ("print 6", "error 126 ENOKEY"),
+    ("unlink 8 5", "ok"),
+    ("print 8", "two"),
+    ("clear 7", "ok"),
+    ("print 8", "error 126 ENOKEY"),
+    ("rlist 7", ""),
+    ("rlist 5", "7"),
+];
+
 /// What is no keyring, and what is not linked.
 #[rattlefmt::skip]
 const NO_KEYRINGS: [(&str, &str); 10] = [
@@ -99,11 +125,12 @@ const REFUSED: [(&str, &str); 6] = [
 ];
 
 /// Each script with its status.
-const SCRIPTS: [(&[(&str, &str)], u8); 7] = [
+const SCRIPTS: [(&[(&str, &str)], u8); 8] = [
     (&CYCLES, 1),
     (&NESTED, 1),
     (&REVOKED, 1),
     (&DISPLACED, 1),
+    (&LINKED, 1),
     (&NO_KEYRINGS, 1),
     (&LISTED, 0),
     (&REFUSED, 1),

@@ -1,6 +1,7 @@
 //! Keys that are made: lengths, type names, and the last serials.
-use super::{Want, add, expect, hello, read};
+use super::expect;
 use krs_store::Store;
+use krs_store_asks::{Want, add, hello, read};
 use krs_types::Errno;
 use std::test::Fail;
 

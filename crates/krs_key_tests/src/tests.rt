@@ -1,0 +1,4 @@
+mod holders;
+mod keys;
+mod links;
+mod walks;

@@ -1,0 +1,138 @@
+ghost use Rattle.std.specs.Prelude.{◌≡◌, [], IfOk};
+ghost use Rattle.krs_types.specs.declared.kind.Kind.TheVariants.{Keyring};
+ghost use Rattle.krs_keys.specs.Keys.{content_links, shown, AreFit};
+ghost use Rattle.krs_walk.specs.Walks.{OnlyRingsLink};
+
+use krs_keys::{Content, Key, KeyTable};
+use krs_links::Links;
+use krs_types::{Blob, Caller, Context, Desc, Errno, Fault, Groups, Kind, Name, Perm, Serial};
+use krs_walk::Walker;
+use std::alloc::{AllocError, Global};
+use std::process::Abort;
+use std::test::Fail;
+
+/// The name of a keyring. Its description is short, as those of these tests are.
+fn name(alloc: Global, desc: &[u8]) -> Result<Name, AllocError>
+    ensures { IfOk result (λ name. name.kind ≡ Keyring) }
+{
+    let desc = Blob::from_slice(alloc, desc)?;
+    if desc.as_slice().len() > 4095 {
+        return Err(AllocError);
+    }
+    Ok(Name {
+        kind: Kind::Keyring,
+        desc: Desc::new(desc),
+    })
+}
+
+/// A keyring that links nothing.
+fn ring(alloc: Global, desc: &[u8], expiry: Option<u64>, revoked: bool) -> Result<Key, AllocError>
+    ensures empty { IfOk result (λ key. content_links key.content ≡ []) }
+    ensures ring { IfOk result (λ key. key.name.kind ≡ Keyring) }
+{
+    Ok(Key {
+        name: name(alloc, desc)?,
+        uid: 1000,
+        gid: 1000,
+        perm: Perm::OF_KEY,
+        expiry,
+        revoked,
+        joined: false,
+        content: Content::Links(Links::new(alloc)),
+    })
+}
+
+/// A context that has no thread keyring.
+fn with_session(alloc: Global, session: Option<Serial>) -> Context {
+    Context {
+        client: 1,
+        process: 1,
+        caller: Caller {
+            uid: 1000,
+            gid: 1000,
+            groups: Groups::new(Vec::new(alloc)),
+        },
+        thread: None,
+        session,
+    }
+}
+
+/// What is possessed by a context whose session keyring is key 3, where it and key 4 are keyrings that link nothing.
+fn check_possession(rt: &impl Abort, alloc: Global, keys: &KeyTable) -> Result<(), Fault>
+    requires fit { AreFit keys.now.keys }
+    requires only { OnlyRingsLink (shown keys.now.keys) }
+{
+    let (three, four) = (Serial::new(3), Serial::new(4));
+    let walker = Walker::new(alloc);
+    assert!(rt; walker.height_of(keys, three)? == 0);
+    let context = with_session(alloc, Some(three));
+    assert!(rt; walker.possesses(keys, &context, None, 0, three)?);
+    assert!(rt; walker.possesses(keys, &context, Some(four), 0, four)?);
+    assert!(rt; !walker.possesses(keys, &context, None, 0, four)?);
+    Ok(())
+}
+
+#[test]
+fn possession_of_two_keyrings(rt: HostRuntime) -> Result<(), Fail> {
+    let alloc = rt.alloc();
+    let mut keys = KeyTable::starting_at(alloc, 3);
+    let first = ring(alloc, b"a", None, false)?;
+    let second = ring(alloc, b"b", None, false)?;
+    assert!(rt; keys.insert_two(first, second) == Ok(Serial::new(3)));
+    check_possession(&rt, alloc, &keys)?;
+    Ok(())
+}
+
+#[test]
+fn cycles_of_two_keyrings(rt: HostRuntime) -> Result<(), Fail> {
+    let alloc = rt.alloc();
+    let (three, four) = (Serial::new(3), Serial::new(4));
+    let mut keys = KeyTable::starting_at(alloc, 3);
+    let first = ring(alloc, b"a", None, false)?;
+    let second = ring(alloc, b"b", None, false)?;
+    assert!(rt; keys.insert_two(first, second) == Ok(three));
+    let walker = Walker::new(alloc);
+    assert!(rt; walker.would_cycle(&keys, three, three)?);
+    assert!(rt; !walker.would_cycle(&keys, three, four)?);
+    Ok(())
+}
+
+/// Whether the session keyring is attached, the clock, the head and the description that are searched, and the
+/// answer.
+#[rattlefmt::skip]
+const SEARCHES: [(bool, u64, u32, &[u8], Result<u32, Errno>); 5] = [
+    (true, 8, 3, b"a", Ok(3)),
+    (true, 9, 3, b"a", Err(Errno::EKEYEXPIRED)),
+    (true, 8, 4, b"b", Err(Errno::EKEYREVOKED)),
+    (true, 8, 3, b"b", Err(Errno::ENOKEY)),
+    (false, 8, 3, b"a", Err(Errno::EACCES)),
+];
+
+fn check_searches(rt: &impl Abort, alloc: Global, keys: &KeyTable) -> Result<(), AllocError>
+    requires fit { AreFit keys.now.keys }
+    requires only { OnlyRingsLink (shown keys.now.keys) }
+{
+    let walker = Walker::new(alloc);
+    for (attached, clock, head, desc, answer) in SEARCHES {
+        let session = if attached { Some(Serial::new(3)) } else { None };
+        let context = with_session(alloc, session);
+        let name = name(alloc, desc)?;
+        let found = walker.search(keys, &context, None, clock, Serial::new(head), &name);
+        assert!(rt;
+            found.map(Serial::number) == answer.map_err(Fault::Refused),
+            "{head} {desc:?}"
+        );
+    }
+    Ok(())
+}
+
+#[test]
+fn searches_of_two_keyrings(rt: HostRuntime) -> Result<(), Fail> {
+    let alloc = rt.alloc();
+    let mut keys = KeyTable::starting_at(alloc, 3);
+    let first = ring(alloc, b"a", Some(9), false)?;
+    let second = ring(alloc, b"b", None, true)?;
+    assert!(rt; keys.insert_two(first, second) == Ok(Serial::new(3)));
+    check_searches(&rt, alloc, &keys)?;
+    Ok(())
+}

@@ -1,0 +1,313 @@
+ghost use Rattle.std.specs.Prelude.{◌≡◌, ◌++◌, ◌∷◌, [], ℕ, List};
+ghost use Rattle.krs_types.specs.declared.event.Event.{Event};
+ghost use Rattle.krs_model.specs.History.{IsLegal};
+ghost use Rattle.krs_wire.specs.declared.framed.Framed.{Framed};
+ghost use Rattle.krs_session.specs.Events.{asks_of, asks_in, session_text};
+ghost use Rattle.krs_session.specs.Session.{AreWhole};
+
+mod fakes;
+
+use fakes::{Chair, Rising, Table, Then, Watching, reader_of, watches, writer_of};
+use krs_session::*;
+use krs_store::Store;
+use krs_wire::WireFault;
+use std::alloc::Global;
+use std::process::Abort;
+use std::test::*;
+
+// HELLO 1000 1000 without groups; ADD user alpha `s3` to -4 in context 1; READ 5 in context 1.
+const ASKS: [u8; 75] = [
+    0x14, 0, 0, 0, 1, 0, 0, 1, 0, 0, 0, 0, 0xe8, 3, 0, 0, 0xe8, 3, 0, 0, 0, 0, 0, 0, //
+    0x1f, 0, 0, 0, 1, 0, 6, 1, 1, 0, 0, 0, 4, 0, 0x75, 0x73, 0x65, 0x72, 5, 0, 0x61, 0x6c, 0x70,
+    0x68, 0x61, 2, 0, 0, 0, 0x73, 0x33, 0xfc, 0xff, 0xff, 0xff, //
+    0x0c, 0, 0, 0, 1, 0, 0x0b, 0, 1, 0, 0, 0, 5, 0, 0, 0,
+];
+
+// Context 1; serial 5; `s3`.
+const REPLIES: [u8; 34] = [
+    8, 0, 0, 0, 0, 0, 0, 0, 1, 0, 0, 0, //
+    8, 0, 0, 0, 0, 0, 0, 0, 5, 0, 0, 0, //
+    6, 0, 0, 0, 0, 0, 0, 0, 0x73, 0x33,
+];
+
+// In context 1, behind HELLO and ADD: UPDATE of 5 to `s4`; CHOWN of 5 to uid 1000, the gid left; SETPERM of 5 to
+// 3f010001; SET_TIMEOUT of 5 to 10 seconds; READ of 5; REVOKE of 5; READ of 5.
+const CHANGES: [u8; 134] = [
+    0x12, 0, 0, 0, 1, 0, 2, 0, 1, 0, 0, 0, 5, 0, 0, 0, 2, 0, 0, 0, 0x73, 0x34, //
+    0x14, 0, 0, 0, 1, 0, 4, 0, 1, 0, 0, 0, 5, 0, 0, 0, 0xe8, 3, 0, 0, 0xff, 0xff, 0xff, 0xff, //
+    0x10, 0, 0, 0, 1, 0, 5, 0, 1, 0, 0, 0, 5, 0, 0, 0, 1, 0, 1, 0x3f, //
+    0x10, 0, 0, 0, 1, 0, 0x0f, 0, 1, 0, 0, 0, 5, 0, 0, 0, 10, 0, 0, 0, //
+    0x0c, 0, 0, 0, 1, 0, 0x0b, 0, 1, 0, 0, 0, 5, 0, 0, 0, //
+    0x0c, 0, 0, 0, 1, 0, 3, 0, 1, 0, 0, 0, 5, 0, 0, 0, //
+    0x0c, 0, 0, 0, 1, 0, 0x0b, 0, 1, 0, 0, 0, 5, 0, 0, 0,
+];
+
+// Nothing, four times; `s4`; nothing; EKEYREVOKED.
+const CHANGED: [u8; 58] = [
+    4, 0, 0, 0, 0, 0, 0, 0, 4, 0, 0, 0, 0, 0, 0, 0, //
+    4, 0, 0, 0, 0, 0, 0, 0, 4, 0, 0, 0, 0, 0, 0, 0, //
+    6, 0, 0, 0, 0, 0, 0, 0, 0x73, 0x34, //
+    4, 0, 0, 0, 0, 0, 0, 0, 4, 0, 0, 0, 0x80, 0, 0, 0,
+];
+
+// Behind HELLO and ADD: in context 1 SEARCH from -4 for user alpha, without a destination; REQUEST of user alpha,
+// without one; THREAD; FORK; EXEC; EXIT; in context 3 READ of 5; in context 1 READ of 5.
+const CONTEXTS: [u8; 142] = [
+    0x1d, 0, 0, 0, 1, 0, 0x0a, 0, 1, 0, 0, 0, 0xfc, 0xff, 0xff, 0xff, 4, 0, 0x75, 0x73, 0x65, 0x72,
+    5, 0, 0x61, 0x6c, 0x70, 0x68, 0x61, 0, 0, 0, 0, //
+    0x19, 0, 0, 0, 1, 0, 7, 1, 1, 0, 0, 0, 4, 0, 0x75, 0x73, 0x65, 0x72, 5, 0, 0x61, 0x6c, 0x70,
+    0x68, 0x61, 0, 0, 0, 0, //
+    8, 0, 0, 0, 1, 0, 1, 1, 1, 0, 0, 0, //
+    8, 0, 0, 0, 1, 0, 2, 1, 1, 0, 0, 0, //
+    8, 0, 0, 0, 1, 0, 3, 1, 1, 0, 0, 0, //
+    8, 0, 0, 0, 1, 0, 4, 1, 1, 0, 0, 0, //
+    0x0c, 0, 0, 0, 1, 0, 0x0b, 0, 3, 0, 0, 0, 5, 0, 0, 0, //
+    0x0c, 0, 0, 0, 1, 0, 0x0b, 0, 1, 0, 0, 0, 5, 0, 0, 0,
+];
+
+// Serial 5, twice; contexts 2 and 3; nothing, twice; `s3`; ESRCH.
+const CAME_AND_WENT: [u8; 82] = [
+    8, 0, 0, 0, 0, 0, 0, 0, 5, 0, 0, 0, 8, 0, 0, 0, 0, 0, 0, 0, 5, 0, 0, 0, //
+    8, 0, 0, 0, 0, 0, 0, 0, 2, 0, 0, 0, 8, 0, 0, 0, 0, 0, 0, 0, 3, 0, 0, 0, //
+    4, 0, 0, 0, 0, 0, 0, 0, 4, 0, 0, 0, 0, 0, 0, 0, //
+    6, 0, 0, 0, 0, 0, 0, 0, 0x73, 0x33, 4, 0, 0, 0, 3, 0, 0, 0,
+];
+
+// In context 1, behind HELLO and ADD: GET_ID of -1 with create; INVALIDATE of 5; READ of 5; JOIN without a name;
+// GET_ID of -3 without create.
+const KEYRINGS: [u8; 80] = [
+    0x0d, 0, 0, 0, 1, 0, 0, 0, 1, 0, 0, 0, 0xff, 0xff, 0xff, 0xff, 1, //
+    0x0c, 0, 0, 0, 1, 0, 0x15, 0, 1, 0, 0, 0, 5, 0, 0, 0, //
+    0x0c, 0, 0, 0, 1, 0, 0x0b, 0, 1, 0, 0, 0, 5, 0, 0, 0, //
+    0x0a, 0, 0, 0, 1, 0, 1, 0, 1, 0, 0, 0, 0, 0, //
+    0x0d, 0, 0, 0, 1, 0, 0, 0, 1, 0, 0, 0, 0xfd, 0xff, 0xff, 0xff, 0,
+];
+
+// Serial 6; nothing; ENOKEY; serial 7, twice.
+const ATTACHED: [u8; 52] = [
+    8, 0, 0, 0, 0, 0, 0, 0, 6, 0, 0, 0, 4, 0, 0, 0, 0, 0, 0, 0, 4, 0, 0, 0, 0x7e, 0, 0, 0, //
+    8, 0, 0, 0, 0, 0, 0, 0, 7, 0, 0, 0, 8, 0, 0, 0, 0, 0, 0, 0, 7, 0, 0, 0,
+];
+
+// Behind HELLO and ADD: OPEN_QUEUE of 4 records; SET_FILTER of queue 1 to updated notes; in context 1 WATCH of 5 by
+// queue 1 with the id 9, SET_TIMEOUT of 5 to 60 seconds, UPDATE of 5 to `s4`; READ_QUEUE of queue 1 into 64 bytes,
+// twice; CLOSE_QUEUE of queue 1; READ_QUEUE of queue 1 into 16 bytes.
+#[rattlefmt::skip]
+const QUEUES: [u8; 222] = [
+    0x0c, 0, 0, 0, 1, 0, 8, 1, 0, 0, 0, 0, 4, 0, 0, 0,
+    0x3c, 0, 0, 0, 1, 0, 9, 1, 0, 0, 0, 0, 1, 0, 0, 0, 1, 0, 0, 0,
+    1, 0, 0, 0, 0, 0, 0, 0, 0, 0, 0, 0, 2, 0, 0, 0, 0, 0, 0, 0, 0, 0, 0, 0,
+    0, 0, 0, 0, 0, 0, 0, 0, 0, 0, 0, 0, 0, 0, 0, 0, 0, 0, 0, 0,
+    0x14, 0, 0, 0, 1, 0, 0x20, 0, 1, 0, 0, 0, 5, 0, 0, 0, 1, 0, 0, 0, 9, 0, 0, 0,
+    0x10, 0, 0, 0, 1, 0, 0x0f, 0, 1, 0, 0, 0, 5, 0, 0, 0, 60, 0, 0, 0,
+    0x12, 0, 0, 0, 1, 0, 2, 0, 1, 0, 0, 0, 5, 0, 0, 0, 2, 0, 0, 0, 0x73, 0x34,
+    0x10, 0, 0, 0, 1, 0, 0x0a, 1, 0, 0, 0, 0, 1, 0, 0, 0, 64, 0, 0, 0,
+    0x10, 0, 0, 0, 1, 0, 0x0a, 1, 0, 0, 0, 0, 1, 0, 0, 0, 64, 0, 0, 0,
+    0x0c, 0, 0, 0, 1, 0, 0x0b, 1, 0, 0, 0, 0, 1, 0, 0, 0,
+    0x10, 0, 0, 0, 1, 0, 0x0a, 1, 0, 0, 0, 0, 1, 0, 0, 0, 16, 0, 0, 0,
+];
+
+// Queue 1; nothing, four times; the updated note of watch 9 of key 5; EAGAIN; nothing; EBADF.
+#[rattlefmt::skip]
+const NOTED: [u8; 92] = [
+    8, 0, 0, 0, 0, 0, 0, 0, 1, 0, 0, 0,
+    4, 0, 0, 0, 0, 0, 0, 0, 4, 0, 0, 0, 0, 0, 0, 0, 4, 0, 0, 0, 0, 0, 0, 0, 4, 0, 0, 0, 0, 0, 0, 0,
+    20, 0, 0, 0, 0, 0, 0, 0, 1, 0, 0, 1, 16, 9, 0, 0, 5, 0, 0, 0, 0, 0, 0, 0,
+    4, 0, 0, 0, 11, 0, 0, 0, 4, 0, 0, 0, 0, 0, 0, 0, 4, 0, 0, 0, 9, 0, 0, 0,
+];
+
+#[derive(Drop)]
+struct Case<'a> {
+    name: &'a str,
+    stream: &'a [u8],
+    // How many bytes the first read gives and each later one, and what the end of the stream is.
+    reads: (usize, usize, Then),
+    // How many bytes a write takes at most, how many all take, and what a write does then.
+    writes: (usize, usize, Then),
+    turns: u64,
+    ended: Ended,
+    asked: u32,
+    written: usize,
+}
+
+fn check(rt: &impl Abort, alloc: Global, case: &Case<'_>) {
+    let (next, later, then) = case.reads;
+    let mut reader = reader_of(case.stream, next, later, then);
+    let (most, room, then) = case.writes;
+    let mut writer = writer_of(alloc, most, room, then);
+    let mut seat = Chair {
+        alloc,
+        lane: 7,
+        asked: 0,
+        leaves: 0,
+        late: 0,
+        moment: 0,
+    };
+    let mut clock = Rising { at: 100 };
+    let gate = watches(7);
+    let ended = run(
+        rt,
+        alloc,
+        &mut reader,
+        &mut writer,
+        &Table,
+        &mut seat,
+        &mut clock,
+        &gate,
+        case.turns,
+    );
+    let name = case.name;
+    assert_eq!(rt; ended, case.ended, "{name}");
+    assert_eq!(rt; seat.asked, case.asked, "{name}");
+    assert_eq!(rt; (seat.leaves, seat.late), (1, 0), "{name}");
+    assert_eq!(rt; seat.moment, 99 + u64::from(case.asked), "{name}");
+    assert_eq!(rt;
+        (gate.asked.get(), gate.answered.get()),
+        (case.asked, case.asked),
+        "{name}"
+    );
+    assert_eq!(rt; gate.wrong.get(), 0, "{name}");
+    assert_eq!(rt;
+        Some(writer.text.as_slice()),
+        REPLIES.get(..case.written),
+        "{name}"
+    );
+}
+
+const ALL: (usize, usize, Then) = (4096, 4096, Then::GivesNone);
+
+#[test]
+fn any_two_pieces(rt: HostRuntime) {
+    for first in 1..=ASKS.len() {
+        let mut reader = reader_of(&ASKS, first, ASKS.len(), Then::GivesNone);
+        let mut writer = Over::new(Vec::new(rt.alloc()));
+        let (desk, mut seat) = OneDesk::open(1, Store::new(rt.alloc()));
+        let mut clock = Rising { at: 100 };
+        let gate = watches(0);
+        let ended = run(
+            &rt,
+            rt.alloc(),
+            &mut reader,
+            &mut writer,
+            &desk,
+            &mut seat,
+            &mut clock,
+            &gate,
+            99,
+        );
+        assert_eq!(rt; ended, Ended::Closed, "cut at {first}");
+        let text = writer.into_inner();
+        assert_eq!(rt; text.as_slice(), REPLIES.as_slice(), "cut at {first}");
+        assert_eq!(rt; gate.answered.get(), 4, "cut at {first}");
+    }
+}
+
+#[test]
+#[rattlefmt::skip]
+fn ends(rt: HostRuntime) {
+    let closed = Then::GivesNone;
+    let fails = Then::Fails;
+    let bad = Ended::Wire(WireFault::BadLength);
+    let cases = [
+        Case { name: "byte by byte", stream: &ASKS, reads: (1, 1, closed), writes: ALL,
+            turns: 99, ended: Ended::Closed, asked: 4, written: 34 },
+        Case { name: "three bytes a write", stream: &ASKS, reads: ALL, writes: (3, 4096, closed),
+            turns: 99, ended: Ended::Closed, asked: 4, written: 34 },
+        Case { name: "mid-frame", stream: &ASKS[..70], reads: ALL, writes: ALL,
+            turns: 99, ended: Ended::Closed, asked: 3, written: 24 },
+        Case { name: "length 7", stream: &[7, 0, 0, 0], reads: ALL, writes: ALL,
+            turns: 99, ended: bad, asked: 1, written: 0 },
+        Case { name: "length 65537", stream: &[1, 0, 1, 0], reads: (1, 1, closed), writes: ALL,
+            turns: 99, ended: bad, asked: 1, written: 0 },
+        Case { name: "a read fails", stream: &ASKS, reads: (24, 51, fails), writes: ALL,
+            turns: 99, ended: Ended::Read, asked: 4, written: 34 },
+        Case { name: "a write fails", stream: &ASKS, reads: ALL, writes: (4096, 20, fails),
+            turns: 99, ended: Ended::Write, asked: 4, written: 20 },
+        Case { name: "a write takes none", stream: &ASKS, reads: (24, 35, closed), writes: (5, 5, closed),
+            turns: 99, ended: Ended::Write, asked: 2, written: 5 },
+        Case { name: "two turns", stream: &ASKS, reads: (24, 35, closed), writes: ALL,
+            turns: 2, ended: Ended::Turns, asked: 3, written: 24 },
+        Case { name: "no turns", stream: &ASKS, reads: ALL, writes: ALL,
+            turns: 0, ended: Ended::Turns, asked: 1, written: 0 },
+    ];
+    for case in &cases {
+        check(&rt, rt.alloc(), case);
+    }
+}
+
+// A session over bytes in memory, and what `run` tells of it there: where it was closed, some front of the input is
+// cut into frames, whose asks are those of a legal history, and the output is the text of its replies, without
+// LEAVE's.
+fn converse(
+    rt: &impl Abort,
+    alloc: Global,
+    input: &[u8],
+    seat: &mut OneSeat,
+    gate: &Watching,
+) -> (Vec<u8>, Ended)
+    ensures { result.1 ≡ Ended.Closed
+        → (front left : List ℕ) × (frames : List Framed) × (events : List Event) × (last : Event)
+        × (input.now ≡ front ++ left) × AreWhole front frames × (asks_of events ≡ asks_in frames)
+        × (result.0.items ≡ session_text events) × IsLegal seat.old (events ++ last ∷ []) seat.new }
+{
+    let mut reader = Over::new(input);
+    let mut writer = Over::new(Vec::new(alloc));
+    let mut clock = Rising { at: 100 };
+    let ended = run(
+        rt,
+        alloc,
+        &mut reader,
+        &mut writer,
+        &OneDesk,
+        seat,
+        &mut clock,
+        gate,
+        99,
+    );
+    (writer.into_inner(), ended)
+}
+
+#[test]
+fn over_memory(rt: HostRuntime) {
+    let (desk, mut seat) = OneDesk::open(1, Store::new(rt.alloc()));
+    let gate = watches(0);
+    let (text, ended) = converse(&rt, rt.alloc(), &ASKS, &mut seat, &gate);
+    assert_eq!(rt; ended, Ended::Closed);
+    assert_eq!(rt; text.as_slice(), REPLIES.as_slice());
+    let _ = desk.close(seat);
+}
+
+// A session of HELLO, ADD and these asks, and the replies to them behind those to HELLO and ADD.
+fn check_replies(rt: &impl Abort, alloc: Global, asks: &[u8], wanted: &[u8]) -> Result<(), Fail> {
+    let mut stream = Vec::from_slice(alloc, &ASKS[..59])?;
+    stream.extend_from_slice(asks)?;
+    let mut replies = Vec::from_slice(alloc, &REPLIES[..24])?;
+    replies.extend_from_slice(wanted)?;
+    let (desk, mut seat) = OneDesk::open(1, Store::new(alloc));
+    let gate = watches(0);
+    let (text, ended) = converse(rt, alloc, &stream, &mut seat, &gate);
+    assert_eq!(rt; ended, Ended::Closed);
+    assert_eq!(rt; text.as_slice(), replies.as_slice());
+    let _ = desk.close(seat);
+    Ok(())
+}
+
+#[test]
+fn keys_are_changed(rt: HostRuntime) -> Result<(), Fail> {
+    check_replies(&rt, rt.alloc(), &CHANGES, &CHANGED)
+}
+
+#[test]
+fn contexts_come_and_go(rt: HostRuntime) -> Result<(), Fail> {
+    check_replies(&rt, rt.alloc(), &CONTEXTS, &CAME_AND_WENT)
+}
+
+#[test]
+fn keyrings_are_attached_and_keys_invalidated(rt: HostRuntime) -> Result<(), Fail> {
+    check_replies(&rt, rt.alloc(), &KEYRINGS, &ATTACHED)
+}
+
+#[test]
+fn queues_are_opened_read_and_closed(rt: HostRuntime) -> Result<(), Fail> {
+    check_replies(&rt, rt.alloc(), &QUEUES, &NOTED)
+}

@@ -1,0 +1,2 @@
+-- What the tests of the store want.
+pub mod Wanted

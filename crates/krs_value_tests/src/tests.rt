@@ -1,0 +1,6 @@
+mod contexts;
+mod filters;
+mod records;
+mod rings;
+mod values;
+mod watches;
