@@ -27,8 +27,8 @@ OPERATION is all, or one of these:
   link      LINK and UNLINK of one key
   watched   UPDATE of a watched key, and READ_QUEUE of its record
   apart     LINK and UNLINK of one key in a small keyring, where another uid has the links
-COUNT is how many keys the user keyring links: 10, 1000 and 10000 in turn if it is left out. Prints the nanoseconds of an
-ask, or of two, in the store, and through a session over memory: the median of ten runs. Payloads have 32 bytes.
+COUNT is how many keys the user keyring links: 10, 1000 and 10000 in turn if it is left out. Prints the nanoseconds
+of an ask, or of two, in the store, and through a session over memory: the median of ten runs. Payloads have 32 bytes.
 ";
 
 fn main(rt: HostRuntime) -> Result<()> {

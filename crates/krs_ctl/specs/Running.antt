@@ -27,20 +27,20 @@ use Rattle.krs_ctl.specs.Listing.{listing, records_of}
 use Rattle.krs_ctl.specs.Script.{context_after, status_of, last_line}
 
 -- the store served the ask, in the current context, at the current moment, as client 0
-abbrev pub Serves : Script → Op → Result Answer Errno → State → Type 0
-Serves old asked reply store =
+abbrev pub StoreServes : Script → Op → Result Answer Errno → State → Type 0
+StoreServes old asked reply store =
     Step old.store (event_of 0 old.moment (record { context = old.context; op = asked }) reply) store
 
 -- an ask whose reply is shown: an accepted `hello` names the current context; a refusal is remembered
 pub record Asks (old : Script) (asked : Op) (reply : Result Answer Errno) (new : Script) : Type 0 where
-  pub served : Serves old asked reply new.store
+  pub served : StoreServes old asked reply new.store
   pub context : new.context ≡ context_after old.context asked reply
   pub moment : new.moment ≡ old.moment
   pub refused : new.refused ≡ (old.refused || is_err reply)
 
 -- an ask whose reply is not shown: the store is all that it changes
 abbrev pub AsksUnseen : Script → Op → Result Answer Errno → Script → Type 0
-AsksUnseen old asked reply new = Serves old asked reply new.store × (new ≡ record old { store = new.store })
+AsksUnseen old asked reply new = StoreServes old asked reply new.store × (new ≡ record old { store = new.store })
 
 -- what follows a READ: where it was accepted, DESCRIBE, unseen, which tells how the bytes are shown
 abbrev pub ListsBy : Script → ℤ → Result Answer Errno → Output → Script → Type 0

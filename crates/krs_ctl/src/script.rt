@@ -85,7 +85,7 @@ struct Script {
 impl Script {
     ghost use Rattle.std.specs.Prelude.{◌≡◌};
     ghost use Rattle.std.specs.Io.Buffered.{reader_remaining};
-    ghost use Rattle.krs_ctl.specs.Running.{Acts, Asks, ListsBy, ObeysLine, Runs, Serves};
+    ghost use Rattle.krs_ctl.specs.Running.{Acts, Asks, ListsBy, ObeysLine, Runs, StoreServes};
     ghost use Rattle.krs_ctl.specs.Writing.{Prints};
 
     fn run<R: Read + Drop, W: Write>(
@@ -197,7 +197,7 @@ impl Script {
     }
 
     fn serve(&mut self, op: Op) -> Reply
-        ensures served { Serves self.old op result self.new.store }
+        ensures served { StoreServes self.old op result self.new.store }
         ensures stays { self.new ≡ record self.old { store = self.new.store } }
     {
         let ask = Ask {

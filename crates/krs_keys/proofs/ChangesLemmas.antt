@@ -11,15 +11,20 @@ use Rattle.krs_keys.specs.Keys.{content_links, name_at, AreNamed, AreFit, seen}
 use Rattle.krs_keys.specs.Changes.{changed, meant_change, paid_with, emptied, cleared_content}
 use Rattle.krs_keys.proofs.Fitting.{fit_alter}
 
-paid_seen : (payload : List ℕ) (key : Key) (content : Content) → seen (changed (change.Payload payload) (record key { content = content })) ≡ meant_change (change.Payload payload) (seen (record key { content = content }))
+paid_seen : (payload : List ℕ) (key : Key) (content : Content)
+    → seen (changed (change.Payload payload) (record key { content = content }))
+    ≡ meant_change (change.Payload payload) (seen (record key { content = content }))
 paid_seen payload key (Payload old) = refl
 paid_seen payload key (Links links) = refl
 
-ended_seen : (key : Key) (content : Content) → seen (changed change.Revoked (record key { content = content })) ≡ meant_change change.Revoked (seen (record key { content = content }))
+ended_seen : (key : Key) (content : Content) → seen (changed change.Revoked (record key { content = content }))
+    ≡ meant_change change.Revoked (seen (record key { content = content }))
 ended_seen key (Payload old) = refl
 ended_seen key (Links links) = refl
 
-cleared_seen : (key : Key) (content : Content) → seen (changed change.Cleared (record key { content = content })) ≡ meant_change change.Cleared (seen (record key { content = content }))
+cleared_seen : (key : Key) (content : Content)
+    → seen (changed change.Cleared (record key { content = content }))
+    ≡ meant_change change.Cleared (seen (record key { content = content }))
 cleared_seen key (Payload old) = refl
 cleared_seen key (Links links) = refl
 
@@ -40,7 +45,8 @@ name-changed (change.Expiry expiry) key = refl
 name-changed change.Revoked key = refl
 name-changed change.Cleared key = refl
 
-paid_named : (names : ℕ → Option Name) (payload : List ℕ) (content : Content) → AreNamed names (content_links content) → AreNamed names (content_links (paid_with payload content))
+paid_named : (names : ℕ → Option Name) (payload : List ℕ) (content : Content) → AreNamed names (content_links content)
+    → AreNamed names (content_links (paid_with payload content))
 paid_named names payload (Payload old) named = named
 paid_named names payload (Links links) named = named
 
@@ -48,11 +54,13 @@ emptied_named : (names : ℕ → Option Name) (content : Content) → AreNamed n
 emptied_named names (Payload old) = tt
 emptied_named names (Links links) = tt
 
-cleared_named : (names : ℕ → Option Name) (content : Content) → AreNamed names (content_links content) → AreNamed names (content_links (cleared_content content))
+cleared_named : (names : ℕ → Option Name) (content : Content) → AreNamed names (content_links content)
+    → AreNamed names (content_links (cleared_content content))
 cleared_named names (Payload old) named = named
 cleared_named names (Links links) named = tt
 
-changed_named : (names : ℕ → Option Name) (c : Change) (key : Key) → AreNamed names (content_links key.content) → AreNamed names (content_links (changed c key).content)
+changed_named : (names : ℕ → Option Name) (c : Change) (key : Key) → AreNamed names (content_links key.content)
+    → AreNamed names (content_links (changed c key).content)
 changed_named names (change.Payload payload) key named = paid_named names payload key.content named
 changed_named names (change.Mask mask) key named = named
 changed_named names (change.Owner uid gid) key named = named

@@ -14,46 +14,67 @@ use Rattle.krs_keys.specs.declared.key.Key.{Key}
 use Rattle.krs_keys.specs.declared.key.Content.{Content}
 use Rattle.krs_keys.specs.declared.key.Content.TheVariants.{Payload, Links}
 use Rattle.krs_links.specs.Links.{LinkList, linked_as, linked, serials}
-use Rattle.krs_keys.specs.Keys.{content_links, seen, seen_content, shown, name_at, AreNamed, AreFit, with_entry, entered, FindsByName}
+use Rattle.krs_keys.specs.Keys.{content_links, seen, seen_content, shown, name_at, AreNamed, AreFit, with_entry}
+use Rattle.krs_keys.specs.Keys.{entered, FindsByName}
 
 -- the serials that a key links
 pub serials-content : (content : Content) → serials (content_links content) ≡ links_of (seen_content content)
 serials-content (Payload bytes) = refl
 serials-content (Links links) = refl
 
-named_key : (name link : Name) (o : Option Key) → option_map (λ key. key.name) o ≡ Some link → is_named name (option_map seen o) ≡ same_name name link
+named_key : (name link : Name) (o : Option Key) → option_map (λ key. key.name) o ≡ Some link
+    → is_named name (option_map seen o) ≡ same_name name link
 named_key name link None h = absurd (none-some link h)
 named_key name link (Some key) h = ap (same_name name) (same_Some key.name link h)
 
 -- a link's name tells whether its key has a name
-pub named_at : (keys : Table Key) (name link : Name) (serial : ℕ) → name_at keys serial ≡ Some link → is_named name (at (shown keys) serial) ≡ same_name name link
-named_at keys name link serial h = ap (is_named name) (at_map seen keys serial) ∙ named_key name link (at keys serial) h
+pub named_at : (keys : Table Key) (name link : Name) (serial : ℕ) → name_at keys serial ≡ Some link
+    → is_named name (at (shown keys) serial) ≡ same_name name link
+named_at keys name link serial h =
+    ap (is_named name) (at_map seen keys serial) ∙ named_key name link (at keys serial) h
 
 -- so links are found by name
-pub found_named : (keys : Table Key) (name : Name) (links : LinkList) → AreNamed (name_at keys) links → link_named (shown keys) name (serials links) ≡ linked_as links name
+pub found_named : (keys : Table Key) (name : Name) (links : LinkList) → AreNamed (name_at keys) links
+    → link_named (shown keys) name (serials links) ≡ linked_as links name
 found_named keys name [] named = refl
 found_named keys name (link ∷ links) named =
-    rw (named_at keys name link.0 link.1 named.0) (elim (same_name name link.0) as (λ b. cond b (Some link.1) (find (λ k. is_named name (at (shown keys) k)) (serials links)) ≡ option_map (λ (l : Name × ℕ). l.1) (cond b (Some link) (find (λ (l : Name × ℕ). same_name name l.0) links))) [
+    rw (named_at keys name link.0 link.1 named.0)
+    (elim (same_name name link.0) as (λ b. cond b (Some link.1)
+    (find (λ k. is_named name (at (shown keys) k)) (serials links))
+    ≡ option_map (λ (l : Name × ℕ). l.1) (cond b (Some link) (find (λ (l : Name × ℕ). same_name name l.0) links))) [
       | true ↦ refl
       | false ↦ found_named keys name links named.1
     ])
 
 -- and put in by name
-pub linked_named : (keys : Table Key) (name : Name) (serial : ℕ) (links : LinkList) → AreNamed (name_at keys) links → serials (linked links name serial) ≡ with_link (λ k. is_named name (at (shown keys) k)) (serials links) serial
+pub linked_named : (keys : Table Key) (name : Name) (serial : ℕ) (links : LinkList) → AreNamed (name_at keys) links
+    → serials (linked links name serial) ≡ with_link (λ k. is_named name (at (shown keys) k)) (serials links) serial
 linked_named keys name serial [] named = refl
 linked_named keys name serial (link ∷ links) named =
-    rw (named_at keys name link.0 link.1 named.0) (elim (same_name name link.0) as (λ b. serials (cond b ((name, serial) ∷ links) (link ∷ linked links name serial)) ≡ cond b (serial ∷ serials links) (link.1 ∷ with_link (λ k. is_named name (at (shown keys) k)) (serials links) serial)) [
+    rw (named_at keys name link.0 link.1 named.0)
+    (elim (same_name name link.0) as (λ b. serials
+    (cond b ((name, serial) ∷ links) (link ∷ linked links name serial))
+    ≡ cond b (serial ∷ serials links)
+    (link.1 ∷ with_link (λ k. is_named name (at (shown keys) k)) (serials links) serial)) [
       | true ↦ refl
       | false ↦ ap (λ zs. link.1 ∷ zs) (linked_named keys name serial links named.1)
     ])
 
-linked_content : (keys : Table Key) (name : Name) (serial : ℕ) (key : Key) (content : Content) → AreNamed (name_at keys) (content_links content) → seen (record key { content = entered name serial content }) ≡ linking (shown keys) name serial (seen (record key { content = content }))
+linked_content : (keys : Table Key) (name : Name) (serial : ℕ) (key : Key) (content : Content)
+    → AreNamed (name_at keys) (content_links content)
+    → seen (record key { content = entered name serial content })
+    ≡ linking (shown keys) name serial (seen (record key { content = content }))
 linked_content keys name serial key (Payload bytes) named = refl
-linked_content keys name serial key (Links links) named = ap (λ ss. record (seen key) { content = model.Links ss }) (linked_named keys name serial links named)
+linked_content keys name serial key (Links links) named =
+    ap (λ ss. record (seen key) { content = model.Links ss }) (linked_named keys name serial links named)
 
 -- the keyring with its link, as the definitions see it
-pub seen-with_entry : (keys : Table Key) (name : Name) (serial : ℕ) (key : Key) → AreNamed (name_at keys) (content_links key.content) → seen (with_entry name serial key) ≡ linking (shown keys) name serial (seen key)
+pub seen-with_entry : (keys : Table Key) (name : Name) (serial : ℕ) (key : Key)
+    → AreNamed (name_at keys) (content_links key.content)
+    → seen (with_entry name serial key) ≡ linking (shown keys) name serial (seen key)
 seen-with_entry keys name serial key named = linked_content keys name serial key key.content named
 
-pub finds_by_name : (keys : Table Key) (serial : ℕ) (key : Key) → AreFit keys → at keys serial ≡ Some key → FindsByName (shown keys) key
-finds_by_name keys serial key fit there = λ name. found_named keys name (content_links key.content) (fit serial key there)
+pub finds_by_name : (keys : Table Key) (serial : ℕ) (key : Key) → AreFit keys → at keys serial ≡ Some key
+    → FindsByName (shown keys) key
+finds_by_name keys serial key fit there =
+    λ name. found_named keys name (content_links key.content) (fit serial key there)

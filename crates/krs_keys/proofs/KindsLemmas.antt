@@ -18,21 +18,26 @@ use Rattle.krs_keys.proofs.TableLemmas.{mapped_some, was_there}
 abbrev pub KeepsKind : (Key → Key) → Type 0
 KeepsKind f = (v : Key) → IsOfKind v.name.kind v.content → IsOfKind (f v).name.kind (f v).content
 
-pub kinds_alter : (keys : Table Key) (k : ℕ) (f : Key → Key) → KeepsKind f → AreOfKind keys → AreOfKind (alter keys k f)
+pub kinds_alter : (keys : Table Key) (k : ℕ) (f : Key → Key) → KeepsKind f → AreOfKind keys
+    → AreOfKind (alter keys k f)
 kinds_alter keys k f keeps kinds q key h =
-    ⊎_elim (λ (e : q ≡ k). let is = mapped_some f (at keys k) key (sym (at_alter_same keys k f) ∙ subst (λ (z : ℕ). at (alter keys k f) z ≡ Some key) e h) in
+    ⊎_elim (λ (e : q ≡ k). let is = mapped_some f (at keys k) key
+    (sym (at_alter_same keys k f) ∙ subst (λ (z : ℕ). at (alter keys k f) z ≡ Some key) e h) in
     subst (λ (v : Key). IsOfKind v.name.kind v.content) is.2 (keeps is.0 (kinds k is.0 is.1)))
     (λ apart. kinds q key (sym (at_alter_other keys k q f apart) ∙ h)) (at_or_apart q k)
 
-pub kinds_put : (keys : Table Key) (k : ℕ) (new : Key) → IsOfKind new.name.kind new.content → AreOfKind keys → AreOfKind (put keys k new)
+pub kinds_put : (keys : Table Key) (k : ℕ) (new : Key) → IsOfKind new.name.kind new.content → AreOfKind keys
+    → AreOfKind (put keys k new)
 kinds_put keys k new is kinds q key h =
-    ⊎_elim (λ (e : q ≡ k). subst (λ (v : Key). IsOfKind v.name.kind v.content) (same_Some new key (sym (at_put_same keys k new) ∙ subst (λ (z : ℕ). at (put keys k new) z ≡ Some key) e h)) is)
+    ⊎_elim (λ (e : q ≡ k). subst (λ (v : Key). IsOfKind v.name.kind v.content)
+    (same_Some new key (sym (at_put_same keys k new) ∙ subst (λ (z : ℕ). at (put keys k new) z ≡ Some key) e h)) is)
     (λ apart. kinds q key (sym (at_put_other keys k q new apart) ∙ h)) (at_or_apart q k)
 
 pub kinds_kept : (keys : Table Key) (kept : ℕ → Bool) → AreOfKind keys → AreOfKind (filter (λ e. kept e.0) keys)
 kinds_kept keys kept kinds q key h = kinds q key (was_there (kept q) (at keys q) key (sym (at_kept kept keys q) ∙ h)).1
 
-paid_kind : (kind : Kind) (payload : List ℕ) (content : Content) → IsOfKind kind content → IsOfKind kind (paid_with payload content)
+paid_kind : (kind : Kind) (payload : List ℕ) (content : Content) → IsOfKind kind content
+    → IsOfKind kind (paid_with payload content)
 paid_kind kind payload (Payload old) is = is
 paid_kind kind payload (Links links) is = is
 
@@ -52,14 +57,16 @@ changed_kind (change.Expiry expiry) v is = is
 changed_kind change.Revoked v is = emptied_kind v.name.kind v.content is
 changed_kind change.Cleared v is = cleared_kind v.name.kind v.content is
 
-entered_kind : (kind : Kind) (name : Name) (serial : ℕ) (content : Content) → IsOfKind kind content → IsOfKind kind (entered name serial content)
+entered_kind : (kind : Kind) (name : Name) (serial : ℕ) (content : Content) → IsOfKind kind content
+    → IsOfKind kind (entered name serial content)
 entered_kind kind name serial (Payload old) is = is
 entered_kind kind name serial (Links links) is = is
 
 pub linked_kind : (name : Name) (serial : ℕ) → KeepsKind (with_entry name serial)
 linked_kind name serial v is = entered_kind v.name.kind name serial v.content is
 
-keyless_as : (kind : Kind) (serial : ℕ) (content : Content) → IsOfKind kind content → IsOfKind kind (keyless_content serial content)
+keyless_as : (kind : Kind) (serial : ℕ) (content : Content) → IsOfKind kind content
+    → IsOfKind kind (keyless_content serial content)
 keyless_as kind serial (Payload old) is = is
 keyless_as kind serial (Links links) is = is
 

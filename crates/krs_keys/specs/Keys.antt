@@ -71,7 +71,8 @@ AreNamed names (link ∷ links) = (names link.1 ≡ Some link.0) × AreNamed nam
 
 -- every link of every key does
 abbrev pub AreFit : Table Key → Type 0
-AreFit keys = (serial : ℕ) (key : Key) → at keys serial ≡ Some key → AreNamed (name_at keys) (content_links key.content)
+AreFit keys =
+    (serial : ℕ) (key : Key) → at keys serial ≡ Some key → AreNamed (name_at keys) (content_links key.content)
 
 abbrev pub links_by : Option Key → LinkList
 links_by None = []

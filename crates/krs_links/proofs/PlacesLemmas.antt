@@ -1,5 +1,7 @@
 -- What a change at the place of a name does to the two lists.
-use Rattle.std.proofs.Common.{◌≡◌, ℕ, zero, suc, ◌+◌, ◌<◌, List, [], ◌∷◌, ◌++◌, Option, Some, None, IfNone, Bool, true, false, cond, length, get_or, set, take, refl, ap, ◌∙◌, sym, subst, arith, length-append}
+use Rattle.std.proofs.Common.{◌≡◌, ℕ, zero, suc, ◌+◌, ◌<◌, List, [], ◌∷◌, ◌++◌, Option, Some, None, IfNone, Bool}
+use Rattle.std.proofs.Common.{true, false, cond, length, get_or, set, take, refl, ap, ◌∙◌, sym, subst, arith}
+use Rattle.std.proofs.Common.{length-append}
 use Rattle.std.specs.Option.{option_map}
 use Rattle.std.specs.List.{find, position, position_from, remove, AllByRecursion}
 use Rattle.std.proofs.lemmas.Option.{none-some}

@@ -1,5 +1,6 @@
 -- What a keyring links: keyrings(7), "Keyrings". Names and serials, in link order.
-use Rattle.std.specs.Prelude.{ℕ, ◌==◌, Bool, ◌&&◌, cond, not, nat_le, if◌then◌else◌, List, [], ◌∷◌, length, map, filter, find, Option, is_none}
+use Rattle.std.specs.Prelude.{ℕ, ◌==◌, Bool, ◌&&◌, cond, not, nat_le, if◌then◌else◌, List, [], ◌∷◌, length, map}
+use Rattle.std.specs.Prelude.{filter, find, Option, is_none}
 use Rattle.std.specs.Option.{option_map}
 use Rattle.std.specs.List.{IsDistinct}
 use Rattle.krs_types.specs.declared.kind.Kind.TheVariants.{Keyring}

@@ -125,7 +125,8 @@ none_called s mid client context op answer keys q sound meant none =
     let dropped = dropped_watches keys (watches_left (outcome_of s client context op)) in
     let ended_known : Each (IsKnown s.queues) ended = each_on (IsWatch s.queues) (IsKnown s.queues) ended
     (λ w is. is.queue) (ended_watch s client context op mid answer effect sound.few sound.orderly) in
-    let left : Each (IsKnown s.queues) (dropped_watches keys mid.watches) = each_filter (IsKnown s.queues) _ mid.watches
+    let left : Each (IsKnown s.queues) (dropped_watches keys mid.watches) =
+    each_filter (IsKnown s.queues) _ mid.watches
     (left_known s client context op mid answer effect sound.orderly) in
     let dropped_known : Each (IsKnown s.queues) dropped = subst (Each (IsKnown s.queues))
     (sym (dropped_is (outcome_of s client context op) mid answer keys meant)) left in

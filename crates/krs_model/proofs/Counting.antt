@@ -168,7 +168,8 @@ by_match_is s c ring links None place h = room_is s ring links None place h
 by_match_is s c ring links (Some k) place h = match_is s c ring links k (at s.keys k) place refl h
 
 pub place_is :
-    (s : State) (c : Context) (name : Name) (id : ℤ) (place : Place) → place_of s c name id ≡ Ok place → IsPlace s place
+    (s : State) (c : Context) (name : Name) (id : ℤ) (place : Place) → place_of s c name id ≡ Ok place
+    → IsPlace s place
 unfolding place_of
 place_is s c name id place h =
     let a = bind_ok (look_up s c id (Granted WRITE)) _ place h in
@@ -210,7 +211,8 @@ add_counts s client context type_name desc payload ring placed =
     counts_after (place_of made.0 made.1 name ring) _ (λ place is.
     counts_ok (added_within s c name payload ring place made (made_for_has s context c ring process) is))))
 
-pub get_id_counts : (s : State) (client context : ℕ) (id : ℤ) (create : Bool) → Counts s (get_id s client context id create)
+pub get_id_counts : (s : State) (client context : ℕ) (id : ℤ) (create : Bool)
+    → Counts s (get_id s client context id create)
 unfolding get_id
 get_id_counts s client context id create =
     counts_after (context_of s client context) _ (λ c own. counts_within s _)

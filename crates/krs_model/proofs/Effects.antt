@@ -87,9 +87,11 @@ pub data Effect (s : State) (client context : ℕ) : Op → State → Answer →
       → watch_id_of watch_id ≡ Ok (Some n) → n ≤ 255
       → Effect s client context (Watch id number watch_id) (with_watches s (with_watch s.watches key number n)) Nothing
   Unwatches :
-      (id watch_id : ℤ) (number key n : ℕ) (queue : Queue) → IsSome (at s.keys key) → named s client context id ≡ Ok key
+      (id watch_id : ℤ) (number key n : ℕ) (queue : Queue) → IsSome (at s.keys key)
+      → named s client context id ≡ Ok key
       → at s.queues number ≡ Some queue → watch_id_of watch_id ≡ Ok None → watch_at s.watches key number ≡ Some n
-      → Effect s client context (Watch id number watch_id) (with_watches s (without_watch s.watches key number)) Nothing
+      → Effect s client context (Watch id number watch_id) (with_watches s (without_watch s.watches key number))
+      Nothing
   Leaves : Effect s client context Leave (left s client) Nothing
 
 unless_ok : (bad : Bool) (error : Errno) (x : Unit {0}) → unless bad error ≡ Ok x → bad ≡ false

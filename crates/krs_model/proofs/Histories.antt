@@ -44,15 +44,15 @@ closed_moves q _ _ _ _ (FurtherMoves s next end event events took moves step tak
     (no_moves (called_for q s event next) took moves nothing.0 nothing.1 ∙ later.0, later.1)
 
 -- from a queue on: these moves lead to what waits in it, where it is still there
-record Leads (old : Queue) (moves : List Move) (q : ℕ) (end : State) : Type 0 where
+record MovesReach (old : Queue) (moves : List Move) (q : ℕ) (end : State) : Type 0 where
   after : List Record
   moves_to : MovesTo old.capacity old.waiting moves after
   waits : (queue : Queue) → at end.queues q ≡ Some queue → queue.waiting ≡ after
 
 still_leads :
     (q : ℕ) (queue now : Queue) (end : State) (rs took : List Record) (moves : List Move)
-    → Stays queue (map Posted rs ++ map Took took) now → Leads now moves q end
-    → Leads queue (map Posted rs ++ (map Took took ++ moves)) q end
+    → Stays queue (map Posted rs ++ map Took took) now → MovesReach now moves q end
+    → MovesReach queue (map Posted rs ++ (map Took took ++ moves)) q end
 still_leads q queue now end rs took moves stays leads =
     let first = map Posted rs ++ map Took took in
     let later : MovesTo queue.capacity now.waiting moves leads.after =
@@ -66,7 +66,8 @@ still_leads q queue now end rs took moves stays leads =
     }
 
 gone_leads :
-    (q : ℕ) (queue : Queue) (end : State) (all : List Move) → all ≡ [] → at end.queues q ≡ None → Leads queue all q end
+    (q : ℕ) (queue : Queue) (end : State) (all : List Move) → all ≡ [] → at end.queues q ≡ None
+    → MovesReach queue all q end
 gone_leads q queue end all none gone = record {
   after = queue.waiting;
   moves_to = subst (λ (ms : List Move). MovesTo queue.capacity queue.waiting ms queue.waiting) (sym none) refl;
@@ -75,7 +76,7 @@ gone_leads q queue end all none gone = record {
 
 open_moves :
     (q : ℕ) (s : State) (events : List Event) (moves : List Move) (end : State) (queue : Queue)
-    → HasMoves q s events moves end → IsSound s → at s.queues q ≡ Some queue → Leads queue moves q end
+    → HasMoves q s events moves end → IsSound s → at s.queues q ≡ Some queue → MovesReach queue moves q end
 open_moves q _ _ _ _ queue (NoMoves s) sound there = record {
   after = queue.waiting;
   moves_to = refl;
@@ -112,14 +113,14 @@ opened_later q capacity _ _ _ _ (FurtherMoves s next end event events took moves
 -- from where it is opened on
 record Begins (capacity : ℕ) (moves : List Move) (q : ℕ) (end : State) : Type 0 where
   some : 1 ≤ capacity
-  leads : Leads (new_queue 0 capacity) moves q end
+  leads : MovesReach (new_queue 0 capacity) moves q end
 
 some_capacity : (capacity : ℕ) → is_capacity capacity ≡ true → 1 ≤ capacity
 some_capacity capacity h = leb-true 1 capacity (and_left (nat_le 1 capacity) (nat_le capacity 512) h)
 
 same_leads :
-    (client capacity q : ℕ) (moves : List Move) (end : State) → Leads (new_queue client capacity) moves q end
-    → Leads (new_queue 0 capacity) moves q end
+    (client capacity q : ℕ) (moves : List Move) (end : State) → MovesReach (new_queue client capacity) moves q end
+    → MovesReach (new_queue 0 capacity) moves q end
 same_leads client capacity q moves end leads =
     record { after = leads.after; moves_to = leads.moves_to; waits = leads.waits }
 
@@ -161,7 +162,8 @@ open_streams start end events moves q capacity queue sound has opened there =
 -- of each queue, what was taken begins the stream
 pub begun_streams :
     (start end : State) (events : List Event) (moves : List Move) (q capacity : ℕ) → IsSound start
-    → HasMoves q start events moves end → IsOpened q capacity events → IsBeginning (taken moves) (stream capacity moves)
+    → HasMoves q start events moves end → IsOpened q capacity events
+    → IsBeginning (taken moves) (stream capacity moves)
 begun_streams start end events moves q capacity sound has opened =
     let begun = opened_moves q capacity start events moves end has sound opened in
     (begun.leads.after, sym (gives_its_stream capacity moves begun.leads.after begun.some begun.leads.moves_to))

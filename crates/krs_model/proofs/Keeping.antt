@@ -187,7 +187,8 @@ effect_orderly s client context _ _ _ (Closes number queue there) few orderly =
 effect_orderly s client context _ _ _ (Watches id watch_id number key n queue here there asked small) few orderly =
     watched_orderly (queues_of s) key number n (small_there s.keys key few here)
     (some_there (at s.queues number) queue there) small orderly
-effect_orderly s client context _ _ _ (Unwatches id watch_id number key n queue here names there asked is) few orderly =
+effect_orderly s client context _ _ _ (Unwatches id watch_id number key n queue here names there asked is) few
+    orderly =
     unwatched_orderly (queues_of s) key number orderly
 effect_orderly s client context _ _ _ Leaves few orderly = left_orderly (queues_of s) client orderly
 

@@ -19,11 +19,13 @@ pub same_is : (x k : ℕ) → x ≡ k → (x == k) ≡ true
 same_is x k h = grind (arith, nat_tests)
 
 -- one level more
-pub level_more : (links : ℕ → List ℕ) (heads : List ℕ) (n : ℕ) → level links heads (n + 1) ≡ flat_map links (level links heads n)
+pub level_more : (links : ℕ → List ℕ) (heads : List ℕ) (n : ℕ)
+    → level links heads (n + 1) ≡ flat_map links (level links heads n)
 unfolding level
 level_more links heads n = rw add-one refl
 
-pub levels_more : (links : ℕ → List ℕ) (heads : List ℕ) (n : ℕ) → levels links heads (n + 1) ≡ levels links heads n ++ level links heads n
+pub levels_more : (links : ℕ → List ℕ) (heads : List ℕ) (n : ℕ)
+    → levels links heads (n + 1) ≡ levels links heads n ++ level links heads n
 unfolding levels
 levels_more links heads n = rw add-one refl
 
@@ -38,7 +40,8 @@ pub in_one : (k : ℕ) (xs ys : List ℕ) → is_in k (xs ++ ys) ≡ true → (i
 in_one k xs ys h = true_or (is_in k xs) (is_in k ys) (rw (list_any-append (λ q. q == k) xs ys) at h)
 
 -- what is in a flattened list is in the list of one of its keys
-pub in_flat : (links : ℕ → List ℕ) (xs : List ℕ) (k : ℕ) → is_in k (flat_map links xs) ≡ true → (j : ℕ) × (is_in j xs ≡ true) × (is_in k (links j) ≡ true)
+pub in_flat : (links : ℕ → List ℕ) (xs : List ℕ) (k : ℕ) → is_in k (flat_map links xs) ≡ true
+    → (j : ℕ) × (is_in j xs ≡ true) × (is_in k (links j) ≡ true)
 in_flat links [] k h = absurd (true≢false (sym h))
 in_flat links (x ∷ xs) k h =
     ⊎_elim (λ here. (x, rw (same_is x x refl) refl, here))
@@ -46,17 +49,28 @@ in_flat links (x ∷ xs) k h =
     (in_one k (links x) (flat_map links xs) h)
 
 -- in the first n levels: a head, or linked by a key of the first n levels
-pub levels_linked : (links : ℕ → List ℕ) (heads : List ℕ) (n k : ℕ) → is_in k (levels links heads n) ≡ true → (is_in k heads ≡ true) ⊎ ((j : ℕ) × (is_in j (levels links heads n) ≡ true) × (is_in k (links j) ≡ true))
+pub levels_linked : (links : ℕ → List ℕ) (heads : List ℕ) (n k : ℕ) → is_in k (levels links heads n) ≡ true
+    → (is_in k heads ≡ true) ⊎ ((j : ℕ) × (is_in j (levels links heads n) ≡ true) × (is_in k (links j) ≡ true))
 unfolding level levels
 levels_linked links heads zero k h = absurd (true≢false (sym h))
 levels_linked links heads (suc zero) k h = inl h
 levels_linked links heads (suc (suc n)) k h =
-    ⊎_elim (λ before. ⊎_elim (λ i. inl i) (λ r. inr (r.0, in_left r.0 (levels links heads (suc n)) (level links heads (suc n)) r.1, r.2)) (levels_linked links heads (suc n) k before))
-    (λ last. let r = in_flat links (level links heads n) k last in inr (r.0, in_left r.0 (levels links heads (suc n)) (level links heads (suc n)) (in_right r.0 (levels links heads n) (level links heads n) r.1), r.2))
+    ⊎_elim (λ before. ⊎_elim (λ i. inl i)
+    (λ r. inr (r.0, in_left r.0 (levels links heads (suc n)) (level links heads (suc n)) r.1, r.2))
+    (levels_linked links heads (suc n) k before))
+    (λ last. let r = in_flat links (level links heads n) k last in
+    inr (
+      r.0,
+      in_left r.0 (levels links heads (suc n)) (level links heads (suc n))
+          (in_right r.0 (levels links heads n) (level links heads n) r.1),
+      r.2,
+    ))
     (in_one k (levels links heads (suc n)) (level links heads (suc n)) h)
 
 -- what is in the first n levels is in the first n + m
-pub levels_on : (links : ℕ → List ℕ) (heads : List ℕ) (k n m : ℕ) → is_in k (levels links heads n) ≡ true → is_in k (levels links heads (n + m)) ≡ true
+pub levels_on : (links : ℕ → List ℕ) (heads : List ℕ) (k n m : ℕ) → is_in k (levels links heads n) ≡ true
+    → is_in k (levels links heads (n + m)) ≡ true
 unfolding levels
 levels_on links heads k n zero h = simp unary_clauses h
-levels_on links heads k n (suc m) h = simp unary_clauses (in_left k (levels links heads (n + m)) (level links heads (n + m)) (levels_on links heads k n m h))
+levels_on links heads k n (suc m) h = simp unary_clauses
+    (in_left k (levels links heads (n + m)) (level links heads (n + m)) (levels_on links heads k n m h))

@@ -286,7 +286,8 @@ module _ (s mid : State) (client context : ℕ) (few : IsBelow mid.keys 21474836
             subst (λ (n : ℕ). n < 2 ^ 32) (same_ok (Ok serial) serial k refl is) (small serial (there serial refl)))
       ]
 
-  found_small : (ring : Result ℕ Errno) (answer : Answer) → IsThere mid answer → AllSmall (about_found true ring answer)
+  found_small : (ring : Result ℕ Errno) (answer : Answer) → IsThere mid answer
+      → AllSmall (about_found true ring answer)
   found_small ring Nothing there = tt
   found_small ring (Bytes bytes) there = tt
   found_small ring (Number serial) there =

@@ -154,7 +154,8 @@ effect_after :
     → IsSound s → Told s mid new client context op answer q rs → TakesOf q op answer took → at s.queues q ≡ Some queue
     → Effect s client context op mid answer → After q queue new rs took
 unfolding left
-effect_after s new client context _ _ _ q queue rs took sound told takes there (OfKeys op mid answer other comes none) =
+effect_after s new client context _ _ _ q queue rs took sound told takes there
+    (OfKeys op mid answer other comes none) =
     let same : at mid.queues q ≡ Some queue = ap (λ (x : Queues). at x.queues q) comes.queues ∙ there in
     still_after told queue queue took same refl refl
     (takes.nothing (λ room bytes asked is. true≢false (sym (ap is_of_queues asked) ∙ other)))
@@ -306,7 +307,8 @@ unread s client context _ _ _ q room asked none (Filters number entries queue th
 unread s client context _ _ _ q room asked none (Reads number other queue there) =
     none-some queue (sym none ∙ subst (λ (k : ℕ). at s.queues k ≡ Some queue) (ap queue_read asked) there)
 unread s client context _ _ _ q room asked none (Closes number queue there) = absurd cc
-unread s client context _ _ _ q room asked none (Watches id watch_id number key n queue here there is small) = absurd cc
+unread s client context _ _ _ q room asked none (Watches id watch_id number key n queue here there is small) =
+    absurd cc
 unread s client context _ _ _ q room asked none (Unwatches id watch_id number key n queue here names there is has) =
     absurd cc
 unread s client context _ _ _ q room asked none Leaves = absurd cc

@@ -168,7 +168,8 @@ revoked_unread start below before old legal revoking mid k step revokes later la
     let spent_late = spent_follows mid late k (legal_follows mid later late legal_later) swept in
     let spent_top = spent_follows late top k (raised_follows late reading.moment) spent_late in
     let got = accepted_came late end reading (Read reads.id) last reads.asked reads.accepted in
-    read_is_not_spent top got.serves.mid reading.lane reading.ask.context reads.id got.answer k reads.names got.serves.meant spent_top
+    read_is_not_spent top got.serves.mid reading.lane reading.ask.context reads.id got.answer k reads.names
+    got.serves.meant spent_top
 
 -- each accepted REVOKE is of a key
 pub revoke_of_key : IsOfKey Revoke

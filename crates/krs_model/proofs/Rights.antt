@@ -12,11 +12,17 @@ equal a b h = grind (arith, nat_tests)
 apart : (a b : ℕ) → a ≢ b → (a == b) ≡ false
 apart a b h = grind (arith, nat_tests)
 
-class_is : (mask uid gid : ℕ) (caller : Caller) (rights : ℕ) → rights ≡ class_byte mask uid gid caller → IsOneByte mask uid gid caller rights
+class_is : (mask uid gid : ℕ) (caller : Caller) (rights : ℕ) → rights ≡ class_byte mask uid gid caller
+    → IsOneByte mask uid gid caller rights
 class_is mask uid gid caller rights h = record {
-  user = λ e. h ∙ ap (λ b. cond b (user_byte mask) (cond (is_of_group caller gid) (group_byte mask) (other_byte mask))) (equal uid caller.uid e);
-  group = λ ne g. h ∙ (ap (λ b. cond b (user_byte mask) (cond (is_of_group caller gid) (group_byte mask) (other_byte mask))) (apart uid caller.uid ne) ∙ ap (λ b. cond b (group_byte mask) (other_byte mask)) g);
-  other = λ ne g. h ∙ (ap (λ b. cond b (user_byte mask) (cond (is_of_group caller gid) (group_byte mask) (other_byte mask))) (apart uid caller.uid ne) ∙ ap (λ b. cond b (group_byte mask) (other_byte mask)) g);
+  user = λ e. h ∙ ap (λ b. cond b (user_byte mask)
+      (cond (is_of_group caller gid) (group_byte mask) (other_byte mask))) (equal uid caller.uid e);
+  group = λ ne g. h
+      ∙ (ap (λ b. cond b (user_byte mask) (cond (is_of_group caller gid) (group_byte mask) (other_byte mask)))
+      (apart uid caller.uid ne) ∙ ap (λ b. cond b (group_byte mask) (other_byte mask)) g);
+  other = λ ne g. h
+      ∙ (ap (λ b. cond b (user_byte mask) (cond (is_of_group caller gid) (group_byte mask) (other_byte mask)))
+      (apart uid caller.uid ne) ∙ ap (λ b. cond b (group_byte mask) (other_byte mask)) g);
 }
 
 -- without possession, one byte

@@ -37,30 +37,44 @@ faults_join false false false false true d2 = refl
 faults_join false false false false false true = refl
 faults_join false false false false false false = refl
 
-answers_join : (e f g : Errno) (a b : Option ℕ) → weightier e f ≡ g → or_refuse g (option_or a b) ≡ or_next (or_refuse e a) (or_refuse f b)
+answers_join : (e f g : Errno) (a b : Option ℕ) → weightier e f ≡ g
+    → or_refuse g (option_or a b) ≡ or_next (or_refuse e a) (or_refuse f b)
 answers_join e f g (Some k) b h = refl
 answers_join e f g None (Some k) h = refl
 answers_join e f g None None h = ap Err (sym h)
 
 -- what is sought in two lists is sought in the first, then in the second
-pub sought_append : (by : Searcher) (name : Name) (xs ys : List ℕ) → sought by name (xs ++ ys) ≡ or_next (sought by name xs) (sought by name ys)
+pub sought_append : (by : Searcher) (name : Name) (xs ys : List ℕ)
+    → sought by name (xs ++ ys) ≡ or_next (sought by name xs) (sought by name ys)
 sought_append by name xs ys =
-    rw (find-append (is_answer by name) xs ys, list_any-append (is_revoked by name) xs ys, list_any-append (is_expired by name) xs ys, list_any-append (is_denied by name) xs ys)
-    (answers_join (fault_among by name xs) (fault_among by name ys) _ (find (is_answer by name) xs) (find (is_answer by name) ys)
-    (faults_join (list_any (is_revoked by name) xs) (list_any (is_expired by name) xs) (list_any (is_denied by name) xs)
+    rw (
+      find-append (is_answer by name) xs ys,
+      list_any-append (is_revoked by name) xs ys,
+      list_any-append
+          (is_expired by name) xs ys,
+      list_any-append (is_denied by name) xs ys,
+    )
+    (answers_join (fault_among by name xs) (fault_among by name ys) _ (find (is_answer by name) xs)
+    (find (is_answer by name) ys)
+    (faults_join (list_any (is_revoked by name) xs) (list_any (is_expired by name) xs)
+    (list_any (is_denied by name) xs)
     (list_any (is_revoked by name) ys) (list_any (is_expired by name) ys) (list_any (is_denied by name) ys)))
 
-pub in_turn_flat : (by : Searcher) (name : Name) (heads : List ℕ) → sought by name (flat_map (searched by) heads) ≡ in_turn (λ head. found_by by head name) heads
+pub in_turn_flat : (by : Searcher) (name : Name) (heads : List ℕ)
+    → sought by name (flat_map (searched by) heads) ≡ in_turn (λ head. found_by by head name) heads
 in_turn_flat by name [] = refl
 in_turn_flat by name (head ∷ heads) =
-    sought_append by name (searched by head) (flat_map (searched by) heads) ∙ ap (or_next (found_by by head name)) (in_turn_flat by name heads)
+    sought_append by name (searched by head) (flat_map (searched by) heads)
+    ∙ ap (or_next (found_by by head name)) (in_turn_flat by name heads)
 
-pub request_in_turn : (s : State) (c : Context) (name : Name) → requested s c name ≡ in_turn (λ head. found s c head name) (attached s c)
+pub request_in_turn : (s : State) (c : Context) (name : Name)
+    → requested s c name ≡ in_turn (λ head. found s c head name) (attached s c)
 unfolding requested found
 request_in_turn s c name = in_turn_flat (searcher_of s c) name (attached s c)
 
 -- one element more before which nothing passes
-fails_more : (p : ℕ → Bool) (x : ℕ) (xs : List ℕ) (i k : ℕ) → p x ≡ false → ((j : ℕ) → slice_get xs j ≡ Some k → p k ≡ false) → slice_get (x ∷ xs) i ≡ Some k → p k ≡ false
+fails_more : (p : ℕ → Bool) (x : ℕ) (xs : List ℕ) (i k : ℕ) → p x ≡ false
+    → ((j : ℕ) → slice_get xs j ≡ Some k → p k ≡ false) → slice_get (x ∷ xs) i ≡ Some k → p k ≡ false
 fails_more p x xs zero k t later at = ap p (sym (same_Some x k at)) ∙ t
 fails_more p x xs (suc i) k t later at = later i at
 
@@ -80,7 +94,9 @@ record IsFirst (p : ℕ → Bool) (xs : List ℕ) (k : ℕ) : Type 0 where
   pub stands : slice_get xs place ≡ Some k
   pub before : (i j : ℕ) → i < place → slice_get xs i ≡ Some j → p j ≡ false
 
-first_more : (p : ℕ → Bool) (x : ℕ) (xs : List ℕ) (k place i j : ℕ) → p x ≡ false → ((i j : ℕ) → i < place → slice_get xs i ≡ Some j → p j ≡ false) → i < suc place → slice_get (x ∷ xs) i ≡ Some j → p j ≡ false
+first_more : (p : ℕ → Bool) (x : ℕ) (xs : List ℕ) (k place i j : ℕ) → p x ≡ false
+    → ((i j : ℕ) → i < place → slice_get xs i ≡ Some j → p j ≡ false) → i < suc place → slice_get (x ∷ xs) i ≡ Some j
+    → p j ≡ false
 first_more p x xs k place zero j t before lt at = ap p (sym (same_Some x j at)) ∙ t
 first_more p x xs k place (suc i) j t before lt at = before i j (omega arith) at
 
@@ -88,9 +104,21 @@ first_passes : (p : ℕ → Bool) (xs : List ℕ) (k : ℕ) → find p xs ≡ So
 first_passes p [] k h = absurd (none-some k h)
 first_passes p (x ∷ xs) k h =
     elim (p x) as (λ b. p x ≡ b → cond b (Some x) (find p xs) ≡ Some k → IsFirst p (x ∷ xs) k) [
-      | true ↦ λ t e. record { place = 0; passes = ap p (sym (same_Some x k e)) ∙ t; stands = e; before = λ i j lt. absurd (omega arith) }
+      | true ↦ λ t e. record {
+        place = 0;
+        passes = ap p (sym (same_Some x k e))
+            ∙ t;
+        stands = e;
+        before = λ i j lt. absurd (omega arith);
+      }
       | false ↦ λ t e. let r = first_passes p xs k e in
-          record { place = suc r.place; passes = r.passes; stands = r.stands; before = λ i j lt at. first_more p x xs k r.place i j t r.before lt at }
+          record {
+            place = suc r.place;
+            passes = r.passes;
+            stands = r.stands;
+            before = λ i j lt at. first_more p x xs
+                k r.place i j t r.before lt at;
+          }
     ] refl h
 
 -- an answer in the first n levels
@@ -114,21 +142,32 @@ last_or_less : (m n : ℕ) → m < suc n → (m ≡ n) ⊎ (m < n)
 last_or_less m n lt = ⊎_elim (λ (less : m < n). inr less) (λ (le : n ≤ m). inl (omega arith)) (cases_lt m n)
 
 -- nothing passes in the first n levels
-none_above : (p : ℕ → Bool) (links : ℕ → List ℕ) (heads : List ℕ) (n m i j : ℕ) → find p (levels links heads n) ≡ None → m < n → slice_get (level links heads m) i ≡ Some j → p j ≡ false
+none_above : (p : ℕ → Bool) (links : ℕ → List ℕ) (heads : List ℕ) (n m i j : ℕ) → find p (levels links heads n) ≡ None
+    → m < n → slice_get (level links heads m) i ≡ Some j → p j ≡ false
 unfolding levels
 none_above p links heads zero m i j none lt at = absurd (omega arith)
 none_above p links heads (suc n) m i j none lt at =
-    let parts = option_none (find p (levels links heads n)) (find p (level links heads n)) (sym (find-append p (levels links heads n) (level links heads n)) ∙ none) in
-    ⊎_elim (λ (e : m ≡ n). none_passes p (level links heads n) i j parts.1 (ap (λ (z : ℕ). slice_get (level links heads z) i) (sym e) ∙ at))
+    let parts = option_none (find p (levels links heads n)) (find p (level links heads n))
+    (sym (find-append p (levels links heads n) (level links heads n)) ∙ none) in
+    ⊎_elim (λ (e : m ≡ n). none_passes p (level links heads n) i j parts.1
+    (ap (λ (z : ℕ). slice_get (level links heads z) i) (sym e) ∙ at))
     (λ (less : m < n). none_above p links heads n m i j parts.0 less at)
     (last_or_less m n lt)
 
-least_passes : (p : ℕ → Bool) (links : ℕ → List ℕ) (heads : List ℕ) (n k : ℕ) → find p (levels links heads n) ≡ Some k → IsLeast p links heads n k
+least_passes : (p : ℕ → Bool) (links : ℕ → List ℕ) (heads : List ℕ) (n k : ℕ) → find p (levels links heads n) ≡ Some k
+    → IsLeast p links heads n k
 unfolding levels
 least_passes p links heads zero k h = absurd (none-some k h)
 least_passes p links heads (suc n) k h =
     ⊎_elim (λ (above : find p (levels links heads n) ≡ Some k). let r = least_passes p links heads n k above in
-    record { depth = r.depth; place = r.place; passes = r.passes; bound = omega arith; stands = r.stands; first = r.first })
+    record {
+      depth = r.depth;
+      place = r.place;
+      passes = r.passes;
+      bound = omega arith;
+      stands = r.stands;
+      first = r.first;
+    })
     (λ here. let r = first_passes p (level links heads n) k here.1 in
     record {
       depth = n;
@@ -137,10 +176,12 @@ least_passes p links heads (suc n) k h =
       bound = omega arith;
       stands = r.stands;
       first = λ m i j before at. ⊎_elim (λ (less : m < n). none_above p links heads n m i j here.0 less at)
-          (λ (same : (m ≡ n) × (i < r.place)). r.before i j same.1 (ap (λ (z : ℕ). slice_get (level links heads z) i) (sym same.0) ∙ at))
+          (λ (same : (m ≡ n) × (i < r.place)). r.before i j same.1
+          (ap (λ (z : ℕ). slice_get (level links heads z) i) (sym same.0) ∙ at))
           before;
     })
-    (option_parts (find p (levels links heads n)) (find p (level links heads n)) k (sym (find-append p (levels links heads n) (level links heads n)) ∙ h))
+    (option_parts (find p (levels links heads n)) (find p (level links heads n)) k
+    (sym (find-append p (levels links heads n) (level links heads n)) ∙ h))
 
 found_first : (e : Errno) (o : Option ℕ) (k : ℕ) → or_refuse e o ≡ Ok k → o ≡ Some k
 found_first e None k h = cc
@@ -150,16 +191,27 @@ refused_none : (e f : Errno) (o : Option ℕ) → or_refuse e o ≡ Err f → o 
 refused_none e f None h = refl
 refused_none e f (Some x) h = cc
 
-pub found_is_first : (s : State) (c : Context) (head : ℕ) (name : Name) (serial : ℕ) → found s c head name ≡ Ok serial → IsFirstAnswer (searcher_of s c) head name serial
+pub found_is_first : (s : State) (c : Context) (head : ℕ) (name : Name) (serial : ℕ) → found s c head name ≡ Ok serial
+    → IsFirstAnswer (searcher_of s c) head name serial
 unfolding found searched
 found_is_first s c head name serial h =
     let by = searcher_of s c in
-    let r = least_passes (is_answer by name) (entered by) (head ∷ []) 8 serial (found_first _ (find (is_answer by name) (searched by head)) serial h) in
-    record { answer = r.passes; depth = r.depth; place = r.place; bound = omega arith; stands = r.stands; first = r.first }
+    let r = least_passes (is_answer by name) (entered by) (head ∷ []) 8 serial
+    (found_first _ (find (is_answer by name) (searched by head)) serial h) in
+    record {
+      answer = r.passes;
+      depth = r.depth;
+      place = r.place;
+      bound = omega arith;
+      stands = r.stands;
+      first = r.first;
+    }
 
-pub refused_has_none : (s : State) (c : Context) (head : ℕ) (name : Name) (error : Errno) → found s c head name ≡ Err error → HasNoAnswer (searcher_of s c) head name
+pub refused_has_none : (s : State) (c : Context) (head : ℕ) (name : Name) (error : Errno)
+    → found s c head name ≡ Err error → HasNoAnswer (searcher_of s c) head name
 unfolding found searched
 refused_has_none s c head name error h n i other le at =
     let by = searcher_of s c in
     let less : n < 8 = omega arith in
-    none_above (is_answer by name) (entered by) (head ∷ []) 8 n i other (refused_none _ error (find (is_answer by name) (searched by head)) h) less at
+    none_above (is_answer by name) (entered by) (head ∷ []) 8 n i other
+    (refused_none _ error (find (is_answer by name) (searched by head)) h) less at

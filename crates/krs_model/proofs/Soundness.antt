@@ -40,7 +40,8 @@ use Rattle.krs_model.proofs.Serials.{few_swept, mid_few}
 use Rattle.krs_model.proofs.NotedKeys.{notes_small}
 use Rattle.krs_model.proofs.Keeping.{effect_orderly, sweep_orderly, posted_orderly, ended_watch}
 use Rattle.krs_model.proofs.Sustaining.{Sustains, sustains_ok, sustains_after, hello_stands, update_stands}
-use Rattle.krs_model.proofs.Sustaining.{revoke_stands, chown_stands, set_perm_stands, set_timeout_stands, unlink_stands}
+use Rattle.krs_model.proofs.Sustaining.{revoke_stands, chown_stands, set_perm_stands, set_timeout_stands}
+use Rattle.krs_model.proofs.Sustaining.{unlink_stands}
 use Rattle.krs_model.proofs.Sustaining.{clear_stands, read_stands, describe_stands, left_stands, invalidate_stands}
 use Rattle.krs_model.proofs.Sustaining.{exit_stands}
 use Rattle.krs_model.proofs.SustainingLinks.{link_stands, search_stands, request_stands, get_id_stands, join_stands}
@@ -174,7 +175,8 @@ posts_by_fit s mid client context op answer keys sound meant =
     let gone = each_filter (IsWatch mid.queues) _ mid.watches orderly.watches in
     let left : watches_left (outcome_of s client context op) ≡ mid.watches = ap watches_left meant in
     let dropped : Each FitsRecord (dropped_watches keys (watches_left (outcome_of s client context op))) =
-    subst (λ (ws : List queues.Watch). Each FitsRecord (dropped_watches keys ws)) (sym left) (fits_on mid.queues _ gone) in
+    subst (λ (ws : List queues.Watch). Each FitsRecord (dropped_watches keys ws)) (sym left)
+    (fits_on mid.queues _ gone) in
     posts_fit (queues_of s) (notes_of s client context op answer) _ sound.orderly.watches
     (notes_small s mid client context few op answer meant)
     (each_append FitsRecord _ _ (fits_on s.queues _ ended) dropped)

@@ -17,7 +17,8 @@ use Rattle.krs_model.specs.Notes.Guess.{guess, event_numbered, four, eight}
 
 -- the two words in front of every record
 header_is : (t n s w : ℕ) (tail : List ℕ) → t < 256 → n < 256 → s < 256 → w < 256 →
-    to_le_bytes w32 (t + 16777216 * n) ++ (to_le_bytes w32 (s + 256 * w) ++ tail) ≡ t ∷ 0 ∷ 0 ∷ n ∷ s ∷ w ∷ 0 ∷ 0 ∷ tail
+    to_le_bytes w32 (t + 16777216 * n) ++ (to_le_bytes w32 (s + 256 * w) ++ tail)
+    ≡ t ∷ 0 ∷ 0 ∷ n ∷ s ∷ w ∷ 0 ∷ 0 ∷ tail
 header_is t n s w tail ht hn hs hw =
     let a : (t + 16777216 * n) % 256 ≡ t = omega arith in
     let b : (t + 16777216 * n) / 256 % 256 ≡ 0 = omega arith in

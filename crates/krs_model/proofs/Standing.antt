@@ -149,7 +149,8 @@ changed_stands s serial f lessens stands =
 less_map : (es : Table Key) (f : Key → Key) → Lessens f → IsLess es (map_values f es)
 less_map es f lessens = record {
   links = λ j. subst (HasPart (links_in es j)) (sym (at_map f es j)) (mapped_part f (at es j) lessens);
-  names = λ name k h. sym (named_mapped f (at es k) name lessens.named) ∙ (ap (is_named name) (sym (at_map f es k)) ∙ h);
+  names =
+      λ name k h. sym (named_mapped f (at es k) name lessens.named) ∙ (ap (is_named name) (sym (at_map f es k)) ∙ h);
 }
 
 pub there_map : {X Y : Type 0} (f : X → Y) (es : Table X) (k : ℕ) → IsSome (at es k) → IsSome (at (map_values f es) k)

@@ -262,7 +262,8 @@ invalidated_stands s serial stands =
     (placed_in s stands.placed p (attached_mapped own_process (context_without serial) s.contexts p (λ v j. j) i)) in
     same_stands one after refl refl attached (in_placed after placed) first
 
-pub invalidate_stands : (s : State) (client context : ℕ) (id : ℤ) → Stands s → Sustains (invalidate s client context id)
+pub invalidate_stands : (s : State) (client context : ℕ) (id : ℤ) → Stands s
+    → Sustains (invalidate s client context id)
 unfolding invalidate
 invalidate_stands s client context id stands =
     sustains_found s client context id (Granted SEARCH) _ (λ c found.

@@ -76,7 +76,8 @@ link_made_stands s c key ring stands =
     let there : at s.keys found.0 ≡ Some found.1 = (look_up_usable s c key (Granted LINK) found is).there in
     sustains_ok (linked_into_stands s into found new there linked stands))))
 
-pub link_stands : (s : State) (client context : ℕ) (key ring : ℤ) → Stands s → Sustains (link s client context key ring)
+pub link_stands : (s : State) (client context : ℕ) (key ring : ℤ) → Stands s
+    → Sustains (link s client context key ring)
 unfolding link
 link_stands s client context key ring stands =
     sustains_after (context_of s client context) _ (λ c _.

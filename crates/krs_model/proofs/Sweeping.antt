@@ -25,28 +25,42 @@ unmapped f (Some v) h = refl
 
 alter_there : (es : Table Key) (n : ℕ) (f : Key → Key) (k : ℕ) → IsSome (at (alter es n f) k) → IsSome (at es k)
 alter_there es n f k h =
-    ⊎_elim (λ (e : k ≡ n). subst (λ (z : ℕ). IsSome (at es z)) (sym e) (unmapped f (at es n) (subst IsSome (at_alter_same es n f) (subst (λ (z : ℕ). IsSome (at (alter es n f) z)) e h))))
+    ⊎_elim (λ (e : k ≡ n). subst (λ (z : ℕ). IsSome (at es z)) (sym e)
+    (unmapped f (at es n) (subst IsSome (at_alter_same es n f)
+    (subst (λ (z : ℕ). IsSome (at (alter es n f) z)) e h))))
     (λ apart. subst IsSome (at_alter_other es n k f apart) h) (at_or_apart k n)
 
-linked_more : (f : Key → Key) (o : Option Key) (k : ℕ) → ((v : Key) → o ≡ Some v → is_in k (links_of v.content) ≡ true → is_in k (links_of (f v).content) ≡ true) → is_in k (linked_by o) ≡ true → is_in k (linked_by (option_map f o)) ≡ true
+linked_more : (f : Key → Key) (o : Option Key) (k : ℕ)
+    → ((v : Key) → o ≡ Some v → is_in k (links_of v.content) ≡ true → is_in k (links_of (f v).content) ≡ true)
+    → is_in k (linked_by o) ≡ true → is_in k (linked_by (option_map f o)) ≡ true
 linked_more f None k more h = h
 linked_more f (Some v) k more h = more v refl h
 
-links_alter : (es : Table Key) (n : ℕ) (f : Key → Key) → ((v : Key) (k : ℕ) → at es n ≡ Some v → is_in k (links_of v.content) ≡ true → is_in k (links_of (f v).content) ≡ true) → LinksStay es (alter es n f)
+links_alter : (es : Table Key) (n : ℕ) (f : Key → Key)
+    → ((v : Key) (k : ℕ) → at es n ≡ Some v → is_in k (links_of v.content) ≡ true
+    → is_in k (links_of (f v).content) ≡ true) → LinksStay es (alter es n f)
 links_alter es n f more j k h =
-    ⊎_elim (λ (e : j ≡ n). subst (λ (z : ℕ). is_in k (linked_by (at (alter es n f) z)) ≡ true) (sym e) (subst (λ (o : Option Key). is_in k (linked_by o) ≡ true) (sym (at_alter_same es n f)) (linked_more f (at es n) k (λ v there i. more v k there i) (subst (λ (z : ℕ). is_in k (linked_by (at es z)) ≡ true) e h))))
-    (λ apart. subst (λ (o : Option Key). is_in k (linked_by o) ≡ true) (sym (at_alter_other es n j f apart)) h) (at_or_apart j n)
+    ⊎_elim (λ (e : j ≡ n). subst (λ (z : ℕ). is_in k (linked_by (at (alter es n f) z)) ≡ true) (sym e)
+    (subst (λ (o : Option Key). is_in k (linked_by o) ≡ true) (sym (at_alter_same es n f))
+    (linked_more f (at es n) k (λ v there i. more v k there i)
+    (subst (λ (z : ℕ). is_in k (linked_by (at es z)) ≡ true) e h))))
+    (λ apart. subst (λ (o : Option Key). is_in k (linked_by o) ≡ true) (sym (at_alter_other es n j f apart)) h)
+    (at_or_apart j n)
 
 -- a change of one key that leaves all its links
-pub changed_swept : (s : State) (serial : ℕ) (f : Key → Key) → ((v : Key) (q : ℕ) → at s.keys serial ≡ Some v → is_in q (links_of v.content) ≡ true → is_in q (links_of (f v).content) ≡ true) → AllHeld s → AllHeld (changed s serial f)
+pub changed_swept : (s : State) (serial : ℕ) (f : Key → Key)
+    → ((v : Key) (q : ℕ) → at s.keys serial ≡ Some v → is_in q (links_of v.content) ≡ true
+    → is_in q (links_of (f v).content) ≡ true) → AllHeld s → AllHeld (changed s serial f)
 changed_swept s serial f left swept =
     λ k there. held_on s.keys (alter s.keys serial f) (roots s) (roots s) (λ q h. h)
     (links_alter s.keys serial f left) k (swept k (alter_there s.keys serial f k there))
 
-pub linked_still : (p : ℕ → Bool) (links : List ℕ) (n k : ℕ) → find p links ≡ None → is_in k links ≡ true → is_in k (with_link p links n) ≡ true
+pub linked_still : (p : ℕ → Bool) (links : List ℕ) (n k : ℕ) → find p links ≡ None → is_in k links ≡ true
+    → is_in k (with_link p links n) ≡ true
 linked_still p [] n k none h = absurd (true≢false (sym h))
 linked_still p (x ∷ links) n k none h =
-    elim (p x) as (λ b. cond b (Some x) (find p links) ≡ None → is_in k (cond b (n ∷ links) (x ∷ with_link p links n)) ≡ true) [
+    elim (p x) as (λ b. cond b (Some x) (find p links) ≡ None
+    → is_in k (cond b (n ∷ links) (x ∷ with_link p links n)) ≡ true) [
       | true ↦ λ q. absurd (none-some x (sym q))
       | false ↦ λ q. elim (x == k) as (λ d. (d || is_in k links) ≡ true → (d || is_in k (with_link p links n)) ≡ true) [
         | true ↦ λ i. refl

@@ -1,5 +1,5 @@
--- What the laws say of the definitions, in a form of this project's own: keyrings(7), "Possession", "Access rights" and
--- "Searching for keys"; request_key(2); keyctl(2), KEYCTL_LINK, "EDEADLK"; profile, whole records.
+-- What the laws say of the definitions, in a form of this project's own: keyrings(7), "Possession", "Access rights"
+-- and "Searching for keys"; request_key(2); keyctl(2), KEYCTL_LINK, "EDEADLK"; profile, whole records.
 use Rattle.std.specs.Prelude.{◌≡◌, ◌≢◌, ◌<◌, ◌≤◌, ℕ, List, [], ◌∷◌, true, false, ◌⊎◌, Some, Result, Ok, Err, slice_get}
 use Rattle.krs_types.specs.declared.caller.Caller.{Caller}
 use Rattle.krs_types.specs.declared.context.Context.{Context}
@@ -23,7 +23,8 @@ use Rattle.krs_model.specs.Search.{Searcher, entered, is_answer, or_next}
 
 -- it is attached, or linked by a possessed keyring that is alive and may be searched
 abbrev pub ComesByLinks : State → Context → ℕ → Type 0
-ComesByLinks s c k = (is_in k (attached s c) ≡ true) ⊎ ((j : ℕ) × (possessed s c j ≡ true) × (is_in k (followed_in s c j) ≡ true))
+ComesByLinks s c k =
+    (is_in k (attached s c) ≡ true) ⊎ ((j : ℕ) × (possessed s c j ≡ true) × (is_in k (followed_in s c j) ≡ true))
 
 -- the user's byte for the owner, else the group's for one of its group, else the others'
 pub record IsOneByte (mask uid gid : ℕ) (caller : Caller) (rights : ℕ) : Type 0 where
@@ -61,8 +62,8 @@ abbrev pub in_turn : (ℕ → Result ℕ Errno) → List ℕ → Result ℕ Errn
 in_turn search [] = Err ENOKEY
 in_turn search (head ∷ heads) = or_next (search head) (in_turn search heads)
 
--- an accepted READ_QUEUE of the client's queue gives the longest front of what waits that fits the room, which has some
--- record; that front is taken out, and nothing else changes
+-- an accepted READ_QUEUE of the client's queue gives the longest front of what waits that fits the room, which has
+-- some record; that front is taken out, and nothing else changes
 pub record ReadsFront (s : State) (client number room : ℕ) (new : State) (answer : Answer) : Type 0 where
   pub queue : Queue
   pub own : queue_of s.queues client number ≡ Ok queue

@@ -34,7 +34,8 @@ linked_content displaced serial (Links links) = Links (with_link displaced links
 
 -- the keyring with a link to a key of that name
 abbrev pub linking : Table Key → Name → ℕ → Key → Key
-linking keys name serial ring = record ring { content = linked_content (λ k. is_named name (at keys k)) serial ring.content }
+linking keys name serial ring =
+    record ring { content = linked_content (λ k. is_named name (at keys k)) serial ring.content }
 
 -- a keyring that links 65535 keys takes no further one where none is displaced: profile, full keyrings
 abbrev pub has_room : List ℕ → Option ℕ → Result (Unit {0}) Errno

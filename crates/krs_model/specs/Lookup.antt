@@ -1,5 +1,5 @@
--- From a key id to the key that it names, with the right that an ask wants, or the refusal that comes first: keyctl(2),
--- "ERRORS"; their order: profile, order of a look-up.
+-- From a key id to the key that it names, with the right that an ask wants, or the refusal that comes first:
+-- keyctl(2), "ERRORS"; their order: profile, order of a look-up.
 use Rattle.std.specs.Prelude.{ℕ, ℤ, ◌==◌, Option, None, Some, Result, Ok, Err, if◌then◌else◌}
 use Rattle.krs_types.specs.declared.errno.Errno.{Errno}
 use Rattle.krs_types.specs.declared.errno.Errno.TheVariants.{ENOKEY, ESRCH, EKEYREVOKED, EKEYEXPIRED, EACCES}
@@ -36,8 +36,8 @@ abbrev pub user_session_ring : Option UidRings → Option ℕ
 user_session_ring None = None
 user_session_ring (Some rings) = rings.session
 
--- the serial that a key id stands for: keyctl(2), KEYCTL_GET_KEYRING_ID. The process keyring is that of all contexts of
--- the process, whenever it was made: profile, late process keyring
+-- the serial that a key id stands for: keyctl(2), KEYCTL_GET_KEYRING_ID. The process keyring is that of all contexts
+-- of the process, whenever it was made: profile, late process keyring
 abbrev pub attachment : State → Context → KeyId → Option ℕ
 attachment s c (Serial n) = Some n
 attachment s c Thread = c.thread

@@ -1,6 +1,7 @@
 -- Thread and process keyrings that an ask makes where it wants one and there is none: thread-keyring(7),
 -- process-keyring(7); profile, made on demand; profile, counts as made.
-use Rattle.std.specs.Prelude.{ℕ, ℤ, ◌+◌, ◌&&◌, List, [], Bool, false, nat_lt, if◌then◌else◌, Option, None, Some, Result}
+use Rattle.std.specs.Prelude.{ℕ, ℤ, ◌+◌, ◌&&◌, List, [], Bool, false, nat_lt, if◌then◌else◌, Option, None, Some}
+use Rattle.std.specs.Prelude.{Result}
 use Rattle.std.specs.Prelude.{Ok, Err, codes}
 use Rattle.krs_types.specs.declared.errno.Errno.{Errno}
 use Rattle.krs_types.specs.declared.errno.Errno.TheVariants.{ENOSPC}

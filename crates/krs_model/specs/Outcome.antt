@@ -1,5 +1,5 @@
--- What an ask comes to, and how a function's result is compared to it. The form is this project's own; the refusals are
--- those of keyctl(2), add_key(2) and request_key(2), "ERRORS".
+-- What an ask comes to, and how a function's result is compared to it. The form is this project's own; the refusals
+-- are those of keyctl(2), add_key(2) and request_key(2), "ERRORS".
 use Rattle.std.specs.Prelude.{◌≡◌, Result, Ok, Err}
 use Rattle.krs_types.specs.declared.errno.Errno.{Errno}
 use Rattle.krs_types.specs.declared.ask.Answer.{Answer}

@@ -97,8 +97,8 @@ abbrev pub watches_left : Outcome → List queues.Watch
 watches_left (Err e) = []
 watches_left (Ok done) = done.0.watches
 
--- What an accepted ask posts, where these keys stay: its notes, by the watches and filters of the state before it; then
--- removal records for the watch that it ended, and for those whose keys are gone: profile, order of notes
+-- What an accepted ask posts, where these keys stay: its notes, by the watches and filters of the state before it;
+-- then removal records for the watch that it ended, and for those whose keys are gone: profile, order of notes
 abbrev pub posts_by : State → ℕ → ℕ → Op → Answer → Table Key → List Post
 posts_by s client context op answer keys =
     posts (queues_of s) (notes_of s client context op answer)
@@ -112,8 +112,9 @@ pub record Serves (s : State) (client context : ℕ) (op : Op) (answer : Answer)
   pub sweep : IsSweep mid swept
   pub posted : new ≡ posted_in (posts_by s client context op answer swept.keys) swept
 
--- A refusal leaves everything as it was: profile, refusals change nothing. Want of memory is lawful for an ask that may
--- grow: profile, want of memory; so far also in the place of a refusal, as the walk that finds the refusal may want it.
+-- A refusal leaves everything as it was: profile, refusals change nothing. Want of memory is lawful for an ask that
+-- may grow: profile, want of memory; so far also in the place of a refusal, as the walk that finds the refusal may
+-- want it.
 abbrev pub Ends : State → ℕ → ℕ → Op → Result Answer Errno → State → Type 0
 Ends s client context op (Ok answer) new = Serves s client context op answer new
 Ends s client context op (Err e) new =

@@ -1,6 +1,7 @@
 -- Which keys stay at the end of an ask: those that an attachment reaches.
 -- keyrings(7), "Anchoring keys"; profile, dropped at once.
-use Rattle.std.specs.Prelude.{◌≡◌, ℕ, List, [], ◌++◌, Bool, true, Option, None, Some, IsSome, is_some, filter, flat_map}
+use Rattle.std.specs.Prelude.{◌≡◌, ℕ, List, [], ◌++◌, Bool, true, Option, None, Some, IsSome, is_some, filter}
+use Rattle.std.specs.Prelude.{flat_map}
 use Rattle.std.specs.Option.{option_to_list}
 use Rattle.krs_types.specs.declared.context.Context.{Context}
 use Rattle.krs_types.specs.declared.context.UidRings.{UidRings}

@@ -45,7 +45,8 @@ pub fn possession_comes_by_links()
 /// Without possession the rights are those of one byte alone: the user's, the group's or the others'. keyrings(7),
 /// "Access rights"; profile, group byte counts alone.
 pub fn rights_come_from_one_byte()
-    ensures { (mask uid gid : ℕ) (caller : Caller) → IsOneByte mask uid gid caller (granted mask uid gid caller false) }
+    ensures { (mask uid gid : ℕ) (caller : Caller)
+        → IsOneByte mask uid gid caller (granted mask uid gid caller false) }
 {}
 
 /// What a look-up for a right finds was not revoked, has not expired, and grants the right.

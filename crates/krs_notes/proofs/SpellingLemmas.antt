@@ -84,7 +84,8 @@ word-is a b c d n ha hb hc hd e = le_bytes_4 (a ∷ b ∷ c ∷ d ∷ []) n refl
 
 pub one_spelling : HasOneSpelling
 one_spelling r (a ∷ b ∷ c ∷ d ∷ e ∷ f ∷ g ∷ h ∷ rest) small s =
-    let kind : kind_word r ≡ word_at (a ∷ b ∷ c ∷ d ∷ []) 0 = let t = s.note_type in let u = s.subtype in omega arith in
+    let kind : kind_word r ≡ word_at (a ∷ b ∷ c ∷ d ∷ []) 0 =
+    let t = s.note_type in let u = s.subtype in omega arith in
     let info : info_of r ≡ word_at (e ∷ f ∷ g ∷ h ∷ []) 0 = let t = s.info_length in let u = s.info_watch in
     let v = s.no_more_info in omega arith in
     let first = word-is a b c d (kind_word r) (small 0 0 (omega arith)) (small 1 0 (omega arith))
@@ -101,7 +102,8 @@ one_spelling r (a ∷ b ∷ c ∷ []) small s = let z = size_large r in let t = 
 one_spelling r (a ∷ b ∷ c ∷ d ∷ []) small s = let z = size_large r in let t = s.size in absurd (omega arith)
 one_spelling r (a ∷ b ∷ c ∷ d ∷ e ∷ []) small s = let z = size_large r in let t = s.size in absurd (omega arith)
 one_spelling r (a ∷ b ∷ c ∷ d ∷ e ∷ f ∷ []) small s = let z = size_large r in let t = s.size in absurd (omega arith)
-one_spelling r (a ∷ b ∷ c ∷ d ∷ e ∷ f ∷ g ∷ []) small s = let z = size_large r in let t = s.size in absurd (omega arith)
+one_spelling r (a ∷ b ∷ c ∷ d ∷ e ∷ f ∷ g ∷ []) small s =
+    let z = size_large r in let t = s.size in absurd (omega arith)
 
 -- one that began another would be the guess of the other's bytes
 pub none_begins_another : NoneBeginsAnother

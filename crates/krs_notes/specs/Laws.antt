@@ -1,5 +1,5 @@
--- What the bytes of records promise to a reader of a queue: uapi linux/watch_queue.h, struct watch_notification and the
--- masks WATCH_INFO_LENGTH and WATCH_INFO_ID.
+-- What the bytes of records promise to a reader of a queue: uapi linux/watch_queue.h, struct watch_notification and
+-- the masks WATCH_INFO_LENGTH and WATCH_INFO_ID.
 use Rattle.std.specs.Prelude.{◌≡◌, ℕ, ◌+◌, ◌*◌, ◌/◌, ◌%◌, ◌^◌, ◌<◌, List, length, drop, All}
 use Rattle.std.specs.Int.{w32, from_le_bytes}
 use Rattle.std.specs.Int.RustNames.{bit_and}

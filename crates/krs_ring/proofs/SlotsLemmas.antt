@@ -205,7 +205,8 @@ size-loss_if : (lost : Bool) (rs : List Record) →
 size-loss_if lost rs =
     let cut : length (bytes_of_all (loss_if lost ++ rs))
     ≡ length (bytes_of_all (loss_if lost)) + length (bytes_of_all rs) =
-    ap length (bytes_of_all-append (loss_if lost) rs) ∙ length-append (bytes_of_all (loss_if lost)) (bytes_of_all rs) in
+    ap length (bytes_of_all-append (loss_if lost) rs)
+    ∙ length-append (bytes_of_all (loss_if lost)) (bytes_of_all rs) in
     omega (arith, loss_if-size lost)
 
 size-notes_of : (slots : List Slot) → length (bytes_of_all (notes_of slots)) ≤ 24 * length slots
@@ -219,4 +220,5 @@ size-notes_of (s ∷ slots) =
 -- what waits fits into a record and a loss for each slot, and the loss in front
 pub size-waiting : (owed : Bool) (slots : List Slot) →
     length (bytes_of_all (loss_if owed ++ notes_of slots)) ≤ 24 * length slots + 8
-size-waiting owed slots = let more = size-notes_of slots in let loss = size-loss_if owed (notes_of slots) in omega arith
+size-waiting owed slots =
+    let more = size-notes_of slots in let loss = size-loss_if owed (notes_of slots) in omega arith

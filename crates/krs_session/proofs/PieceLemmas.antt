@@ -15,7 +15,7 @@ use Rattle.krs_wire.specs.Reply.{reply_frame}
 use Rattle.krs_session.specs.declared.ended.Ended.{Ended}
 use Rattle.krs_session.specs.declared.ended.Ended.TheVariants.{Closed, Wire, Read, Write, Memory, Turns}
 use Rattle.krs_session.specs.Events.{asks_of, asks_in, session_text}
-use Rattle.krs_session.specs.Session.{AreFirst, Serves}
+use Rattle.krs_session.specs.Session.{AreFirst, ServesBytes}
 use Rattle.krs_session.specs.Serving.{Asked, PieceServes, FeedsMore, Served, Finished}
 use Rattle.krs_session.proofs.JoinLemmas.{Joins, asked_joins, front_joins}
 
@@ -77,7 +77,7 @@ module _ {W : Type 0} (took : W → List ℕ → W → Type 0) (joins : Joins to
   piece_ends : (w0 w1 w2 : W) (f0 f1 : End) (bytes piece : List ℕ) (frames more : List Framed) (xs ys : List ℕ)
       (ended : Ended) → fault_of f0 ≡ None → Frames bytes frames f0 → took w0 xs w1
       → PieceServes took w1 w2 f0 f1 piece more ys (Some ended)
-      → Serves (λ text. took w0 text w2) (bytes ++ piece) (frames ++ more) (xs ++ ys) ended
+      → ServesBytes (λ text. took w0 text w2) (bytes ++ piece) (frames ++ more) (xs ++ ys) ended
   piece_ends w0 w1 w2 f0 f1 bytes piece frames more xs ys (Wire fault) n h t p =
       (fed_on f0 (bad fault) bytes piece frames more n h p.0, joins w0 w1 w2 xs ys t p.1)
   piece_ends w0 w1 w2 f0 f1 bytes piece frames more xs ys Write n h t p =
@@ -140,7 +140,8 @@ module _ {R S C W : Type 0} (gave : R → List ℕ → R → Type 0) (leads : S 
         size = omega (arith, a.size, length-append a.bytes piece);
         order = order_joins a.events b.events a.frames b.frames a.order b.order;
         asked = asked_joins leads ticked lane s0 s1 s2 c0 c1 c2 a.events b.events led ticks a.asked b.asked;
-        served = subst (λ (x : List ℕ). Serves (λ text. took w0 text w2) (a.bytes ++ piece) (a.frames ++ b.frames) x
+        served =
+            subst (λ (x : List ℕ). ServesBytes (λ text. took w0 text w2) (a.bytes ++ piece) (a.frames ++ b.frames) x
             ended) (text_joins a.events b.events)
             (piece_ends took takes w0 w1 w2 f1 f2 a.bytes piece a.frames b.frames (session_text a.events)
             (session_text b.events) ended n a.cut a.wrote b.served);

@@ -7,24 +7,24 @@ use Rattle.krs_wire.specs.Feeding.{Feeds, fault_of}
 use Rattle.krs_session.specs.declared.ended.Ended.{Ended}
 use Rattle.krs_session.specs.declared.ended.Ended.TheVariants.{Closed, Wire, Read, Write, Memory, Turns}
 use Rattle.krs_session.specs.Events.{asks_of, asks_in, moments_of, session_text, AllOfLane}
-use Rattle.krs_session.specs.Session.{TookFront, Serves}
+use Rattle.krs_session.specs.Session.{TookFront, ServesBytes}
 
 -- the seat's new events: its lane's, at the clock's answers in order
 pub record Asked {S C : Type 0} (leads : S → List Event → S → Type 0) (ticked : C → List ℕ → C → Type 0) (lane : ℕ)
-    (s0 s1 : S) (c0 c1 : C) (events : List Event) : Type 0 where
-  pub led : leads s0 events s1
-  pub moments : ticked c0 (moments_of events) c1
+    (seat0 seat1 : S) (clock0 clock1 : C) (events : List Event) : Type 0 where
+  pub led : leads seat0 events seat1
+  pub moments : ticked clock0 (moments_of events) clock1
   pub lanes : AllOfLane lane events
 
 -- what was written of a text: all of it, or its front where something stopped the writing, which is Write or Memory
 abbrev pub Wrote : {W : Type 0} → (W → List ℕ → W → Type 0) → W → W → List ℕ → Option Ended → Type 0
-Wrote took w0 w1 text None = took w0 text w1
-Wrote took w0 w1 text (Some Write) = TookFront (λ bytes. took w0 bytes w1) text
-Wrote took w0 w1 text (Some Memory) = TookFront (λ bytes. took w0 bytes w1) text
-Wrote took w0 w1 text (Some Closed) = ⊥
-Wrote took w0 w1 text (Some (Wire fault)) = ⊥
-Wrote took w0 w1 text (Some Read) = ⊥
-Wrote took w0 w1 text (Some Turns) = ⊥
+Wrote took writer0 writer1 text None = took writer0 text writer1
+Wrote took writer0 writer1 text (Some Write) = TookFront (λ bytes. took writer0 bytes writer1) text
+Wrote took writer0 writer1 text (Some Memory) = TookFront (λ bytes. took writer0 bytes writer1) text
+Wrote took writer0 writer1 text (Some Closed) = ⊥
+Wrote took writer0 writer1 text (Some (Wire fault)) = ⊥
+Wrote took writer0 writer1 text (Some Read) = ⊥
+Wrote took writer0 writer1 text (Some Turns) = ⊥
 
 -- what stops the writing, by the count of failed writes
 abbrev pub StopsBy : ℕ → ℕ → Option Ended → Type 0
@@ -39,8 +39,8 @@ StopsBy old new (Some Turns) = ⊥
 -- one more text, where nothing stopped the writing before
 abbrev pub WroteNext : {W : Type 0} → (W → List ℕ → W → Type 0) → W → W → List ℕ → Option Ended
     → Option Ended → Type 0
-WroteNext took w0 w1 text None result = Wrote took w0 w1 text result
-WroteNext took w0 w1 text (Some stop) result = (w1 ≡ w0) × (result ≡ Some stop)
+WroteNext took writer0 writer1 text None result = Wrote took writer0 writer1 text result
+WroteNext took writer0 writer1 text (Some stop) result = (writer1 ≡ writer0) × (result ≡ Some stop)
 
 abbrev pub StopsNext : ℕ → ℕ → Option Ended → Option Ended → Type 0
 StopsNext old new None result = StopsBy old new result
@@ -48,12 +48,12 @@ StopsNext old new (Some stop) result = (new ≡ old) × (result ≡ Some stop)
 
 -- the asks of these frames were made, and the replies were written
 pub record Answers {S C W : Type 0} (leads : S → List Event → S → Type 0) (ticked : C → List ℕ → C → Type 0)
-    (took : W → List ℕ → W → Type 0) (lane : ℕ) (s0 s1 : S) (c0 c1 : C) (w0 w1 : W) (frames : List Framed)
-    (stop : Option Ended) : Type 0 where
+    (took : W → List ℕ → W → Type 0) (lane : ℕ) (seat0 seat1 : S) (clock0 clock1 : C) (writer0 writer1 : W)
+    (frames : List Framed) (stop : Option Ended) : Type 0 where
   pub events : List Event
   pub order : asks_of events ≡ asks_in frames
-  pub asked : Asked leads ticked lane s0 s1 c0 c1 events
-  pub wrote : Wrote took w0 w1 (session_text events) stop
+  pub asked : Asked leads ticked lane seat0 seat1 clock0 clock1 events
+  pub wrote : Wrote took writer0 writer1 (session_text events) stop
 
 -- for every stream that ended so, with this piece behind it: these frames come next, and maybe more
 abbrev pub FeedsMore : End → List ℕ → List Framed → Type 0
@@ -66,28 +66,30 @@ FeedsMore (bad fault) piece frames = ⊥
 -- ended the session there
 abbrev pub PieceServes : {W : Type 0} → (W → List ℕ → W → Type 0) → W → W → End → End → List ℕ → List Framed → List ℕ
     → Option Ended → Type 0
-PieceServes took w0 w1 f0 f1 piece frames text None =
-    Feeds f0 piece frames f1 × (fault_of f1 ≡ None) × took w0 text w1
-PieceServes took w0 w1 f0 f1 piece frames text (Some (Wire fault)) =
-    Feeds f0 piece frames (bad fault) × took w0 text w1
-PieceServes took w0 w1 f0 f1 piece frames text (Some Write) =
-    Feeds f0 piece frames f1 × TookFront (λ bytes. took w0 bytes w1) text
-PieceServes took w0 w1 f0 f1 piece frames text (Some Memory) =
-    (Feeds f0 piece frames f1 × TookFront (λ bytes. took w0 bytes w1) text)
-    ⊎ (FeedsMore f0 piece frames × took w0 text w1)
-PieceServes took w0 w1 f0 f1 piece frames text (Some Closed) = (piece ≡ []) × (frames ≡ []) × took w0 text w1
-PieceServes took w0 w1 f0 f1 piece frames text (Some Read) = (piece ≡ []) × (frames ≡ []) × took w0 text w1
-PieceServes took w0 w1 f0 f1 piece frames text (Some Turns) = ⊥
+PieceServes took writer0 writer1 feed0 feed1 piece frames text None =
+    Feeds feed0 piece frames feed1 × (fault_of feed1 ≡ None) × took writer0 text writer1
+PieceServes took writer0 writer1 feed0 feed1 piece frames text (Some (Wire fault)) =
+    Feeds feed0 piece frames (bad fault) × took writer0 text writer1
+PieceServes took writer0 writer1 feed0 feed1 piece frames text (Some Write) =
+    Feeds feed0 piece frames feed1 × TookFront (λ bytes. took writer0 bytes writer1) text
+PieceServes took writer0 writer1 feed0 feed1 piece frames text (Some Memory) =
+    (Feeds feed0 piece frames feed1 × TookFront (λ bytes. took writer0 bytes writer1) text)
+    ⊎ (FeedsMore feed0 piece frames × took writer0 text writer1)
+PieceServes took writer0 writer1 feed0 feed1 piece frames text (Some Closed) =
+    (piece ≡ []) × (frames ≡ []) × took writer0 text writer1
+PieceServes took writer0 writer1 feed0 feed1 piece frames text (Some Read) =
+    (piece ≡ []) × (frames ≡ []) × took writer0 text writer1
+PieceServes took writer0 writer1 feed0 feed1 piece frames text (Some Turns) = ⊥
 
 -- a piece was cut, its frames were asked, and the replies were written
 pub record Served {S C W : Type 0} (leads : S → List Event → S → Type 0) (ticked : C → List ℕ → C → Type 0)
-    (took : W → List ℕ → W → Type 0) (lane : ℕ) (s0 s1 : S) (c0 c1 : C) (w0 w1 : W) (f0 f1 : End) (piece : List ℕ)
-    (stop : Option Ended) : Type 0 where
+    (took : W → List ℕ → W → Type 0) (lane : ℕ) (seat0 seat1 : S) (clock0 clock1 : C) (writer0 writer1 : W)
+    (feed0 feed1 : End) (piece : List ℕ) (stop : Option Ended) : Type 0 where
   pub frames : List Framed
   pub events : List Event
   pub order : asks_of events ≡ asks_in frames
-  pub asked : Asked leads ticked lane s0 s1 c0 c1 events
-  pub served : PieceServes took w0 w1 f0 f1 piece frames (session_text events) stop
+  pub asked : Asked leads ticked lane seat0 seat1 clock0 clock1 events
+  pub served : PieceServes took writer0 writer1 feed0 feed1 piece frames (session_text events) stop
 
 -- what ends a piece, by the count of failed writes
 abbrev pub PieceEndsBy : ℕ → ℕ → Option Ended → Type 0
@@ -100,24 +102,25 @@ PieceEndsBy old new (Some Read) = ⊥
 PieceEndsBy old new (Some Turns) = ⊥
 
 -- what ends a turn, by the counts of reads that gave nothing, failed reads and failed writes
-abbrev pub TurnEndsBy : (e0 e1 r0 r1 w0 w1 : ℕ) → Option Ended → Type 0
-TurnEndsBy e0 e1 r0 r1 w0 w1 None = (e1 ≡ e0) × (r1 ≡ r0) × (w1 ≡ w0)
-TurnEndsBy e0 e1 r0 r1 w0 w1 (Some Closed) = e0 < e1
-TurnEndsBy e0 e1 r0 r1 w0 w1 (Some Read) = r0 < r1
-TurnEndsBy e0 e1 r0 r1 w0 w1 (Some Write) = w0 < w1
-TurnEndsBy e0 e1 r0 r1 w0 w1 (Some Memory) = Unit {0}
-TurnEndsBy e0 e1 r0 r1 w0 w1 (Some (Wire fault)) = Unit {0}
-TurnEndsBy e0 e1 r0 r1 w0 w1 (Some Turns) = ⊥
+abbrev pub TurnEndsBy : (empties0 empties1 failed0 failed1 unwritten0 unwritten1 : ℕ) → Option Ended → Type 0
+TurnEndsBy empties0 empties1 failed0 failed1 unwritten0 unwritten1 None =
+    (empties1 ≡ empties0) × (failed1 ≡ failed0) × (unwritten1 ≡ unwritten0)
+TurnEndsBy empties0 empties1 failed0 failed1 unwritten0 unwritten1 (Some Closed) = empties0 < empties1
+TurnEndsBy empties0 empties1 failed0 failed1 unwritten0 unwritten1 (Some Read) = failed0 < failed1
+TurnEndsBy empties0 empties1 failed0 failed1 unwritten0 unwritten1 (Some Write) = unwritten0 < unwritten1
+TurnEndsBy empties0 empties1 failed0 failed1 unwritten0 unwritten1 (Some Memory) = Unit {0}
+TurnEndsBy empties0 empties1 failed0 failed1 unwritten0 unwritten1 (Some (Wire fault)) = Unit {0}
+TurnEndsBy empties0 empties1 failed0 failed1 unwritten0 unwritten1 (Some Turns) = ⊥
 
 -- a whole session but for its LEAVE; a read gives at most 4096 bytes
 pub record Finished {R S C W : Type 0} (gave : R → List ℕ → R → Type 0) (leads : S → List Event → S → Type 0)
-    (ticked : C → List ℕ → C → Type 0) (took : W → List ℕ → W → Type 0) (lane reads : ℕ) (r0 r1 : R) (s0 s1 : S)
-    (c0 c1 : C) (w0 w1 : W) (ended : Ended) : Type 0 where
+    (ticked : C → List ℕ → C → Type 0) (took : W → List ℕ → W → Type 0) (lane reads : ℕ) (reader0 reader1 : R)
+    (seat0 seat1 : S) (clock0 clock1 : C) (writer0 writer1 : W) (ended : Ended) : Type 0 where
   pub bytes : List ℕ
   pub frames : List Framed
   pub events : List Event
-  pub read : gave r0 bytes r1
+  pub read : gave reader0 bytes reader1
   pub size : length bytes ≤ 4096 * reads
   pub order : asks_of events ≡ asks_in frames
-  pub asked : Asked leads ticked lane s0 s1 c0 c1 events
-  pub served : Serves (λ text. took w0 text w1) bytes frames (session_text events) ended
+  pub asked : Asked leads ticked lane seat0 seat1 clock0 clock1 events
+  pub served : ServesBytes (λ text. took writer0 text writer1) bytes frames (session_text events) ended

@@ -28,13 +28,13 @@ TookFront took text = (front : List ℕ) × Begins front text × took front
 -- Which frames were asked of those in the bytes read, and how much of their replies' text was written, by what ended
 -- the session: all of both, but where a write failed, or memory was refused. Refused for a reply it ends the writing,
 -- and refused to the feed it ends the cut.
-abbrev pub Serves : (List ℕ → Type 0) → List ℕ → List Framed → List ℕ → Ended → Type 0
-Serves took bytes frames text Closed = AreWhole bytes frames × took text
-Serves took bytes frames text Read = AreWhole bytes frames × took text
-Serves took bytes frames text Turns = AreWhole bytes frames × took text
-Serves took bytes frames text (Wire fault) = Frames bytes frames (bad fault) × took text
-Serves took bytes frames text Write = AreAll bytes frames × TookFront took text
-Serves took bytes frames text Memory =
+abbrev pub ServesBytes : (List ℕ → Type 0) → List ℕ → List Framed → List ℕ → Ended → Type 0
+ServesBytes took bytes frames text Closed = AreWhole bytes frames × took text
+ServesBytes took bytes frames text Read = AreWhole bytes frames × took text
+ServesBytes took bytes frames text Turns = AreWhole bytes frames × took text
+ServesBytes took bytes frames text (Wire fault) = Frames bytes frames (bad fault) × took text
+ServesBytes took bytes frames text Write = AreAll bytes frames × TookFront took text
+ServesBytes took bytes frames text Memory =
     (AreAll bytes frames × TookFront took text) ⊎ (AreFirst bytes frames × took text)
 
 -- what is asked last; it looks at no context
@@ -58,14 +58,14 @@ pub record Session (gave : List ℕ → Type 0) (led : List Event → Type 0) (t
   pub lanes : AllOfLane lane (events ++ last ∷ [])
   pub order : asks_of events ≡ asks_in frames
   pub leave : last.ask ≡ leave
-  pub served : Serves took bytes frames (session_text events) ended
+  pub served : ServesBytes took bytes frames (session_text events) ended
 
 -- Why a session ended, by what its ends counted before and after: reads into room, those that gave no bytes, failed
 -- reads; failed writes, with those that took none of a piece that isn't empty.
 abbrev pub EndsBy : (turns reads0 reads1 empties0 empties1 failed0 failed1 unwritten0 unwritten1 : ℕ) → Ended → Type 0
-EndsBy turns n0 n1 e0 e1 r0 r1 w0 w1 Turns = n1 ≡ n0 + turns
-EndsBy turns n0 n1 e0 e1 r0 r1 w0 w1 Closed = e0 < e1
-EndsBy turns n0 n1 e0 e1 r0 r1 w0 w1 Read = r0 < r1
-EndsBy turns n0 n1 e0 e1 r0 r1 w0 w1 Write = w0 < w1
-EndsBy turns n0 n1 e0 e1 r0 r1 w0 w1 Memory = Unit {0}
-EndsBy turns n0 n1 e0 e1 r0 r1 w0 w1 (Wire fault) = Unit {0}
+EndsBy turns reads0 reads1 empties0 empties1 failed0 failed1 unwritten0 unwritten1 Turns = reads1 ≡ reads0 + turns
+EndsBy turns reads0 reads1 empties0 empties1 failed0 failed1 unwritten0 unwritten1 Closed = empties0 < empties1
+EndsBy turns reads0 reads1 empties0 empties1 failed0 failed1 unwritten0 unwritten1 Read = failed0 < failed1
+EndsBy turns reads0 reads1 empties0 empties1 failed0 failed1 unwritten0 unwritten1 Write = unwritten0 < unwritten1
+EndsBy turns reads0 reads1 empties0 empties1 failed0 failed1 unwritten0 unwritten1 Memory = Unit {0}
+EndsBy turns reads0 reads1 empties0 empties1 failed0 failed1 unwritten0 unwritten1 (Wire fault) = Unit {0}

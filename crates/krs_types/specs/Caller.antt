@@ -12,6 +12,7 @@ is_of_group caller gid = (gid == caller.gid) || list_any (λ g. g == gid) caller
 -- at most 32 groups, and neither the uid nor the gid nor a group is 4294967295: profile, believed caller
 abbrev pub caller_check : Caller → Result (Unit {0}) Errno
 caller_check c =
-    if nat_lt 32 (length c.groups) || ((c.uid == 4294967295) || ((c.gid == 4294967295) || list_any (λ g. g == 4294967295) c.groups))
+    if nat_lt 32 (length c.groups) ||
+    ((c.uid == 4294967295) || ((c.gid == 4294967295) || list_any (λ g. g == 4294967295) c.groups))
     then Err EINVAL
     else Ok tt

@@ -1,7 +1,10 @@
 -- Why an ask is refused: the names and numbers of errno(3).
 use Rattle.std.specs.Prelude.{ℕ, List, [], ◌∷◌, codes}
 use Rattle.krs_types.specs.declared.errno.Errno.{Errno}
-use Rattle.krs_types.specs.declared.errno.Errno.TheVariants.{EPERM, ENOENT, ESRCH, EBADF, EAGAIN, ENOMEM, EACCES, EBUSY, EEXIST, ENODEV, ENOTDIR, EINVAL, ENFILE, ENOSPC, EDEADLK, ELOOP, EBADSLT, EOPNOTSUPP, ENOBUFS, ENOKEY, EKEYEXPIRED, EKEYREVOKED}
+use Rattle.krs_types.specs.declared.errno.Errno.TheVariants.{EPERM, ENOENT, ESRCH, EBADF, EAGAIN, ENOMEM, EACCES}
+use Rattle.krs_types.specs.declared.errno.Errno.TheVariants.{EBUSY, EEXIST, ENODEV, ENOTDIR, EINVAL, ENFILE, ENOSPC}
+use Rattle.krs_types.specs.declared.errno.Errno.TheVariants.{EDEADLK, ELOOP, EBADSLT, EOPNOTSUPP, ENOBUFS, ENOKEY}
+use Rattle.krs_types.specs.declared.errno.Errno.TheVariants.{EKEYEXPIRED, EKEYREVOKED}
 
 -- the number of an error: uapi asm-generic/errno-base.h and errno.h
 abbrev pub number_of : Errno → ℕ
@@ -55,4 +58,7 @@ name_of EKEYREVOKED = codes "EKEYREVOKED"
 
 -- all errors, by rising number
 abbrev pub errnos : List Errno
-errnos = EPERM ∷ ENOENT ∷ ESRCH ∷ EBADF ∷ EAGAIN ∷ ENOMEM ∷ EACCES ∷ EBUSY ∷ EEXIST ∷ ENODEV ∷ ENOTDIR ∷ EINVAL ∷ ENFILE ∷ ENOSPC ∷ EDEADLK ∷ ELOOP ∷ EBADSLT ∷ EOPNOTSUPP ∷ ENOBUFS ∷ ENOKEY ∷ EKEYEXPIRED ∷ EKEYREVOKED ∷ []
+errnos =
+    EPERM ∷ ENOENT ∷ ESRCH ∷ EBADF ∷ EAGAIN ∷ ENOMEM ∷ EACCES ∷ EBUSY ∷ EEXIST ∷ ENODEV ∷ ENOTDIR
+    ∷ EINVAL ∷ ENFILE ∷ ENOSPC ∷ EDEADLK ∷ ELOOP ∷ EBADSLT ∷ EOPNOTSUPP ∷ ENOBUFS ∷ ENOKEY
+    ∷ EKEYEXPIRED ∷ EKEYREVOKED ∷ []

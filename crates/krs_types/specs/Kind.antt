@@ -1,5 +1,6 @@
 -- The types of keys, and what their names, descriptions and payloads may be: add_key(2), keyrings(7).
-use Rattle.std.specs.Prelude.{ℕ, ◌==◌, ◌&&◌, ◌||◌, List, Bool, true, false, not, length, nat_lt, nat_le, if◌then◌else◌, Result, Ok, Err, codes, bytes_eq, slice_index}
+use Rattle.std.specs.Prelude.{ℕ, ◌==◌, ◌&&◌, ◌||◌, List, Bool, true, false, not, length, nat_lt, nat_le}
+use Rattle.std.specs.Prelude.{if◌then◌else◌, Result, Ok, Err, codes, bytes_eq, slice_index}
 use Rattle.std.specs.List.{list_any}
 use Rattle.krs_types.specs.declared.errno.Errno.{Errno}
 use Rattle.krs_types.specs.declared.errno.Errno.TheVariants.{EINVAL, EPERM, ENODEV}

@@ -36,4 +36,5 @@ class_byte mask uid gid caller =
 
 -- the rights on a key of this mask, uid and gid: the possessor's byte where it is possessed, and that one byte
 abbrev pub granted : ℕ → ℕ → ℕ → Caller → Bool → ℕ
-granted mask uid gid caller possessed = bit_or (if possessed then possessor_byte mask else 0) (class_byte mask uid gid caller)
+granted mask uid gid caller possessed =
+    bit_or (if possessed then possessor_byte mask else 0) (class_byte mask uid gid caller)

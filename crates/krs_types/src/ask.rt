@@ -117,8 +117,8 @@ pub enum Op {
         queue: u32,
         entries: FilterEntries,
     },
-    /// The records of a queue, as many as fit into that many bytes: core-api/watch_queue.rst, "Watch Queue (Notification
-    /// Output) API".
+    /// The records of a queue, as many as fit into that many bytes: core-api/watch_queue.rst, "Watch Queue
+    /// (Notification Output) API".
     ReadQueue {
         queue: u32,
         room: u32,

@@ -1,6 +1,7 @@
 ghost use Rattle.std.specs.Prelude.{◌≡◌, ◌==◌, ◌≤◌, length, OnOk};
 ghost use Rattle.std.specs.List.{list_any};
-ghost use Rattle.krs_types.specs.Kind.{kind_named, kind_name, same_kind, is_bad_text, begins_with, described, described_as, paid, checked};
+ghost use Rattle.krs_types.specs.Kind.{kind_named, kind_name, same_kind, is_bad_text, begins_with, described};
+ghost use Rattle.krs_types.specs.Kind.{described_as, paid, checked};
 
 use crate::Errno;
 
@@ -22,8 +23,8 @@ pub enum Kind {
 }
 
 impl Kind {
-    /// The kind of a type's name: EINVAL where it is empty, longer than 31 bytes or has a byte 0, EPERM where it begins
-    /// with a dot, ENODEV where there is no such type. add_key(2); profile, known types.
+    /// The kind of a type's name: EINVAL where it is empty, longer than 31 bytes or has a byte 0, EPERM where it
+    /// begins with a dot, ENODEV where there is no such type. add_key(2); profile, known types.
     pub fn named(name: &[u8]) -> Result<Kind, Errno>
         ensures { result ≡ kind_named name.now }
     {
@@ -67,8 +68,8 @@ impl Kind {
     }
 
     /// Whether a key of this kind can be made with this description and payload. In this order: EINVAL of the
-    /// description's length and bytes, EPERM of a keyring's that begins with a dot, EINVAL of a logon key's that has no
-    /// service before its first colon, EINVAL of the payload. add_key(2), keyrings(7); profile, logon prefix.
+    /// description's length and bytes, EPERM of a keyring's that begins with a dot, EINVAL of a logon key's that has
+    /// no service before its first colon, EINVAL of the payload. add_key(2), keyrings(7); profile, logon prefix.
     pub fn check(self, desc: &[u8], payload: &[u8]) -> Result<(), Errno>
         ensures value { result ≡ checked self desc.now payload.now }
         ensures desc { OnOk result (length desc.now ≤ 4095) }
@@ -104,8 +105,8 @@ impl Kind {
     }
 }
 
-/// Whether a description may be a key's: EINVAL where it is empty, longer than 4095 bytes or has a byte 0. Profile, empty
-/// description.
+/// Whether a description may be a key's: EINVAL where it is empty, longer than 4095 bytes or has a byte 0. Profile,
+/// empty description.
 pub fn check_description(desc: &[u8]) -> Result<(), Errno>
     ensures value { result ≡ described desc.now }
     ensures bound { OnOk result (length desc.now ≤ 4095) }

@@ -38,10 +38,12 @@ impl Perm {
     /// The mask of the keyrings of a uid: all but SETATTR for its possessor, all for its user.
     pub const OF_UID: Perm = Perm { mask: 0x1f3f_0000 };
 
-    /// The mask of a session keyring that JOIN makes without a name: all for its possessor, VIEW and READ for its user.
+    /// The mask of a session keyring that JOIN makes without a name: all for its possessor, VIEW and READ for its
+    /// user.
     pub const OF_SESSION: Perm = Perm { mask: 0x3f03_0000 };
 
-    /// The mask of a session keyring that JOIN makes by a name: all for its possessor, VIEW, READ and LINK for its user.
+    /// The mask of a session keyring that JOIN makes by a name: all for its possessor, VIEW, READ and LINK for its
+    /// user.
     pub const OF_NAMED_SESSION: Perm = Perm { mask: 0x3f13_0000 };
 
     /// The mask of these bits: EINVAL where one is outside 3f3f3f3f. Profile, mask bits.
@@ -61,7 +63,8 @@ impl Perm {
     }
 
     /// What a caller may do with a key of this mask, uid and gid: the possessor's byte where it possesses the key, and
-    /// exactly one of the other three. keyrings(7), "Possession" and "Access rights"; profile, group byte counts alone.
+    /// exactly one of the other three. keyrings(7), "Possession" and "Access rights"; profile, group byte counts
+    /// alone.
     pub fn grants(self, caller: &Caller, uid: u32, gid: u32, possessed: bool) -> Rights
         ensures { result.0 ≡ granted self uid gid caller.now possessed }
     {

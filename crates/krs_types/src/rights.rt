@@ -23,7 +23,8 @@ impl Flags for Rights {
 
     ghost exact = { ⊤ };
 
-    ghost table = { (codes "VIEW", 1) ∷ (codes "READ", 2) ∷ (codes "WRITE", 4) ∷ (codes "SEARCH", 8) ∷ (codes "LINK", 16) ∷ (codes "SETATTR", 32) ∷ [] };
+    ghost table = { (codes "VIEW", 1) ∷ (codes "READ", 2) ∷ (codes "WRITE", 4) ∷ (codes "SEARCH", 8)
+        ∷ (codes "LINK", 16) ∷ (codes "SETATTR", 32) ∷ [] };
 
     ghost set_of = { λ p. p.0 };
 

@@ -17,9 +17,9 @@ EndsIn Memory meant = IsOk meant
 EndsIn (Refused e) meant = meant ≡ Err e
 
 -- from old, this result and these queues are what is meant; a fault leaves them as they were
-abbrev pub Leads : {A : Type 0} → Queues → Result A Fault → Queues → Change A → Type 0
-Leads old (Ok x) new meant = meant ≡ Ok (new, x)
-Leads old (Err e) new meant = EndsIn e meant × (new ≡ old)
+abbrev pub LeadsQueues : {A : Type 0} → Queues → Result A Fault → Queues → Change A → Type 0
+LeadsQueues old (Ok x) new meant = meant ≡ Ok (new, x)
+LeadsQueues old (Err e) new meant = EndsIn e meant × (new ≡ old)
 
 -- the same of what takes no memory
 abbrev pub LeadsAlways : {A : Type 0} → Queues → Result A Errno → Queues → Change A → Type 0

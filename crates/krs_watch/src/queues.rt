@@ -7,7 +7,7 @@ ghost use Rattle.krs_model.specs.Asks.Watching.{watches_of};
 ghost use Rattle.krs_model.specs.Table.{alter};
 ghost use Rattle.krs_model.specs.Asks.Watching.{with_filter};
 ghost use Rattle.krs_watch.specs.Reads.{ReadsAt};
-ghost use Rattle.krs_watch.specs.Changes.{Leads, LeadsAlways, OwnsQueue, watch_ended, swept};
+ghost use Rattle.krs_watch.specs.Changes.{LeadsQueues, LeadsAlways, OwnsQueue, watch_ended, swept};
 
 use crate::keys::KeySet;
 use crate::posting::{Place, post, post_note};
@@ -59,7 +59,7 @@ impl WatchQueues {
     /// A new queue of 1 to 512 records, by its number: EINVAL, ENFILE, ENOSPC, ENOMEM.
     #[tactic(auto, unfolding(krs_model::specs::Asks::Watching::opened))]
     pub fn open_queue(&mut self, client: u32, capacity: u32) -> Result<u32, Fault>
-        ensures { Leads self.old result self.new (opened self.old client capacity) }
+        ensures { LeadsQueues self.old result self.new (opened self.old client capacity) }
     {
         if !NoteRing::is_capacity(capacity) {
             return Err(Fault::Refused(Errno::EINVAL));
@@ -97,7 +97,7 @@ impl WatchQueues {
     /// A watch of a key, whose records go to a queue: EBADF, EBUSY, ENOMEM.
     #[tactic(auto, unfolding(krs_model::specs::Asks::Watching::watched))]
     pub fn watch(&mut self, client: u32, number: u32, key: Serial, id: u8) -> Result<(), Fault>
-        ensures { Leads self.old result self.new (watched self.old client number key id) }
+        ensures { LeadsQueues self.old result self.new (watched self.old client number key id) }
     {
         check_own(&self.queues, client, number)?;
         let place = (key.number(), number);
@@ -127,7 +127,7 @@ impl WatchQueues {
     /// ENOBUFS, ENOMEM.
     #[tactic(auto, unfolding(krs_model::specs::Asks::Watching::read_out))]
     pub fn read(&mut self, client: u32, number: u32, room: u32) -> Result<Body, Fault>
-        ensures { Leads self.old result self.new (read_out self.old client number room) }
+        ensures { LeadsQueues self.old result self.new (read_out self.old client number room) }
     {
         check_own(&self.queues, client, number)?;
         read_at(self.alloc, &mut self.queues, number, room as usize)

@@ -16,7 +16,7 @@ use Rattle.krs_types.specs.Errno.{number_of, errnos}
 use Rattle.krs_wire.specs.declared.shape.Shape.{Shape}
 use Rattle.krs_wire.specs.declared.shape.Shape.TheVariants as shapes
 use Rattle.krs_wire.specs.Field.{number, nothing, whole}
-use Rattle.krs_wire.specs.Faulting.{or_bad_body, after, Gives}
+use Rattle.krs_wire.specs.Faulting.{or_bad_body, after, GivesRead}
 use Rattle.krs_wire.specs.Reply.{status_of, body_of, reply_frame, errno_of, HasShape, accepted, refused, answer_of}
 use Rattle.krs_wire.specs.Reply.{error_of, reply_by, reply_in, reply_front, is_bad_reply_length}
 use Rattle.krs_wire.proofs.CaseLemmas.{chosen, or_false, ok_body}
@@ -239,7 +239,7 @@ reply_takes shape bytes reply len fits e =
 -- ---- what the decoder answers
 
 pub found_by : (shape : Shape) (bytes : List ℕ) (r : Result (Option (Result Answer Errno × ℕ)) WireFault)
-    → IsBytes bytes → Gives (λ x. x) r (reply_front shape bytes)
+    → IsBytes bytes → GivesRead (λ x. x) r (reply_front shape bytes)
     → IfOk r (λ o. IfSome o (λ x. (take x.1 bytes ≡ reply_frame x.0) × HasShape shape x.0))
 found_by shape bytes (Ok (Some x)) fits g = reply_takes shape bytes x.0 x.1 fits g
 found_by shape bytes (Ok None) fits g = tt
@@ -255,9 +255,10 @@ frame_length reply =
 
 pub only_by : (shape : Shape) (bytes : List ℕ) (r : Result (Option (Result Answer Errno × ℕ)) WireFault)
     (reply : Result Answer Errno) (more : List ℕ) → HasShape shape reply → bytes ≡ reply_frame reply ++ more
-    → Gives (λ x. x) r (reply_front shape bytes) → Gives (λ x. x) r (Ok (Some (reply, length (reply_frame reply))))
+    → GivesRead (λ x. x) r (reply_front shape bytes)
+    → GivesRead (λ x. x) r (Ok (Some (reply, length (reply_frame reply))))
 only_by shape bytes r reply more has e g =
     let again : reply_front shape bytes ≡ Ok (Some (reply, length (reply_frame reply))) =
     ap (reply_front shape) e ∙ reply_again shape reply more has
     ∙ ap (λ (n : ℕ). whole_reply (reply, n)) (sym (frame_length reply)) in
-    subst (λ (x : Result (Option (Result Answer Errno × ℕ)) WireFault). Gives (λ y. y) r x) again g
+    subst (λ (x : Result (Option (Result Answer Errno × ℕ)) WireFault). GivesRead (λ y. y) r x) again g

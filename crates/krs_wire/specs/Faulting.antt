@@ -14,6 +14,6 @@ or_bad_body None = Err BadBody
 or_bad_body (Some x) = Ok x
 
 -- what a function answered, seen by `view`, is what reading gives, unless memory ran out
-abbrev pub Gives : {X Y : Type 0} → (X → Y) → Result X WireFault → Result Y WireFault → Type 0
-Gives view (Ok x) read = read ≡ Ok (view x)
-Gives view (Err fault) read = fault ≢ Memory → read ≡ Err fault
+abbrev pub GivesRead : {X Y : Type 0} → (X → Y) → Result X WireFault → Result Y WireFault → Type 0
+GivesRead view (Ok x) read = read ≡ Ok (view x)
+GivesRead view (Err fault) read = fault ≢ Memory → read ≡ Err fault

@@ -16,7 +16,7 @@ use Rattle.krs_wire.specs.declared.fault.WireFault.TheVariants.{BadLength, BadBo
 use Rattle.krs_wire.specs.declared.shape.Shape.{Shape}
 use Rattle.krs_wire.specs.declared.shape.Shape.TheVariants as shapes
 use Rattle.krs_wire.specs.Field.{number, nothing, whole}
-use Rattle.krs_wire.specs.Faulting.{or_bad_body, after, Gives}
+use Rattle.krs_wire.specs.Faulting.{or_bad_body, after, GivesRead}
 
 -- 0, or the number of the error
 abbrev pub status_of : Result Answer Errno → ℕ
@@ -129,4 +129,4 @@ IsAtFront shape bytes found = (take found.1 bytes ≡ reply_frame found.0) × Ha
 abbrev pub Finds : Shape → List ℕ → Result (Option (Result Answer Errno × ℕ)) WireFault → Type 0
 Finds shape bytes result =
     (reply : Result Answer Errno) (more : List ℕ) → HasShape shape reply → bytes ≡ reply_frame reply ++ more →
-    Gives (λ found. found) result (Ok (Some (reply, length (reply_frame reply))))
+    GivesRead (λ found. found) result (Ok (Some (reply, length (reply_frame reply))))

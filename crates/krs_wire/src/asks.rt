@@ -2,7 +2,7 @@
 ghost use Rattle.std.specs.Prelude.{◌≡◌, ◌<◌, ◌-◌, drop, IfOk, IfSome, length, option_map};
 ghost use Rattle.std.specs.Int.{w32};
 ghost use Rattle.krs_wire.specs.Field.{number, whole};
-ghost use Rattle.krs_wire.specs.Faulting.{Gives, or_bad_body};
+ghost use Rattle.krs_wire.specs.Faulting.{GivesRead, or_bad_body};
 ghost use Rattle.krs_wire.specs.Bodies.{add_fields, add_of, chown_fields, chown_of, clear_of, describe_of};
 ghost use Rattle.krs_wire.specs.Bodies.{get_id_fields, get_id_of, hello_fields, hello_of, id_field, id_number_fields};
 ghost use Rattle.krs_wire.specs.Bodies.{invalidate_of, join_of, link_fields, link_of, read_of, request_fields};
@@ -22,7 +22,7 @@ use krs_types::{Ask, Caller, Op};
 use std::alloc::Global;
 
 fn hello_at(alloc: Global, body: &[u8]) -> Result<Op, WireFault>
-    ensures { Gives (λ op. op) result (or_bad_body (whole hello_fields hello_of body.now)) }
+    ensures { GivesRead (λ op. op) result (or_bad_body (whole hello_fields hello_of body.now)) }
 {
     let (uid, rest) = u32_at(body)?;
     let (gid, rest) = u32_at(rest)?;
@@ -31,7 +31,7 @@ fn hello_at(alloc: Global, body: &[u8]) -> Result<Op, WireFault>
 }
 
 fn get_id_at(body: &[u8]) -> Result<Op, WireFault>
-    ensures { Gives (λ op. op) result (or_bad_body (whole get_id_fields get_id_of body.now)) }
+    ensures { GivesRead (λ op. op) result (or_bad_body (whole get_id_fields get_id_of body.now)) }
 {
     let (id, rest) = id_at(body)?;
     let (create, rest) = flag_at(rest)?;
@@ -39,14 +39,14 @@ fn get_id_at(body: &[u8]) -> Result<Op, WireFault>
 }
 
 fn join_at(alloc: Global, body: &[u8]) -> Result<Op, WireFault>
-    ensures { Gives (λ op. op) result (or_bad_body (whole text_field join_of body.now)) }
+    ensures { GivesRead (λ op. op) result (or_bad_body (whole text_field join_of body.now)) }
 {
     let (name, rest) = text_at(alloc, body)?;
     ended(Op::Join { name }, rest)
 }
 
 fn search_at(alloc: Global, body: &[u8]) -> Result<Op, WireFault>
-    ensures { Gives (λ op. op) result (or_bad_body (whole search_fields search_of body.now)) }
+    ensures { GivesRead (λ op. op) result (or_bad_body (whole search_fields search_of body.now)) }
 {
     let (head, rest) = id_at(body)?;
     let (type_name, rest) = text_at(alloc, rest)?;
@@ -62,7 +62,7 @@ fn search_at(alloc: Global, body: &[u8]) -> Result<Op, WireFault>
 }
 
 fn request_at(alloc: Global, body: &[u8]) -> Result<Op, WireFault>
-    ensures { Gives (λ op. op) result (or_bad_body (whole request_fields request_of body.now)) }
+    ensures { GivesRead (λ op. op) result (or_bad_body (whole request_fields request_of body.now)) }
 {
     let (type_name, rest) = text_at(alloc, body)?;
     let (desc, rest) = text_at(alloc, rest)?;
@@ -76,7 +76,7 @@ fn request_at(alloc: Global, body: &[u8]) -> Result<Op, WireFault>
 }
 
 fn add_at(alloc: Global, body: &[u8]) -> Result<Op, WireFault>
-    ensures { Gives (λ op. op) result (or_bad_body (whole add_fields add_of body.now)) }
+    ensures { GivesRead (λ op. op) result (or_bad_body (whole add_fields add_of body.now)) }
 {
     let (type_name, rest) = text_at(alloc, body)?;
     let (desc, rest) = text_at(alloc, rest)?;
@@ -92,7 +92,7 @@ fn add_at(alloc: Global, body: &[u8]) -> Result<Op, WireFault>
 }
 
 fn update_at(alloc: Global, body: &[u8]) -> Result<Op, WireFault>
-    ensures { Gives (λ op. op) result (or_bad_body (whole update_fields update_of body.now)) }
+    ensures { GivesRead (λ op. op) result (or_bad_body (whole update_fields update_of body.now)) }
 {
     let (id, rest) = id_at(body)?;
     let (payload, rest) = blob_at(alloc, rest)?;
@@ -100,21 +100,21 @@ fn update_at(alloc: Global, body: &[u8]) -> Result<Op, WireFault>
 }
 
 fn revoke_at(body: &[u8]) -> Result<Op, WireFault>
-    ensures { Gives (λ op. op) result (or_bad_body (whole id_field revoke_of body.now)) }
+    ensures { GivesRead (λ op. op) result (or_bad_body (whole id_field revoke_of body.now)) }
 {
     let (id, rest) = id_at(body)?;
     ended(Op::Revoke { id }, rest)
 }
 
 fn invalidate_at(body: &[u8]) -> Result<Op, WireFault>
-    ensures { Gives (λ op. op) result (or_bad_body (whole id_field invalidate_of body.now)) }
+    ensures { GivesRead (λ op. op) result (or_bad_body (whole id_field invalidate_of body.now)) }
 {
     let (id, rest) = id_at(body)?;
     ended(Op::Invalidate { id }, rest)
 }
 
 fn chown_at(body: &[u8]) -> Result<Op, WireFault>
-    ensures { Gives (λ op. op) result (or_bad_body (whole chown_fields chown_of body.now)) }
+    ensures { GivesRead (λ op. op) result (or_bad_body (whole chown_fields chown_of body.now)) }
 {
     let (id, rest) = id_at(body)?;
     let (uid, rest) = u32_at(rest)?;
@@ -123,7 +123,7 @@ fn chown_at(body: &[u8]) -> Result<Op, WireFault>
 }
 
 fn set_perm_at(body: &[u8]) -> Result<Op, WireFault>
-    ensures { Gives (λ op. op) result (or_bad_body (whole id_number_fields set_perm_of body.now)) }
+    ensures { GivesRead (λ op. op) result (or_bad_body (whole id_number_fields set_perm_of body.now)) }
 {
     let (id, rest) = id_at(body)?;
     let (mask, rest) = u32_at(rest)?;
@@ -131,7 +131,7 @@ fn set_perm_at(body: &[u8]) -> Result<Op, WireFault>
 }
 
 fn set_timeout_at(body: &[u8]) -> Result<Op, WireFault>
-    ensures { Gives (λ op. op) result (or_bad_body (whole id_number_fields set_timeout_of body.now)) }
+    ensures { GivesRead (λ op. op) result (or_bad_body (whole id_number_fields set_timeout_of body.now)) }
 {
     let (id, rest) = id_at(body)?;
     let (seconds, rest) = u32_at(rest)?;
@@ -139,14 +139,14 @@ fn set_timeout_at(body: &[u8]) -> Result<Op, WireFault>
 }
 
 fn clear_at(body: &[u8]) -> Result<Op, WireFault>
-    ensures { Gives (λ op. op) result (or_bad_body (whole id_field clear_of body.now)) }
+    ensures { GivesRead (λ op. op) result (or_bad_body (whole id_field clear_of body.now)) }
 {
     let (id, rest) = id_at(body)?;
     ended(Op::Clear { id }, rest)
 }
 
 fn link_at(body: &[u8]) -> Result<Op, WireFault>
-    ensures { Gives (λ op. op) result (or_bad_body (whole link_fields link_of body.now)) }
+    ensures { GivesRead (λ op. op) result (or_bad_body (whole link_fields link_of body.now)) }
 {
     let (key, rest) = id_at(body)?;
     let (ring, rest) = id_at(rest)?;
@@ -154,7 +154,7 @@ fn link_at(body: &[u8]) -> Result<Op, WireFault>
 }
 
 fn unlink_at(body: &[u8]) -> Result<Op, WireFault>
-    ensures { Gives (λ op. op) result (or_bad_body (whole link_fields unlink_of body.now)) }
+    ensures { GivesRead (λ op. op) result (or_bad_body (whole link_fields unlink_of body.now)) }
 {
     let (key, rest) = id_at(body)?;
     let (ring, rest) = id_at(rest)?;
@@ -162,21 +162,21 @@ fn unlink_at(body: &[u8]) -> Result<Op, WireFault>
 }
 
 fn read_at(body: &[u8]) -> Result<Op, WireFault>
-    ensures { Gives (λ op. op) result (or_bad_body (whole id_field read_of body.now)) }
+    ensures { GivesRead (λ op. op) result (or_bad_body (whole id_field read_of body.now)) }
 {
     let (id, rest) = id_at(body)?;
     ended(Op::Read { id }, rest)
 }
 
 fn describe_at(body: &[u8]) -> Result<Op, WireFault>
-    ensures { Gives (λ op. op) result (or_bad_body (whole id_field describe_of body.now)) }
+    ensures { GivesRead (λ op. op) result (or_bad_body (whole id_field describe_of body.now)) }
 {
     let (id, rest) = id_at(body)?;
     ended(Op::Describe { id }, rest)
 }
 
 fn watch_at(body: &[u8]) -> Result<Op, WireFault>
-    ensures { Gives (λ op. op) result (or_bad_body (whole watch_fields watch_of body.now)) }
+    ensures { GivesRead (λ op. op) result (or_bad_body (whole watch_fields watch_of body.now)) }
 {
     let (id, rest) = id_at(body)?;
     let (queue, rest) = u32_at(rest)?;
@@ -185,14 +185,14 @@ fn watch_at(body: &[u8]) -> Result<Op, WireFault>
 }
 
 fn open_queue_at(body: &[u8]) -> Result<Op, WireFault>
-    ensures { Gives (λ op. op) result (or_bad_body (whole (number w32) open_queue_of body.now)) }
+    ensures { GivesRead (λ op. op) result (or_bad_body (whole (number w32) open_queue_of body.now)) }
 {
     let (capacity, rest) = u32_at(body)?;
     ended(Op::OpenQueue { capacity }, rest)
 }
 
 fn set_filter_at(alloc: Global, body: &[u8]) -> Result<Op, WireFault>
-    ensures { Gives (λ op. op) result (or_bad_body (whole set_filter_fields set_filter_of body.now)) }
+    ensures { GivesRead (λ op. op) result (or_bad_body (whole set_filter_fields set_filter_of body.now)) }
 {
     let (queue, rest) = u32_at(body)?;
     let (entries, rest) = entries_at(alloc, rest)?;
@@ -200,7 +200,7 @@ fn set_filter_at(alloc: Global, body: &[u8]) -> Result<Op, WireFault>
 }
 
 fn read_queue_at(body: &[u8]) -> Result<Op, WireFault>
-    ensures { Gives (λ op. op) result (or_bad_body (whole read_queue_fields read_queue_of body.now)) }
+    ensures { GivesRead (λ op. op) result (or_bad_body (whole read_queue_fields read_queue_of body.now)) }
 {
     let (queue, rest) = u32_at(body)?;
     let (room, rest) = u32_at(rest)?;
@@ -208,7 +208,7 @@ fn read_queue_at(body: &[u8]) -> Result<Op, WireFault>
 }
 
 fn close_queue_at(body: &[u8]) -> Result<Op, WireFault>
-    ensures { Gives (λ op. op) result (or_bad_body (whole (number w32) close_queue_of body.now)) }
+    ensures { GivesRead (λ op. op) result (or_bad_body (whole (number w32) close_queue_of body.now)) }
 {
     let (queue, rest) = u32_at(body)?;
     ended(Op::CloseQueue { queue }, rest)
@@ -216,7 +216,7 @@ fn close_queue_at(body: &[u8]) -> Result<Op, WireFault>
 
 #[tactic(auto, unfolding(crate::specs::Frame::op_of))]
 fn op_at(alloc: Global, which: u16, body: &[u8]) -> Result<Op, WireFault>
-    ensures { Gives (λ op. op) result (op_of which body.now) }
+    ensures { GivesRead (λ op. op) result (op_of which body.now) }
 {
     match which {
         0 => get_id_at(body),
@@ -252,7 +252,7 @@ fn op_at(alloc: Global, which: u16, body: &[u8]) -> Result<Op, WireFault>
 
 #[tactic(auto, unfolding(crate::specs::Frame::framed_of))]
 fn framed_at(alloc: Global, frame: &[u8]) -> Result<Framed, WireFault>
-    ensures { Gives (λ framed. framed) result (framed_of frame.now) }
+    ensures { GivesRead (λ framed. framed) result (framed_of frame.now) }
 {
     let (version, rest) = u16_at(frame)?;
     let (which, rest) = u16_at(rest)?;
@@ -269,7 +269,7 @@ fn framed_at(alloc: Global, frame: &[u8]) -> Result<Framed, WireFault>
 /// The frame at the front, and what follows it. None where no frame is whole yet.
 #[tactic(auto, unfolding(crate::specs::Frame::front_of))]
 pub(crate) fn front_at(alloc: Global, bytes: &[u8]) -> Result<Option<(Framed, &[u8])>, WireFault>
-    ensures exact { Gives (λ o. option_map (λ x. (x.0, x.1.now)) o) result (front_of bytes.now) }
+    ensures exact { GivesRead (λ o. option_map (λ x. (x.0, x.1.now)) o) result (front_of bytes.now) }
     ensures shorter { IfOk result (λ o. IfSome o (λ x. length x.1.now < length bytes.now)) }
     ensures part { IfOk result (λ o. IfSome o
         (λ x. x.1.now ≡ drop (length bytes.now - length x.1.now) bytes.now)) }

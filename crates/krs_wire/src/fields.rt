@@ -3,7 +3,7 @@ ghost use Rattle.std.specs.Prelude.{◌≡◌, ◌==◌, length, if◌then◌els
 ghost use Rattle.std.specs.Int.{w16, w32};
 ghost use Rattle.krs_wire.specs.Bodies.{id_field, text_field, blob_field, groups_field, entry_field, entries_field};
 ghost use Rattle.krs_wire.specs.Field.{flag, number, many_read, repeated};
-ghost use Rattle.krs_wire.specs.Faulting.{Gives, or_bad_body};
+ghost use Rattle.krs_wire.specs.Faulting.{GivesRead, or_bad_body};
 
 use crate::WireFault;
 use byteorder::{ByteOrder, LittleEndian};
@@ -11,7 +11,7 @@ use krs_types::{Blob, FilterEntries, FilterEntry, Groups};
 use std::alloc::Global;
 
 pub(crate) fn u16_at(bytes: &[u8]) -> Result<(u16, &[u8]), WireFault>
-    ensures { Gives (λ x. (x.0, x.1.now)) result (or_bad_body ((number w16).read bytes.now)) }
+    ensures { GivesRead (λ x. (x.0, x.1.now)) result (or_bad_body ((number w16).read bytes.now)) }
 {
     if bytes.len() < 2 {
         return Err(WireFault::BadBody);
@@ -21,7 +21,7 @@ pub(crate) fn u16_at(bytes: &[u8]) -> Result<(u16, &[u8]), WireFault>
 }
 
 pub(crate) fn u32_at(bytes: &[u8]) -> Result<(u32, &[u8]), WireFault>
-    ensures { Gives (λ x. (x.0, x.1.now)) result (or_bad_body ((number w32).read bytes.now)) }
+    ensures { GivesRead (λ x. (x.0, x.1.now)) result (or_bad_body ((number w32).read bytes.now)) }
 {
     if bytes.len() < 4 {
         return Err(WireFault::BadBody);
@@ -31,14 +31,14 @@ pub(crate) fn u32_at(bytes: &[u8]) -> Result<(u32, &[u8]), WireFault>
 }
 
 pub(crate) fn id_at(bytes: &[u8]) -> Result<(i32, &[u8]), WireFault>
-    ensures { Gives (λ x. (x.0, x.1.now)) result (or_bad_body (id_field.read bytes.now)) }
+    ensures { GivesRead (λ x. (x.0, x.1.now)) result (or_bad_body (id_field.read bytes.now)) }
 {
     let (number, rest) = u32_at(bytes)?;
     Ok((number.cast_signed(), rest))
 }
 
 pub(crate) fn flag_at(bytes: &[u8]) -> Result<(bool, &[u8]), WireFault>
-    ensures { Gives (λ x. (x.0, x.1.now)) result (or_bad_body (flag.read bytes.now)) }
+    ensures { GivesRead (λ x. (x.0, x.1.now)) result (or_bad_body (flag.read bytes.now)) }
 {
     match bytes {
         [0, rest @ ..] => Ok((false, rest)),
@@ -48,7 +48,7 @@ pub(crate) fn flag_at(bytes: &[u8]) -> Result<(bool, &[u8]), WireFault>
 }
 
 pub(crate) fn text_at(alloc: Global, bytes: &[u8]) -> Result<(Blob, &[u8]), WireFault>
-    ensures { Gives (λ x. (x.0, x.1.now)) result (or_bad_body (text_field.read bytes.now)) }
+    ensures { GivesRead (λ x. (x.0, x.1.now)) result (or_bad_body (text_field.read bytes.now)) }
 {
     let (len, rest) = u16_at(bytes)?;
     let len = len as usize;
@@ -60,7 +60,7 @@ pub(crate) fn text_at(alloc: Global, bytes: &[u8]) -> Result<(Blob, &[u8]), Wire
 }
 
 pub(crate) fn blob_at(alloc: Global, bytes: &[u8]) -> Result<(Blob, &[u8]), WireFault>
-    ensures { Gives (λ x. (x.0, x.1.now)) result (or_bad_body (blob_field.read bytes.now)) }
+    ensures { GivesRead (λ x. (x.0, x.1.now)) result (or_bad_body (blob_field.read bytes.now)) }
 {
     let (len, rest) = u32_at(bytes)?;
     let len = len as usize;
@@ -72,7 +72,7 @@ pub(crate) fn blob_at(alloc: Global, bytes: &[u8]) -> Result<(Blob, &[u8]), Wire
 }
 
 fn numbers_at(alloc: Global, count: u32, bytes: &[u8]) -> Result<(Vec<u32>, &[u8]), WireFault>
-    ensures { Gives (λ x. (x.0.items, x.1.now)) result
+    ensures { GivesRead (λ x. (x.0.items, x.1.now)) result
         (or_bad_body (many_read (number w32) count bytes.now)) }
 {
     let mut numbers = Vec::new(alloc);
@@ -90,7 +90,7 @@ fn numbers_at(alloc: Global, count: u32, bytes: &[u8]) -> Result<(Vec<u32>, &[u8
 }
 
 pub(crate) fn groups_at(alloc: Global, bytes: &[u8]) -> Result<(Groups, &[u8]), WireFault>
-    ensures { Gives (λ x. (x.0, x.1.now)) result (or_bad_body (groups_field.read bytes.now)) }
+    ensures { GivesRead (λ x. (x.0, x.1.now)) result (or_bad_body (groups_field.read bytes.now)) }
 {
     let (count, rest) = u32_at(bytes)?;
     let (numbers, rest) = numbers_at(alloc, count, rest)?;
@@ -100,7 +100,7 @@ pub(crate) fn groups_at(alloc: Global, bytes: &[u8]) -> Result<(Groups, &[u8]), 
 /// The subtype words of a filter entry.
 #[tactic(auto, unfolding(crate::specs::Field::many_read))]
 fn subtypes_at(bytes: &[u8]) -> Result<([u32; 8], &[u8]), WireFault>
-    ensures { Gives (λ x. (x.0, x.1.now)) result (or_bad_body ((repeated 8 (number w32)).read bytes.now)) }
+    ensures { GivesRead (λ x. (x.0, x.1.now)) result (or_bad_body ((repeated 8 (number w32)).read bytes.now)) }
 {
     let (first, rest) = u32_at(bytes)?;
     let (second, rest) = u32_at(rest)?;
@@ -115,7 +115,7 @@ fn subtypes_at(bytes: &[u8]) -> Result<([u32; 8], &[u8]), WireFault>
 }
 
 fn entry_at(bytes: &[u8]) -> Result<(FilterEntry, &[u8]), WireFault>
-    ensures { Gives (λ x. (x.0, x.1.now)) result (or_bad_body (entry_field.read bytes.now)) }
+    ensures { GivesRead (λ x. (x.0, x.1.now)) result (or_bad_body (entry_field.read bytes.now)) }
 {
     let (note_type, rest) = u32_at(bytes)?;
     let (info_filter, rest) = u32_at(rest)?;
@@ -135,7 +135,7 @@ fn so_many_entries_at(
     count: u32,
     bytes: &[u8],
 ) -> Result<(Vec<FilterEntry>, &[u8]), WireFault>
-    ensures { Gives (λ x. (x.0.items, x.1.now)) result
+    ensures { GivesRead (λ x. (x.0.items, x.1.now)) result
         (or_bad_body (many_read entry_field count bytes.now)) }
 {
     let mut entries = Vec::new(alloc);
@@ -153,7 +153,7 @@ fn so_many_entries_at(
 }
 
 pub(crate) fn entries_at(alloc: Global, bytes: &[u8]) -> Result<(FilterEntries, &[u8]), WireFault>
-    ensures { Gives (λ x. (x.0, x.1.now)) result (or_bad_body (entries_field.read bytes.now)) }
+    ensures { GivesRead (λ x. (x.0, x.1.now)) result (or_bad_body (entries_field.read bytes.now)) }
 {
     let (count, rest) = u32_at(bytes)?;
     let (entries, rest) = so_many_entries_at(alloc, count, rest)?;

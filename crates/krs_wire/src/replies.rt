@@ -1,6 +1,6 @@
 ghost use Rattle.std.specs.Prelude.{◌≡◌, ◌≤◌, IfOk, IfErr, IfSome, length};
 ghost use Rattle.std.specs.Int.{w32};
-ghost use Rattle.krs_wire.specs.Faulting.{Gives};
+ghost use Rattle.krs_wire.specs.Faulting.{GivesRead};
 ghost use Rattle.krs_wire.specs.Field.{number};
 ghost use Rattle.krs_wire.specs.Reply.{answer_of, frame_of, reply_by, reply_front, reply_frame, shape_of, Finds};
 ghost use Rattle.krs_wire.specs.Reply.{IsAtFront};
@@ -49,7 +49,7 @@ pub fn encode_reply(alloc: Global, reply: &Reply) -> Result<Vec<u8>, WireFault>
 
 fn answer_at(alloc: Global, shape: Shape, body: &[u8]) -> Result<Reply, WireFault>
     requires { length body.now ≤ 262140 }
-    ensures { Gives (λ reply. reply) result (answer_of shape body.now) }
+    ensures { GivesRead (λ reply. reply) result (answer_of shape body.now) }
 {
     match shape {
         Shape::Nothing => ended(Ok(Answer::Nothing), body),
@@ -66,7 +66,7 @@ fn answer_at(alloc: Global, shape: Shape, body: &[u8]) -> Result<Reply, WireFaul
 
 fn reply_at(alloc: Global, shape: Shape, frame: &[u8]) -> Result<Reply, WireFault>
     requires { length frame.now ≤ 262144 }
-    ensures { Gives (λ reply. reply) result (reply_by shape ((number w32).read frame.now)) }
+    ensures { GivesRead (λ reply. reply) result (reply_by shape ((number w32).read frame.now)) }
 {
     let (status, body) = u32_at(frame)?;
     if status == 0 {
@@ -80,7 +80,7 @@ fn reply_at(alloc: Global, shape: Shape, frame: &[u8]) -> Result<Reply, WireFaul
 
 #[tactic(auto, unfolding(crate::specs::Reply::reply_in))]
 fn front_reply(alloc: Global, op: &Op, bytes: &[u8]) -> Result<Option<(Reply, usize)>, WireFault>
-    ensures { Gives (λ found. found) result (reply_front (shape_of op.now) bytes.now) }
+    ensures { GivesRead (λ found. found) result (reply_front (shape_of op.now) bytes.now) }
 {
     if bytes.len() < 4 {
         return Ok(None);
@@ -105,7 +105,7 @@ pub fn decode_reply(
     op: &Op,
     bytes: &[u8],
 ) -> Result<Option<(Reply, usize)>, WireFault>
-    ensures exact { Gives (λ found. found) result (reply_front (shape_of op.now) bytes.now) }
+    ensures exact { GivesRead (λ found. found) result (reply_front (shape_of op.now) bytes.now) }
 
     // What is found is spelled so.
     ensures found { IfOk result (λ o. IfSome o (IsAtFront (shape_of op.now) bytes.now)) }

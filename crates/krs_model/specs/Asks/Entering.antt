@@ -40,8 +40,8 @@ fork s client context = do
   left ← if_context_number s
   Ok (with_context s client c.caller c.session, Number s.next_context)
 
--- the other contexts of the process end, and neither it nor this one has a keyring of its own left; the session keyring
--- stays: thread-keyring(7), process-keyring(7), session-keyring(7)
+-- the other contexts of the process end, and neither it nor this one has a keyring of its own left; the session
+-- keyring stays: thread-keyring(7), process-keyring(7), session-keyring(7)
 abbrev pub execed : State → ℕ → Context → State
 execed s number c = record s {
   contexts = filter (λ e. not (e.1.process == c.process) || (e.0 == number)) (alter s.contexts number without_thread);

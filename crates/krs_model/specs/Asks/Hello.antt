@@ -26,7 +26,9 @@ has_context_left s client = if nat_le 64 (context_count client s.contexts) then 
 -- the context and the two serials that are needed have numbers left: profile, serials run out;
 -- profile, context numbers
 abbrev pub has_numbers : State → Option UidRings → Result (Unit {0}) Errno
-has_numbers s rings = if nat_lt 4294967295 s.next_context || (is_none rings && nat_lt 2147483646 s.next_serial) then Err ENOSPC else Ok tt
+has_numbers s rings =
+    if nat_lt 4294967295 s.next_context || (is_none rings && nat_lt 2147483646 s.next_serial) then Err ENOSPC
+    else Ok tt
 
 -- a keyring of a uid, by the beginning of its description; its mask is 1f3f0000: profile, masks of new keys
 abbrev pub uid_ring : List ℕ → List ℕ → Caller → Key
@@ -46,7 +48,8 @@ uid_ring prefix links c = record {
 abbrev pub with_uid : State → Caller → Option UidRings → State
 with_uid s c (Some rings) = s
 with_uid s c None = record s {
-  keys = put (put s.keys s.next_serial (uid_ring (codes "_uid.") [] c)) (s.next_serial + 1) (uid_ring (codes "_uid_ses.") (s.next_serial ∷ []) c);
+  keys = put (put s.keys s.next_serial (uid_ring (codes "_uid.") [] c)) (s.next_serial + 1)
+      (uid_ring (codes "_uid_ses.") (s.next_serial ∷ []) c);
   uids = put s.uids c.uid (record { user = Some s.next_serial; session = Some (s.next_serial + 1) });
   next_serial = s.next_serial + 2;
 }
@@ -59,7 +62,8 @@ first_session next (Some rings) = rings.session
 -- a context in a process of its own
 abbrev pub with_context : State → ℕ → Caller → Option ℕ → State
 with_context s client c session = record s {
-  contexts = put s.contexts s.next_context (record { client = client; process = s.next_context; caller = c; thread = None; session = session });
+  contexts = put s.contexts s.next_context
+      (record { client = client; process = s.next_context; caller = c; thread = None; session = session });
   processes = put s.processes s.next_context None;
   next_context = s.next_context + 1;
 }

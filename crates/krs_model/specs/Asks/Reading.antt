@@ -1,5 +1,6 @@
 -- READ and DESCRIBE: keyctl(2), KEYCTL_READ and KEYCTL_DESCRIBE.
-use Rattle.std.specs.Prelude.{ℕ, ℤ, ◌+◌, ◌/◌, ◌%◌, nat_lt, if◌then◌else◌, List, [], ◌∷◌, ◌++◌, Result, Ok, Err, decimal}
+use Rattle.std.specs.Prelude.{ℕ, ℤ, ◌+◌, ◌/◌, ◌%◌, nat_lt, if◌then◌else◌, List, [], ◌∷◌, ◌++◌, Result, Ok, Err}
+use Rattle.std.specs.Prelude.{decimal}
 use Rattle.std.specs.Prelude.{flat_map}
 use Rattle.std.specs.Int.{w32, to_le_bytes}
 use Rattle.krs_types.specs.declared.errno.Errno.{Errno}
@@ -42,12 +43,15 @@ hex_digit n = if nat_lt n 10 then n + 48 else n + 87
 -- eight of them, the highest first
 abbrev pub hex_8 : ℕ → List ℕ
 hex_8 n =
-    hex_digit (n / 268435456 % 16) ∷ hex_digit (n / 16777216 % 16) ∷ hex_digit (n / 1048576 % 16) ∷ hex_digit (n / 65536 % 16)
+    hex_digit (n / 268435456 % 16) ∷ hex_digit (n / 16777216 % 16) ∷ hex_digit (n / 1048576 % 16)
+    ∷ hex_digit (n / 65536 % 16)
     ∷ hex_digit (n / 4096 % 16) ∷ hex_digit (n / 256 % 16) ∷ hex_digit (n / 16 % 16) ∷ hex_digit (n % 16) ∷ []
 
 -- type;uid;gid;perm;description: KEYCTL_DESCRIBE; profile, describe without null; profile, whole answers
 abbrev pub description : Key → List ℕ
-description key = kind_name key.kind ++ (59 ∷ (decimal key.uid ++ (59 ∷ (decimal key.gid ++ (59 ∷ (hex_8 key.perm ++ (59 ∷ key.desc)))))))
+description key =
+    kind_name key.kind
+    ++ (59 ∷ (decimal key.uid ++ (59 ∷ (decimal key.gid ++ (59 ∷ (hex_8 key.perm ++ (59 ∷ key.desc)))))))
 
 -- a key that grants VIEW, as text: KEYCTL_DESCRIBE
 unfoldable pub describe : State → ℕ → ℕ → ℤ → Outcome

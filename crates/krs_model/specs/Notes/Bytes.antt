@@ -1,5 +1,5 @@
--- The bytes of a record of a watch queue, all words little-endian: uapi linux/watch_queue.h, struct watch_notification,
--- struct watch_notification_removal and struct key_notification.
+-- The bytes of a record of a watch queue, all words little-endian: uapi linux/watch_queue.h, struct
+-- watch_notification, struct watch_notification_removal and struct key_notification.
 use Rattle.std.specs.Prelude.{◌≡◌, ℕ, ◌+◌, ◌*◌, ◌^◌, ◌<◌, Bool, true, false, List, [], ◌∷◌, ◌++◌}
 use Rattle.std.specs.Int.{w32, w64, to_le_bytes}
 use Rattle.krs_types.specs.declared.note.Record.{Record}

@@ -32,7 +32,8 @@ has_subtype entry s = slice_index entry.subtypes (s / 32) / 2 ^ (s % 32) % 2 == 
 -- it asks for this type, of which all 32 bits count, for this subtype, and for these bits of info under its mask
 abbrev pub asks_for : FilterEntry → ℕ → ℕ → ℕ → Bool
 asks_for entry note_type subtype info =
-    (entry.note_type == note_type) && (has_subtype entry subtype && (bit_and info entry.info_mask == entry.info_filter))
+    (entry.note_type == note_type) &&
+    (has_subtype entry subtype && (bit_and info entry.info_mask == entry.info_filter))
 
 -- it asks for this record; one that asks for a type that no record has matches nothing: profile, unknown note types
 abbrev pub matches : FilterEntry → Record → Bool

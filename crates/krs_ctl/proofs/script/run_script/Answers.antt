@@ -13,5 +13,6 @@ returns g c = record {
   left = refl;
   behind = c.run-stopped.ensures.behind;
   shows = c.run-stopped.ensures.shows;
-  ends = script_ends _ _ _ _ _ _ _ _ _ c.new-pending.ensures.items c.run-stopped.ensures.prints c.finish-status.ensures;
+  ends =
+      script_ends _ _ _ _ _ _ _ _ _ c.new-pending.ensures.items c.run-stopped.ensures.prints c.finish-status.ensures;
 }

@@ -7,4 +7,5 @@ returns-clause-value c = rw (← c.self.view_is) (omega
     (arith, total_room-waiting c.self.inside.owed c.self.inside.slots.items c.self.invariant.kept))
 
 pub returns-clause-fits : goal.returns-clause-fits
-returns-clause-fits c = rw (← c.self.view_is) (omega (arith, size-waiting c.self.inside.owed c.self.inside.slots.items))
+returns-clause-fits c =
+    rw (← c.self.view_is) (omega (arith, size-waiting c.self.inside.owed c.self.inside.slots.items))
