@@ -10,7 +10,7 @@ use Rattle.krs_types.specs.declared.ask.Answer.{Answer}
 use Rattle.krs_types.specs.declared.ask.Answer.TheVariants.{Nothing, Number, Bytes}
 use Rattle.krs_model.specs.State.{State}
 use Rattle.krs_model.specs.Step.{Step}
-use Rattle.krs_store.specs.Told.{event_of}
+use Rattle.krs_model.specs.History.{event_of}
 use Rattle.krs_ctl.specs.declared.command.Command.{Command}
 use Rattle.krs_ctl.specs.declared.command.Command.TheVariants.{Context, Moment, Ask, Rlist, Readq}
 use Rattle.krs_ctl.specs.declared.output.Output.{Output}

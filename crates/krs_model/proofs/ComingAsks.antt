@@ -27,7 +27,8 @@ use Rattle.krs_model.specs.Asks.Hello.{hello, uid_ring, with_uid, with_context, 
 use Rattle.krs_model.specs.Linking.{linking, link_named, has_room, ring_links}
 use Rattle.krs_model.specs.Asks.Entering.{thread, fork, exec, execed, if_context_number}
 use Rattle.krs_model.specs.Asks.Joining.{join, joinable, joined_to, session_named, session_ring, session_joined}
-use Rattle.krs_model.specs.Asks.Finding.{get_id, got, made_where, is_wanted, if_linkable, found_into, found_alone}
+use Rattle.krs_model.specs.Asks.Finding.{get_id, got, made_where, if_linkable, found_into, found_alone}
+use Rattle.krs_types.specs.Growth.{has_destination}
 use Rattle.krs_model.specs.Asks.Finding.{search_from, searched_for, sought_into, request, requested_for}
 use Rattle.krs_model.specs.Asks.Finding.{requested_into, sought_name}
 use Rattle.krs_model.specs.Asks.Adding.{Place, Updated, Made, add, added, added_in, admitted, made, new_key, place_of}
@@ -208,7 +209,7 @@ searched_for_comes :
     → Keeps s (searched_for s number c head name dest)
 searched_for_comes s number c head name dest =
     let made = made_for s number c dest in
-    keeps_either (is_wanted dest) _ _
+    keeps_either (has_destination dest) _ _
     (keeps_from (made_for_comes s number c dest) (sought_into_comes made.0 made.1 head name dest))
     (keeps_after (ring_links head.1.content) _ (λ links. found_alone_comes s (found s c head.0 name)))
 
@@ -232,7 +233,7 @@ requested_for_comes :
     (s : State) (number : ℕ) (c : Context) (name : Name) (dest : ℤ) → Keeps s (requested_for s number c name dest)
 requested_for_comes s number c name dest =
     let made = made_for s number c dest in
-    keeps_either (is_wanted dest) _ _
+    keeps_either (has_destination dest) _ _
     (keeps_from (made_for_comes s number c dest) (requested_into_comes made.0 made.1 name dest))
     (found_alone_comes s (requested s c name))
 

@@ -1,6 +1,6 @@
 -- A reply leads to one state, and a history to one: what is called for of a queue and taken from it is determined.
 -- So is the reply, want of memory aside.
-use Rattle.std.proofs.Common.{◌≡◌, ℕ, List, [], ◌∷◌, ◌++◌, map, true, Result, Ok, Err, refl, ap, ◌∙◌, sym, subst}
+use Rattle.std.proofs.Common.{◌≡◌, ℕ, List, [], ◌∷◌, ◌++◌, map, Result, Ok, Err, refl, ap, ◌∙◌, sym, subst}
 use Rattle.std.proofs.Common.{⊎_elim}
 use Rattle.std.specs.Prelude.{◌≢◌}
 use Rattle.krs_types.specs.declared.errno.Errno.{Errno}
@@ -14,7 +14,7 @@ use Rattle.krs_model.specs.State.{State, raised}
 use Rattle.krs_model.specs.Sound.{IsSound}
 use Rattle.krs_model.specs.Sweep.{IsSweep}
 use Rattle.krs_model.specs.Outcome.{Outcome}
-use Rattle.krs_model.specs.Step.{Step, Serves, Ends, outcome_of, grows, posts_by}
+use Rattle.krs_model.specs.Step.{Step, Serves, Ends, LacksMemory, outcome_of, posts_by}
 use Rattle.krs_model.specs.History.{IsLegal}
 use Rattle.krs_model.specs.Receiving.{called_for, Takes, HasMoves, NoMoves, FurtherMoves}
 use Rattle.krs_model.specs.Notes.Posting.{posted_in}
@@ -58,7 +58,7 @@ reply_is s new client context op (Ok answer) ends memory = sym (ap replied ends.
 reply_is s new client context op (Err e) ends memory =
     let error : Errno → Result Answer Errno = λ x. Err x in
     ⊎_elim (λ (meant : outcome_of s client context op ≡ Err e). sym (ap replied meant))
-    (λ (wanting : (e ≡ ENOMEM) × (grows op ≡ true)). absurd (memory (ap error wanting.0))) ends.0
+    (λ (wanting : LacksMemory op e (outcome_of s client context op)). absurd (memory (ap error wanting.0))) ends.0
 
 -- what is asked of a state is answered with one reply, but for want of memory
 pub one_reply :

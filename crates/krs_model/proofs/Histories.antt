@@ -8,7 +8,8 @@ use Rattle.krs_types.specs.declared.note.Record.{Record}
 use Rattle.krs_model.specs.Table.{at}
 use Rattle.krs_model.specs.State.{State, Queue}
 use Rattle.krs_model.specs.Sound.{IsSound}
-use Rattle.krs_model.specs.Receiving.{called_for, HasMoves, NoMoves, FurtherMoves, IsOpening, IsOpened, IsBeginning}
+use Rattle.krs_model.specs.Lists.{Begins}
+use Rattle.krs_model.specs.Receiving.{called_for, HasMoves, NoMoves, FurtherMoves, IsOpening, IsOpened, GivesStreams}
 use Rattle.krs_model.specs.Notes.Stream.{Move, Posted, Took, taken, stream}
 use Rattle.krs_model.specs.Notes.Waiting.{is_capacity, MovesTo}
 use Rattle.krs_model.specs.Asks.Watching.{new_queue}
@@ -111,7 +112,7 @@ opened_later q capacity _ _ _ _ (FurtherMoves s next end event events took moves
     omega arith) opened
 
 -- from where it is opened on
-record Begins (capacity : ℕ) (moves : List Move) (q : ℕ) (end : State) : Type 0 where
+record BegunBy (capacity : ℕ) (moves : List Move) (q : ℕ) (end : State) : Type 0 where
   some : 1 ≤ capacity
   leads : MovesReach (new_queue 0 capacity) moves q end
 
@@ -126,7 +127,7 @@ same_leads client capacity q moves end leads =
 
 opened_moves :
     (q capacity : ℕ) (s : State) (events : List Event) (moves : List Move) (end : State)
-    → HasMoves q s events moves end → IsSound s → IsOpened q capacity events → Begins capacity moves q end
+    → HasMoves q s events moves end → IsSound s → IsOpened q capacity events → BegunBy capacity moves q end
 opened_moves q capacity _ _ _ _ (NoMoves s) sound opened = absurd opened
 opened_moves q capacity _ _ _ _ (FurtherMoves s next end event events took moves step takes rest) sound opened =
     let rs = called_for q s event next in
@@ -142,11 +143,11 @@ opened_moves q capacity _ _ _ _ (FurtherMoves s next end event events took moves
     let good : is_capacity capacity ≡ true = (further.orderly.queues q queue is.1).capacity in
     let leads = same_leads event.lane capacity q moves end
     (open_moves q next events moves end queue rest further is.1) in
-    subst (λ (all : List Move). Begins capacity all q end) (sym (quiet (omega arith)))
+    subst (λ (all : List Move). BegunBy capacity all q end) (sym (quiet (omega arith)))
     (record { some = some_capacity capacity good; leads = leads }))
     (λ (later : IsOpened q capacity events).
     let above : next.next_queue ≤ q = opened_later q capacity next events moves end rest further later in
-    subst (λ (all : List Move). Begins capacity all q end) (sym (quiet (omega arith)))
+    subst (λ (all : List Move). BegunBy capacity all q end) (sym (quiet (omega arith)))
     (opened_moves q capacity next events moves end rest further later)) opened
 
 -- of a queue that is open, what was taken and what waits is the stream
@@ -163,7 +164,13 @@ open_streams start end events moves q capacity queue sound has opened there =
 pub begun_streams :
     (start end : State) (events : List Event) (moves : List Move) (q capacity : ℕ) → IsSound start
     → HasMoves q start events moves end → IsOpened q capacity events
-    → IsBeginning (taken moves) (stream capacity moves)
+    → Begins (taken moves) (stream capacity moves)
 begun_streams start end events moves q capacity sound has opened =
     let begun = opened_moves q capacity start events moves end has sound opened in
-    (begun.leads.after, sym (gives_its_stream capacity moves begun.leads.after begun.some begun.leads.moves_to))
+    (begun.leads.after, (gives_its_stream capacity moves begun.leads.after begun.some begun.leads.moves_to))
+
+pub gives_streams : (start : State) → IsSound start → GivesStreams start
+gives_streams start sound = record {
+  still_open = λ end events moves q capacity queue. open_streams start end events moves q capacity queue sound;
+  begun = λ end events moves q capacity. begun_streams start end events moves q capacity sound;
+}

@@ -45,6 +45,7 @@ pub mod Receiving
 pub mod Numbers
 pub mod ReadRecords
 pub mod Histories
+pub mod Legal
 pub mod Determined
 pub mod Swept
 pub mod Ordering

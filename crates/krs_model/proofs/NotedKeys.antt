@@ -33,7 +33,8 @@ use Rattle.krs_model.specs.Outcome.{Outcome}
 use Rattle.krs_model.specs.Step.{outcome_of}
 use Rattle.krs_model.specs.Making.{made_for}
 use Rattle.krs_model.specs.Notes.Telling.{named, about, about_link, about_added, about_found, notes_of}
-use Rattle.krs_model.specs.Asks.Finding.{search_from, request, is_wanted, sought_name, if_linkable, found_into}
+use Rattle.krs_model.specs.Asks.Finding.{search_from, request, sought_name, if_linkable, found_into}
+use Rattle.krs_types.specs.Growth.{has_destination}
 use Rattle.krs_model.specs.Asks.Finding.{searched_for, sought_from, sought_into, requested_for, requested_into}
 use Rattle.krs_model.specs.Asks.Finding.{found_alone}
 use Rattle.krs_model.specs.Asks.Adding.{Place, Updated, Made, add, added, added_serial, admitted}
@@ -175,7 +176,7 @@ requested_into_there s new c name dest answer h =
 -- where a destination is wanted
 search_there :
     (s new : State) (client context : ℕ) (head : ℤ) (type_name desc : List ℕ) (dest : ℤ) (answer : Answer)
-    → is_wanted dest ≡ true → search_from s client context head type_name desc dest ≡ Ok (new, answer)
+    → has_destination dest ≡ true → search_from s client context head type_name desc dest ≡ Ok (new, answer)
     → IsThere new answer
 unfolding search_from
 search_there s new client context head type_name desc dest answer wanted h =
@@ -189,7 +190,7 @@ search_there s new client context head type_name desc dest answer wanted h =
 
 request_there :
     (s new : State) (client context : ℕ) (type_name desc : List ℕ) (dest : ℤ) (answer : Answer)
-    → is_wanted dest ≡ true → request s client context type_name desc dest ≡ Ok (new, answer) → IsThere new answer
+    → has_destination dest ≡ true → request s client context type_name desc dest ≡ Ok (new, answer) → IsThere new answer
 unfolding request
 request_there s new client context type_name desc dest answer wanted h =
     let a = bind_ok (context_of s client context) _ (new, answer) h in
@@ -311,10 +312,10 @@ module _ (s mid : State) (client context : ℕ) (few : IsBelow mid.keys 21474836
   notes_small (GetId id create) answer h = tt
   notes_small (Join name) answer h = tt
   notes_small (Search head type_name desc dest) answer h =
-      wanted_small (is_wanted dest) (named s client context dest) answer
+      wanted_small (has_destination dest) (named s client context dest) answer
       (λ wanted. search_there s mid client context head type_name desc dest answer wanted h)
   notes_small (Request type_name desc dest) answer h =
-      wanted_small (is_wanted dest) (named s client context dest) answer
+      wanted_small (has_destination dest) (named s client context dest) answer
       (λ wanted. request_there s mid client context type_name desc dest answer wanted h)
   notes_small (Add type_name desc payload ring) answer h =
       added_small (named s client context ring) answer

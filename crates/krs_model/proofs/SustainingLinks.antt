@@ -25,7 +25,8 @@ use Rattle.krs_model.specs.Making.{with_new, made_for}
 use Rattle.krs_model.specs.Asks.Hello.{has_context_left}
 use Rattle.krs_model.specs.Asks.Entering.{thread, fork, exec, without_thread, if_context_number}
 use Rattle.krs_model.specs.Asks.Joining.{join, joinable, session_named, session_joined}
-use Rattle.krs_model.specs.Asks.Finding.{get_id, got, made_where, is_wanted, if_linkable, found_into, found_alone}
+use Rattle.krs_model.specs.Asks.Finding.{get_id, got, made_where, if_linkable, found_into, found_alone}
+use Rattle.krs_types.specs.Growth.{has_destination}
 use Rattle.krs_model.specs.Asks.Finding.{search_from, searched_for, sought_into, request, requested_for}
 use Rattle.krs_model.specs.Asks.Finding.{requested_into, sought_name}
 use Rattle.krs_model.specs.Asks.Adding.{Place, Updated, Made, add, added, added_in, made, new_key, first_content}
@@ -124,7 +125,7 @@ searched_for_stands :
     → Sustains (searched_for s number c head name dest)
 searched_for_stands s number c head name dest stands =
     let made = made_for s number c dest in
-    sustains_either (is_wanted dest) _ _
+    sustains_either (has_destination dest) _ _
     (sought_into_stands made.0 made.1 head name dest (made_for_stands s number c dest stands))
     (sustains_after (ring_links head.1.content) _ (λ links _. found_alone_stands s (found s c head.0 name) stands))
 
@@ -149,7 +150,7 @@ requested_for_stands :
     → Sustains (requested_for s number c name dest)
 requested_for_stands s number c name dest stands =
     let made = made_for s number c dest in
-    sustains_either (is_wanted dest) _ _
+    sustains_either (has_destination dest) _ _
     (requested_into_stands made.0 made.1 name dest (made_for_stands s number c dest stands))
     (found_alone_stands s (requested s c name) stands)
 

@@ -1,3 +1,4 @@
+pub mod Lists
 pub mod Table
 pub mod State
 pub mod Access

@@ -1,5 +1,5 @@
 -- What a queue gives to its reader over a history: core-api/watch_queue.rst, "Watch Queue (Notification Output) API".
-use Rattle.std.specs.Prelude.{◌≡◌, ◌⊎◌, ℕ, List, [], ◌∷◌, ◌++◌, map, Result, Ok, Err}
+use Rattle.std.specs.Prelude.{◌≡◌, ◌⊎◌, ℕ, List, [], ◌∷◌, ◌++◌, map, Option, Some, Result, Ok, Err}
 use Rattle.krs_types.specs.declared.errno.Errno.{Errno}
 use Rattle.krs_types.specs.declared.note.Record.{Record}
 use Rattle.krs_types.specs.declared.ask.Answer.{Answer}
@@ -7,12 +7,13 @@ use Rattle.krs_types.specs.declared.ask.Answer.TheVariants.{Number, Bytes}
 use Rattle.krs_types.specs.declared.ask.Op.{Op}
 use Rattle.krs_types.specs.declared.ask.Op.TheVariants.{OpenQueue, ReadQueue}
 use Rattle.krs_types.specs.declared.event.Event.{Event}
-use Rattle.krs_model.specs.Table.{Table}
-use Rattle.krs_model.specs.State.{State, Key, raised}
+use Rattle.krs_model.specs.Table.{Table, at}
+use Rattle.krs_model.specs.State.{State, Key, Queue, raised}
 use Rattle.krs_model.specs.Step.{Step, posts_by}
 use Rattle.krs_model.specs.Notes.Bytes.{AllFit, bytes_of_all}
 use Rattle.krs_model.specs.Notes.Posting.{records_for}
-use Rattle.krs_model.specs.Notes.Stream.{Move, Posted, Took}
+use Rattle.krs_model.specs.Notes.Stream.{Move, Posted, Took, taken, stream}
+use Rattle.krs_model.specs.Lists.{Begins}
 
 -- what an ask calls for of a queue: nothing where it is refused, or found no memory
 abbrev pub called : ℕ → State → ℕ → ℕ → Op → Result Answer Errno → Table Key → List Record
@@ -54,6 +55,14 @@ abbrev pub IsOpened : ℕ → ℕ → List Event → Type 0
 IsOpened q capacity [] = ⊥
 IsOpened q capacity (event ∷ events) = (IsOpening q capacity event) ⊎ (IsOpened q capacity events)
 
--- a list is another one, and something behind it
-abbrev pub IsBeginning : List Record → List Record → Type 0
-IsBeginning front whole = (rest : List Record) × (whole ≡ front ++ rest)
+-- In every legal history from this state: of a queue that was opened in it and is still open, what was read, followed
+-- by what waits, is the stream of the records that it called for; of any queue opened in it, what was read begins that
+-- stream.
+pub record GivesStreams (start : State) : Type 0 where
+  pub still_open :
+      (end : State) (events : List Event) (moves : List Move) (q capacity : ℕ) (queue : Queue)
+      → HasMoves q start events moves end → IsOpened q capacity events → at end.queues q ≡ Some queue
+      → taken moves ++ queue.waiting ≡ stream capacity moves
+  pub begun :
+      (end : State) (events : List Event) (moves : List Move) (q capacity : ℕ) → HasMoves q start events moves end
+      → IsOpened q capacity events → Begins (taken moves) (stream capacity moves)

@@ -1,6 +1,6 @@
 -- One step of a store: an ask that is served at a moment, and its reply. The form is this project's own; what each
 -- ask means has its source where the ask is defined.
-use Rattle.std.specs.Prelude.{◌≡◌, ℕ, List, [], ◌++◌, Result, Ok, Err, ◌⊎◌, Bool, true, false}
+use Rattle.std.specs.Prelude.{◌≡◌, ℕ, List, [], ◌++◌, Result, Ok, Err, ◌⊎◌, true}
 use Rattle.krs_types.specs.declared.errno.Errno.{Errno}
 use Rattle.krs_types.specs.declared.errno.Errno.TheVariants.{ENOMEM}
 use Rattle.krs_types.specs.declared.ask.Answer.{Answer}
@@ -11,6 +11,7 @@ use Rattle.krs_types.specs.declared.ask.Op.TheVariants.{Update, Revoke, Invalida
 use Rattle.krs_types.specs.declared.ask.Op.TheVariants.{Unlink, Clear, Read, Describe, Watch, OpenQueue, SetFilter}
 use Rattle.krs_types.specs.declared.ask.Op.TheVariants.{ReadQueue, CloseQueue, Exit, Leave}
 use Rattle.krs_types.specs.declared.event.Event.{Event}
+use Rattle.krs_types.specs.Growth.{grows_meanwhile, MayLackMemory}
 use Rattle.krs_model.specs.Table.{Table}
 use Rattle.krs_model.specs.State.{State, Key, raised}
 use Rattle.krs_model.specs.Queues as queues
@@ -61,37 +62,6 @@ outcome_of s client context (CloseQueue queue) = close_queue s client queue
 outcome_of s client context Exit = exit s client context
 outcome_of s client context Leave = Ok (left s client, Nothing)
 
--- Asks that may find no memory. So far every ask but EXEC, EXIT, LEAVE and CLOSE_QUEUE counts as one: a look-up's walk
--- takes memory, until keys have places and a walk has its room beforehand.
-abbrev pub grows : Op → Bool
-grows (Hello caller) = true
-grows Thread = true
-grows Fork = true
-grows Exec = false
-grows (GetId id create) = true
-grows (Join name) = true
-grows (Search head type_name desc dest) = true
-grows (Request type_name desc dest) = true
-grows (Add type_name desc payload ring) = true
-grows (Update id payload) = true
-grows (Revoke id) = true
-grows (Invalidate id) = true
-grows (Chown id uid gid) = true
-grows (SetPerm id mask) = true
-grows (SetTimeout id seconds) = true
-grows (Link key ring) = true
-grows (Unlink key ring) = true
-grows (Clear id) = true
-grows (Read id) = true
-grows (Describe id) = true
-grows (Watch id queue watch_id) = true
-grows (OpenQueue capacity) = true
-grows (SetFilter queue entries) = true
-grows (ReadQueue queue room) = true
-grows (CloseQueue queue) = false
-grows Exit = false
-grows Leave = false
-
 -- the watches that an accepted ask leaves, before the sweep
 abbrev pub watches_left : Outcome → List queues.Watch
 watches_left (Err e) = []
@@ -112,13 +82,16 @@ pub record Serves (s : State) (client context : ℕ) (op : Op) (answer : Answer)
   pub sweep : IsSweep mid swept
   pub posted : new ≡ posted_in (posts_by s client context op answer swept.keys) swept
 
--- A refusal leaves everything as it was: profile, refusals change nothing. Want of memory is lawful for an ask that
--- may grow: profile, want of memory; so far also in the place of a refusal, as the walk that finds the refusal may
--- want it.
+-- ENOMEM, of an ask that may find none, in the place of what it comes to
+abbrev pub LacksMemory : Op → Errno → Outcome → Type 0
+LacksMemory op e meant = (e ≡ ENOMEM) × (grows_meanwhile op ≡ true) × MayLackMemory meant
+
+-- A refusal leaves everything as it was: profile, refusals change nothing. So does ENOMEM, which is lawful for an ask
+-- that may find no memory: profile, want of memory
 abbrev pub Ends : State → ℕ → ℕ → Op → Result Answer Errno → State → Type 0
 Ends s client context op (Ok answer) new = Serves s client context op answer new
 Ends s client context op (Err e) new =
-    ((outcome_of s client context op ≡ Err e) ⊎ ((e ≡ ENOMEM) × (grows op ≡ true))) × (new ≡ s)
+    ((outcome_of s client context op ≡ Err e) ⊎ LacksMemory op e (outcome_of s client context op)) × (new ≡ s)
 
 -- from old to new by one event: its lane is the client. The clock is raised first, whatever comes of the ask:
 -- profile, one clock

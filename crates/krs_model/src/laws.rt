@@ -27,9 +27,9 @@ ghost use Rattle.krs_model.specs.Step.{Step, Serves, outcome_of};
 ghost use Rattle.krs_model.specs.Serving.{Tells, SweepsOut};
 ghost use Rattle.krs_model.specs.History.{IsLegal};
 ghost use Rattle.krs_model.specs.Revocation.{IsOfKey, StaysUnread};
-ghost use Rattle.krs_model.specs.Receiving.{HasMoves, IsOpened, IsBeginning};
+ghost use Rattle.krs_model.specs.Receiving.{HasMoves, GivesStreams};
 ghost use Rattle.krs_model.specs.Ordering.{GoByQueue};
-ghost use Rattle.krs_model.specs.Notes.Stream.{Move, taken, stream};
+ghost use Rattle.krs_model.specs.Notes.Stream.{Move};
 ghost use Rattle.krs_model.specs.Notes.Posting.{Note, posts_of, dropped_watches};
 ghost use Rattle.krs_model.specs.Notes.Telling.{ended_by};
 ghost use Rattle.krs_model.specs.Asks.Watching.{read_queue};
@@ -187,10 +187,5 @@ pub fn histories_move_queues()
 /// was kept wherever some were dropped. Of any queue that was opened, what was read begins that stream.
 /// core-api/watch_queue.rst, "Watch Queue (Notification Output) API".
 pub fn queues_give_their_streams()
-    ensures open { (start end : State) (events : List Event) (moves : List Move) (q capacity : ℕ) (queue : Queue)
-        → IsSound start → HasMoves q start events moves end → IsOpened q capacity events
-        → at end.queues q ≡ Some queue → taken moves ++ queue.waiting ≡ stream capacity moves }
-    ensures begun { (start end : State) (events : List Event) (moves : List Move) (q capacity : ℕ)
-        → IsSound start → HasMoves q start events moves end → IsOpened q capacity events
-        → IsBeginning (taken moves) (stream capacity moves) }
+    ensures { (start : State) → IsSound start → GivesStreams start }
 {}

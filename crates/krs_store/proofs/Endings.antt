@@ -1,5 +1,5 @@
 -- EXEC and EXIT are refused where the context is not the client's, CLOSE_QUEUE where the queue is not, and for
--- nothing else.
+-- nothing else; so no refusal of theirs is ENOMEM.
 use Rattle.std.proofs.Common.{◌≡◌, ◌==◌, ℕ, true, false, Option, None, Some, Result, Ok, Err, cond, subst}
 use Rattle.krs_types.specs.declared.errno.Errno.{Errno}
 use Rattle.krs_types.specs.declared.errno.Errno.TheVariants.{ESRCH, EBADF, ENOMEM}
@@ -7,7 +7,8 @@ use Rattle.krs_types.specs.declared.context.Context.{Context}
 use Rattle.krs_types.specs.declared.ask.Answer.{Answer}
 use Rattle.krs_types.specs.declared.ask.Answer.TheVariants.{Nothing}
 use Rattle.krs_types.specs.declared.ask.Op.{Op}
-use Rattle.krs_types.specs.declared.ask.Op.TheVariants.{Exec, Exit, CloseQueue}
+use Rattle.krs_types.specs.declared.ask.Op.TheVariants.{Exec, Exit, CloseQueue, Leave}
+use Rattle.krs_types.specs.Growth.{grows_meanwhile}
 use Rattle.krs_types.specs.Refusing.{◌>>=◌, or_refuse}
 use Rattle.krs_model.specs.Table.{at}
 use Rattle.krs_model.specs.State.{State, Queue}
@@ -57,20 +58,6 @@ exit_fault s client number e h =
     context_fault s client number e (accepted_fault (context_of s client number)
     (λ c. end_of (exited s number c)) e h)
 
--- a refusal of EXEC is not want of memory
-pub exec_refuses :
-    (s : State) (client number : ℕ) (op : Op) (e : Errno) → outcome_of s client number op ≡ Err e → op ≡ Exec
-    → ◌≡◌ {A = Result Answer Errno} (Err e) (Err ENOMEM) → ⊥
-exec_refuses s client number op e h is =
-    no_memory e (exec_fault s client number e (subst (λ (o : Op). outcome_of s client number o ≡ Err e) is h))
-
--- nor is one of EXIT
-pub exit_refuses :
-    (s : State) (client number : ℕ) (op : Op) (e : Errno) → outcome_of s client number op ≡ Err e → op ≡ Exit
-    → ◌≡◌ {A = Result Answer Errno} (Err e) (Err ENOMEM) → ⊥
-exit_refuses s client number op e h is =
-    no_memory e (exit_fault s client number e (subst (λ (o : Op). outcome_of s client number o ≡ Err e) is h))
-
 foreign_queue :
     (client : ℕ) (o : Option Queue) (e : Errno) → (or_refuse EBADF o >>= if_own_queue client) ≡ Err e → EBADF ≡ e
 foreign_queue client None e h = cc
@@ -95,10 +82,13 @@ close_fault s client number e h =
 bad_is_no_memory : (e : Errno) → EBADF ≡ e → ◌≡◌ {A = Result Answer Errno} (Err e) (Err ENOMEM) → ⊥
 bad_is_no_memory e is h = absurd cc
 
--- nor is one of CLOSE_QUEUE
-pub close_refuses :
-    (s : State) (client number : ℕ) (op : Op) (queue : ℕ) (e : Errno) → outcome_of s client number op ≡ Err e
-    → op ≡ CloseQueue queue → ◌≡◌ {A = Result Answer Errno} (Err e) (Err ENOMEM) → ⊥
-close_refuses s client number op queue e h is =
-    bad_is_no_memory e
-    (close_fault s client queue e (subst (λ (o : Op). outcome_of s client number o ≡ Err e) is h))
+-- a refusal of an ask that never lacks memory is not ENOMEM
+pub refusal_is_no_memory :
+    (s : State) (client context : ℕ) (op : Op) (e : Errno) → grows_meanwhile op ≡ false
+    → outcome_of s client context op ≡ Err e → ◌≡◌ {A = Result Answer Errno} (Err e) (Err ENOMEM) → ⊥
+refusal_is_no_memory s client context Exec e never h = no_memory e (exec_fault s client context e h)
+refusal_is_no_memory s client context Exit e never h = no_memory e (exit_fault s client context e h)
+refusal_is_no_memory s client context (CloseQueue queue) e never h =
+    bad_is_no_memory e (close_fault s client queue e h)
+refusal_is_no_memory s client context Leave e never h = λ _. cc
+refusal_is_no_memory s client context op e never h = λ _. cc

@@ -26,7 +26,8 @@ use Rattle.krs_model.specs.Outcome.{Outcome, Fails}
 use Rattle.krs_model.specs.Asks.Changing.{changed}
 use Rattle.krs_model.specs.Asks.Linked.{name_of, nestable, linked_into}
 use Rattle.krs_model.specs.Asks.Finding.{search_from, request, sought_name, sought_into, requested_into, found_into}
-use Rattle.krs_model.specs.Asks.Finding.{if_linkable, is_wanted}
+use Rattle.krs_model.specs.Asks.Finding.{if_linkable}
+use Rattle.krs_types.specs.Growth.{has_destination}
 use Rattle.krs_store.specs.Linked.{room_in}
 use Rattle.krs_store.specs.Found.{if_granted, link_found}
 use Rattle.krs_store.proofs.Served.{IsFoundRing, within_as}
@@ -84,7 +85,7 @@ pub record Seeks (s : State) (client number : ℕ) (head : ℤ) (type_name desc 
   pub named : sought_name type_name desc ≡ Ok name
   pub from_found : look_up s c head (Granted SEARCH) ≡ Ok from
   pub made : made_for s number c dest ≡ (s, c)
-  pub wanted : is_wanted dest ≡ true
+  pub wanted : has_destination dest ≡ true
 
 pub search_is :
     (s : State) (client number : ℕ) (head : ℤ) (type_name desc : List ℕ) (dest : ℤ) (c : Context) (name : Name)
@@ -96,7 +97,7 @@ search_is s client number head type_name desc dest c name from seeks =
     rw (seeks.own, seeks.named, seeks.from_found, seeks.wanted, seeks.made) refl
 
 -- a number that is not 0 is a destination
-pub wanted_of : (z : ℤ) → (of_z w32 z ≡ 0 → ⊥) → is_wanted z ≡ true
+pub wanted_of : (z : ℤ) → (of_z w32 z ≡ 0 → ⊥) → has_destination z ≡ true
 wanted_of (pos zero) h = absurd (h refl)
 wanted_of (pos (suc n)) h = refl
 wanted_of (negsuc n) h = refl
@@ -163,7 +164,7 @@ pub record Requests (s : State) (client number : ℕ) (type_name desc : List ℕ
   pub own : context_of s client number ≡ Ok c
   pub named : sought_name type_name desc ≡ Ok name
   pub made : made_for s number c dest ≡ (s, c)
-  pub wanted : is_wanted dest ≡ true
+  pub wanted : has_destination dest ≡ true
 
 pub requests :
     (s : State) (client number : ℕ) (type_name desc : List ℕ) (dest : ℤ) (c : Context) (name : Name)

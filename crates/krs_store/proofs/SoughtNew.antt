@@ -32,7 +32,8 @@ use Rattle.krs_model.specs.Outcome.{Outcome, Fails}
 use Rattle.krs_model.specs.Asks.Changing.{changed}
 use Rattle.krs_model.specs.Asks.Linked.{unless, name_of, linked_into}
 use Rattle.krs_model.specs.Asks.Finding.{search_from, request, sought_name, sought_into, requested_into, found_into}
-use Rattle.krs_model.specs.Asks.Finding.{if_linkable, is_wanted}
+use Rattle.krs_model.specs.Asks.Finding.{if_linkable}
+use Rattle.krs_types.specs.Growth.{has_destination}
 use Rattle.krs_model.proofs.Lookups.{look_up_usable}
 use Rattle.krs_model.proofs.Searching.{found_is_first}
 use Rattle.krs_model.proofs.Standing.{not_there}
@@ -240,7 +241,7 @@ pub record SeeksNew (special : Special) (s : State) (client number : ℕ) (head 
   pub own : context_of s client number ≡ Ok c
   pub named : sought_name type_name desc ≡ Ok name
   pub from_found : look_up s c head (Granted SEARCH) ≡ Ok from
-  pub wanted : is_wanted dest ≡ true
+  pub wanted : has_destination dest ≡ true
   pub new : IsNew special s number c dest
 
 pub seeks_new :
@@ -311,7 +312,7 @@ pub record RequestsNew (special : Special) (s : State) (client number : ℕ) (ty
     (c : Context) (name : Name) : Type 0 where
   pub own : context_of s client number ≡ Ok c
   pub named : sought_name type_name desc ≡ Ok name
-  pub wanted : is_wanted dest ≡ true
+  pub wanted : has_destination dest ≡ true
   pub new : IsNew special s number c dest
 
 pub requests_new :

@@ -1,10 +1,12 @@
-ghost use Rattle.std.specs.Prelude.{◌≡◌, ◌≤◌, ◌≢◌, ℕ};
+ghost use Rattle.std.specs.Prelude.{◌≡◌, ◌≤◌, ◌≢◌, false};
 ghost use Rattle.krs_types.specs.declared.errno.Errno.TheVariants.{ENOMEM};
-ghost use Rattle.krs_types.specs.declared.ask.Op.TheVariants.{Exec, Exit, CloseQueue, Leave};
-ghost use Rattle.krs_model.specs.State.{starting_at};
+ghost use Rattle.krs_types.specs.Growth.{grows, grows_meanwhile};
+ghost use Rattle.krs_model.specs.State.{starting_at, raised};
 ghost use Rattle.krs_model.specs.Step.{Step};
+ghost use Rattle.krs_model.specs.History.{event_of};
+ghost use Rattle.krs_model.specs.Sound.{IsSound};
 ghost use Rattle.krs_model.specs.Revocation.{StaysUnread};
-ghost use Rattle.krs_store.specs.Told.{event_of};
+ghost use Rattle.krs_model.specs.Receiving.{GivesStreams};
 
 use crate::tables::Tables;
 use krs_types::{Ask, Errno, Fault, Reply};
@@ -53,10 +55,7 @@ impl Store {
     #[tactic(auto, unfolding(krs_model::specs::Step::Step))]
     pub fn apply(&mut self, client: u32, moment: u64, ask: Ask) -> Reply
         ensures step { Step self.old (event_of client moment ask result) self.new }
-        ensures exec { ask.op ≡ Exec → result ≢ Err ENOMEM }
-        ensures exit { ask.op ≡ Exit → result ≢ Err ENOMEM }
-        ensures close { (queue : ℕ) → ask.op ≡ CloseQueue queue → result ≢ Err ENOMEM }
-        ensures leave { ask.op ≡ Leave → result ≢ Err ENOMEM }
+        ensures memory { grows ask.op ≡ false → grows_meanwhile ask.op ≡ false → result ≢ Err ENOMEM }
     {
         self.tables.raise(moment);
         match self.tables.serve(client, ask) {
@@ -69,10 +68,32 @@ impl Store {
         }
     }
 
+    /// The clock is at least at this moment from now on, in seconds. Nothing else changes.
+    pub fn raise(&mut self, moment: u64)
+        ensures { self.new ≡ raised self.old moment }
+    {
+        self.tables.raise(moment);
+    }
+
+    /// A law of every store: what holds of it between two asks.
+    pub fn is_sound(&self)
+        ensures { IsSound self.now }
+    {
+        let _tables = &self.tables;
+    }
+
     /// A law of every store: whatever it is asked from now on, no key is read once it was revoked. keyctl(2),
     /// KEYCTL_REVOKE.
     pub fn revoked_keys_are_not_read(&self)
         ensures { StaysUnread self.now }
+    {
+        let _tables = &self.tables;
+    }
+
+    /// A law of every store: whatever it is asked from now on, each queue that is opened gives its stream.
+    /// core-api/watch_queue.rst, "Watch Queue (Notification Output) API".
+    pub fn queues_give_their_streams(&self)
+        ensures { GivesStreams self.now }
     {
         let _tables = &self.tables;
     }

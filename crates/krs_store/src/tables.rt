@@ -5,7 +5,7 @@ ghost use Rattle.krs_model.specs.State.{starting_at, raised};
 ghost use Rattle.krs_model.specs.Possession.{process_ring, possessed};
 ghost use Rattle.krs_model.specs.Lookup.{context_of, serial_of, look_up};
 ghost use Rattle.krs_model.specs.Outcome.{Gives, Is};
-ghost use Rattle.krs_model.specs.Step.{grows};
+ghost use Rattle.krs_types.specs.Growth.{grows_meanwhile};
 ghost use Rattle.krs_model.specs.Serving.{LeadsTold, SweepsOut};
 ghost use Rattle.krs_model.specs.Sweep.{live_watches};
 ghost use Rattle.krs_model.specs.Reach.{IsAcyclic, links_in};
@@ -166,7 +166,7 @@ impl Tables {
     pub(crate) fn serve(&mut self, client: u32, ask: Ask) -> Result<Answer, Fault>
         requires sound { IsSound self.old }
         ensures told { LeadsTold self.old client ask.context ask.op result self.new }
-        ensures memory { IsErrOf result Fault.Memory → grows ask.op ≡ true }
+        ensures memory { IsErrOf result Fault.Memory → grows_meanwhile ask.op ≡ true }
     {
         let telling = self.telling(client, ask.context, &ask.op);
         match self.run(client, ask) {
@@ -183,7 +183,7 @@ impl Tables {
     fn run(&mut self, client: u32, ask: Ask) -> Result<Answer, Fault>
         requires sound { IsSound self.old }
         ensures step { Runs self.old client ask.context ask.op result self.new }
-        ensures memory { IsErrOf result Fault.Memory → grows ask.op ≡ true }
+        ensures memory { IsErrOf result Fault.Memory → grows_meanwhile ask.op ≡ true }
     {
         let context = ask.context;
         match ask.op {

@@ -6,3 +6,4 @@ pub mod Perm
 pub mod KeyId
 pub mod Kind
 pub mod Name
+pub mod Growth

@@ -1,4 +1,8 @@
+ghost use Rattle.std.specs.Prelude.{◌≡◌, ◌↔◌, IfOk, IsTrue};
+ghost use Rattle.krs_types.specs.Growth.{grows, grows_meanwhile};
+
 use crate::{Blob, Body, Caller, Errno, FilterEntries};
+use std::alloc::{AllocError, Global};
 
 /// What a client asks in one of its contexts.
 #[derive(Debug, Drop)]
@@ -143,3 +147,185 @@ pub enum Answer {
 }
 
 pub type Reply = Result<Answer, Errno>;
+
+/// Whether two replies are equal.
+pub fn is_same_reply(a: &Reply, b: &Reply) -> bool
+    ensures { IsTrue result ↔ (a.now ≡ b.now) }
+{
+    match (a, b) {
+        (Ok(x), Ok(y)) => x.is_same(y),
+        (Err(x), Err(y)) => *x == *y,
+        _ => false,
+    }
+}
+
+impl Answer {
+    /// Whether two answers are equal.
+    pub fn is_same(&self, other: &Answer) -> bool
+        ensures { IsTrue result ↔ (self.now ≡ other.now) }
+    {
+        match (self, other) {
+            (Answer::Nothing, Answer::Nothing) => true,
+            (Answer::Number(x), Answer::Number(y)) => *x == *y,
+            (Answer::Bytes(x), Answer::Bytes(y)) => x.as_slice() == y.as_slice(),
+            _ => false,
+        }
+    }
+
+    /// An equal value.
+    pub fn copy(&self, alloc: Global) -> Result<Answer, AllocError>
+        ensures { IfOk result (λ copy. copy ≡ self.now) }
+    {
+        Ok(match self {
+            Answer::Nothing => Answer::Nothing,
+            Answer::Number(number) => Answer::Number(*number),
+            Answer::Bytes(body) => Answer::Bytes(body.copy(alloc)?),
+        })
+    }
+}
+
+impl Ask {
+    /// An equal value.
+    pub fn copy(&self, alloc: Global) -> Result<Ask, AllocError>
+        ensures { IfOk result (λ copy. copy ≡ self.now) }
+    {
+        Ok(Ask {
+            context: self.context,
+            op: self.op.copy(alloc)?,
+        })
+    }
+}
+
+impl Op {
+    /// Whether it takes memory, so that it may find none.
+    pub fn grows(&self) -> bool
+        ensures { result ≡ grows self.now }
+    {
+        match self {
+            Op::GetId { create, .. } => *create,
+            Op::Search { dest, .. } | Op::Request { dest, .. } => *dest != 0,
+            Op::Watch { watch, .. } => *watch != -1,
+            Op::Exec
+            | Op::Exit
+            | Op::Leave
+            | Op::Revoke { .. }
+            | Op::Invalidate { .. }
+            | Op::Unlink { .. }
+            | Op::Clear { .. }
+            | Op::SetPerm { .. }
+            | Op::Chown { .. }
+            | Op::SetTimeout { .. }
+            | Op::CloseQueue { .. } => false,
+            _ => true,
+        }
+    }
+
+    /// Whether it may find no memory for now, while look-ups take some.
+    pub fn grows_meanwhile(&self) -> bool
+        ensures { result ≡ grows_meanwhile self.now }
+    {
+        !matches!(
+            self,
+            Op::Exec | Op::Exit | Op::Leave | Op::CloseQueue { .. }
+        )
+    }
+
+    /// An equal value.
+    pub fn copy(&self, alloc: Global) -> Result<Op, AllocError>
+        ensures { IfOk result (λ copy. copy ≡ self.now) }
+    {
+        Ok(match self {
+            Op::Hello(caller) => Op::Hello(caller.copy(alloc)?),
+            Op::Thread => Op::Thread,
+            Op::Fork => Op::Fork,
+            Op::Exec => Op::Exec,
+            Op::GetId { id, create } => Op::GetId {
+                id: *id,
+                create: *create,
+            },
+            Op::Join { name } => Op::Join {
+                name: name.copy(alloc)?,
+            },
+            Op::Search {
+                head,
+                type_name,
+                desc,
+                dest,
+            } => Op::Search {
+                head: *head,
+                type_name: type_name.copy(alloc)?,
+                desc: desc.copy(alloc)?,
+                dest: *dest,
+            },
+            Op::Request {
+                type_name,
+                desc,
+                dest,
+            } => Op::Request {
+                type_name: type_name.copy(alloc)?,
+                desc: desc.copy(alloc)?,
+                dest: *dest,
+            },
+            Op::Add {
+                type_name,
+                desc,
+                payload,
+                ring,
+            } => Op::Add {
+                type_name: type_name.copy(alloc)?,
+                desc: desc.copy(alloc)?,
+                payload: payload.copy(alloc)?,
+                ring: *ring,
+            },
+            Op::Update { id, payload } => Op::Update {
+                id: *id,
+                payload: payload.copy(alloc)?,
+            },
+            Op::Revoke { id } => Op::Revoke { id: *id },
+            Op::Invalidate { id } => Op::Invalidate { id: *id },
+            Op::Chown { id, uid, gid } => Op::Chown {
+                id: *id,
+                uid: *uid,
+                gid: *gid,
+            },
+            Op::SetPerm { id, mask } => Op::SetPerm {
+                id: *id,
+                mask: *mask,
+            },
+            Op::SetTimeout { id, seconds } => Op::SetTimeout {
+                id: *id,
+                seconds: *seconds,
+            },
+            Op::Link { key, ring } => Op::Link {
+                key: *key,
+                ring: *ring,
+            },
+            Op::Unlink { key, ring } => Op::Unlink {
+                key: *key,
+                ring: *ring,
+            },
+            Op::Clear { id } => Op::Clear { id: *id },
+            Op::Read { id } => Op::Read { id: *id },
+            Op::Describe { id } => Op::Describe { id: *id },
+            Op::Watch { id, queue, watch } => Op::Watch {
+                id: *id,
+                queue: *queue,
+                watch: *watch,
+            },
+            Op::OpenQueue { capacity } => Op::OpenQueue {
+                capacity: *capacity,
+            },
+            Op::SetFilter { queue, entries } => Op::SetFilter {
+                queue: *queue,
+                entries: entries.copy(alloc)?,
+            },
+            Op::ReadQueue { queue, room } => Op::ReadQueue {
+                queue: *queue,
+                room: *room,
+            },
+            Op::CloseQueue { queue } => Op::CloseQueue { queue: *queue },
+            Op::Exit => Op::Exit,
+            Op::Leave => Op::Leave,
+        })
+    }
+}

@@ -43,4 +43,11 @@ impl Blob {
     {
         self.bytes
     }
+
+    /// An equal value.
+    pub fn copy(&self, alloc: Global) -> Result<Blob, AllocError>
+        ensures { IfOk result (λ copy. copy ≡ self.now) }
+    {
+        Blob::from_slice(alloc, self.as_slice())
+    }
 }

@@ -1,5 +1,6 @@
-ghost use Rattle.std.specs.Prelude.{◌≡◌};
+ghost use Rattle.std.specs.Prelude.{◌≡◌, IfOk};
 
+use std::alloc::{AllocError, Global};
 use std::marker::Model;
 
 /// What happened to a watched key: uapi linux/watch_queue.h, enum key_notification_subtype.
@@ -76,5 +77,12 @@ impl FilterEntries {
         ensures { result.items ≡ self }
     {
         self.entries
+    }
+
+    /// An equal value.
+    pub fn copy(&self, alloc: Global) -> Result<FilterEntries, AllocError>
+        ensures { IfOk result (λ copy. copy ≡ self.now) }
+    {
+        Ok(FilterEntries::new(Vec::from_slice(alloc, self.as_slice())?))
     }
 }

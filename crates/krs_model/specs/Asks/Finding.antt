@@ -1,5 +1,5 @@
 -- GET_ID, SEARCH and REQUEST: keyctl(2), KEYCTL_GET_KEYRING_ID and KEYCTL_SEARCH; request_key(2).
-use Rattle.std.specs.Prelude.{ℕ, ℤ, pos, negsuc, zero, suc, List, Bool, true, false, if◌then◌else◌, Result, Ok, Err}
+use Rattle.std.specs.Prelude.{ℕ, ℤ, List, Bool, true, false, if◌then◌else◌, Result, Ok, Err}
 use Rattle.krs_types.specs.declared.errno.Errno.{Errno}
 use Rattle.krs_types.specs.declared.errno.Errno.TheVariants.{ENOKEY, EACCES}
 use Rattle.krs_types.specs.declared.name.Name.{Name}
@@ -8,6 +8,7 @@ use Rattle.krs_types.specs.declared.ask.Answer.TheVariants.{Number}
 use Rattle.krs_types.specs.declared.rights.Want.TheVariants.{Granted}
 use Rattle.krs_types.specs.Rights.{has_all, SEARCH, WRITE, LINK}
 use Rattle.krs_types.specs.Kind.{kind_named, described}
+use Rattle.krs_types.specs.Growth.{has_destination}
 use Rattle.krs_types.specs.Refusing.{◌>>=◌, or_refuse}
 use Rattle.krs_model.specs.Table.{at}
 use Rattle.krs_model.specs.State.{State, Key}
@@ -37,12 +38,6 @@ unfoldable pub get_id : State → ℕ → ℕ → ℤ → Bool → Outcome
 get_id s client context id create = do
   c ← context_of s client context
   within_serials s (got (made_where create s context c id).0 (made_where create s context c id).1 id)
-
--- a destination is wanted: every id but 0
-abbrev pub is_wanted : ℤ → Bool
-is_wanted (pos zero) = false
-is_wanted (pos (suc n)) = true
-is_wanted (negsuc n) = true
 
 -- what is looked for: a type that there is, and a description that some key may have: profile, search names
 unfoldable pub sought_name : List ℕ → List ℕ → Result Name Errno
@@ -88,7 +83,7 @@ sought_into s c head name dest = do
 -- a search with a destination, which counts as made, or without one: profile, counts as made
 abbrev pub searched_for : State → ℕ → Context → ℕ × Key → Name → ℤ → Outcome
 searched_for s number c head name dest =
-    if is_wanted dest then sought_into (made_for s number c dest).0 (made_for s number c dest).1 head name dest
+    if has_destination dest then sought_into (made_for s number c dest).0 (made_for s number c dest).1 head name dest
     else sought_from s c head name
 
 -- the first key of that type and description from a keyring on, and a link to it where a destination is wanted:
@@ -110,7 +105,7 @@ requested_into s c name dest = do
 -- a request with a destination, which counts as made, or without one: profile, counts as made
 abbrev pub requested_for : State → ℕ → Context → Name → ℤ → Outcome
 requested_for s number c name dest =
-    if is_wanted dest then requested_into (made_for s number c dest).0 (made_for s number c dest).1 name dest
+    if has_destination dest then requested_into (made_for s number c dest).0 (made_for s number c dest).1 name dest
     else found_alone s (requested s c name)
 
 -- the first key of that type and description from the attached keyrings on, and a link to it where a destination is

@@ -18,7 +18,7 @@ use Rattle.krs_model.specs.Table.{Table, at}
 use Rattle.krs_model.specs.State.{State, Key}
 use Rattle.krs_model.specs.Queues as queues
 use Rattle.krs_model.specs.Lookup.{context_of, serial_of}
-use Rattle.krs_model.specs.Asks.Finding.{is_wanted}
+use Rattle.krs_types.specs.Growth.{has_destination}
 use Rattle.krs_model.specs.Asks.Watching.{watch_id_of}
 use Rattle.krs_model.specs.Notes.Posting.{Note, watch_there}
 
@@ -66,9 +66,9 @@ notes_of s client context Exit answer = []
 notes_of s client context (GetId id create) answer = []
 notes_of s client context (Join name) answer = []
 notes_of s client context (Search head type_name desc dest) answer =
-    about_found (is_wanted dest) (named s client context dest) answer
+    about_found (has_destination dest) (named s client context dest) answer
 notes_of s client context (Request type_name desc dest) answer =
-    about_found (is_wanted dest) (named s client context dest) answer
+    about_found (has_destination dest) (named s client context dest) answer
 notes_of s client context (Invalidate id) answer = about Invalidated (named s client context id)
 notes_of s client context (Update id payload) answer = about Updated (named s client context id)
 notes_of s client context (Revoke id) answer = about Revoked (named s client context id)

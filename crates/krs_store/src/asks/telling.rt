@@ -4,7 +4,7 @@ ghost use Rattle.std.specs.Result.{result_ok};
 ghost use Rattle.krs_model.specs.Outcome.{Is};
 ghost use Rattle.krs_model.specs.Queues.{queues_of};
 ghost use Rattle.krs_model.specs.Sound.{IsSound};
-ghost use Rattle.krs_model.specs.Asks.Finding.{is_wanted};
+ghost use Rattle.krs_types.specs.Growth.{has_destination};
 ghost use Rattle.krs_model.specs.Notes.Posting.{posted_in};
 ghost use Rattle.krs_model.specs.Notes.Telling.{named, about, about_link, about_found};
 ghost use Rattle.krs_store.specs.Telling.{told_of, meant_note, linked_note, number_of, posts_told, Says, Foretells};
@@ -173,7 +173,7 @@ impl Tables {
 
     /// The destination that an id stands for links what is found, where one is wanted.
     fn about_found(&self, client: u32, number: u32, dest: i32) -> Telling
-        ensures { Says result (about_found (is_wanted dest) (named self.now client number dest)) }
+        ensures { Says result (about_found (has_destination dest) (named self.now client number dest)) }
     {
         if dest == 0 {
             return Telling::Quiet;

@@ -7,7 +7,7 @@ use Rattle.krs_model.specs.Step.{Step, Serves, outcome_of}
 use Rattle.krs_model.proofs.Soundness.{raised_sound}
 use Rattle.krs_model.proofs.Serving.{serves_in_turn, applied_sound, told_acyclic}
 use Rattle.krs_model.proofs.Staying.{told_live}
-use Rattle.krs_store.proofs.Endings.{exec_refuses, exit_refuses, close_refuses}
+use Rattle.krs_store.proofs.Endings.{refusal_is_no_memory}
 use Rattle.krs_store.proofs.store.Store.apply.Goals as goal
 
 pub invariant_of-self : goal.invariant_of-self
@@ -42,20 +42,8 @@ returns-in-Ok-clause-step c =
     (subst (λ (s : State). Serves s c.args.client c.args.ask.context c.args.ask.op c.in-Ok.answer c.sweep.new.self)
     c.raise.ensures (serves_in_turn c.in-Ok.ensures.told c.sweep.ensures))
 
-pub returns-in-Err-Refused-clause-exec : goal.returns-in-Err-Refused-clause-exec
-returns-in-Err-Refused-clause-exec c =
-    exec_refuses c.raise.new.self c.args.client c.args.ask.context c.args.ask.op c.in-Err-Refused.errno
-    (subst (λ (f : Fault). Fails f (outcome_of c.raise.new.self c.args.client c.args.ask.context c.args.ask.op))
-    c.in-Err-Refused.field-0-is c.in-Err-Refused.ensures.told.0)
-
-pub returns-in-Err-Refused-clause-exit : goal.returns-in-Err-Refused-clause-exit
-returns-in-Err-Refused-clause-exit c =
-    exit_refuses c.raise.new.self c.args.client c.args.ask.context c.args.ask.op c.in-Err-Refused.errno
-    (subst (λ (f : Fault). Fails f (outcome_of c.raise.new.self c.args.client c.args.ask.context c.args.ask.op))
-    c.in-Err-Refused.field-0-is c.in-Err-Refused.ensures.told.0)
-
-pub returns-in-Err-Refused-clause-close : goal.returns-in-Err-Refused-clause-close
-returns-in-Err-Refused-clause-close c = λ queue.
-    close_refuses c.raise.new.self c.args.client c.args.ask.context c.args.ask.op queue c.in-Err-Refused.errno
+pub returns-in-Err-Refused-clause-memory : goal.returns-in-Err-Refused-clause-memory
+returns-in-Err-Refused-clause-memory c = λ _ never.
+    refusal_is_no_memory c.raise.new.self c.args.client c.args.ask.context c.args.ask.op c.in-Err-Refused.errno never
     (subst (λ (f : Fault). Fails f (outcome_of c.raise.new.self c.args.client c.args.ask.context c.args.ask.op))
     c.in-Err-Refused.field-0-is c.in-Err-Refused.ensures.told.0)

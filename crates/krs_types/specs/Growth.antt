@@ -1,0 +1,86 @@
+-- Which asks may find no memory: docs/FORMAT.md, "The asks".
+use Rattle.std.specs.Prelude.{ℤ, pos, negsuc, zero, suc, Bool, true, false, not, Result}
+use Rattle.krs_types.specs.declared.errno.Errno.{Errno}
+use Rattle.krs_types.specs.declared.ask.Op.{Op}
+use Rattle.krs_types.specs.declared.ask.Op.TheVariants.{Hello, Thread, Fork, Exec, GetId, Join, Search, Request, Add}
+use Rattle.krs_types.specs.declared.ask.Op.TheVariants.{Update, Revoke, Invalidate, Chown, SetPerm, SetTimeout, Link}
+use Rattle.krs_types.specs.declared.ask.Op.TheVariants.{Unlink, Clear, Read, Describe, Watch, OpenQueue, SetFilter}
+use Rattle.krs_types.specs.declared.ask.Op.TheVariants.{ReadQueue, CloseQueue, Exit, Leave}
+
+-- a destination is named: every id but 0
+abbrev pub has_destination : ℤ → Bool
+has_destination (pos zero) = false
+has_destination (pos (suc n)) = true
+has_destination (negsuc n) = true
+
+-- a watch is ended: -1
+abbrev pub ends_watch : ℤ → Bool
+ends_watch (pos n) = false
+ends_watch (negsuc zero) = true
+ends_watch (negsuc (suc n)) = false
+
+-- the ask takes memory: it makes something, links a key, keeps bytes, or is answered with bytes
+abbrev pub grows : Op → Bool
+grows (Hello caller) = true
+grows Thread = true
+grows Fork = true
+grows Exec = false
+grows (GetId id create) = create
+grows (Join name) = true
+grows (Search head type_name desc dest) = has_destination dest
+grows (Request type_name desc dest) = has_destination dest
+grows (Add type_name desc payload ring) = true
+grows (Update id payload) = true
+grows (Revoke id) = false
+grows (Invalidate id) = false
+grows (Chown id uid gid) = false
+grows (SetPerm id mask) = false
+grows (SetTimeout id seconds) = false
+grows (Link key ring) = true
+grows (Unlink key ring) = false
+grows (Clear id) = false
+grows (Read id) = true
+grows (Describe id) = true
+grows (Watch id queue watch_id) = not (ends_watch watch_id)
+grows (OpenQueue capacity) = true
+grows (SetFilter queue entries) = true
+grows (ReadQueue queue room) = true
+grows (CloseQueue queue) = false
+grows Exit = false
+grows Leave = false
+
+-- For now every look-up takes memory for its walk, so that every ask which looks up a key may find none. This and the
+-- next definition go when keys have places and a walk has its room beforehand.
+abbrev pub grows_meanwhile : Op → Bool
+grows_meanwhile (Hello caller) = true
+grows_meanwhile Thread = true
+grows_meanwhile Fork = true
+grows_meanwhile Exec = false
+grows_meanwhile (GetId id create) = true
+grows_meanwhile (Join name) = true
+grows_meanwhile (Search head type_name desc dest) = true
+grows_meanwhile (Request type_name desc dest) = true
+grows_meanwhile (Add type_name desc payload ring) = true
+grows_meanwhile (Update id payload) = true
+grows_meanwhile (Revoke id) = true
+grows_meanwhile (Invalidate id) = true
+grows_meanwhile (Chown id uid gid) = true
+grows_meanwhile (SetPerm id mask) = true
+grows_meanwhile (SetTimeout id seconds) = true
+grows_meanwhile (Link key ring) = true
+grows_meanwhile (Unlink key ring) = true
+grows_meanwhile (Clear id) = true
+grows_meanwhile (Read id) = true
+grows_meanwhile (Describe id) = true
+grows_meanwhile (Watch id queue watch_id) = true
+grows_meanwhile (OpenQueue capacity) = true
+grows_meanwhile (SetFilter queue entries) = true
+grows_meanwhile (ReadQueue queue room) = true
+grows_meanwhile (CloseQueue queue) = false
+grows_meanwhile Exit = false
+grows_meanwhile Leave = false
+
+-- What ENOMEM may be answered in the place of. It is meant to be an accepted ask alone; for now it may stand for a
+-- refusal too, as the walk that finds the refusal may find no memory.
+abbrev pub MayLackMemory : {Y : Type 0} → Result Y Errno → Type 0
+MayLackMemory meant = Unit {0}
