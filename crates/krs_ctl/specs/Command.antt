@@ -1,6 +1,7 @@
 -- The commands of a client, a row each: docs/FORMAT.md, "Commands".
 use Rattle.std.specs.Prelude.{ℕ, ℤ, pos, Bool, true, false, if◌then◌else◌, List, [], ◌∷◌, find, bytes_eq, codes}
 use Rattle.std.specs.Prelude.{Option, None, Some}
+use Rattle.krs_types.specs.Caller.{unchanged}
 use Rattle.krs_types.specs.declared.ask.Op.{Op}
 use Rattle.krs_types.specs.declared.ask.Op.TheVariants as op
 use Rattle.krs_ctl.specs.declared.command.name.CommandName.{CommandName}
@@ -175,16 +176,12 @@ clear_of (ring ∷ []) = do
   Some (command.Ask (op.Clear id))
 clear_of _ = None
 
--- a uid or gid that leaves what is there: keyctl(2), KEYCTL_CHOWN
-abbrev pub left_as_it_is : ℕ
-left_as_it_is = 4294967295
-
 -- `chown KEY UID`
 abbrev pub chown_of : List (List ℕ) → Option Command
 chown_of (key ∷ (uid ∷ [])) = do
   id ← key_of key
   u ← u32_of uid
-  Some (command.Ask (op.Chown id u left_as_it_is))
+  Some (command.Ask (op.Chown id u unchanged))
 chown_of _ = None
 
 -- `chgrp KEY GID`
@@ -192,7 +189,7 @@ abbrev pub chgrp_of : List (List ℕ) → Option Command
 chgrp_of (key ∷ (gid ∷ [])) = do
   id ← key_of key
   g ← u32_of gid
-  Some (command.Ask (op.Chown id left_as_it_is g))
+  Some (command.Ask (op.Chown id unchanged g))
 chgrp_of _ = None
 
 -- `setperm KEY MASK`

@@ -9,7 +9,7 @@ ghost use Rattle.krs_model.specs.Asks.Joining.{is_joinable};
 
 use bitflags::Flags;
 use krs_links::Links;
-use krs_types::{Body, Caller, Errno, Kind, Name, Perm, Rights, Serial};
+use krs_types::{Body, Caller, Errno, Kind, Name, Perm, Rights, Serial, UNCHANGED};
 
 /// What a key holds.
 #[derive(Drop)]
@@ -38,7 +38,7 @@ pub enum Change {
     Payload(Body),
     /// Another permission mask.
     Mask(Perm),
-    /// Another owner and group. 4294967295 leaves what is there.
+    /// Another owner and group; `UNCHANGED` leaves what is there.
     Owner { uid: u32, gid: u32 },
     /// When its time is over, if ever.
     Expiry(Option<u64>),
@@ -47,9 +47,6 @@ pub enum Change {
     /// No links, where it is a keyring.
     Cleared,
 }
-
-/// Stands for the uid or gid that is there.
-pub const LEAVE: u32 = 4_294_967_295;
 
 impl Key {
     /// Whether its time is over.
@@ -203,5 +200,5 @@ impl Content {
 fn or_left(asked: u32, there: u32) -> u32
     ensures { result ≡ or_left asked there }
 {
-    if asked == LEAVE { there } else { asked }
+    if asked == UNCHANGED { there } else { asked }
 }

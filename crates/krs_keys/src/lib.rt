@@ -4,5 +4,5 @@
 mod key;
 mod key_table;
 
-pub use key::{Change, Content, Key, LEAVE};
+pub use key::{Change, Content, Key};
 pub use key_table::{KeyTable, LAST_SERIAL};

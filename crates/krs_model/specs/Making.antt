@@ -11,6 +11,7 @@ use Rattle.krs_types.specs.declared.caller.Caller.{Caller}
 use Rattle.krs_types.specs.declared.key_id.KeyId.{KeyId}
 use Rattle.krs_types.specs.declared.key_id.KeyId.TheVariants.{Serial, Thread, Process, Session, User, UserSession}
 use Rattle.krs_types.specs.KeyId.{key_id_of}
+use Rattle.krs_types.specs.Perm.{key_mask}
 use Rattle.krs_model.specs.Table.{put, alter}
 use Rattle.krs_model.specs.State.{State, Key, Links}
 use Rattle.krs_model.specs.Possession.{process_ring}
@@ -34,9 +35,9 @@ own_ring desc perm joined c = record {
 abbrev pub with_new : State → Key → State
 with_new s key = record s { keys = put s.keys s.next_serial key; next_serial = s.next_serial + 1 }
 
--- a thread or process keyring; its mask is 3f010000: profile, masks of new keys
+-- a thread or process keyring: profile, masks of new keys
 abbrev pub special_ring : List ℕ → Caller → Key
-special_ring desc c = own_ring desc 1057030144 false c
+special_ring desc c = own_ring desc key_mask false c
 
 -- the context with this thread keyring
 abbrev pub thread_to : ℕ → Context → Context

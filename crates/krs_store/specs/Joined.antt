@@ -4,6 +4,7 @@ use Rattle.std.specs.Option.{option_map}
 use Rattle.krs_types.specs.declared.kind.Kind.TheVariants.{Keyring}
 use Rattle.krs_types.specs.declared.caller.Caller.{Caller}
 use Rattle.krs_types.specs.declared.ask.Answer.TheVariants.{Number}
+use Rattle.krs_types.specs.Perm.{named_session_mask, session_mask}
 use Rattle.krs_model.specs.Table.{at}
 use Rattle.krs_model.specs.State as model
 use Rattle.krs_model.specs.Making.{with_new, within_serials}
@@ -28,7 +29,7 @@ joined_ring desc perm c = record {
 -- `_ses`, or one of this name: profile, masks of new keys
 abbrev pub session_key : List ℕ → Caller → Key
 session_key name c =
-    if length name == 0 then joined_ring (codes "_ses") 1057161216 c else joined_ring name 1058209792 c
+    if length name == 0 then joined_ring (codes "_ses") session_mask c else joined_ring name named_session_mask c
 
 -- a keyring that links nothing
 abbrev pub IsEmptyRing : Key → Type 0

@@ -5,6 +5,7 @@ use Rattle.krs_types.specs.declared.kind.Kind.TheVariants.{User, Logon, Keyring}
 use Rattle.krs_types.specs.declared.name.Name.{Name}
 use Rattle.krs_types.specs.declared.caller.Caller.{Caller}
 use Rattle.krs_types.specs.Refusing.{◌>>=◌}
+use Rattle.krs_types.specs.Perm.{uid_mask}
 use Rattle.krs_model.specs.State.{State}
 use Rattle.krs_model.specs.Lookup.{context_of}
 use Rattle.krs_model.specs.Outcome.{Outcome}
@@ -20,7 +21,7 @@ named_uid_key name links c = record {
   name = name;
   uid = c.uid;
   gid = c.gid;
-  perm = 524222464;
+  perm = uid_mask;
   expiry = None;
   revoked = false;
   joined = false;

@@ -12,6 +12,7 @@ use Rattle.krs_types.specs.KeyId.{key_id_of}
 use Rattle.krs_types.specs.Refusing.{◌>>=◌, or_refuse}
 use Rattle.krs_types.specs.declared.name.Name.{Name}
 use Rattle.krs_types.specs.declared.context.Context.{Context}
+use Rattle.krs_types.specs.Perm.{key_mask}
 use Rattle.krs_model.specs.Table.{at}
 use Rattle.krs_model.specs.State.{State}
 use Rattle.krs_model.specs.State as model
@@ -55,7 +56,7 @@ ring_key special maker links = record {
   name = special_name special;
   uid = maker.uid;
   gid = maker.gid;
-  perm = 1057030144;
+  perm = key_mask;
   expiry = None;
   revoked = false;
   joined = false;

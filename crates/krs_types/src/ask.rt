@@ -67,7 +67,7 @@ pub enum Op {
     Invalidate {
         id: i32,
     },
-    /// Another owner and group of a key. 4294967295 leaves what it stands for: keyctl(2), KEYCTL_CHOWN.
+    /// Another owner and group of a key; `UNCHANGED` leaves what is there: keyctl(2), KEYCTL_CHOWN.
     Chown {
         id: i32,
         uid: u32,

@@ -8,6 +8,9 @@ use std::marker::Model;
 /// How many groups a caller names at most: profile, limits.
 const MAX_GROUPS: usize = 32;
 
+/// A uid or gid that CHOWN leaves as it is: keyctl(2), KEYCTL_CHOWN.
+pub const UNCHANGED: u32 = 4_294_967_295;
+
 /// Stands for no uid and no gid.
 const NO_ID: u32 = 4_294_967_295;
 

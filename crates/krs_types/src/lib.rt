@@ -20,7 +20,7 @@ mod rights;
 pub use ask::{Answer, Ask, Op, Reply, is_same_reply};
 pub use blob::Blob;
 pub use body::Body;
-pub use caller::{Caller, Groups};
+pub use caller::{Caller, Groups, UNCHANGED};
 pub use context::{Context, UidRings};
 pub use errno::Errno;
 pub use event::Event;

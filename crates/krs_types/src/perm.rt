@@ -23,7 +23,7 @@ impl Model for Perm {
 
     ghost view = { λ p. p.mask };
 
-    ghost invariant = { λ p. bit_and p.mask 1061109567 ≡ p.mask };
+    ghost invariant = { λ p. bit_and p.mask 0x3f3f_3f3f ≡ p.mask };
 
     ghost inverse = { λ n. record { mask = n } };
 }

@@ -8,11 +8,8 @@ ghost use Rattle.krs_ctl.specs.Parsed.{Reads};
 use crate::command::Command;
 use crate::no_command::NoCommand;
 use crate::number::{data_word, hexadecimal_word, key_word, u32_word};
-use krs_types::{Blob, Op};
+use krs_types::{Blob, Op, UNCHANGED};
 use std::alloc::Global;
-
-/// A uid or gid that leaves what is there: keyctl(2), KEYCTL_CHOWN.
-const LEFT_AS_IT_IS: u32 = 4_294_967_295;
 
 pub(crate) fn add(alloc: Global, args: &[&[u8]]) -> Result<Command, NoCommand>
     ensures { Reads result (add_of (map (λ w. w.now) args.now)) }
@@ -99,7 +96,7 @@ pub(crate) fn chown(args: &[&[u8]]) -> Result<Command, NoCommand>
     };
     let id = key_word(key).ok_or(NoCommand::Usage)?;
     let uid = u32_word(owner).ok_or(NoCommand::Usage)?;
-    let gid = LEFT_AS_IT_IS;
+    let gid = UNCHANGED;
     Ok(Command::Ask(Op::Chown { id, uid, gid }))
 }
 
@@ -110,7 +107,7 @@ pub(crate) fn chgrp(args: &[&[u8]]) -> Result<Command, NoCommand>
         return Err(NoCommand::Usage);
     };
     let id = key_word(key).ok_or(NoCommand::Usage)?;
-    let uid = LEFT_AS_IT_IS;
+    let uid = UNCHANGED;
     let gid = u32_word(group).ok_or(NoCommand::Usage)?;
     Ok(Command::Ask(Op::Chown { id, uid, gid }))
 }

@@ -12,6 +12,7 @@ use Rattle.krs_types.specs.declared.rights.Want.TheVariants.{Granted}
 use Rattle.krs_types.specs.Rights.{has_all, WRITE}
 use Rattle.krs_types.specs.Kind.{kind_named, checked}
 use Rattle.krs_types.specs.Refusing.{◌>>=◌}
+use Rattle.krs_types.specs.Perm.{key_mask, logon_mask}
 use Rattle.krs_model.specs.Table.{at, put, alter}
 use Rattle.krs_model.specs.State.{State, Key, Content, Payload, Links}
 use Rattle.krs_model.specs.Access.{is_alive, rights_on}
@@ -63,9 +64,9 @@ place_of s c name ring = do
 
 -- 3f010000, for a logon key 3d010000: profile, masks of new keys
 abbrev pub first_perm : Kind → ℕ
-first_perm User = 1057030144
-first_perm Logon = 1023475712
-first_perm Keyring = 1057030144
+first_perm User = key_mask
+first_perm Logon = logon_mask
+first_perm Keyring = key_mask
 
 -- a keyring is made empty
 abbrev pub first_content : Kind → List ℕ → Content

@@ -9,7 +9,7 @@ use Rattle.krs_types.specs.declared.caller.Caller.{Caller}
 use Rattle.krs_types.specs.declared.ask.Answer.TheVariants.{Nothing}
 use Rattle.krs_types.specs.declared.rights.Want.TheVariants.{Granted, Either}
 use Rattle.krs_types.specs.Rights.{WRITE, SETATTR}
-use Rattle.krs_types.specs.Caller.{is_of_group}
+use Rattle.krs_types.specs.Caller.{is_of_group, unchanged}
 use Rattle.krs_types.specs.Kind.{paid}
 use Rattle.krs_types.specs.Perm.{perm_of}
 use Rattle.krs_types.specs.Refusing.{◌>>=◌}
@@ -67,9 +67,9 @@ set_perm s client context id mask = do
   own ← if_owner c.caller found.1
   Ok (changed s found.0 (with_perm perm), Nothing)
 
--- 4294967295 leaves what is there, also both at once: profile, both ids left
+-- what is asked for, or what is there where that is left unchanged, also both at once: profile, both ids left
 abbrev pub or_left : ℕ → ℕ → ℕ
-or_left asked there = if asked == 4294967295 then there else asked
+or_left asked there = if asked == unchanged then there else asked
 
 -- the key with another uid and gid, where they are not left
 abbrev pub with_owner : ℕ → ℕ → Key → Key

@@ -11,6 +11,7 @@ use Rattle.krs_types.specs.declared.caller.Caller.{Caller}
 use Rattle.krs_types.specs.declared.ask.Answer.TheVariants.{Number}
 use Rattle.krs_types.specs.Caller.{caller_check}
 use Rattle.krs_types.specs.Refusing.{◌>>=◌}
+use Rattle.krs_types.specs.Perm.{uid_mask}
 use Rattle.krs_model.specs.Table.{Table, at, put}
 use Rattle.krs_model.specs.State.{State, Key, Links}
 use Rattle.krs_model.specs.Outcome.{Outcome}
@@ -37,7 +38,7 @@ uid_ring prefix links c = record {
   desc = prefix ++ decimal c.uid;
   uid = c.uid;
   gid = c.gid;
-  perm = 524222464;
+  perm = uid_mask;
   expiry = None;
   revoked = false;
   joined = false;

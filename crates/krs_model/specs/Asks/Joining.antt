@@ -11,6 +11,7 @@ use Rattle.krs_types.specs.declared.ask.Answer.TheVariants.{Number}
 use Rattle.krs_types.specs.Kind.{begins_with, same_kind}
 use Rattle.krs_types.specs.Rights.{has_all, SEARCH}
 use Rattle.krs_types.specs.Refusing.{◌>>=◌}
+use Rattle.krs_types.specs.Perm.{named_session_mask, session_mask}
 use Rattle.krs_model.specs.Table.{alter}
 use Rattle.krs_model.specs.State.{State, Key}
 use Rattle.krs_model.specs.Access.{is_alive, rights_on}
@@ -40,7 +41,7 @@ joinable s c name = if length name == 0 then None else find (λ e. is_joinable s
 -- Either was made by JOIN and may be joined by its name later: profile, anonymous sessions
 abbrev pub session_ring : List ℕ → Caller → Key
 session_ring name c =
-    if length name == 0 then own_ring (codes "_ses") 1057161216 true c else own_ring name 1058209792 true c
+    if length name == 0 then own_ring (codes "_ses") session_mask true c else own_ring name named_session_mask true c
 
 -- the context with this session keyring
 abbrev pub session_to : ℕ → Context → Context

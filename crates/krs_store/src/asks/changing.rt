@@ -6,8 +6,10 @@ ghost use Rattle.krs_keys.specs.Keys.{seen};
 ghost use Rattle.krs_keys.specs.Changes.{meant_change};
 
 use crate::tables::Tables;
-use krs_keys::{Change, Key, LEAVE};
-use krs_types::{Answer, Blob, Body, Caller, Errno, Fault, Kind, Perm, Rights, Serial, Want};
+use krs_keys::{Change, Key};
+use krs_types::{
+    Answer, Blob, Body, Caller, Errno, Fault, Kind, Perm, Rights, Serial, UNCHANGED, Want,
+};
 
 impl Tables {
     /// Changes the key at a serial, and nothing else.
@@ -131,8 +133,8 @@ fn check_owner(caller: &Caller, key: &Key) -> Result<(), Errno>
 fn check_chown(caller: &Caller, uid: u32, gid: u32, key: &Key) -> Result<(), Errno>
     ensures { Is (λ _. seen key.now) result (if_may_own caller.now uid gid (seen key.now)) }
 {
-    let same_uid = uid == LEAVE || uid == key.uid;
-    let own_gid = gid == LEAVE || gid == key.gid || caller.is_of_group(gid);
+    let same_uid = uid == UNCHANGED || uid == key.uid;
+    let own_gid = gid == UNCHANGED || gid == key.gid || caller.is_of_group(gid);
     if caller.uid == 0 || (same_uid && own_gid) {
         return Ok(());
     }
