@@ -21,9 +21,10 @@ use Rattle.krs_model.proofs.Roots.{context_keys}
 use Rattle.krs_hold.specs.Tally.{times, IsTallied, all_less}
 use Rattle.krs_hold.proofs.Times.{times-append}
 use Rattle.krs_hold.proofs.Gathered.{gathered, given_by, times-without}
-use Rattle.krs_store.specs.Holding.{rings_of}
-use Rattle.krs_store.proofs.Counting.{less_then, then_less}
-use Rattle.krs_store.proofs.Entering.{held_less, own_there, same_accepted}
+use Rattle.krs_tables.specs.Holding.{rings_of}
+use Rattle.krs_tables.proofs.Counting.{less_then, then_less}
+use Rattle.krs_context_asks.proofs.Entered.{held_less, same_accepted}
+use Rattle.krs_tables.proofs.Owning.{own_there}
 
 -- a test of the entries that stay
 any_kept :

@@ -30,8 +30,8 @@ use Rattle.krs_hold.proofs.Times.{times-append}
 use Rattle.krs_hold.proofs.Gathered.{times-alter}
 use Rattle.krs_hold.proofs.Tallies.{tallied_with, tallied_hold, tallied_attached, tallied_let_go_all, some_with}
 use Rattle.krs_hold.proofs.KeyTallies.{tallied_insert}
-use Rattle.krs_store.specs.Joined.{joined_ring, session_key, joined_anew, session_in, IsEmptyRing}
-use Rattle.krs_store.proofs.Entering.{own_there}
+use Rattle.krs_context_asks.specs.Joined.{joined_ring, session_key, joined_anew, session_in, IsEmptyRing}
+use Rattle.krs_tables.proofs.Owning.{own_there}
 
 there_later :
     {X : Type 0} (e : ℕ × X) (es : Table X) (o : Option ℕ) → IfSome o (λ k. IsSome (at es k))

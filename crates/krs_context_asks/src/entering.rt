@@ -5,59 +5,56 @@ ghost use Rattle.krs_model.specs.Sweep.{context_roots};
 ghost use Rattle.krs_model.specs.Asks.Entering.{thread, fork, exec};
 ghost use Rattle.krs_hold.specs.Tally.{all_less};
 
-use crate::asks::holding::{check_room, hold_of};
-use crate::tables::Tables;
 use krs_hold::Holders;
+use krs_tables::{Tables, check_room, hold_of};
 use krs_types::{Answer, Context, Fault};
 use std::collections::BTreeMap;
 
-impl Tables {
-    /// One more context of a process, with the session keyring of this one: thread-keyring(7).
-    #[tactic(auto, unfolding(krs_model::specs::Asks::Entering::thread))]
-    pub(crate) fn thread(&mut self, client: u32, context: u32) -> Result<Answer, Fault>
-        ensures { Leads self.old result self.new (thread self.old client context) }
-    {
-        let session = self.context_of(client, context)?.session;
-        self.contexts.can_enter(client)?;
-        check_room(&self.holders, &session)?;
-        let number = self.contexts.thread(client, context)?;
-        hold_of(&mut self.holders, &session);
-        Ok(Answer::Number(number))
-    }
+/// One more context of a process, with the session keyring of this one: thread-keyring(7).
+#[tactic(auto, unfolding(krs_model::specs::Asks::Entering::thread))]
+pub fn thread(tables: &mut Tables, client: u32, context: u32) -> Result<Answer, Fault>
+    ensures { Leads tables.old result tables.new (thread tables.old client context) }
+{
+    let session = tables.context_of(client, context)?.session;
+    tables.contexts.can_enter(client)?;
+    check_room(&tables.holders, &session)?;
+    let number = tables.contexts.thread(client, context)?;
+    hold_of(&mut tables.holders, &session);
+    Ok(Answer::Number(number))
+}
 
-    /// A context in a process of its own, with the session keyring of this one: process-keyring(7).
-    #[tactic(auto, unfolding(krs_model::specs::Asks::Entering::fork))]
-    pub(crate) fn fork(&mut self, client: u32, context: u32) -> Result<Answer, Fault>
-        ensures { Leads self.old result self.new (fork self.old client context) }
-    {
-        let session = self.context_of(client, context)?.session;
-        self.contexts.can_enter(client)?;
-        check_room(&self.holders, &session)?;
-        let number = self.contexts.fork(client, context)?;
-        hold_of(&mut self.holders, &session);
-        Ok(Answer::Number(number))
-    }
+/// A context in a process of its own, with the session keyring of this one: process-keyring(7).
+#[tactic(auto, unfolding(krs_model::specs::Asks::Entering::fork))]
+pub fn fork(tables: &mut Tables, client: u32, context: u32) -> Result<Answer, Fault>
+    ensures { Leads tables.old result tables.new (fork tables.old client context) }
+{
+    let session = tables.context_of(client, context)?.session;
+    tables.contexts.can_enter(client)?;
+    check_room(&tables.holders, &session)?;
+    let number = tables.contexts.fork(client, context)?;
+    hold_of(&mut tables.holders, &session);
+    Ok(Answer::Number(number))
+}
 
-    /// Ends the other contexts of a context's process, and lets go of the keyrings of both.
-    #[tactic(auto, unfolding(krs_model::specs::Asks::Entering::exec))]
-    pub(crate) fn exec(&mut self, client: u32, context: u32) -> Result<Answer, Fault>
-        ensures step { Leads self.old result self.new (exec self.old client context) }
-        ensures memory { result ≢ Err Memory }
-    {
-        let own = self.context_of(client, context)?;
-        let (process, thread) = (own.process, own.thread);
-        let ring = self.process_ring(process);
-        let_go_others(
-            &mut self.holders,
-            self.contexts.contexts(),
-            process,
-            context,
-        );
-        self.holders.let_go_of(thread);
-        self.holders.let_go_of(ring);
-        self.contexts.exec(client, context)?;
-        Ok(Answer::Nothing)
-    }
+/// Ends the other contexts of a context's process, and lets go of the keyrings of both.
+#[tactic(auto, unfolding(krs_model::specs::Asks::Entering::exec))]
+pub fn exec(tables: &mut Tables, client: u32, context: u32) -> Result<Answer, Fault>
+    ensures step { Leads tables.old result tables.new (exec tables.old client context) }
+    ensures memory { result ≢ Err Memory }
+{
+    let own = tables.context_of(client, context)?;
+    let (process, thread) = (own.process, own.thread);
+    let ring = tables.process_ring(process);
+    let_go_others(
+        &mut tables.holders,
+        tables.contexts.contexts(),
+        process,
+        context,
+    );
+    tables.holders.let_go_of(thread);
+    tables.holders.let_go_of(ring);
+    tables.contexts.exec(client, context)?;
+    Ok(Answer::Nothing)
 }
 
 /// Lets go of what the other contexts of a process attach.

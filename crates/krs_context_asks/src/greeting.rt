@@ -3,12 +3,11 @@ ghost use Rattle.krs_types.specs.Caller.{caller_check};
 ghost use Rattle.krs_model.specs.Table.{at};
 ghost use Rattle.krs_model.specs.Outcome.{Leads};
 ghost use Rattle.krs_model.specs.Asks.Hello.{hello};
-ghost use Rattle.krs_store.specs.Making.{uid_name, named_uid_key, uid_key};
+ghost use Rattle.krs_tables.specs.Making.{uid_name, named_uid_key, uid_key};
 
-use crate::asks::holding::{check_room, hold_of, hold_twice, make_room};
-use crate::tables::Tables;
 use krs_keys::{Content, Key};
 use krs_links::Links;
+use krs_tables::{Tables, check_room, hold_of, hold_twice, make_room};
 use krs_types::{Answer, Blob, Caller, Desc, Errno, Fault, Kind, Name, Perm, Serial, UidRings};
 use std::alloc::{AllocError, Global};
 
@@ -59,85 +58,88 @@ fn uid_keys(alloc: Global, caller: &Caller, first: Serial) -> Result<(Key, Key),
     Ok((user, uid_key(session_name, links, caller)))
 }
 
-impl Tables {
-    /// A new context of the client, in a process of its own.
-    #[tactic(auto, unfolding(krs_model::specs::Asks::Hello::hello))]
-    pub(crate) fn hello(&mut self, client: u32, caller: Caller) -> Result<Answer, Fault>
-        ensures { Leads self.old result self.new (hello self.old client caller) }
-    {
-        caller.check()?;
-        match self.contexts.rings(caller.uid) {
-            Some(rings) => self.hello_known(client, caller, rings),
-            None => self.hello_first(client, caller),
+/// A new context of the client, in a process of its own.
+#[tactic(auto, unfolding(krs_model::specs::Asks::Hello::hello))]
+pub fn hello(tables: &mut Tables, client: u32, caller: Caller) -> Result<Answer, Fault>
+    ensures { Leads tables.old result tables.new (hello tables.old client caller) }
+{
+    caller.check()?;
+    match tables.contexts.rings(caller.uid) {
+        Some(rings) => hello_known(tables, client, caller, rings),
+        None => hello_first(tables, client, caller),
+    }
+}
+
+/// One more context, of a uid that has its keyrings.
+fn hello_known(
+    tables: &mut Tables,
+    client: u32,
+    caller: Caller,
+    rings: UidRings,
+) -> Result<Answer, Fault>
+    requires known { caller_check caller ≡ Ok tt }
+    requires rings { at tables.old.uids caller.uid ≡ Some rings }
+    ensures { Leads tables.old result tables.new (hello tables.old client caller) }
+{
+    tables.contexts.can_enter(client)?;
+    check_room(&tables.holders, &rings.session)?;
+    let number = tables.contexts.hello(client, caller, None)?;
+    hold_of(&mut tables.holders, &rings.session);
+    Ok(Answer::Number(number))
+}
+
+/// The first context of a uid, where serials are left for the uid's keyrings.
+fn hello_first(tables: &mut Tables, client: u32, caller: Caller) -> Result<Answer, Fault>
+    requires known { caller_check caller ≡ Ok tt }
+    requires absent { at tables.old.uids caller.uid ≡ None }
+    ensures { Leads tables.old result tables.new (hello tables.old client caller) }
+{
+    tables.contexts.can_enter(client)?;
+    let first = tables.keys.next();
+    if first > LAST_OF_TWO {
+        return Err(Fault::Refused(Errno::ENOSPC));
+    }
+    let (user, session) = uid_keys(tables.alloc, &caller, Serial::new(first))?;
+    open_first(tables, client, caller, user, session)
+}
+
+/// The first context of a uid, with these keyrings of it. A refusal leaves nothing of them.
+fn open_first(
+    tables: &mut Tables,
+    client: u32,
+    caller: Caller,
+    user: Key,
+    session: Key,
+) -> Result<Answer, Fault>
+    requires known { caller_check caller ≡ Ok tt }
+    requires absent { at tables.old.uids caller.uid ≡ None }
+    requires context { at tables.old.contexts tables.old.next_context ≡ None }
+    requires process { at tables.old.processes tables.old.next_context ≡ None }
+    requires serials { tables.old.next_serial ≤ 2147483646 }
+    requires user { user ≡ uid_key (codes "_uid.") [] caller }
+    requires session { session
+        ≡ uid_key (codes "_uid_ses.") ((user.name, tables.old.next_serial) ∷ []) caller }
+    ensures { Leads tables.old result tables.new (hello tables.old client caller) }
+{
+    let first = tables.keys.next();
+    let (one, two) = (Serial::new(first), Serial::new(first + 1));
+    make_room(&mut tables.holders, one)?;
+    make_room(&mut tables.holders, two)?;
+    let uid = caller.uid;
+    let rings = UidRings {
+        user: Some(one),
+        session: Some(two),
+    };
+    let number = tables.contexts.hello(client, caller, Some(rings))?;
+    match tables.keys.insert_two(user, session) {
+        Ok(_) => {
+            hold_twice(&mut tables.holders, one);
+            hold_twice(&mut tables.holders, two);
+            Ok(Answer::Number(number))
         }
-    }
-
-    /// One more context, of a uid that has its keyrings.
-    fn hello_known(&mut self, client: u32, caller: Caller, rings: UidRings) -> Result<Answer, Fault>
-        requires known { caller_check caller ≡ Ok tt }
-        requires rings { at self.old.uids caller.uid ≡ Some rings }
-        ensures { Leads self.old result self.new (hello self.old client caller) }
-    {
-        self.contexts.can_enter(client)?;
-        check_room(&self.holders, &rings.session)?;
-        let number = self.contexts.hello(client, caller, None)?;
-        hold_of(&mut self.holders, &rings.session);
-        Ok(Answer::Number(number))
-    }
-
-    /// The first context of a uid, where serials are left for the uid's keyrings.
-    fn hello_first(&mut self, client: u32, caller: Caller) -> Result<Answer, Fault>
-        requires known { caller_check caller ≡ Ok tt }
-        requires absent { at self.old.uids caller.uid ≡ None }
-        ensures { Leads self.old result self.new (hello self.old client caller) }
-    {
-        self.contexts.can_enter(client)?;
-        let first = self.keys.next();
-        if first > LAST_OF_TWO {
-            return Err(Fault::Refused(Errno::ENOSPC));
-        }
-        let (user, session) = uid_keys(self.alloc, &caller, Serial::new(first))?;
-        self.open_first(client, caller, user, session)
-    }
-
-    /// The first context of a uid, with these keyrings of it. A refusal leaves nothing of them.
-    fn open_first(
-        &mut self,
-        client: u32,
-        caller: Caller,
-        user: Key,
-        session: Key,
-    ) -> Result<Answer, Fault>
-        requires known { caller_check caller ≡ Ok tt }
-        requires absent { at self.old.uids caller.uid ≡ None }
-        requires context { at self.old.contexts self.old.next_context ≡ None }
-        requires process { at self.old.processes self.old.next_context ≡ None }
-        requires serials { self.old.next_serial ≤ 2147483646 }
-        requires user { user ≡ uid_key (codes "_uid.") [] caller }
-        requires session { session
-            ≡ uid_key (codes "_uid_ses.") ((user.name, self.old.next_serial) ∷ []) caller }
-        ensures { Leads self.old result self.new (hello self.old client caller) }
-    {
-        let first = self.keys.next();
-        let (one, two) = (Serial::new(first), Serial::new(first + 1));
-        make_room(&mut self.holders, one)?;
-        make_room(&mut self.holders, two)?;
-        let uid = caller.uid;
-        let rings = UidRings {
-            user: Some(one),
-            session: Some(two),
-        };
-        let number = self.contexts.hello(client, caller, Some(rings))?;
-        match self.keys.insert_two(user, session) {
-            Ok(_) => {
-                hold_twice(&mut self.holders, one);
-                hold_twice(&mut self.holders, two);
-                Ok(Answer::Number(number))
-            }
-            Err(_) => {
-                self.contexts.take_back(number, uid);
-                Err(Fault::Memory)
-            }
+        Err(_) => {
+            tables.contexts.take_back(number, uid);
+            Err(Fault::Memory)
         }
     }
 }

@@ -2,55 +2,58 @@ ghost use Rattle.std.specs.Prelude.{◌≡◌, ◌≢◌, Err, ◌==◌, ◌&&�
 ghost use Rattle.krs_types.specs.declared.fault.Fault.TheVariants.{Memory};
 ghost use Rattle.std.specs.Option.{option_to_list};
 ghost use Rattle.krs_model.specs.Outcome.{Leads};
-ghost use Rattle.krs_store.specs.Holding.{rings_of};
+ghost use Rattle.krs_tables.specs.Holding.{rings_of};
 ghost use Rattle.std.specs.List.{list_any};
 ghost use Rattle.std.specs.BTreeMap.{values};
 ghost use Rattle.krs_model.specs.Sweep.{context_roots, process_roots, uid_roots};
 ghost use Rattle.krs_hold.specs.Tally.{all_less};
 ghost use Rattle.krs_model.specs.Asks.Leaving.{contexts_without, has_process, has_uid, left, exit};
 
-use crate::tables::Tables;
 use krs_ctx::Contexts;
 use krs_hold::Holders;
+use krs_tables::Tables;
 use krs_types::{Answer, Context, Fault, Serial, UidRings};
 use std::collections::BTreeMap;
 
-impl Tables {
-    /// Closes all queues of a client and ends all its contexts, and what has no context then. It takes no memory.
-    pub(crate) fn leave(&mut self, client: u32)
-        ensures { self.new ≡ left self.old client }
-    {
-        self.queues.leave(client);
-        let contexts = self.contexts.contexts();
-        let_go_contexts(&mut self.holders, contexts, client);
-        let_go_processes(
-            &mut self.holders,
-            self.contexts.processes(),
-            contexts,
-            client,
-        );
-        let_go_uids(&mut self.holders, self.contexts.uids(), contexts, client);
-        self.contexts.leave(client);
-    }
+/// Closes all queues of a client and ends all its contexts, and what has no context then. It takes no memory.
+pub fn leave(tables: &mut Tables, client: u32)
+    ensures { tables.new ≡ left tables.old client }
+{
+    tables.queues.leave(client);
+    let contexts = tables.contexts.contexts();
+    let_go_contexts(&mut tables.holders, contexts, client);
+    let_go_processes(
+        &mut tables.holders,
+        tables.contexts.processes(),
+        contexts,
+        client,
+    );
+    let_go_uids(
+        &mut tables.holders,
+        tables.contexts.uids(),
+        contexts,
+        client,
+    );
+    tables.contexts.leave(client);
+}
 
-    /// Ends a context, and its process and the keyrings of its uid with their last context.
-    #[tactic(auto, unfolding(krs_model::specs::Asks::Leaving::exit))]
-    pub(crate) fn exit(&mut self, client: u32, context: u32) -> Result<Answer, Fault>
-        ensures step { Leads self.old result self.new (exit self.old client context) }
-        ensures memory { result ≢ Err Memory }
-    {
-        let own = self.context_of(client, context)?;
-        let (process, uid) = (own.process, own.caller.uid);
-        let (thread, session) = (own.thread, own.session);
-        let ring = self.process_ring(process);
-        let rings = self.contexts.rings(uid);
-        self.contexts.exit(client, context)?;
-        self.holders.let_go_of(thread);
-        self.holders.let_go_of(session);
-        let_go_process(&mut self.holders, &self.contexts, process, ring);
-        let_go_uid(&mut self.holders, &self.contexts, uid, rings);
-        Ok(Answer::Nothing)
-    }
+/// Ends a context, and its process and the keyrings of its uid with their last context.
+#[tactic(auto, unfolding(krs_model::specs::Asks::Leaving::exit))]
+pub fn exit(tables: &mut Tables, client: u32, context: u32) -> Result<Answer, Fault>
+    ensures step { Leads tables.old result tables.new (exit tables.old client context) }
+    ensures memory { result ≢ Err Memory }
+{
+    let own = tables.context_of(client, context)?;
+    let (process, uid) = (own.process, own.caller.uid);
+    let (thread, session) = (own.thread, own.session);
+    let ring = tables.process_ring(process);
+    let rings = tables.contexts.rings(uid);
+    tables.contexts.exit(client, context)?;
+    tables.holders.let_go_of(thread);
+    tables.holders.let_go_of(session);
+    let_go_process(&mut tables.holders, &tables.contexts, process, ring);
+    let_go_uid(&mut tables.holders, &tables.contexts, uid, rings);
+    Ok(Answer::Nothing)
 }
 
 /// Lets go of the keyring of a process that has no context.

@@ -1,8 +1,8 @@
 -- Where an added key goes, as the store tells it.
 use Rattle.std.specs.Prelude.{ℕ, ◌≤◌}
 use Rattle.krs_model.specs.Asks.Adding as model
-use Rattle.krs_store.specs.declared.asks.adding.Place.{Place}
-use Rattle.krs_store.specs.declared.asks.adding.Place.TheVariants.{Update, Make}
+use Rattle.krs_key_asks.specs.declared.adding.Place.{Place}
+use Rattle.krs_key_asks.specs.declared.adding.Place.TheVariants.{Update, Make}
 
 -- the place of the definitions
 abbrev pub meant : Place → model.Place

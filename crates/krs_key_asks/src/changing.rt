@@ -1,110 +1,99 @@
 ghost use Rattle.std.specs.Prelude.{◌≡◌, ◌||◌};
 ghost use Rattle.krs_model.specs.Outcome.{Leads, Is};
-ghost use Rattle.krs_model.specs.Asks.Changing.{changed, updatable, update, if_owner, set_perm, if_may_own, chown};
+ghost use Rattle.krs_model.specs.Asks.Changing.{updatable, update, if_owner, set_perm, if_may_own, chown};
 ghost use Rattle.krs_model.specs.Asks.Changing.{expiry_after, set_timeout, revoke};
 ghost use Rattle.krs_keys.specs.Keys.{seen};
-ghost use Rattle.krs_keys.specs.Changes.{meant_change};
 
-use crate::tables::Tables;
 use krs_keys::{Change, Key, LEAVE};
+use krs_tables::Tables;
 use krs_types::{Answer, Blob, Body, Caller, Errno, Fault, Kind, Perm, Rights, Serial, Want};
 
-impl Tables {
-    /// Changes the key at a serial, and nothing else.
-    pub(crate) fn change(&mut self, serial: Serial, change: Change)
-        ensures { self.new ≡ changed self.old serial (meant_change change) }
-    {
-        self.holders.let_go_taken(&self.keys, serial, &change);
-        self.keys.set(serial, change);
-    }
+/// Another payload for a key: keyctl(2), KEYCTL_UPDATE.
+#[tactic(auto, unfolding(krs_model::specs::Asks::Changing::update))]
+pub fn update(
+    tables: &mut Tables,
+    client: u32,
+    context: u32,
+    id: i32,
+    payload: Blob,
+) -> Result<Answer, Fault>
+    ensures { Leads tables.old result tables.new (update tables.old client context id payload) }
+{
+    let context = tables.context_of(client, context)?;
+    let (serial, key) = tables.look_up(context, id, Want::Granted(Rights::WRITE))?;
+    let kind = updatable(key.name.kind)?;
+    kind.check_payload(payload.as_slice())?;
+    let payload = Body::new(payload.into_vec());
+    tables.change(Serial::new(serial), Change::Payload(payload));
+    Ok(Answer::Nothing)
+}
 
-    /// Another payload for a key: keyctl(2), KEYCTL_UPDATE.
-    #[tactic(auto, unfolding(krs_model::specs::Asks::Changing::update))]
-    pub(crate) fn update(
-        &mut self,
-        client: u32,
-        context: u32,
-        id: i32,
-        payload: Blob,
-    ) -> Result<Answer, Fault>
-        ensures { Leads self.old result self.new (update self.old client context id payload) }
-    {
-        let context = self.context_of(client, context)?;
-        let (serial, key) = self.look_up(context, id, Want::Granted(Rights::WRITE))?;
-        let kind = updatable(key.name.kind)?;
-        kind.check_payload(payload.as_slice())?;
-        let payload = Body::new(payload.into_vec());
-        self.change(Serial::new(serial), Change::Payload(payload));
-        Ok(Answer::Nothing)
-    }
+/// Another permission mask for a key: keyctl(2), KEYCTL_SETPERM.
+#[tactic(auto, unfolding(krs_model::specs::Asks::Changing::set_perm))]
+pub fn set_perm(
+    tables: &mut Tables,
+    client: u32,
+    context: u32,
+    id: i32,
+    mask: u32,
+) -> Result<Answer, Fault>
+    ensures { Leads tables.old result tables.new (set_perm tables.old client context id mask) }
+{
+    let context = tables.context_of(client, context)?;
+    let (serial, key) = tables.look_up(context, id, Want::Granted(Rights::SETATTR))?;
+    let perm = Perm::from_u32(mask)?;
+    check_owner(&context.caller, key)?;
+    tables.change(Serial::new(serial), Change::Mask(perm));
+    Ok(Answer::Nothing)
+}
 
-    /// Another permission mask for a key: keyctl(2), KEYCTL_SETPERM.
-    #[tactic(auto, unfolding(krs_model::specs::Asks::Changing::set_perm))]
-    pub(crate) fn set_perm(
-        &mut self,
-        client: u32,
-        context: u32,
-        id: i32,
-        mask: u32,
-    ) -> Result<Answer, Fault>
-        ensures { Leads self.old result self.new (set_perm self.old client context id mask) }
-    {
-        let context = self.context_of(client, context)?;
-        let (serial, key) = self.look_up(context, id, Want::Granted(Rights::SETATTR))?;
-        let perm = Perm::from_u32(mask)?;
-        check_owner(&context.caller, key)?;
-        self.change(Serial::new(serial), Change::Mask(perm));
-        Ok(Answer::Nothing)
-    }
+/// Another owner and group for a key: keyctl(2), KEYCTL_CHOWN.
+#[tactic(auto, unfolding(krs_model::specs::Asks::Changing::chown))]
+pub fn chown(
+    tables: &mut Tables,
+    client: u32,
+    context: u32,
+    id: i32,
+    uid: u32,
+    gid: u32,
+) -> Result<Answer, Fault>
+    ensures { Leads tables.old result tables.new (chown tables.old client context id uid gid) }
+{
+    let context = tables.context_of(client, context)?;
+    let (serial, key) = tables.look_up(context, id, Want::Granted(Rights::SETATTR))?;
+    check_chown(&context.caller, uid, gid, key)?;
+    tables.change(Serial::new(serial), Change::Owner { uid, gid });
+    Ok(Answer::Nothing)
+}
 
-    /// Another owner and group for a key: keyctl(2), KEYCTL_CHOWN.
-    #[tactic(auto, unfolding(krs_model::specs::Asks::Changing::chown))]
-    pub(crate) fn chown(
-        &mut self,
-        client: u32,
-        context: u32,
-        id: i32,
-        uid: u32,
-        gid: u32,
-    ) -> Result<Answer, Fault>
-        ensures { Leads self.old result self.new (chown self.old client context id uid gid) }
-    {
-        let context = self.context_of(client, context)?;
-        let (serial, key) = self.look_up(context, id, Want::Granted(Rights::SETATTR))?;
-        check_chown(&context.caller, uid, gid, key)?;
-        self.change(Serial::new(serial), Change::Owner { uid, gid });
-        Ok(Answer::Nothing)
-    }
+/// When the time of a key is over, in seconds from now: keyctl(2), KEYCTL_SET_TIMEOUT.
+#[tactic(auto, unfolding(krs_model::specs::Asks::Changing::set_timeout))]
+pub fn set_timeout(
+    tables: &mut Tables,
+    client: u32,
+    context: u32,
+    id: i32,
+    seconds: u32,
+) -> Result<Answer, Fault>
+    ensures { Leads tables.old result tables.new (set_timeout tables.old client context id seconds) }
+{
+    let context = tables.context_of(client, context)?;
+    let (serial, _) = tables.look_up(context, id, Want::Granted(Rights::SETATTR))?;
+    let expiry = expiry_after(tables.clock, seconds);
+    tables.change(Serial::new(serial), Change::Expiry(expiry));
+    Ok(Answer::Nothing)
+}
 
-    /// When the time of a key is over, in seconds from now: keyctl(2), KEYCTL_SET_TIMEOUT.
-    #[tactic(auto, unfolding(krs_model::specs::Asks::Changing::set_timeout))]
-    pub(crate) fn set_timeout(
-        &mut self,
-        client: u32,
-        context: u32,
-        id: i32,
-        seconds: u32,
-    ) -> Result<Answer, Fault>
-        ensures { Leads self.old result self.new (set_timeout self.old client context id seconds) }
-    {
-        let context = self.context_of(client, context)?;
-        let (serial, _) = self.look_up(context, id, Want::Granted(Rights::SETATTR))?;
-        let expiry = expiry_after(self.clock, seconds);
-        self.change(Serial::new(serial), Change::Expiry(expiry));
-        Ok(Answer::Nothing)
-    }
-
-    /// The end of a key, which stays where it is linked: keyctl(2), KEYCTL_REVOKE.
-    #[tactic(auto, unfolding(krs_model::specs::Asks::Changing::revoke))]
-    pub(crate) fn revoke(&mut self, client: u32, context: u32, id: i32) -> Result<Answer, Fault>
-        ensures { Leads self.old result self.new (revoke self.old client context id) }
-    {
-        let context = self.context_of(client, context)?;
-        let want = Want::Either(Rights::WRITE, Rights::SETATTR);
-        let (serial, _) = self.look_up(context, id, want)?;
-        self.change(Serial::new(serial), Change::Revoked);
-        Ok(Answer::Nothing)
-    }
+/// The end of a key, which stays where it is linked: keyctl(2), KEYCTL_REVOKE.
+#[tactic(auto, unfolding(krs_model::specs::Asks::Changing::revoke))]
+pub fn revoke(tables: &mut Tables, client: u32, context: u32, id: i32) -> Result<Answer, Fault>
+    ensures { Leads tables.old result tables.new (revoke tables.old client context id) }
+{
+    let context = tables.context_of(client, context)?;
+    let want = Want::Either(Rights::WRITE, Rights::SETATTR);
+    let (serial, _) = tables.look_up(context, id, want)?;
+    tables.change(Serial::new(serial), Change::Revoked);
+    Ok(Answer::Nothing)
 }
 
 /// EOPNOTSUPP for a keyring.

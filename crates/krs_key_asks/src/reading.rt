@@ -4,38 +4,36 @@ ghost use Rattle.krs_model.specs.Asks.Reading.{read, describe, description, seri
 ghost use Rattle.krs_keys.specs.Keys.{seen};
 ghost use Rattle.krs_links.specs.Links.{serials};
 
-use crate::tables::Tables;
 use krs_keys::{Content, Key};
 use krs_links::Links;
+use krs_tables::Tables;
 use krs_types::{Answer, Body, Errno, Fault, Kind, Rights, Want};
 use std::alloc::{AllocError, Global};
 
-impl Tables {
-    /// The payload of a key, or what a keyring links: keyctl(2), KEYCTL_READ.
-    #[tactic(auto, unfolding(krs_model::specs::Asks::Reading::read))]
-    pub(crate) fn read(&self, client: u32, context: u32, id: i32) -> Result<Answer, Fault>
-        ensures { Leads self.now result self.now (read self.now client context id) }
-    {
-        let context = self.context_of(client, context)?;
-        let (_, key) = self.look_up(context, id, Want::ToRead)?;
-        match (key.name.kind, &key.content) {
-            (Kind::User, Content::Payload(bytes)) => Ok(Answer::Bytes(bytes.copy(self.alloc)?)),
-            (Kind::Keyring, Content::Links(links)) => {
-                Ok(Answer::Bytes(serial_bytes(self.alloc, links)?))
-            }
-            _ => Err(Fault::Refused(Errno::EOPNOTSUPP)),
+/// The payload of a key, or what a keyring links: keyctl(2), KEYCTL_READ.
+#[tactic(auto, unfolding(krs_model::specs::Asks::Reading::read))]
+pub fn read(tables: &Tables, client: u32, context: u32, id: i32) -> Result<Answer, Fault>
+    ensures { Leads tables.now result tables.now (read tables.now client context id) }
+{
+    let context = tables.context_of(client, context)?;
+    let (_, key) = tables.look_up(context, id, Want::ToRead)?;
+    match (key.name.kind, &key.content) {
+        (Kind::User, Content::Payload(bytes)) => Ok(Answer::Bytes(bytes.copy(tables.alloc)?)),
+        (Kind::Keyring, Content::Links(links)) => {
+            Ok(Answer::Bytes(serial_bytes(tables.alloc, links)?))
         }
+        _ => Err(Fault::Refused(Errno::EOPNOTSUPP)),
     }
+}
 
-    /// A key as text: keyctl(2), KEYCTL_DESCRIBE.
-    #[tactic(auto, unfolding(krs_model::specs::Asks::Reading::describe))]
-    pub(crate) fn describe(&self, client: u32, context: u32, id: i32) -> Result<Answer, Fault>
-        ensures { Leads self.now result self.now (describe self.now client context id) }
-    {
-        let context = self.context_of(client, context)?;
-        let (_, key) = self.look_up(context, id, Want::Granted(Rights::VIEW))?;
-        Ok(Answer::Bytes(description(self.alloc, key)?))
-    }
+/// A key as text: keyctl(2), KEYCTL_DESCRIBE.
+#[tactic(auto, unfolding(krs_model::specs::Asks::Reading::describe))]
+pub fn describe(tables: &Tables, client: u32, context: u32, id: i32) -> Result<Answer, Fault>
+    ensures { Leads tables.now result tables.now (describe tables.now client context id) }
+{
+    let context = tables.context_of(client, context)?;
+    let (_, key) = tables.look_up(context, id, Want::Granted(Rights::VIEW))?;
+    Ok(Answer::Bytes(description(tables.alloc, key)?))
 }
 
 /// The serials that a keyring links, 4 bytes each, the lowest first.

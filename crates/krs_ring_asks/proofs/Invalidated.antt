@@ -12,8 +12,8 @@ use Rattle.krs_hold.specs.Tally.{IsTallied, number_at, all_less}
 use Rattle.krs_hold.proofs.Detached.{tallied_whole}
 use Rattle.krs_ctx.specs.Anchors.{Anchors}
 use Rattle.krs_ctx.specs.Told.{anchors_without}
-use Rattle.krs_store.specs.declared.tables.Tables.TheInside.{Inside}
-use Rattle.krs_store.specs.View.{state_of, IsConsistent}
+use Rattle.krs_tables.specs.declared.tables.Tables.TheInside.{Inside}
+use Rattle.krs_tables.specs.View.{state_of, IsConsistent}
 
 -- the store with these parts is sound, and the key is out
 pub record IsDetached (s new : Inside) (serial : ℕ) : Type 0 where

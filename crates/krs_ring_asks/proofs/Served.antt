@@ -30,7 +30,7 @@ use Rattle.krs_model.specs.Asks.Adding.{IsRing}
 use Rattle.krs_model.specs.Asks.Changing.{changed}
 use Rattle.krs_model.specs.Asks.Linked.{name_of, nestable, link, unlink, if_linked, without_link}
 use Rattle.krs_model.proofs.Lookups.{look_up_usable}
-use Rattle.krs_store.specs.Linked.{room_in, Puts, Takes}
+use Rattle.krs_tables.specs.Linked.{room_in, Puts, Takes}
 
 -- a keyring that was looked up
 pub record IsFoundRing (s : State) (ring : ℕ × Key) : Type 0 where

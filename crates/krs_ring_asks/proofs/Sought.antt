@@ -28,9 +28,9 @@ use Rattle.krs_model.specs.Asks.Linked.{name_of, nestable, linked_into}
 use Rattle.krs_model.specs.Asks.Finding.{search_from, request, sought_name, sought_into, requested_into, found_into}
 use Rattle.krs_model.specs.Asks.Finding.{if_linkable}
 use Rattle.krs_types.specs.Growth.{has_destination}
-use Rattle.krs_store.specs.Linked.{room_in}
-use Rattle.krs_store.specs.Found.{if_granted, link_found}
-use Rattle.krs_store.proofs.Served.{IsFoundRing, within_as}
+use Rattle.krs_tables.specs.Linked.{room_in}
+use Rattle.krs_ring_asks.specs.Found.{if_granted, link_found}
+use Rattle.krs_ring_asks.proofs.Served.{IsFoundRing, within_as}
 
 -- a link whose tests are these
 by_tests :

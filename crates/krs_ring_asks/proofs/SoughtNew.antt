@@ -40,13 +40,14 @@ use Rattle.krs_model.proofs.Standing.{not_there}
 use Rattle.krs_model.proofs.NewSearches.{requested_with}
 use Rattle.krs_model.proofs.NewLinks.{found_into_new, found_into_self, linked_into_new, sought_into_new}
 use Rattle.krs_model.proofs.NewLinks.{requested_into_new}
-use Rattle.krs_store.specs.declared.asks.making.Special.{Special}
-use Rattle.krs_store.specs.declared.asks.making.Special.TheVariants.{Thread, Process}
-use Rattle.krs_store.specs.Found.{if_granted, found_below}
-use Rattle.krs_store.specs.Specials.{special_name, with_ring, Makes, is_of_name, found_made}
-use Rattle.krs_store.specs.Specials.{found_in, found_before, or_itself, beside}
-use Rattle.krs_store.proofs.NewRings.{IsNew, is_new, context_with, before, behind}
-use Rattle.krs_store.proofs.Sought.{wanted_of}
+use Rattle.krs_tables.specs.declared.making.Special.{Special}
+use Rattle.krs_tables.specs.declared.making.Special.TheVariants.{Thread, Process}
+use Rattle.krs_ring_asks.specs.Found.{if_granted, found_below}
+use Rattle.krs_tables.specs.Specials.{special_name, with_ring, Makes}
+use Rattle.krs_ring_asks.specs.Beside.{is_of_name, found_made}
+use Rattle.krs_ring_asks.specs.Beside.{found_in, found_before, or_itself, beside}
+use Rattle.krs_tables.proofs.NewRings.{IsNew, is_new, context_with, before, behind}
+use Rattle.krs_ring_asks.proofs.Sought.{wanted_of}
 
 -- an answer is a key that is there
 match_there : (name : Name) (holds : Key → Bool) (o : Option Key) → is_match name holds o ≡ true → IsSome o

@@ -17,7 +17,7 @@ use Rattle.krs_model.specs.Search.{found}
 use Rattle.krs_model.specs.Asks.Changing.{changed}
 use Rattle.krs_model.specs.Asks.Linked.{name_of, nestable}
 use Rattle.krs_model.specs.Outcome.{Outcome}
-use Rattle.krs_store.specs.Linked.{room_in}
+use Rattle.krs_tables.specs.Linked.{room_in}
 
 -- what a search finds from the head on, which is a keyring
 abbrev pub found_below : State → Context → ℕ × Key → Name → Result ℕ Errno

@@ -8,9 +8,9 @@ ghost use Rattle.krs_types.specs.Growth.{has_destination};
 ghost use Rattle.krs_model.specs.Notes.Posting.{posted_in};
 ghost use Rattle.krs_model.specs.Notes.Telling.{named, about, about_link, about_found};
 ghost use Rattle.krs_store.specs.Telling.{told_of, meant_note, linked_note, number_of, posts_told, Says, Foretells};
-ghost use Rattle.krs_store.specs.declared.asks.telling.Telling.TheVariants.{OfAdded};
+ghost use Rattle.krs_store.specs.declared.telling.Telling.TheVariants.{OfAdded};
 
-use crate::tables::Tables;
+use krs_tables::Tables;
 use krs_types::{Answer, Errno, KeyEvent, Op, Serial};
 
 /// What happened to a key, and the other key of a link, else 0: uapi linux/watch_queue.h, struct key_notification.
@@ -93,105 +93,111 @@ fn number_of(answer: &Answer) -> Option<u32>
     }
 }
 
-impl Tables {
-    /// What an ask tells of, if it is accepted.
-    pub(crate) fn telling(&self, client: u32, context: u32, op: &Op) -> Telling
-        requires sound { IsSound self.now }
-        ensures { Foretells result self.now client context op.now }
-    {
-        match op {
-            Op::Update { id, .. } => self.about(client, context, KeyEvent::Updated, *id),
-            Op::Revoke { id } => self.about(client, context, KeyEvent::Revoked, *id),
-            Op::Invalidate { id } => self.about(client, context, KeyEvent::Invalidated, *id),
-            Op::Clear { id } => self.about(client, context, KeyEvent::Cleared, *id),
-            Op::Chown { id, .. } => self.about(client, context, KeyEvent::Setattr, *id),
-            Op::SetPerm { id, .. } => self.about(client, context, KeyEvent::Setattr, *id),
-            Op::SetTimeout { id, .. } => self.about(client, context, KeyEvent::Setattr, *id),
-            Op::Link { key, ring } => self.about_link(
-                client,
-                context,
-                KeyEvent::Linked,
-                *ring,
-                *key,
-            ),
-            Op::Unlink { key, ring } => {
-                self.about_link(client, context, KeyEvent::Unlinked, *ring, *key)
-            }
-            Op::Search { dest, .. } => self.about_found(client, context, *dest),
-            Op::Request { dest, .. } => self.about_found(client, context, *dest),
-            Op::Add { ring, .. } => self.about_added(client, context, *ring),
-            Op::Hello(_) | Op::Thread | Op::Fork | Op::Exec | Op::GetId { .. } => Telling::Quiet,
-            Op::Join { .. } | Op::Read { .. } | Op::Describe { .. } => Telling::Quiet,
-            Op::Watch { .. } | Op::OpenQueue { .. } | Op::SetFilter { .. } => Telling::Quiet,
-            Op::ReadQueue { .. } | Op::CloseQueue { .. } => Telling::Quiet,
-            Op::Exit | Op::Leave => Telling::Quiet,
+/// What an ask tells of, if it is accepted.
+pub(crate) fn foretell(tables: &Tables, client: u32, context: u32, op: &Op) -> Telling
+    requires sound { IsSound tables.now }
+    ensures { Foretells result tables.now client context op.now }
+{
+    match op {
+        Op::Update { id, .. } => about(tables, client, context, KeyEvent::Updated, *id),
+        Op::Revoke { id } => about(tables, client, context, KeyEvent::Revoked, *id),
+        Op::Invalidate { id } => about(tables, client, context, KeyEvent::Invalidated, *id),
+        Op::Clear { id } => about(tables, client, context, KeyEvent::Cleared, *id),
+        Op::Chown { id, .. } => about(tables, client, context, KeyEvent::Setattr, *id),
+        Op::SetPerm { id, .. } => about(tables, client, context, KeyEvent::Setattr, *id),
+        Op::SetTimeout { id, .. } => about(tables, client, context, KeyEvent::Setattr, *id),
+        Op::Link { key, ring } => about_link(
+            tables,
+            client,
+            context,
+            KeyEvent::Linked,
+            *ring,
+            *key,
+        ),
+        Op::Unlink { key, ring } => {
+            about_link(tables, client, context, KeyEvent::Unlinked, *ring, *key)
         }
+        Op::Search { dest, .. } => about_found(tables, client, context, *dest),
+        Op::Request { dest, .. } => about_found(tables, client, context, *dest),
+        Op::Add { ring, .. } => about_added(tables, client, context, *ring),
+        Op::Hello(_) | Op::Thread | Op::Fork | Op::Exec | Op::GetId { .. } => Telling::Quiet,
+        Op::Join { .. } | Op::Read { .. } | Op::Describe { .. } => Telling::Quiet,
+        Op::Watch { .. } | Op::OpenQueue { .. } | Op::SetFilter { .. } => Telling::Quiet,
+        Op::ReadQueue { .. } | Op::CloseQueue { .. } => Telling::Quiet,
+        Op::Exit | Op::Leave => Telling::Quiet,
     }
+}
 
-    /// A note of an accepted ask goes to those that watch its key and let it pass.
-    pub(crate) fn tell(&mut self, telling: Telling, answer: &Answer)
-        ensures { self.new ≡ posted_in (posts_told (queues_of self.old) (told_of telling answer.now)) self.old }
-    {
-        match telling.note(answer) {
-            Some(note) => self.queues.post_all(note.event, note.key, note.aux),
-            None => {}
-        }
+/// A note of an accepted ask goes to those that watch its key and let it pass.
+pub(crate) fn tell(tables: &mut Tables, telling: Telling, answer: &Answer)
+    ensures { tables.new ≡ posted_in (posts_told (queues_of tables.old) (told_of telling answer.now)) tables.old }
+{
+    match telling.note(answer) {
+        Some(note) => tables.queues.post_all(note.event, note.key, note.aux),
+        None => {}
     }
+}
 
-    /// The serial that an id stands for in a context.
-    #[tactic(auto, unfolding(krs_model::specs::Notes::Telling::named))]
-    fn named(&self, client: u32, number: u32, id: i32) -> Result<Serial, Errno>
-        ensures { Is (λ n. n) result (named self.now client number id) }
-    {
-        let context = self.context_of(client, number)?;
-        self.serial_of(context, id)
+/// The serial that an id stands for in a context.
+#[tactic(auto, unfolding(krs_model::specs::Notes::Telling::named))]
+fn named(tables: &Tables, client: u32, number: u32, id: i32) -> Result<Serial, Errno>
+    ensures { Is (λ n. n) result (named tables.now client number id) }
+{
+    let context = tables.context_of(client, number)?;
+    tables.serial_of(context, id)
+}
+
+/// This happens to the key that an id stands for.
+fn about(tables: &Tables, client: u32, number: u32, event: KeyEvent, id: i32) -> Telling
+    ensures { Says result (λ answer. about event (named tables.now client number id)) }
+{
+    match named(tables, client, number, id) {
+        Ok(key) => Telling::OfKey(event, key),
+        Err(_) => Telling::Quiet,
     }
+}
 
-    /// This happens to the key that an id stands for.
-    fn about(&self, client: u32, number: u32, event: KeyEvent, id: i32) -> Telling
-        ensures { Says result (λ answer. about event (named self.now client number id)) }
-    {
-        match self.named(client, number, id) {
-            Ok(key) => Telling::OfKey(event, key),
-            Err(_) => Telling::Quiet,
-        }
+/// This happens to the keyring that an id stands for, by its link to a key.
+fn about_link(
+    tables: &Tables,
+    client: u32,
+    number: u32,
+    event: KeyEvent,
+    ring: i32,
+    key: i32,
+) -> Telling
+    ensures { Says result (λ answer.
+        about_link event (named tables.now client number ring) (named tables.now client number key)) }
+{
+    match (
+        named(tables, client, number, ring),
+        named(tables, client, number, key),
+    ) {
+        (Ok(ring), Ok(key)) => Telling::OfLink(event, ring, key),
+        _ => Telling::Quiet,
     }
+}
 
-    /// This happens to the keyring that an id stands for, by its link to a key.
-    fn about_link(&self, client: u32, number: u32, event: KeyEvent, ring: i32, key: i32) -> Telling
-        ensures { Says result (λ answer.
-            about_link event (named self.now client number ring) (named self.now client number key)) }
-    {
-        match (
-            self.named(client, number, ring),
-            self.named(client, number, key),
-        ) {
-            (Ok(ring), Ok(key)) => Telling::OfLink(event, ring, key),
-            _ => Telling::Quiet,
-        }
+/// The destination that an id stands for links what is found, where one is wanted.
+fn about_found(tables: &Tables, client: u32, number: u32, dest: i32) -> Telling
+    ensures { Says result (about_found (has_destination dest) (named tables.now client number dest)) }
+{
+    if dest == 0 {
+        return Telling::Quiet;
     }
-
-    /// The destination that an id stands for links what is found, where one is wanted.
-    fn about_found(&self, client: u32, number: u32, dest: i32) -> Telling
-        ensures { Says result (about_found (has_destination dest) (named self.now client number dest)) }
-    {
-        if dest == 0 {
-            return Telling::Quiet;
-        }
-        match self.named(client, number, dest) {
-            Ok(ring) => Telling::OfFound(ring),
-            Err(_) => Telling::Quiet,
-        }
+    match named(tables, client, number, dest) {
+        Ok(ring) => Telling::OfFound(ring),
+        Err(_) => Telling::Quiet,
     }
+}
 
-    /// The keyring that an id stands for links a new key, or a key that is there is updated. A keyring that is made
-    /// with the key has no watch yet.
-    fn about_added(&self, client: u32, number: u32, ring: i32) -> Telling
-        ensures { result ≡ OfAdded (result_ok (named self.now client number ring)) self.now.next_serial }
-    {
-        Telling::OfAdded {
-            ring: self.named(client, number, ring).ok(),
-            next: self.keys.next(),
-        }
+/// The keyring that an id stands for links a new key, or a key that is there is updated. A keyring that is made
+/// with the key has no watch yet.
+fn about_added(tables: &Tables, client: u32, number: u32, ring: i32) -> Telling
+    ensures { result ≡ OfAdded (result_ok (named tables.now client number ring)) tables.now.next_serial }
+{
+    Telling::OfAdded {
+        ring: named(tables, client, number, ring).ok(),
+        next: tables.keys.next(),
     }
 }

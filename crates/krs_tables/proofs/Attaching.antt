@@ -41,17 +41,17 @@ use Rattle.krs_hold.proofs.Places.{is_some_alter}
 use Rattle.krs_hold.proofs.Tallies.{tallied_with, tallied_hold, tallied_attached, some_with, number_with}
 use Rattle.krs_hold.proofs.Tallies.{number_other}
 use Rattle.krs_hold.proofs.KeyTallies.{tallied_insert}
-use Rattle.krs_store.specs.declared.asks.making.Special.{Special}
-use Rattle.krs_store.specs.declared.asks.making.Special.TheVariants.{Thread, Process}
-use Rattle.krs_store.specs.declared.asks.making.Maker.{Maker}
-use Rattle.krs_store.specs.declared.tables.Tables.TheInside.{Inside}
-use Rattle.krs_store.specs.Holding.{HasRoom, more_of}
-use Rattle.krs_store.specs.Specials.{with_ring, special_name, ring_key, IsMissing, HasPlace, attached_as, AreLinksTo}
-use Rattle.krs_store.specs.Specials.{ring_at, ring_made, linking_made, maker_of}
-use Rattle.krs_store.specs.View.{state_of, IsConsistent}
-use Rattle.krs_store.proofs.Entering.{own_there}
+use Rattle.krs_tables.specs.declared.making.Special.{Special}
+use Rattle.krs_tables.specs.declared.making.Special.TheVariants.{Thread, Process}
+use Rattle.krs_tables.specs.declared.making.Maker.{Maker}
+use Rattle.krs_tables.specs.declared.tables.Tables.TheInside.{Inside}
+use Rattle.krs_tables.specs.Holding.{HasRoom, more_of}
+use Rattle.krs_tables.specs.Specials.{with_ring, special_name, ring_key, IsMissing, HasPlace, attached_as, AreLinksTo}
+use Rattle.krs_tables.specs.Specials.{ring_at, ring_made, linking_made, maker_of}
+use Rattle.krs_tables.specs.View.{state_of, IsConsistent}
+use Rattle.krs_tables.proofs.Owning.{own_there}
 use Rattle.krs_model.proofs.Entering.{own_process_there}
-use Rattle.krs_store.proofs.Linking.{name_kept}
+use Rattle.krs_tables.proofs.Linking.{name_kept}
 
 -- the new keyring is attached once, and all else as often as before
 pub attached_times :

@@ -3,7 +3,7 @@ use Rattle.std.proofs.Common.{◌≡◌, ℕ, List, [], ◌∷◌, Option, Some,
 use Rattle.std.proofs.Common.{⊎_elim}
 use Rattle.krs_types.specs.declared.kind.Kind.{Kind}
 use Rattle.krs_types.specs.declared.kind.Kind.TheVariants.{User, Logon, Keyring}
-use Rattle.krs_store.specs.Making.{first_content}
+use Rattle.krs_tables.specs.Making.{first_content}
 use Rattle.krs_hold.proofs.Tallies.{tallied_with, some_with, more_with, number_other}
 use Rattle.std.specs.Option.{option_map, option_to_list, unwrap_or, IsSome, IfSome}
 use Rattle.std.proofs.Common.{◌+◌, ◌≤◌, ◌++◌, not, filter, arith}
@@ -18,7 +18,7 @@ use Rattle.krs_model.proofs.Levels.{in_right, same_is}
 use Rattle.krs_model.proofs.Roots.{in_uid, attached_at, uid_keys}
 use Rattle.krs_hold.proofs.Gathered.{times-put, times-filter}
 use Rattle.krs_hold.proofs.Tallies.{tallied_hold, tallied_attached, tallied_let_go_all, all_less-append}
-use Rattle.krs_store.specs.Holding.{more_of}
+use Rattle.krs_tables.specs.Holding.{more_of}
 use Rattle.std.proofs.lemmas.Bool.{true≢false}
 use Rattle.std.proofs.lemmas.Option.{none-some, same_Some}
 use Rattle.krs_types.specs.declared.name.Name.{Name}
@@ -40,8 +40,8 @@ use Rattle.krs_links.specs.Links.{LinkList, serials}
 use Rattle.krs_hold.specs.Tally.{AreExact, with_number, one_more, one_less, all_less}
 use Rattle.krs_hold.specs.Taken.{taken_at}
 use Rattle.krs_hold.proofs.KeyTallies.{tallied_change, tallied_link, tallied_unlink, tallied_insert}
-use Rattle.krs_store.specs.declared.tables.Tables.TheInside.{Inside}
-use Rattle.krs_store.specs.View.{state_of}
+use Rattle.krs_tables.specs.declared.tables.Tables.TheInside.{Inside}
+use Rattle.krs_tables.specs.View.{state_of}
 
 pub changed_tallied : (keys : Table Key) (attached : List ℕ) (numbers : Table ℕ) (k : ℕ) (c : Change)
     → AreExact keys numbers attached → AreExact (alter keys k (changed c))

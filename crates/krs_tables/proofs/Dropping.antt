@@ -15,9 +15,9 @@ use Rattle.krs_keys.specs.declared.key.Key.{Key}
 use Rattle.krs_keys.specs.Keys.{shown}
 use Rattle.krs_keys.specs.Kept.{Sweeps}
 use Rattle.krs_watch.specs.Changes.{swept}
-use Rattle.krs_store.specs.declared.tables.Tables.TheInside.{Inside}
-use Rattle.krs_store.specs.View.{state_of}
-use Rattle.krs_store.proofs.Telling.{IsSweptTable, swept_state}
+use Rattle.krs_tables.specs.declared.tables.Tables.TheInside.{Inside}
+use Rattle.krs_tables.specs.View.{state_of}
+use Rattle.krs_tables.proofs.Telling.{IsSweptTable, swept_state}
 
 -- with these keys and queues
 abbrev pub with_both : Inside → Table Key → Queues → model.State

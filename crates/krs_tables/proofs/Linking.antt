@@ -28,13 +28,13 @@ use Rattle.krs_keys.specs.Keys.{content_links, seen, seen_content, shown, name_a
 use Rattle.krs_keys.specs.Keys.{AreFit, IsOfKind, AreOfKind, with_entry, entered}
 use Rattle.krs_keys.proofs.Fitting.{fit_alter, named_linked}
 use Rattle.krs_keys.proofs.KeysLemmas.{serials-content, found_named, seen-with_entry}
-use Rattle.krs_store.specs.declared.tables.Tables.TheInside.{Inside}
+use Rattle.krs_tables.specs.declared.tables.Tables.TheInside.{Inside}
 use Rattle.std.specs.Int.{w32, to_le_bytes}
 use Rattle.krs_model.specs.Asks.Reading.{serial_bytes}
 use Rattle.krs_walk.specs.Walks.{OnlyRingsLink}
 use Rattle.krs_model.specs.Asks.Adding.{IsRing}
-use Rattle.krs_store.specs.View.{state_of}
-use Rattle.krs_store.specs.Linked.{name_in, room_in, has_link}
+use Rattle.krs_tables.specs.View.{state_of}
+use Rattle.krs_tables.specs.Linked.{name_in, room_in, has_link}
 
 name_shown : (o : Option Key) (name : Name) → option_map name_of (option_map seen o) ≡ Some name
     → option_map (λ (k : Key). k.name) o ≡ Some name

@@ -44,11 +44,11 @@ use Rattle.krs_model.proofs.NewKeyring.{HasMade, HasMadeFor, MadeNone, MadeOne, 
 use Rattle.krs_model.proofs.NewLookups.{look_up_other, look_up_new}
 use Rattle.krs_model.proofs.NewLinks.{IsFit, sound_fit, linked_new, linked_into_new, linked_into_self, place_of_new}
 use Rattle.krs_model.proofs.NewLinks.{got_new}
-use Rattle.krs_store.specs.declared.asks.making.Special.{Special}
-use Rattle.krs_store.specs.declared.asks.making.Special.TheVariants.{Thread, Process}
-use Rattle.krs_store.specs.Specials.{special_name, with_ring, IsMissing, id_of, Makes, is_coming_as, is_coming}
-use Rattle.krs_store.specs.Specials.{ring_made, linking_made, adding_made}
-use Rattle.krs_store.proofs.Entering.{own_there}
+use Rattle.krs_tables.specs.declared.making.Special.{Special}
+use Rattle.krs_tables.specs.declared.making.Special.TheVariants.{Thread, Process}
+use Rattle.krs_tables.specs.Specials.{special_name, with_ring, IsMissing, id_of, Makes, is_coming_as, is_coming}
+use Rattle.krs_tables.specs.Specials.{ring_made, linking_made, adding_made}
+use Rattle.krs_tables.proofs.Owning.{own_there}
 
 -- the context with the keyring that is made for it
 abbrev pub context_with : Special → State → Context → Context

@@ -26,18 +26,18 @@ use Rattle.krs_model.specs.Asks.Adding.{made, new_key, IsRing, place_of, by_matc
 use Rattle.krs_model.proofs.Tables.{at_map, put_map, alter_map, filter_map_keys, below_put, at_put_same, at_put_other}
 use Rattle.krs_model.proofs.Tables.{at_or_apart}
 use Rattle.krs_model.proofs.Levels.{or_true, same_is}
-use Rattle.krs_store.specs.declared.tables.Tables.TheInside.{Inside}
+use Rattle.krs_tables.specs.declared.tables.Tables.TheInside.{Inside}
 use Rattle.krs_keys.specs.declared.key.Key.{Key}
 use Rattle.krs_keys.specs.declared.key.Content.{Content}
 use Rattle.krs_keys.specs.declared.key.Content.TheVariants.{Payload, Links}
 use Rattle.krs_links.specs.Links.{LinkList, serials, linked_as}
 use Rattle.krs_keys.specs.Keys.{seen, seen_content, shown, content_links, name_at, AreNamed, AreFit, IsOfKind}
 use Rattle.krs_keys.specs.Keys.{AreOfKind, with_entry, entered, FindsByName, displaced_at, displaced_by}
-use Rattle.krs_store.specs.Making.{maker_key, first_content, uid_key}
+use Rattle.krs_tables.specs.Making.{maker_key, first_content, uid_key}
 use Rattle.krs_model.specs.Asks.Adding as adding
 use Rattle.krs_keys.specs.Kept.{Sweeps}
 use Rattle.krs_keys.specs.Table.{Keys, with_key}
-use Rattle.krs_store.specs.View.{state_of, IsConsistent}
+use Rattle.krs_tables.specs.View.{state_of, IsConsistent}
 use Rattle.krs_keys.proofs.KeysLemmas.{seen-with_entry, found_named, serials-content}
 use Rattle.krs_keys.proofs.KindsLemmas.{kinds_alter, kinds_put, kinds_kept, linked_kind}
 use Rattle.krs_keys.proofs.Fitting.{fit_alter, fit_put, fit_kept, named_linked, LinksKept}

@@ -24,16 +24,16 @@ use Rattle.krs_hold.specs.Tally.{number_at, with_number, one_more, all_less, Are
 use Rattle.krs_hold.proofs.Tallies.{number_other}
 use Rattle.krs_hold.proofs.Places.{is_some_alter}
 use Rattle.krs_ctx.specs.Anchors.{Anchors}
-use Rattle.krs_store.specs.declared.tables.Tables.TheInside.{Inside}
-use Rattle.krs_store.specs.declared.asks.making.Special.{Special}
-use Rattle.krs_store.specs.declared.asks.making.Maker.{Maker}
-use Rattle.krs_store.specs.Making.{maker_key}
-use Rattle.krs_store.specs.Specials.{ring_key, ring_at, attached_as, maker_of}
-use Rattle.krs_store.specs.Specials.{HasPlace, adding_made}
-use Rattle.krs_store.specs.View.{state_of, IsConsistent}
-use Rattle.krs_store.proofs.Attaching.{ring_alone, ring_sound, ring_told, alter_put}
-use Rattle.krs_store.proofs.Counting.{made_tallied, first_links}
-use Rattle.krs_store.proofs.Telling.{made_told, seen-maker_key}
+use Rattle.krs_tables.specs.declared.tables.Tables.TheInside.{Inside}
+use Rattle.krs_tables.specs.declared.making.Special.{Special}
+use Rattle.krs_tables.specs.declared.making.Maker.{Maker}
+use Rattle.krs_tables.specs.Making.{maker_key}
+use Rattle.krs_tables.specs.Specials.{ring_key, ring_at, attached_as, maker_of}
+use Rattle.krs_tables.specs.Specials.{HasPlace, adding_made}
+use Rattle.krs_tables.specs.View.{state_of, IsConsistent}
+use Rattle.krs_tables.proofs.Attaching.{ring_alone, ring_sound, ring_told, alter_put}
+use Rattle.krs_tables.proofs.Counting.{made_tallied, first_links}
+use Rattle.krs_tables.proofs.Telling.{made_told, seen-maker_key}
 
 -- a change at another number, before or after
 alter_put_other :

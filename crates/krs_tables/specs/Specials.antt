@@ -25,19 +25,16 @@ use Rattle.krs_model.specs.Asks.Adding.{made, new_key}
 use Rattle.krs_model.specs.Asks.Changing.{changed}
 use Rattle.krs_model.specs.Asks.Linked.{unless, name_of}
 use Rattle.krs_model.specs.Outcome.{Outcome}
-use Rattle.krs_model.specs.Linking.{is_named}
-use Rattle.krs_model.specs.Search.{found, requested}
-use Rattle.krs_store.specs.Found.{linkable}
-use Rattle.krs_store.specs.Linked.{name_in}
+use Rattle.krs_tables.specs.Linked.{name_in}
 use Rattle.krs_ctx.specs.Anchors.{Anchors, anchored, anchors_of}
 use Rattle.krs_ctx.specs.Told as anchors
 use Rattle.krs_keys.specs.declared.key.Key.{Key}
 use Rattle.krs_keys.specs.declared.key.Content.TheVariants.{Links}
 use Rattle.krs_keys.specs.Keys.{seen}
 use Rattle.krs_links.specs.Links.{LinkList}
-use Rattle.krs_store.specs.declared.asks.making.Special.{Special}
-use Rattle.krs_store.specs.declared.asks.making.Special.TheVariants.{Thread, Process}
-use Rattle.krs_store.specs.declared.asks.making.Maker.{Maker}
+use Rattle.krs_tables.specs.declared.making.Special.{Special}
+use Rattle.krs_tables.specs.declared.making.Special.TheVariants.{Thread, Process}
+use Rattle.krs_tables.specs.declared.making.Maker.{Maker}
 
 -- the state and the context of the definitions, where this keyring is made
 abbrev pub made_as : Option Special → State → ℕ → Context → State × Context
@@ -100,13 +97,6 @@ linking_made special s client number serial answer = do
     answer,
   ))
 
--- the same of a key that was found, where it grants LINK
-abbrev pub found_made : Special → State → ℕ → ℕ → ℕ → Outcome
-found_made special s client number serial = do
-  c ← context_of s client number
-  key ← linkable s c serial
-  linking_made special s client number serial (Number serial)
-
 -- it is made with a new key, where two serials are left
 abbrev pub adding_made : Special → State → ℕ → ℕ → Name → List ℕ → Outcome
 adding_made special s client number name payload = do
@@ -116,29 +106,6 @@ adding_made special s client number name payload = do
     made (with_ring special s number c) s.next_serial name (new_key name payload c.caller.uid c.caller.gid),
     Number (s.next_serial + 1),
   )
-
--- the name is that of the keyring
-abbrev pub is_of_name : Special → Context → Name → Bool
-is_of_name special c name = is_named name (Some (special_ring (special_name special).desc c.caller))
-
-abbrev pub found_in : State → Context → Name → Option ℕ → Result ℕ Errno
-found_in s c name None = Err ENOKEY
-found_in s c name (Some ring) = found s c ring name
-
--- what is found in what is attached before it: a process keyring comes behind the thread keyring
-abbrev pub found_before : Special → State → Context → Name → Result ℕ Errno
-found_before Thread s c name = Err ENOKEY
-found_before Process s c name = found_in s c name c.thread
-
--- it is not linked to itself
-abbrev pub or_itself : Result ℕ Errno → Result ℕ Errno
-or_itself (Ok serial) = Ok serial
-or_itself (Err e) = Err EDEADLK
-
--- what a request finds beside it
-abbrev pub beside : Special → State → Context → Name → Result ℕ Errno
-beside special s c name =
-    if is_of_name special c name then or_itself (found_before special s c name) else requested s c name
 
 -- the id stands for the keyring that is made
 abbrev pub is_coming_as : Special → ℕ → Result KeyId Errno → Bool

@@ -2,7 +2,7 @@
 use Rattle.krs_model.specs.State.{State}
 use Rattle.krs_model.specs.Sweep.{roots}
 use Rattle.krs_hold.specs.Tally.{AreExact}
-use Rattle.krs_store.specs.declared.tables.Tables.TheInside.{Inside}
+use Rattle.krs_tables.specs.declared.tables.Tables.TheInside.{Inside}
 use Rattle.krs_keys.specs.Keys.{shown, AreFit, AreOfKind}
 
 abbrev pub state_of : Inside → State

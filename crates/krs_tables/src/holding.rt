@@ -2,14 +2,14 @@ ghost use Rattle.std.specs.Prelude.{◌≡◌, ◌≤◌, ◌+◌, ◌-◌, ◌^
 ghost use Rattle.krs_model.specs.Table.{Table};
 ghost use Rattle.krs_keys.specs.declared.key.Key.{Key};
 ghost use Rattle.krs_hold.specs.Tally.{AreExact, number_at, with_number, one_more};
-ghost use Rattle.krs_store.specs.Holding.{HasRoom, more_of};
+ghost use Rattle.krs_tables.specs.Holding.{HasRoom, more_of};
 
 use krs_hold::Holders;
 use krs_types::Serial;
 use std::alloc::AllocError;
 
 /// Room for one more to hold what an attachment has.
-pub(crate) fn check_room(holders: &Holders, serial: &Option<Serial>) -> Result<(), AllocError>
+pub fn check_room(holders: &Holders, serial: &Option<Serial>) -> Result<(), AllocError>
     ensures { OnOk result (HasRoom holders.now serial.now) }
 {
     match serial {
@@ -19,7 +19,7 @@ pub(crate) fn check_room(holders: &Holders, serial: &Option<Serial>) -> Result<(
 }
 
 /// One attachment more holds what it has.
-pub(crate) fn hold_of(holders: &mut Holders, serial: &Option<Serial>)
+pub fn hold_of(holders: &mut Holders, serial: &Option<Serial>)
     requires { HasRoom holders.old serial.now }
     ensures { holders.new ≡ more_of serial.now holders.old }
 {
@@ -29,7 +29,7 @@ pub(crate) fn hold_of(holders: &mut Holders, serial: &Option<Serial>)
 }
 
 /// Room for the count of a new key, and for two holders of it.
-pub(crate) fn make_room(holders: &mut Holders, serial: Serial) -> Result<(), AllocError>
+pub fn make_room(holders: &mut Holders, serial: Serial) -> Result<(), AllocError>
     ensures ok { OnOk result (holders.new ≡ with_number serial holders.old) }
     ensures room { OnOk result (number_at holders.new serial + 2 ≤ 2 ^ 64 - 1) }
     ensures exact { (keys : Table Key) (attached : List ℕ)
@@ -45,7 +45,7 @@ pub(crate) fn make_room(holders: &mut Holders, serial: Serial) -> Result<(), All
 }
 
 /// Two holders more of a key.
-pub(crate) fn hold_twice(holders: &mut Holders, serial: Serial)
+pub fn hold_twice(holders: &mut Holders, serial: Serial)
     requires { number_at holders.old serial + 2 ≤ 2 ^ 64 - 1 }
     ensures { holders.new ≡ one_more serial (one_more serial holders.old) }
 {

@@ -7,13 +7,13 @@ ghost use Rattle.krs_model.specs.Asks.Adding.{made, new_key};
 ghost use Rattle.krs_model.specs.Outcome.{Leads};
 ghost use Rattle.krs_model.specs.Sound.{IsSound};
 ghost use Rattle.krs_types.specs.Name.{same_name};
-ghost use Rattle.krs_store.specs.Making.{maker_key};
-ghost use Rattle.krs_store.specs.Specials.{made_as, special_name, ring_key, Makes, IsMissing, ring_made};
-ghost use Rattle.krs_store.specs.Specials.{linking_made, adding_made};
-ghost use Rattle.krs_store.specs.Specials.{maker_of, attached_as, HasPlace, AreLinksTo, ring_at};
+ghost use Rattle.krs_tables.specs.Making.{maker_key};
+ghost use Rattle.krs_tables.specs.Specials.{made_as, special_name, ring_key, Makes, IsMissing, ring_made};
+ghost use Rattle.krs_tables.specs.Specials.{linking_made, adding_made};
+ghost use Rattle.krs_tables.specs.Specials.{maker_of, attached_as, HasPlace, AreLinksTo, ring_at};
 
-use crate::asks::adding::new_key;
-use crate::asks::holding::{check_room, hold_of, make_room};
+use crate::holding::{check_room, hold_of, make_room};
+use crate::made_keys::new_key;
 use crate::tables::Tables;
 use krs_ctx::Contexts;
 use krs_keys::{Content, Key, LAST_SERIAL};
@@ -24,7 +24,7 @@ use std::alloc::{AllocError, Global};
 
 /// A keyring that an ask makes where it wants it and there is none: thread-keyring(7), process-keyring(7).
 #[derive(Clone, Copy, Debug, PartialEq, Eq)]
-pub(crate) enum Special {
+pub enum Special {
     Thread,
     Process,
 }
@@ -40,7 +40,7 @@ pub(crate) struct Maker {
 
 impl Maker {
     /// The maker that a context of this number is.
-    pub(crate) fn of(number: u32, context: &Context) -> Maker
+    fn of(number: u32, context: &Context) -> Maker
         ensures { result ≡ maker_of number context.now }
     {
         Maker {
@@ -64,7 +64,7 @@ impl Special {
     }
 
     /// Whether a keyring of this name is sought.
-    pub(crate) fn is_of_name(self, name: &Name) -> bool
+    pub fn is_of_name(self, name: &Name) -> bool
         ensures { result ≡ same_name name.now (special_name self) }
     {
         name.kind == Kind::Keyring && name.desc.as_slice() == self.desc()
@@ -121,7 +121,7 @@ fn one_link(alloc: Global, name: &Name, serial: Serial) -> Result<Links, AllocEr
 impl Tables {
     /// The keyring that is to be made, where the id stands for the thread or the process keyring and there is none.
     #[tactic(auto, unfolding(krs_model::specs::Making::made_for))]
-    pub(crate) fn wanted(&self, number: u32, context: &Context, id: i32) -> Option<Special>
+    pub fn wanted(&self, number: u32, context: &Context, id: i32) -> Option<Special>
         ensures made { made_for self.now number context.now id ≡ made_as result self.now number context.now }
         ensures makes { Makes result self.now number context.now id }
     {
@@ -147,7 +147,7 @@ impl Tables {
     }
 
     /// The keyring made, empty: thread-keyring(7), process-keyring(7).
-    pub(crate) fn make_alone(
+    pub fn make_alone(
         &mut self,
         client: u32,
         number: u32,
@@ -164,7 +164,7 @@ impl Tables {
     }
 
     /// The keyring made, with a link to a key: ELOOP where that nests keyrings too deep.
-    pub(crate) fn make_linking(
+    pub fn make_linking(
         &mut self,
         client: u32,
         number: u32,
@@ -216,7 +216,7 @@ impl Tables {
     }
 
     /// The keyring made, with a link to a new key of that name.
-    pub(crate) fn make_adding(
+    pub fn make_adding(
         &mut self,
         client: u32,
         number: u32,

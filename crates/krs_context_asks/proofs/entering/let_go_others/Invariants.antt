@@ -1,7 +1,7 @@
 use Rattle.std.proofs.Common.{◌≡◌, ◌==◌, ◌&&◌, filter, not}
 use Rattle.krs_model.specs.Sweep.{context_roots}
 use Rattle.krs_hold.specs.Tally.{all_less}
-use Rattle.krs_store.proofs.asks.entering.let_go_others.Given as goal
+use Rattle.krs_context_asks.proofs.entering.let_go_others.Given as goal
 
 abbrev pub invariant-loop-other : goal.invariant-loop-other
 invariant-loop-other l =

@@ -1,7 +1,7 @@
 use Rattle.std.proofs.Common.{◌≤◌, length, arith, length-append}
 use Rattle.std.specs.Fmt.{decimal}
 use Rattle.std.proofs.lemmas.Fmt.{length-decimal-le}
-use Rattle.krs_store.proofs.asks.hello.uid_name.Goals as goal
+use Rattle.krs_context_asks.proofs.greeting.uid_name.Goals as goal
 
 pub new-requires-2 : goal.new-requires-2
 new-requires-2 c =

@@ -10,14 +10,14 @@ use Rattle.krs_keys.specs.Table.{Keys}
 use Rattle.krs_hold.specs.Tally.{AreExact, with_number, one_more, all_less}
 use Rattle.krs_ctx.specs.Anchors.{Anchors, anchored}
 use Rattle.krs_ctx.specs.Told.{changed}
-use Rattle.krs_store.specs.Joined.{session_in}
-use Rattle.krs_store.specs.View.{state_of, IsConsistent}
-use Rattle.krs_store.proofs.Joined.{made_joined_tallied, empty_fit, empty_kinds, joined_anew_is}
-use Rattle.krs_store.proofs.tables.Tables.join_new.Goals as goal
+use Rattle.krs_context_asks.specs.Joined.{session_in}
+use Rattle.krs_tables.specs.View.{state_of, IsConsistent}
+use Rattle.krs_context_asks.proofs.Joined.{made_joined_tallied, empty_fit, empty_kinds, joined_anew_is}
+use Rattle.krs_context_asks.proofs.joining.join_new.Goals as goal
 
-pub invariant_of-self-in-Ok : goal.invariant_of-self-in-Ok
-invariant_of-self-in-Ok c =
-    let s = c.self.inside in
+pub invariant_of-tables-in-Ok : goal.invariant_of-tables-in-Ok
+invariant_of-tables-in-Ok c =
+    let s = c.tables.inside in
     let base = state_of s in
     let es = s.keys.keys in
     let n = s.keys.next in
@@ -26,7 +26,7 @@ invariant_of-self-in-Ok c =
     let here : n ≤ n = omega arith in
     let none : at es n ≡ None = c.next-next.ensures.unused n here in
     let own : session_in base c.args.number ≡ Some left =
-    subst (λ (t : State). session_in t c.args.number ≡ Some left) (sym c.self.view_is) c.requires.own in
+    subst (λ (t : State). session_in t c.args.number ≡ Some left) (sym c.tables.view_is) c.requires.own in
     let ring : c.in-Ok.ring ≡ n = c.in-Ok.ensures.serial in
     let serial : c.new.result ≡ n = c.new.ensures ∙ c.next-next.ensures.value in
     let numbers : c.let_go_of.new.self ≡ all_less (option_to_list left) (one_more n (with_number n s.holders)) =
@@ -41,19 +41,19 @@ invariant_of-self-in-Ok c =
     IsConsistent (record s { keys = k; contexts = c.attach_session.new.self; holders = c.let_go_of.new.self }))
     (sym c.in-Ok.ensures.ok)
     (record {
-      fit = empty_fit es n key none c.requires.empty c.self.invariant.fit;
-      kinds = empty_kinds es n key c.requires.empty c.self.invariant.kinds;
+      fit = empty_fit es n key none c.requires.empty c.tables.invariant.fit;
+      kinds = empty_kinds es n key c.requires.empty c.tables.invariant.kinds;
       tallied =
           subst (λ (t : Anchors). AreExact (put es n key) c.let_go_of.new.self (roots (anchored base t)))
           (sym anchors)
           (subst (λ (zs : Table ℕ). AreExact (put es n key) zs (roots (joined_to base c.args.number n))) (sym numbers)
           (made_joined_tallied es base c.args.number n left key s.holders none c.requires.empty own
-          c.self.invariant.tallied));
+          c.tables.invariant.tallied));
     })
 
 pub returns-in-Ok : goal.returns-in-Ok
 returns-in-Ok c =
-    let s = c.self.inside in
+    let s = c.tables.inside in
     let base = state_of s in
     let es = s.keys.keys in
     let n = s.keys.next in
@@ -64,6 +64,6 @@ returns-in-Ok c =
     let few : n ≤ 2147483647 = omega (arith, next, c.if-next-gt-LAST_SERIAL.false) in
     let anchors : c.attach_session.new.self ≡ changed s.contexts c.args.number (session_to n) =
     c.attach_session.ensures ∙ ap (λ k. changed s.contexts c.args.number (session_to k)) ring in
-    rw (← c.self.view_is)
+    rw (← c.tables.view_is)
     (joined_anew_is base c.args.number (seen key) few
     ∙ rw (c.in-Ok.ensures.ok, anchors, put_map seen es n key, answer) refl)

@@ -7,20 +7,20 @@ use Rattle.krs_keys.specs.Keys.{shown}
 use Rattle.krs_hold.specs.Tally.{AreExact, all_less}
 use Rattle.krs_ctx.specs.Anchors.{Anchors, anchored}
 use Rattle.krs_ctx.proofs.LeadsLemmas.{left_whole}
-use Rattle.krs_store.specs.View.{state_of}
-use Rattle.krs_store.proofs.Counting.{left_told}
-use Rattle.krs_store.proofs.tables.Tables.leave.Goals as goal
+use Rattle.krs_tables.specs.View.{state_of}
+use Rattle.krs_tables.proofs.Counting.{left_told}
+use Rattle.krs_context_asks.proofs.leaving.leave.Goals as goal
 
-pub invariant_of-self : goal.invariant_of-self
+pub invariant_of-tables : goal.invariant_of-tables
 unfolding left
-invariant_of-self c =
-    let s = c.self.inside in
+invariant_of-tables c =
+    let s = c.tables.inside in
     let t = s.contexts in
     let cs = contexts_without c.args.client t.contexts in
     let contexts = c.contexts-contexts.ensures.value in
     record {
-      fit = c.self.invariant.fit;
-      kinds = c.self.invariant.kinds;
+      fit = c.tables.invariant.fit;
+      kinds = c.tables.invariant.kinds;
       tallied =
           subst (λ (a : Anchors). AreExact s.keys.keys c.let_go_uids.new.holders (roots (anchored (state_of s) a)))
           (sym (c.leave-2.ensures (state_of s)))
@@ -39,15 +39,15 @@ invariant_of-self c =
           c.uids.result.now.entries)) c.let_go_processes.new.holders) contexts
           ∙ ap (λ es. all_less (uid_roots (filter (λ e. not (has_uid cs e.0)) es))
           c.let_go_processes.new.holders) c.uids.ensures))
-          c.self.invariant.tallied);
+          c.tables.invariant.tallied);
     }
 
 pub returns : goal.returns
 unfolding left
 returns c =
-    let s = state_of c.self.inside in
+    let s = state_of c.tables.inside in
     let after : Queues → State = λ q.
     record (anchored s c.leave-2.new.self) { queues = q.queues; watches = q.watches; next_queue = q.next_queue } in
-    rw (← c.self.view_is)
+    rw (← c.tables.view_is)
     (ap after c.leave.ensures
-    ∙ sym (left_whole s c.self.inside.contexts _ c.args.client (c.leave-2.ensures s)))
+    ∙ sym (left_whole s c.tables.inside.contexts _ c.args.client (c.leave-2.ensures s)))

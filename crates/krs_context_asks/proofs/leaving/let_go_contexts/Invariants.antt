@@ -1,7 +1,7 @@
 use Rattle.std.proofs.Common.{◌≡◌, ◌==◌, filter}
 use Rattle.krs_model.specs.Sweep.{context_roots}
 use Rattle.krs_hold.specs.Tally.{all_less}
-use Rattle.krs_store.proofs.asks.leaving.let_go_contexts.Given as goal
+use Rattle.krs_context_asks.proofs.leaving.let_go_contexts.Given as goal
 
 abbrev pub invariant-loop-number : goal.invariant-loop-number
 invariant-loop-number l =

@@ -2,7 +2,7 @@ use Rattle.std.proofs.Common.{◌≡◌, filter, not}
 use Rattle.krs_model.specs.Sweep.{uid_roots}
 use Rattle.krs_model.specs.Asks.Leaving.{contexts_without, has_uid}
 use Rattle.krs_hold.specs.Tally.{all_less}
-use Rattle.krs_store.proofs.asks.leaving.let_go_uids.Given as goal
+use Rattle.krs_context_asks.proofs.leaving.let_go_uids.Given as goal
 
 abbrev pub invariant-loop-uid : goal.invariant-loop-uid
 invariant-loop-uid l =

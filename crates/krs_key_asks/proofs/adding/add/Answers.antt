@@ -4,13 +4,13 @@ use Rattle.std.proofs.lemmas.Int.{to_z-of_z}
 use Rattle.krs_types.specs.declared.name.Name.{Name}
 use Rattle.krs_model.specs.Outcome.{Leads}
 use Rattle.krs_model.specs.Asks.Adding.{admitted}
-use Rattle.krs_store.specs.Specials.{Makes, adding_made}
-use Rattle.krs_store.proofs.NewRings.{is_new, add_made}
-use Rattle.krs_store.proofs.tables.Tables.add.Goals as goal
+use Rattle.krs_tables.specs.Specials.{Makes, adding_made}
+use Rattle.krs_tables.proofs.NewRings.{is_new, add_made}
+use Rattle.krs_key_asks.proofs.adding.add.Goals as goal
 
 pub returns-in-Some : goal.returns-in-Some
 returns-in-Some c =
-    let s = c.args.self.now in
+    let s = c.args.tables.now in
     let x = c.in_ok-context.context.now in
     let own = c.in_ok-context.ensures in
     let special = c.in-Some.special in

@@ -6,16 +6,16 @@ use Rattle.krs_model.specs.Asks.Adding.{made, IsRing}
 use Rattle.krs_keys.specs.Keys.{with_entry, seen, shown, displaced_at}
 use Rattle.krs_keys.specs.declared.key.Key.{Key}
 use Rattle.krs_keys.specs.Table.{Keys}
-use Rattle.krs_store.specs.Making.{maker_key}
-use Rattle.krs_store.specs.View.{state_of, IsConsistent}
-use Rattle.krs_store.proofs.Telling.{made_told, seen-maker_key}
+use Rattle.krs_tables.specs.Making.{maker_key}
+use Rattle.krs_tables.specs.View.{state_of, IsConsistent}
+use Rattle.krs_tables.proofs.Telling.{made_told, seen-maker_key}
 use Rattle.krs_model.specs.Sweep.{roots}
 use Rattle.std.specs.Option.{option_to_list}
 use Rattle.krs_hold.specs.Tally.{AreExact, with_number, one_more, all_less}
 use Rattle.krs_hold.proofs.Tallies.{tallied_with}
-use Rattle.krs_store.proofs.Counting.{made_tallied, first_links}
-use Rattle.krs_store.specs.declared.tables.Tables.TheInside.{Inside}
-use Rattle.krs_store.proofs.tables.Tables.make.Goals as goal
+use Rattle.krs_tables.proofs.Counting.{made_tallied, first_links}
+use Rattle.krs_tables.specs.declared.tables.Tables.TheInside.{Inside}
+use Rattle.krs_key_asks.proofs.adding.make.Goals as goal
 
 room_sound : (s : Inside) (numbers : Table ℕ) (k : ℕ) → IsConsistent s → numbers ≡ with_number k s.holders
     → IsConsistent (record s { holders = numbers })
@@ -26,19 +26,19 @@ room_sound s numbers k sound e = record {
       (tallied_with (shown s.keys.keys) (roots (state_of s)) [] s.holders k sound.tallied);
 }
 
-pub invariant_of-self-then-not-has_room : goal.invariant_of-self-then-not-has_room
-invariant_of-self-then-not-has_room c =
-    room_sound c.self.inside c.made.new.self c.new-serial.result c.self.invariant c.in-Ok.ensures.ok
+pub invariant_of-tables-then-not-has_room : goal.invariant_of-tables-then-not-has_room
+invariant_of-tables-then-not-has_room c =
+    room_sound c.tables.inside c.made.new.self c.new-serial.result c.tables.invariant c.in-Ok.ensures.ok
 
-pub invariant_of-self-in-Err : goal.invariant_of-self-in-Err
-invariant_of-self-in-Err c =
-    subst (λ (k : Keys). IsConsistent (record c.self.inside { keys = k; holders = c.made.new.self }))
+pub invariant_of-tables-in-Err : goal.invariant_of-tables-in-Err
+invariant_of-tables-in-Err c =
+    subst (λ (k : Keys). IsConsistent (record c.tables.inside { keys = k; holders = c.made.new.self }))
     (sym c.in-Err.ensures.err)
-    (room_sound c.self.inside c.made.new.self c.new-serial.result c.self.invariant c.in-Ok.ensures.ok)
+    (room_sound c.tables.inside c.made.new.self c.new-serial.result c.tables.invariant c.in-Ok.ensures.ok)
 
-pub invariant_of-self-in-Ok-insert_linked : goal.invariant_of-self-in-Ok-insert_linked
-invariant_of-self-in-Ok-insert_linked c =
-    let s = c.self.inside in
+pub invariant_of-tables-in-Ok-insert_linked : goal.invariant_of-tables-in-Ok-insert_linked
+invariant_of-tables-in-Ok-insert_linked c =
+    let s = c.tables.inside in
     let es = s.keys.keys in
     let n = s.keys.next in
     let key = maker_key c.args.name c.args.payload c.args.uid c.args.gid in
@@ -52,10 +52,10 @@ invariant_of-self-in-Ok-insert_linked c =
     ∙ (ap (λ (k : Key). displaced_at (put es n k) c.args.ring c.in_ok-link.link) c.new_key-key.ensures
     ∙ ap (displaced_at (put es n key) c.args.ring) c.in_ok-link.ensures) in
     let ring : IsRing (state_of s) c.args.ring =
-    subst (λ (t : State). IsRing t c.args.ring) (sym c.self.view_is) c.requires.ring in
+    subst (λ (t : State). IsRing t c.args.ring) (sym c.tables.view_is) c.requires.ring in
     let told =
     made_told s c.insert_linked.new.self c.args.ring c.args.name c.args.payload c.args.uid c.args.gid
-    c.self.invariant c.next.ensures.unused ring here in
+    c.tables.invariant c.next.ensures.unused ring here in
     let here_n : n ≤ n = omega arith in
     let serial : c.new-serial.result ≡ n = c.new-serial.ensures ∙ c.next.ensures.value in
     let numbers : c.let_go_of.new.self ≡ all_less (option_to_list
@@ -73,12 +73,12 @@ invariant_of-self-in-Ok-insert_linked c =
           (displaced_at (put es n key) c.args.ring c.args.name)) (one_more n (with_number n s.holders)))
           (roots (state_of s))) (sym here)
           (made_tallied s (roots (state_of s)) c.args.ring c.args.name key (c.next.ensures.unused n here_n)
-          (first_links c.args.name.kind c.args.payload) ring c.self.invariant.tallied));
+          (first_links c.args.name.kind c.args.payload) ring c.tables.invariant.tallied));
     }
 
 pub returns-in-Ok-insert_linked-clause-ok : goal.returns-in-Ok-insert_linked-clause-ok
 returns-in-Ok-insert_linked-clause-ok c =
-    let s = c.self.inside in
+    let s = c.tables.inside in
     let es = s.keys.keys in
     let n = s.keys.next in
     let key = maker_key c.args.name c.args.payload c.args.uid c.args.gid in
@@ -88,10 +88,10 @@ returns-in-Ok-insert_linked-clause-ok c =
     c.in-Ok-insert_linked.ensures.ok
     ∙ (ap (λ k. after k c.in_ok-link.link) c.new_key-key.ensures ∙ ap (after key) c.in_ok-link.ensures) in
     let ring : IsRing (state_of s) c.args.ring =
-    subst (λ (t : State). IsRing t c.args.ring) (sym c.self.view_is) c.requires.ring in
+    subst (λ (t : State). IsRing t c.args.ring) (sym c.tables.view_is) c.requires.ring in
     let told =
     made_told s c.insert_linked.new.self c.args.ring c.args.name c.args.payload c.args.uid c.args.gid
-    c.self.invariant c.next.ensures.unused ring here in
-    told.is ∙ (ap (λ (t : State). made t c.args.ring c.args.name (seen key)) c.self.view_is
-    ∙ ap (made c.args.self.now c.args.ring c.args.name) (seen-maker_key c.args.name c.args.payload c.args.uid
+    c.tables.invariant c.next.ensures.unused ring here in
+    told.is ∙ (ap (λ (t : State). made t c.args.ring c.args.name (seen key)) c.tables.view_is
+    ∙ ap (made c.args.tables.now c.args.ring c.args.name) (seen-maker_key c.args.name c.args.payload c.args.uid
     c.args.gid))

@@ -8,13 +8,13 @@ use Rattle.krs_model.specs.Outcome.{Gives}
 use Rattle.krs_model.specs.Asks.Adding as model
 use Rattle.krs_links.specs.Links.{serials, linked_as}
 use Rattle.krs_keys.specs.Keys.{seen}
-use Rattle.krs_store.specs.Places.{meant}
-use Rattle.krs_store.proofs.Telling.{place_told}
-use Rattle.krs_store.proofs.tables.Tables.place_of.Goals as goal
+use Rattle.krs_key_asks.specs.Places.{meant}
+use Rattle.krs_tables.proofs.Telling.{place_told}
+use Rattle.krs_key_asks.proofs.adding.place_of.Goals as goal
 
 pub returns-in-Links-clause-place : goal.returns-in-Links-clause-place
 returns-in-Links-clause-place c =
-    let s = c.args.self.now in
+    let s = c.args.tables.now in
     let x = c.args.context.now in
     let links = c.in-Links.links in
     let passed = to_z-of_z w32 c.args.ring c.ranges.ring in

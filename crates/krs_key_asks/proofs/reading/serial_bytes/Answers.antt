@@ -1,7 +1,7 @@
 use Rattle.std.proofs.Common.{◌≤◌, ◌≡◌, ◌*◌, ◌∙◌, length, take, ap, arith}
 use Rattle.krs_links.specs.Links.{LinkList, serials}
-use Rattle.krs_store.proofs.Linking.{length-serial_bytes, length-taken}
-use Rattle.krs_store.proofs.asks.reading.serial_bytes.Goals as goal
+use Rattle.krs_tables.proofs.Linking.{length-serial_bytes, length-taken}
+use Rattle.krs_key_asks.proofs.reading.serial_bytes.Goals as goal
 
 pub new-requires : goal.new-requires
 new-requires c =

@@ -1,7 +1,7 @@
 use Rattle.std.proofs.Common.{◌≡◌, take}
 use Rattle.krs_model.specs.Asks.Reading.{serial_bytes}
 use Rattle.krs_links.specs.Links.{serials}
-use Rattle.krs_store.proofs.asks.reading.serial_bytes.Given as goal
+use Rattle.krs_key_asks.proofs.reading.serial_bytes.Given as goal
 
 -- the serials of what the loop has passed
 abbrev pub invariant-loop-link : goal.invariant-loop-link

@@ -8,14 +8,14 @@ use Rattle.krs_model.specs.Outcome.{Leads}
 use Rattle.krs_types.specs.declared.rights.Want.TheVariants.{Granted}
 use Rattle.krs_types.specs.Rights.{WRITE}
 use Rattle.krs_keys.specs.Keys.{seen}
-use Rattle.krs_store.proofs.Served.{found_ring, found_is_ring}
-use Rattle.krs_store.proofs.Sought.{requests, request_links, request_no_ring}
-use Rattle.krs_store.proofs.SoughtNew.{requests_new, request_new_refused, request_new_links}
-use Rattle.krs_store.proofs.tables.Tables.request.Goals as goal
+use Rattle.krs_ring_asks.proofs.Served.{found_ring, found_is_ring}
+use Rattle.krs_ring_asks.proofs.Sought.{requests, request_links, request_no_ring}
+use Rattle.krs_ring_asks.proofs.SoughtNew.{requests_new, request_new_refused, request_new_links}
+use Rattle.krs_ring_asks.proofs.finding.request.Goals as goal
 
 pub returns-in_err-links_of : goal.returns-in_err-links_of
 returns-in_err-links_of c =
-    let s = c.args.self.now in
+    let s = c.args.tables.now in
     let x = c.in_ok-context.context.now in
     let into : ℕ × Key = (c.in_ok-into.into, seen c.in_ok-into.ring.now) in
     let l = requests s c.args.client c.args.number c.args.type_name c.args.desc c.args.dest x c.in_ok-name.name
@@ -33,14 +33,14 @@ pub link_found-requires : goal.link_found-requires
 link_found-requires c =
     let ring : ℕ × Key = (c.in_ok-into.into, seen c.in_ok-into.ring.now) in
     record {
-      ring = found_is_ring c.args.self.now ring
-          (found_ring c.args.self.now c.in_ok-context.context.now _ ring _ c.in_ok-into.ensures.found
+      ring = found_is_ring c.args.tables.now ring
+          (found_ring c.args.tables.now c.in_ok-context.context.now _ ring _ c.in_ok-into.ensures.found
           c.in_ok-links_of.ensures);
     }
 
 pub returns : goal.returns
 returns c =
-    let s = c.args.self.now in
+    let s = c.args.tables.now in
     let x = c.in_ok-context.context.now in
     let into : ℕ × Key = (c.in_ok-into.into, seen c.in_ok-into.ring.now) in
     let l = requests s c.args.client c.args.number c.args.type_name c.args.desc c.args.dest x c.in_ok-name.name
@@ -51,11 +51,11 @@ returns c =
     let is = found_ring s x c.args.dest into _ into_found c.in_ok-links_of.ensures in
     let same = request_links s c.args.client c.args.number c.args.type_name c.args.desc c.args.dest x
     c.in_ok-name.name into c.in_ok-serial-2.serial l into_found is c.in_ok-serial-2.ensures in
-    subst (Leads s c.link_found.result c.link_found.new.self) (sym same) c.link_found.ensures
+    subst (Leads s c.link_found.result c.link_found.new.tables) (sym same) c.link_found.ensures
 
 pub returns-in_err-serial : goal.returns-in_err-serial
 returns-in_err-serial c =
-    let s = c.args.self.now in
+    let s = c.args.tables.now in
     let x = c.in_ok-context.context.now in
     let l = requests_new c.in-Some.special s c.args.client c.args.number c.args.type_name c.args.desc c.args.dest x
     c.in_ok-name.name c.requires.sound c.ranges.dest c.in_ok-context.ensures c.in_ok-name.ensures c.if-dest-eq0.false
@@ -67,11 +67,11 @@ returns-in_err-serial c =
 
 pub returns-in-Some : goal.returns-in-Some
 returns-in-Some c =
-    let s = c.args.self.now in
+    let s = c.args.tables.now in
     let x = c.in_ok-context.context.now in
     let l = requests_new c.in-Some.special s c.args.client c.args.number c.args.type_name c.args.desc c.args.dest x
     c.in_ok-name.name c.requires.sound c.ranges.dest c.in_ok-context.ensures c.in_ok-name.ensures c.if-dest-eq0.false
     c.in-Some.ensures.makes in
     let same = request_new_links c.in-Some.special s c.args.client c.args.number c.args.type_name c.args.desc
     c.args.dest x c.in_ok-name.name c.in_ok-serial.serial l c.in_ok-serial.ensures in
-    subst (Leads s c.link_found_new.result c.link_found_new.new.self) (sym same) c.link_found_new.ensures
+    subst (Leads s c.link_found_new.result c.link_found_new.new.tables) (sym same) c.link_found_new.ensures

@@ -8,23 +8,23 @@ use Rattle.krs_model.specs.Outcome.{Leads, Fails}
 use Rattle.krs_types.specs.declared.rights.Want.TheVariants.{Granted}
 use Rattle.krs_types.specs.Rights.{WRITE}
 use Rattle.krs_keys.specs.Keys.{seen}
-use Rattle.krs_store.proofs.Served.{found_ring, found_is_ring}
-use Rattle.krs_store.proofs.Sought.{seeks, search_links, search_unlooked, search_no_ring}
-use Rattle.krs_store.proofs.SoughtNew.{seeks_new, search_new_refused, search_new_links}
-use Rattle.krs_store.proofs.tables.Tables.search.Goals as goal
+use Rattle.krs_ring_asks.proofs.Served.{found_ring, found_is_ring}
+use Rattle.krs_ring_asks.proofs.Sought.{seeks, search_links, search_unlooked, search_no_ring}
+use Rattle.krs_ring_asks.proofs.SoughtNew.{seeks_new, search_new_refused, search_new_links}
+use Rattle.krs_ring_asks.proofs.finding.search.Goals as goal
 
 pub link_found-requires : goal.link_found-requires
 link_found-requires c =
     let ring : ℕ × Key = (c.in_ok-into.into, seen c.in_ok-into.ring.now) in
     record {
-      ring = found_is_ring c.args.self.now ring
-          (found_ring c.args.self.now c.in_ok-context.context.now _ ring _ c.in_ok-into.ensures.found
+      ring = found_is_ring c.args.tables.now ring
+          (found_ring c.args.tables.now c.in_ok-context.context.now _ ring _ c.in_ok-into.ensures.found
           c.in_ok-links_of-2.ensures);
     }
 
 pub returns-in_err-into : goal.returns-in_err-into
 returns-in_err-into c =
-    let s = c.args.self.now in
+    let s = c.args.tables.now in
     let x = c.in_ok-context.context.now in
     let from : ℕ × Key = (c.in_ok-head.head, seen c.in_ok-head.from.now) in
     let l = seeks s c.args.client c.args.number c.args.head c.args.type_name c.args.desc c.args.dest x
@@ -39,7 +39,7 @@ returns-in_err-into c =
 
 pub returns-in_err-links_of-2 : goal.returns-in_err-links_of-2
 returns-in_err-links_of-2 c =
-    let s = c.args.self.now in
+    let s = c.args.tables.now in
     let x = c.in_ok-context.context.now in
     let from : ℕ × Key = (c.in_ok-head.head, seen c.in_ok-head.from.now) in
     let into : ℕ × Key = (c.in_ok-into.into, seen c.in_ok-into.ring.now) in
@@ -58,7 +58,7 @@ returns-in_err-links_of-2 c =
 
 pub returns : goal.returns
 returns c =
-    let s = c.args.self.now in
+    let s = c.args.tables.now in
     let x = c.in_ok-context.context.now in
     let from : ℕ × Key = (c.in_ok-head.head, seen c.in_ok-head.from.now) in
     let into : ℕ × Key = (c.in_ok-into.into, seen c.in_ok-into.ring.now) in
@@ -72,11 +72,11 @@ returns c =
     let same = search_links s c.args.client c.args.number c.args.head c.args.type_name c.args.desc c.args.dest x
     c.in_ok-name.name from into _ c.in_ok-serial-2.serial l into_found c.in_ok-links_of.ensures is
     c.in_ok-serial-2.ensures in
-    subst (Leads s c.link_found.result c.link_found.new.self) (sym same) c.link_found.ensures
+    subst (Leads s c.link_found.result c.link_found.new.tables) (sym same) c.link_found.ensures
 
 pub returns-in_err-serial : goal.returns-in_err-serial
 returns-in_err-serial c =
-    let s = c.args.self.now in
+    let s = c.args.tables.now in
     let x = c.in_ok-context.context.now in
     let from : ℕ × Key = (c.in_ok-head.head, seen c.in_ok-head.from.now) in
     let l = seeks_new c.in-Some.special s c.args.client c.args.number c.args.head c.args.type_name c.args.desc
@@ -90,7 +90,7 @@ returns-in_err-serial c =
 
 pub returns-in-Some : goal.returns-in-Some
 returns-in-Some c =
-    let s = c.args.self.now in
+    let s = c.args.tables.now in
     let x = c.in_ok-context.context.now in
     let from : ℕ × Key = (c.in_ok-head.head, seen c.in_ok-head.from.now) in
     let l = seeks_new c.in-Some.special s c.args.client c.args.number c.args.head c.args.type_name c.args.desc
@@ -99,4 +99,4 @@ returns-in-Some c =
     c.in_ok-head.ensures.found c.if-dest-eq0.false c.in-Some.ensures.makes in
     let same = search_new_links c.in-Some.special s c.args.client c.args.number c.args.head c.args.type_name
     c.args.desc c.args.dest x c.in_ok-name.name from c.in_ok-serial.serial l c.in_ok-serial.ensures in
-    subst (Leads s c.link_found_new.result c.link_found_new.new.self) (sym same) c.link_found_new.ensures
+    subst (Leads s c.link_found_new.result c.link_found_new.new.tables) (sym same) c.link_found_new.ensures

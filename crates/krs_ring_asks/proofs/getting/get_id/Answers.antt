@@ -3,13 +3,13 @@ use Rattle.std.specs.Int.{w32}
 use Rattle.std.proofs.lemmas.Int.{to_z-of_z}
 use Rattle.krs_model.specs.Outcome.{Leads}
 use Rattle.krs_model.specs.Asks.Finding.{get_id}
-use Rattle.krs_store.specs.Specials.{Makes}
-use Rattle.krs_store.proofs.NewRings.{is_new, got_made}
-use Rattle.krs_store.proofs.tables.Tables.get_id.Goals as goal
+use Rattle.krs_tables.specs.Specials.{Makes}
+use Rattle.krs_tables.proofs.NewRings.{is_new, got_made}
+use Rattle.krs_ring_asks.proofs.getting.get_id.Goals as goal
 
 pub returns-in-Some : goal.returns-in-Some
 returns-in-Some c =
-    let s = c.args.self.now in
+    let s = c.args.tables.now in
     let x = c.in_ok-context.context.now in
     let own = c.in_ok-context.ensures in
     let special = c.in-Some.special in

@@ -9,13 +9,13 @@ use Rattle.krs_model.specs.State.{Key}
 use Rattle.krs_model.specs.Lookup.{look_up}
 use Rattle.krs_model.specs.Outcome.{Leads, Fails}
 use Rattle.krs_keys.specs.Keys.{seen}
-use Rattle.krs_store.specs.Specials.{is_coming, linking_made}
-use Rattle.krs_store.proofs.NewRings.{makes_own, is_new, link_to_itself, link_unlooked, link_linking}
-use Rattle.krs_store.proofs.tables.Tables.link_to_new.Goals as goal
+use Rattle.krs_tables.specs.Specials.{is_coming, linking_made}
+use Rattle.krs_tables.proofs.NewRings.{makes_own, is_new, link_to_itself, link_unlooked, link_linking}
+use Rattle.krs_ring_asks.proofs.linking.link_to_new.Goals as goal
 
 pub returns-then-is_coming : goal.returns-then-is_coming
 returns-then-is_coming c =
-    let s = c.args.self.now in
+    let s = c.args.tables.now in
     let x = c.in_ok-context.context.now in
     let own = c.in_ok-context.ensures in
     let makes = makes_own (Some c.args.special) s c.args.client c.args.number x c.args.ring own c.requires.makes in
@@ -27,7 +27,7 @@ returns-then-is_coming c =
 
 pub returns-in_err-serial : goal.returns-in_err-serial
 returns-in_err-serial c =
-    let s = c.args.self.now in
+    let s = c.args.tables.now in
     let x = c.in_ok-context.context.now in
     let own = c.in_ok-context.ensures in
     let makes = makes_own (Some c.args.special) s c.args.client c.args.number x c.args.ring own c.requires.makes in
@@ -45,7 +45,7 @@ returns-in_err-serial c =
 
 pub returns : goal.returns
 returns c =
-    let s = c.args.self.now in
+    let s = c.args.tables.now in
     let x = c.in_ok-context.context.now in
     let own = c.in_ok-context.ensures in
     let makes = makes_own (Some c.args.special) s c.args.client c.args.number x c.args.ring own c.requires.makes in

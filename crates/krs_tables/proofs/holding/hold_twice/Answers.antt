@@ -2,7 +2,7 @@ use Rattle.std.proofs.Common.{◌≤◌, ◌+◌, ℕ, arith, sym, subst}
 use Rattle.krs_model.specs.Table.{Table}
 use Rattle.krs_hold.specs.Tally.{number_at}
 use Rattle.krs_hold.proofs.Tallies.{number_more}
-use Rattle.krs_store.proofs.asks.holding.hold_twice.Goals as goal
+use Rattle.krs_tables.proofs.holding.hold_twice.Goals as goal
 
 pub hold-requires-2 : goal.hold-requires-2
 hold-requires-2 c =

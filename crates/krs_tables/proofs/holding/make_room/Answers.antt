@@ -3,7 +3,7 @@ use Rattle.krs_model.specs.Table.{Table}
 use Rattle.krs_keys.specs.Keys.{shown}
 use Rattle.krs_hold.specs.Tally.{AreExact}
 use Rattle.krs_hold.proofs.Tallies.{tallied_with}
-use Rattle.krs_store.proofs.asks.holding.make_room.Goals as goal
+use Rattle.krs_tables.proofs.holding.make_room.Goals as goal
 
 pub returns-then-not-has_room-clause-exact : goal.returns-then-not-has_room-clause-exact
 returns-then-not-has_room-clause-exact c = λ keys a h.

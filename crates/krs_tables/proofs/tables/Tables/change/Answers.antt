@@ -7,11 +7,11 @@ use Rattle.krs_keys.specs.Keys.{seen, shown}
 use Rattle.krs_keys.specs.Changes as keys
 use Rattle.krs_keys.proofs.KindsLemmas.{kinds_alter, changed_kind}
 use Rattle.krs_keys.proofs.ChangesLemmas.{fit_changed, seen-changed}
-use Rattle.krs_store.specs.View.{state_of}
+use Rattle.krs_tables.specs.View.{state_of}
 use Rattle.krs_model.specs.Sweep.{roots}
 use Rattle.krs_hold.specs.Tally.{AreExact}
-use Rattle.krs_store.proofs.Counting.{changed_tallied}
-use Rattle.krs_store.proofs.tables.Tables.change.Goals as goal
+use Rattle.krs_tables.proofs.Counting.{changed_tallied}
+use Rattle.krs_tables.proofs.tables.Tables.change.Goals as goal
 
 pub invariant_of-self : goal.invariant_of-self
 invariant_of-self c =

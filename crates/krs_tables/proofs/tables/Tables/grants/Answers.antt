@@ -4,8 +4,8 @@ use Rattle.krs_types.specs.Rights.{allows}
 use Rattle.krs_model.specs.Access.{rights_on}
 use Rattle.krs_model.specs.Possession.{possessed}
 use Rattle.krs_keys.specs.Keys.{seen}
-use Rattle.krs_store.proofs.Granting.{allows_more}
-use Rattle.krs_store.proofs.tables.Tables.grants.Goals as goal
+use Rattle.krs_tables.proofs.Granting.{allows_more}
+use Rattle.krs_tables.proofs.tables.Tables.grants.Goals as goal
 
 pub returns-then-allows : goal.returns-then-allows
 returns-then-allows c =

@@ -1,6 +1,6 @@
 use Rattle.std.proofs.Common.{sym}
 use Rattle.krs_keys.proofs.KeysLemmas.{finds_by_name}
-use Rattle.krs_store.proofs.tables.Tables.key.Goals as goal
+use Rattle.krs_tables.proofs.tables.Tables.key.Goals as goal
 
 pub returns-in-Some-clause-named : goal.returns-in-Some-clause-named
 returns-in-Some-clause-named c =

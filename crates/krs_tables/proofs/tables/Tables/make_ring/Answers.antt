@@ -3,10 +3,10 @@ use Rattle.std.specs.Option.{option_to_list}
 use Rattle.krs_model.specs.State.{State}
 use Rattle.krs_keys.specs.Table.{with_key}
 use Rattle.krs_hold.specs.Tally.{with_number, one_more}
-use Rattle.krs_store.specs.Holding.{more_of}
-use Rattle.krs_store.specs.Specials.{ring_key, HasPlace, AreLinksTo, attached_as, ring_at}
-use Rattle.krs_store.proofs.Attaching.{room_beside, ring_sound, ring_told}
-use Rattle.krs_store.proofs.tables.Tables.make_ring.Goals as goal
+use Rattle.krs_tables.specs.Holding.{more_of}
+use Rattle.krs_tables.specs.Specials.{ring_key, HasPlace, AreLinksTo, attached_as, ring_at}
+use Rattle.krs_tables.proofs.Attaching.{room_beside, ring_sound, ring_told}
+use Rattle.krs_tables.proofs.tables.Tables.make_ring.Goals as goal
 
 pub hold_of-requires : goal.hold_of-requires
 hold_of-requires c =

@@ -3,10 +3,10 @@ use Rattle.krs_model.specs.State.{State}
 use Rattle.krs_model.specs.Sweep.{roots}
 use Rattle.krs_model.specs.Asks.Adding.{made, new_key}
 use Rattle.krs_keys.specs.Table.{Keys}
-use Rattle.krs_store.specs.Specials.{ring_at}
-use Rattle.krs_store.specs.View.{state_of, IsConsistent}
-use Rattle.krs_store.proofs.TwoMade.{two_made, room_left}
-use Rattle.krs_store.proofs.tables.Tables.make_two.Goals as goal
+use Rattle.krs_tables.specs.Specials.{ring_at}
+use Rattle.krs_tables.specs.View.{state_of, IsConsistent}
+use Rattle.krs_tables.proofs.TwoMade.{two_made, room_left}
+use Rattle.krs_tables.proofs.tables.Tables.make_two.Goals as goal
 
 pub hold-requires-in-Ok : goal.hold-requires-in-Ok
 hold-requires-in-Ok c =

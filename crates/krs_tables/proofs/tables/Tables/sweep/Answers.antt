@@ -2,10 +2,10 @@ use Rattle.std.proofs.Common.{◌≡◌, ◌≤◌, length, sym, subst, arith}
 use Rattle.krs_model.specs.State.{State}
 use Rattle.krs_model.specs.Reach.{IsAcyclic, links_in}
 use Rattle.krs_model.specs.Sweep.{live_watches, roots}
-use Rattle.krs_store.specs.View.{state_of}
-use Rattle.krs_store.proofs.Telling.{sweep_told}
-use Rattle.krs_store.proofs.Dropping.{sweeps_dropped, sweeps_none}
-use Rattle.krs_store.proofs.tables.Tables.sweep.Goals as goal
+use Rattle.krs_tables.specs.View.{state_of}
+use Rattle.krs_tables.proofs.Telling.{sweep_told}
+use Rattle.krs_tables.proofs.Dropping.{sweeps_dropped, sweeps_none}
+use Rattle.krs_tables.proofs.tables.Tables.sweep.Goals as goal
 
 pub invariant_of-self : goal.invariant_of-self
 invariant_of-self c =

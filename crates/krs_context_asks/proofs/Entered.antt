@@ -34,8 +34,9 @@ use Rattle.krs_hold.proofs.Gathered.{times-put, times-filter, times-alter}
 use Rattle.krs_hold.proofs.Tallies.{tallied_attached, tallied_let_go_all}
 use Rattle.krs_ctx.specs.Told.{enterable, greeted, opened}
 use Rattle.krs_ctx.proofs.ToldLemmas.{threaded, forked}
-use Rattle.krs_store.specs.Holding.{more_of}
-use Rattle.krs_store.proofs.Counting.{counted_of, more_tallied, context_tallied, less_then, session_attached}
+use Rattle.krs_tables.specs.Holding.{more_of}
+use Rattle.krs_tables.proofs.Owning.{own_there}
+use Rattle.krs_tables.proofs.Counting.{counted_of, more_tallied, context_tallied, less_then, session_attached}
 
 -- one holder more, where attachments come to one more
 pub held_more :
@@ -57,21 +58,6 @@ held_less keys s t gone numbers less h =
     tallied_let_go_all keys (roots t) gone [] numbers
     (tallied_attached keys (roots s) (roots t) [] (gone ++ []) numbers
     (λ q. let a = less q in let b = times-append q gone [] in omega (arith, a, b)) h)
-
-found_own :
-    (client : ℕ) (o : Option Context) (c : Context) → (or_refuse ESRCH o >>= if_own client) ≡ Ok c → o ≡ Some c
-found_own client None c h = absurd cc
-found_own client (Some x) c h =
-    elim (x.client == client) as (λ b. (if b then Ok x else Err ESRCH) ≡ Ok c → Some x ≡ Some c) [
-      | true ↦ λ t. cc
-      | false ↦ λ t. absurd cc
-    ] h
-
--- a context of a client is there
-pub own_there :
-    (s : State) (client number : ℕ) (c : Context) → context_of s client number ≡ Ok c → at s.contexts number ≡ Some c
-unfolding context_of
-own_there s client number c h = found_own client (at s.contexts number) c h
 
 session_held_at :
     (s : State) (number : ℕ) (c : Context) (o : Option ℕ) → at s.contexts number ≡ Some c → c.session ≡ o
