@@ -6,7 +6,7 @@ use Rattle.std.proofs.lemmas.Nat.{from_le_bytes-to_le_bytes_4}
 use Rattle.std.proofs.Math.Nat.{mul-mod_right}
 use Rattle.krs_types.specs.declared.errno.Errno.{Errno}
 use Rattle.krs_model.specs.Asks.Reading.{serial_bytes}
-use Rattle.krs_store.proofs.Linking.{length-serial_bytes}
+use Rattle.krs_store.proofs.Listing.{length-serial_bytes}
 use Rattle.krs_ctl.specs.Printing.{serials_in, shown_serials}
 use Rattle.krs_ctl.specs.Listing.{LinksAreListed}
 

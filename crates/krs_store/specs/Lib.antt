@@ -1,10 +1,1 @@
-pub mod Granting
-pub mod Making
-pub mod Places
-pub mod Linked
-pub mod View
-pub mod Holding
-pub mod Specials
-pub mod Found
-pub mod Joined
 pub mod Telling

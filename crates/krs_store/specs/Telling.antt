@@ -14,9 +14,9 @@ use Rattle.krs_model.specs.Step.{outcome_of}
 use Rattle.krs_model.specs.Serving.{LeadsTold}
 use Rattle.krs_model.specs.Notes.Posting.{Note, Post, posts_of}
 use Rattle.krs_model.specs.Notes.Telling.{notes_of}
-use Rattle.krs_store.specs.declared.asks.telling.KeyNote.{KeyNote}
-use Rattle.krs_store.specs.declared.asks.telling.Telling.{Telling}
-use Rattle.krs_store.specs.declared.asks.telling.Telling.TheVariants.{Quiet, OfKey, OfLink, OfFound, OfAdded}
+use Rattle.krs_store.specs.declared.telling.KeyNote.{KeyNote}
+use Rattle.krs_store.specs.declared.telling.Telling.{Telling}
+use Rattle.krs_store.specs.declared.telling.Telling.TheVariants.{Quiet, OfKey, OfLink, OfFound, OfAdded}
 
 -- the note of the definitions
 abbrev pub meant_note : KeyNote → Note

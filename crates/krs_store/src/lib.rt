@@ -2,8 +2,9 @@
 //! state of the definitions in `krs_model`.
 #![tactic(auto)]
 
-mod asks;
+mod serving;
 mod store;
-mod tables;
+mod telling;
+mod watching;
 
 pub use store::Store;

@@ -8,7 +8,8 @@ ghost use Rattle.krs_model.specs.Sound.{IsSound};
 ghost use Rattle.krs_model.specs.Revocation.{StaysUnread};
 ghost use Rattle.krs_model.specs.Receiving.{GivesStreams};
 
-use crate::tables::Tables;
+use crate::serving::serve;
+use krs_tables::Tables;
 use krs_types::{Ask, Errno, Fault, Reply};
 use std::alloc::Global;
 use std::marker::Model;
@@ -58,7 +59,7 @@ impl Store {
         ensures memory { grows ask.op ≡ false → grows_meanwhile ask.op ≡ false → result ≢ Err ENOMEM }
     {
         self.tables.raise(moment);
-        match self.tables.serve(client, ask) {
+        match serve(&mut self.tables, client, ask) {
             Ok(answer) => {
                 self.tables.sweep();
                 Ok(answer)

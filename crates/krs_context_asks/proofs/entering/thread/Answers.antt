@@ -1,0 +1,44 @@
+use Rattle.std.proofs.Common.{◌≡◌, ◌≤◌, ◌∙◌, ℕ, Ok, ap, sym, subst, arith}
+use Rattle.krs_model.specs.Table.{Table}
+use Rattle.krs_model.specs.State.{State}
+use Rattle.krs_model.specs.Lookup.{context_of}
+use Rattle.krs_model.specs.Sweep.{roots}
+use Rattle.krs_keys.specs.Keys.{shown}
+use Rattle.krs_hold.specs.Tally.{AreExact}
+use Rattle.krs_ctx.specs.Anchors.{anchored}
+use Rattle.krs_ctx.specs.Told.{enterable}
+use Rattle.krs_ctx.proofs.ToldLemmas.{thread_refused}
+use Rattle.krs_tables.specs.View.{state_of}
+use Rattle.krs_context_asks.proofs.Entered.{thread_tallied, refused_as}
+use Rattle.krs_context_asks.proofs.entering.thread.Goals as goal
+
+pub returns-in_err-can_enter : goal.returns-in_err-can_enter
+returns-in_err-can_enter c =
+    refused_as _ _ _ _ c.from_residual-in_err-can_enter.ensures.1
+    (thread_refused c.args.tables.now c.args.client c.args.context c.in_ok-session.field-0.now _ c.in_ok-session.ensures
+    (ap (λ (t : State). enterable t c.args.client) (sym c.tables.view_is)
+    ∙ sym (c.in_err-can_enter.ensures.given (state_of c.tables.inside))))
+
+pub invariant_of-tables-2 : goal.invariant_of-tables-2
+invariant_of-tables-2 c =
+    let s = state_of c.tables.inside in
+    let keys = c.tables.inside.keys.keys in
+    let t = anchored s c.thread.new.self in
+    let own = c.in_ok-session.field-0.now in
+    let fresh = c.in_ok-can_enter.ensures.fit in
+    let last : s.next_context ≤ s.next_context = omega arith in
+    let found : context_of s c.args.client c.args.context ≡ Ok own =
+    subst (λ (z : State). context_of z c.args.client c.args.context ≡ Ok own) (sym c.tables.view_is)
+    c.in_ok-session.ensures in
+    record {
+      fit = c.tables.invariant.fit;
+      kinds = c.tables.invariant.kinds;
+      tallied =
+          subst (λ (zs : Table ℕ). AreExact keys zs (roots t)) (sym c.hold_of.ensures)
+          (thread_tallied (shown keys) s t c.args.client c.args.context c.in_ok-number.number own
+          c.tables.inside.holders
+          (fresh.contexts s.next_context last) found (c.in_ok-number.ensures s) c.tables.invariant.tallied);
+    }
+
+pub returns : goal.returns
+returns c = rw (← c.tables.view_is) (c.in_ok-number.ensures (state_of c.tables.inside))

@@ -1,0 +1,117 @@
+use Rattle.std.proofs.Common.{◌≡◌, ◌≤◌, ◌+◌, ◌∙◌, ℕ, refl, Option, Some, None, Ok, [], ◌∷◌, ap, sym, subst, arith}
+use Rattle.std.specs.Prelude.{codes}
+use Rattle.krs_types.specs.declared.ask.Answer.TheVariants.{Number}
+use Rattle.krs_types.specs.declared.context.UidRings.{UidRings}
+use Rattle.krs_model.specs.Table.{at, put, IsBelow}
+use Rattle.krs_model.specs.State.{State}
+use Rattle.krs_model.specs.Sweep.{roots}
+use Rattle.krs_model.proofs.Tables.{below_put}
+use Rattle.krs_links.specs.Links.{serials}
+use Rattle.krs_keys.specs.declared.key.Key.{Key}
+use Rattle.krs_keys.specs.Keys.{shown, content_links}
+use Rattle.krs_keys.specs.Table.{Keys}
+use Rattle.krs_hold.specs.Tally.{times, AreExact}
+use Rattle.krs_ctx.specs.Anchors.{anchored}
+use Rattle.krs_ctx.specs.Told.{greeted}
+use Rattle.krs_ctx.proofs.HelloLemmas.{hello_fails, hello_done, greeted_opens}
+use Rattle.krs_tables.specs.Making.{uid_key}
+use Rattle.krs_tables.specs.View.{state_of}
+use Rattle.krs_tables.proofs.Counting.{first_tallied, first_times, first_counted, room_on}
+use Rattle.krs_tables.proofs.Telling.{first_told}
+use Rattle.krs_context_asks.proofs.greeting.open_first.Goals as goal
+
+pub returns-in_err-number : goal.returns-in_err-number
+returns-in_err-number c =
+    rw (← c.tables.view_is)
+    (hello_fails (state_of c.tables.inside) c.tables.inside.contexts c.hello.new.self c.args.client c.args.caller
+    (Some (record { user = Some c.new-one.result; session = Some c.new-two.result }))
+    c.from_residual-in_err-number.result c.in_err-number.field-0.0 c.requires.known
+    c.from_residual-in_err-number.ensures.1 c.in_err-number.ensures.done)
+
+pub hold_twice-requires-in-Ok : goal.hold_twice-requires-in-Ok
+hold_twice-requires-in-Ok c =
+    let one = c.new-one.ensures in
+    let two = c.new-two.ensures in
+    room_on c.make_room-2.new.holders c.hold_twice.new.holders c.new-one.result c.new-two.result 18446744073709551615
+    (λ same. absurd (omega (arith, one, two, same))) c.hold_twice.ensures c.in_ok-make_room-2.ensures.room
+
+pub invariant_of-tables-in-Ok : goal.invariant_of-tables-in-Ok
+invariant_of-tables-in-Ok c =
+    let s = c.tables.inside in
+    let base = state_of s in
+    let es = s.keys.keys in
+    let n = s.keys.next in
+    let m = base.next_context in
+    let x = c.args.caller in
+    let a = c.args.user in
+    let b = c.args.session in
+    let mid = c.hello.new.self in
+    let here : n ≤ n = omega arith in
+    let unused = c.next-first.ensures.unused in
+    let next : c.args.tables.now.next_serial ≡ n = ap (λ (t : State). t.next_serial) (sym c.tables.view_is) in
+    let made : b ≡ uid_key (codes "_uid_ses.") ((a.name, n) ∷ []) x =
+    c.requires.session ∙ ap (λ k. uid_key (codes "_uid_ses.") ((a.name, k) ∷ []) x) next in
+    let told = first_told s c.insert_two.new.self x a b c.tables.invariant unused c.requires.user made
+    c.in-Ok.ensures.ok in
+    let one : c.new-one.result ≡ n = c.new-one.ensures ∙ c.next-first.ensures.value in
+    let two : c.new-two.result ≡ n + 1 = c.new-two.ensures ∙ ap (λ z. z + 1) c.next-first.ensures.value in
+    let rings : UidRings = record { user = Some c.new-one.result; session = Some c.new-two.result } in
+    let opens = greeted_opens s.contexts mid c.args.client x (Some rings) c.in_ok-number.number
+    c.in_ok-number.ensures.done in
+    let no_context : at base.contexts m ≡ None =
+    subst (λ (t : State). at t.contexts t.next_context ≡ None) (sym c.tables.view_is) c.requires.context in
+    let no_process : at base.processes m ≡ None =
+    subst (λ (t : State). at t.processes t.next_context ≡ None) (sym c.tables.view_is) c.requires.process in
+    let no_uid : at base.uids x.uid ≡ None =
+    subst (λ (t : State). at t.uids x.uid ≡ None) (sym c.tables.view_is) c.requires.absent in
+    let after = roots (anchored base mid) in
+    let attach : (q : ℕ) → times q after ≡ times q ((n + 1) ∷ (n + 1) ∷ n ∷ []) + times q (roots base) = λ q.
+    ap (λ (t : State). times q (roots t)) (opens base)
+    ∙ first_times base.contexts base.processes base.uids m x.uid n (n + 1) _ rings no_context no_process no_uid refl
+    (ap Some two) (ap Some one) (ap Some two) q in
+    let none : at es n ≡ None = unused n here in
+    let below : IsBelow (put es n a) (n + 1) = below_put es _ n a refl unused in
+    record {
+      fit = told.fit;
+      kinds = told.kinds;
+      tallied =
+          subst (λ (k : Keys). AreExact k.keys c.hold_twice-in-Ok.new.holders after) (sym c.in-Ok.ensures.ok)
+          (first_counted (shown (put (put es n a) (n + 1) b)) after s.holders _ _ _ _ n (n + 1) c.new-one.result
+          c.new-two.result one two c.in_ok-make_room.ensures.ok c.in_ok-make_room-2.ensures.ok c.hold_twice.ensures
+          c.hold_twice-in-Ok.ensures
+          (first_tallied es (roots base) after s.holders n (n + 1) a b none (below (n + 1) (omega arith))
+          (ap (λ (k : Key). content_links k.content) c.requires.user)
+          (ap (λ (k : Key). serials (content_links k.content)) made) attach c.tables.invariant.tallied));
+    }
+
+pub returns-in-Ok : goal.returns-in-Ok
+returns-in-Ok c =
+    let s = c.tables.inside in
+    let base = state_of s in
+    let n = s.keys.next in
+    let x = c.args.caller in
+    let a = c.args.user in
+    let b = c.args.session in
+    let mid = c.hello.new.self in
+    let next : c.args.tables.now.next_serial ≡ n = ap (λ (t : State). t.next_serial) (sym c.tables.view_is) in
+    let few : n ≤ 2147483646 =
+    subst (λ (t : State). t.next_serial ≤ 2147483646) (sym c.tables.view_is) c.requires.serials in
+    let made : b ≡ uid_key (codes "_uid_ses.") ((a.name, n) ∷ []) x =
+    c.requires.session ∙ ap (λ k. uid_key (codes "_uid_ses.") ((a.name, k) ∷ []) x) next in
+    let told =
+    first_told s c.insert_two.new.self x a b c.tables.invariant c.next-first.ensures.unused c.requires.user made
+    c.in-Ok.ensures.ok in
+    let no_uid : at base.uids x.uid ≡ None =
+    subst (λ (t : State). at t.uids x.uid ≡ None) (sym c.tables.view_is) c.requires.absent in
+    let one : c.new-one.result ≡ n = c.new-one.ensures ∙ c.next-first.ensures.value in
+    let two : c.new-two.result ≡ n + 1 = c.new-two.ensures ∙ ap (λ z. z + 1) c.next-first.ensures.value in
+    let given : Some (record { user = Some c.new-one.result; session = Some c.new-two.result })
+    ≡ Some (record { user = Some n; session = Some (n + 1) }) = rw (one, two) refl in
+    let accepted : (q : State)
+    → greeted (anchored q s.contexts) c.args.client x (Some (record { user = Some n; session = Some (n + 1) }))
+    ≡ Ok (anchored q mid, Number c.in_ok-number.number) = λ q.
+    ap (λ (r : Option UidRings). greeted (anchored q s.contexts) c.args.client x r) (sym given)
+    ∙ c.in_ok-number.ensures.done q in
+    rw (← c.tables.view_is)
+    (hello_done base s.contexts mid c.args.client x c.in_ok-number.number c.requires.known no_uid few accepted
+    ∙ rw (told.is, told.next) refl)

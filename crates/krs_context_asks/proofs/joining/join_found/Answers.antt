@@ -1,0 +1,37 @@
+use Rattle.std.proofs.Common.{◌≡◌, ℕ, Some, ap, sym, ◌∙◌, subst}
+use Rattle.std.specs.Option.{option_to_list, IsSome}
+use Rattle.krs_model.specs.Table.{Table, at}
+use Rattle.krs_model.specs.State.{State}
+use Rattle.krs_model.specs.Sweep.{roots}
+use Rattle.krs_model.specs.Asks.Joining.{joined_to}
+use Rattle.krs_keys.specs.Keys.{shown}
+use Rattle.krs_hold.specs.Tally.{AreExact, one_more, all_less}
+use Rattle.krs_ctx.specs.Anchors.{Anchors, anchored}
+use Rattle.krs_context_asks.specs.Joined.{session_in}
+use Rattle.krs_tables.specs.View.{state_of}
+use Rattle.krs_context_asks.proofs.Joined.{joined_tallied}
+use Rattle.krs_context_asks.proofs.joining.join_found.Goals as goal
+
+pub invariant_of-tables : goal.invariant_of-tables
+invariant_of-tables c =
+    let base = state_of c.tables.inside in
+    let keys = c.tables.inside.keys.keys in
+    let number = c.args.number in
+    let ring = c.args.ring in
+    let left = c.args.left in
+    let own : session_in base number ≡ Some left =
+    subst (λ (s : State). session_in s number ≡ Some left) (sym c.tables.view_is) c.requires.own in
+    let there : IsSome (at (shown keys) ring) =
+    subst (λ (s : State). IsSome (at s.keys ring)) (sym c.tables.view_is) c.requires.there in
+    let numbers : c.let_go_of.new.self ≡ all_less (option_to_list left) (one_more ring c.tables.inside.holders) =
+    c.let_go_of.ensures ∙ ap (all_less (option_to_list left)) c.hold.ensures in
+    record {
+      fit = c.tables.invariant.fit;
+      kinds = c.tables.invariant.kinds;
+      tallied =
+          subst (λ (t : Anchors). AreExact keys c.let_go_of.new.self (roots (anchored base t)))
+          (sym c.attach_session.ensures)
+          (subst (λ (zs : Table ℕ). AreExact keys zs (roots (joined_to base number ring))) (sym numbers)
+          (joined_tallied (shown keys) base number ring left c.tables.inside.holders own
+          (c.tables.invariant.tallied.counted ring there) c.tables.invariant.tallied));
+    }

@@ -1,0 +1,69 @@
+use Rattle.std.proofs.Common.{◌≡◌, ◌≤◌, ℕ, None, Some, refl, ap, sym, ◌∙◌, subst, arith}
+use Rattle.std.specs.Option.{option_to_list}
+use Rattle.krs_model.specs.Table.{Table, at, put}
+use Rattle.krs_model.specs.State.{State}
+use Rattle.krs_model.specs.Sweep.{roots}
+use Rattle.krs_model.specs.Asks.Joining.{joined_to, session_to}
+use Rattle.krs_model.proofs.Tables.{put_map}
+use Rattle.krs_keys.specs.Keys.{seen}
+use Rattle.krs_keys.specs.Table.{Keys}
+use Rattle.krs_hold.specs.Tally.{AreExact, with_number, one_more, all_less}
+use Rattle.krs_ctx.specs.Anchors.{Anchors, anchored}
+use Rattle.krs_ctx.specs.Told.{changed}
+use Rattle.krs_context_asks.specs.Joined.{session_in}
+use Rattle.krs_tables.specs.View.{state_of, IsConsistent}
+use Rattle.krs_context_asks.proofs.Joined.{made_joined_tallied, empty_fit, empty_kinds, joined_anew_is}
+use Rattle.krs_context_asks.proofs.joining.join_new.Goals as goal
+
+pub invariant_of-tables-in-Ok : goal.invariant_of-tables-in-Ok
+invariant_of-tables-in-Ok c =
+    let s = c.tables.inside in
+    let base = state_of s in
+    let es = s.keys.keys in
+    let n = s.keys.next in
+    let key = c.args.key in
+    let left = c.args.left in
+    let here : n ≤ n = omega arith in
+    let none : at es n ≡ None = c.next-next.ensures.unused n here in
+    let own : session_in base c.args.number ≡ Some left =
+    subst (λ (t : State). session_in t c.args.number ≡ Some left) (sym c.tables.view_is) c.requires.own in
+    let ring : c.in-Ok.ring ≡ n = c.in-Ok.ensures.serial in
+    let serial : c.new.result ≡ n = c.new.ensures ∙ c.next-next.ensures.value in
+    let numbers : c.let_go_of.new.self ≡ all_less (option_to_list left) (one_more n (with_number n s.holders)) =
+    c.let_go_of.ensures
+    ∙ ap (all_less (option_to_list left)) (c.hold.ensures
+    ∙ (ap (one_more c.in-Ok.ring) c.in_ok-make_room.ensures.ok
+    ∙ (ap (λ k. one_more k (with_number c.new.result s.holders)) ring
+    ∙ ap (λ k. one_more n (with_number k s.holders)) serial))) in
+    let anchors : c.attach_session.new.self ≡ changed s.contexts c.args.number (session_to n) =
+    c.attach_session.ensures ∙ ap (λ k. changed s.contexts c.args.number (session_to k)) ring in
+    subst (λ (k : Keys).
+    IsConsistent (record s { keys = k; contexts = c.attach_session.new.self; holders = c.let_go_of.new.self }))
+    (sym c.in-Ok.ensures.ok)
+    (record {
+      fit = empty_fit es n key none c.requires.empty c.tables.invariant.fit;
+      kinds = empty_kinds es n key c.requires.empty c.tables.invariant.kinds;
+      tallied =
+          subst (λ (t : Anchors). AreExact (put es n key) c.let_go_of.new.self (roots (anchored base t)))
+          (sym anchors)
+          (subst (λ (zs : Table ℕ). AreExact (put es n key) zs (roots (joined_to base c.args.number n))) (sym numbers)
+          (made_joined_tallied es base c.args.number n left key s.holders none c.requires.empty own
+          c.tables.invariant.tallied));
+    })
+
+pub returns-in-Ok : goal.returns-in-Ok
+returns-in-Ok c =
+    let s = c.tables.inside in
+    let base = state_of s in
+    let es = s.keys.keys in
+    let n = s.keys.next in
+    let key = c.args.key in
+    let ring : c.in-Ok.ring ≡ n = c.in-Ok.ensures.serial in
+    let answer : c.number.result ≡ n = c.number.ensures ∙ ring in
+    let next : n ≡ c.next-next.result = sym c.next-next.ensures.value in
+    let few : n ≤ 2147483647 = omega (arith, next, c.if-next-gt-LAST_SERIAL.false) in
+    let anchors : c.attach_session.new.self ≡ changed s.contexts c.args.number (session_to n) =
+    c.attach_session.ensures ∙ ap (λ k. changed s.contexts c.args.number (session_to k)) ring in
+    rw (← c.tables.view_is)
+    (joined_anew_is base c.args.number (seen key) few
+    ∙ rw (c.in-Ok.ensures.ok, anchors, put_map seen es n key, answer) refl)

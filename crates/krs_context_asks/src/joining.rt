@@ -1,0 +1,133 @@
+ghost use Rattle.std.specs.Prelude.{◌≡◌, ◌≤◌, length, Some, Ok, IfOk, OnOk, IfSome, IsSome};
+ghost use Rattle.std.specs.Option.{option_map};
+ghost use Rattle.krs_model.specs.Table.{at};
+ghost use Rattle.krs_model.specs.Outcome.{Leads};
+ghost use Rattle.krs_types.specs.declared.ask.Answer.TheVariants.{Number};
+ghost use Rattle.krs_model.specs.Asks.Joining.{join, joinable, session_named, joined_to};
+ghost use Rattle.krs_keys.specs.Keys.{seen};
+ghost use Rattle.krs_context_asks.specs.Joined.{joined_ring, session_key, joined_anew, session_in, IsEmptyRing};
+
+use krs_keys::{Content, Key, LAST_SERIAL};
+use krs_links::Links;
+use krs_tables::{Tables, make_room};
+use krs_types::{Answer, Blob, Caller, Desc, Errno, Fault, Kind, Name, Perm, Serial};
+use std::alloc::{AllocError, Global};
+
+/// Whether JOIN takes this name: none, or a description that a keyring may have. EINVAL of its length and bytes,
+/// EPERM where it begins with a dot. keyctl(2), KEYCTL_JOIN_SESSION_KEYRING; profile, limits.
+fn check_session_name(name: &[u8]) -> Result<(), Errno>
+    ensures value { result ≡ session_named name.now }
+    ensures bound { OnOk result (length name.now ≤ 4095) }
+{
+    if name.is_empty() {
+        return Ok(());
+    }
+    Kind::Keyring.check(name, b"")
+}
+
+/// An empty keyring of this description and mask, which JOIN makes.
+fn joined_ring(alloc: Global, desc: Blob, perm: Perm, caller: &Caller) -> Key
+    requires { length desc ≤ 4095 }
+    ensures { result ≡ joined_ring desc perm caller.now }
+{
+    Key {
+        name: Name {
+            kind: Kind::Keyring,
+            desc: Desc::new(desc),
+        },
+        uid: caller.uid,
+        gid: caller.gid,
+        perm,
+        expiry: None,
+        revoked: false,
+        joined: true,
+        content: Content::Links(Links::new(alloc)),
+    }
+}
+
+/// A new session keyring: `_ses`, or one of this name. Profile, masks of new keys.
+fn session_key(alloc: Global, name: Blob, caller: &Caller) -> Result<Key, AllocError>
+    requires { length name ≤ 4095 }
+    ensures { IfOk result (λ key. key ≡ session_key name caller.now) }
+{
+    if name.as_slice().is_empty() {
+        let desc = Blob::from_slice(alloc, b"_ses")?;
+        return Ok(joined_ring(alloc, desc, Perm::OF_SESSION, caller));
+    }
+    Ok(joined_ring(alloc, name, Perm::OF_NAMED_SESSION, caller))
+}
+
+/// Another session keyring: keyctl(2), KEYCTL_JOIN_SESSION_KEYRING; session-keyring(7).
+#[tactic(auto, unfolding(krs_model::specs::Asks::Joining::join))]
+pub fn join(tables: &mut Tables, client: u32, number: u32, name: Blob) -> Result<Answer, Fault>
+    ensures { Leads tables.old result tables.new (join tables.old client number name) }
+{
+    let context = tables.context_of(client, number)?;
+    check_session_name(name.as_slice())?;
+    let left = context.session;
+    match joinable(tables, &context.caller, name.as_slice()) {
+        Some(ring) => join_found(tables, number, left, ring),
+        None => {
+            let key = session_key(tables.alloc, name, &context.caller)?;
+            join_new(tables, number, left, key)
+        }
+    }
+}
+
+/// The keyring that a caller joins by a name, where there is one.
+fn joinable(tables: &Tables, caller: &Caller, name: &[u8]) -> Option<Serial>
+    ensures serial { result ≡ option_map (λ e. e.0) (joinable tables.now caller.now name.now) }
+    ensures there { IfSome result (λ ring. IsSome (at tables.now.keys ring)) }
+{
+    if name.is_empty() {
+        return None;
+    }
+    tables.keys.joinable(name, caller, tables.clock)
+}
+
+/// A keyring that is there becomes the session keyring of a context, which lets go of the one that it had.
+fn join_found(
+    tables: &mut Tables,
+    number: u32,
+    left: Option<Serial>,
+    ring: Serial,
+) -> Result<Answer, Fault>
+    requires own { session_in tables.old number ≡ Some left }
+    requires there { IsSome (at tables.old.keys ring) }
+    ensures { Leads tables.old result tables.new (Ok (joined_to tables.old number ring, Number ring)) }
+{
+    if !tables.holders.has_room(ring, 1) {
+        return Err(Fault::Memory);
+    }
+    tables.contexts.attach_session(number, ring);
+    tables.holders.hold(ring);
+    tables.holders.let_go_of(left);
+    Ok(Answer::Number(ring.number()))
+}
+
+/// A new keyring becomes the session keyring of a context: ENOSPC where no serial is left.
+fn join_new(
+    tables: &mut Tables,
+    number: u32,
+    left: Option<Serial>,
+    key: Key,
+) -> Result<Answer, Fault>
+    requires own { session_in tables.old number ≡ Some left }
+    requires empty { IsEmptyRing key }
+    ensures { Leads tables.old result tables.new (joined_anew tables.old number (seen key)) }
+{
+    let next = tables.keys.next();
+    if next > LAST_SERIAL {
+        return Err(Fault::Refused(Errno::ENOSPC));
+    }
+    make_room(&mut tables.holders, Serial::new(next))?;
+    match tables.keys.insert(key) {
+        Ok(ring) => {
+            tables.contexts.attach_session(number, ring);
+            tables.holders.hold(ring);
+            tables.holders.let_go_of(left);
+            Ok(Answer::Number(ring.number()))
+        }
+        Err(_) => Err(Fault::Memory),
+    }
+}

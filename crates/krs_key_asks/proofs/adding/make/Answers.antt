@@ -1,0 +1,97 @@
+use Rattle.std.proofs.Common.{◌≡◌, ◌≤◌, ◌+◌, [], Option, arith, ap, sym, ◌∙◌, subst, ℕ}
+use Rattle.krs_types.specs.declared.name.Name.{Name}
+use Rattle.krs_model.specs.Table.{Table, put, alter}
+use Rattle.krs_model.specs.State.{State}
+use Rattle.krs_model.specs.Asks.Adding.{made, IsRing}
+use Rattle.krs_keys.specs.Keys.{with_entry, seen, shown, displaced_at}
+use Rattle.krs_keys.specs.declared.key.Key.{Key}
+use Rattle.krs_keys.specs.Table.{Keys}
+use Rattle.krs_tables.specs.Making.{maker_key}
+use Rattle.krs_tables.specs.View.{state_of, IsConsistent}
+use Rattle.krs_tables.proofs.Telling.{made_told, seen-maker_key}
+use Rattle.krs_model.specs.Sweep.{roots}
+use Rattle.std.specs.Option.{option_to_list}
+use Rattle.krs_hold.specs.Tally.{AreExact, with_number, one_more, all_less}
+use Rattle.krs_hold.proofs.Tallies.{tallied_with}
+use Rattle.krs_tables.proofs.Counting.{made_tallied, first_links}
+use Rattle.krs_tables.specs.declared.tables.Tables.TheInside.{Inside}
+use Rattle.krs_key_asks.proofs.adding.make.Goals as goal
+
+room_sound : (s : Inside) (numbers : Table ℕ) (k : ℕ) → IsConsistent s → numbers ≡ with_number k s.holders
+    → IsConsistent (record s { holders = numbers })
+room_sound s numbers k sound e = record {
+  fit = sound.fit;
+  kinds = sound.kinds;
+  tallied = subst (λ (zs : Table ℕ). AreExact s.keys.keys zs (roots (state_of s))) (sym e)
+      (tallied_with (shown s.keys.keys) (roots (state_of s)) [] s.holders k sound.tallied);
+}
+
+pub invariant_of-tables-then-not-has_room : goal.invariant_of-tables-then-not-has_room
+invariant_of-tables-then-not-has_room c =
+    room_sound c.tables.inside c.made.new.self c.new-serial.result c.tables.invariant c.in-Ok.ensures.ok
+
+pub invariant_of-tables-in-Err : goal.invariant_of-tables-in-Err
+invariant_of-tables-in-Err c =
+    subst (λ (k : Keys). IsConsistent (record c.tables.inside { keys = k; holders = c.made.new.self }))
+    (sym c.in-Err.ensures.err)
+    (room_sound c.tables.inside c.made.new.self c.new-serial.result c.tables.invariant c.in-Ok.ensures.ok)
+
+pub invariant_of-tables-in-Ok-insert_linked : goal.invariant_of-tables-in-Ok-insert_linked
+invariant_of-tables-in-Ok-insert_linked c =
+    let s = c.tables.inside in
+    let es = s.keys.keys in
+    let n = s.keys.next in
+    let key = maker_key c.args.name c.args.payload c.args.uid c.args.gid in
+    let after : Key → Name → Keys = λ k l.
+    record { keys = alter (put es n k) c.args.ring (with_entry l n); next = n + 1 } in
+    let here : c.insert_linked.new.self ≡ after key c.args.name =
+    c.in-Ok-insert_linked.ensures.ok
+    ∙ (ap (λ k. after k c.in_ok-link.link) c.new_key-key.ensures ∙ ap (after key) c.in_ok-link.ensures) in
+    let displaced : c.in-Ok-insert_linked.displaced ≡ displaced_at (put es n key) c.args.ring c.args.name =
+    c.in-Ok-insert_linked.ensures.displaced
+    ∙ (ap (λ (k : Key). displaced_at (put es n k) c.args.ring c.in_ok-link.link) c.new_key-key.ensures
+    ∙ ap (displaced_at (put es n key) c.args.ring) c.in_ok-link.ensures) in
+    let ring : IsRing (state_of s) c.args.ring =
+    subst (λ (t : State). IsRing t c.args.ring) (sym c.tables.view_is) c.requires.ring in
+    let told =
+    made_told s c.insert_linked.new.self c.args.ring c.args.name c.args.payload c.args.uid c.args.gid
+    c.tables.invariant c.next.ensures.unused ring here in
+    let here_n : n ≤ n = omega arith in
+    let serial : c.new-serial.result ≡ n = c.new-serial.ensures ∙ c.next.ensures.value in
+    let numbers : c.let_go_of.new.self ≡ all_less (option_to_list
+    (displaced_at (put es n key) c.args.ring c.args.name)) (one_more n (with_number n s.holders)) =
+    c.let_go_of.ensures
+    ∙ (ap (all_less (option_to_list c.in-Ok-insert_linked.displaced))
+    (c.hold.ensures ∙ (ap (one_more c.new-serial.result) c.in-Ok.ensures.ok
+    ∙ ap (λ k. one_more k (with_number k s.holders)) serial))
+    ∙ ap (λ (o : Option ℕ). all_less (option_to_list o) (one_more n (with_number n s.holders))) displaced) in
+    record {
+      fit = told.fit;
+      kinds = told.kinds;
+      tallied = subst (λ (zs : Table ℕ). AreExact c.insert_linked.new.self.keys zs (roots (state_of s))) (sym numbers)
+          (subst (λ (k : Keys). AreExact k.keys (all_less (option_to_list
+          (displaced_at (put es n key) c.args.ring c.args.name)) (one_more n (with_number n s.holders)))
+          (roots (state_of s))) (sym here)
+          (made_tallied s (roots (state_of s)) c.args.ring c.args.name key (c.next.ensures.unused n here_n)
+          (first_links c.args.name.kind c.args.payload) ring c.tables.invariant.tallied));
+    }
+
+pub returns-in-Ok-insert_linked-clause-ok : goal.returns-in-Ok-insert_linked-clause-ok
+returns-in-Ok-insert_linked-clause-ok c =
+    let s = c.tables.inside in
+    let es = s.keys.keys in
+    let n = s.keys.next in
+    let key = maker_key c.args.name c.args.payload c.args.uid c.args.gid in
+    let after : Key → Name → Keys = λ k l.
+    record { keys = alter (put es n k) c.args.ring (with_entry l n); next = n + 1 } in
+    let here : c.insert_linked.new.self ≡ after key c.args.name =
+    c.in-Ok-insert_linked.ensures.ok
+    ∙ (ap (λ k. after k c.in_ok-link.link) c.new_key-key.ensures ∙ ap (after key) c.in_ok-link.ensures) in
+    let ring : IsRing (state_of s) c.args.ring =
+    subst (λ (t : State). IsRing t c.args.ring) (sym c.tables.view_is) c.requires.ring in
+    let told =
+    made_told s c.insert_linked.new.self c.args.ring c.args.name c.args.payload c.args.uid c.args.gid
+    c.tables.invariant c.next.ensures.unused ring here in
+    told.is ∙ (ap (λ (t : State). made t c.args.ring c.args.name (seen key)) c.tables.view_is
+    ∙ ap (made c.args.tables.now c.args.ring c.args.name) (seen-maker_key c.args.name c.args.payload c.args.uid
+    c.args.gid))

@@ -1,0 +1,27 @@
+use Rattle.std.proofs.Common.{◌≤◌, ◌≡◌, length, length-append, arith, ap, refl}
+use Rattle.std.specs.Fmt.{decimal}
+use Rattle.std.specs.String.{string_bytes}
+use Rattle.std.proofs.lemmas.Fmt.{length-decimal-le}
+use Rattle.krs_tables.proofs.Telling.{kind_short}
+use Rattle.krs_key_asks.proofs.reading.description.Goals as goal
+
+pub new-requires : goal.new-requires
+new-requires c =
+    let key = c.args.key.now in
+    let uid : length (decimal key.uid) ≤ 10 =
+    length-decimal-le 10 key.uid (omega arith) (omega arith) (omega arith) in
+    let gid : length (decimal key.gid) ≤ 10 =
+    length-decimal-le 10 key.gid (omega arith) (omega arith) (omega arith) in
+    let name : length c.name-kind.result.now ≤ 7 = rw c.name-kind.ensures (kind_short key.name.kind) in
+    let desc : length c.as_slice-desc.result.now ≤ 4095 = c.as_slice-desc.ensures.bound in
+    let hex : length c.hex_8.result ≡ 8 = rw c.hex_8.ensures refl in
+    let head = simp length-append at (ap length c.in_ok-head.ensures.ok) in
+    let start : length c.into_bytes-bytes.result.items ≡ length (string_bytes c.in_ok-head.head) =
+    ap (λ v. length v.items) c.into_bytes-bytes.ensures.value in
+    omega (
+      arith,
+      c.into_bytes-bytes.result.ok,
+      c.in_ok-extend_from_slice.ensures.len,
+      c.in_ok-push.ensures.len,
+      c.in_ok-extend_from_slice-2.ensures.len,
+    )

@@ -1,0 +1,195 @@
+ghost use Rattle.std.specs.Prelude.{◌≡◌, ◌≤◌, ◌||◌, length, IfOk, OnOk, OnErr};
+ghost use Rattle.krs_model.specs.Outcome.{Leads, Gives, Is};
+ghost use Rattle.krs_model.specs.Asks.Adding.{admitted, if_room, by_match, place_of, new_key, made};
+ghost use Rattle.krs_model.specs.Asks.Adding.{IsRing, add};
+ghost use Rattle.krs_model.specs.Asks.Changing.{is_updatable};
+ghost use Rattle.krs_key_asks.specs.Places.{meant, HasSerial};
+ghost use Rattle.krs_links.specs.Links.{serials};
+ghost use Rattle.krs_model.specs.Sound.{IsSound};
+ghost use Rattle.krs_tables.specs.Making.{adding_in};
+
+use krs_keys::{Change, Content, Key, LAST_SERIAL};
+use krs_links::Links;
+use krs_tables::{Tables, new_key};
+use krs_types::{
+    Answer, Blob, Body, Context, Desc, Errno, Fault, Kind, Name, Perm, Rights, Serial, Want,
+};
+use std::alloc::{AllocError, Global};
+
+/// Where an added key goes.
+enum Place {
+    /// It is the new payload of this key.
+    Update(Serial),
+    /// It is a new key, which this keyring links.
+    Make(Serial),
+}
+
+/// What is asked for is a key that may be made: its kind.
+#[tactic(auto, unfolding(krs_model::specs::Asks::Adding::admitted))]
+fn admitted(type_name: &[u8], desc: &[u8], payload: &[u8]) -> Result<Kind, Errno>
+    ensures name { Is (λ k. record { kind = k; desc = desc.now }) result
+        (admitted type_name.now desc.now payload.now) }
+    ensures desc { OnOk result (length desc.now ≤ 4095) }
+    ensures payload { OnOk result (length payload.now ≤ 32767) }
+{
+    let kind = Kind::named(type_name)?;
+    kind.check(desc, payload)?;
+    Ok(kind)
+}
+
+/// A new key in this keyring, where it has room and a serial is left.
+fn if_room(
+    tables: &Tables,
+    ring: Serial,
+    links: &Links,
+    displaced: Option<Serial>,
+) -> Result<Place, Errno>
+    ensures place { Is meant result (if_room tables.now ring (serials links.now) displaced) }
+    ensures serial { IfOk result (HasSerial tables.now.next_serial) }
+{
+    if displaced.is_none() && links.is_full() {
+        return Err(Errno::ENFILE);
+    }
+    if tables.keys.next() > LAST_SERIAL {
+        return Err(Errno::ENOSPC);
+    }
+    Ok(Place::Make(ring))
+}
+
+/// A match that is alive is updated, where it grants WRITE; any other is displaced.
+fn by_match(
+    tables: &Tables,
+    context: &Context,
+    ring: Serial,
+    links: &Links,
+    found: Option<Serial>,
+) -> Result<Place, Fault>
+    ensures place { Gives meant result (by_match tables.now context.now ring (serials links.now) found) }
+    ensures serial { IfOk result (HasSerial tables.now.next_serial) }
+{
+    let Some(serial) = found else {
+        return Ok(if_room(tables, ring, links, None)?);
+    };
+    let Some(key) = tables.key(serial) else {
+        return Ok(if_room(tables, ring, links, None)?);
+    };
+    if !key.is_alive(tables.clock) || !is_updatable(key.name.kind) {
+        return Ok(if_room(tables, ring, links, Some(serial))?);
+    }
+    if !tables.grants(context, serial, key, Want::Granted(Rights::WRITE))? {
+        return Err(Fault::Refused(Errno::EACCES));
+    }
+    Ok(Place::Update(serial))
+}
+
+/// Where a key of this name goes in a keyring that may be written.
+#[tactic(auto, unfolding(krs_model::specs::Asks::Adding::place_of))]
+fn place_of(tables: &Tables, context: &Context, name: &Name, ring: i32) -> Result<Place, Fault>
+    ensures place { Gives meant result (place_of tables.now context.now name.now ring) }
+    ensures serial { IfOk result (HasSerial tables.now.next_serial) }
+{
+    let (ring, key) = tables.look_up(context, ring, Want::Granted(Rights::WRITE))?;
+    match &key.content {
+        Content::Payload(_) => Err(Fault::Refused(Errno::ENOTDIR)),
+        Content::Links(links) => {
+            by_match(tables, context, Serial::new(ring), links, links.find(name))
+        }
+    }
+}
+
+/// A new key that a keyring links, under the next serial.
+fn make(
+    tables: &mut Tables,
+    ring: Serial,
+    name: Name,
+    payload: Body,
+    uid: u32,
+    gid: u32,
+) -> Result<Serial, AllocError>
+    requires serial { tables.old.next_serial ≤ 2147483647 }
+    requires ring { IsRing tables.old ring }
+    ensures serial { IfOk result (λ n. n ≡ tables.old.next_serial) }
+    ensures ok { OnOk result (tables.new ≡ made tables.old ring name (new_key name payload uid gid)) }
+    ensures err { OnErr result (tables.new ≡ tables.old) }
+{
+    let serial = Serial::new(tables.keys.next());
+    let link = name.copy(tables.alloc)?;
+    let key = new_key(tables.alloc, name, payload, uid, gid);
+    let Ok(()) = tables.holders.made(serial) else {
+        return Err(AllocError);
+    };
+    if !tables.holders.has_room(serial, 1) {
+        return Err(AllocError);
+    }
+    match tables.keys.insert_linked(ring, link, key) {
+        Ok(displaced) => {
+            tables.holders.hold(serial);
+            tables.holders.let_go_of(displaced);
+            Ok(serial)
+        }
+        Err(_) => Err(AllocError),
+    }
+}
+
+/// A new key in a keyring, which is made where it is wanted, or a new payload for the key that stands there:
+/// add_key(2).
+#[tactic(auto, unfolding(krs_model::specs::Asks::Adding::add))]
+pub fn add(
+    tables: &mut Tables,
+    client: u32,
+    number: u32,
+    type_name: Blob,
+    desc: Blob,
+    payload: Blob,
+    ring: i32,
+) -> Result<Answer, Fault>
+    requires sound { IsSound tables.old }
+    ensures { Leads tables.old result tables.new (add tables.old client number type_name desc payload ring) }
+{
+    let context = tables.context_of(client, number)?;
+    let kind = admitted(type_name.as_slice(), desc.as_slice(), payload.as_slice())?;
+    let name = Name {
+        kind,
+        desc: Desc::new(desc),
+    };
+    let payload = Body::new(payload.into_vec());
+    match tables.wanted(number, context, ring) {
+        Some(special) => tables.make_adding(client, number, special, name, payload),
+        None => add_in(tables, client, number, name, payload, ring),
+    }
+}
+
+/// A key of this name and payload in a keyring that is there.
+fn add_in(
+    tables: &mut Tables,
+    client: u32,
+    number: u32,
+    name: Name,
+    payload: Body,
+    ring: i32,
+) -> Result<Answer, Fault>
+    ensures { Leads tables.old result tables.new (adding_in tables.old client number name payload ring) }
+{
+    let context = tables.context_of(client, number)?;
+    match place_of(tables, context, &name, ring)? {
+        Place::Update(serial) => {
+            tables.change(serial, Change::Payload(payload));
+            Ok(Answer::Number(serial.number()))
+        }
+        Place::Make(ring) => {
+            let (uid, gid) = (context.caller.uid, context.caller.gid);
+            let serial = make(tables, ring, name, payload, uid, gid)?;
+            Ok(Answer::Number(serial.number()))
+        }
+    }
+}
+
+/// Whether a match of this kind is updated, and not displaced.
+fn is_updatable(kind: Kind) -> bool
+    ensures { result ≡ is_updatable kind }
+{
+    match kind {
+        Kind::User | Kind::Logon => true,
+        Kind::Keyring => false,
+    }
+}

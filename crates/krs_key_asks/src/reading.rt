@@ -1,0 +1,86 @@
+ghost use Rattle.std.specs.Prelude.{◌≡◌, ◌<◌, IfOk};
+ghost use Rattle.krs_model.specs.Outcome.{Leads};
+ghost use Rattle.krs_model.specs.Asks.Reading.{read, describe, description, serial_bytes, hex_8, hex_digit};
+ghost use Rattle.krs_keys.specs.Keys.{seen};
+ghost use Rattle.krs_links.specs.Links.{serials};
+
+use krs_keys::{Content, Key};
+use krs_links::Links;
+use krs_tables::Tables;
+use krs_types::{Answer, Body, Errno, Fault, Kind, Rights, Want};
+use std::alloc::{AllocError, Global};
+
+/// The payload of a key, or what a keyring links: keyctl(2), KEYCTL_READ.
+#[tactic(auto, unfolding(krs_model::specs::Asks::Reading::read))]
+pub fn read(tables: &Tables, client: u32, context: u32, id: i32) -> Result<Answer, Fault>
+    ensures { Leads tables.now result tables.now (read tables.now client context id) }
+{
+    let context = tables.context_of(client, context)?;
+    let (_, key) = tables.look_up(context, id, Want::ToRead)?;
+    match (key.name.kind, &key.content) {
+        (Kind::User, Content::Payload(bytes)) => Ok(Answer::Bytes(bytes.copy(tables.alloc)?)),
+        (Kind::Keyring, Content::Links(links)) => {
+            Ok(Answer::Bytes(serial_bytes(tables.alloc, links)?))
+        }
+        _ => Err(Fault::Refused(Errno::EOPNOTSUPP)),
+    }
+}
+
+/// A key as text: keyctl(2), KEYCTL_DESCRIBE.
+#[tactic(auto, unfolding(krs_model::specs::Asks::Reading::describe))]
+pub fn describe(tables: &Tables, client: u32, context: u32, id: i32) -> Result<Answer, Fault>
+    ensures { Leads tables.now result tables.now (describe tables.now client context id) }
+{
+    let context = tables.context_of(client, context)?;
+    let (_, key) = tables.look_up(context, id, Want::Granted(Rights::VIEW))?;
+    Ok(Answer::Bytes(description(tables.alloc, key)?))
+}
+
+/// The serials that a keyring links, 4 bytes each, the lowest first.
+fn serial_bytes(alloc: Global, links: &Links) -> Result<Body, AllocError>
+    ensures { IfOk result (λ b. b ≡ serial_bytes (serials links.now)) }
+{
+    let mut bytes = Vec::with_capacity(alloc, 4 * links.len())?;
+    for link in links.as_slice() {
+        bytes.extend_from_slice(&link.1.number().to_le_bytes())?;
+    }
+    Ok(Body::new(bytes))
+}
+
+/// Type, uid, gid, mask and description, with ';' between them.
+fn description(alloc: Global, key: &Key) -> Result<Body, AllocError>
+    ensures { IfOk result (λ b. b ≡ description (seen key.now)) }
+{
+    let desc = key.name.desc.as_slice();
+    let (kind, uid, gid) = (key.name.kind.name(), key.uid, key.gid);
+    let head = format!(in alloc; "{kind};{uid};{gid};")?;
+    let mut bytes = head.into_bytes();
+    bytes.extend_from_slice(&hex_8(key.perm.bits()))?;
+    bytes.push(b';')?;
+    bytes.extend_from_slice(desc)?;
+    Ok(Body::new(bytes))
+}
+
+/// Eight hexadecimal digits, the highest first.
+fn hex_8(n: u32) -> [u8; 8]
+    ensures { result ≡ hex_8 n }
+{
+    [
+        hex_digit(n / 0x1000_0000 % 16),
+        hex_digit(n / 0x100_0000 % 16),
+        hex_digit(n / 0x10_0000 % 16),
+        hex_digit(n / 0x1_0000 % 16),
+        hex_digit(n / 0x1000 % 16),
+        hex_digit(n / 0x100 % 16),
+        hex_digit(n / 0x10 % 16),
+        hex_digit(n % 16),
+    ]
+}
+
+fn hex_digit(n: u32) -> u8
+    requires { n < 16 }
+    ensures { result ≡ hex_digit n }
+{
+    let n = n as u8;
+    if n < 10 { n + b'0' } else { n + (b'a' - 10) }
+}

@@ -1,0 +1,4 @@
+pub mod Served
+pub mod Sought
+pub mod SoughtNew
+mod Invalidated

@@ -1,0 +1,25 @@
+use Rattle.std.proofs.Common.{◌≡◌, sym, ◌∙◌, subst, refl, false, Ok}
+use Rattle.krs_model.specs.Reach.{closes}
+use Rattle.krs_keys.specs.Keys.{shown}
+use Rattle.krs_model.specs.State.{State}
+use Rattle.krs_model.specs.Asks.Adding.{IsRing}
+use Rattle.krs_model.specs.Asks.Linked.{nestable}
+use Rattle.krs_tables.proofs.Linking.{only_rings, is_keyring}
+use Rattle.krs_ring_asks.proofs.linking.check_nesting.Goals as goal
+
+pub would_cycle-requires-clause-only : goal.would_cycle-requires-clause-only
+would_cycle-requires-clause-only c = only_rings c.tables.inside.keys.keys c.tables.invariant.kinds
+
+pub would_cycle-requires-clause-ring : goal.would_cycle-requires-clause-ring
+would_cycle-requires-clause-ring c =
+    is_keyring c.tables.inside c.args.ring c.tables.invariant.kinds
+    (subst (λ (t : State). IsRing t c.args.ring) (sym c.tables.view_is) c.requires.ring)
+
+pub returns : goal.returns
+unfolding nestable
+returns c =
+    let keys = shown c.tables.inside.keys.keys in
+    let no_cycle : closes keys c.args.key c.args.ring ≡ false =
+    sym c.in_ok-would_cycle.ensures.closes ∙ c.if-branch.false in
+    subst (λ (t : State). nestable t.keys c.args.ring c.args.key ≡ Ok (tt {0})) c.tables.view_is
+    (rw (no_cycle, c.in_ok-_height.ensures.shallow) refl)

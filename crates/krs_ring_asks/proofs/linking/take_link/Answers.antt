@@ -1,0 +1,53 @@
+use Rattle.std.proofs.Common.{◌≡◌, ℕ, ap, sym, ◌∙◌, subst, refl, true, false}
+use Rattle.krs_model.specs.Table.{Table}
+use Rattle.krs_model.specs.State.{State}
+use Rattle.krs_model.specs.Levels.{is_in}
+use Rattle.krs_model.specs.Reach.{links_in}
+use Rattle.krs_model.specs.Sweep.{roots}
+use Rattle.krs_model.specs.Asks.Changing.{changed}
+use Rattle.krs_model.specs.Asks.Linked.{without_link}
+use Rattle.krs_keys.specs.Keys.{shown}
+use Rattle.krs_keys.proofs.KindsLemmas.{kinds_alter, keyless_kind}
+use Rattle.krs_keys.proofs.Unlinking.{fit-keyless, shown-keyless}
+use Rattle.krs_hold.specs.Tally.{AreExact}
+use Rattle.krs_tables.specs.View.{state_of}
+use Rattle.krs_tables.proofs.Counting.{unlinked_tallied}
+use Rattle.krs_tables.proofs.Linking.{linked_told}
+use Rattle.krs_ring_asks.proofs.linking.take_link.Goals as goal
+
+pub returns-then-not-is_linked : goal.returns-then-not-is_linked
+returns-then-not-is_linked c = (
+  subst (λ (t : State). is_in c.args.serial (links_in t.keys c.args.ring) ≡ false) c.tables.view_is
+      (sym (linked_told c.tables.inside.keys.keys c.args.ring c.args.serial)
+      ∙ (sym c.is_linked.ensures ∙ c.if-not-is_linked.true)),
+  (refl, refl),
+)
+
+pub invariant_of-tables : goal.invariant_of-tables
+invariant_of-tables c =
+    let s = c.tables.inside in
+    let es = s.keys.keys in
+    let attached = roots (state_of s) in
+    let ring = c.args.ring in
+    let serial = c.args.serial in
+    record {
+      fit = rw c.unlink.ensures (fit-keyless serial es ring c.tables.invariant.fit);
+      kinds = rw c.unlink.ensures (kinds_alter es ring _ (keyless_kind serial) c.tables.invariant.kinds);
+      tallied =
+          subst (λ (zs : Table ℕ). AreExact c.unlink.new.self.keys zs attached) (sym c.let_go.ensures)
+          (rw c.unlink.ensures (unlinked_tallied es attached s.holders ring serial c.tables.invariant.fit
+          (sym (linked_told es ring serial) ∙ (sym c.is_linked.ensures ∙ c.if-not-is_linked.false))
+          c.tables.invariant.tallied));
+    }
+
+pub returns : goal.returns
+returns c =
+    let s = c.tables.inside in
+    let ring = c.args.ring in
+    let serial = c.args.serial in (
+      subst (λ (t : State). is_in serial (links_in t.keys ring) ≡ true) c.tables.view_is
+          (sym (linked_told s.keys.keys ring serial) ∙ (sym c.is_linked.ensures ∙ c.if-not-is_linked.false)),
+      ap (λ zs. record (state_of s) { keys = shown zs.keys; next_serial = zs.next }) c.unlink.ensures
+          ∙ (ap (λ zs. record (state_of s) { keys = zs }) (shown-keyless serial s.keys.keys ring)
+          ∙ ap (λ (t : State). changed t ring (without_link serial)) c.tables.view_is),
+    )

@@ -1,0 +1,45 @@
+-- What the store makes of a key that a search or a request found.
+use Rattle.std.specs.Prelude.{ℕ, Result, Ok, Err, if◌then◌else◌}
+use Rattle.krs_types.specs.declared.errno.Errno.{Errno}
+use Rattle.krs_types.specs.declared.errno.Errno.TheVariants.{ENOKEY, EACCES}
+use Rattle.krs_types.specs.declared.context.Context.{Context}
+use Rattle.krs_types.specs.declared.name.Name.{Name}
+use Rattle.krs_types.specs.declared.ask.Answer.TheVariants.{Number}
+use Rattle.krs_types.specs.Rights.{has_all, LINK}
+use Rattle.krs_types.specs.Refusing.{◌>>=◌, or_refuse}
+use Rattle.krs_model.specs.Table.{at}
+use Rattle.krs_model.specs.State.{State, Key}
+use Rattle.krs_model.specs.Access.{rights_on}
+use Rattle.krs_model.specs.Possession.{possessed}
+use Rattle.krs_model.specs.Lookup.{context_of}
+use Rattle.krs_model.specs.Linking.{linking, ring_links}
+use Rattle.krs_model.specs.Search.{found}
+use Rattle.krs_model.specs.Asks.Changing.{changed}
+use Rattle.krs_model.specs.Asks.Linked.{name_of, nestable}
+use Rattle.krs_model.specs.Outcome.{Outcome}
+use Rattle.krs_tables.specs.Linked.{room_in}
+
+-- what a search finds from the head on, which is a keyring
+abbrev pub found_below : State → Context → ℕ × Key → Name → Result ℕ Errno
+found_below s c head name = do
+  links ← ring_links head.1.content
+  found s c head.0 name
+
+abbrev pub if_granted : State → Context → ℕ → Key → Result Key Errno
+if_granted s c serial key =
+    if has_all (rights_on key c.caller (possessed s c serial)) LINK then Ok key else Err EACCES
+
+-- the key at a serial, which grants LINK
+abbrev pub linkable : State → Context → ℕ → Result Key Errno
+linkable s c serial = do
+  key ← or_refuse ENOKEY (at s.keys serial)
+  if_granted s c serial key
+
+-- it is linked by a keyring
+abbrev pub link_found : State → ℕ → ℕ → ℕ → ℕ → Outcome
+link_found s client context into serial = do
+  c ← context_of s client context
+  key ← linkable s c serial
+  nests ← nestable s.keys into serial
+  room ← room_in s.keys into (name_of key)
+  Ok (changed s into (linking s.keys (name_of key) serial), Number serial)

@@ -1,0 +1,235 @@
+ghost use Rattle.std.specs.Prelude.{IfOk};
+ghost use Rattle.krs_model.specs.Outcome.{Leads, Gives, Is};
+ghost use Rattle.krs_model.specs.Search.{found, requested};
+ghost use Rattle.krs_model.specs.Asks.Adding.{IsRing};
+ghost use Rattle.krs_model.specs.Lookup.{context_of};
+ghost use Rattle.krs_model.specs.Sound.{IsSound};
+ghost use Rattle.krs_model.specs.Asks.Finding.{search_from, request, sought_name, sought_from, found_alone};
+ghost use Rattle.krs_ring_asks.specs.Found.{found_below, link_found, linkable};
+ghost use Rattle.krs_tables.specs.Specials.{IsMissing};
+ghost use Rattle.krs_ring_asks.specs.Beside.{found_made, found_before, beside};
+ghost use Rattle.krs_keys.specs.Keys.{seen};
+
+use crate::linking::{check_nesting, links_of, put_link};
+use krs_keys::Key;
+use krs_tables::{Special, Tables};
+use krs_types::{
+    Answer, Blob, Context, Desc, Errno, Fault, Kind, Name, Rights, Serial, Want, check_description,
+};
+use krs_walk::Walker;
+
+/// What is looked for: EINVAL, EPERM and ENODEV of the type's name, EINVAL of the description. Profile, search names.
+#[tactic(auto, unfolding(krs_model::specs::Asks::Finding::sought_name))]
+fn sought_name(type_name: Blob, desc: Blob) -> Result<Name, Errno>
+    ensures { Is (λ name. name) result (sought_name type_name desc) }
+{
+    let kind = Kind::named(type_name.as_slice())?;
+    check_description(desc.as_slice())?;
+    Ok(Name {
+        kind,
+        desc: Desc::new(desc),
+    })
+}
+
+/// A key of that type and description, from a keyring on, and a link to it in a destination other than 0, which
+/// is made where it is wanted: keyctl(2), KEYCTL_SEARCH.
+#[tactic(auto, unfolding(krs_model::specs::Asks::Finding::search_from))]
+pub fn search(
+    tables: &mut Tables,
+    client: u32,
+    number: u32,
+    head: i32,
+    type_name: Blob,
+    desc: Blob,
+    dest: i32,
+) -> Result<Answer, Fault>
+    requires sound { IsSound tables.old }
+    ensures { Leads tables.old result tables.new (search_from tables.old client number head type_name desc dest) }
+{
+    let context = tables.context_of(client, number)?;
+    let name = sought_name(type_name, desc)?;
+    let (head, from) = tables.look_up(context, head, Want::Granted(Rights::SEARCH))?;
+    if dest == 0 {
+        return find_from(tables, context, head, from, &name);
+    }
+    if let Some(special) = tables.wanted(number, context, dest) {
+        let serial = find_in(tables, context, head, from, &name)?;
+        return link_found_new(tables, client, number, special, serial);
+    }
+    let (into, ring) = tables.look_up(context, dest, Want::Granted(Rights::WRITE))?;
+    links_of(from)?;
+    links_of(ring)?;
+    let serial = find(tables, context, head, &name)?;
+    link_found(tables, client, number, into, serial)
+}
+
+/// A key of that type and description, from the attached keyrings on, and a link to it in a destination other
+/// than 0, which is made where it is wanted: request_key(2).
+#[tactic(auto, unfolding(krs_model::specs::Asks::Finding::request))]
+pub fn request(
+    tables: &mut Tables,
+    client: u32,
+    number: u32,
+    type_name: Blob,
+    desc: Blob,
+    dest: i32,
+) -> Result<Answer, Fault>
+    requires sound { IsSound tables.old }
+    ensures { Leads tables.old result tables.new (request tables.old client number type_name desc dest) }
+{
+    let context = tables.context_of(client, number)?;
+    let name = sought_name(type_name, desc)?;
+    if dest == 0 {
+        return request_alone(tables, context, &name);
+    }
+    if let Some(special) = tables.wanted(number, context, dest) {
+        let serial = find_beside(tables, context, special, &name)?;
+        return link_found_new(tables, client, number, special, serial);
+    }
+    let (into, ring) = tables.look_up(context, dest, Want::Granted(Rights::WRITE))?;
+    links_of(ring)?;
+    let serial = find_attached(tables, context, &name)?;
+    link_found(tables, client, number, into, serial)
+}
+
+/// What a request finds where this keyring is made for its destination; where that is the keyring itself,
+/// EDEADLK.
+fn find_beside(
+    tables: &Tables,
+    context: &Context,
+    special: Special,
+    name: &Name,
+) -> Result<Serial, Fault>
+    ensures { Gives (λ k. k) result (beside special tables.now context.now name.now) }
+{
+    if !special.is_of_name(name) {
+        return find_attached(tables, context, name);
+    }
+    match find_before(tables, context, special, name) {
+        Ok(serial) => Ok(serial),
+        Err(Fault::Memory) => Err(Fault::Memory),
+        Err(Fault::Refused(_)) => Err(Fault::Refused(Errno::EDEADLK)),
+    }
+}
+
+/// What a request finds before it comes to this keyring: a process keyring comes behind the thread keyring.
+fn find_before(
+    tables: &Tables,
+    context: &Context,
+    special: Special,
+    name: &Name,
+) -> Result<Serial, Fault>
+    ensures { Gives (λ k. k) result (found_before special tables.now context.now name.now) }
+{
+    match (special, context.thread) {
+        (Special::Process, Some(thread)) => find(tables, context, thread.number(), name),
+        _ => Err(Fault::Refused(Errno::ENOKEY)),
+    }
+}
+
+/// A link to a key that was found, in a keyring that is made for it: EACCES where it does not grant LINK, ELOOP.
+fn link_found_new(
+    tables: &mut Tables,
+    client: u32,
+    number: u32,
+    special: Special,
+    serial: Serial,
+) -> Result<Answer, Fault>
+    requires sound { IsSound tables.old }
+    requires missing { IfOk (context_of tables.old client number) (IsMissing special tables.old) }
+    ensures { Leads tables.old result tables.new (found_made special tables.old client number serial) }
+{
+    let context = tables.context_of(client, number)?;
+    linkable(tables, context, serial)?;
+    tables.make_linking(
+        client,
+        number,
+        special,
+        serial,
+        Answer::Number(serial.number()),
+    )
+}
+
+/// A link in a keyring to a key that was found: EACCES where it does not grant LINK, EDEADLK, ELOOP, ENFILE.
+fn link_found(
+    tables: &mut Tables,
+    client: u32,
+    number: u32,
+    into: u32,
+    serial: Serial,
+) -> Result<Answer, Fault>
+    requires ring { IsRing tables.old into }
+    ensures { Leads tables.old result tables.new (link_found tables.old client number into serial) }
+{
+    let context = tables.context_of(client, number)?;
+    let found = linkable(tables, context, serial)?;
+    let name = found.name.copy(tables.alloc)?;
+    let into = Serial::new(into);
+    check_nesting(tables, into, serial)?;
+    put_link(tables, into, name, serial)?;
+    Ok(Answer::Number(serial.number()))
+}
+
+/// The key at a serial, where it grants LINK: EACCES.
+fn linkable<'a>(tables: &'a Tables, context: &Context, serial: Serial) -> Result<&'a Key, Fault>
+    ensures { Gives (λ key. seen key.now) result (linkable tables.now context.now serial) }
+{
+    let key = tables.key(serial).ok_or(Errno::ENOKEY)?;
+    if !tables.grants(context, serial, key, Want::Granted(Rights::LINK))? {
+        return Err(Fault::Refused(Errno::EACCES));
+    }
+    Ok(key)
+}
+
+/// The key of a name that a search from a head finds.
+fn find(tables: &Tables, context: &Context, head: u32, name: &Name) -> Result<Serial, Fault>
+    ensures { Gives (λ k. k) result (found tables.now context.now head name.now) }
+{
+    let ring = tables.process_ring(context.process);
+    let head = Serial::new(head);
+    Walker::new(tables.alloc).search(&tables.keys, context, ring, tables.clock, head, name)
+}
+
+/// The key of a name that a search from a keyring finds: ENOTDIR where the head is none.
+fn find_in(
+    tables: &Tables,
+    context: &Context,
+    head: u32,
+    key: &Key,
+    name: &Name,
+) -> Result<Serial, Fault>
+    ensures { Gives (λ k. k) result (found_below tables.now context.now (head, seen key.now) name.now) }
+{
+    links_of(key)?;
+    find(tables, context, head, name)
+}
+
+/// The key of a name that a request finds.
+fn find_attached(tables: &Tables, context: &Context, name: &Name) -> Result<Serial, Fault>
+    ensures { Gives (λ k. k) result (requested tables.now context.now name.now) }
+{
+    let ring = tables.process_ring(context.process);
+    Walker::new(tables.alloc).request(&tables.keys, context, ring, tables.clock, name)
+}
+
+/// A search that links nothing.
+fn find_from(
+    tables: &Tables,
+    context: &Context,
+    head: u32,
+    from: &Key,
+    name: &Name,
+) -> Result<Answer, Fault>
+    ensures { Leads tables.now result tables.now (sought_from tables.now context.now (head, seen from.now) name.now) }
+{
+    let serial = find_in(tables, context, head, from, name)?;
+    Ok(Answer::Number(serial.number()))
+}
+
+/// A request that links nothing.
+fn request_alone(tables: &Tables, context: &Context, name: &Name) -> Result<Answer, Fault>
+    ensures { Leads tables.now result tables.now (found_alone tables.now (requested tables.now context.now name.now)) }
+{
+    let serial = find_attached(tables, context, name)?;
+    Ok(Answer::Number(serial.number()))
+}

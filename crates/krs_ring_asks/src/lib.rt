@@ -1,0 +1,12 @@
+//! The asks on keyrings, one function each, whose contract is its row: links, searches, and what they find.
+#![tactic(auto)]
+
+mod finding;
+mod getting;
+mod invalidating;
+mod linking;
+
+pub use finding::{request, search};
+pub use getting::get_id;
+pub use invalidating::invalidate;
+pub use linking::{clear, link, unlink};

@@ -1,0 +1,213 @@
+ghost use Rattle.std.specs.Prelude.{◌≡◌, None, Some, IsSome, IfOk};
+ghost use Rattle.krs_model.specs.Outcome.{Leads, Is, Gives};
+ghost use Rattle.krs_model.specs.Table.{at};
+ghost use Rattle.krs_model.specs.Linking.{ring_links};
+ghost use Rattle.krs_model.specs.Lookup.{context_of};
+ghost use Rattle.krs_model.specs.Sound.{IsSound};
+ghost use Rattle.krs_model.specs.Asks.Adding.{IsRing};
+ghost use Rattle.krs_model.specs.Asks.Linked.{link, unlink, clear, nestable};
+ghost use Rattle.krs_keys.specs.Keys.{seen, links_at};
+ghost use Rattle.krs_links.specs.Links.{serials};
+ghost use Rattle.krs_tables.specs.Linked.{name_in, has_link, Puts, Takes};
+ghost use Rattle.krs_tables.specs.Specials.{Makes, is_coming};
+
+use krs_keys::{Change, Content, Key, KeyTable};
+use krs_links::Links;
+use krs_tables::{Special, Tables};
+use krs_types::{Answer, Errno, Fault, KeyId, Name, Rights, Serial, Want};
+use krs_walk::Walker;
+
+/// One link less in a keyring; the key's state and rights do not matter: keyctl(2), KEYCTL_UNLINK.
+#[tactic(auto, unfolding(krs_model::specs::Asks::Linked::unlink))]
+pub fn unlink(
+    tables: &mut Tables,
+    client: u32,
+    context: u32,
+    key: i32,
+    ring: i32,
+) -> Result<Answer, Fault>
+    ensures { Leads tables.old result tables.new (unlink tables.old client context key ring) }
+{
+    let context = tables.context_of(client, context)?;
+    let (ring, from) = tables.look_up(context, ring, Want::Granted(Rights::WRITE))?;
+    let serial = tables.serial_of(context, key)?;
+    let _there = tables.key(serial).ok_or(Errno::ENOKEY)?;
+    links_of(from)?;
+    take_link(tables, Serial::new(ring), serial)?;
+    Ok(Answer::Nothing)
+}
+
+/// All links of a keyring out: keyctl(2), KEYCTL_CLEAR.
+#[tactic(auto, unfolding(krs_model::specs::Asks::Linked::clear))]
+pub fn clear(tables: &mut Tables, client: u32, context: u32, id: i32) -> Result<Answer, Fault>
+    ensures { Leads tables.old result tables.new (clear tables.old client context id) }
+{
+    let context = tables.context_of(client, context)?;
+    let (serial, key) = tables.look_up(context, id, Want::Granted(Rights::WRITE))?;
+    links_of(key)?;
+    tables.change(Serial::new(serial), Change::Cleared);
+    Ok(Answer::Nothing)
+}
+
+/// One more link in a keyring, which is made where it is wanted: keyctl(2), KEYCTL_LINK.
+#[tactic(auto, unfolding(krs_model::specs::Asks::Linked::link))]
+pub fn link(
+    tables: &mut Tables,
+    client: u32,
+    number: u32,
+    key: i32,
+    ring: i32,
+) -> Result<Answer, Fault>
+    requires sound { IsSound tables.old }
+    ensures { Leads tables.old result tables.new (link tables.old client number key ring) }
+{
+    let context = tables.context_of(client, number)?;
+    match tables.wanted(number, context, ring) {
+        Some(special) => link_to_new(tables, client, number, special, key, ring),
+        None => link_to(tables, client, number, key, ring),
+    }
+}
+
+/// One more link in a keyring that is there.
+#[tactic(auto, unfolding(krs_model::specs::Asks::Linked::link))]
+fn link_to(
+    tables: &mut Tables,
+    client: u32,
+    number: u32,
+    key: i32,
+    ring: i32,
+) -> Result<Answer, Fault>
+    requires there { IfOk (context_of tables.old client number) (λ c. Makes None tables.old number c ring) }
+    ensures { Leads tables.old result tables.new (link tables.old client number key ring) }
+{
+    let context = tables.context_of(client, number)?;
+    let (ring, into) = tables.look_up(context, ring, Want::Granted(Rights::WRITE))?;
+    let (serial, found) = tables.look_up(context, key, Want::Granted(Rights::LINK))?;
+    links_of(into)?;
+    check_nesting(tables, Serial::new(ring), Serial::new(serial))?;
+    let name = found.name.copy(tables.alloc)?;
+    put_link(tables, Serial::new(ring), name, Serial::new(serial))?;
+    Ok(Answer::Nothing)
+}
+
+/// A link in a keyring that is made for it: EDEADLK where the key is that keyring.
+#[tactic(auto, unfolding(krs_model::specs::Asks::Linked::link))]
+fn link_to_new(
+    tables: &mut Tables,
+    client: u32,
+    number: u32,
+    special: Special,
+    key: i32,
+    ring: i32,
+) -> Result<Answer, Fault>
+    requires sound { IsSound tables.old }
+    requires makes { IfOk (context_of tables.old client number) (λ c. Makes (Some special) tables.old number c ring) }
+    ensures { Leads tables.old result tables.new (link tables.old client number key ring) }
+{
+    let context = tables.context_of(client, number)?;
+    if is_coming(tables, special, key) {
+        return Err(Fault::Refused(Errno::EDEADLK));
+    }
+    let (serial, _) = tables.look_up(context, key, Want::Granted(Rights::LINK))?;
+    tables.make_linking(
+        client,
+        number,
+        special,
+        Serial::new(serial),
+        Answer::Nothing,
+    )
+}
+
+/// Whether the id stands for the keyring that is made: it is its own, or the serial that it gets.
+fn is_coming(tables: &Tables, special: Special, id: i32) -> bool
+    ensures { result ≡ is_coming special tables.now.next_serial id }
+{
+    let Ok(named) = KeyId::from_i32(id) else {
+        return false;
+    };
+    match named {
+        KeyId::Serial(serial) => serial.number() == tables.keys.next(),
+        KeyId::Thread => special == Special::Thread,
+        KeyId::Process => special == Special::Process,
+        KeyId::Session | KeyId::User | KeyId::UserSession => false,
+    }
+}
+
+/// Whether a link from the keyring to the key closes a cycle, or nests a keyring too deep: EDEADLK, ELOOP.
+#[tactic(auto, unfolding(krs_model::specs::Asks::Linked::nestable))]
+pub(crate) fn check_nesting(tables: &Tables, ring: Serial, key: Serial) -> Result<(), Fault>
+    requires ring { IsRing tables.now ring }
+    requires key { IsSome (at tables.now.keys key) }
+    ensures { Gives (λ done. done) result (nestable tables.now.keys ring key) }
+{
+    let walker = Walker::new(tables.alloc);
+    if walker.would_cycle(&tables.keys, key, ring)? {
+        return Err(Fault::Refused(Errno::EDEADLK));
+    }
+    let _height = walker.height_of(&tables.keys, key)?;
+    Ok(())
+}
+
+/// A link to a key in a keyring, in the place of that which it displaces, else last. The name is the key's own.
+pub(crate) fn put_link(
+    tables: &mut Tables,
+    ring: Serial,
+    name: Name,
+    serial: Serial,
+) -> Result<(), Fault>
+    requires named { name_in tables.old serial ≡ Some name }
+    requires ring { IsRing tables.old ring }
+    ensures { Puts tables.old result tables.new ring name serial }
+{
+    if !tables.holders.has_room(serial, 1) {
+        return Err(Fault::Memory);
+    }
+    match tables.keys.link(ring, name, serial) {
+        Ok(displaced) => {
+            tables.holders.hold(serial);
+            tables.holders.let_go_of(displaced);
+            Ok(())
+        }
+        Err(Errno::ENFILE) => Err(Fault::Refused(Errno::ENFILE)),
+        Err(_) => Err(Fault::Memory),
+    }
+}
+
+/// The link to a key out of a keyring, where it is there. It takes no memory.
+fn take_link(tables: &mut Tables, ring: Serial, serial: Serial) -> Result<(), Errno>
+    ensures { Takes tables.old result tables.new ring serial }
+{
+    if !is_linked(&tables.keys, ring, serial) {
+        return Err(Errno::ENOENT);
+    }
+    tables.keys.unlink(ring, serial);
+    tables.holders.let_go(serial);
+    Ok(())
+}
+
+/// Whether a keyring links a key.
+fn is_linked(keys: &KeyTable, ring: Serial, serial: Serial) -> bool
+    ensures { result ≡ has_link serial (links_at keys.now.keys ring) }
+{
+    match keys.get(ring) {
+        Some(key) => has_link(key.entries(), serial),
+        None => false,
+    }
+}
+
+/// Whether one of these links is to a key.
+fn has_link(links: &[(Name, Serial)], serial: Serial) -> bool
+    ensures { result ≡ has_link serial links.now }
+{
+    links.iter().any(|link| link.1.number() == serial.number())
+}
+
+/// The links of a keyring: ENOTDIR where it is none.
+pub(crate) fn links_of(key: &Key) -> Result<&Links, Errno>
+    ensures { Is (λ links. serials links.now) result (ring_links (seen key.now).content) }
+{
+    match &key.content {
+        Content::Payload(_) => Err(Errno::ENOTDIR),
+        Content::Links(links) => Ok(links),
+    }
+}

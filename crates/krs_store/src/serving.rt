@@ -1,0 +1,72 @@
+ghost use Rattle.std.specs.Prelude.{◌≡◌, IsErrOf, true};
+ghost use Rattle.krs_types.specs.Growth.{grows_meanwhile};
+ghost use Rattle.krs_model.specs.Serving.{LeadsTold};
+ghost use Rattle.krs_model.specs.Sound.{IsSound};
+ghost use Rattle.krs_store.specs.Telling.{Runs};
+
+use crate::telling::{foretell, tell};
+use crate::watching;
+use crate::watching::{close_queue, open_queue, read_queue, set_filter};
+use krs_context_asks::{exec, exit, fork, hello, join, leave, thread};
+use krs_key_asks::{add, chown, describe, read, revoke, set_perm, set_timeout, update};
+use krs_ring_asks::{clear, get_id, invalidate, link, request, search, unlink};
+use krs_tables::Tables;
+use krs_types::{Answer, Ask, Fault, Op};
+
+/// One ask in the state that it finds, and the note of what it did.
+pub(crate) fn serve(tables: &mut Tables, client: u32, ask: Ask) -> Result<Answer, Fault>
+    requires sound { IsSound tables.old }
+    ensures told { LeadsTold tables.old client ask.context ask.op result tables.new }
+    ensures memory { IsErrOf result Fault.Memory → grows_meanwhile ask.op ≡ true }
+{
+    let telling = foretell(tables, client, ask.context, &ask.op);
+    match run(tables, client, ask) {
+        Ok(answer) => {
+            tell(tables, telling, &answer);
+            Ok(answer)
+        }
+        Err(fault) => Err(fault),
+    }
+}
+
+/// One ask in the state that it finds.
+#[rattlefmt::skip]
+fn run(tables: &mut Tables, client: u32, ask: Ask) -> Result<Answer, Fault>
+    requires sound { IsSound tables.old }
+    ensures step { Runs tables.old client ask.context ask.op result tables.new }
+    ensures memory { IsErrOf result Fault.Memory → grows_meanwhile ask.op ≡ true }
+{
+    let context = ask.context;
+    match ask.op {
+        Op::Hello(caller) => hello(tables, client, caller),
+        Op::Thread => thread(tables, client, context),
+        Op::Fork => fork(tables, client, context),
+        Op::Exec => exec(tables, client, context),
+        Op::Search { head, type_name, desc, dest } => search(tables, client, context, head, type_name, desc, dest),
+        Op::Request { type_name, desc, dest } => request(tables, client, context, type_name, desc, dest),
+        Op::GetId { id, create } => get_id(tables, client, context, id, create),
+        Op::Join { name } => join(tables, client, context, name),
+        Op::Invalidate { id } => invalidate(tables, client, context, id),
+        Op::Add { type_name, desc, payload, ring } => add(tables, client, context, type_name, desc, payload, ring),
+        Op::Update { id, payload } => update(tables, client, context, id, payload),
+        Op::Revoke { id } => revoke(tables, client, context, id),
+        Op::Chown { id, uid, gid } => chown(tables, client, context, id, uid, gid),
+        Op::SetPerm { id, mask } => set_perm(tables, client, context, id, mask),
+        Op::SetTimeout { id, seconds } => set_timeout(tables, client, context, id, seconds),
+        Op::Link { key, ring } => link(tables, client, context, key, ring),
+        Op::Unlink { key, ring } => unlink(tables, client, context, key, ring),
+        Op::Clear { id } => clear(tables, client, context, id),
+        Op::Read { id } => read(tables, client, context, id),
+        Op::Describe { id } => describe(tables, client, context, id),
+        Op::Watch { id, queue, watch } => watching::watch(tables, client, context, id, queue, watch),
+        Op::OpenQueue { capacity } => open_queue(tables, client, capacity),
+        Op::SetFilter { queue, entries } => set_filter(tables, client, queue, entries),
+        Op::ReadQueue { queue, room } => read_queue(tables, client, queue, room),
+        Op::CloseQueue { queue } => close_queue(tables, client, queue),
+        Op::Exit => exit(tables, client, context),
+        Op::Leave => {
+            leave(tables, client);
+            Ok(Answer::Nothing)
+        }
+    }
+}

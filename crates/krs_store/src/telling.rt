@@ -1,0 +1,203 @@
+ghost use Rattle.std.specs.Prelude.{◌≡◌};
+ghost use Rattle.std.specs.Option.{option_map};
+ghost use Rattle.std.specs.Result.{result_ok};
+ghost use Rattle.krs_model.specs.Outcome.{Is};
+ghost use Rattle.krs_model.specs.Queues.{queues_of};
+ghost use Rattle.krs_model.specs.Sound.{IsSound};
+ghost use Rattle.krs_types.specs.Growth.{has_destination};
+ghost use Rattle.krs_model.specs.Notes.Posting.{posted_in};
+ghost use Rattle.krs_model.specs.Notes.Telling.{named, about, about_link, about_found};
+ghost use Rattle.krs_store.specs.Telling.{told_of, meant_note, linked_note, number_of, posts_told, Says, Foretells};
+ghost use Rattle.krs_store.specs.declared.telling.Telling.TheVariants.{OfAdded};
+
+use krs_tables::Tables;
+use krs_types::{Answer, Errno, KeyEvent, Op, Serial};
+
+/// What happened to a key, and the other key of a link, else 0: uapi linux/watch_queue.h, struct key_notification.
+#[derive(Clone, Copy, Debug, PartialEq, Eq)]
+pub(crate) struct KeyNote {
+    event: KeyEvent,
+    key: Serial,
+    aux: u32,
+}
+
+/// The note of an ask, as far as it is known before the ask is served: uapi linux/watch_queue.h, enum
+/// key_notification_subtype.
+#[derive(Clone, Copy, Debug, PartialEq, Eq)]
+pub(crate) enum Telling {
+    /// None.
+    Quiet,
+    /// This happens to a key.
+    OfKey(KeyEvent, Serial),
+    /// This happens to a keyring, by its link to a key.
+    OfLink(KeyEvent, Serial, Serial),
+    /// This keyring links what is found.
+    OfFound(Serial),
+    /// A key of a serial below `next` is updated. Another one is new, and linked by this keyring, where it is there.
+    OfAdded { ring: Option<Serial>, next: u32 },
+}
+
+impl KeyNote {
+    /// A keyring links a key.
+    fn linked(ring: Serial, key: u32) -> KeyNote
+        ensures { meant_note result ≡ linked_note ring key }
+    {
+        KeyNote {
+            event: KeyEvent::Linked,
+            key: ring,
+            aux: key,
+        }
+    }
+}
+
+impl Telling {
+    /// The note, where there is one, once the ask has its answer.
+    fn note(self, answer: &Answer) -> Option<KeyNote>
+        ensures { option_map meant_note result ≡ told_of self answer.now }
+    {
+        match self {
+            Telling::Quiet => None,
+            Telling::OfKey(event, key) => Some(KeyNote { event, key, aux: 0 }),
+            Telling::OfLink(event, ring, key) => Some(KeyNote {
+                event,
+                key: ring,
+                aux: key.number(),
+            }),
+            Telling::OfFound(ring) => {
+                let key = number_of(answer)?;
+                Some(KeyNote::linked(ring, key))
+            }
+            Telling::OfAdded { ring, next } => {
+                let key = number_of(answer)?;
+                if key < next {
+                    return Some(KeyNote {
+                        event: KeyEvent::Updated,
+                        key: Serial::new(key),
+                        aux: 0,
+                    });
+                }
+                let ring = ring?;
+                Some(KeyNote::linked(ring, key))
+            }
+        }
+    }
+}
+
+/// The number that an ask is answered with.
+fn number_of(answer: &Answer) -> Option<u32>
+    ensures { result ≡ number_of answer.now }
+{
+    match answer {
+        Answer::Number(number) => Some(*number),
+        Answer::Nothing | Answer::Bytes(_) => None,
+    }
+}
+
+/// What an ask tells of, if it is accepted.
+pub(crate) fn foretell(tables: &Tables, client: u32, context: u32, op: &Op) -> Telling
+    requires sound { IsSound tables.now }
+    ensures { Foretells result tables.now client context op.now }
+{
+    match op {
+        Op::Update { id, .. } => about(tables, client, context, KeyEvent::Updated, *id),
+        Op::Revoke { id } => about(tables, client, context, KeyEvent::Revoked, *id),
+        Op::Invalidate { id } => about(tables, client, context, KeyEvent::Invalidated, *id),
+        Op::Clear { id } => about(tables, client, context, KeyEvent::Cleared, *id),
+        Op::Chown { id, .. } => about(tables, client, context, KeyEvent::Setattr, *id),
+        Op::SetPerm { id, .. } => about(tables, client, context, KeyEvent::Setattr, *id),
+        Op::SetTimeout { id, .. } => about(tables, client, context, KeyEvent::Setattr, *id),
+        Op::Link { key, ring } => about_link(
+            tables,
+            client,
+            context,
+            KeyEvent::Linked,
+            *ring,
+            *key,
+        ),
+        Op::Unlink { key, ring } => {
+            about_link(tables, client, context, KeyEvent::Unlinked, *ring, *key)
+        }
+        Op::Search { dest, .. } => about_found(tables, client, context, *dest),
+        Op::Request { dest, .. } => about_found(tables, client, context, *dest),
+        Op::Add { ring, .. } => about_added(tables, client, context, *ring),
+        Op::Hello(_) | Op::Thread | Op::Fork | Op::Exec | Op::GetId { .. } => Telling::Quiet,
+        Op::Join { .. } | Op::Read { .. } | Op::Describe { .. } => Telling::Quiet,
+        Op::Watch { .. } | Op::OpenQueue { .. } | Op::SetFilter { .. } => Telling::Quiet,
+        Op::ReadQueue { .. } | Op::CloseQueue { .. } => Telling::Quiet,
+        Op::Exit | Op::Leave => Telling::Quiet,
+    }
+}
+
+/// A note of an accepted ask goes to those that watch its key and let it pass.
+pub(crate) fn tell(tables: &mut Tables, telling: Telling, answer: &Answer)
+    ensures { tables.new ≡ posted_in (posts_told (queues_of tables.old) (told_of telling answer.now)) tables.old }
+{
+    match telling.note(answer) {
+        Some(note) => tables.queues.post_all(note.event, note.key, note.aux),
+        None => {}
+    }
+}
+
+/// The serial that an id stands for in a context.
+#[tactic(auto, unfolding(krs_model::specs::Notes::Telling::named))]
+fn named(tables: &Tables, client: u32, number: u32, id: i32) -> Result<Serial, Errno>
+    ensures { Is (λ n. n) result (named tables.now client number id) }
+{
+    let context = tables.context_of(client, number)?;
+    tables.serial_of(context, id)
+}
+
+/// This happens to the key that an id stands for.
+fn about(tables: &Tables, client: u32, number: u32, event: KeyEvent, id: i32) -> Telling
+    ensures { Says result (λ answer. about event (named tables.now client number id)) }
+{
+    match named(tables, client, number, id) {
+        Ok(key) => Telling::OfKey(event, key),
+        Err(_) => Telling::Quiet,
+    }
+}
+
+/// This happens to the keyring that an id stands for, by its link to a key.
+fn about_link(
+    tables: &Tables,
+    client: u32,
+    number: u32,
+    event: KeyEvent,
+    ring: i32,
+    key: i32,
+) -> Telling
+    ensures { Says result (λ answer.
+        about_link event (named tables.now client number ring) (named tables.now client number key)) }
+{
+    match (
+        named(tables, client, number, ring),
+        named(tables, client, number, key),
+    ) {
+        (Ok(ring), Ok(key)) => Telling::OfLink(event, ring, key),
+        _ => Telling::Quiet,
+    }
+}
+
+/// The destination that an id stands for links what is found, where one is wanted.
+fn about_found(tables: &Tables, client: u32, number: u32, dest: i32) -> Telling
+    ensures { Says result (about_found (has_destination dest) (named tables.now client number dest)) }
+{
+    if dest == 0 {
+        return Telling::Quiet;
+    }
+    match named(tables, client, number, dest) {
+        Ok(ring) => Telling::OfFound(ring),
+        Err(_) => Telling::Quiet,
+    }
+}
+
+/// The keyring that an id stands for links a new key, or a key that is there is updated. A keyring that is made
+/// with the key has no watch yet.
+fn about_added(tables: &Tables, client: u32, number: u32, ring: i32) -> Telling
+    ensures { result ≡ OfAdded (result_ok (named tables.now client number ring)) tables.now.next_serial }
+{
+    Telling::OfAdded {
+        ring: named(tables, client, number, ring).ok(),
+        next: tables.keys.next(),
+    }
+}

@@ -1,0 +1,9 @@
+pub mod Granting
+pub mod Telling
+pub mod Linking
+pub mod Counting
+pub mod Owning
+pub mod Attaching
+pub mod NewRings
+pub mod TwoMade
+pub mod Dropping

@@ -1,0 +1,21 @@
+use Rattle.std.proofs.Common.{◌≡◌, ◌≤◌, ◌∙◌, ap, sym, arith}
+use Rattle.std.proofs.lemmas.Bool.Decides.{nat_tests}
+use Rattle.krs_model.specs.State.{State}
+use Rattle.krs_tables.proofs.Attaching.{has_place}
+use Rattle.krs_tables.proofs.TwoMade.{adding_told}
+use Rattle.krs_tables.proofs.tables.Tables.make_adding.Goals as goal
+
+pub make_two-requires-clause-place : goal.make_two-requires-clause-place
+make_two-requires-clause-place c =
+    has_place c.args.special c.args.self.now c.args.client c.args.number c.in_ok-context.context.now c.of-maker.result
+    c.requires.sound c.in_ok-context.ensures c.of-maker.ensures c.requires.missing
+
+pub returns : goal.returns
+returns c =
+    let next : c.args.self.now.next_serial ≡ c.next.result =
+    ap (λ (t : State). t.next_serial) (sym c.self.view_is) ∙ sym c.next.ensures.value in
+    let left : c.args.self.now.next_serial ≤ 2147483646 =
+    rw next (grind (arith, nat_tests, c.if-next-ge-LAST_SERIAL.false)) in
+    adding_told c.args.special c.args.self.now c.make_two.new.self c.args.client c.args.number c.number.result
+    c.args.name c.args.payload c.in_ok-context.context.now c.of-maker.result c.in_ok-context.ensures
+    c.of-maker.ensures left c.in_ok-serial.ensures.ok (c.number.ensures ∙ c.in_ok-serial.ensures.serial)

@@ -1,0 +1,14 @@
+use Rattle.std.proofs.Common.{◌∙◌}
+use Rattle.krs_tables.proofs.Attaching.{has_place, alone_done}
+use Rattle.krs_tables.proofs.tables.Tables.make_alone.Goals as goal
+
+pub make_ring-requires-clause-place : goal.make_ring-requires-clause-place
+make_ring-requires-clause-place c =
+    has_place c.args.special c.args.self.now c.args.client c.args.number c.in_ok-context_of.field-0.now
+    c.of-maker.result c.requires.sound c.in_ok-context_of.ensures c.of-maker.ensures c.requires.missing
+
+pub returns : goal.returns
+returns c =
+    alone_done c.args.special c.args.self.now c.make_ring-2.new.self c.args.client c.args.number c.number.result
+    c.in_ok-context_of.field-0.now c.of-maker.result c.in_ok-context_of.ensures c.of-maker.ensures
+    c.in_ok-check_serial.ensures.ok c.in_ok-ring.ensures.ok (c.number.ensures ∙ c.in_ok-ring.ensures.serial)

@@ -1,0 +1,26 @@
+use Rattle.std.proofs.Common.{◌≡◌, ◌∙◌, Some, ap, sym, subst, false, Bor}
+use Rattle.std.specs.Option.{option_map}
+use Rattle.krs_model.specs.State.{State}
+use Rattle.krs_model.specs.Reach.{has_chain}
+use Rattle.krs_model.specs.Table.{at}
+use Rattle.krs_keys.specs.declared.key.Key.{Key}
+use Rattle.krs_keys.specs.Keys.{seen}
+use Rattle.krs_tables.proofs.Attaching.{has_place, linking_done}
+use Rattle.krs_tables.proofs.tables.Tables.make_linking.Goals as goal
+
+pub make_ring-requires-clause-place : goal.make_ring-requires-clause-place
+make_ring-requires-clause-place c =
+    has_place c.args.special c.args.self.now c.args.client c.args.number c.in_ok-context_of.field-0.now
+    c.of-maker.result c.requires.sound c.in_ok-context_of.ensures c.of-maker.ensures c.requires.missing
+
+pub returns : goal.returns
+returns c =
+    let s = c.args.self.now in
+    let short : has_chain s.keys c.args.serial 6 ≡ false =
+    subst (λ (t : State). has_chain t.keys c.args.serial 6 ≡ false) c.self.view_is c.in_ok-_height.ensures.shallow in
+    let there : at s.keys c.args.serial ≡ Some (seen c.in_ok-key.key.now) =
+    sym c.key.ensures.value ∙ ap (option_map (λ (k : Bor Key). seen k.now)) c.in_ok-key.ensures.ok_part in
+    linking_done c.args.special s c.make_ring.new.self c.args.client c.args.number c.args.serial
+    c.in_ok-context_of.field-0.now c.of-maker.result (seen c.in_ok-key.key.now) c.args.answer
+    c.in_ok-context_of.ensures
+    c.of-maker.ensures there short c.in_ok-check_serial.ensures.ok c.in_ok-make_ring.ensures.ok

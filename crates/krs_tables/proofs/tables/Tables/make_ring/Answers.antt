@@ -1,0 +1,49 @@
+use Rattle.std.proofs.Common.{◌≡◌, ◌∙◌, ap, sym, subst}
+use Rattle.std.specs.Option.{option_to_list}
+use Rattle.krs_model.specs.State.{State}
+use Rattle.krs_keys.specs.Table.{with_key}
+use Rattle.krs_hold.specs.Tally.{with_number, one_more}
+use Rattle.krs_tables.specs.Holding.{more_of}
+use Rattle.krs_tables.specs.Specials.{ring_key, HasPlace, AreLinksTo, attached_as, ring_at}
+use Rattle.krs_tables.proofs.Attaching.{room_beside, ring_sound, ring_told}
+use Rattle.krs_tables.proofs.tables.Tables.make_ring.Goals as goal
+
+pub hold_of-requires : goal.hold_of-requires
+hold_of-requires c =
+    let s = c.self.inside in
+    let are = subst (λ (t : State). AreLinksTo t c.args.links c.args.linked) (sym c.self.view_is) c.requires.links in
+    room_beside s c.args.links c.args.linked c.new-ring.result c.make_room.new.holders c.hold.new.self
+    c.next.ensures.unused are (c.new-ring.ensures ∙ c.next.ensures.value) c.in_ok-make_room.ensures.ok c.hold.ensures
+    c.in_ok-check_room.ensures
+
+pub invariant_of-self-in-Ok : goal.invariant_of-self-in-Ok
+invariant_of-self-in-Ok c =
+    let s = c.self.inside in
+    let n = s.keys.next in
+    let ring : c.new-ring.result ≡ n = c.new-ring.ensures ∙ c.next.ensures.value in
+    let place = subst (HasPlace c.args.special c.args.maker) (sym c.self.view_is) c.requires.place in
+    let are = subst (λ (t : State). AreLinksTo t c.args.links c.args.linked) (sym c.self.view_is) c.requires.links in
+    let keys : c.insert.new.self ≡ with_key s.keys (ring_key c.args.special c.args.maker c.args.links) =
+    c.in-Ok.ensures.ok ∙ ap (with_key s.keys) c.in_ok-key.ensures in
+    let contexts : c.attach.new.contexts ≡ attached_as c.args.special c.args.maker n s.contexts =
+    c.attach.ensures ∙ ap (λ k. attached_as c.args.special c.args.maker k s.contexts) ring in
+    let numbers : c.hold_of.new.holders ≡ more_of c.args.linked (one_more n (with_number n s.holders)) =
+    c.hold_of.ensures
+    ∙ (ap (more_of c.args.linked) (c.hold.ensures ∙ ap (one_more c.new-ring.result) c.in_ok-make_room.ensures.ok)
+    ∙ ap (λ k. more_of c.args.linked (one_more k (with_number k s.holders))) ring) in
+    ring_sound s c.args.special c.args.maker c.args.links c.args.linked c.insert.new.self c.attach.new.contexts
+    c.hold_of.new.holders c.self.invariant c.next.ensures.unused place are keys contexts numbers
+
+pub returns-in-Ok-clause-ok : goal.returns-in-Ok-clause-ok
+returns-in-Ok-clause-ok c =
+    let s = c.self.inside in
+    let n = s.keys.next in
+    let ring : c.new-ring.result ≡ n = c.new-ring.ensures ∙ c.next.ensures.value in
+    let are = subst (λ (t : State). AreLinksTo t c.args.links c.args.linked) (sym c.self.view_is) c.requires.links in
+    let keys : c.insert.new.self ≡ with_key s.keys (ring_key c.args.special c.args.maker c.args.links) =
+    c.in-Ok.ensures.ok ∙ ap (with_key s.keys) c.in_ok-key.ensures in
+    let contexts : c.attach.new.contexts ≡ attached_as c.args.special c.args.maker n s.contexts =
+    c.attach.ensures ∙ ap (λ k. attached_as c.args.special c.args.maker k s.contexts) ring in
+    ring_told s c.args.special c.args.maker c.args.links c.args.linked c.insert.new.self c.attach.new.contexts
+    c.hold_of.new.holders are keys contexts
+    ∙ ap (ring_at c.args.special c.args.maker (option_to_list c.args.linked)) c.self.view_is

@@ -1,0 +1,66 @@
+use Rattle.std.proofs.Common.{◌+◌, ◌∙◌, [], ap, sym, subst, arith}
+use Rattle.krs_model.specs.State.{State}
+use Rattle.krs_model.specs.Sweep.{roots}
+use Rattle.krs_model.specs.Asks.Adding.{made, new_key}
+use Rattle.krs_keys.specs.Table.{Keys}
+use Rattle.krs_tables.specs.Specials.{ring_at}
+use Rattle.krs_tables.specs.View.{state_of, IsConsistent}
+use Rattle.krs_tables.proofs.TwoMade.{two_made, room_left}
+use Rattle.krs_tables.proofs.tables.Tables.make_two.Goals as goal
+
+pub hold-requires-in-Ok : goal.hold-requires-in-Ok
+hold-requires-in-Ok c =
+    let one = c.new-one.ensures in
+    let two = c.new-two.ensures in
+    room_left c.make_room-2.new.holders c.hold.new.self c.new-one.result c.new-two.result 18446744073709551615
+    (λ same. absurd (omega (arith, one, two, same))) c.hold.ensures c.in_ok-make_room-2.ensures.room
+
+pub invariant_of-self-in-Err : goal.invariant_of-self-in-Err
+invariant_of-self-in-Err c =
+    let s = c.self.inside in
+    let attached = roots (state_of s) in
+    subst (λ (k : Keys). IsConsistent (record s { keys = k; holders = c.make_room-2.new.holders }))
+    (sym c.in-Err.ensures.err)
+    (record {
+      fit = c.self.invariant.fit;
+      kinds = c.self.invariant.kinds;
+      tallied = c.in_ok-make_room-2.ensures.exact s.keys.keys attached
+          (c.in_ok-make_room.ensures.exact s.keys.keys attached c.self.invariant.tallied);
+    })
+
+pub invariant_of-self-in-Ok : goal.invariant_of-self-in-Ok
+invariant_of-self-in-Ok c =
+    let told = two_made c.args.special c.self.inside c.args.maker c.args.name c.args.payload _ _ _ _ _ _ _ _ _ _
+    c.args.self.now c.self.view_is c.self.invariant c.next-first.ensures.unused c.requires.place
+    (record {
+      first = c.new-one.ensures ∙ c.next-first.ensures.value;
+      second = c.new-two.ensures ∙ ap (λ z. z + 1) c.next-first.ensures.value;
+      ring_is = c.in_ok-ring.ensures.ring;
+      key_is = c.in_ok-ring.ensures.key;
+      keys = c.in-Ok.ensures.ok;
+      anchors_are = c.attach.ensures;
+      room = c.in_ok-make_room.ensures.ok;
+      more_room = c.in_ok-make_room-2.ensures.ok;
+      held = c.hold.ensures;
+      both_held = c.hold-in-Ok.ensures;
+    }) in
+    told.sound
+
+pub returns-in-Ok-clause-ok : goal.returns-in-Ok-clause-ok
+returns-in-Ok-clause-ok c =
+    let told = two_made c.args.special c.self.inside c.args.maker c.args.name c.args.payload _ _ _ _ _ _ _ _ _ _
+    c.args.self.now c.self.view_is c.self.invariant c.next-first.ensures.unused c.requires.place
+    (record {
+      first = c.new-one.ensures ∙ c.next-first.ensures.value;
+      second = c.new-two.ensures ∙ ap (λ z. z + 1) c.next-first.ensures.value;
+      ring_is = c.in_ok-ring.ensures.ring;
+      key_is = c.in_ok-ring.ensures.key;
+      keys = c.in-Ok.ensures.ok;
+      anchors_are = c.attach.ensures;
+      room = c.in_ok-make_room.ensures.ok;
+      more_room = c.in_ok-make_room-2.ensures.ok;
+      held = c.hold.ensures;
+      both_held = c.hold-in-Ok.ensures;
+    }) in
+    told.is ∙ ap (λ (t : State). made (ring_at c.args.special c.args.maker [] t) t.next_serial c.args.name
+    (new_key c.args.name c.args.payload c.args.maker.uid c.args.maker.gid)) c.self.view_is

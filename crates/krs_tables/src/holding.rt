@@ -1,0 +1,54 @@
+ghost use Rattle.std.specs.Prelude.{◌≡◌, ◌≤◌, ◌+◌, ◌-◌, ◌^◌, ℕ, List, OnOk};
+ghost use Rattle.krs_model.specs.Table.{Table};
+ghost use Rattle.krs_keys.specs.declared.key.Key.{Key};
+ghost use Rattle.krs_hold.specs.Tally.{AreExact, number_at, with_number, one_more};
+ghost use Rattle.krs_tables.specs.Holding.{HasRoom, more_of};
+
+use krs_hold::Holders;
+use krs_types::Serial;
+use std::alloc::AllocError;
+
+/// Room for one more to hold what an attachment has.
+pub fn check_room(holders: &Holders, serial: &Option<Serial>) -> Result<(), AllocError>
+    ensures { OnOk result (HasRoom holders.now serial.now) }
+{
+    match serial {
+        Some(serial) if !holders.has_room(*serial, 1) => Err(AllocError),
+        _ => Ok(()),
+    }
+}
+
+/// One attachment more holds what it has.
+pub fn hold_of(holders: &mut Holders, serial: &Option<Serial>)
+    requires { HasRoom holders.old serial.now }
+    ensures { holders.new ≡ more_of serial.now holders.old }
+{
+    if let Some(held) = serial {
+        holders.hold(*held);
+    }
+}
+
+/// Room for the count of a new key, and for two holders of it.
+pub fn make_room(holders: &mut Holders, serial: Serial) -> Result<(), AllocError>
+    ensures ok { OnOk result (holders.new ≡ with_number serial holders.old) }
+    ensures room { OnOk result (number_at holders.new serial + 2 ≤ 2 ^ 64 - 1) }
+    ensures exact { (keys : Table Key) (attached : List ℕ)
+        → AreExact keys holders.old attached → AreExact keys holders.new attached }
+{
+    let Ok(()) = holders.made(serial) else {
+        return Err(AllocError);
+    };
+    if !holders.has_room(serial, 2) {
+        return Err(AllocError);
+    }
+    Ok(())
+}
+
+/// Two holders more of a key.
+pub fn hold_twice(holders: &mut Holders, serial: Serial)
+    requires { number_at holders.old serial + 2 ≤ 2 ^ 64 - 1 }
+    ensures { holders.new ≡ one_more serial (one_more serial holders.old) }
+{
+    holders.hold(serial);
+    holders.hold(serial);
+}

@@ -1,0 +1,45 @@
+ghost use Rattle.std.specs.Prelude.{◌≡◌};
+ghost use Rattle.krs_model.specs.Asks.Adding.{first_perm};
+ghost use Rattle.krs_tables.specs.Making.{maker_key, first_content};
+
+use krs_keys::{Content, Key};
+use krs_links::Links;
+use krs_types::{Body, Kind, Name, Perm};
+use std::alloc::Global;
+
+/// A new key of its maker: add_key(2).
+pub fn new_key(alloc: Global, name: Name, payload: Body, uid: u32, gid: u32) -> Key
+    ensures { result ≡ maker_key name payload uid gid }
+{
+    let kind = name.kind;
+    Key {
+        name,
+        uid,
+        gid,
+        perm: first_perm(kind),
+        expiry: None,
+        revoked: false,
+        joined: false,
+        content: first_content(alloc, kind, payload),
+    }
+}
+
+/// The mask of a new key: profile, masks of new keys.
+fn first_perm(kind: Kind) -> Perm
+    ensures { result ≡ first_perm kind }
+{
+    match kind {
+        Kind::User | Kind::Keyring => Perm::OF_KEY,
+        Kind::Logon => Perm::OF_LOGON,
+    }
+}
+
+/// What a new key holds: a keyring is made empty.
+fn first_content(alloc: Global, kind: Kind, payload: Body) -> Content
+    ensures { result ≡ first_content kind payload }
+{
+    match kind {
+        Kind::User | Kind::Logon => Content::Payload(payload),
+        Kind::Keyring => Content::Links(Links::new(alloc)),
+    }
+}

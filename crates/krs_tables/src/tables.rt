@@ -1,0 +1,187 @@
+ghost use Rattle.std.specs.Prelude.{◌≡◌, ◌≤◌, IfSome, IfOk};
+ghost use Rattle.std.specs.Option.{option_map};
+ghost use Rattle.krs_model.specs.Table.{at};
+ghost use Rattle.krs_model.specs.State.{starting_at, raised};
+ghost use Rattle.krs_model.specs.Possession.{process_ring, possessed};
+ghost use Rattle.krs_model.specs.Lookup.{context_of, serial_of, look_up};
+ghost use Rattle.krs_model.specs.Outcome.{Gives, Is};
+ghost use Rattle.krs_model.specs.Serving.{SweepsOut};
+ghost use Rattle.krs_model.specs.Sweep.{live_watches};
+ghost use Rattle.krs_model.specs.Reach.{IsAcyclic, links_in};
+ghost use Rattle.krs_model.specs.Asks.Changing.{changed};
+ghost use Rattle.krs_keys.specs.Keys.{seen, FindsByName};
+ghost use Rattle.krs_keys.specs.Changes.{meant_change};
+ghost use Rattle.krs_tables.specs.Granting.{grants_to};
+
+use krs_ctx::Contexts;
+use krs_hold::Holders;
+use krs_keys::{Change, Key, KeyTable};
+use krs_types::{Context, Errno, Fault, KeyId, Serial, Want};
+use krs_walk::Walker;
+use krs_watch::WatchQueues;
+use std::alloc::{AllocError, Global};
+use std::marker::Model;
+
+/// All that a store has. An ask is a function over it, or over its parts.
+#[derive(Drop)]
+pub struct Tables {
+    pub keys: KeyTable,
+    pub contexts: Contexts,
+    pub queues: WatchQueues,
+    pub clock: u64,
+    pub holders: Holders,
+    pub alloc: Global,
+}
+
+impl Model for Tables {
+    ghost use Rattle.krs_model.specs.State.{State};
+
+    ghost Value = { State };
+
+    ghost use Rattle.krs_tables.specs.View.{state_of, IsConsistent};
+
+    ghost view = { state_of };
+
+    ghost invariant = { IsConsistent };
+}
+
+impl Tables {
+    /// An empty store that gives this serial next.
+    pub fn starting_at(alloc: Global, next: u32) -> Self
+        requires { 3 ≤ next }
+        ensures { result ≡ starting_at next }
+    {
+        Tables {
+            keys: KeyTable::starting_at(alloc, next),
+            contexts: Contexts::new(alloc),
+            queues: WatchQueues::new(alloc),
+            clock: 0,
+            holders: Holders::new(alloc),
+            alloc,
+        }
+    }
+
+    /// The context of that number, where it is the client's.
+    pub fn context_of(&self, client: u32, number: u32) -> Result<&Context, Errno>
+        ensures { Is (λ c. c.now) result (context_of self.now client number) }
+    {
+        self.contexts.context_of(client, number)
+    }
+
+    /// The keyring of a process.
+    pub fn process_ring(&self, process: u32) -> Option<Serial>
+        ensures { result ≡ process_ring self.now process }
+    {
+        self.contexts.process_ring(process)
+    }
+
+    /// Whether a context possesses a key: keyrings(7), "Possession".
+    #[tactic(auto, unfolding(krs_model::specs::Possession::possessed))]
+    pub fn possesses(&self, context: &Context, serial: Serial) -> Result<bool, AllocError>
+        ensures { IfOk result (λ b. b ≡ possessed self.now context.now serial) }
+    {
+        let ring = self.process_ring(context.process);
+        Walker::new(self.alloc).possesses(&self.keys, context, ring, self.clock, serial)
+    }
+
+    /// The serial that an id stands for.
+    #[tactic(auto, unfolding(krs_model::specs::Lookup::serial_of))]
+    pub fn serial_of(&self, context: &Context, id: i32) -> Result<Serial, Errno>
+        ensures { Is (λ n. n) result (serial_of self.now context.now id) }
+    {
+        let attached = match KeyId::from_i32(id)? {
+            KeyId::Serial(serial) => Some(serial),
+            KeyId::Thread => context.thread,
+            KeyId::Process => self.process_ring(context.process),
+            KeyId::Session => context.session,
+            KeyId::User => match self.contexts.rings(context.caller.uid) {
+                Some(rings) => rings.user,
+                None => None,
+            },
+            KeyId::UserSession => match self.contexts.rings(context.caller.uid) {
+                Some(rings) => rings.session,
+                None => None,
+            },
+        };
+        attached.ok_or(Errno::ENOKEY)
+    }
+
+    /// The key at a serial.
+    #[tactic(auto, using(krs_model::proofs::Tables::at_map))]
+    pub fn key(&self, serial: Serial) -> Option<&Key>
+        ensures value { option_map (λ k. seen k.now) result ≡ at self.now.keys serial }
+        ensures named { IfSome result (λ k. FindsByName self.now.keys k.now) }
+    {
+        match self.keys.get(serial) {
+            Some(key) => Some(key),
+            None => None,
+        }
+    }
+
+    /// The key that an id names, where it grants what is wanted.
+    #[tactic(auto, unfolding(krs_model::specs::Lookup::look_up))]
+    pub fn look_up(&self, context: &Context, id: i32, want: Want) -> Result<(u32, &Key), Fault>
+        ensures found { Gives (λ x. (x.0, seen x.1.now)) result (look_up self.now context.now id want) }
+        ensures named { IfOk result (λ x. FindsByName self.now.keys x.1.now) }
+    {
+        let serial = self.serial_of(context, id)?;
+        let key = self.key(serial).ok_or(Errno::ENOKEY)?;
+        if key.revoked {
+            return Err(Fault::Refused(Errno::EKEYREVOKED));
+        }
+        if key.is_over(self.clock) {
+            return Err(Fault::Refused(Errno::EKEYEXPIRED));
+        }
+        if !self.grants(context, serial, key, want)? {
+            return Err(Fault::Refused(Errno::EACCES));
+        }
+        Ok((serial.number(), key))
+    }
+
+    /// Whether a key grants a context what is wanted. Possession is looked for only where it may add something: what is
+    /// granted without it is granted with it.
+    pub fn grants(
+        &self,
+        context: &Context,
+        serial: Serial,
+        key: &Key,
+        want: Want,
+    ) -> Result<bool, AllocError>
+        ensures { IfOk result (λ b. b ≡ grants_to self.now context.now serial (seen key.now) want) }
+    {
+        if want.allows(key.grants(&context.caller, false), false) {
+            return Ok(true);
+        }
+        let possessed = self.possesses(context, serial)?;
+        Ok(want.allows(key.grants(&context.caller, possessed), possessed))
+    }
+
+    /// Changes the key at a serial, and nothing else.
+    pub fn change(&mut self, serial: Serial, change: Change)
+        ensures { self.new ≡ changed self.old serial (meant_change change) }
+    {
+        self.holders.let_go_taken(&self.keys, serial, &change);
+        self.keys.set(serial, change);
+    }
+
+    /// The clock is at least at this moment from now on.
+    pub fn raise(&mut self, moment: u64)
+        ensures { self.new ≡ raised self.old moment }
+    {
+        self.clock = self.clock.max(moment);
+    }
+
+    /// Just the keys stay that are attached, or linked by what stays. The watches of the others end with removal
+    /// records.
+    pub fn sweep(&mut self)
+        requires acyclic { IsAcyclic (links_in self.old.keys) }
+        requires live { live_watches self.old.keys self.old.watches ≡ self.old.watches }
+        ensures { SweepsOut self.old self.new }
+    {
+        let before = self.keys.len();
+        self.holders.sweep(&mut self.keys);
+        if self.keys.len() < before {
+            self.queues.sweep(&self.keys);
+        }
+    }
+}
