@@ -13,6 +13,7 @@ pub mod Sweeps
 pub mod Lookups
 pub mod Sweeping
 pub mod Steps
+pub mod Refusals
 pub mod Making
 pub mod Coming
 pub mod ComingAsks
@@ -30,6 +31,7 @@ pub mod Keeping
 pub mod Sustaining
 pub mod SustainingLinks
 pub mod Soundness
+pub mod Total
 pub mod Revocations
 pub mod Rights
 pub mod Searching

@@ -125,7 +125,7 @@ outcome_stands s client context (CloseQueue queue) stands = close_queue_stands s
 outcome_stands s client context Exit stands = exit_stands s client context stands
 outcome_stands s client context Leave stands = sustains_ok (left_stands s client stands)
 
-sound_stands : (s : State) → IsSound s → Stands s
+pub sound_stands : (s : State) → IsSound s → Stands s
 sound_stands s sound = record {
   acyclic = sound.acyclic;
   linked = sound.linked;

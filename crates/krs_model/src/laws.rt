@@ -1,8 +1,9 @@
 ghost use Rattle.std.specs.Prelude.{◌≡◌, ◌≢◌, ◌↔◌, ◌++◌, ℕ, ℤ, List, [], Bool, true, false};
-ghost use Rattle.std.specs.Prelude.{Ok, Err, IsErr, IsSome, Some};
+ghost use Rattle.std.specs.Prelude.{Result, Ok, Err, IsErr, IsSome, Some};
 ghost use Rattle.krs_types.specs.declared.caller.Caller.{Caller};
 ghost use Rattle.krs_types.specs.declared.context.Context.{Context};
 ghost use Rattle.krs_types.specs.declared.ask.Answer.{Answer};
+ghost use Rattle.krs_types.specs.declared.ask.Ask.{Ask};
 ghost use Rattle.krs_types.specs.declared.ask.Op.{Op};
 ghost use Rattle.krs_types.specs.declared.ask.Op.TheVariants.{Revoke, Read};
 ghost use Rattle.krs_types.specs.declared.errno.Errno.{Errno};
@@ -25,7 +26,7 @@ ghost use Rattle.krs_model.specs.Orderly.{AreOrderly, AreRising};
 ghost use Rattle.krs_model.specs.Sound.{IsSound, AllLinked};
 ghost use Rattle.krs_model.specs.Step.{Step, Serves, outcome_of};
 ghost use Rattle.krs_model.specs.Serving.{Tells, SweepsOut};
-ghost use Rattle.krs_model.specs.History.{IsLegal};
+ghost use Rattle.krs_model.specs.History.{IsLegal, event_of};
 ghost use Rattle.krs_model.specs.Revocation.{IsOfKey, StaysUnread};
 ghost use Rattle.krs_model.specs.Receiving.{HasMoves, GivesStreams};
 ghost use Rattle.krs_model.specs.Ordering.{GoByQueue};
@@ -130,6 +131,14 @@ pub fn each_step_keeps_a_store_sound()
 /// Every history of a store that began empty ends in a sound store.
 pub fn histories_end_sound()
     ensures { (n : ℕ) (events : List Event) (end : State) → IsLegal (starting_at n) events end → IsSound end }
+{}
+
+/// From a sound store each ask of any client at any moment has a step, whose reply is not ENOMEM: whatever is asked may
+/// be answered.
+pub fn each_ask_has_a_step()
+    ensures { (old : State) (lane moment : ℕ) (ask : Ask) → IsSound old
+        → (reply : Result Answer Errno) × (new : State) × Step old (event_of lane moment ask reply) new
+        × (reply ≢ Err ENOMEM) }
 {}
 
 /// A reply leads to one state: what is asked at a moment and what it is answered with determine all that a store is
