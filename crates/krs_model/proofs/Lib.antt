@@ -1,5 +1,6 @@
 pub mod Tables
 pub mod Entries
+pub mod Rises
 pub mod Posting
 pub mod Fitting
 pub mod Rising
@@ -22,7 +23,9 @@ pub mod Effects
 pub mod Following
 pub mod Roots
 pub mod Closing
+pub mod Contents
 pub mod Standing
+pub mod Housing
 pub mod Entering
 pub mod Counting
 pub mod Serials
