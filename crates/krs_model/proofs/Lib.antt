@@ -57,3 +57,4 @@ pub mod Ordering
 pub mod Serving
 pub mod Staying
 pub mod Fronts
+pub mod Joins

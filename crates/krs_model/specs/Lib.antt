@@ -16,6 +16,7 @@ pub mod Orderly
 pub mod Sound
 pub mod Outcome
 pub mod Asks
+pub mod Joined
 pub mod Step
 pub mod Serving
 pub mod History

@@ -12,11 +12,11 @@ ghost use Rattle.krs_types.specs.declared.event.Event.{Event};
 ghost use Rattle.krs_types.specs.declared.name.Name.{Name};
 ghost use Rattle.krs_types.specs.declared.rights.Want.{Want};
 ghost use Rattle.krs_types.specs.Perm.{granted};
-ghost use Rattle.krs_model.specs.Table.{Table, at, IsBelow};
+ghost use Rattle.krs_model.specs.Table.{Table, at, IsBelow, Rises};
 ghost use Rattle.krs_model.specs.State.{State, Key, Queue, raised, starting_at};
 ghost use Rattle.krs_model.specs.Queues.{Queues, queues_of};
 ghost use Rattle.krs_model.specs.Possession.{attached, possessed};
-ghost use Rattle.krs_model.specs.Lookup.{look_up};
+ghost use Rattle.krs_model.specs.Lookup.{context_of, look_up};
 ghost use Rattle.krs_model.specs.Usable.{IsUsable};
 ghost use Rattle.krs_model.specs.Sweep.{IsSweep, IsSwept, PicksHeld};
 ghost use Rattle.krs_model.specs.Reach.{closes, links_in, IsAcyclic};
@@ -33,7 +33,9 @@ ghost use Rattle.krs_model.specs.Ordering.{GoByQueue};
 ghost use Rattle.krs_model.specs.Notes.Stream.{Move};
 ghost use Rattle.krs_model.specs.Notes.Posting.{Note, posts_of, dropped_watches};
 ghost use Rattle.krs_model.specs.Notes.Telling.{ended_by};
+ghost use Rattle.krs_model.specs.Asks.Joining.{join};
 ghost use Rattle.krs_model.specs.Asks.Watching.{read_queue};
+ghost use Rattle.krs_model.specs.Joined.{JoinsLeast};
 ghost use Rattle.krs_model.specs.Laws.{ComesByLinks, IsOneByte, ClosesCycle};
 ghost use Rattle.krs_model.specs.Laws.{IsFirstAnswer, HasNoAnswer, in_turn, ReadsFront};
 
@@ -116,6 +118,14 @@ pub fn searches_go_by_levels()
 pub fn requests_search_in_turn()
     ensures { (s : State) (c : Context) (name : Name)
         → requested s c name ≡ in_turn (λ head. found s c head name) (attached s c) }
+{}
+
+/// JOIN with a name takes the least serial of the keyrings that may be joined, else makes one: keyctl(2),
+/// KEYCTL_JOIN_SESSION_KEYRING; profile, joining by name.
+pub fn joins_take_the_least_serial()
+    ensures { (s new : State) (client context : ℕ) (c : Context) (name : List ℕ) (answer : Answer)
+        → Rises s.keys → name ≢ [] → context_of s client context ≡ Ok c
+        → join s client context name ≡ Ok (new, answer) → JoinsLeast s context c name new answer }
 {}
 
 /// An empty store is sound.
