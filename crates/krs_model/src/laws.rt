@@ -168,13 +168,6 @@ pub fn a_step_may_be_taken_in_turn()
         → Tells s client context op answer told → SweepsOut told new → Serves s client context op answer new }
 {}
 
-/// Where nothing is watched nothing is posted: an accepted ask has its effect, and then the sweep.
-pub fn a_store_with_no_watch_posts_nothing()
-    ensures { (s mid new : State) (client context : ℕ) (op : Op) (answer : Answer)
-        → s.watches ≡ [] → mid.watches ≡ [] → outcome_of s client context op ≡ Ok (mid, answer)
-        → IsSweep mid new → Serves s client context op answer new }
-{}
-
 /// One note goes to its queues by rising number, and the removal records of an ask go out by rising key, then queue.
 /// Profile, order of notes.
 pub fn records_go_out_in_order()
