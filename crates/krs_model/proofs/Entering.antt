@@ -5,7 +5,6 @@ use Rattle.std.specs.Prelude.{codes}
 use Rattle.std.specs.Option.{IsSome, option_to_list}
 use Rattle.std.specs.List.{find, count_by}
 use Rattle.std.proofs.lemmas.Bool.{true≢false}
-use Rattle.std.proofs.lemmas.Bool.Decides.{nat_tests}
 use Rattle.std.proofs.lemmas.List.Sums.{count_by-le-length}
 use Rattle.std.proofs.lemmas.Option.{none-some}
 use Rattle.krs_types.specs.declared.errno.Errno.{Errno}

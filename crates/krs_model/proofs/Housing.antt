@@ -1,12 +1,9 @@
 -- What leaves contexts, processes and uids housed: a further one, one that is changed, fewer of them.
-use Rattle.std.proofs.Common.{◌≡◌, ℕ, ◌+◌, ◌<◌, ◌≤◌, ◌==◌, ◌||◌, List, [], ◌∷◌, Option, None, Some, Bool, true, false}
-use Rattle.std.proofs.Common.{not, cond, filter, refl, ap, ◌∙◌, sym, subst, arith, ◌⊎◌, inl, inr, ⊎_elim}
+use Rattle.std.proofs.Common.{◌≡◌, ℕ, ◌+◌, ◌==◌, ◌||◌, List, [], ◌∷◌, Option, Some, Bool, true, false}
+use Rattle.std.proofs.Common.{cond, filter, refl, ap, ◌∙◌, sym, subst, arith, inl, ⊎_elim}
 use Rattle.std.specs.Option.{IsSome, option_map}
-use Rattle.std.specs.List.{list_any}
-use Rattle.std.specs.Map.{values_of}
 use Rattle.std.proofs.lemmas.Bool.{true≢false}
 use Rattle.std.proofs.lemmas.List.Concat.{flat_map_single}
-use Rattle.krs_types.specs.declared.caller.Caller.{Caller}
 use Rattle.krs_types.specs.declared.context.Context.{Context}
 use Rattle.krs_types.specs.declared.context.UidRings.{UidRings}
 use Rattle.krs_model.specs.Table.{Table, at, put, without, alter, map_values, IsBelow, Rises}

@@ -1,6 +1,6 @@
 -- JOIN takes the least serial of the keyrings that may be joined.
 use Rattle.std.proofs.Common.{◌≡◌, ◌≢◌, ℕ, ◌<◌, ◌≤◌, ◌==◌, ◌&&◌, List, [], ◌∷◌, Option, None, Some, Bool, true, false}
-use Rattle.std.proofs.Common.{cond, length, Result, Ok, Err, refl, ap, ◌∙◌, sym, subst, arith, ⊎_elim, inl, inr}
+use Rattle.std.proofs.Common.{cond, length, Result, Ok, refl, ap, ◌∙◌, sym, subst, arith, inl, inr}
 use Rattle.std.specs.Prelude.{bytes_eq}
 use Rattle.std.specs.List.{AllByRecursion, find}
 use Rattle.std.specs.List.Sorted.{IsStrictlySortedBy}
@@ -25,7 +25,7 @@ use Rattle.krs_model.specs.State.{State, Key}
 use Rattle.krs_model.specs.Access.{is_alive, rights_on}
 use Rattle.krs_model.specs.Lookup.{context_of}
 use Rattle.krs_model.specs.Making.{with_new, within_serials}
-use Rattle.krs_model.specs.Joined.{MayBeJoined, TakesLeast, MakesOne, JoinsLeast}
+use Rattle.krs_model.specs.Joined.{MayBeJoined, JoinsLeast}
 use Rattle.krs_model.specs.Asks.Joining.{join, joinable, is_joinable, joined_to, session_named, session_joined}
 use Rattle.krs_model.specs.Asks.Joining.{session_ring}
 use Rattle.krs_model.proofs.Tables.{is_at_same, same_at}

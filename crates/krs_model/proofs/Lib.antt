@@ -12,7 +12,6 @@ pub mod Names
 pub mod Counts
 pub mod Sweeps
 pub mod Lookups
-pub mod Sweeping
 pub mod Steps
 pub mod Refusals
 pub mod Making

@@ -37,7 +37,7 @@ use Rattle.krs_model.specs.Asks.Linked.{unlinked_content, cleared, cleared_conte
 use Rattle.krs_model.specs.Asks.Reading.{read, describe, readable}
 use Rattle.krs_model.specs.Asks.Invalidating.{detached, context_without, rings_without, invalidated, invalidate}
 use Rattle.krs_model.specs.Asks.Leaving.{left, exit, exited, has_process, has_uid}
-use Rattle.krs_model.proofs.Tables.{at_kept, at_without_other, at_or_apart}
+use Rattle.krs_model.proofs.Tables.{at_kept}
 use Rattle.krs_model.proofs.Levels.{in_left, in_right, in_one}
 use Rattle.krs_model.proofs.Counts.{IsPart, none_part, filter_part}
 use Rattle.krs_model.proofs.Coming.{within_ok, same_state}

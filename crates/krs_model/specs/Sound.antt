@@ -47,9 +47,11 @@ pub record AreHoused (contexts : Table Context) (processes : Table (Option ℕ))
   pub no_process : IsBelow processes next
   -- a uid is there while it has a context: user-keyring(7); profile, user keyrings stay
   pub owned : AllOwned contexts uids
-  -- a number is of one context, process or uid: profile, context numbers
+  -- a number is of one context: profile, context numbers
   pub contexts_rise : Rises contexts
+  -- a process has one process keyring: process-keyring(7)
   pub processes_rise : Rises processes
+  -- a uid has one user keyring and one user-session keyring: user-keyring(7), user-session-keyring(7)
   pub uids_rise : Rises uids
 
 -- it is links, and no payload
