@@ -53,7 +53,5 @@ pub mod Legal
 pub mod Determined
 pub mod Swept
 pub mod Ordering
-pub mod Serving
-pub mod Staying
 pub mod Fronts
 pub mod Joins

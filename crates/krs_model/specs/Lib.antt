@@ -18,7 +18,6 @@ pub mod Outcome
 pub mod Asks
 pub mod Joined
 pub mod Step
-pub mod Serving
 pub mod History
 pub mod Revocation
 pub mod Laws

@@ -25,7 +25,6 @@ ghost use Rattle.krs_model.specs.Anchored.{IsClosedChoice};
 ghost use Rattle.krs_model.specs.Orderly.{AreOrderly, AreRising};
 ghost use Rattle.krs_model.specs.Sound.{IsSound, AllLinked};
 ghost use Rattle.krs_model.specs.Step.{Step, Serves, outcome_of};
-ghost use Rattle.krs_model.specs.Serving.{Tells, SweepsOut};
 ghost use Rattle.krs_model.specs.History.{IsLegal, event_of};
 ghost use Rattle.krs_model.specs.Revocation.{IsOfKey, StaysUnread};
 ghost use Rattle.krs_model.specs.Receiving.{HasMoves, GivesStreams};
@@ -159,13 +158,6 @@ pub fn a_reply_leads_to_one_state()
         → Step old e a → Step old f b → e.reply ≢ Err ENOMEM → f.reply ≢ Err ENOMEM → e.reply ≡ f.reply }
     ensures history { (start a b : State) (events : List Event)
         → IsLegal start events a → IsLegal start events b → a ≡ b }
-{}
-
-/// A step may be taken in turn: the effect of an ask, its notes, the sweep, the removal records. The notes go out by
-/// the watches and filters of the state before the ask all the same. Profile, order of notes.
-pub fn a_step_may_be_taken_in_turn()
-    ensures { (s told new : State) (client context : ℕ) (op : Op) (answer : Answer)
-        → Tells s client context op answer told → SweepsOut told new → Serves s client context op answer new }
 {}
 
 /// One note goes to its queues by rising number, and the removal records of an ask go out by rising key, then queue.

@@ -12,7 +12,8 @@ pub mod NewRings
 pub mod Joined
 mod Invalidated
 pub mod TwoMade
-pub mod Endings
+pub mod Serving
+pub mod Staying
 pub mod Dropping
 pub mod Noting
 pub mod Watching

@@ -7,4 +7,5 @@ pub mod Holding
 pub mod Specials
 pub mod Found
 pub mod Joined
+pub mod Serving
 pub mod Telling

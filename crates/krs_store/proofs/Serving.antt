@@ -13,7 +13,7 @@ use Rattle.krs_model.specs.Reach.{IsAcyclic, links_in}
 use Rattle.krs_model.specs.Sound.{IsSound}
 use Rattle.krs_model.specs.Sweep.{IsSweep, live_watches}
 use Rattle.krs_model.specs.Step.{Serves, outcome_of, posts_by, watches_left}
-use Rattle.krs_model.specs.Serving.{Tells, SweepsOut}
+use Rattle.krs_store.specs.Serving.{Tells, SweepsOut}
 use Rattle.krs_model.specs.Notes.Posting.{Note, Post, removal_for, posts_of, posts, dropped_watches, posted_in}
 use Rattle.krs_model.specs.Notes.Telling.{notes_of, ended_by, named}
 use Rattle.krs_model.proofs.Posting.{post_all-append}
