@@ -21,7 +21,7 @@ use Rattle.krs_model.proofs.Levels.{or_true, same_is}
 use Rattle.krs_model.proofs.Reaching.{From, closed_levels, levels_reached, IsClosed}
 
 -- a key that is there is in the list of serials
-there_in : (keys : Table Key) (k : ℕ) → IsSome (at keys k) → is_in k (keys_of keys) ≡ true
+pub there_in : (keys : Table Key) (k : ℕ) → IsSome (at keys k) → is_in k (keys_of keys) ≡ true
 there_in [] k h = absurd (true≢false (sym h))
 there_in (e ∷ keys) k h =
     elim (is_at (nat_cmp k) e.0) as (λ b. is_at (nat_cmp k) e.0 ≡ b → IsSome (cond b (Some e.1) (at keys k))

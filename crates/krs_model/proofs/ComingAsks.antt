@@ -33,7 +33,7 @@ use Rattle.krs_model.specs.Asks.Finding.{search_from, searched_for, sought_into,
 use Rattle.krs_model.specs.Asks.Finding.{requested_into, sought_name}
 use Rattle.krs_model.specs.Asks.Adding.{Place, Updated, Made, add, added, added_in, admitted, made, new_key, place_of}
 use Rattle.krs_model.specs.Asks.Changing.{changed, update, updated, revoke, chown, set_perm, set_timeout}
-use Rattle.krs_model.specs.Asks.Linked.{link, linked, linked_into, unlink, clear, nestable, name_of, if_linked}
+use Rattle.krs_model.specs.Asks.Linked.{link, linked, linked_into, unlink, clear, nestable, link_check, name_of, if_linked}
 use Rattle.krs_model.specs.Asks.Linked.{without_link}
 use Rattle.krs_model.specs.Asks.Invalidating.{invalidate, invalidated}
 use Rattle.krs_model.specs.Asks.Reading.{read, describe}
@@ -158,13 +158,11 @@ pub linked_into_is :
 linked_into_is s into found new h =
     let name = name_of found.1 in
     let linked : State = changed s into.0 (linking s.keys name found.0) in
-    let room : List ℕ → Result State Errno = λ links.
-    has_room links (link_named s.keys name links) >>= (λ x. Ok linked) in
-    let fits : List ℕ → Result State Errno = λ links. nestable s.keys into.0 found.0 >>= (λ x. room links) in
-    let a = bind_ok (ring_links into.1.content) fits new h in
-    let b = bind_ok (nestable s.keys into.0 found.0) (λ x. room a.0) new a.2 in
-    let c = bind_ok (has_room a.0 (link_named s.keys name a.0)) (λ x. Ok linked) new b.2 in
-    record { nests = b.1; is = same_ok (Ok linked) linked new refl c.2 }
+    let fits : List ℕ → Result (Unit {0}) Errno = λ links. link_check s.keys into.0 links found in
+    let a = bind_ok (ring_links into.1.content) (λ links. fits links >>= (λ x. Ok linked)) new h in
+    let b = bind_ok (fits a.0) (λ x. Ok linked) new a.2 in
+    let c = bind_ok (nestable s.keys into.0 found.0) (λ x. has_room a.0 (link_named s.keys name a.0)) b.0 b.1 in
+    record { nests = c.1; is = same_ok (Ok linked) linked new refl b.2 }
 
 linked_into_comes :
     (s : State) (into found : ℕ × Key) (new : State) → linked_into s into found ≡ Ok new → Comes s new

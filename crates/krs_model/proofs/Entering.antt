@@ -5,7 +5,6 @@ use Rattle.std.specs.Prelude.{codes}
 use Rattle.std.specs.Option.{IsSome, option_to_list}
 use Rattle.std.specs.List.{find, count_by}
 use Rattle.std.proofs.lemmas.Bool.{true≢false}
-use Rattle.std.proofs.lemmas.Bool.Decides.{nat_tests}
 use Rattle.std.proofs.lemmas.List.Sums.{count_by-le-length}
 use Rattle.std.proofs.lemmas.Option.{none-some}
 use Rattle.krs_types.specs.declared.errno.Errno.{Errno}
@@ -20,24 +19,21 @@ use Rattle.krs_model.specs.Possession.{links_of}
 use Rattle.krs_model.specs.Levels.{is_in}
 use Rattle.krs_model.specs.Linking.{is_named}
 use Rattle.krs_model.specs.Sweep.{context_roots, process_roots, uid_roots}
-use Rattle.krs_model.specs.Sound.{AllAttached, AllPlaced}
+use Rattle.krs_model.specs.Sound.{AllAttached, AllPlaced, AreHoused, IsFitting}
 use Rattle.krs_model.specs.Making.{own_ring, with_new, special_ring, thread_to, with_thread, with_process, made_for}
 use Rattle.krs_model.specs.Asks.Hello.{uid_ring, with_uid, with_context, first_session}
 use Rattle.krs_model.specs.Asks.Entering.{without_thread, execed}
 use Rattle.krs_model.specs.Asks.Joining.{is_joinable, joinable, session_ring, session_to, joined_to}
 use Rattle.krs_model.proofs.Tables.{at_put_same}
-use Rattle.krs_model.proofs.Levels.{true_or, same_is, in_left, in_right, in_one}
+use Rattle.krs_model.proofs.Levels.{same_is, in_left, in_right, in_one, only_in}
 use Rattle.krs_model.proofs.Sweeps.{there_self, found_there}
 use Rattle.krs_model.proofs.Making.{IsMade, NoneMade, ThreadMade, ProcessMade, made_for_is}
 use Rattle.krs_model.proofs.Standing.{Stands, same_stands, key_stands, there_put, there_alter}
+use Rattle.krs_model.proofs.Housing.{entered_housed, threaded_housed, uid_housed, altered_housed, process_housed}
+use Rattle.krs_model.proofs.Housing.{fewer_housed}
 use Rattle.krs_model.proofs.Roots.{context_keys, uid_keys, attached_either, attached_alter, attached_fewer}
 use Rattle.krs_model.proofs.Roots.{attachments, own_process, in_processes, attached_at, attached_by, in_context}
 use Rattle.krs_model.proofs.Roots.{in_process, in_uid}
-
-pub only_in : (k n : ℕ) → is_in k (n ∷ []) ≡ true → k ≡ n
-only_in k n h =
-    ⊎_elim (λ (e : (n == k) ≡ true). grind (arith, nat_tests)) (λ (no : false ≡ true). absurd (true≢false (sym no)))
-    (true_or (n == k) false h)
 
 pub some_there : {X : Type 0} (es : Table X) (k : ℕ) (v : X) → at es k ≡ Some v → IsSome (at es k)
 some_there es k v h = rw h refl
@@ -70,9 +66,9 @@ same_process contexts processes number f same placed p i =
 -- a further context, whose session keyring is there
 pub entered_stands :
     (s : State) (client : ℕ) (c : Caller) (session : Option ℕ)
-    → ((k : ℕ) → is_in k (option_to_list session) ≡ true → IsSome (at s.keys k)) → Stands s
+    → ((k : ℕ) → is_in k (option_to_list session) ≡ true → IsSome (at s.keys k)) → IsSome (at s.uids c.uid) → Stands s
     → Stands (with_context s client c session)
-entered_stands s client c session there stands =
+entered_stands s client c session there owner stands =
     let after = with_context s client c session in
     let context : Context = record {
       client = client;
@@ -93,7 +89,8 @@ entered_stands s client c session there stands =
     ⊎_elim (λ mine. new_is_there s.processes s.next_context p None (only_in p s.next_context mine))
     (λ was. there_put s.processes s.next_context p None (placed_in s stands.placed p was))
     (attached_either own_process s.contexts s.next_context context p i) in
-    same_stands s after refl refl attached (in_placed after placed) stands
+    let housed = entered_housed s.contexts s.processes s.uids s.next_context context None owner stands.housed in
+    same_stands s after refl refl attached (in_placed after placed) housed stands
 
 abbrev user_key : Caller → Key
 user_key c = uid_ring (codes "_uid.") [] c
@@ -108,11 +105,11 @@ rings_stand s c stands =
     let n = s.next_serial in
     let user = user_key c in
     let one = with_new s user in
-    let first : Stands one = key_stands s user (λ k no. absurd (true≢false (sym no))) (λ name. omega arith) stands in
+    let first : Stands one = key_stands s user (λ k no. absurd (true≢false (sym no))) (λ name. omega arith) refl stands in
     let there : IsSome (at one.keys n) = some_there one.keys n user (at_put_same s.keys n user) in
     key_stands one (session_key c n)
     (λ k i. subst (λ (z : ℕ). IsSome (at one.keys z)) (sym (only_in k n i)) there)
-    (λ name. count_by-le-length (λ k. is_named name (at one.keys k)) (n ∷ [])) first
+    (λ name. count_by-le-length (λ k. is_named name (at one.keys k)) (n ∷ [])) refl first
 
 pub with_uid_stands : (s : State) (c : Caller) (rings : Option UidRings) → Stands s → Stands (with_uid s c rings)
 with_uid_stands s c (Some rings) stands = stands
@@ -137,7 +134,17 @@ with_uid_stands s c None stands =
     (in_one k (n ∷ []) ((n + 1) ∷ []) new))
     (λ was. both.attached k (in_uid s k was))
     (attached_either uid_keys s.uids c.uid mine k h)) i in
-    same_stands two after refl (omega arith) attached both.placed both
+    let housed = uid_housed s.contexts s.processes s.uids s.next_context c.uid mine stands.housed in
+    same_stands two after refl (omega arith) attached both.placed housed both
+
+-- the uid of a first context is there
+pub uid_there :
+    (s : State) (c : Caller) (rings : Option UidRings) → at s.uids c.uid ≡ rings
+    → IsSome (at (with_uid s c rings).uids c.uid)
+uid_there s c (Some rings) is = rw is refl
+uid_there s c None is =
+    let mine : UidRings = record { user = Some s.next_serial; session = Some (s.next_serial + 1) } in
+    some_there (put s.uids c.uid mine) c.uid mine (at_put_same s.uids c.uid mine)
 
 -- the first session keyring of a context is there
 pub session_there :
@@ -154,10 +161,11 @@ session_there s c None k was stands i =
     subst (λ (z : ℕ). IsSome (at (put one (n + 1) b) z)) (sym (only_in k (n + 1) i)) there
 
 -- a new key that links nothing
-pub empty_stands : (s : State) (key : Key) → links_of key.content ≡ [] → Stands s → Stands (with_new s key)
-empty_stands s key empty stands =
+pub empty_stands :
+    (s : State) (key : Key) → links_of key.content ≡ [] → IsFitting key → Stands s → Stands (with_new s key)
+empty_stands s key empty fits stands =
     key_stands s key (λ k i. absurd (true≢false (sym (ap (is_in k) (sym empty) ∙ i))))
-    (λ q. omega (arith, ap (count_by (λ k. is_named q (at s.keys k))) empty)) stands
+    (λ q. omega (arith, ap (count_by (λ k. is_named q (at s.keys k))) empty)) fits stands
 
 context_there :
     (s : State) (k : ℕ) → Stands s → is_in k (context_roots s.contexts) ≡ true → IsSome (at s.keys k)
@@ -172,27 +180,29 @@ rooted_stands :
     (s : State) (contexts : Table Context) (processes : Table (Option ℕ)) (next : ℕ)
     → ((k : ℕ) → is_in k (context_roots contexts) ≡ true → IsSome (at s.keys k))
     → ((k : ℕ) → is_in k (process_roots processes) ≡ true → IsSome (at s.keys k)) → ArePlaced contexts processes
-    → Stands s → Stands (record s { contexts = contexts; processes = processes; next_context = next })
-rooted_stands s contexts processes next from_context from_process placed stands =
+    → AreHoused contexts processes s.uids next → Stands s
+    → Stands (record s { contexts = contexts; processes = processes; next_context = next })
+rooted_stands s contexts processes next from_context from_process placed housed stands =
     let after : State = record s { contexts = contexts; processes = processes; next_context = next } in
     let attached : AllAttached after = λ k i.
     attached_by (context_roots contexts) (process_roots processes) (uid_roots s.uids) k
     (from_context k) (from_process k) (λ h. stands.attached k (in_uid s k h)) i in
-    same_stands s after refl refl attached (in_placed after placed) stands
+    same_stands s after refl refl attached (in_placed after placed) housed stands
 
 -- a further context, of which each keyring is there, and the process
 pub context_stands :
     (s : State) (c : Context) → ((k : ℕ) → is_in k (context_keys c) ≡ true → IsSome (at s.keys k))
-    → IsSome (at s.processes c.process) → Stands s
+    → IsSome (at s.processes c.process) → IsSome (at s.uids c.caller.uid) → Stands s
     → Stands (record s { contexts = put s.contexts s.next_context c; next_context = s.next_context + 1 })
-context_stands s c there process stands =
+context_stands s c there process owner stands =
     rooted_stands s (put s.contexts s.next_context c) s.processes (s.next_context + 1)
     (λ k i. ⊎_elim (λ mine. there k mine) (λ was. context_there s k stands was)
     (attached_either context_keys s.contexts s.next_context c k i))
     (λ k i. process_there s k stands i)
     (λ p i. ⊎_elim (λ mine. subst (λ (z : ℕ). IsSome (at s.processes z)) (sym (only_in p c.process mine)) process)
     (λ was. placed_in s stands.placed p was)
-    (attached_either own_process s.contexts s.next_context c p i)) stands
+    (attached_either own_process s.contexts s.next_context c p i))
+    (threaded_housed s.contexts s.processes s.uids s.next_context c owner stands.housed) stands
 
 -- the process of a context is there
 pub own_process_there :
@@ -243,24 +253,26 @@ with_thread_stands s number c stands =
     let n = s.next_serial in
     let ring = special_ring (codes "_tid") c.caller in
     let one = with_new s ring in
-    let first : Stands one = empty_stands s ring refl stands in
+    let first : Stands one = empty_stands s ring refl refl stands in
     rooted_stands one (alter s.contexts number (thread_to n)) s.processes s.next_context
     (λ k i. either_there one n k (context_there one k first) (new_there s ring)
     (attached_alter context_keys s.contexts number (thread_to n) k (λ v. threaded_keys n v k) i))
     (λ k i. process_there one k first i)
-    (same_process s.contexts s.processes number (thread_to n) (λ v. refl) (placed_in s stands.placed)) first
+    (same_process s.contexts s.processes number (thread_to n) (λ v. refl) (placed_in s stands.placed))
+    (altered_housed s.contexts s.processes s.uids s.next_context number (thread_to n) (λ v. refl) stands.housed) first
 
 with_process_stands : (s : State) (c : Context) → Stands s → Stands (with_process s c)
 with_process_stands s c stands =
     let n = s.next_serial in
     let ring = special_ring (codes "_pid") c.caller in
     let one = with_new s ring in
-    let first : Stands one = empty_stands s ring refl stands in
+    let first : Stands one = empty_stands s ring refl refl stands in
     rooted_stands one s.contexts (alter s.processes c.process (λ none. Some n)) s.next_context
     (λ k i. context_there one k first i)
     (λ k i. either_there one n k (process_there one k first) (new_there s ring)
     (attached_alter option_to_list s.processes c.process (λ none. Some n) k (λ v h. inr (only_in k n h)) i))
-    (λ p i. there_alter s.processes c.process (λ none. Some n) p (placed_in s stands.placed p i)) first
+    (λ p i. there_alter s.processes c.process (λ none. Some n) p (placed_in s stands.placed p i))
+    (process_housed s.contexts s.processes s.uids s.next_context c.process (λ none. Some n) stands.housed) first
 
 is_made_stands :
     (s : State) (number : ℕ) (c : Context) (id : Result KeyId Errno) (made : State × Context)
@@ -283,12 +295,22 @@ joined_stands s number ring there stands =
     (λ k i. either_there s ring k (context_there s k stands) there
     (attached_alter context_keys s.contexts number (session_to ring) k (λ v. joined_keys ring v k) i))
     (λ k i. process_there s k stands i)
-    (same_process s.contexts s.processes number (session_to ring) (λ v. refl) (placed_in s stands.placed)) stands
+    (same_process s.contexts s.processes number (session_to ring) (λ v. refl) (placed_in s stands.placed))
+    (altered_housed s.contexts s.processes s.uids s.next_context number (session_to ring) (λ v. refl) stands.housed)
+    stands
 
 session_ring_empty : (name : List ℕ) (c : Caller) → links_of (session_ring name c).content ≡ []
 session_ring_empty name c =
     elim (length name == 0) as (λ b. links_of (cond b (own_ring (codes "_ses") 1057161216 true c)
     (own_ring name 1058209792 true c)).content ≡ []) [
+      | true ↦ refl
+      | false ↦ refl
+    ]
+
+session_ring_fits : (name : List ℕ) (c : Caller) → IsFitting (session_ring name c)
+session_ring_fits name c =
+    elim (length name == 0) as (λ b. IsFitting (cond b (own_ring (codes "_ses") 1057161216 true c)
+    (own_ring name 1058209792 true c))) [
       | true ↦ refl
       | false ↦ refl
     ]
@@ -300,7 +322,7 @@ pub new_joined_stands :
 new_joined_stands s number name c stands =
     let ring = session_ring name c in
     joined_stands (with_new s ring) number s.next_serial (new_there s ring)
-    (empty_stands s ring (session_ring_empty name c) stands)
+    (empty_stands s ring (session_ring_empty name c) (session_ring_fits name c) stands)
 
 -- a keyring that may be joined is there
 pub joinable_there :
@@ -328,4 +350,8 @@ execed_stands s number c stands =
     (λ v (no : is_in k [] ≡ true). absurd (true≢false (sym no))) i))
     (λ p i. there_alter s.processes c.process (λ ring. None) p
     (same_process s.contexts s.processes number without_thread (λ v. refl) (placed_in s stands.placed) p
-    (attached_fewer own_process _ one p i))) stands
+    (attached_fewer own_process _ one p i)))
+    (process_housed (execed s number c).contexts s.processes s.uids s.next_context c.process (λ ring. None)
+    (fewer_housed one s.processes s.uids s.next_context _
+    (altered_housed s.contexts s.processes s.uids s.next_context number without_thread (λ v. refl) stands.housed)))
+    stands

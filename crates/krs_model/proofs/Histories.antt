@@ -11,7 +11,7 @@ use Rattle.krs_model.specs.Sound.{IsSound}
 use Rattle.krs_model.specs.Lists.{Begins}
 use Rattle.krs_model.specs.Receiving.{called_for, HasMoves, NoMoves, FurtherMoves, IsOpening, IsOpened, GivesStreams}
 use Rattle.krs_model.specs.Notes.Stream.{Move, Posted, Took, taken, stream}
-use Rattle.krs_model.specs.Notes.Waiting.{is_capacity, MovesTo}
+use Rattle.krs_model.specs.Notes.Waiting.{greatest_capacity, is_capacity, MovesTo}
 use Rattle.krs_model.specs.Asks.Watching.{new_queue}
 use Rattle.krs_model.proofs.Names.{and_left}
 use Rattle.krs_model.proofs.Soundness.{step_sound}
@@ -117,7 +117,7 @@ record BegunBy (capacity : ℕ) (moves : List Move) (q : ℕ) (end : State) : Ty
   leads : MovesReach (new_queue 0 capacity) moves q end
 
 some_capacity : (capacity : ℕ) → is_capacity capacity ≡ true → 1 ≤ capacity
-some_capacity capacity h = leb-true 1 capacity (and_left (nat_le 1 capacity) (nat_le capacity 512) h)
+some_capacity capacity h = leb-true 1 capacity (and_left (nat_le 1 capacity) (nat_le capacity greatest_capacity) h)
 
 same_leads :
     (client capacity q : ℕ) (moves : List Move) (end : State) → MovesReach (new_queue client capacity) moves q end

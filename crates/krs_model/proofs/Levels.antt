@@ -39,6 +39,11 @@ in_right k xs ys h = rw (list_any-append (λ q. q == k) xs ys) (or_true (is_in k
 pub in_one : (k : ℕ) (xs ys : List ℕ) → is_in k (xs ++ ys) ≡ true → (is_in k xs ≡ true) ⊎ (is_in k ys ≡ true)
 in_one k xs ys h = true_or (is_in k xs) (is_in k ys) (rw (list_any-append (λ q. q == k) xs ys) at h)
 
+pub only_in : (k n : ℕ) → is_in k (n ∷ []) ≡ true → k ≡ n
+only_in k n h =
+    ⊎_elim (λ (e : (n == k) ≡ true). grind (arith, nat_tests)) (λ (no : false ≡ true). absurd (true≢false (sym no)))
+    (true_or (n == k) false h)
+
 -- what is in a flattened list is in the list of one of its keys
 pub in_flat : (links : ℕ → List ℕ) (xs : List ℕ) (k : ℕ) → is_in k (flat_map links xs) ≡ true
     → (j : ℕ) × (is_in j xs ≡ true) × (is_in k (links j) ≡ true)

@@ -1,5 +1,6 @@
 pub mod Tables
 pub mod Entries
+pub mod Rises
 pub mod Posting
 pub mod Fitting
 pub mod Rising
@@ -11,8 +12,8 @@ pub mod Names
 pub mod Counts
 pub mod Sweeps
 pub mod Lookups
-pub mod Sweeping
 pub mod Steps
+pub mod Refusals
 pub mod Making
 pub mod Coming
 pub mod ComingAsks
@@ -21,7 +22,9 @@ pub mod Effects
 pub mod Following
 pub mod Roots
 pub mod Closing
+pub mod Contents
 pub mod Standing
+pub mod Housing
 pub mod Entering
 pub mod Counting
 pub mod Serials
@@ -30,6 +33,7 @@ pub mod Keeping
 pub mod Sustaining
 pub mod SustainingLinks
 pub mod Soundness
+pub mod Total
 pub mod Revocations
 pub mod Rights
 pub mod Searching
@@ -49,6 +53,5 @@ pub mod Legal
 pub mod Determined
 pub mod Swept
 pub mod Ordering
-pub mod Serving
-pub mod Staying
 pub mod Fronts
+pub mod Joins

@@ -36,6 +36,13 @@ use Rattle.krs_model.proofs.NewLookups.{possessed_other, there_new, rights_new, 
 use Rattle.krs_model.proofs.NewNesting.{nestable_other, nestable_self}
 use Rattle.krs_model.proofs.NewSearches.{there_is, found_other, AreThere, attached_there}
 
+-- a new keyring has room
+after_room :
+    (nests : Result (Unit {0}) Errno) (left : Result State Errno)
+    → ◌>>=◌ {B = State} (◌>>=◌ {B = Unit {0}} nests (λ x. Ok tt)) (λ x. left) ≡ ◌>>=◌ {B = State} nests (λ x. left)
+after_room (Ok x) left = refl
+after_room (Err e) left = refl
+
 -- the new keyring links another key where no chain of nested keyrings is too long
 pub linked_into_new :
     (s t : State) (c d : Context) (desc before after : List ℕ) (found : ℕ × Key) → HasMade s c t d desc before after
@@ -51,7 +58,7 @@ linked_into_new s t c d desc before after found made linked none other =
     let nests : nestable t.keys n found.0 ≡ unless (has_chain s.keys found.0 6) ELOOP =
     ap (λ (es : Table Key). nestable es n found.0) made.keys
     ∙ nestable_other s.keys n found.0 ring linked none refl other in
-    ap (λ (r : Result (Unit {0}) Errno). r >>= (λ x. left)) nests
+    after_room (nestable t.keys n found.0) left ∙ ap (λ (r : Result (Unit {0}) Errno). r >>= (λ x. left)) nests
 
 -- it does not link itself
 pub linked_into_self :
@@ -61,7 +68,8 @@ linked_into_self s t c d desc before after key made =
     let n = s.next_serial in
     let ring = special_ring desc c.caller in
     let left : Result State Errno = Ok (changed t n (linking t.keys (name_of key) n)) in
-    ap (λ (r : Result (Unit {0}) Errno). r >>= (λ x. left))
+    after_room (nestable t.keys n n) left
+    ∙ ap (λ (r : Result (Unit {0}) Errno). r >>= (λ x. left))
     (ap (λ (es : Table Key). nestable es n n) made.keys ∙ nestable_self s.keys n ring)
 
 -- a key is added to the new keyring where a second serial is left

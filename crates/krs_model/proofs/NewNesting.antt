@@ -18,7 +18,7 @@ use Rattle.krs_model.specs.Sound.{AllLinked}
 use Rattle.krs_model.specs.Asks.Linked.{unless, nestable, linked}
 use Rattle.krs_model.proofs.Levels.{same_is, levels_linked}
 use Rattle.krs_model.proofs.Lists.{AgreeOn, filter_agree}
-use Rattle.krs_model.proofs.Entering.{only_in}
+use Rattle.krs_model.proofs.Levels.{only_in}
 use Rattle.krs_model.proofs.Reaching.{heads_first}
 use Rattle.krs_model.proofs.Standing.{not_there}
 use Rattle.krs_model.proofs.NewKeyring.{either_at, at_other}

@@ -31,7 +31,7 @@ use Rattle.krs_model.proofs.Tables.{at_put_same}
 use Rattle.krs_model.proofs.Levels.{in_left, in_right, in_one, in_flat, same_is, levels_linked}
 use Rattle.krs_model.proofs.Lists.{AgreeOn, find_agree, any_agree}
 use Rattle.krs_model.proofs.Roots.{context_keys, attached_at, in_context, in_process}
-use Rattle.krs_model.proofs.Entering.{only_in}
+use Rattle.krs_model.proofs.Levels.{only_in}
 use Rattle.krs_model.proofs.Searching.{sought_append, in_turn_flat}
 use Rattle.krs_model.proofs.Reaching.{is_or_not}
 use Rattle.krs_model.proofs.Standing.{not_there}

@@ -234,7 +234,7 @@ fewer_past : (links : ℕ → List ℕ) (a : ℕ) → AddsNone links (past links
 fewer_past links a = λ j k h. (less_in a k (links j) h).0
 
 -- of the keys that are left one is passed with each level
-reached_in_levels :
+pub reached_in_levels :
     (n : ℕ) (links : ℕ → List ℕ) (heads ks : List ℕ) (a b : ℕ) → length ks ≤ n → is_in a ks ≡ true → IsClosed links ks
     → is_in a heads ≡ true → From links a b → is_in b (levels links heads n) ≡ true
 reached_in_levels zero links heads ks a b few there closed head reached =

@@ -1,10 +1,13 @@
 -- Each step leaves a store sound. A further ask costs a lemma of its own, as `chown_stands`, and a line of
 -- `outcome_stands`.
 use Rattle.std.proofs.Common.{◌≡◌, ℕ, ℤ, ◌++◌, List, [], ◌∷◌}
-use Rattle.std.proofs.Common.{Result, Ok, Err, refl, ap, sym, subst, arith}
+use Rattle.std.proofs.Common.{Option, Result, Ok, Err, refl, ap, sym, subst, arith}
+use Rattle.std.specs.List.Sorted.{IsStrictlySortedBy}
 use Rattle.std.proofs.lemmas.Bool.{true≢false}
 use Rattle.std.proofs.lemmas.Option.{none-some}
 use Rattle.krs_types.specs.declared.errno.Errno.{Errno}
+use Rattle.krs_types.specs.declared.context.Context.{Context}
+use Rattle.krs_types.specs.declared.context.UidRings.{UidRings}
 use Rattle.krs_types.specs.declared.rights.Want.TheVariants.{Granted}
 use Rattle.krs_types.specs.declared.ask.Answer.{Answer}
 use Rattle.krs_types.specs.declared.ask.Op.{Op}
@@ -16,13 +19,13 @@ use Rattle.krs_types.specs.declared.ask.Op.TheVariants.{CloseQueue, Exit, Leave}
 use Rattle.krs_types.specs.declared.event.Event.{Event}
 use Rattle.krs_types.specs.declared.note.FilterEntry.{FilterEntry}
 use Rattle.krs_types.specs.Rights.{VIEW}
-use Rattle.krs_model.specs.Table.{Table, IsBelow}
+use Rattle.krs_model.specs.Table.{Table, IsBelow, Rises}
 use Rattle.krs_model.specs.State.{State, Queue, Key, starting_at, raised}
 use Rattle.krs_model.specs.Lookup.{context_of, look_up}
 use Rattle.krs_model.specs.Reach.{Reaches, Directly, Further, IsAcyclic, links_in}
 use Rattle.krs_model.specs.History.{IsLegal}
 use Rattle.krs_model.specs.Sweep.{IsSwept}
-use Rattle.krs_model.specs.Sound.{IsSound}
+use Rattle.krs_model.specs.Sound.{AreHoused, IsSound}
 use Rattle.krs_model.specs.Step.{Step, Serves, Ends, outcome_of, posts_by, watches_left}
 use Rattle.krs_model.specs.Queues as queues
 use Rattle.krs_model.specs.Queues.{Queues, queues_of, with_queues}
@@ -49,10 +52,10 @@ use Rattle.krs_model.proofs.SustainingLinks.{thread_stands, fork_stands, exec_st
 
 -- queues and watches are of no account
 with_queues_stands : (s : State) (queues : Queues) → Stands s → Stands (with_queues s queues)
-with_queues_stands s queues stands = same_stands s _ refl refl stands.attached stands.placed stands
+with_queues_stands s queues stands = same_stands s _ refl refl stands.attached stands.placed stands.housed stands
 
 posted_stands : (ps : List Post) (s : State) → Stands s → Stands (posted_in ps s)
-posted_stands ps s stands = same_stands s _ refl refl stands.attached stands.placed stands
+posted_stands ps s stands = same_stands s _ refl refl stands.attached stands.placed stands.housed stands
 
 open_queue_stands : (s : State) (client capacity : ℕ) → Stands s → Sustains (open_queue s client capacity)
 unfolding open_queue
@@ -125,12 +128,15 @@ outcome_stands s client context (CloseQueue queue) stands = close_queue_stands s
 outcome_stands s client context Exit stands = exit_stands s client context stands
 outcome_stands s client context Leave stands = sustains_ok (left_stands s client stands)
 
-sound_stands : (s : State) → IsSound s → Stands s
+pub sound_stands : (s : State) → IsSound s → Stands s
 sound_stands s sound = record {
   acyclic = sound.acyclic;
   linked = sound.linked;
   attached = sound.attached;
   placed = sound.placed;
+  housed = sound.housed;
+  fitting = sound.fitting;
+  rising = sound.rising;
   once = sound.once;
   unused = sound.unused;
 }
@@ -142,6 +148,9 @@ stands_sound s stands few swept orderly = record {
   linked = stands.linked;
   attached = stands.attached;
   placed = stands.placed;
+  housed = stands.housed;
+  fitting = stands.fitting;
+  rising = stands.rising;
   once = stands.once;
   unused = stands.unused;
   few = few;
@@ -153,8 +162,8 @@ stands_sound s stands few swept orderly = record {
 pub raised_sound : (s : State) (moment : ℕ) → IsSound s → IsSound (raised s moment)
 raised_sound s moment sound =
     let up = raised s moment in
-    stands_sound up (same_stands s up refl refl sound.attached sound.placed (sound_stands s sound)) sound.few
-    (record { keys = sound.swept.keys; watches = sound.swept.watches }) sound.orderly
+    stands_sound up (same_stands s up refl refl sound.attached sound.placed sound.housed (sound_stands s sound))
+    sound.few (record { keys = sound.swept.keys; watches = sound.swept.watches }) sound.orderly
 
 each_append : (P : queues.Watch → Type 0) (vs ws : List queues.Watch) → Each P vs → Each P ws → Each P (vs ++ ws)
 each_append P [] ws f g = g
@@ -228,6 +237,20 @@ not_linked : (a b : ℕ) → Reaches (λ k. []) a b → ⊥
 not_linked _ _ (Directly a b h) = true≢false (sym h)
 not_linked _ _ (Further a j b p h) = true≢false (sym h)
 
+none_rise : (X : Type 0) → Rises {X = X} []
+unfolding IsStrictlySortedBy
+none_rise X = tt
+
+none_housed : AreHoused [] [] [] 1
+none_housed = record {
+  unused = λ k le. refl;
+  no_process = λ k le. refl;
+  owned = λ uid i. absurd (true≢false (sym i));
+  contexts_rise = none_rise Context;
+  processes_rise = none_rise (Option ℕ);
+  uids_rise = none_rise UidRings;
+}
+
 -- an empty store is sound
 pub start_sound : (n : ℕ) → IsSound (starting_at n)
 start_sound n = record {
@@ -235,6 +258,9 @@ start_sound n = record {
   linked = λ j k i. absurd (true≢false (sym i));
   attached = λ k i. absurd (true≢false (sym i));
   placed = λ p i. absurd (true≢false (sym i));
+  housed = none_housed;
+  fitting = λ serial key no. absurd (none-some key no);
+  rising = none_rise Key;
   once = λ ring name. omega arith;
   unused = λ k le. refl;
   few = λ k le. refl;

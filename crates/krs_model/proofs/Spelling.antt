@@ -1,19 +1,16 @@
--- The bytes of records are those of no other records: which record comes first is guessed by its type, subtype and
--- length.
-use Rattle.std.proofs.Common.{◌≡◌, ℕ, ◌+◌, ◌*◌, ◌/◌, ◌%◌, ◌<◌, ◌≤◌, List, [], ◌∷◌, ◌++◌, Some, length, ltb, false}
+-- The bytes of records are those of no other records: each number of a record stands at its place in the bytes.
+use Rattle.std.proofs.Common.{◌≡◌, ℕ, ◌+◌, ◌*◌, ◌/◌, ◌%◌, ◌<◌, List, [], ◌∷◌, ◌++◌}
 use Rattle.std.proofs.Common.{refl, sym, ap, ◌∙◌, arith}
 use Rattle.std.specs.List.{slice_index}
 use Rattle.std.specs.Int.{w32, w64, to_le_bytes, from_le_bytes}
 use Rattle.std.proofs.lemmas.Nat.{from_le_bytes-to_le_bytes_4, from_le_bytes-to_le_bytes_8}
-use Rattle.std.proofs.lemmas.Bool.{le-ltb}
 use Rattle.std.proofs.lemmas.List.{append_cancel_left}
 use Rattle.krs_types.specs.declared.note.Record.{Record}
 use Rattle.krs_types.specs.declared.note.Record.TheVariants.{Key, Removal, Loss}
 use Rattle.krs_types.specs.declared.note.KeyEvent.{KeyEvent}
 use Rattle.krs_types.specs.declared.note.KeyEvent.TheVariants.{Instantiated, Updated, Linked, Unlinked, Cleared}
 use Rattle.krs_types.specs.declared.note.KeyEvent.TheVariants.{Revoked, Invalidated, Setattr}
-use Rattle.krs_model.specs.Notes.Bytes.{event_number, bytes_of, bytes_of_all, Fits, AllFit, Begins}
-use Rattle.krs_model.specs.Notes.Guess.{guess, event_numbered, four, eight}
+use Rattle.krs_model.specs.Notes.Bytes.{event_number, bytes_of, bytes_of_all, Fits, AllFit}
 
 -- the two words in front of every record
 header_is : (t n s w : ℕ) (tail : List ℕ) → t < 256 → n < 256 → s < 256 → w < 256 →
@@ -40,16 +37,6 @@ event_small Revoked = omega arith
 event_small Invalidated = omega arith
 event_small Setattr = omega arith
 
-event_numbered-event_number : (e : KeyEvent) → event_numbered (event_number e) ≡ Some e
-event_numbered-event_number Instantiated = refl
-event_numbered-event_number Updated = refl
-event_numbered-event_number Linked = refl
-event_numbered-event_number Unlinked = refl
-event_numbered-event_number Cleared = refl
-event_numbered-event_number Revoked = refl
-event_numbered-event_number Invalidated = refl
-event_numbered-event_number Setattr = refl
-
 pub bytes_of-Key : (e : KeyEvent) (w k a : ℕ) → w < 256 →
     bytes_of (Key e w k a) ≡ 1 ∷ 0 ∷ 0 ∷ event_number e ∷ 16 ∷ w ∷ 0 ∷ 0 ∷ (to_le_bytes w32 k ++ to_le_bytes w32 a)
 bytes_of-Key e w k a h = header_is 1 (event_number e) 16 w (to_le_bytes w32 k ++ to_le_bytes w32 a) (omega arith)
@@ -59,52 +46,105 @@ pub bytes_of-Removal : (w id : ℕ) → w < 256 → bytes_of (Removal w id)
     ≡ 0 ∷ 0 ∷ 0 ∷ 0 ∷ 16 ∷ w ∷ 0 ∷ 0 ∷ to_le_bytes w64 id
 bytes_of-Removal w id h = header_is 0 0 16 w (to_le_bytes w64 id) (omega arith) (omega arith) (omega arith) h
 
-guess-key : (xs : List ℕ) (e : KeyEvent) → 16 ≤ length xs → slice_index xs 0 ≡ 1 →
-    event_numbered (slice_index xs 3) ≡ Some e →
-    guess xs ≡ Some (Key e (slice_index xs 5) (from_le_bytes w32 (four xs 8)) (from_le_bytes w32 (four xs 12)))
-guess-key xs e long kind sub =
-    let a : ltb (length xs) 8 ≡ false = le-ltb _ _ (omega arith) in
-    let b : ltb (length xs) 16 ≡ false = le-ltb _ _ (omega arith) in
-    rw (a, kind, b, sub) refl
-
-guess-removal : (xs : List ℕ) → 16 ≤ length xs → slice_index xs 0 ≡ 0 → slice_index xs 3 ≡ 0 →
-    guess xs ≡ Some (Removal (slice_index xs 5) (from_le_bytes w64 (eight xs 8)))
-guess-removal xs long kind sub =
-    let a : ltb (length xs) 8 ≡ false = le-ltb _ _ (omega arith) in
-    let b : ltb (length xs) 16 ≡ false = le-ltb _ _ (omega arith) in
-    rw (a, kind, sub, b) refl
-
-guess-loss : (xs : List ℕ) → 8 ≤ length xs → slice_index xs 0 ≡ 0 → slice_index xs 3 ≡ 1 → guess xs ≡ Some Loss
-guess-loss xs long kind sub =
-    let a : ltb (length xs) 8 ≡ false = le-ltb _ _ (omega arith) in
-    rw (a, kind, sub) refl
-
--- the record whose bytes come first is guessed, whatever comes after them
-guess-append : (r : Record) (rest : List ℕ) → Fits r → guess (bytes_of r ++ rest) ≡ Some r
-guess-append (Key e w k a) rest h =
-    ap (λ (xs : List ℕ). guess (xs ++ rest)) (bytes_of-Key e w k a h.0)
-    ∙ (guess-key ((1 ∷ 0 ∷ 0 ∷ event_number e ∷ 16 ∷ w ∷ 0 ∷ 0 ∷ (to_le_bytes w32 k ++ to_le_bytes w32 a)) ++ rest)
-    e (omega arith) refl (event_numbered-event_number e)
-    ∙ (ap (λ n. Some (Key e w n (from_le_bytes w32 (to_le_bytes w32 a)))) (from_le_bytes-to_le_bytes_4 k h.1)
-    ∙ ap (λ n. Some (Key e w k n)) (from_le_bytes-to_le_bytes_4 a h.2)))
-guess-append (Removal w id) rest h =
-    ap (λ (xs : List ℕ). guess (xs ++ rest)) (bytes_of-Removal w id h.0)
-    ∙ (guess-removal ((0 ∷ 0 ∷ 0 ∷ 0 ∷ 16 ∷ w ∷ 0 ∷ 0 ∷ to_le_bytes w64 id) ++ rest) (omega arith) refl refl
-    ∙ ap (λ n. Some (Removal w n)) (from_le_bytes-to_le_bytes_8 id h.1))
-guess-append Loss rest h = guess-loss (bytes_of Loss ++ rest) (omega arith) refl refl
-
-pub guess-begins : (r : Record) (bytes : List ℕ) → Fits r → Begins (bytes_of r) bytes → guess bytes ≡ Some r
-guess-begins r bytes h b = ap guess b.1 ∙ guess-append r b.0 h
-
 no_bytes : (r : Record) (rest : List ℕ) → [] ≡ bytes_of r ++ rest → ⊥
 no_bytes (Key e w k a) rest h = cc
 no_bytes (Removal w id) rest h = cc
 no_bytes Loss rest h = cc
 
-begins_one :
-    (r s : Record) (bytes : List ℕ) → Fits r → Fits s → Begins (bytes_of r) bytes → Begins (bytes_of s) bytes → r ≡ s
-begins_one r s bytes hr hs br bs =
-    let same : Some r ≡ Some s = sym (guess-begins r bytes hr br) ∙ guess-begins s bytes hs bs in cc
+-- a number of four bytes, or of eight, from a place on
+abbrev four : List ℕ → ℕ → ℕ
+four xs i =
+    from_le_bytes w32
+    (slice_index xs i ∷ slice_index xs (i + 1) ∷ slice_index xs (i + 2) ∷ slice_index xs (i + 3) ∷ [])
+
+abbrev eight : List ℕ → ℕ → ℕ
+eight xs i =
+    from_le_bytes w64
+    (slice_index xs i ∷ slice_index xs (i + 1) ∷ slice_index xs (i + 2) ∷ slice_index xs (i + 3)
+    ∷ slice_index xs (i + 4) ∷ slice_index xs (i + 5) ∷ slice_index xs (i + 6) ∷ slice_index xs (i + 7) ∷ [])
+
+abbrev key_bytes : KeyEvent → ℕ → ℕ → ℕ → List ℕ
+key_bytes e w k a = 1 ∷ 0 ∷ 0 ∷ event_number e ∷ 16 ∷ w ∷ 0 ∷ 0 ∷ (to_le_bytes w32 k ++ to_le_bytes w32 a)
+
+abbrev removal_bytes : ℕ → ℕ → List ℕ
+removal_bytes w id = 0 ∷ 0 ∷ 0 ∷ 0 ∷ 16 ∷ w ∷ 0 ∷ 0 ∷ to_le_bytes w64 id
+
+same_event : (e f : KeyEvent) → event_number e ≡ event_number f → e ≡ f
+same_event Instantiated Instantiated h = refl
+same_event Updated Updated h = refl
+same_event Linked Linked h = refl
+same_event Unlinked Unlinked h = refl
+same_event Cleared Cleared h = refl
+same_event Revoked Revoked h = refl
+same_event Invalidated Invalidated h = refl
+same_event Setattr Setattr h = refl
+same_event e f h = absurd (omega arith)
+
+key_one :
+    (e f : KeyEvent) (w v k l a b : ℕ) (x y : List ℕ) → Fits (Key e w k a) → Fits (Key f v l b)
+    → key_bytes e w k a ++ x ≡ key_bytes f v l b ++ y → Key e w k a ≡ Key f v l b
+key_one e f w v k l a b x y hr hs h =
+    let event : e ≡ f = same_event e f (ap (λ (xs : List ℕ). slice_index xs 3) h) in
+    let watch : w ≡ v = ap (λ (xs : List ℕ). slice_index xs 5) h in
+    let key : k ≡ l =
+    sym (from_le_bytes-to_le_bytes_4 k hr.1)
+    ∙ (ap (λ (xs : List ℕ). four xs 8) h ∙ from_le_bytes-to_le_bytes_4 l hs.1) in
+    let aux : a ≡ b =
+    sym (from_le_bytes-to_le_bytes_4 a hr.2)
+    ∙ (ap (λ (xs : List ℕ). four xs 12) h ∙ from_le_bytes-to_le_bytes_4 b hs.2) in
+    cc
+
+removal_one :
+    (w v k l : ℕ) (x y : List ℕ) → Fits (Removal w k) → Fits (Removal v l)
+    → removal_bytes w k ++ x ≡ removal_bytes v l ++ y → Removal w k ≡ Removal v l
+removal_one w v k l x y hr hs h =
+    let watch : w ≡ v = ap (λ (xs : List ℕ). slice_index xs 5) h in
+    let key : k ≡ l =
+    sym (from_le_bytes-to_le_bytes_8 k hr.1)
+    ∙ (ap (λ (xs : List ℕ). eight xs 8) h ∙ from_le_bytes-to_le_bytes_8 l hs.1) in
+    cc
+
+-- the type, the subtype and the numbers of what comes first are at their places in the bytes
+first_one : (r s : Record) (x y : List ℕ) → Fits r → Fits s → bytes_of r ++ x ≡ bytes_of s ++ y → r ≡ s
+first_one (Key e w k a) (Key f v l b) x y hr hs h =
+    key_one e f w v k l a b x y hr hs (ap (λ (xs : List ℕ). xs ++ x) (sym (bytes_of-Key e w k a hr.0))
+    ∙ (h ∙ ap (λ (xs : List ℕ). xs ++ y) (bytes_of-Key f v l b hs.0)))
+first_one (Key e w k a) (Removal v l) x y hr hs h =
+    let same : key_bytes e w k a ++ x ≡ removal_bytes v l ++ y =
+    ap (λ (xs : List ℕ). xs ++ x) (sym (bytes_of-Key e w k a hr.0))
+    ∙ (h ∙ ap (λ (xs : List ℕ). xs ++ y) (bytes_of-Removal v l hs.0)) in
+    let first : ◌≡◌ {A = ℕ} 1 0 = ap (λ (xs : List ℕ). slice_index xs 0) same in
+    absurd (omega arith)
+first_one (Key e w k a) Loss x y hr hs h =
+    let same : key_bytes e w k a ++ x ≡ bytes_of Loss ++ y =
+    ap (λ (xs : List ℕ). xs ++ x) (sym (bytes_of-Key e w k a hr.0)) ∙ h in
+    let first : ◌≡◌ {A = ℕ} 1 0 = ap (λ (xs : List ℕ). slice_index xs 0) same in
+    absurd (omega arith)
+first_one (Removal w k) (Key f v l b) x y hr hs h =
+    let same : removal_bytes w k ++ x ≡ key_bytes f v l b ++ y =
+    ap (λ (xs : List ℕ). xs ++ x) (sym (bytes_of-Removal w k hr.0))
+    ∙ (h ∙ ap (λ (xs : List ℕ). xs ++ y) (bytes_of-Key f v l b hs.0)) in
+    let first : ◌≡◌ {A = ℕ} 0 1 = ap (λ (xs : List ℕ). slice_index xs 0) same in
+    absurd (omega arith)
+first_one (Removal w k) (Removal v l) x y hr hs h =
+    removal_one w v k l x y hr hs (ap (λ (xs : List ℕ). xs ++ x) (sym (bytes_of-Removal w k hr.0))
+    ∙ (h ∙ ap (λ (xs : List ℕ). xs ++ y) (bytes_of-Removal v l hs.0)))
+first_one (Removal w k) Loss x y hr hs h =
+    let same : removal_bytes w k ++ x ≡ bytes_of Loss ++ y =
+    ap (λ (xs : List ℕ). xs ++ x) (sym (bytes_of-Removal w k hr.0)) ∙ h in
+    let subtype : ◌≡◌ {A = ℕ} 0 1 = ap (λ (xs : List ℕ). slice_index xs 3) same in
+    absurd (omega arith)
+first_one Loss (Key f v l b) x y hr hs h =
+    let same : bytes_of Loss ++ x ≡ key_bytes f v l b ++ y =
+    h ∙ ap (λ (xs : List ℕ). xs ++ y) (bytes_of-Key f v l b hs.0) in
+    let first : ◌≡◌ {A = ℕ} 0 1 = ap (λ (xs : List ℕ). slice_index xs 0) same in
+    absurd (omega arith)
+first_one Loss (Removal v l) x y hr hs h =
+    let same : bytes_of Loss ++ x ≡ removal_bytes v l ++ y =
+    h ∙ ap (λ (xs : List ℕ). xs ++ y) (bytes_of-Removal v l hs.0) in
+    let subtype : ◌≡◌ {A = ℕ} 1 0 = ap (λ (xs : List ℕ). slice_index xs 3) same in
+    absurd (omega arith)
+first_one Loss Loss x y hr hs h = refl
 
 -- bytes spell no more than one list of records
 pub spelled_once : (rs ss : List Record) → AllFit rs → AllFit ss → bytes_of_all rs ≡ bytes_of_all ss → rs ≡ ss
@@ -112,7 +152,7 @@ spelled_once [] [] hr hs e = refl
 spelled_once [] (s ∷ ss) hr hs e = absurd (no_bytes s (bytes_of_all ss) e)
 spelled_once (r ∷ rs) [] hr hs e = absurd (no_bytes r (bytes_of_all rs) (sym e))
 spelled_once (r ∷ rs) (s ∷ ss) hr hs e =
-    let same = begins_one r s (bytes_of_all (r ∷ rs)) hr.0 hs.0 (bytes_of_all rs, refl) (bytes_of_all ss, e) in
+    let same = first_one r s (bytes_of_all rs) (bytes_of_all ss) hr.0 hs.0 e in
     let rest : bytes_of_all rs ≡ bytes_of_all ss =
     append_cancel_left (bytes_of r) (bytes_of_all rs) (bytes_of_all ss)
     (e ∙ ap (λ (x : Record). bytes_of x ++ bytes_of_all ss) (sym same)) in

@@ -6,19 +6,21 @@ use Rattle.std.specs.List.{count_by}
 use Rattle.std.proofs.lemmas.Bool.{true≢false}
 use Rattle.std.proofs.lemmas.Option.{none-some}
 use Rattle.krs_types.specs.declared.name.Name.{Name}
-use Rattle.krs_model.specs.Table.{Table, at, put, alter, map_values, IsBelow}
+use Rattle.krs_model.specs.Table.{Table, at, put, alter, map_values, IsBelow, Rises}
 use Rattle.krs_model.specs.State.{State, Key, Content, Payload, Links}
 use Rattle.krs_model.specs.Possession.{links_of}
 use Rattle.krs_model.specs.Levels.{is_in}
 use Rattle.krs_model.specs.Linking.{is_named, linked_content}
 use Rattle.krs_model.specs.Reach.{Reaches, Directly, Further, IsAcyclic, links_in}
 use Rattle.krs_model.specs.Sweep.{IsSweep, PicksHeld, IsHeld, Attached, Linked, linked_by, live_watches, roots}
-use Rattle.krs_model.specs.Sound.{AllLinked, AllAttached, AllPlaced, HasOneOfEach}
+use Rattle.krs_model.specs.Sound.{AllLinked, AllAttached, AllPlaced, AreHoused, IsFitting, AllFitting, HasOneOfEach}
 use Rattle.krs_model.specs.Making.{with_new}
 use Rattle.krs_model.specs.Asks.Changing.{changed}
 use Rattle.krs_model.proofs.Tables.{at_put_same, at_put_other, at_or_apart, at_alter_same, at_alter_other}
 use Rattle.krs_model.proofs.Tables.{at_alter_none, at_map}
 use Rattle.krs_model.proofs.Tables.{at_kept, below_put, below_filter}
+use Rattle.krs_model.proofs.Rises.{alter_rises, map_rises, filter_rises, put_rises}
+use Rattle.krs_model.proofs.Contents.{FitStays, form_stays, linked_form, alter_fits, map_fits, filter_fits, put_fits}
 use Rattle.krs_model.proofs.Reaching.{AddsAtMost, From, acyclic_fewer, acyclic_adds}
 use Rattle.krs_model.proofs.Counts.{IsPart, part_in, none_part, count_on, in_with_link, one_linked}
 use Rattle.krs_model.proofs.Sweeps.{linking_is_there}
@@ -29,6 +31,9 @@ pub record Stands (s : State) : Type 0 where
   pub linked : AllLinked s.keys
   pub attached : AllAttached s
   pub placed : AllPlaced s
+  pub housed : AreHoused s.contexts s.processes s.uids s.next_context
+  pub fitting : AllFitting s.keys
+  pub rising : Rises s.keys
   pub once : HasOneOfEach s.keys
   pub unused : IsBelow s.keys s.next_serial
 
@@ -45,12 +50,15 @@ HasPart links o = IsPart (linked_by o) links
 -- the same keys, with attachments of keys that are there, and contexts of processes that are there
 pub same_stands :
     (old new : State) → new.keys ≡ old.keys → new.next_serial ≡ old.next_serial → AllAttached new → AllPlaced new
-    → Stands old → Stands new
-same_stands old new keys next attached placed stands = record {
+    → AreHoused new.contexts new.processes new.uids new.next_context → Stands old → Stands new
+same_stands old new keys next attached placed housed stands = record {
   acyclic = subst (λ (ks : Table Key). IsAcyclic (links_in ks)) (sym keys) stands.acyclic;
   linked = subst AllLinked (sym keys) stands.linked;
   attached = attached;
   placed = placed;
+  housed = housed;
+  fitting = subst AllFitting (sym keys) stands.fitting;
+  rising = subst Rises (sym keys) stands.rising;
   once = subst HasOneOfEach (sym keys) stands.once;
   unused = rw (keys, next) stands.unused;
 }
@@ -115,10 +123,11 @@ named_alter es n f k name stays =
     ⊎_elim (λ (r : IsChanged es n f k). ap (is_named name) r.1 ∙ named_mapped f (at es k) name stays)
     (λ same. ap (is_named name) same) (at_change es n k f)
 
--- the links of a key become fewer, or stay, and its name stays
+-- the links of a key become fewer, or stay, its name stays, and it fits its type
 pub record Lessens (f : Key → Key) : Type 0 where
   pub links : (v : Key) → IsPart (links_of (f v).content) (links_of v.content)
   pub named : NameStays f
+  pub fits : FitStays f
 
 mapped_part : (f : Key → Key) (o : Option Key) → Lessens f → IsPart (linked_by (option_map f o)) (linked_by o)
 mapped_part f None lessens = λ p. omega arith
@@ -142,6 +151,9 @@ changed_stands s serial f lessens stands =
           (stands.linked j k (part_in _ (links_in s.keys j) k (less.links j) i));
       attached = λ k i. there_alter s.keys serial f k (stands.attached k i);
       placed = stands.placed;
+      housed = stands.housed;
+      fitting = alter_fits s.keys serial f lessens.fits stands.fitting;
+      rising = alter_rises s.keys serial f stands.rising;
       once = less_once s.keys (alter s.keys serial f) less stands.once;
       unused = λ q le. at_alter_none s.keys serial q f (stands.unused q le);
     }
@@ -167,6 +179,9 @@ mapped_stands s f lessens stands =
           (stands.linked j k (part_in _ (links_in s.keys j) k (less.links j) i));
       attached = λ k i. there_map f s.keys k (stands.attached k i);
       placed = stands.placed;
+      housed = stands.housed;
+      fitting = map_fits s.keys f lessens.fits stands.fitting;
+      rising = map_rises f s.keys stands.rising;
       once = less_once s.keys (map_values f s.keys) less stands.once;
       unused = λ q le. at_map f s.keys q ∙ ap (option_map f) (stands.unused q le);
     }
@@ -212,6 +227,9 @@ kept_stands s kept watches picks stands =
           stays k (Linked j k held was) (stands.linked j k was);
       attached = λ k i. stays k (Attached k i) (stands.attached k i);
       placed = stands.placed;
+      housed = stands.housed;
+      fitting = filter_fits s.keys kept stands.fitting;
+      rising = filter_rises (λ e. kept e.0) s.keys stands.rising;
       once = less_once s.keys keys less stands.once;
       unused = below_filter (λ e. kept e.0) s.keys keys s.next_serial refl stands.unused;
     }
@@ -275,9 +293,9 @@ at_further es n k v none there =
 -- a further key, which links keys that are there, at most one of each name
 pub key_stands :
     (s : State) (key : Key) → ((k : ℕ) → is_in k (links_of key.content) ≡ true → IsSome (at s.keys k))
-    → ((name : Name) → count_by (λ k. is_named name (at s.keys k)) (links_of key.content) ≤ 1) → Stands s
-    → Stands (with_new s key)
-key_stands s key linked few stands =
+    → ((name : Name) → count_by (λ k. is_named name (at s.keys k)) (links_of key.content) ≤ 1) → IsFitting key
+    → Stands s → Stands (with_new s key)
+key_stands s key linked few fits stands =
     let n = s.next_serial in
     let keys = put s.keys n key in
     let none : at s.keys n ≡ None = stands.unused n (omega arith) in
@@ -294,6 +312,9 @@ key_stands s key linked few stands =
       linked = λ j k i. stays k (target j k i);
       attached = λ k i. stays k (stands.attached k i);
       placed = stands.placed;
+      housed = stands.housed;
+      fitting = put_fits s.keys n key fits stands.fitting;
+      rising = put_rises s.keys n key stands.rising;
       once = λ ring name.
           let p : ℕ → Bool = λ k. is_named name (at s.keys k) in
           let fewer = count_on (λ k. is_named name (at keys k)) p (links_in keys ring)
@@ -359,6 +380,10 @@ linked_stands s ring serial displaced there opens alike stands =
           (λ (r : (j ≡ ring) × (k ≡ serial)). subst (λ (z : ℕ). IsSome (at s.keys z)) (sym r.1) there) (adds j k i));
       attached = λ k i. there_alter s.keys ring f k (stands.attached k i);
       placed = stands.placed;
+      housed = stands.housed;
+      fitting = alter_fits s.keys ring f
+          (form_stays f (λ v. linked_form displaced serial v.content) (λ v. refl)) stands.fitting;
+      rising = alter_rises s.keys ring f stands.rising;
       once = λ q name.
           let p : ℕ → Bool = λ k. is_named name (at s.keys k) in
           let fewer = count_on (λ k. is_named name (at keys k)) p (links_in keys q)

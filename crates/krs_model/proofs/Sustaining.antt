@@ -25,7 +25,7 @@ use Rattle.krs_model.specs.Levels.{is_in}
 use Rattle.krs_model.specs.Lookup.{context_of, serial_of, look_up}
 use Rattle.krs_model.specs.Linking.{ring_links}
 use Rattle.krs_model.specs.Sweep.{context_roots, process_roots, uid_roots}
-use Rattle.krs_model.specs.Sound.{AllAttached}
+use Rattle.krs_model.specs.Sound.{AllAttached, is_links}
 use Rattle.krs_model.specs.Outcome.{Outcome}
 use Rattle.krs_model.specs.Making.{within_serials}
 use Rattle.krs_model.specs.Asks.Hello.{hello, has_context_left, has_numbers, with_uid, first_session}
@@ -37,16 +37,18 @@ use Rattle.krs_model.specs.Asks.Linked.{unlinked_content, cleared, cleared_conte
 use Rattle.krs_model.specs.Asks.Reading.{read, describe, readable}
 use Rattle.krs_model.specs.Asks.Invalidating.{detached, context_without, rings_without, invalidated, invalidate}
 use Rattle.krs_model.specs.Asks.Leaving.{left, exit, exited, has_process, has_uid}
-use Rattle.krs_model.proofs.Tables.{at_kept, at_without_other, at_or_apart}
+use Rattle.krs_model.proofs.Tables.{at_kept}
 use Rattle.krs_model.proofs.Levels.{in_left, in_right, in_one}
 use Rattle.krs_model.proofs.Counts.{IsPart, none_part, filter_part}
 use Rattle.krs_model.proofs.Coming.{within_ok, same_state}
 use Rattle.krs_model.proofs.Standing.{Stands, same_stands, NameStays, Lessens, changed_stands, mapped_stands}
 use Rattle.krs_model.proofs.Standing.{there_map, kept_some}
+use Rattle.krs_model.proofs.Contents.{FitStays, form_stays}
+use Rattle.krs_model.proofs.Housing.{left_housed, mapped_housed, exited_housed, there_unless}
 use Rattle.krs_model.proofs.Roots.{attachments, own_process, context_keys, uid_keys, attached_fewer, attached_without}
 use Rattle.krs_model.proofs.Roots.{attached_mapped}
 use Rattle.krs_model.proofs.Roots.{attached_by, in_context, in_process, in_uid}
-use Rattle.krs_model.proofs.Entering.{entered_stands, with_uid_stands, session_there}
+use Rattle.krs_model.proofs.Entering.{entered_stands, with_uid_stands, session_there, uid_there}
 use Rattle.krs_model.proofs.Entering.{ArePlaced, placed_in, in_placed}
 
 -- what an ask comes to stands, where it is accepted
@@ -90,40 +92,72 @@ hello_stands s client c stands =
     sustains_after (has_context_left s client) _ (λ room _.
     sustains_after (has_numbers s rings) _ (λ numbers _.
     sustains_ok (entered_stands with_rings client c (first_session s.next_serial rings)
-    (λ k i. session_there s c rings k refl stands i) (with_uid_stands s c rings stands)))))
+    (λ k i. session_there s c rings k refl stands i) (uid_there s c rings refl)
+    (with_uid_stands s c rings stands)))))
 
 -- a change that leaves the links of a key
-leaves : (f : Key → Key) → ((v : Key) → links_of (f v).content ≡ links_of v.content) → NameStays f → Lessens f
-leaves f same stays = record { links = λ v p. omega (arith, ap (count_by p) (same v)); named = stays }
+leaves :
+    (f : Key → Key) → ((v : Key) → links_of (f v).content ≡ links_of v.content) → NameStays f → FitStays f → Lessens f
+leaves f same stays fits = record { links = λ v p. omega (arith, ap (count_by p) (same v)); named = stays; fits = fits }
 
 paid_links : (payload : List ℕ) (content : Content) → links_of (paid_with payload content) ≡ links_of content
 paid_links payload (Payload bytes) = refl
 paid_links payload (Links links) = refl
 
+paid_form : (payload : List ℕ) (content : Content) → is_links (paid_with payload content) ≡ is_links content
+paid_form payload (Payload bytes) = refl
+paid_form payload (Links links) = refl
+
 pub updated_lessens : (payload : List ℕ) → Lessens (updated payload)
-updated_lessens payload = leaves (updated payload) (λ v. paid_links payload v.content) (λ v name. refl)
+updated_lessens payload =
+    leaves (updated payload) (λ v. paid_links payload v.content) (λ v name. refl)
+    (form_stays (updated payload) (λ v. paid_form payload v.content) (λ v. refl))
 
 emptied_part : (content : Content) → IsPart (links_of (emptied content)) (links_of content)
 emptied_part (Payload bytes) = none_part []
 emptied_part (Links links) = none_part links
 
+emptied_form : (content : Content) → is_links (emptied content) ≡ is_links content
+emptied_form (Payload bytes) = refl
+emptied_form (Links links) = refl
+
 revoked_lessens : Lessens revoked
-revoked_lessens = record { links = λ v. emptied_part v.content; named = λ v name. refl }
+revoked_lessens = record {
+  links = λ v. emptied_part v.content;
+  named = λ v name. refl;
+  fits = form_stays revoked (λ v. emptied_form v.content) (λ v. refl);
+}
 
 unlinked_part :
     (serial : ℕ) (content : Content) → IsPart (links_of (unlinked_content serial content)) (links_of content)
 unlinked_part serial (Payload bytes) = none_part []
 unlinked_part serial (Links links) = filter_part (λ k. not (k == serial)) links
 
+unlinked_form : (serial : ℕ) (content : Content) → is_links (unlinked_content serial content) ≡ is_links content
+unlinked_form serial (Payload bytes) = refl
+unlinked_form serial (Links links) = refl
+
 unlinked_lessens : (serial : ℕ) → Lessens (without_link serial)
-unlinked_lessens serial = record { links = λ v. unlinked_part serial v.content; named = λ v name. refl }
+unlinked_lessens serial = record {
+  links = λ v. unlinked_part serial v.content;
+  named = λ v name. refl;
+  fits = form_stays (without_link serial) (λ v. unlinked_form serial v.content) (λ v. refl);
+}
 
 cleared_part : (content : Content) → IsPart (links_of (cleared_content content)) (links_of content)
 cleared_part (Payload bytes) = none_part []
 cleared_part (Links links) = none_part links
 
+cleared_form : (content : Content) → is_links (cleared_content content) ≡ is_links content
+cleared_form (Payload bytes) = refl
+cleared_form (Links links) = refl
+
 cleared_lessens : Lessens cleared
-cleared_lessens = record { links = λ v. cleared_part v.content; named = λ v name. refl }
+cleared_lessens = record {
+  links = λ v. cleared_part v.content;
+  named = λ v name. refl;
+  fits = form_stays cleared (λ v. cleared_form v.content) (λ v. refl);
+}
 
 pub update_stands :
     (s : State) (client context : ℕ) (id : ℤ) (payload : List ℕ) → Stands s
@@ -147,7 +181,7 @@ unfolding chown
 chown_stands s client context id uid gid stands =
     sustains_found s client context id (Granted SETATTR) _ (λ c found.
     sustains_after (if_may_own c.caller uid gid found.1) _ (λ allowed _.
-    let same = leaves (with_owner uid gid) (λ v. refl) (λ v name. refl) in
+    let same = leaves (with_owner uid gid) (λ v. refl) (λ v name. refl) (λ v fits. fits) in
     sustains_ok (changed_stands s found.0 (with_owner uid gid) same stands)))
 
 pub set_perm_stands :
@@ -157,7 +191,7 @@ set_perm_stands s client context id mask stands =
     sustains_found s client context id (Granted SETATTR) _ (λ c found.
     sustains_after (perm_of mask) _ (λ perm _.
     sustains_after (if_owner c.caller found.1) _ (λ own _.
-    let same = leaves (with_perm perm) (λ v. refl) (λ v name. refl) in
+    let same = leaves (with_perm perm) (λ v. refl) (λ v name. refl) (λ v fits. fits) in
     sustains_ok (changed_stands s found.0 (with_perm perm) same stands))))
 
 pub set_timeout_stands :
@@ -167,7 +201,7 @@ unfolding set_timeout
 set_timeout_stands s client context id seconds stands =
     sustains_found s client context id (Granted SETATTR) _ (λ c found.
     let expiry = expiry_after s.clock seconds in
-    let same = leaves (with_expiry expiry) (λ v. refl) (λ v name. refl) in
+    let same = leaves (with_expiry expiry) (λ v. refl) (λ v name. refl) (λ v fits. fits) in
     sustains_ok (changed_stands s found.0 (with_expiry expiry) same stands))
 
 pub unlink_stands :
@@ -221,7 +255,8 @@ left_stands s client stands =
     let kept = process_of_one after.contexts p ∙ i in
     subst IsSome (sym (at_kept (λ q. list_any (λ c. c.process == q) (values_of after.contexts)) s.processes p))
     (kept_some _ (at s.processes p) kept was) in
-    same_stands s after refl refl attached (in_placed after placed) stands
+    same_stands s after refl refl attached (in_placed after placed)
+    (left_housed s.contexts s.processes s.uids s.next_context _ _ stands.housed) stands
 
 detached_in :
     (serial k : ℕ) (o : Option ℕ) → is_in k (option_to_list (detached serial o)) ≡ true
@@ -260,7 +295,9 @@ invalidated_stands s serial stands =
     let placed : ArePlaced after.contexts after.processes = λ p i.
     there_map (detached serial) s.processes p
     (placed_in s stands.placed p (attached_mapped own_process (context_without serial) s.contexts p (λ v j. j) i)) in
-    same_stands one after refl refl attached (in_placed after placed) first
+    same_stands one after refl refl attached (in_placed after placed)
+    (mapped_housed s.contexts s.processes s.uids s.next_context (context_without serial) (detached serial)
+    (rings_without serial) (λ v. refl) stands.housed) first
 
 pub invalidate_stands : (s : State) (client context : ℕ) (id : ℤ) → Stands s
     → Sustains (invalidate s client context id)
@@ -276,17 +313,6 @@ attached_unless :
 attached_unless g true es k q h = h
 attached_unless g false es k q h = attached_without g es k q h
 
--- a process stays that has a context
-placed_unless :
-    (contexts : Table Context) (processes : Table (Option ℕ)) (process p : ℕ) (stays : Bool)
-    → has_process contexts process ≡ stays → has_process contexts p ≡ true → IsSome (at processes p)
-    → IsSome (at (cond stays processes (without processes process)) p)
-placed_unless contexts processes process p true is has there = there
-placed_unless contexts processes process p false is has there =
-    ⊎_elim (λ (same : p ≡ process).
-    absurd (true≢false (sym (subst (λ (z : ℕ). has_process contexts z ≡ true) same has) ∙ is)))
-    (λ apart. subst IsSome (sym (at_without_other processes process p apart)) there) (at_or_apart p process)
-
 exited_stands : (s : State) (number : ℕ) (c : Context) → Stands s → Stands (exited s number c)
 exited_stands s number c stands =
     let after = exited s number c in
@@ -298,10 +324,12 @@ exited_stands s number c stands =
     (λ h. stands.attached k (in_uid s k
     (attached_unless uid_keys (has_uid after.contexts c.caller.uid) s.uids c.caller.uid k h))) i in
     let placed : ArePlaced after.contexts after.processes = λ p i.
-    placed_unless after.contexts s.processes c.process p (has_process after.contexts c.process) refl
+    there_unless (has_process after.contexts) s.processes c.process p (has_process after.contexts c.process) refl
     (process_of_one after.contexts p ∙ i)
     (placed_in s stands.placed p (attached_without own_process s.contexts number p i)) in
-    same_stands s after refl refl attached (in_placed after placed) stands
+    same_stands s after refl refl attached (in_placed after placed)
+    (exited_housed s.contexts s.processes s.uids s.next_context number c.process c.caller.uid
+    (has_process after.contexts c.process) stands.housed) stands
 
 pub exit_stands : (s : State) (client context : ℕ) → Stands s → Sustains (exit s client context)
 unfolding exit

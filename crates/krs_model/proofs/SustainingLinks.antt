@@ -33,6 +33,9 @@ use Rattle.krs_model.specs.Asks.Adding.{Place, Updated, Made, add, added, added_
 use Rattle.krs_model.specs.Asks.Adding.{admitted, place_of, IsRing}
 use Rattle.krs_model.specs.Asks.Changing.{updated}
 use Rattle.krs_model.specs.Asks.Linked.{link, linked, linked_into, name_of}
+use Rattle.krs_types.specs.Kind.{same_kind}
+use Rattle.krs_model.specs.Sound.{is_links, IsFitting}
+use Rattle.krs_model.proofs.Housing.{owner_there}
 use Rattle.krs_model.proofs.Tables.{at_put_same}
 use Rattle.krs_model.proofs.Reaching.{From}
 use Rattle.krs_model.proofs.Names.{equal_names}
@@ -205,7 +208,8 @@ thread_stands s client context stands =
     sustains_after (if_context_number s) _ (λ left _.
     let is = own_there s client context c own in
     sustains_ok (context_stands s (without_thread c) (λ k i. own_session_there s context c k is stands i)
-    (own_process_there s context c is stands.placed) stands))))
+    (own_process_there s context c is stands.placed) (owner_there s.contexts s.uids context c is stands.housed.owned)
+    stands))))
 
 pub fork_stands : (s : State) (client context : ℕ) → Stands s → Sustains (fork s client context)
 unfolding fork
@@ -215,12 +219,18 @@ fork_stands s client context stands =
     sustains_after (if_context_number s) _ (λ left _.
     let is = own_there s client context c own in
     sustains_ok (entered_stands s client c.caller c.session
-    (λ k i. own_session_there s context c k is stands i) stands))))
+    (λ k i. own_session_there s context c k is stands i) (owner_there s.contexts s.uids context c is stands.housed.owned)
+    stands))))
 
 pub exec_stands : (s : State) (client context : ℕ) → Stands s → Sustains (exec s client context)
 unfolding exec
 exec_stands s client context stands =
     sustains_after (context_of s client context) _ (λ c _. sustains_ok (execed_stands s context c stands))
+
+first_form : (kind : Kind) (payload : List ℕ) → is_links (first_content kind payload) ≡ same_kind kind Keyring
+first_form User payload = refl
+first_form Logon payload = refl
+first_form Keyring payload = refl
 
 no_links : (kind : Kind) (payload : List ℕ) → links_of (first_content kind payload) ≡ []
 no_links User payload = refl
@@ -235,15 +245,15 @@ first_link links _ _ (Further a j b p h) = first_link links a j p
 -- a new key, and its link
 made_stands :
     (s : State) (ring : ℕ) (name : Name) (key : Key) → IsRing s ring → name_of key ≡ name → links_of key.content ≡ []
-    → Stands s → Stands (made s ring name key)
-made_stands s ring name key is named empty stands =
+    → IsFitting key → Stands s → Stands (made s ring name key)
+made_stands s ring name key is named empty fits stands =
     let n = s.next_serial in
     let one = with_new s key in
     let none : at s.keys n ≡ None = stands.unused n (omega arith) in
     let ring_there : IsSome (at s.keys ring) = some_there s.keys ring is.0 is.1 in
     let nothing : (k : ℕ) → is_in k (links_of key.content) ≡ true → ⊥ = λ k i.
     true≢false (sym (ap (is_in k) (sym empty) ∙ i)) in
-    let first : Stands one = empty_stands s key empty stands in
+    let first : Stands one = empty_stands s key empty fits stands in
     let mine : at one.keys n ≡ Some key = at_put_same s.keys n key in
     let unreached : From (links_in one.keys) n ring → ⊥ = λ from.
     ⊎_elim (λ (e : n ≡ ring). not_there (at s.keys ring) ring_there (ap (λ (z : ℕ). at s.keys z) (sym e) ∙ none))
@@ -266,7 +276,7 @@ added_stands s c name payload id (Updated serial) is stands =
     changed_stands s serial (updated payload) (updated_lessens payload) stands
 added_stands s c name payload id (Made ring) is stands =
     made_stands s ring name (new_key name payload c.caller.uid c.caller.gid) (made_in_ring s c name id ring is) refl
-    (no_links name.kind payload) stands
+    (no_links name.kind payload) (first_form name.kind payload) stands
 
 added_in_stands :
     (s : State) (c : Context) (name : Name) (payload : List ℕ) (ring : ℤ) → Stands s

@@ -79,14 +79,6 @@ sweep_swept old new s =
           ∙ (filter_twice (λ (w : (ℕ × ℕ) × ℕ). is_some (at new.keys w.0.0)) old.watches ∙ sym same);
     }
 
--- with no attachment and no link less, what was held is held
-pub held_on : (old new : Table Key) (before after : List ℕ) → ((k : ℕ) → is_in k before ≡ true → is_in k after ≡ true)
-    → ((j k : ℕ) → is_in k (linked_by (at old j)) ≡ true → is_in k (linked_by (at new j)) ≡ true) → (k : ℕ)
-    → IsHeld old before k → IsHeld new after k
-held_on old new before after attach link _ (Attached k i) = Attached k (attach k i)
-held_on old new before after attach link _ (Linked j k held i) =
-    Linked j k (held_on old new before after attach link j held) (link j k i)
-
 -- the entries of a table are there
 abbrev pub AreThere : Table Key → Table Key → Type 0
 AreThere all [] = Unit {0}

@@ -16,8 +16,8 @@ pub mod Orderly
 pub mod Sound
 pub mod Outcome
 pub mod Asks
+pub mod Joined
 pub mod Step
-pub mod Serving
 pub mod History
 pub mod Revocation
 pub mod Laws

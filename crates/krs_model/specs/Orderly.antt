@@ -24,7 +24,7 @@ abbrev pub AreRising : List Watch → Type 0
 AreRising [] = Unit {0}
 AreRising (w ∷ ws) = Each (λ v. place_cmp w.0 v.0 ≡ Less) ws × AreRising ws
 
--- a queue holds 1 to 512 records, and the numbers of those that wait fit their fields
+-- a queue has a lawful capacity, and the numbers of those that wait fit their fields
 pub record IsQueue (queue : Queue) : Type 0 where
   pub capacity : is_capacity queue.capacity ≡ true
   pub fit : AllFit queue.waiting

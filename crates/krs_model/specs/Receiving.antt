@@ -1,5 +1,5 @@
 -- What a queue gives to its reader over a history: core-api/watch_queue.rst, "Watch Queue (Notification Output) API".
-use Rattle.std.specs.Prelude.{◌≡◌, ◌⊎◌, ℕ, List, [], ◌∷◌, ◌++◌, map, Option, Some, Result, Ok, Err}
+use Rattle.std.specs.Prelude.{◌≡◌, ◌⊎◌, ℕ, List, [], ◌∷◌, ◌++◌, map, Some, Result, Ok, Err}
 use Rattle.krs_types.specs.declared.errno.Errno.{Errno}
 use Rattle.krs_types.specs.declared.note.Record.{Record}
 use Rattle.krs_types.specs.declared.ask.Answer.{Answer}

@@ -1,9 +1,12 @@
 -- What holds of a store between asks: keyrings(7), "Keyrings" and "Anchoring keys"; keyctl(2), KEYCTL_LINK.
-use Rattle.std.specs.Prelude.{◌≡◌, ℕ, ◌≤◌, List, true, IsSome, count_by, map}
+use Rattle.std.specs.Prelude.{◌≡◌, ℕ, ◌≤◌, List, Bool, true, false, Option, Some, IsSome, count_by, map}
+use Rattle.krs_types.specs.declared.kind.Kind.TheVariants.{Keyring}
 use Rattle.krs_types.specs.declared.context.Context.{Context}
+use Rattle.krs_types.specs.declared.context.UidRings.{UidRings}
 use Rattle.krs_types.specs.declared.name.Name.{Name}
-use Rattle.krs_model.specs.Table.{Table, at, IsBelow}
-use Rattle.krs_model.specs.State.{State, Key}
+use Rattle.krs_types.specs.Kind.{same_kind}
+use Rattle.krs_model.specs.Table.{Table, at, IsBelow, Rises}
+use Rattle.krs_model.specs.State.{State, Key, Content, Payload, Links}
 use Rattle.krs_model.specs.Levels.{is_in}
 use Rattle.krs_model.specs.Queues.{queues_of}
 use Rattle.krs_model.specs.Orderly.{AreOrderly}
@@ -27,6 +30,43 @@ processes_of es = map (λ e. e.1.process) es
 abbrev pub AllPlaced : State → Type 0
 AllPlaced s = (process : ℕ) → is_in process (processes_of s.contexts) ≡ true → IsSome (at s.processes process)
 
+-- the uids of contexts
+abbrev pub uids_of : Table Context → List ℕ
+uids_of es = map (λ e. e.1.caller.uid) es
+
+-- the uid of every context is there
+abbrev pub AllOwned : Table Context → Table UidRings → Type 0
+AllOwned contexts uids = (uid : ℕ) → is_in uid (uids_of contexts) ≡ true → IsSome (at uids uid)
+
+-- what holds of contexts, processes and uids between asks, where this is the next number of a context
+pub record AreHoused (contexts : Table Context) (processes : Table (Option ℕ)) (uids : Table UidRings) (next : ℕ)
+    : Type 0 where
+  -- no context's number is given twice: profile, context numbers
+  pub unused : IsBelow contexts next
+  -- nor a process's, which is that of its first context: profile, context numbers
+  pub no_process : IsBelow processes next
+  -- a uid is there while it has a context: user-keyring(7); profile, user keyrings stay
+  pub owned : AllOwned contexts uids
+  -- a number is of one context: profile, context numbers
+  pub contexts_rise : Rises contexts
+  -- a process has one process keyring: process-keyring(7)
+  pub processes_rise : Rises processes
+  -- a uid has one user keyring and one user-session keyring: user-keyring(7), user-session-keyring(7)
+  pub uids_rise : Rises uids
+
+-- it is links, and no payload
+abbrev pub is_links : Content → Bool
+is_links (Payload bytes) = false
+is_links (Links serials) = true
+
+-- a keyring has links, and any other key a payload
+abbrev pub IsFitting : Key → Type 0
+IsFitting key = is_links key.content ≡ same_kind key.kind Keyring
+
+-- every key is so
+abbrev pub AllFitting : Table Key → Type 0
+AllFitting keys = (serial : ℕ) (key : Key) → at keys serial ≡ Some key → IsFitting key
+
 -- a keyring links at most one key of a name
 abbrev pub HasOneOfEach : Table Key → Type 0
 HasOneOfEach keys = (ring : ℕ) (name : Name) → count_by (λ k. is_named name (at keys k)) (links_in keys ring) ≤ 1
@@ -41,6 +81,12 @@ pub record IsSound (s : State) : Type 0 where
   pub attached : AllAttached s
   -- a process is there while it has a context: process-keyring(7)
   pub placed : AllPlaced s
+  -- contexts, processes and uids have numbers of their own, and a uid stands with its contexts: user-keyring(7)
+  pub housed : AreHoused s.contexts s.processes s.uids s.next_context
+  -- a keyring has links, and any other key a payload: keyrings(7), "Keyrings"
+  pub fitting : AllFitting s.keys
+  -- a serial is of one key: profile, rising serials
+  pub rising : Rises s.keys
   -- a link displaces that to a key of equal type and description: keyctl(2), KEYCTL_LINK
   pub once : HasOneOfEach s.keys
   -- no serial is given twice: profile, rising serials

@@ -2,7 +2,8 @@
 use Rattle.std.specs.Prelude.{◌≡◌, ℕ, ◌≤◌, List, [], ◌∷◌, Option, None, cond}
 use Rattle.std.specs.Ordering.{nat_cmp}
 use Rattle.std.specs.BTreeMap.{is_at, insert_entry}
-use Rattle.std.specs.Map.{lookup, remove_entry}
+use Rattle.std.specs.Map.{lookup, remove_entry, keys_of}
+use Rattle.std.specs.List.Sorted.{IsStrictlySortedBy}
 
 -- a finite map from numbers
 abbrev pub Table : Type 0 → Type 0
@@ -38,3 +39,7 @@ IsBelow es n = (k : ℕ) → n ≤ k → at es k ≡ None
 abbrev pub IsDistinct : {X : Type 0} → Table X → Type 0
 IsDistinct [] = Unit {0}
 IsDistinct (e ∷ es) = (at es e.0 ≡ None) × IsDistinct es
+
+-- numbers rise, and each has one entry
+abbrev pub Rises : {X : Type 0} → Table X → Type 0
+Rises es = IsStrictlySortedBy nat_cmp (keys_of es)

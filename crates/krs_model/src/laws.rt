@@ -1,8 +1,9 @@
 ghost use Rattle.std.specs.Prelude.{◌≡◌, ◌≢◌, ◌↔◌, ◌++◌, ℕ, ℤ, List, [], Bool, true, false};
-ghost use Rattle.std.specs.Prelude.{Ok, Err, IsErr, IsSome, Some};
+ghost use Rattle.std.specs.Prelude.{Result, Ok, Err, IsErr, IsSome, Some};
 ghost use Rattle.krs_types.specs.declared.caller.Caller.{Caller};
 ghost use Rattle.krs_types.specs.declared.context.Context.{Context};
 ghost use Rattle.krs_types.specs.declared.ask.Answer.{Answer};
+ghost use Rattle.krs_types.specs.declared.ask.Ask.{Ask};
 ghost use Rattle.krs_types.specs.declared.ask.Op.{Op};
 ghost use Rattle.krs_types.specs.declared.ask.Op.TheVariants.{Revoke, Read};
 ghost use Rattle.krs_types.specs.declared.errno.Errno.{Errno};
@@ -11,11 +12,11 @@ ghost use Rattle.krs_types.specs.declared.event.Event.{Event};
 ghost use Rattle.krs_types.specs.declared.name.Name.{Name};
 ghost use Rattle.krs_types.specs.declared.rights.Want.{Want};
 ghost use Rattle.krs_types.specs.Perm.{granted};
-ghost use Rattle.krs_model.specs.Table.{Table, at, IsBelow};
+ghost use Rattle.krs_model.specs.Table.{Table, at, IsBelow, Rises};
 ghost use Rattle.krs_model.specs.State.{State, Key, Queue, raised, starting_at};
 ghost use Rattle.krs_model.specs.Queues.{Queues, queues_of};
 ghost use Rattle.krs_model.specs.Possession.{attached, possessed};
-ghost use Rattle.krs_model.specs.Lookup.{look_up};
+ghost use Rattle.krs_model.specs.Lookup.{context_of, look_up};
 ghost use Rattle.krs_model.specs.Usable.{IsUsable};
 ghost use Rattle.krs_model.specs.Sweep.{IsSweep, IsSwept, PicksHeld};
 ghost use Rattle.krs_model.specs.Reach.{closes, links_in, IsAcyclic};
@@ -24,15 +25,16 @@ ghost use Rattle.krs_model.specs.Anchored.{IsClosedChoice};
 ghost use Rattle.krs_model.specs.Orderly.{AreOrderly, AreRising};
 ghost use Rattle.krs_model.specs.Sound.{IsSound, AllLinked};
 ghost use Rattle.krs_model.specs.Step.{Step, Serves, outcome_of};
-ghost use Rattle.krs_model.specs.Serving.{Tells, SweepsOut};
-ghost use Rattle.krs_model.specs.History.{IsLegal};
+ghost use Rattle.krs_model.specs.History.{IsLegal, event_of};
 ghost use Rattle.krs_model.specs.Revocation.{IsOfKey, StaysUnread};
 ghost use Rattle.krs_model.specs.Receiving.{HasMoves, GivesStreams};
 ghost use Rattle.krs_model.specs.Ordering.{GoByQueue};
 ghost use Rattle.krs_model.specs.Notes.Stream.{Move};
 ghost use Rattle.krs_model.specs.Notes.Posting.{Note, posts_of, dropped_watches};
 ghost use Rattle.krs_model.specs.Notes.Telling.{ended_by};
+ghost use Rattle.krs_model.specs.Asks.Joining.{join};
 ghost use Rattle.krs_model.specs.Asks.Watching.{read_queue};
+ghost use Rattle.krs_model.specs.Joined.{JoinsLeast};
 ghost use Rattle.krs_model.specs.Laws.{ComesByLinks, IsOneByte, ClosesCycle};
 ghost use Rattle.krs_model.specs.Laws.{IsFirstAnswer, HasNoAnswer, in_turn, ReadsFront};
 
@@ -117,6 +119,14 @@ pub fn requests_search_in_turn()
         → requested s c name ≡ in_turn (λ head. found s c head name) (attached s c) }
 {}
 
+/// JOIN with a name takes the least serial of the keyrings that may be joined, else makes one: keyctl(2),
+/// KEYCTL_JOIN_SESSION_KEYRING; profile, joining by name.
+pub fn joins_take_the_least_serial()
+    ensures { (s new : State) (client context : ℕ) (c : Context) (name : List ℕ) (answer : Answer)
+        → Rises s.keys → name ≢ [] → context_of s client context ≡ Ok c
+        → join s client context name ≡ Ok (new, answer) → JoinsLeast s context c name new answer }
+{}
+
 /// An empty store is sound.
 pub fn an_empty_store_is_sound()
     ensures { (n : ℕ) → IsSound (starting_at n) }
@@ -132,6 +142,14 @@ pub fn histories_end_sound()
     ensures { (n : ℕ) (events : List Event) (end : State) → IsLegal (starting_at n) events end → IsSound end }
 {}
 
+/// From a sound store each ask of any client at any moment has a step, whose reply is not ENOMEM: whatever is asked may
+/// be answered.
+pub fn each_ask_has_a_step()
+    ensures { (old : State) (lane moment : ℕ) (ask : Ask) → IsSound old
+        → (reply : Result Answer Errno) × (new : State) × Step old (event_of lane moment ask reply) new
+        × (reply ≢ Err ENOMEM) }
+{}
+
 /// A reply leads to one state: what is asked at a moment and what it is answered with determine all that a store is
 /// then. So do the state and what is asked of it determine the reply, but that memory may be wanting.
 pub fn a_reply_leads_to_one_state()
@@ -140,20 +158,6 @@ pub fn a_reply_leads_to_one_state()
         → Step old e a → Step old f b → e.reply ≢ Err ENOMEM → f.reply ≢ Err ENOMEM → e.reply ≡ f.reply }
     ensures history { (start a b : State) (events : List Event)
         → IsLegal start events a → IsLegal start events b → a ≡ b }
-{}
-
-/// A step may be taken in turn: the effect of an ask, its notes, the sweep, the removal records. The notes go out by
-/// the watches and filters of the state before the ask all the same. Profile, order of notes.
-pub fn a_step_may_be_taken_in_turn()
-    ensures { (s told new : State) (client context : ℕ) (op : Op) (answer : Answer)
-        → Tells s client context op answer told → SweepsOut told new → Serves s client context op answer new }
-{}
-
-/// Where nothing is watched nothing is posted: an accepted ask has its effect, and then the sweep.
-pub fn a_store_with_no_watch_posts_nothing()
-    ensures { (s mid new : State) (client context : ℕ) (op : Op) (answer : Answer)
-        → s.watches ≡ [] → mid.watches ≡ [] → outcome_of s client context op ≡ Ok (mid, answer)
-        → IsSweep mid new → Serves s client context op answer new }
 {}
 
 /// One note goes to its queues by rising number, and the removal records of an ask go out by rising key, then queue.

@@ -6,11 +6,10 @@ mod laws;
 
 pub use laws::{
     a_closed_choice_is_the_held_keys, a_read_takes_the_longest_front, a_reply_leads_to_one_state,
-    a_step_may_be_taken_in_turn, a_store_with_no_watch_posts_nothing, a_sweep_is_one_state,
-    a_sweep_sweeps, a_swept_state_stays, an_empty_store_is_sound, cycles_are_reach,
-    each_step_keeps_a_store_sound, histories_end_sound, histories_move_queues,
-    look_ups_find_usable_keys, possession_comes_by_links, queues_give_their_streams,
-    records_go_out_in_order, refusals_change_the_clock_alone, requests_search_in_turn,
-    revoked_keys_stay_unread, revokes_and_reads_name_a_key, rights_come_from_one_byte,
-    searches_go_by_levels,
+    a_sweep_is_one_state, a_sweep_sweeps, a_swept_state_stays, an_empty_store_is_sound,
+    cycles_are_reach, each_ask_has_a_step, each_step_keeps_a_store_sound, histories_end_sound,
+    histories_move_queues, joins_take_the_least_serial, look_ups_find_usable_keys,
+    possession_comes_by_links, queues_give_their_streams, records_go_out_in_order,
+    refusals_change_the_clock_alone, requests_search_in_turn, revoked_keys_stay_unread,
+    revokes_and_reads_name_a_key, rights_come_from_one_byte, searches_go_by_levels,
 };

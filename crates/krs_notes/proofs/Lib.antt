@@ -1,1 +1,2 @@
+pub mod Guessing
 pub mod SpellingLemmas

@@ -1,6 +1,6 @@
 ghost use Rattle.std.specs.Prelude.{◌≡◌};
 ghost use Rattle.krs_model.specs.Notes.Bytes.{event_number};
-ghost use Rattle.krs_model.specs.Notes.Guess.{event_numbered};
+ghost use Rattle.krs_notes.specs.Guess.{event_numbered};
 
 use krs_types::KeyEvent;
 

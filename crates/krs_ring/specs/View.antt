@@ -1,6 +1,7 @@
 -- Which waiting list a ring stands for.
 use Rattle.std.specs.Prelude.{◌≤◌, ◌++◌}
 use Rattle.krs_model.specs.Notes.Stream.{loss_if}
+use Rattle.krs_model.specs.Notes.Waiting.{greatest_capacity}
 use Rattle.krs_ring.specs.Ring.{Ring}
 use Rattle.krs_ring.specs.Slots.{notes_of, HasNoLoss}
 use Rattle.krs_ring.specs.declared.ring.NoteRing.TheInside.{Inside}
@@ -9,8 +10,8 @@ use Rattle.krs_ring.specs.declared.ring.NoteRing.TheInside.{Inside}
 abbrev pub ring_of : Inside → Ring
 ring_of r = record { capacity = r.slots.capacity; waiting = loss_if r.owed ++ notes_of r.slots.items }
 
--- it has room for 1 to 512 records, and keeps no loss in a slot
+-- it has room for some records, at most as many as a queue may hold, and keeps no loss in a slot
 pub record IsRing (r : Inside) : Type 0 where
   pub room : 1 ≤ r.slots.capacity
-  pub bound : r.slots.capacity ≤ 512
+  pub bound : r.slots.capacity ≤ greatest_capacity
   pub kept : HasNoLoss r.slots.items

@@ -35,7 +35,8 @@ use Rattle.krs_ring_asks.proofs.Served.{IsFoundRing, within_as}
 -- a link whose tests are these
 by_tests :
     (s t : State) (answer : Answer) (nests room : Result (Unit {0}) Errno) → t.next_serial ≡ s.next_serial
-    → within_serials s (◌>>=◌ {B = State × Answer} (nests >>= (λ x. room >>= (λ y. Ok t))) (λ new. Ok (new, answer)))
+    → within_serials s (◌>>=◌ {B = State × Answer} (◌>>=◌ {B = State} (nests >>= (λ x. room)) (λ y. Ok t))
+    (λ new. Ok (new, answer)))
     ≡ ◌>>=◌ {B = State × Answer} nests (λ x. room >>= (λ y. Ok (t, answer)))
 by_tests s t answer (Ok x) (Ok y) same = within_as s t answer same
 by_tests s t answer (Ok x) (Err e) same = refl

@@ -1,4 +1,3 @@
-pub mod Endings
 pub mod Listing
 pub mod Noting
 pub mod Watched

@@ -21,11 +21,11 @@ use Rattle.krs_model.specs.Queues.{Queues, queues_of}
 use Rattle.krs_model.specs.Outcome.{Leads}
 use Rattle.krs_model.specs.Sound.{IsSound}
 use Rattle.krs_model.specs.Step.{outcome_of}
-use Rattle.krs_model.specs.Serving.{Tells, LeadsTold}
+use Rattle.krs_tables.specs.Serving.{Tells, LeadsTold}
 use Rattle.krs_model.specs.Notes.Posting.{Note, Post, posts_of, posted_in}
 use Rattle.krs_model.specs.Notes.Telling.{named, about, about_link, about_added, notes_of, ended_by}
 use Rattle.krs_model.proofs.NotedKeys.{add_serial, added_before}
-use Rattle.krs_model.proofs.Serving.{tells_after, posted_nothing}
+use Rattle.krs_tables.proofs.Serving.{tells_after, posted_nothing}
 use Rattle.krs_store.specs.declared.telling.Telling.{Telling}
 use Rattle.krs_store.specs.declared.telling.Telling.TheVariants.{OfAdded}
 use Rattle.krs_store.specs.Telling.{told_of, added_note, new_note, updated_note, posts_told, Foretells, Runs}

@@ -10,7 +10,7 @@ use Rattle.krs_types.specs.Rights.{VIEW}
 use Rattle.krs_model.specs.State.{State, Key}
 use Rattle.krs_model.specs.Queues.{Queues, Watch, queues_of, with_queues, watch_at}
 use Rattle.krs_model.specs.Lookup.{context_of, look_up}
-use Rattle.krs_model.specs.Serving.{Tells}
+use Rattle.krs_tables.specs.Serving.{Tells}
 use Rattle.krs_model.specs.Notes.Posting.{posted, removal_for}
 use Rattle.krs_model.specs.Notes.Telling.{named, ended_by}
 use Rattle.krs_model.specs.Asks.Watching.{Change, watch, watched, unwatched, watch_id_of}
@@ -18,7 +18,7 @@ use Rattle.krs_model.proofs.Coming.{bind_ok, same_ok}
 use Rattle.krs_model.proofs.Naming.{found_serial}
 use Rattle.krs_model.proofs.Effects.{unwatched_is}
 use Rattle.krs_model.proofs.Keeping.{ended_set}
-use Rattle.krs_model.proofs.Serving.{tells_nothing, tells_ended}
+use Rattle.krs_tables.proofs.Serving.{tells_nothing, tells_ended}
 use Rattle.krs_watch.specs.Changes.{watch_ended}
 
 -- what WATCH has looked up

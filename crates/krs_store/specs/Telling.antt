@@ -11,7 +11,7 @@ use Rattle.krs_model.specs.State.{State}
 use Rattle.krs_model.specs.Queues.{Queues}
 use Rattle.krs_model.specs.Outcome.{Leads}
 use Rattle.krs_model.specs.Step.{outcome_of}
-use Rattle.krs_model.specs.Serving.{LeadsTold}
+use Rattle.krs_tables.specs.Serving.{LeadsTold}
 use Rattle.krs_model.specs.Notes.Posting.{Note, Post, posts_of}
 use Rattle.krs_model.specs.Notes.Telling.{notes_of}
 use Rattle.krs_store.specs.declared.telling.KeyNote.{KeyNote}

@@ -1,6 +1,6 @@
 ghost use Rattle.std.specs.Prelude.{◌≡◌, IsErrOf, true};
 ghost use Rattle.krs_types.specs.Growth.{grows_meanwhile};
-ghost use Rattle.krs_model.specs.Serving.{LeadsTold};
+ghost use Rattle.krs_tables.specs.Serving.{LeadsTold};
 ghost use Rattle.krs_model.specs.Sound.{IsSound};
 ghost use Rattle.krs_store.specs.Telling.{Runs};
 

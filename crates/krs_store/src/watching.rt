@@ -2,7 +2,7 @@ ghost use Rattle.std.specs.Prelude.{◌≢◌, Err};
 ghost use Rattle.krs_types.specs.declared.ask.Op.TheVariants.{Watch};
 ghost use Rattle.krs_types.specs.declared.fault.Fault.TheVariants.{Memory};
 ghost use Rattle.krs_model.specs.Outcome.{Leads};
-ghost use Rattle.krs_model.specs.Serving.{LeadsTold};
+ghost use Rattle.krs_tables.specs.Serving.{LeadsTold};
 ghost use Rattle.krs_model.specs.Asks.Watching.{open_queue, set_filter, read_queue, close_queue};
 
 use krs_tables::Tables;

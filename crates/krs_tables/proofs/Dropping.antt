@@ -7,10 +7,10 @@ use Rattle.krs_model.specs.Table.{Table, at}
 use Rattle.krs_model.specs.State as model
 use Rattle.krs_model.specs.Queues.{Queues}
 use Rattle.krs_model.specs.Sweep.{live_watches, roots}
-use Rattle.krs_model.specs.Serving.{SweepsOut}
+use Rattle.krs_tables.specs.Serving.{SweepsOut}
 use Rattle.krs_model.specs.Notes.Posting.{removal_for, dropped_watches}
-use Rattle.krs_model.proofs.Serving.{posted_nothing}
-use Rattle.krs_model.proofs.Staying.{none_dropped}
+use Rattle.krs_tables.proofs.Serving.{posted_nothing}
+use Rattle.krs_tables.proofs.Staying.{none_dropped}
 use Rattle.krs_keys.specs.declared.key.Key.{Key}
 use Rattle.krs_keys.specs.Keys.{shown}
 use Rattle.krs_keys.specs.Kept.{Sweeps}

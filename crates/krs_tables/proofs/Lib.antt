@@ -6,4 +6,6 @@ pub mod Owning
 pub mod Attaching
 pub mod NewRings
 pub mod TwoMade
+pub mod Serving
+pub mod Staying
 pub mod Dropping

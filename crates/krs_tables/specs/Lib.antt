@@ -4,3 +4,4 @@ pub mod Linked
 pub mod View
 pub mod Holding
 pub mod Specials
+pub mod Serving

@@ -5,7 +5,7 @@ ghost use Rattle.krs_model.specs.State.{starting_at, raised};
 ghost use Rattle.krs_model.specs.Possession.{process_ring, possessed};
 ghost use Rattle.krs_model.specs.Lookup.{context_of, serial_of, look_up};
 ghost use Rattle.krs_model.specs.Outcome.{Gives, Is};
-ghost use Rattle.krs_model.specs.Serving.{SweepsOut};
+ghost use Rattle.krs_tables.specs.Serving.{SweepsOut};
 ghost use Rattle.krs_model.specs.Sweep.{live_watches};
 ghost use Rattle.krs_model.specs.Reach.{IsAcyclic, links_in};
 ghost use Rattle.krs_model.specs.Asks.Changing.{changed};

@@ -32,13 +32,19 @@ nestable keys ring serial = do
   acyclic ← unless (closes keys serial ring) EDEADLK
   unless (has_chain keys serial 6) ELOOP
 
--- the keyring links the key, where it is a keyring, the link closes no cycle and nests no keyring too deep, and the
--- keyring has room; so too where it links the key already: profile, linking again
+-- The keyring of this serial and these links may link the key: the link closes no cycle and nests no keyring too deep,
+-- and the keyring has room. EDEADLK, ELOOP and ENFILE come in this order: KEYCTL_LINK, "ERRORS"; profile, full keyrings
+abbrev pub link_check : Table Key → ℕ → List ℕ → ℕ × Key → Result (Unit {0}) Errno
+link_check keys ring links found = do
+  nests ← nestable keys ring found.0
+  has_room links (link_named keys (name_of found.1) links)
+
+-- the keyring links the key, where it is a keyring and may link it; so too where it links the key already: profile,
+-- linking again
 abbrev pub linked_into : State → ℕ × Key → ℕ × Key → Result State Errno
 linked_into s into found = do
   links ← ring_links into.1.content
-  nests ← nestable s.keys into.0 found.0
-  room ← has_room links (link_named s.keys (name_of found.1) links)
+  allowed ← link_check s.keys into.0 links found
   Ok (changed s into.0 (linking s.keys (name_of found.1) found.0))
 
 -- a link from a keyring that grants WRITE to a key that grants LINK: KEYCTL_LINK

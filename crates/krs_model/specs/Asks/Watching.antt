@@ -35,7 +35,7 @@ abbrev pub with_queue : Queues → ℕ → ℕ → Queues
 with_queue s client capacity =
     record s { queues = put s.queues s.next_queue (new_queue client capacity); next_queue = s.next_queue + 1 }
 
--- a queue of 1 to 512 records, where fewer than 256 are open and a number is left: profile, queue numbers
+-- a queue of a lawful capacity, where fewer than 256 are open and a number is left: profile, queue numbers
 unfoldable pub opened : Queues → ℕ → ℕ → Change ℕ
 opened s client capacity = do
   held ← unless (not (is_capacity capacity)) EINVAL

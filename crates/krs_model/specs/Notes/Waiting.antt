@@ -5,9 +5,13 @@ use Rattle.krs_types.specs.declared.note.Record.TheVariants.{Loss}
 use Rattle.krs_model.specs.Notes.Bytes.{is_loss}
 use Rattle.krs_model.specs.Notes.Stream.{Move, Posted, Took, room_of}
 
--- a queue is asked for with 1 to 512 records, and holds exactly that number: profile, exact rings
+-- how many records a queue may hold: profile, exact rings
+abbrev pub greatest_capacity : ℕ
+greatest_capacity = 512
+
+-- a queue is asked for with a number of records up to that one, and holds exactly that number: profile, exact rings
 abbrev pub is_capacity : ℕ → Bool
-is_capacity capacity = nat_le 1 capacity && nat_le capacity 512
+is_capacity capacity = nat_le 1 capacity && nat_le capacity greatest_capacity
 
 -- the room that these take: how many of them are no losses
 abbrev pub total_room : List Record → ℕ

@@ -3,7 +3,7 @@ use Rattle.std.proofs.lemmas.Bool.{true≢false}
 use Rattle.std.proofs.lemmas.Bool.Decides.{Decides-eqb}
 use Rattle.std.proofs.lemmas.Slice.Eq.{starts_is}
 use Rattle.krs_model.specs.Notes.Bytes.{bytes_of}
-use Rattle.krs_model.proofs.Spelling.{guess-begins}
+use Rattle.krs_notes.proofs.Guessing.{guess-begins}
 use Rattle.krs_notes.proofs.codec.decode.Goals as goal
 
 pub returns-then-starts_with-clause-begins : goal.returns-then-starts_with-clause-begins

@@ -3,7 +3,7 @@ use Rattle.krs_types.specs.declared.ask.Answer.TheVariants.{Nothing}
 use Rattle.krs_types.specs.declared.ask.Op.TheVariants.{Watch}
 use Rattle.krs_model.specs.State.{State, Key}
 use Rattle.krs_model.specs.Queues.{Queues, queues_of, with_queues}
-use Rattle.krs_model.specs.Serving.{Tells}
+use Rattle.krs_tables.specs.Serving.{Tells}
 use Rattle.krs_model.specs.Asks.Watching.{watched}
 use Rattle.krs_watch.specs.Changes.{watch_ended}
 use Rattle.krs_keys.specs.Keys.{seen}

@@ -5,9 +5,9 @@ use Rattle.krs_model.specs.Sound.{IsSound}
 use Rattle.krs_model.specs.Outcome.{Fails}
 use Rattle.krs_model.specs.Step.{Step, Serves, outcome_of}
 use Rattle.krs_model.proofs.Soundness.{raised_sound}
-use Rattle.krs_model.proofs.Serving.{serves_in_turn, applied_sound, told_acyclic}
-use Rattle.krs_model.proofs.Staying.{told_live}
-use Rattle.krs_store.proofs.Endings.{refusal_is_no_memory}
+use Rattle.krs_tables.proofs.Serving.{serves_in_turn, applied_sound, told_acyclic}
+use Rattle.krs_tables.proofs.Staying.{told_live}
+use Rattle.krs_model.proofs.Refusals.{refusal_is_no_memory}
 use Rattle.krs_store.proofs.store.Store.apply.Goals as goal
 
 pub invariant_of-self : goal.invariant_of-self
@@ -43,7 +43,7 @@ returns-in-Ok-clause-step c =
     c.raise.ensures (serves_in_turn c.in-Ok.ensures.told c.sweep.ensures))
 
 pub returns-in-Err-Refused-clause-memory : goal.returns-in-Err-Refused-clause-memory
-returns-in-Err-Refused-clause-memory c = λ _ never.
-    refusal_is_no_memory c.raise.new.self c.args.client c.args.ask.context c.args.ask.op c.in-Err-Refused.errno never
+returns-in-Err-Refused-clause-memory c = λ _ _.
+    refusal_is_no_memory c.raise.new.self c.args.client c.args.ask.context c.args.ask.op c.in-Err-Refused.errno
     (subst (λ (f : Fault). Fails f (outcome_of c.raise.new.self c.args.client c.args.ask.context c.args.ask.op))
     c.in-Err-Refused.field-0-is c.in-Err-Refused.ensures.told.0)

@@ -9,7 +9,7 @@ use Rattle.krs_model.specs.Queues.{Queues, Watch}
 use Rattle.krs_model.specs.Orderly.{Each}
 use Rattle.krs_model.specs.Sound.{IsSound}
 use Rattle.krs_model.specs.Sweep.{live_watches}
-use Rattle.krs_model.specs.Serving.{Tells}
+use Rattle.krs_tables.specs.Serving.{Tells}
 use Rattle.krs_model.specs.Notes.Posting.{dropped_watches}
 use Rattle.krs_model.specs.Asks.Leaving.{left}
 use Rattle.krs_model.proofs.Fitting.{each_filter, each_on}

@@ -1,6 +1,5 @@
--- The parts of a step, as a store may take them one after the other; the form is this project's own. No part of a
--- step's meaning: the law a_step_may_be_taken_in_turn says that where `Tells` and then `SweepsOut` lead to a state, so
--- does `Serves`.
+-- The parts of a step, as the store takes them one after the other; the form is this project's own. No part of a step's
+-- meaning: by the lemma serves_in_turn, where `Tells` and then `SweepsOut` lead to a state, so does `Serves`.
 use Rattle.std.specs.Prelude.{◌≡◌, ℕ, map, Result, Ok, Err}
 use Rattle.krs_types.specs.declared.ask.Answer.{Answer}
 use Rattle.krs_types.specs.declared.ask.Op.{Op}

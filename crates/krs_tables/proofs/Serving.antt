@@ -13,7 +13,7 @@ use Rattle.krs_model.specs.Reach.{IsAcyclic, links_in}
 use Rattle.krs_model.specs.Sound.{IsSound}
 use Rattle.krs_model.specs.Sweep.{IsSweep, live_watches}
 use Rattle.krs_model.specs.Step.{Serves, outcome_of, posts_by, watches_left}
-use Rattle.krs_model.specs.Serving.{Tells, SweepsOut}
+use Rattle.krs_tables.specs.Serving.{Tells, SweepsOut}
 use Rattle.krs_model.specs.Notes.Posting.{Note, Post, removal_for, posts_of, posts, dropped_watches, posted_in}
 use Rattle.krs_model.specs.Notes.Telling.{notes_of, ended_by, named}
 use Rattle.krs_model.proofs.Posting.{post_all-append}
@@ -142,46 +142,6 @@ tells_after {s} {mid} {told} {client} {context} {op} {answer} meant none_ended p
     rw none_ended (notes_after s client context op mid answer (effect_of s client context op mid answer meant)
     ∙ sym (append-nil (flat_map (posts_of (queues_of s)) notes))) in
     record { mid = mid; meant = meant; posted = posted ∙ ap (λ (ps : List Post). posted_in ps mid) same }
-
-unwatched_note : (q : Queues) (notes : List Note) → q.watches ≡ [] → flat_map (posts_of q) notes ≡ []
-unwatched_note q [] none = refl
-unwatched_note q (note ∷ notes) none = rw none (unwatched_note q notes none)
-
-none_found : (ws : List Watch) (key number n : ℕ) → ws ≡ [] → watch_at ws key number ≡ Some n → ⊥
-none_found ws key number n none is =
-    none-some n (ap (λ (vs : List Watch). watch_at vs key number) (sym none) ∙ is)
-
-unwatched_end :
-    (s : State) (client context : ℕ) (op : Op) (mid : State) (answer : Answer)
-    → Effect s client context op mid answer → s.watches ≡ [] → ended_by s client context op ≡ []
-unwatched_end s client context _ _ _ (OfKeys op new answer other comes none) empty = none
-unwatched_end s client context _ _ _ (Opens capacity fits) empty = refl
-unwatched_end s client context _ _ _ (Filters number entries queue there) empty = refl
-unwatched_end s client context _ _ _ (Reads number room queue there) empty = refl
-unwatched_end s client context _ _ _ (Closes number queue there) empty = refl
-unwatched_end s client context _ _ _ (Watches id watch_id number key n queue here there asked small) empty =
-    rw asked (ended_set s.watches (named s client context id) number n)
-unwatched_end s client context _ _ _ (Unwatches id watch_id number key n queue here names there asked is) empty =
-    absurd (none_found s.watches key number n empty is)
-unwatched_end s client context _ _ _ Leaves empty = refl
-
--- a store with no watch, before and after an ask, posts nothing: its step is the sweep
-pub serves_unwatched :
-    {s mid new : State} {client context : ℕ} {op : Op} {answer : Answer} → s.watches ≡ [] → mid.watches ≡ []
-    → outcome_of s client context op ≡ Ok (mid, answer) → IsSweep mid new → Serves s client context op answer new
-serves_unwatched {s} {mid} {new} {client} {context} {op} {answer} before after meant sweep =
-    let notes = notes_of s client context op answer in
-    let no_notes : flat_map (posts_of (queues_of s)) notes ≡ [] = unwatched_note (queues_of s) notes before in
-    let ended = unwatched_end s client context op mid answer (effect_of s client context op mid answer meant) before in
-    let left : watches_left (outcome_of s client context op) ≡ [] = ap watches_left meant ∙ after in
-    let nothing : posts_by s client context op answer new.keys ≡ [] = rw (no_notes, ended, left) refl in
-    record {
-      mid = mid;
-      swept = new;
-      meant = meant;
-      sweep = sweep;
-      posted = sym (posted_nothing (posts_by s client context op answer new.keys) new nothing);
-    }
 
 -- for a store whose clock was raised first
 pub applied_sound :
