@@ -1,24 +1,27 @@
 -- A script between two lines, and how it ends from there.
-use Rattle.std.proofs.Common.{ℕ, ◌≡◌, ◌≢◌, ◌⊎◌, inl, inr, Bool, List, [], ◌∷◌, ◌++◌, Option, None, Some, IfSome}
-use Rattle.std.proofs.Common.{Result, Ok, Err, refl, sym, ap, ◌∙◌, subst, append_assoc, append-nil}
-use Rattle.std.specs.Io.KnownBytes.{append_known, Appends, IsAtEnd}
-use Rattle.std.proofs.KnownBytes.{Appends-nil, Appends-trans}
+use Rattle.std.proofs.Common.{ℕ, ◌≡◌, ◌⊎◌, ◌+◌, ◌<◌, ◌≤◌, inl, inr, Bool, List, [], ◌∷◌, ◌++◌, Option, None, Some}
+use Rattle.std.proofs.Common.{IfSome, Result, Ok, Err, refl, sym, ap, ◌∙◌, subst, append_assoc, append-nil, length, length-append, arith}
+use Rattle.std.specs.Io.KnownBytes.{Appends, IsAtEnd}
+use Rattle.std.proofs.KnownBytes.{Appends-trans}
+use Rattle.krs_words.specs.declared.stop.Stop.{Stop}
+use Rattle.krs_words.specs.declared.stop.Stop.TheVariants.{Usage, Memory, Reading, TooLong, Printing}
+use Rattle.krs_words.specs.Lines.{lines_of, ReadsLines}
+use Rattle.krs_words.specs.Writing.{Prints, WritesFront}
+use Rattle.krs_words.proofs.WritingLemmas.{Prints-nil, Prints-trans, WritesFront-behind}
 use Rattle.krs_ctl.specs.declared.script.Script.{Script}
-use Rattle.krs_ctl.specs.declared.stop.Stop.{Stop}
-use Rattle.krs_ctl.specs.declared.stop.Stop.TheVariants.{Usage, Memory, Reading, Printing}
-use Rattle.krs_ctl.specs.Lines.{lines_of, ReadsLines}
-use Rattle.krs_ctl.specs.Writing.{Prints, Finishes}
-use Rattle.krs_ctl.specs.Script.{status_of, last_line}
-use Rattle.krs_ctl.specs.Running.{TakesLine, TakesLines, ObeysLine, BeginsWith, Runs}
+use Rattle.krs_ctl.specs.Script.{most_lines, status_of, last_line, Says, Finishes}
+use Rattle.krs_ctl.specs.Running.{TakesLine, TakesLines, ObeysLine, BeginsWith, Runs, IsPrinted, IsShown}
 use Rattle.krs_ctl.proofs.RunningLemmas.{TakesLines-more}
 
--- these lines were read and obeyed so far, and this was printed
-pub record Going (input left : Option (List ℕ)) (old now : Script) (Printed : List ℕ → Type 0) : Type 0 where
+-- so many lines were read and obeyed so far, and this was printed
+pub record Going (count : ℕ) (input left : Option (List ℕ)) (old now : Script) (c : Option (List ℕ)) (p : List ℕ)
+    (w : Option (List ℕ)) (q : List ℕ) : Type 0 where
   pub lines : List (List ℕ)
   pub text : List ℕ
+  pub counted : length lines ≡ count
   pub taken : TakesLines old lines text now
   pub read : ReadsLines input left lines
-  pub prints : Printed text
+  pub prints : Prints c p w q text
 
 ReadsLines-nil : (a : Option (List ℕ)) → ReadsLines a a []
 ReadsLines-nil None = tt
@@ -43,60 +46,69 @@ all_read None left lines r end = tt
 all_read (Some bytes) None lines r end = absurd r
 all_read (Some bytes) (Some left) lines r end = rw (r, end) (append-nil lines)
 
-pub going_start : (input written : Option (List ℕ)) (waiting : List ℕ) (s : Script)
-    → Going input input s s (Prints written waiting written waiting)
-going_start input written waiting s = record {
+counted_more : (lines : List (List ℕ)) (line : List ℕ) (count : ℕ) → length lines ≡ count
+    → length (lines ++ line ∷ []) ≡ count + 1
+counted_more lines line count is = omega (arith, is, length-append lines (line ∷ []))
+
+pub going_start : (input c : Option (List ℕ)) (p : List ℕ) (s : Script) → Going 0 input input s s c p c p
+going_start input c p s = record {
   lines = [];
   text = [];
+  counted = refl;
   taken = (refl, refl);
   read = ReadsLines-nil input;
-  prints = Appends-nil (append_known written waiting);
+  prints = Prints-nil c p;
 }
 
 -- nothing more was printed
 prints_same : (c w v : Option (List ℕ)) (p q r text : List ℕ) → Prints c p w q text → Prints w q v r []
     → Prints c p v r text
-prints_same c w v p q r text first rest =
-    rw (append-nil text) at (Appends-trans (append_known c p) (append_known w q)
-    (append_known v r) text [] first rest)
+prints_same c w v p q r text first rest = rw (append-nil text) at (Prints-trans c w v p q r text [] first rest)
+
+-- nothing more was to be printed, and what waited was not written whole
+front_same : (c w v : Option (List ℕ)) (p q text : List ℕ) → Prints c p w q text → WritesFront w v q
+    → WritesFront c v (p ++ text)
+front_same c w v p q text first front =
+    rw (append-nil text) at (WritesFront-behind c w v p q text [] first (rw (sym (append-nil q)) at front))
 
 module _ (input : Option (List ℕ)) (old : Script) (c : Option (List ℕ)) (p : List ℕ) where
   -- what waited may have been written
-  pub going_same : (left w v : Option (List ℕ)) (now : Script) (q r : List ℕ)
-      → Going input left old now (Prints c p w q) → Prints w q v r []
-      → Going input left old now (Prints c p v r)
-  going_same left w v now q r going prints = record {
+  pub going_same : (count : ℕ) (left w v : Option (List ℕ)) (now : Script) (q r : List ℕ)
+      → Going count input left old now c p w q → Prints w q v r []
+      → Going count input left old now c p v r
+  going_same count left w v now q r going prints = record {
     lines = going.lines;
     text = going.text;
+    counted = going.counted;
     taken = going.taken;
     read = going.read;
     prints = prints_same c w v p q r going.text going.prints prints;
   }
 
   -- one more line
-  pub going_more : (left after w v : Option (List ℕ)) (now new : Script) (q r line first : List ℕ)
-      → Going input left old now (Prints c p w q)
+  pub going_more : (count : ℕ) (left after w v : Option (List ℕ)) (now new : Script) (q r line first : List ℕ)
+      → Going count input left old now c p w q
       → ReadsLines left after (line ∷ []) → TakesLine now line first new → Prints w q v r first
-      → Going input after old new (Prints c p v r)
-  going_more left after w v now new q r line first going reads takes prints = record {
+      → Going (count + 1) input after old new c p v r
+  going_more count left after w v now new q r line first going reads takes prints = record {
     lines = going.lines ++ line ∷ [];
     text = going.text ++ first;
+    counted = counted_more going.lines line count going.counted;
     taken = TakesLines-more old now new going.lines going.text line first going.taken takes;
     read = ReadsLines-trans input left after going.lines (line ∷ []) going.read reads;
-    prints = Appends-trans (append_known c p) (append_known w q)
-        (append_known v r) going.text first going.prints prints;
+    prints = Prints-trans c w v p q r going.text first going.prints prints;
   }
 
   -- the line that was read last ends the script
-  pub runs_at_line : (left after w v : Option (List ℕ)) (now new : Script) (q r line : List ℕ) (stop : Stop)
-      → Going input left old now (Prints c p w q)
-      → ReadsLines left after (line ∷ []) → ObeysLine now line new (Prints w q v r) (Err stop)
-      → Runs input old new (Prints c p v r) (Err stop)
-  runs_at_line left after w v now new q r line Usage going reads (same, kept, none, prints) = record {
+  pub runs_at_line : (count : ℕ) (left after w v : Option (List ℕ)) (now new : Script) (q r line : List ℕ)
+      (stop : Stop) → count < most_lines → Going count input left old now c p w q
+      → ReadsLines left after (line ∷ []) → ObeysLine now line new w q v r (Err stop)
+      → Runs input old new c p v r (Err stop)
+  runs_at_line count left after w v now new q r line Usage low going reads (same, kept, none, prints) = record {
     lines = going.lines;
     text = going.text;
-    printed = going.text;
     taken = rw same going.taken;
+    bound = omega (arith, low, going.counted);
     behind = (
       line,
       kept,
@@ -104,118 +116,149 @@ module _ (input : Option (List ℕ)) (old : Script) (c : Option (List ℕ)) (p :
       begins input after (going.lines ++ line ∷ [])
           (ReadsLines-trans input left after going.lines (line ∷ []) going.read reads),
     );
-    shows = refl;
-    prints = λ _. prints_same c w v p q r going.text going.prints prints;
+    prints = prints_same c w v p q r going.text going.prints prints;
   }
-  runs_at_line left after w v now new q r line Memory going reads (inl same, prints) = record {
+  runs_at_line count left after w v now new q r line Memory low going reads (inl same, prints) = record {
     lines = going.lines;
     text = going.text;
-    printed = going.text;
     taken = rw same going.taken;
+    bound = omega (arith, low, going.counted);
     behind = begins input left going.lines going.read;
-    shows = ([], sym (append-nil going.text));
-    prints = λ _. prints_same c w v p q r going.text going.prints prints;
+    prints = (going.text, [], sym (append-nil going.text), prints_same c w v p q r going.text going.prints prints);
   }
-  runs_at_line left after w v now new q r line Memory going reads (inr (text, takes), prints) = record {
+  runs_at_line count left after w v now new q r line Memory low going reads (inr (text, takes), prints) = record {
     lines = going.lines ++ line ∷ [];
     text = going.text ++ text;
-    printed = going.text;
     taken = TakesLines-more old now new going.lines going.text line text going.taken takes;
+    bound = omega (arith, low, counted_more going.lines line count going.counted);
     behind = begins input after (going.lines ++ line ∷ []) (ReadsLines-trans input left after going.lines
         (line ∷ []) going.read reads);
-    shows = (text, refl);
-    prints = λ _. prints_same c w v p q r going.text going.prints prints;
+    prints = (going.text, text, refl, prints_same c w v p q r going.text going.prints prints);
   }
-  runs_at_line left after w v now new q r line Reading going reads obeys = absurd obeys
-  runs_at_line left after w v now new q r line Printing going reads (text, takes) = record {
+  runs_at_line count left after w v now new q r line Reading low going reads obeys = absurd obeys
+  runs_at_line count left after w v now new q r line TooLong low going reads obeys = absurd obeys
+  runs_at_line count left after w v now new q r line Printing low going reads (text, takes, front) = record {
     lines = going.lines ++ line ∷ [];
     text = going.text ++ text;
-    printed = [];
     taken = TakesLines-more old now new going.lines going.text line text going.taken takes;
+    bound = omega (arith, low, counted_more going.lines line count going.counted);
     behind = begins input after (going.lines ++ line ∷ []) (ReadsLines-trans input left after going.lines
         (line ∷ []) going.read reads);
-    shows = tt;
-    prints = λ other. absurd (other refl);
+    prints = WritesFront-behind c w v p q going.text text going.prints front;
   }
 
-module _ (input left : Option (List ℕ)) (old now : Script) where
+module _ (count : ℕ) (input left : Option (List ℕ)) (old now : Script) (c : Option (List ℕ)) (p : List ℕ)
+    (w : Option (List ℕ)) (q : List ℕ) where
   -- all lines are read
-  pub runs_to_end : (Printed : List ℕ → Type 0) → Going input left old now Printed → IsAtEnd left
-      → Runs input old now Printed (Ok tt)
-  runs_to_end Printed going end = record {
+  pub runs_to_end : count < most_lines → Going count input left old now c p w q → IsAtEnd left
+      → Runs input old now c p w q (Ok tt)
+  runs_to_end low going end = record {
     lines = going.lines;
     text = going.text;
-    printed = going.text;
     taken = going.taken;
+    bound = omega (arith, low, going.counted);
     behind = all_read input left going.lines going.read end;
-    shows = refl;
-    prints = λ _. going.prints;
+    prints = going.prints;
+  }
+
+  -- as many lines are read as a script has at most
+  pub runs_too_long : count ≡ most_lines → Going count input left old now c p w q
+      → Runs input old now c p w q (Err TooLong)
+  runs_too_long full going = record {
+    lines = going.lines;
+    text = going.text;
+    taken = going.taken;
+    bound = omega (arith, full, going.counted);
+    behind = (going.counted ∙ full, begins input left going.lines going.read);
+    prints = going.prints;
   }
 
   -- no line could be read
-  pub runs_unread : (Printed : List ℕ → Type 0) (stop : Stop) → (stop ≡ Memory) ⊎ (stop ≡ Reading)
-      → Going input left old now Printed → Runs input old now Printed (Err stop)
-  runs_unread Printed Memory cause going = record {
+  pub runs_unread : (stop : Stop) → (stop ≡ Memory) ⊎ (stop ≡ Reading) → count < most_lines
+      → Going count input left old now c p w q → Runs input old now c p w q (Err stop)
+  runs_unread Memory cause low going = record {
     lines = going.lines;
     text = going.text;
-    printed = going.text;
     taken = going.taken;
+    bound = omega (arith, low, going.counted);
     behind = begins input left going.lines going.read;
-    shows = ([], sym (append-nil going.text));
-    prints = λ _. going.prints;
+    prints = (going.text, [], sym (append-nil going.text), going.prints);
   }
-  runs_unread Printed Reading cause going = record {
+  runs_unread Reading cause low going = record {
     lines = going.lines;
     text = going.text;
-    printed = going.text;
     taken = going.taken;
+    bound = omega (arith, low, going.counted);
     behind = begins input left going.lines going.read;
-    shows = refl;
-    prints = λ _. going.prints;
+    prints = going.prints;
   }
-  runs_unread Printed Usage cause going = absurd (elim cause [ inl e ↦ cc | inr e ↦ cc ])
-  runs_unread Printed Printing cause going = absurd (elim cause [ inl e ↦ cc | inr e ↦ cc ])
+  runs_unread Usage cause low going = absurd (elim cause [ inl e ↦ cc | inr e ↦ cc ])
+  runs_unread TooLong cause low going = absurd (elim cause [ inl e ↦ cc | inr e ↦ cc ])
+  runs_unread Printing cause low going = absurd (elim cause [ inl e ↦ cc | inr e ↦ cc ])
 
   -- what waited could not be written
-  pub runs_unwritten : (Before Printed : List ℕ → Type 0) → Going input left old now Before
-      → Runs input old now Printed (Err Printing)
-  runs_unwritten Before Printed going = record {
+  pub runs_unwritten : (v : Option (List ℕ)) (r : List ℕ) → count < most_lines
+      → Going count input left old now c p w q → WritesFront w v q → Runs input old now c p v r (Err Printing)
+  runs_unwritten v r low going front = record {
     lines = going.lines;
     text = going.text;
-    printed = [];
     taken = going.taken;
+    bound = omega (arith, low, going.counted);
     behind = begins input left going.lines going.read;
-    shows = tt;
-    prints = λ other. absurd (other refl);
+    prints = front_same c w v p q going.text going.prints front;
   }
 
--- where nothing waited before
-unwaited : (c w : Option (List ℕ)) (text : List ℕ) → Appends (append_known c []) w text → Appends c w text
-unwaited None w text a = tt
-unwaited (Some x) None text a = a
-unwaited (Some x) (Some y) text a = a ∙ ap (λ l. l ++ text) (append-nil x)
+-- a script's text and its last line were said
+pub record Said (c v : Option (List ℕ)) (text : List ℕ) (stopped : Result (Unit {0}) Stop) (refused : Bool)
+    (status : ℕ) : Type 0 where
+  pub printed : List ℕ
+  pub shows : IsShown stopped text printed
+  pub ends : Says c v (printed ++ last_line stopped) (status_of stopped refused) status
 
--- what was printed, and then the last line
-printed_last :
-    (c w v : Option (List ℕ)) (p q text last : List ℕ) → p ≡ [] → Prints c p w q text
-    → Appends (append_known w q) v last
-    → Appends c v (text ++ last)
-printed_last c w v p q text last none prints adds =
-    unwaited c v (text ++ last) (Appends-trans (append_known c []) (append_known w q) v text last
-    (subst (λ z. Appends (append_known c z) (append_known w q) text) none prints) adds)
+-- what was printed, what waited behind it, and then a last line
+says_last : (c w v : Option (List ℕ)) (q text last : List ℕ) (wanted status : ℕ) → Prints c [] w q text
+    → Says w v (q ++ last) wanted status → Says c v (text ++ last) wanted status
+says_last c w v q text last wanted status (x, adds, is) (inl (same, more)) =
+    inl (same, subst (Appends c v) (sym (append_assoc x q last) ∙ ap (λ l. l ++ last) (sym is))
+    (Appends-trans c w v x (q ++ last) adds more))
+says_last c w v q text last wanted status prints (inr (three, front)) =
+    inr (three, WritesFront-behind c w v [] q text last prints front)
 
--- a script that ends has printed its lines and then its last line, with the status of that; or writing failed
-pub script_ends :
-    (c w v : Option (List ℕ)) (p q text : List ℕ) (stopped : Result (Unit {0}) Stop) (refused : Bool) (status : ℕ)
-    → p ≡ [] → (stopped ≢ Err Printing → Prints c p w q text) → Finishes w q v stopped refused status
-    → ((status ≡ status_of stopped refused) × Appends c v (text ++ last_line stopped)) ⊎ (status ≡ 3)
-script_ends c w v p q text stopped refused status none prints (inr three) = inr three
-script_ends c w v p q text (Ok u) refused status none prints (inl (is, adds)) =
-    inl (is, printed_last c w v p q text _ none (prints (λ e. cc)) adds)
-script_ends c w v p q text (Err Usage) refused status none prints (inl (is, adds)) =
-    inl (is, printed_last c w v p q text _ none (prints (λ e. cc)) adds)
-script_ends c w v p q text (Err Memory) refused status none prints (inl (is, adds)) =
-    inl (is, printed_last c w v p q text _ none (prints (λ e. cc)) adds)
-script_ends c w v p q text (Err Reading) refused status none prints (inl (is, adds)) =
-    inl (is, printed_last c w v p q text _ none (prints (λ e. cc)) adds)
-script_ends c w v p q text (Err Printing) refused status none prints (inl (is, adds)) = inr is
+three_of : (q : List ℕ) (w v : Option (List ℕ)) (status : ℕ) → Says w v q 3 status → status ≡ 3
+three_of q w v status (inl (is, adds)) = is
+three_of q w v status (inr (is, front)) = is
+
+-- a script that ends has printed its lines and then its last line; of a writer that failed nothing more was asked
+pub script_ends : (c w v : Option (List ℕ)) (p q text : List ℕ) (stopped : Result (Unit {0}) Stop) (refused : Bool)
+    (status : ℕ) → p ≡ [] → IsPrinted c p w q text stopped → Finishes w q v stopped refused status
+    → (stopped ≡ Err Printing → v ≡ w) → Said c v text stopped refused status
+script_ends c w v p q text (Ok u) refused status none prints says failed = record {
+  printed = text;
+  shows = refl;
+  ends = says_last c w v q text _ _ status (rw none at prints) says;
+}
+script_ends c w v p q text (Err Usage) refused status none prints says failed = record {
+  printed = text;
+  shows = refl;
+  ends = says_last c w v q text _ _ status (rw none at prints) says;
+}
+script_ends c w v p q text (Err Memory) refused status none (printed, rest, is, prints) says failed = record {
+  printed = printed;
+  shows = (rest, is);
+  ends = says_last c w v q printed _ _ status (rw none at prints) says;
+}
+script_ends c w v p q text (Err Reading) refused status none prints says failed = record {
+  printed = text;
+  shows = refl;
+  ends = says_last c w v q text _ _ status (rw none at prints) says;
+}
+script_ends c w v p q text (Err TooLong) refused status none prints says failed = record {
+  printed = text;
+  shows = refl;
+  ends = says_last c w v q text _ _ status (rw none at prints) says;
+}
+script_ends c w v p q text (Err Printing) refused status none (rest, (y, adds, is)) says failed = record {
+  printed = y;
+  shows = (rest, rw none at is);
+  ends = inl (three_of _ w v status says, rw (failed refl, append-nil y) adds);
+}

@@ -1,10 +1,3 @@
-pub mod NumberLemmas
-pub mod HexadecimalLemmas
-pub mod DataLemmas
-pub mod WordsLemmas
-pub mod EachLemmas
-pub mod LinesLemmas
 pub mod RunningLemmas
-pub mod SerialsLemmas
 pub mod ListingLemmas
 pub mod Going

@@ -1,13 +1,14 @@
 -- The bytes of a keyring's links, and how keys are listed.
 use Rattle.std.proofs.Common.{ℕ, ◌≡◌, ◌<◌, ◌^◌, ◌%◌, ◌==◌, ◌∙◌, List, [], ◌∷◌, length, Result, Ok, refl, ap, sym}
-use Rattle.std.proofs.Common.{true}
+use Rattle.std.proofs.Common.{true, ◌*◌, arith, length-append}
+use Rattle.std.specs.Int.{w32, to_le_bytes}
 use Rattle.std.specs.List.{AllByRecursion}
 use Rattle.std.proofs.lemmas.Nat.{from_le_bytes-to_le_bytes_4}
 use Rattle.std.proofs.Math.Nat.{mul-mod_right}
 use Rattle.krs_types.specs.declared.errno.Errno.{Errno}
 use Rattle.krs_model.specs.Asks.Reading.{serial_bytes}
 use Rattle.krs_store.proofs.Listing.{length-serial_bytes}
-use Rattle.krs_ctl.specs.Printing.{serials_in, shown_serials}
+use Rattle.krs_words.specs.Printing.{serials_in, shown_serials}
 use Rattle.krs_ctl.specs.Listing.{LinksAreListed}
 
 abbrev ok : List ℕ → Result (List ℕ) Errno
@@ -20,6 +21,13 @@ serials_again [] low = refl
 serials_again (n ∷ serials) (first, rest) =
     ap (λ k. k ∷ serials_in (serial_bytes serials)) (from_le_bytes-to_le_bytes_4 n first)
     ∙ ap (λ ns. n ∷ ns) (serials_again serials rest)
+
+-- four bytes each
+length-serial_bytes : (serials : List ℕ) → length (serial_bytes serials) ≡ 4 * length serials
+length-serial_bytes [] = refl
+length-serial_bytes (n ∷ serials) =
+    let rest = length-serial_bytes serials in rw (length-append (to_le_bytes w32 n) (serial_bytes serials))
+    (omega (arith, rest))
 
 whole_serials : (serials : List ℕ) → (length (serial_bytes serials) % 4 == 0) ≡ true
 whole_serials serials = rw (length-serial_bytes serials, mul-mod_right 4 (length serials)) refl

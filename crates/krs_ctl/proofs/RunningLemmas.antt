@@ -1,15 +1,16 @@
 -- Lines of a script, one after the other.
-use Rattle.std.proofs.Common.{ℕ, ◌≡◌, ◌⊎◌, inl, inr, List, [], ◌∷◌, ◌++◌, false, Some, Result, Ok, Err, OnOk, IfErr}
+use Rattle.std.proofs.Common.{ℕ, ◌≡◌, ◌⊎◌, inl, inr, List, [], ◌∷◌, ◌++◌, true, false, Option, Some, Result, Ok, Err, OnOk, IfErr}
 use Rattle.std.proofs.Common.{refl, sym, ap, ◌∙◌, append_assoc, append-nil, ◌==◌, length, map, Bor}
-use Rattle.krs_ctl.specs.declared.output.Output.{Output}
-use Rattle.krs_ctl.specs.declared.command.Command.{Command}
+use Rattle.krs_words.specs.declared.output.Output.{Output}
+use Rattle.krs_commands.specs.declared.command.Command.{Command}
 use Rattle.krs_ctl.specs.declared.script.Script.{Script}
-use Rattle.krs_ctl.specs.declared.stop.Stop.{Stop}
-use Rattle.krs_ctl.specs.declared.stop.Stop.TheVariants.{Usage, Memory, Reading, Printing}
+use Rattle.krs_words.specs.declared.stop.Stop.{Stop}
+use Rattle.krs_words.specs.declared.stop.Stop.TheVariants.{Usage, Memory, Reading, TooLong, Printing}
 use Rattle.std.proofs.lemmas.List.{length-map}
-use Rattle.krs_ctl.specs.Words.{words_of, is_comment}
-use Rattle.krs_ctl.specs.Command.{command_of}
-use Rattle.krs_ctl.specs.Printing.{shown}
+use Rattle.krs_words.specs.Words.{words_of, is_comment}
+use Rattle.krs_commands.specs.Command.{command_of}
+use Rattle.krs_words.specs.Printing.{shown}
+use Rattle.krs_words.specs.Writing.{Prints, WritesFront}
 use Rattle.krs_ctl.specs.Running.{Acts, is_skipped, TakesLine, TakesLines, ObeysLine}
 
 -- a line that is a command, and was obeyed
@@ -21,20 +22,25 @@ TakesLine-command old new line command output kept is acts = rw kept (command, o
 
 -- what became of such a line, by how its line was printed
 pub ObeysLine-command : (old new : Script) (line : List ℕ) (command : Command) (output : Output)
-    (Printed : List ℕ → Type 0) (r : Result (Unit {0}) Stop)
+    (before : Option (List ℕ)) (waiting : List ℕ) (after : Option (List ℕ)) (waits : List ℕ)
+    (r : Result (Unit {0}) Stop)
     → is_skipped line ≡ false → command_of (words_of line) ≡ Some command → Acts old command output new
-    → OnOk r (Printed (shown output ++ 10 ∷ [])) → (r ≡ Err Memory → Printed [])
+    → OnOk r (Prints before waiting after waits (shown output ++ 10 ∷ []))
+    → (r ≡ Err Memory → Prints before waiting after waits [])
+    → (r ≡ Err Printing → WritesFront before after (waiting ++ (shown output ++ 10 ∷ [])))
     → IfErr r (λ stop. (stop ≡ Memory) ⊎ (stop ≡ Printing))
-    → ObeysLine old line new Printed r
-ObeysLine-command old new line command output Printed (Ok _) kept is acts ok memory causes =
+    → ObeysLine old line new before waiting after waits r
+ObeysLine-command old new line command output b p a q (Ok _) kept is acts ok memory printing causes =
     (shown output ++ 10 ∷ [], TakesLine-command old new line command output kept is acts, ok)
-ObeysLine-command old new line command output Printed (Err Memory) kept is acts ok memory causes =
+ObeysLine-command old new line command output b p a q (Err Memory) kept is acts ok memory printing causes =
     (inr (shown output ++ 10 ∷ [], TakesLine-command old new line command output kept is acts), memory refl)
-ObeysLine-command old new line command output Printed (Err Printing) kept is acts ok memory causes =
-    (shown output ++ 10 ∷ [], TakesLine-command old new line command output kept is acts)
-ObeysLine-command old new line command output Printed (Err Usage) kept is acts ok memory causes =
+ObeysLine-command old new line command output b p a q (Err Printing) kept is acts ok memory printing causes =
+    (shown output ++ 10 ∷ [], TakesLine-command old new line command output kept is acts, printing refl)
+ObeysLine-command old new line command output b p a q (Err Usage) kept is acts ok memory printing causes =
     absurd (elim causes [ inl e ↦ cc | inr e ↦ cc ])
-ObeysLine-command old new line command output Printed (Err Reading) kept is acts ok memory causes =
+ObeysLine-command old new line command output b p a q (Err Reading) kept is acts ok memory printing causes =
+    absurd (elim causes [ inl e ↦ cc | inr e ↦ cc ])
+ObeysLine-command old new line command output b p a q (Err TooLong) kept is acts ok memory printing causes =
     absurd (elim causes [ inl e ↦ cc | inr e ↦ cc ])
 
 -- a line that is no comment and has words
@@ -44,6 +50,21 @@ pub is_skipped-kept : (line : List ℕ) (words : List (Bor (List ℕ))) (n : ℕ
 is_skipped-kept line words n kept are count some =
     let counted : length (words_of line) ≡ n = sym (ap length are) ∙ length-map words _ ∙ sym count in
     rw (← kept, counted, ← some) refl
+
+-- a line that is no comment and has no words
+is_skipped-empty : (line : List ℕ) (words : List (Bor (List ℕ))) (n : ℕ) → false ≡ is_comment line
+    → map (λ w. w.now) words ≡ words_of line
+    → n ≡ length words → true ≡ (n == 0) → is_skipped line ≡ true
+is_skipped-empty line words n kept are count none =
+    let counted : length (words_of line) ≡ n = sym (ap length are) ∙ length-map words _ ∙ sym count in
+    rw (← kept, counted, ← none) refl
+
+-- it is skipped
+pub TakesLine-empty : (s : Script) (line : List ℕ) (words : List (Bor (List ℕ))) (n : ℕ) → false ≡ is_comment line
+    → map (λ w. w.now) words ≡ words_of line
+    → n ≡ length words → true ≡ (n == 0) → TakesLine s line [] s
+TakesLine-empty s line words n kept are count none =
+    rw (is_skipped-empty line words n kept are count none) (refl, refl)
 
 -- one more line
 pub TakesLines-more : (a b c : Script) (lines : List (List ℕ)) (text : List ℕ) (line first : List ℕ)

@@ -1,12 +1,5 @@
-pub mod Words
-pub mod Lines
-pub mod Parsed
-pub mod Number
-pub mod Entry
-pub mod Command
-pub mod Printing
 pub mod Listing
 pub mod Script
-pub mod Writing
 pub mod Running
+pub mod Choice
 pub mod Program

@@ -9,9 +9,9 @@ use Rattle.krs_types.specs.declared.ask.Answer.TheVariants.{Nothing, Number, Byt
 use Rattle.krs_types.specs.declared.kind.Kind.TheVariants.{Keyring}
 use Rattle.krs_model.specs.State.{Key, Links}
 use Rattle.krs_model.specs.Asks.Reading.{readable, description}
-use Rattle.krs_ctl.specs.declared.output.Output.{Output}
-use Rattle.krs_ctl.specs.declared.output.Output.TheVariants.{Reply, Serials, Records}
-use Rattle.krs_ctl.specs.Printing.{shown, shown_bytes, shown_serials}
+use Rattle.krs_words.specs.declared.output.Output.{Output}
+use Rattle.krs_words.specs.declared.output.Output.TheVariants.{Reply, Serials, Records}
+use Rattle.krs_words.specs.Printing.{shown, shown_bytes, shown_serials}
 
 -- DESCRIBE was accepted, and the key's type, which stands before the first `;`, is that of a keyring
 abbrev pub is_keyring : Result Answer Errno → Bool

@@ -1,20 +1,26 @@
 -- What the program does: docs/FORMAT.md, "The client, keyretain".
-use Rattle.std.specs.Prelude.{ℕ, ◌≡◌, ◌⊎◌, List, Option, codes}
-use Rattle.std.specs.Io.KnownBytes.{Appends}
+use Rattle.std.specs.Prelude.{ℕ, ◌≡◌, List, Option, codes, string_bytes}
 use Rattle.krs_model.specs.State.{starting_at}
+use Rattle.krs_words.specs.Writing.{WritesFront}
+use Rattle.krs_ctl.specs.declared.choice.Choice.{Choice}
+use Rattle.krs_ctl.specs.declared.choice.Choice.TheVariants.{Script, Usage, Memory, Shown, Refused}
 use Rattle.krs_ctl.specs.declared.script.ScriptEnd.{ScriptEnd}
 use Rattle.krs_ctl.specs.Running.{EndsScript}
+use Rattle.krs_ctl.specs.Script.{Says}
 
--- this text was written, and this is the status with it; or writing failed
-abbrev pub Says : Option (List ℕ) → Option (List ℕ) → List ℕ → ℕ → ℕ → Type 0
-Says old new text wanted status = ((status ≡ wanted) × Appends old new text) ⊎ (status ≡ 3)
-
--- A script ran on a new store, with its status. Or, where the words were not `script` alone: usage or want of memory
--- was said; or the text of `--help` or `--version` was written, with status 0; or nothing, with status 2, as what the
--- reader of options refuses is told on standard error. Which of these comes is for tests.
-abbrev pub Answers : Option (List ℕ) → Option (List ℕ) → Option (List ℕ) → ℕ → Type 0
-Answers input old new status =
+-- What is printed, and the status. A script runs on a new store, with its status. What is refused is told on standard
+-- error, as far as that takes it, and nothing is printed. Every other choice says one text on standard output, and
+-- nothing on standard error.
+abbrev pub Answers : Choice → Option (List ℕ) → Option (List ℕ) → Option (List ℕ) → Option (List ℕ) → Option (List ℕ)
+    → ℕ → Type 0
+Answers Script input old new old_errors new_errors status =
     ((end : ScriptEnd) × EndsScript input old new (starting_at 3) end × (status ≡ end.status))
-    ⊎ (Says old new (codes "usage\n") 2 status
-    ⊎ (Says old new (codes "error 12 ENOMEM\n") 1 status
-    ⊎ ((status ≡ 0) ⊎ ((status ≡ 2) × (new ≡ old)))))
+    × (new_errors ≡ old_errors)
+Answers Usage input old new old_errors new_errors status =
+    Says old new (codes "usage\n") 2 status × (new_errors ≡ old_errors)
+Answers Memory input old new old_errors new_errors status =
+    Says old new (codes "error 12 ENOMEM\n") 1 status × (new_errors ≡ old_errors)
+Answers (Shown text) input old new old_errors new_errors status =
+    Says old new (string_bytes text) 0 status × (new_errors ≡ old_errors)
+Answers (Refused text) input old new old_errors new_errors status =
+    WritesFront old_errors new_errors (string_bytes text) × (new ≡ old) × (status ≡ 2)

@@ -1,21 +1,13 @@
-//! The client of a key store: the commands of a script, what they ask, and what is printed for the replies.
-//! A contract sees a line and a word as lists of bytes.
+//! The client of a key store: a script of commands over a store of its own, and the program that runs one.
+//! A contract sees a line as a list of bytes, and a reader and a writer by the bytes that they tell.
 #![tactic(auto)]
 
-mod command;
-mod entry;
+mod choice;
+mod ending;
 mod laws;
-mod lines;
 mod listing;
-mod no_command;
-mod number;
-mod output;
-mod printing;
 mod program;
 mod script;
-mod stop;
-mod words;
-mod writing;
 
 pub use laws::listed_keys;
 pub use program::run_program;

@@ -1,8 +1,8 @@
 ghost use Rattle.std.specs.Prelude.{◌≡◌};
 ghost use Rattle.krs_ctl.specs.Listing.{is_keyring, listing, records_of};
 
-use crate::output::Output;
 use krs_types::{Answer, Body, Reply};
+use krs_words::Output;
 
 /// What the bytes of a key are shown as, by the reply to DESCRIBE of it.
 pub fn listing(bytes: Body, described: &Reply) -> Output

@@ -1,16 +1,15 @@
-ghost use Rattle.std.specs.Prelude.{◌≡◌, [], OnOk, IfErr};
+ghost use Rattle.std.specs.Prelude.{◌≡◌, [], OnOk, OnErr, IfErr};
+ghost use Rattle.krs_words.specs.Writing.{Prints, WritesFront};
 ghost use Rattle.krs_ctl.specs.Running.{EndsScript};
-ghost use Rattle.krs_ctl.specs.Writing.{Prints};
 
-use crate::command::{Command, parse};
-use crate::lines::{has_line_at_hand, read_line};
+use crate::ending::finish;
 use crate::listing::{listing, records};
-use crate::output::Output;
-use crate::stop::Stop;
-use crate::words::{is_comment, words};
-use crate::writing::{finish, print_output, write_out};
+use krs_commands::{Command, parse};
 use krs_store::Store;
 use krs_types::{Answer, Ask, Op, Reply};
+use krs_words::{
+    Output, Stop, has_line_at_hand, is_comment, print_output, read_line, words, write_out,
+};
 use std::alloc::Global;
 use std::io::{BufReader, Read, Write};
 
@@ -65,6 +64,8 @@ fn write_before_waiting<R: Read, W: Write>(
 ) -> Result<(), Stop>
     ensures ok { OnOk result (Prints (W.contents writer.old) pending.old.items
         (W.contents writer.new) pending.new.items []) }
+    ensures failed { OnErr result (WritesFront (W.contents writer.old) (W.contents writer.new)
+        pending.old.items) }
     ensures causes { IfErr result (λ stop. stop ≡ Stop.Printing) }
 {
     if has_line_at_hand(reader) {
@@ -86,7 +87,6 @@ impl Script {
     ghost use Rattle.std.specs.Prelude.{◌≡◌};
     ghost use Rattle.std.specs.Io.Buffered.{reader_remaining};
     ghost use Rattle.krs_ctl.specs.Running.{Acts, Asks, ListsBy, ObeysLine, Runs, StoreServes};
-    ghost use Rattle.krs_ctl.specs.Writing.{Prints};
 
     fn run<R: Read + Drop, W: Write>(
         &mut self,
@@ -95,8 +95,8 @@ impl Script {
         writer: &mut W,
         pending: &mut Vec<u8>,
     ) -> Result<(), Stop>
-        ensures { Runs (R.remaining reader) self.old self.new (Prints (W.contents writer.old)
-            pending.old.items (W.contents writer.new) pending.new.items) result }
+        ensures { Runs (R.remaining reader) self.old self.new (W.contents writer.old)
+            pending.old.items (W.contents writer.new) pending.new.items result }
     {
         match BufReader::with_capacity(alloc, READ_AHEAD, reader) {
             Ok(mut reader) => self.run_lines(alloc, &mut reader, writer, pending),
@@ -112,7 +112,7 @@ impl Script {
         pending: &mut Vec<u8>,
     ) -> Result<(), Stop>
         ensures { Runs (reader_remaining R.remaining reader.old) self.old self.new
-            (Prints (W.contents writer.old) pending.old.items (W.contents writer.new) pending.new.items)
+            (W.contents writer.old) pending.old.items (W.contents writer.new) pending.new.items
             result }
     {
         let mut line = Vec::new(alloc);
@@ -123,7 +123,7 @@ impl Script {
             }
             self.obey(alloc, line.as_slice(), writer, pending)?;
         }
-        Err(Stop::Reading)
+        Err(Stop::TooLong)
     }
 
     fn obey<W: Write>(
@@ -133,8 +133,8 @@ impl Script {
         writer: &mut W,
         pending: &mut Vec<u8>,
     ) -> Result<(), Stop>
-        ensures { ObeysLine self.old line.now self.new (Prints (W.contents writer.old)
-            pending.old.items (W.contents writer.new) pending.new.items) result }
+        ensures { ObeysLine self.old line.now self.new (W.contents writer.old)
+            pending.old.items (W.contents writer.new) pending.new.items result }
     {
         if is_comment(line) {
             return Ok(());

@@ -3,6 +3,7 @@ use krs_ctl::{ScriptEnd, run_program, run_script};
 use krs_store::Store;
 use std::alloc::{AllocError, Global};
 use std::cell::Cell;
+use std::env::Args;
 use std::io;
 use std::io::{ErrorKind, Read, Write};
 use std::test::Fail;
@@ -138,18 +139,18 @@ fn store_comes_back(rt: HostRuntime) -> Result<(), Fail> {
     Ok(())
 }
 
-/// Gives a line at a time and fails where the answers to those before it are not written, or at line `fails_at`.
+/// Gives a line at a time, and fails where the answers to those before it are not out, or at line `fails_at`.
 #[derive(Drop)]
 struct LineByLine<'a> {
     lines: &'a [&'a str],
-    written: &'a Cell<usize>,
+    out: &'a Cell<usize>,
     given: usize,
     fails_at: usize,
 }
 
 impl Read for LineByLine<'_> {
     fn read(&mut self, buf: &mut [u8]) -> io::Result<usize> {
-        if self.given == self.fails_at || self.written.get() != self.given {
+        if self.given == self.fails_at || self.out.get() != self.given {
             return Err(io::Error::from(ErrorKind::Other));
         }
         let Some(line) = self.lines.get(self.given) else {
@@ -165,29 +166,50 @@ impl Read for LineByLine<'_> {
     }
 }
 
-/// Counts the lines that it takes, and fails at the next write after `most` of them.
+/// Takes lines, which are out once it is flushed. It fails at one write, the one after `most` lines, whose lines are
+/// lost, and takes all that come after it.
 #[derive(Drop)]
-struct Counting<'a> {
-    written: &'a Cell<usize>,
+struct FailsOnce<'a> {
+    out: &'a Cell<usize>,
+    taken: usize,
+    waiting: usize,
     most: usize,
+    has_failed: bool,
 }
 
-impl Write for Counting<'_> {
+impl FailsOnce<'_> {
+    fn after<'a>(most: usize, out: &'a Cell<usize>) -> FailsOnce<'a> {
+        FailsOnce {
+            out,
+            taken: 0,
+            waiting: 0,
+            most,
+            has_failed: false,
+        }
+    }
+}
+
+impl Write for FailsOnce<'_> {
     fn write(&mut self, buf: &[u8]) -> io::Result<usize> {
-        if self.written.get() >= self.most {
+        let lines = buf.iter().filter(|byte| **byte == b'\n').count();
+        if self.taken >= self.most && !self.has_failed {
+            self.has_failed = true;
+            self.out.set(self.out.get().saturating_add(lines));
             return Err(io::Error::from(ErrorKind::BrokenPipe));
         }
-        let lines = buf.iter().filter(|byte| **byte == b'\n').count();
-        self.written.set(self.written.get().saturating_add(lines));
+        self.taken = self.taken.saturating_add(lines);
+        self.waiting = self.waiting.saturating_add(lines);
         Ok(buf.len())
     }
 
     fn flush(&mut self) -> io::Result<()> {
+        self.out.set(self.out.get().saturating_add(self.waiting));
+        self.waiting = 0;
         Ok(())
     }
 }
 
-/// At which line reading fails, after how many lines writing does, and then the status and the lines written.
+/// At which line reading fails, after how many lines a write does, and then the status and the lines written.
 #[rattlefmt::skip]
 const ENDS: [(usize, usize, u8, usize); 8] = [
     (9, 9, 0, 4),
@@ -204,88 +226,118 @@ fn a_line_at_a_time(rt: HostRuntime) -> Result<(), Fail> {
         "rdescribe 5\n",
     ];
     for (reads, writes, status, count) in ENDS {
-        let written = Cell::new(0);
+        let out = Cell::new(0);
         let reader = LineByLine {
             lines: lines.as_slice(),
-            written: &written,
+            out: &out,
             given: 0,
             fails_at: reads,
         };
-        let mut writer = Counting {
-            written: &written,
-            most: writes,
-        };
+        let mut writer = FailsOnce::after(writes, &out);
         let end = run_script(rt.alloc(), reader, &mut writer, Store::new(rt.alloc()));
         assert_eq!(rt; end.status, status, "reads to {reads}, writes to {writes}");
-        assert_eq!(rt;
-            written.get(),
-            count,
-            "reads to {reads}, writes to {writes}"
-        );
+        assert_eq!(rt; writer.taken, count, "reads to {reads}, writes to {writes}");
     }
     Ok(())
 }
 
-/// Newlines without an end, behind a first line.
+/// Newlines without an end, behind a first line, and how many bytes of them were read.
 #[derive(Drop)]
-struct Endless {
-    begun: bool,
+struct Endless<'a> {
+    given: &'a Cell<usize>,
 }
 
-impl Read for Endless {
+impl Read for Endless<'_> {
     fn read(&mut self, buf: &mut [u8]) -> io::Result<usize> {
         buf.fill(b'\n');
-        if !self.begun && buf.len() > 9 {
+        if self.given.get() == 0 && buf.len() > 9 {
             buf[..9].copy_from_slice(b"context 1");
         }
-        self.begun = true;
+        self.given.set(self.given.get().saturating_add(buf.len()));
         Ok(buf.len())
     }
 }
 
+/// All lines that a script has at most are read, and no more than a buffer behind them.
 #[test]
 fn ends_after_many_lines(rt: HostRuntime) -> Result<(), Fail> {
     let mut output = Vec::new(rt.alloc());
-    let reader = Endless { begun: false };
+    let given = Cell::new(0);
+    let reader = Endless { given: &given };
     let end = run_script(rt.alloc(), reader, &mut output, Store::new(rt.alloc()));
     assert_eq!(rt; end.status, 3);
     assert_eq!(rt; output.as_slice(), b"ok\n".as_slice());
+    let all_lines = 16_777_216 + "context 1".len();
+    assert!(rt; (all_lines..all_lines + 65_536).contains(&given.get()), "{} bytes", given.get());
     Ok(())
 }
 
-/// The words behind the program's name, its status, how its output begins, and whether it writes to standard error.
+/// The words behind the program's name, its input and status, how its output begins, and whether it writes to
+/// standard error.
 #[rattlefmt::skip]
-const PROGRAMS: [(&[&str], u8, &str, bool); 9] = [
-    (&["script"], 0, "1\n5\ns3\n", false),
-    (&["--", "script"], 0, "1\n5\ns3\n", false),
-    (&[], 2, "usage\n", false),
-    (&["scrip"], 2, "usage\n", false),
-    (&["script", "x"], 2, "usage\n", false),
-    (&["print", "5"], 2, "usage\n", false),
-    (&["--version"], 0, "keyretain 0.1.0\n", false),
-    (&["--help"], 0, "A client of a key store", false),
-    (&["--nonsense"], 2, "", true),
+const PROGRAMS: [(&[&str], &str, u8, &str, bool); 11] = [
+    (&["script"], ALPHA, 0, "1\n5\ns3\n", false),
+    (&["--", "script"], ALPHA, 0, "1\n5\ns3\n", false),
+    (&["script"], "context 1\nprint 5\n", 1, "ok\nerror 3 ESRCH\n", false),
+    (&["script"], "context 1\nnonsense\n", 2, "ok\nusage\n", false),
+    (&[], ALPHA, 2, "usage\n", false),
+    (&["scrip"], ALPHA, 2, "usage\n", false),
+    (&["script", "x"], ALPHA, 2, "usage\n", false),
+    (&["print", "5"], ALPHA, 2, "usage\n", false),
+    (&["--version"], ALPHA, 0, "keyretain 0.1.0\n", false),
+    (&["--help"], ALPHA, 0, "A client of a key store", false),
+    (&["--nonsense"], ALPHA, 2, "", true),
 ];
+
+/// The program's name, and these words behind it.
+fn program_words(alloc: Global, words: &[&str]) -> Result<Args, Fail> {
+    let mut all = Vec::new(alloc);
+    all.push(String::from_str(alloc, "keyretain")?)
+        .map_err(AllocError::from)?;
+    for word in words {
+        all.push(String::from_str(alloc, word)?)
+            .map_err(AllocError::from)?;
+    }
+    Ok(all.into_iter())
+}
 
 #[test]
 fn programs(rt: HostRuntime) -> Result<(), Fail> {
     let alloc = rt.alloc();
-    for (words, status, begins, has_errors) in PROGRAMS {
-        let mut args = Vec::new(alloc);
-        args.push(String::from_str(alloc, "keyretain")?)
-            .map_err(AllocError::from)?;
-        for word in words {
-            args.push(String::from_str(alloc, word)?)
-                .map_err(AllocError::from)?;
-        }
+    for (words, input, status, begins, has_errors) in PROGRAMS {
+        let args = program_words(alloc, words)?;
         let mut output = Vec::new(alloc);
         let mut errors = Vec::new(alloc);
-        let input = ALPHA.as_bytes();
-        let ended = run_program(alloc, Ok(args.into_iter()), input, &mut output, &mut errors);
+        let ended = run_program(alloc, Ok(args), input.as_bytes(), &mut output, &mut errors);
         assert_eq!(rt; ended, status, "at {words:?}");
         assert!(rt; output.starts_with(begins.as_bytes()), "at {words:?}");
         assert_eq!(rt; output.is_empty(), begins.is_empty(), "at {words:?}");
         assert_eq!(rt; errors.is_empty(), !has_errors, "at {words:?}");
+    }
+    Ok(())
+}
+
+/// Words of a program whose output fails, and its status.
+#[rattlefmt::skip]
+const UNPRINTED: [(&[&str], u8); 5] = [
+    (&["script"], 3), (&["scrip"], 3), (&["--version"], 3), (&["--help"], 3),
+    // What is refused goes to standard error.
+    (&["--nonsense"], 2),
+];
+
+#[test]
+fn programs_that_cannot_print(rt: HostRuntime) -> Result<(), Fail> {
+    let alloc = rt.alloc();
+    for (words, status) in UNPRINTED {
+        let args = program_words(alloc, words)?;
+        let (out, told) = (Cell::new(0), Cell::new(0));
+        let mut output = FailsOnce::after(0, &out);
+        let mut errors = FailsOnce::after(0, &told);
+        let input = ALPHA.as_bytes();
+        let ended = run_program(alloc, Ok(args), input, &mut output, &mut errors);
+        assert_eq!(rt; ended, status, "at {words:?}");
+        assert_eq!(rt; output.taken, 0, "at {words:?}");
+        assert_eq!(rt; errors.taken, 0, "at {words:?}");
     }
     Ok(())
 }

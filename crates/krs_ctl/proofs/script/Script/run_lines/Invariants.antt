@@ -1,11 +1,10 @@
 use Rattle.std.specs.Io.Buffered.{reader_remaining}
-use Rattle.krs_ctl.specs.Writing.{Prints}
 use Rattle.krs_ctl.proofs.Going.{Going}
 use Rattle.krs_ctl.proofs.script.Script.run_lines.Given as goal
 
 abbrev pub invariant-loop : goal.invariant-loop
 invariant-loop g l =
-    Going (reader_remaining g.R.Read.remaining l.initial.reader)
+    Going l.counter (reader_remaining g.R.Read.remaining l.initial.reader)
     (reader_remaining g.R.Read.remaining l.reader) l.initial.self l.self
-    (Prints (g.W.Write.contents l.initial.writer) l.initial.pending.items
-    (g.W.Write.contents l.writer) l.pending.items)
+    (g.W.Write.contents l.initial.writer) l.initial.pending.items
+    (g.W.Write.contents l.writer) l.pending.items

@@ -1,0 +1,327 @@
+-- The commands of a client, a row each: docs/FORMAT.md, "Commands".
+use Rattle.std.specs.Prelude.{ℕ, ℤ, pos, Bool, true, false, if◌then◌else◌, List, [], ◌∷◌, find, bytes_eq, codes}
+use Rattle.std.specs.Prelude.{Option, None, Some}
+use Rattle.krs_types.specs.Caller.{unchanged}
+use Rattle.krs_types.specs.declared.ask.Op.{Op}
+use Rattle.krs_types.specs.declared.ask.Op.TheVariants as op
+use Rattle.krs_commands.specs.declared.name.CommandName.{CommandName}
+use Rattle.krs_commands.specs.declared.name.CommandName.TheVariants.{Hello, Context, Moment, Thread, Fork, Exec}
+use Rattle.krs_commands.specs.declared.name.CommandName.TheVariants.{Exit, Add, Newring, Id, Join, Update, Print}
+use Rattle.krs_commands.specs.declared.name.CommandName.TheVariants.{Rlist, Rdescribe, Revoke, Invalidate, Clear}
+use Rattle.krs_commands.specs.declared.name.CommandName.TheVariants.{Chown, Chgrp, SetPerm, Timeout, Link, Unlink}
+use Rattle.krs_commands.specs.declared.name.CommandName.TheVariants.{Search, Request, Open, Closeq, Watch, Filter}
+use Rattle.krs_commands.specs.declared.name.CommandName.TheVariants.{Readq, Leave}
+use Rattle.krs_commands.specs.declared.command.Command.{Command}
+use Rattle.krs_commands.specs.declared.command.Command.TheVariants as command
+use Rattle.krs_words.specs.Parsed.{◌>>=◌}
+use Rattle.krs_words.specs.Number.{u32_of, u64_of, u32s_of, hexadecimal_of, key_of, data_of, watch_id_of}
+use Rattle.krs_commands.specs.Entry.{entries_of}
+
+-- the first word of each command
+abbrev pub spelling : CommandName → List ℕ
+spelling Hello = codes "hello"
+spelling Context = codes "context"
+spelling Moment = codes "moment"
+spelling Thread = codes "thread"
+spelling Fork = codes "fork"
+spelling Exec = codes "exec"
+spelling Exit = codes "exit"
+spelling Add = codes "add"
+spelling Newring = codes "newring"
+spelling Id = codes "id"
+spelling Join = codes "join"
+spelling Update = codes "update"
+spelling Print = codes "print"
+spelling Rlist = codes "rlist"
+spelling Rdescribe = codes "rdescribe"
+spelling Revoke = codes "revoke"
+spelling Invalidate = codes "invalidate"
+spelling Clear = codes "clear"
+spelling Chown = codes "chown"
+spelling Chgrp = codes "chgrp"
+spelling SetPerm = codes "setperm"
+spelling Timeout = codes "timeout"
+spelling Link = codes "link"
+spelling Unlink = codes "unlink"
+spelling Search = codes "search"
+spelling Request = codes "request"
+spelling Open = codes "open"
+spelling Closeq = codes "closeq"
+spelling Watch = codes "watch"
+spelling Filter = codes "filter"
+spelling Readq = codes "readq"
+spelling Leave = codes "leave"
+
+-- all commands that are built
+abbrev pub command_names : List CommandName
+command_names =
+    Hello ∷ Context ∷ Moment ∷ Thread ∷ Fork ∷ Exec ∷ Exit ∷ Add ∷ Newring ∷ Id ∷ Join ∷ Update ∷ Print ∷ Rlist
+    ∷ Rdescribe ∷ Revoke ∷ Invalidate ∷ Clear ∷ Chown ∷ Chgrp ∷ SetPerm ∷ Timeout ∷ Link ∷ Unlink ∷ Search ∷ Request
+    ∷ Open ∷ Closeq ∷ Watch ∷ Filter ∷ Readq ∷ Leave ∷ []
+
+-- the command of a first word
+abbrev pub name_of_word : List ℕ → Option CommandName
+name_of_word word = find (λ name. bytes_eq (spelling name) word) command_names
+
+-- `hello UID GID [GROUP ..]`
+abbrev pub hello_of : List (List ℕ) → Option Command
+hello_of (uid ∷ (gid ∷ groups)) = do
+  u ← u32_of uid
+  g ← u32_of gid
+  gs ← u32s_of groups
+  Some (command.Ask (op.Hello (record { uid = u; gid = g; groups = gs })))
+hello_of _ = None
+
+-- `context N`
+abbrev pub context_of : List (List ℕ) → Option Command
+context_of (number ∷ []) = do
+  n ← u32_of number
+  Some (command.Context n)
+context_of _ = None
+
+-- `moment N`
+abbrev pub moment_of : List (List ℕ) → Option Command
+moment_of (number ∷ []) = do
+  n ← u64_of number
+  Some (command.Moment n)
+moment_of _ = None
+
+-- `thread`, `fork`, `exec`, `exit`, `leave`: an ask, without words
+abbrev pub alone_of : Op → List (List ℕ) → Option Command
+alone_of asked [] = Some (command.Ask asked)
+alone_of asked _ = None
+
+-- `add TYPE DESC DATA RING`
+abbrev pub add_of : List (List ℕ) → Option Command
+add_of (type_name ∷ (desc ∷ (payload ∷ (ring ∷ [])))) = do
+  bytes ← data_of payload
+  id ← key_of ring
+  Some (command.Ask (op.Add type_name desc bytes id))
+add_of _ = None
+
+-- `newring DESC RING`: a keyring is made without bytes
+abbrev pub newring_of : List (List ℕ) → Option Command
+newring_of (desc ∷ (ring ∷ [])) = do
+  id ← key_of ring
+  Some (command.Ask (op.Add (codes "keyring") desc [] id))
+newring_of _ = None
+
+-- whether a keyring is made where it is wanted: the word `create`, or no word
+abbrev pub create_of : List (List ℕ) → Option Bool
+create_of [] = Some false
+create_of (word ∷ []) = if bytes_eq word (codes "create") then Some true else None
+create_of _ = None
+
+-- `id KEY [create]`
+abbrev pub id_of : List (List ℕ) → Option Command
+id_of (key ∷ words) = do
+  id ← key_of key
+  create ← create_of words
+  Some (command.Ask (op.GetId id create))
+id_of _ = None
+
+-- `join [NAME]`: no bytes are no name
+abbrev pub join_of : List (List ℕ) → Option Command
+join_of [] = Some (command.Ask (op.Join []))
+join_of (name ∷ []) = Some (command.Ask (op.Join name))
+join_of _ = None
+
+-- `update KEY DATA`
+abbrev pub update_of : List (List ℕ) → Option Command
+update_of (key ∷ (payload ∷ [])) = do
+  bytes ← data_of payload
+  id ← key_of key
+  Some (command.Ask (op.Update id bytes))
+update_of _ = None
+
+-- `print KEY`
+abbrev pub print_of : List (List ℕ) → Option Command
+print_of (key ∷ []) = do
+  id ← key_of key
+  Some (command.Ask (op.Read id))
+print_of _ = None
+
+-- `rlist KEY`
+abbrev pub rlist_of : List (List ℕ) → Option Command
+rlist_of (key ∷ []) = do
+  id ← key_of key
+  Some (command.Rlist id)
+rlist_of _ = None
+
+-- `rdescribe KEY`
+abbrev pub rdescribe_of : List (List ℕ) → Option Command
+rdescribe_of (key ∷ []) = do
+  id ← key_of key
+  Some (command.Ask (op.Describe id))
+rdescribe_of _ = None
+
+-- `revoke KEY`
+abbrev pub revoke_of : List (List ℕ) → Option Command
+revoke_of (key ∷ []) = do
+  id ← key_of key
+  Some (command.Ask (op.Revoke id))
+revoke_of _ = None
+
+-- `invalidate KEY`
+abbrev pub invalidate_of : List (List ℕ) → Option Command
+invalidate_of (key ∷ []) = do
+  id ← key_of key
+  Some (command.Ask (op.Invalidate id))
+invalidate_of _ = None
+
+-- `clear RING`
+abbrev pub clear_of : List (List ℕ) → Option Command
+clear_of (ring ∷ []) = do
+  id ← key_of ring
+  Some (command.Ask (op.Clear id))
+clear_of _ = None
+
+-- `chown KEY UID`
+abbrev pub chown_of : List (List ℕ) → Option Command
+chown_of (key ∷ (uid ∷ [])) = do
+  id ← key_of key
+  u ← u32_of uid
+  Some (command.Ask (op.Chown id u unchanged))
+chown_of _ = None
+
+-- `chgrp KEY GID`
+abbrev pub chgrp_of : List (List ℕ) → Option Command
+chgrp_of (key ∷ (gid ∷ [])) = do
+  id ← key_of key
+  g ← u32_of gid
+  Some (command.Ask (op.Chown id unchanged g))
+chgrp_of _ = None
+
+-- `setperm KEY MASK`
+abbrev pub setperm_of : List (List ℕ) → Option Command
+setperm_of (key ∷ (mask ∷ [])) = do
+  id ← key_of key
+  m ← hexadecimal_of mask
+  Some (command.Ask (op.SetPerm id m))
+setperm_of _ = None
+
+-- `timeout KEY SECONDS`
+abbrev pub timeout_of : List (List ℕ) → Option Command
+timeout_of (key ∷ (seconds ∷ [])) = do
+  id ← key_of key
+  s ← u32_of seconds
+  Some (command.Ask (op.SetTimeout id s))
+timeout_of _ = None
+
+-- `link KEY RING`
+abbrev pub link_of : List (List ℕ) → Option Command
+link_of (key ∷ (ring ∷ [])) = do
+  id ← key_of key
+  into ← key_of ring
+  Some (command.Ask (op.Link id into))
+link_of _ = None
+
+-- `unlink KEY RING`
+abbrev pub unlink_of : List (List ℕ) → Option Command
+unlink_of (key ∷ (ring ∷ [])) = do
+  id ← key_of key
+  from ← key_of ring
+  Some (command.Ask (op.Unlink id from))
+unlink_of _ = None
+
+-- a destination: the keyring of the last word, or 0, for none, where that word is left out
+abbrev pub dest_of : List (List ℕ) → Option ℤ
+dest_of [] = Some (pos 0)
+dest_of (ring ∷ []) = key_of ring
+dest_of _ = None
+
+-- `search RING TYPE DESC [RING]`
+abbrev pub search_of : List (List ℕ) → Option Command
+search_of (ring ∷ (type_name ∷ (desc ∷ words))) = do
+  head ← key_of ring
+  dest ← dest_of words
+  Some (command.Ask (op.Search head type_name desc dest))
+search_of _ = None
+
+-- `request TYPE DESC [RING]`
+abbrev pub request_of : List (List ℕ) → Option Command
+request_of (type_name ∷ (desc ∷ words)) = do
+  dest ← dest_of words
+  Some (command.Ask (op.Request type_name desc dest))
+request_of _ = None
+
+-- `open CAPACITY`
+abbrev pub open_of : List (List ℕ) → Option Command
+open_of (number ∷ []) = do
+  capacity ← u32_of number
+  Some (command.Ask (op.OpenQueue capacity))
+open_of _ = None
+
+-- `closeq QUEUE`
+abbrev pub closeq_of : List (List ℕ) → Option Command
+closeq_of (number ∷ []) = do
+  queue ← u32_of number
+  Some (command.Ask (op.CloseQueue queue))
+closeq_of _ = None
+
+-- `watch KEY QUEUE ID`
+abbrev pub watch_of : List (List ℕ) → Option Command
+watch_of (key ∷ (number ∷ (watch ∷ []))) = do
+  id ← key_of key
+  queue ← u32_of number
+  w ← watch_id_of watch
+  Some (command.Ask (op.Watch id queue w))
+watch_of _ = None
+
+-- `filter QUEUE ENTRY ..`: one entry or more
+abbrev pub filter_of : List (List ℕ) → Option Command
+filter_of (number ∷ (first ∷ others)) = do
+  queue ← u32_of number
+  entries ← entries_of (first ∷ others)
+  Some (command.Ask (op.SetFilter queue entries))
+filter_of _ = None
+
+-- `readq QUEUE ROOM`
+abbrev pub readq_of : List (List ℕ) → Option Command
+readq_of (number ∷ (bytes ∷ [])) = do
+  queue ← u32_of number
+  room ← u32_of bytes
+  Some (command.Readq queue room)
+readq_of _ = None
+
+-- a command's row
+abbrev pub row_of : CommandName → List (List ℕ) → Option Command
+row_of Hello args = hello_of args
+row_of Context args = context_of args
+row_of Moment args = moment_of args
+row_of Thread args = alone_of op.Thread args
+row_of Fork args = alone_of op.Fork args
+row_of Exec args = alone_of op.Exec args
+row_of Exit args = alone_of op.Exit args
+row_of Add args = add_of args
+row_of Newring args = newring_of args
+row_of Id args = id_of args
+row_of Join args = join_of args
+row_of Update args = update_of args
+row_of Print args = print_of args
+row_of Rlist args = rlist_of args
+row_of Rdescribe args = rdescribe_of args
+row_of Revoke args = revoke_of args
+row_of Invalidate args = invalidate_of args
+row_of Clear args = clear_of args
+row_of Chown args = chown_of args
+row_of Chgrp args = chgrp_of args
+row_of SetPerm args = setperm_of args
+row_of Timeout args = timeout_of args
+row_of Link args = link_of args
+row_of Unlink args = unlink_of args
+row_of Search args = search_of args
+row_of Request args = request_of args
+row_of Open args = open_of args
+row_of Closeq args = closeq_of args
+row_of Watch args = watch_of args
+row_of Filter args = filter_of args
+row_of Readq args = readq_of args
+row_of Leave args = alone_of op.Leave args
+
+-- the command that a line's words are: none where they are no command, or more or less than it takes
+abbrev pub command_of : List (List ℕ) → Option Command
+command_of [] = None
+command_of (word ∷ args) = do
+  name ← name_of_word word
+  row_of name args

@@ -1,0 +1,98 @@
+//! Commands of keyrings, and of searches in them.
+
+ghost use Rattle.std.specs.Prelude.{map};
+ghost use Rattle.krs_commands.specs.Command.{newring_of, clear_of, link_of, unlink_of, dest_of, search_of, request_of};
+ghost use Rattle.krs_words.specs.Parsed.{Reads};
+
+use crate::command::Command;
+use krs_types::{Blob, Op};
+use krs_words::{NoCommand, key_word};
+use std::alloc::Global;
+
+pub(crate) fn newring(alloc: Global, args: &[&[u8]]) -> Result<Command, NoCommand>
+    ensures { Reads result (newring_of (map (λ w. w.now) args.now)) }
+{
+    let [desc, ring] = args else {
+        return Err(NoCommand::Usage);
+    };
+    let ring = key_word(ring).ok_or(NoCommand::Usage)?;
+    Ok(Command::Ask(Op::Add {
+        type_name: Blob::from_slice(alloc, b"keyring")?,
+        desc: Blob::from_slice(alloc, desc)?,
+        payload: Blob::from_slice(alloc, b"")?,
+        ring,
+    }))
+}
+
+pub(crate) fn clear(args: &[&[u8]]) -> Result<Command, NoCommand>
+    ensures { Reads result (clear_of (map (λ w. w.now) args.now)) }
+{
+    let [ring] = args else {
+        return Err(NoCommand::Usage);
+    };
+    let id = key_word(ring).ok_or(NoCommand::Usage)?;
+    Ok(Command::Ask(Op::Clear { id }))
+}
+
+pub(crate) fn link(args: &[&[u8]]) -> Result<Command, NoCommand>
+    ensures { Reads result (link_of (map (λ w. w.now) args.now)) }
+{
+    let [key, ring] = args else {
+        return Err(NoCommand::Usage);
+    };
+    let key = key_word(key).ok_or(NoCommand::Usage)?;
+    let ring = key_word(ring).ok_or(NoCommand::Usage)?;
+    Ok(Command::Ask(Op::Link { key, ring }))
+}
+
+pub(crate) fn unlink(args: &[&[u8]]) -> Result<Command, NoCommand>
+    ensures { Reads result (unlink_of (map (λ w. w.now) args.now)) }
+{
+    let [key, ring] = args else {
+        return Err(NoCommand::Usage);
+    };
+    let key = key_word(key).ok_or(NoCommand::Usage)?;
+    let ring = key_word(ring).ok_or(NoCommand::Usage)?;
+    Ok(Command::Ask(Op::Unlink { key, ring }))
+}
+
+/// The destination that the words behind the description name: 0, for none, where there is no word.
+fn destination(words: &[&[u8]]) -> Result<i32, NoCommand>
+    ensures { Reads result (dest_of (map (λ w. w.now) words.now)) }
+{
+    match words {
+        [] => Ok(0),
+        [ring] => key_word(ring).ok_or(NoCommand::Usage),
+        _ => Err(NoCommand::Usage),
+    }
+}
+
+pub(crate) fn search_from(alloc: Global, args: &[&[u8]]) -> Result<Command, NoCommand>
+    ensures { Reads result (search_of (map (λ w. w.now) args.now)) }
+{
+    let [ring, type_name, desc, words @ ..] = args else {
+        return Err(NoCommand::Usage);
+    };
+    let head = key_word(ring).ok_or(NoCommand::Usage)?;
+    let dest = destination(words)?;
+    Ok(Command::Ask(Op::Search {
+        head,
+        type_name: Blob::from_slice(alloc, type_name)?,
+        desc: Blob::from_slice(alloc, desc)?,
+        dest,
+    }))
+}
+
+pub(crate) fn request(alloc: Global, args: &[&[u8]]) -> Result<Command, NoCommand>
+    ensures { Reads result (request_of (map (λ w. w.now) args.now)) }
+{
+    let [type_name, desc, words @ ..] = args else {
+        return Err(NoCommand::Usage);
+    };
+    let dest = destination(words)?;
+    Ok(Command::Ask(Op::Request {
+        type_name: Blob::from_slice(alloc, type_name)?,
+        desc: Blob::from_slice(alloc, desc)?,
+        dest,
+    }))
+}

@@ -1,0 +1,134 @@
+//! Commands of one key.
+
+ghost use Rattle.std.specs.Prelude.{map};
+ghost use Rattle.krs_commands.specs.Command.{add_of, update_of, print_of, rlist_of, rdescribe_of, revoke_of};
+ghost use Rattle.krs_commands.specs.Command.{invalidate_of, chown_of, chgrp_of, setperm_of, timeout_of};
+ghost use Rattle.krs_words.specs.Parsed.{Reads};
+
+use crate::command::Command;
+use krs_types::{Blob, Op, UNCHANGED};
+use krs_words::{NoCommand, data_word, hexadecimal_word, key_word, u32_word};
+use std::alloc::Global;
+
+pub(crate) fn add(alloc: Global, args: &[&[u8]]) -> Result<Command, NoCommand>
+    ensures { Reads result (add_of (map (λ w. w.now) args.now)) }
+{
+    let [type_name, desc, payload, ring] = args else {
+        return Err(NoCommand::Usage);
+    };
+    let payload = data_word(alloc, payload)?;
+    let ring = key_word(ring).ok_or(NoCommand::Usage)?;
+    Ok(Command::Ask(Op::Add {
+        type_name: Blob::from_slice(alloc, type_name)?,
+        desc: Blob::from_slice(alloc, desc)?,
+        payload,
+        ring,
+    }))
+}
+
+pub(crate) fn update(alloc: Global, args: &[&[u8]]) -> Result<Command, NoCommand>
+    ensures { Reads result (update_of (map (λ w. w.now) args.now)) }
+{
+    let [key, data] = args else {
+        return Err(NoCommand::Usage);
+    };
+    let payload = data_word(alloc, data)?;
+    let id = key_word(key).ok_or(NoCommand::Usage)?;
+    Ok(Command::Ask(Op::Update { id, payload }))
+}
+
+pub(crate) fn print(args: &[&[u8]]) -> Result<Command, NoCommand>
+    ensures { Reads result (print_of (map (λ w. w.now) args.now)) }
+{
+    let [key] = args else {
+        return Err(NoCommand::Usage);
+    };
+    let id = key_word(key).ok_or(NoCommand::Usage)?;
+    Ok(Command::Ask(Op::Read { id }))
+}
+
+pub(crate) fn rlist(args: &[&[u8]]) -> Result<Command, NoCommand>
+    ensures { Reads result (rlist_of (map (λ w. w.now) args.now)) }
+{
+    let [key] = args else {
+        return Err(NoCommand::Usage);
+    };
+    let id = key_word(key).ok_or(NoCommand::Usage)?;
+    Ok(Command::Rlist(id))
+}
+
+pub(crate) fn rdescribe(args: &[&[u8]]) -> Result<Command, NoCommand>
+    ensures { Reads result (rdescribe_of (map (λ w. w.now) args.now)) }
+{
+    let [key] = args else {
+        return Err(NoCommand::Usage);
+    };
+    let id = key_word(key).ok_or(NoCommand::Usage)?;
+    Ok(Command::Ask(Op::Describe { id }))
+}
+
+pub(crate) fn revoke(args: &[&[u8]]) -> Result<Command, NoCommand>
+    ensures { Reads result (revoke_of (map (λ w. w.now) args.now)) }
+{
+    let [key] = args else {
+        return Err(NoCommand::Usage);
+    };
+    let id = key_word(key).ok_or(NoCommand::Usage)?;
+    Ok(Command::Ask(Op::Revoke { id }))
+}
+
+pub(crate) fn invalidate(args: &[&[u8]]) -> Result<Command, NoCommand>
+    ensures { Reads result (invalidate_of (map (λ w. w.now) args.now)) }
+{
+    let [key] = args else {
+        return Err(NoCommand::Usage);
+    };
+    let id = key_word(key).ok_or(NoCommand::Usage)?;
+    Ok(Command::Ask(Op::Invalidate { id }))
+}
+
+pub(crate) fn chown(args: &[&[u8]]) -> Result<Command, NoCommand>
+    ensures { Reads result (chown_of (map (λ w. w.now) args.now)) }
+{
+    let [key, owner] = args else {
+        return Err(NoCommand::Usage);
+    };
+    let id = key_word(key).ok_or(NoCommand::Usage)?;
+    let uid = u32_word(owner).ok_or(NoCommand::Usage)?;
+    let gid = UNCHANGED;
+    Ok(Command::Ask(Op::Chown { id, uid, gid }))
+}
+
+pub(crate) fn chgrp(args: &[&[u8]]) -> Result<Command, NoCommand>
+    ensures { Reads result (chgrp_of (map (λ w. w.now) args.now)) }
+{
+    let [key, group] = args else {
+        return Err(NoCommand::Usage);
+    };
+    let id = key_word(key).ok_or(NoCommand::Usage)?;
+    let uid = UNCHANGED;
+    let gid = u32_word(group).ok_or(NoCommand::Usage)?;
+    Ok(Command::Ask(Op::Chown { id, uid, gid }))
+}
+
+pub(crate) fn setperm(args: &[&[u8]]) -> Result<Command, NoCommand>
+    ensures { Reads result (setperm_of (map (λ w. w.now) args.now)) }
+{
+    let [key, mask] = args else {
+        return Err(NoCommand::Usage);
+    };
+    let id = key_word(key).ok_or(NoCommand::Usage)?;
+    let mask = hexadecimal_word(mask).ok_or(NoCommand::Usage)?;
+    Ok(Command::Ask(Op::SetPerm { id, mask }))
+}
+
+pub(crate) fn timeout(args: &[&[u8]]) -> Result<Command, NoCommand>
+    ensures { Reads result (timeout_of (map (λ w. w.now) args.now)) }
+{
+    let [key, seconds] = args else {
+        return Err(NoCommand::Usage);
+    };
+    let id = key_word(key).ok_or(NoCommand::Usage)?;
+    let seconds = u32_word(seconds).ok_or(NoCommand::Usage)?;
+    Ok(Command::Ask(Op::SetTimeout { id, seconds }))
+}

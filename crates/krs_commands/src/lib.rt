@@ -1,0 +1,13 @@
+//! The commands of a client: which one a line's words are, and what it asks of a store. A contract sees the words as
+//! lists of bytes.
+#![tactic(auto)]
+
+mod command;
+mod contexts;
+mod entry;
+mod keyrings;
+mod keys;
+mod name;
+mod queues;
+
+pub use command::{Command, parse};

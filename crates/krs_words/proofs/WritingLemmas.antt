@@ -1,0 +1,86 @@
+-- Texts that are printed one after the other.
+use Rattle.std.proofs.Common.{ℕ, ◌≡◌, List, [], ◌++◌, Option, None, Some, refl, sym, ap, ◌∙◌, append_assoc}
+use Rattle.std.proofs.Common.{append-nil, take, drop, take-append-drop}
+use Rattle.std.specs.Io.KnownBytes.{Appends, Keeps}
+use Rattle.std.proofs.KnownBytes.{Appends-nil, Appends-trans}
+use Rattle.krs_words.specs.Writing.{Prints, WritesSome, WritesFront}
+
+-- nothing is printed
+pub Prints-nil : (c : Option (List ℕ)) (p : List ℕ) → Prints c p c p []
+Prints-nil c p = ([], Appends-nil c, append-nil p)
+
+-- a text that waits behind what waited
+pub Prints-later : (c : Option (List ℕ)) (p q text : List ℕ) → q ≡ p ++ text → Prints c p c q text
+Prints-later c p q text is = ([], Appends-nil c, sym is)
+
+-- all that waited and the text are written
+pub Prints-out : (c v : Option (List ℕ)) (p q r text : List ℕ) → q ≡ p ++ text → r ≡ [] → Appends c v q
+    → Prints c p v r text
+Prints-out c v p q r text is none adds = (q, adds, rw (none, append-nil q) (sym is))
+
+joined : (p a b x q y r : List ℕ) → p ++ a ≡ x ++ q → q ++ b ≡ y ++ r → p ++ (a ++ b) ≡ (x ++ y) ++ r
+joined p a b x q y r first next =
+    sym (append_assoc p a b) ∙ ap (λ l. l ++ b) first ∙ append_assoc x q b ∙ ap (λ l. x ++ l) next
+    ∙ sym (append_assoc x y r)
+
+-- one text and another
+pub Prints-trans : (c w v : Option (List ℕ)) (p q r a b : List ℕ) → Prints c p w q a → Prints w q v r b
+    → Prints c p v r (a ++ b)
+Prints-trans c w v p q r a b (x, adds, first) (y, more, next) =
+    (x ++ y, Appends-trans c w v x y adds more, joined p a b x q y r first next)
+
+-- a text, and then a beginning of another
+pub WritesFront-behind : (c w v : Option (List ℕ)) (p q a b : List ℕ) → Prints c p w q a → WritesFront w v (q ++ b)
+    → WritesFront c v (p ++ (a ++ b))
+WritesFront-behind c w v p q a b (x, adds, first) (rest, (y, more, next)) =
+    (rest, (x ++ y, Appends-trans c w v x y adds more, joined p a b x q y rest first next))
+
+-- nothing is written
+pub WritesFront-nil : (c : Option (List ℕ)) (text : List ℕ) → WritesFront c c text
+WritesFront-nil c text = (text, ([], Appends-nil c, refl))
+
+-- a text that was written whole
+pub WritesFront-all : (c v : Option (List ℕ)) (text : List ℕ) → Appends c v text → WritesFront c v text
+WritesFront-all c v text adds = ([], (text, adds, sym (append-nil text)))
+
+-- what a writer holds stays what it was
+pub Appends-kept : (a b c : Option (List ℕ)) (bs : List ℕ) → Appends a b bs → Keeps b c → Appends a c bs
+Appends-kept None b c bs p q = tt
+Appends-kept (Some x) None c bs p q = absurd p
+Appends-kept (Some x) (Some y) None bs p q = absurd q
+Appends-kept (Some x) (Some y) (Some z) bs p q = q ∙ p
+
+pub Appends-none : (a b : Option (List ℕ)) → Keeps a b → Appends a b []
+Appends-none a b kept = Appends-kept a a b [] (Appends-nil a) kept
+
+-- one piece of a text more
+pub WritesSome-more : (a b c : Option (List ℕ)) (text rest left : List ℕ) → WritesSome a b text rest
+    → WritesSome b c rest left → WritesSome a c text left
+WritesSome-more a b c text rest left (x, adds, first) (y, more, next) =
+    (x ++ y, Appends-trans a b c x y adds more, first ∙ ap (λ l. x ++ l) next ∙ sym (append_assoc x y left))
+
+-- a piece of a text
+pub WritesSome-piece : (a b : Option (List ℕ)) (text : List ℕ) (n : ℕ) → Appends a b (take n text)
+    → WritesSome a b text (drop n text)
+WritesSome-piece a b text n adds = (take n text, adds, sym (take-append-drop n text))
+
+-- nothing of a text
+pub WritesSome-none : (a b : Option (List ℕ)) (text : List ℕ) → Keeps a b → WritesSome a b text text
+WritesSome-none a b text kept = ([], Appends-none a b kept, refl)
+
+-- a writer that fails behind a piece of a text
+pub WritesFront-kept : (a b c : Option (List ℕ)) (text rest : List ℕ) → WritesSome a b text rest → Keeps b c
+    → WritesFront a c text
+WritesFront-kept a b c text rest (x, adds, is) kept = (rest, (x, Appends-kept a b c x adds kept, is))
+
+-- a text, and then nothing of another
+pub WritesFront-before : (a b : Option (List ℕ)) (text more : List ℕ) → WritesFront a b text
+    → WritesFront a b (text ++ more)
+WritesFront-before a b text more (rest, (x, adds, is)) =
+    (rest ++ more, (x, adds, ap (λ l. l ++ more) is ∙ append_assoc x rest more))
+
+-- a text, and then a beginning of another, where nothing waits
+pub WritesFront-after : (a b c : Option (List ℕ)) (text more : List ℕ) → Appends a b text → WritesFront b c more
+    → WritesFront a c (text ++ more)
+WritesFront-after a b c text more adds (rest, (y, next, is)) =
+    (rest, (text ++ y, Appends-trans a b c text y adds next, ap (λ l. text ++ l) is ∙ sym (append_assoc text y rest)))
