@@ -191,7 +191,7 @@ fn check(rt: &impl Abort, alloc: Global, case: &Case<'_>) {
 const ALL: (usize, usize, Then) = (4096, 4096, Then::GivesNone);
 
 #[test]
-fn any_two_pieces(rt: HostRuntime) {
+fn asks_in_any_two_pieces_are_answered_alike(rt: HostRuntime) {
     for first in 1..=ASKS.len() {
         let mut reader = reader_of(&ASKS, first, ASKS.len(), Then::GivesNone);
         let mut writer = Over::new(Vec::new(rt.alloc()));
@@ -218,7 +218,7 @@ fn any_two_pieces(rt: HostRuntime) {
 
 #[test]
 #[rattlefmt::skip]
-fn ends(rt: HostRuntime) {
+fn each_end_is_told_and_leave_is_asked_last(rt: HostRuntime) {
     let closed = Then::GivesNone;
     let fails = Then::Fails;
     let bad = Ended::Wire(WireFault::BadLength);
@@ -280,7 +280,7 @@ fn converse(
 }
 
 #[test]
-fn over_memory(rt: HostRuntime) {
+fn a_session_over_memory_is_answered(rt: HostRuntime) {
     let (desk, mut seat) = OneDesk::open(1, Store::new(rt.alloc()));
     let gate = watches(0);
     let (text, ended) = converse(&rt, rt.alloc(), &ASKS, &mut seat, &gate);
