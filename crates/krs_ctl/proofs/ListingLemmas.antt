@@ -22,13 +22,6 @@ serials_again (n ∷ serials) (first, rest) =
     ap (λ k. k ∷ serials_in (serial_bytes serials)) (from_le_bytes-to_le_bytes_4 n first)
     ∙ ap (λ ns. n ∷ ns) (serials_again serials rest)
 
--- four bytes each
-length-serial_bytes : (serials : List ℕ) → length (serial_bytes serials) ≡ 4 * length serials
-length-serial_bytes [] = refl
-length-serial_bytes (n ∷ serials) =
-    let rest = length-serial_bytes serials in rw (length-append (to_le_bytes w32 n) (serial_bytes serials))
-    (omega (arith, rest))
-
 whole_serials : (serials : List ℕ) → (length (serial_bytes serials) % 4 == 0) ≡ true
 whole_serials serials = rw (length-serial_bytes serials, mul-mod_right 4 (length serials)) refl
 

@@ -1,15 +1,14 @@
 -- How what was read, asked and written joins.
 use Rattle.std.proofs.Common.{◌≡◌, ℕ, List, [], ◌∷◌, ◌++◌, take, drop, sym, ap, subst, ◌∙◌, append_assoc, refl}
 use Rattle.std.proofs.lemmas.List.{append-nil, map-append, take-append-drop}
-use Rattle.std.proofs.lemmas.List.Concat.{flat_map-append}
 use Rattle.std.specs.Prelude.{Option, Some, None}
 use Rattle.krs_wire.specs.declared.framed.Framed.{Framed}
-use Rattle.krs_wire.specs.Reply.{reply_frame}
 use Rattle.krs_types.specs.declared.event.Event.{Event}
 use Rattle.krs_types.specs.declared.ask.Ask.{Ask}
 use Rattle.krs_session.specs.declared.ended.Ended.{Ended}
 use Rattle.krs_session.specs.declared.ended.Ended.TheVariants.{Closed, Wire, Read, Write, Memory, Turns}
-use Rattle.krs_session.specs.Events.{Begins, asks_in, moments_of, session_text, AllOfLane}
+use Rattle.krs_model.specs.Lists.{Begins}
+use Rattle.krs_session.specs.Events.{asks_of, asks_in, moments_of, replies_of, reply_text, session_text, AllOfLane}
 use Rattle.krs_session.specs.Session.{TookFront}
 use Rattle.krs_session.specs.Serving.{Asked, Wrote, WroteNext, StopsBy, StopsNext, Answers}
 
@@ -113,6 +112,18 @@ stops_next old mid new (Some stop) result a b =
     subst (λ (r : Option Ended). StopsBy old new r) (sym b.1)
     (subst (λ (n : ℕ). StopsBy old n (Some stop)) (sym b.0) a)
 
+-- the text of one reply to each of these frames, and then of more
+pub text_joins : (fs gs : List Framed) (xs ys : List Event) → asks_of xs ≡ asks_in fs
+    → session_text (fs ++ gs) (replies_of (xs ++ ys))
+    ≡ session_text fs (replies_of xs) ++ session_text gs (replies_of ys)
+text_joins [] gs [] ys e = refl
+text_joins [] gs (x ∷ xs) ys e = cc
+text_joins (f ∷ fs) gs [] ys e = cc
+text_joins (f ∷ fs) gs (x ∷ xs) ys e =
+    let others : asks_of xs ≡ asks_in fs = cc in
+    ap (λ (t : List ℕ). reply_text f x.reply ++ t) (text_joins fs gs xs ys others)
+    ∙ sym (append_assoc (reply_text f x.reply) (session_text fs (replies_of xs)) (session_text gs (replies_of ys)))
+
 -- ---- one more ask
 
 module _ {S C W : Type 0} (leads : S → List Event → S → Type 0) (ticked : C → List ℕ → C → Type 0)
@@ -123,12 +134,14 @@ module _ {S C W : Type 0} (leads : S → List Event → S → Type 0) (ticked : 
       (event : Event) (stop result : Option Ended)
       → Answers leads ticked took lane s0 s1 c0 c1 w0 w1 frames stop → event.ask ≡ framed.ask
       → Asked leads ticked lane s1 s2 c1 c2 (event ∷ [])
-      → WroteNext took w1 w2 (reply_frame event.reply) stop result
+      → WroteNext took w1 w2 (reply_text framed event.reply) stop result
       → Answers leads ticked took lane s0 s2 c0 c2 w0 w2 (frames ++ framed ∷ []) result
   answers_more lane s0 s1 s2 c0 c1 c2 w0 w1 w2 frames framed event stop result a same one wrote =
-      let text : session_text (a.events ++ event ∷ []) ≡ session_text a.events ++ reply_frame event.reply =
-      flat_map-append (λ (x : Event). reply_frame x.reply) a.events (event ∷ [])
-      ∙ ap (λ (x : List ℕ). session_text a.events ++ x) (append-nil (reply_frame event.reply)) in
+      let before : List ℕ = session_text frames (replies_of a.events) in
+      let text : session_text (frames ++ framed ∷ []) (replies_of (a.events ++ event ∷ []))
+      ≡ before ++ reply_text framed event.reply =
+      text_joins frames (framed ∷ []) a.events (event ∷ []) a.order
+      ∙ ap (λ (x : List ℕ). before ++ x) (append-nil (reply_text framed event.reply)) in
       record {
         events = a.events ++ event ∷ [];
         order = map-append (λ (x : Event). x.ask) a.events (event ∷ [])
@@ -136,8 +149,7 @@ module _ {S C W : Type 0} (leads : S → List Event → S → Type 0) (ticked : 
             ∙ sym (map-append (λ (x : Framed). x.ask) frames (framed ∷ []));
         asked = asked_joins leads ticked lane s0 s1 s2 c0 c1 c2 a.events (event ∷ []) led ticks a.asked one;
         wrote = subst (λ (x : List ℕ). Wrote took w0 w2 x result) (sym text)
-            (wrote_next took joins w0 w1 w2 (session_text a.events) (reply_frame event.reply) stop result
-            a.wrote wrote);
+            (wrote_next took joins w0 w1 w2 before (reply_text framed event.reply) stop result a.wrote wrote);
       }
 
   pub answers_none : (lane : ℕ) (s0 : S) (c0 : C) (w0 : W) → leads s0 [] s0 → ticked c0 [] c0 → took w0 [] w0

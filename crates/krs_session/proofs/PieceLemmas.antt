@@ -2,7 +2,6 @@
 use Rattle.std.proofs.Common.{◌≡◌, ◌≤◌, ℕ, ◌+◌, ◌*◌, List, [], ◌++◌, length, length-append, refl, sym, ap, subst, ◌∙◌}
 use Rattle.std.proofs.Common.{inl, inr, arith}
 use Rattle.std.proofs.lemmas.List.{append-nil, map-append}
-use Rattle.std.proofs.lemmas.List.Concat.{flat_map-append}
 use Rattle.std.specs.Prelude.{Some, None}
 use Rattle.krs_types.specs.declared.ask.Ask.{Ask}
 use Rattle.krs_types.specs.declared.event.Event.{Event}
@@ -11,13 +10,12 @@ use Rattle.krs_wire.specs.declared.fault.WireFault.{WireFault}
 use Rattle.krs_wire.specs.declared.fault.WireFault.TheVariants as faults
 use Rattle.krs_wire.specs.Frame.{End, rest, bad, Frames}
 use Rattle.krs_wire.specs.Feeding.{Feeds, Refuses, fault_of}
-use Rattle.krs_wire.specs.Reply.{reply_frame}
 use Rattle.krs_session.specs.declared.ended.Ended.{Ended}
 use Rattle.krs_session.specs.declared.ended.Ended.TheVariants.{Closed, Wire, Read, Write, Memory, Turns}
-use Rattle.krs_session.specs.Events.{asks_of, asks_in, session_text}
+use Rattle.krs_session.specs.Events.{asks_of, asks_in, replies_of, session_text}
 use Rattle.krs_session.specs.Session.{AreFirst, ServesBytes}
 use Rattle.krs_session.specs.Serving.{Asked, PieceServes, FeedsMore, Served, Finished}
-use Rattle.krs_session.proofs.JoinLemmas.{Joins, asked_joins, front_joins}
+use Rattle.krs_session.proofs.JoinLemmas.{Joins, asked_joins, front_joins, text_joins}
 
 pub refused_more : (old : End) (piece : List ℕ) (fault : WireFault) → fault_of old ≡ None → Refuses old piece fault
     → FeedsMore old piece []
@@ -43,7 +41,7 @@ pub record SoFar {R S C W : Type 0} (gave : R → List ℕ → R → Type 0) (le
   pub order : asks_of events ≡ asks_in frames
   pub asked : Asked leads ticked lane s0 s1 c0 c1 events
   pub cut : Frames bytes frames f1
-  pub wrote : took w0 (session_text events) w1
+  pub wrote : took w0 (session_text frames (replies_of events)) w1
 
 fed_on : (f0 f1 : End) (bytes piece : List ℕ) (frames more : List Framed) → fault_of f0 ≡ None
     → Frames bytes frames f0 → Feeds f0 piece more f1 → Frames (bytes ++ piece) (frames ++ more) f1
@@ -92,9 +90,6 @@ module _ {W : Type 0} (took : W → List ℕ → W → Type 0) (joins : Joins to
       (unread_cut f0 bytes piece frames more n h p.0 p.1, joins w0 w1 w2 xs ys t p.2)
   piece_ends w0 w1 w2 f0 f1 bytes piece frames more xs ys Turns n h t p = absurd p
 
-text_joins : (xs ys : List Event) → session_text xs ++ session_text ys ≡ session_text (xs ++ ys)
-text_joins xs ys = sym (flat_map-append (λ (x : Event). reply_frame x.reply) xs ys)
-
 order_joins : (xs ys : List Event) (fs gs : List Framed) → asks_of xs ≡ asks_in fs → asks_of ys ≡ asks_in gs
     → asks_of (xs ++ ys) ≡ asks_in (fs ++ gs)
 order_joins xs ys fs gs a b =
@@ -121,8 +116,9 @@ module _ {R S C W : Type 0} (gave : R → List ℕ → R → Type 0) (leads : S 
         order = order_joins a.events b.events a.frames b.frames a.order b.order;
         asked = asked_joins leads ticked lane s0 s1 s2 c0 c1 c2 a.events b.events led ticks a.asked b.asked;
         cut = fed_on f1 f2 a.bytes piece a.frames b.frames n a.cut b.served.0;
-        wrote = subst (λ (x : List ℕ). took w0 x w2) (text_joins a.events b.events)
-            (takes w0 w1 w2 (session_text a.events) (session_text b.events) a.wrote b.served.2);
+        wrote = subst (λ (x : List ℕ). took w0 x w2) (sym (text_joins a.frames b.frames a.events b.events a.order))
+            (takes w0 w1 w2 (session_text a.frames (replies_of a.events)) (session_text b.frames (replies_of b.events))
+            a.wrote b.served.2);
       }
 
   pub so_far_ends : (lane made reads mid : ℕ) (r0 r1 r2 : R) (s0 s1 s2 : S) (c0 c1 c2 : C) (w0 w1 w2 : W)
@@ -142,9 +138,10 @@ module _ {R S C W : Type 0} (gave : R → List ℕ → R → Type 0) (leads : S 
         asked = asked_joins leads ticked lane s0 s1 s2 c0 c1 c2 a.events b.events led ticks a.asked b.asked;
         served =
             subst (λ (x : List ℕ). ServesBytes (λ text. took w0 text w2) (a.bytes ++ piece) (a.frames ++ b.frames) x
-            ended) (text_joins a.events b.events)
-            (piece_ends took takes w0 w1 w2 f1 f2 a.bytes piece a.frames b.frames (session_text a.events)
-            (session_text b.events) ended n a.cut a.wrote b.served);
+            ended) (sym (text_joins a.frames b.frames a.events b.events a.order))
+            (piece_ends took takes w0 w1 w2 f1 f2 a.bytes piece a.frames b.frames
+            (session_text a.frames (replies_of a.events)) (session_text b.frames (replies_of b.events)) ended n a.cut
+            a.wrote b.served);
       }
 
   pub so_far_none : (lane : ℕ) (r : R) (s : S) (c : C) (w : W) (f : End) → gave r [] r → leads s [] s → ticked c [] c

@@ -2,4 +2,3 @@ pub mod Events
 pub mod Session
 pub mod Serving
 pub mod Over
-pub mod Legal

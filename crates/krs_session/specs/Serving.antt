@@ -6,8 +6,8 @@ use Rattle.krs_wire.specs.Frame.{End, rest, bad, Frames}
 use Rattle.krs_wire.specs.Feeding.{Feeds, fault_of}
 use Rattle.krs_session.specs.declared.ended.Ended.{Ended}
 use Rattle.krs_session.specs.declared.ended.Ended.TheVariants.{Closed, Wire, Read, Write, Memory, Turns}
-use Rattle.krs_session.specs.Events.{asks_of, asks_in, moments_of, session_text, AllOfLane}
-use Rattle.krs_session.specs.Session.{TookFront, ServesBytes}
+use Rattle.krs_session.specs.Events.{asks_of, asks_in, moments_of, replies_of, session_text, AllOfLane}
+use Rattle.krs_session.specs.Session.{TookFront, ServesBytes, Counts}
 
 -- the seat's new events: its lane's, at the clock's answers in order
 pub record Asked {S C : Type 0} (leads : S → List Event → S → Type 0) (ticked : C → List ℕ → C → Type 0) (lane : ℕ)
@@ -53,7 +53,7 @@ pub record Answers {S C W : Type 0} (leads : S → List Event → S → Type 0) 
   pub events : List Event
   pub order : asks_of events ≡ asks_in frames
   pub asked : Asked leads ticked lane seat0 seat1 clock0 clock1 events
-  pub wrote : Wrote took writer0 writer1 (session_text events) stop
+  pub wrote : Wrote took writer0 writer1 (session_text frames (replies_of events)) stop
 
 -- for every stream that ended so, with this piece behind it: these frames come next, and maybe more
 abbrev pub FeedsMore : End → List ℕ → List Framed → Type 0
@@ -89,7 +89,7 @@ pub record Served {S C W : Type 0} (leads : S → List Event → S → Type 0) (
   pub events : List Event
   pub order : asks_of events ≡ asks_in frames
   pub asked : Asked leads ticked lane seat0 seat1 clock0 clock1 events
-  pub served : PieceServes took writer0 writer1 feed0 feed1 piece frames (session_text events) stop
+  pub served : PieceServes took writer0 writer1 feed0 feed1 piece frames (session_text frames (replies_of events)) stop
 
 -- what ends a piece, by the count of failed writes
 abbrev pub PieceEndsBy : ℕ → ℕ → Option Ended → Type 0
@@ -101,16 +101,17 @@ PieceEndsBy old new (Some Closed) = ⊥
 PieceEndsBy old new (Some Read) = ⊥
 PieceEndsBy old new (Some Turns) = ⊥
 
--- what ends a turn, by the counts of reads that gave nothing, failed reads and failed writes
-abbrev pub TurnEndsBy : (empties0 empties1 failed0 failed1 unwritten0 unwritten1 : ℕ) → Option Ended → Type 0
-TurnEndsBy empties0 empties1 failed0 failed1 unwritten0 unwritten1 None =
-    (empties1 ≡ empties0) × (failed1 ≡ failed0) × (unwritten1 ≡ unwritten0)
-TurnEndsBy empties0 empties1 failed0 failed1 unwritten0 unwritten1 (Some Closed) = empties0 < empties1
-TurnEndsBy empties0 empties1 failed0 failed1 unwritten0 unwritten1 (Some Read) = failed0 < failed1
-TurnEndsBy empties0 empties1 failed0 failed1 unwritten0 unwritten1 (Some Write) = unwritten0 < unwritten1
-TurnEndsBy empties0 empties1 failed0 failed1 unwritten0 unwritten1 (Some Memory) = Unit {0}
-TurnEndsBy empties0 empties1 failed0 failed1 unwritten0 unwritten1 (Some (Wire fault)) = Unit {0}
-TurnEndsBy empties0 empties1 failed0 failed1 unwritten0 unwritten1 (Some Turns) = ⊥
+-- what ends a turn, by what the ends had counted before it and after it
+abbrev pub TurnEndsBy : Counts → Counts → Option Ended → Type 0
+TurnEndsBy before after None =
+    (after.empties ≡ before.empties) × (after.failed_reads ≡ before.failed_reads)
+    × (after.failed_writes ≡ before.failed_writes)
+TurnEndsBy before after (Some Closed) = before.empties < after.empties
+TurnEndsBy before after (Some Read) = before.failed_reads < after.failed_reads
+TurnEndsBy before after (Some Write) = before.failed_writes < after.failed_writes
+TurnEndsBy before after (Some Memory) = Unit {0}
+TurnEndsBy before after (Some (Wire fault)) = Unit {0}
+TurnEndsBy before after (Some Turns) = ⊥
 
 -- a whole session but for its LEAVE; a read gives at most 4096 bytes
 pub record Finished {R S C W : Type 0} (gave : R → List ℕ → R → Type 0) (leads : S → List Event → S → Type 0)
@@ -123,4 +124,5 @@ pub record Finished {R S C W : Type 0} (gave : R → List ℕ → R → Type 0) 
   pub size : length bytes ≤ 4096 * reads
   pub order : asks_of events ≡ asks_in frames
   pub asked : Asked leads ticked lane seat0 seat1 clock0 clock1 events
-  pub served : ServesBytes (λ text. took writer0 text writer1) bytes frames (session_text events) ended
+  pub served : ServesBytes (λ text. took writer0 text writer1) bytes frames
+      (session_text frames (replies_of events)) ended

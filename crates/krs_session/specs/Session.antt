@@ -7,7 +7,8 @@ use Rattle.krs_wire.specs.declared.framed.Framed.{Framed}
 use Rattle.krs_wire.specs.Frame.{End, rest, bad, Frames}
 use Rattle.krs_session.specs.declared.ended.Ended.{Ended}
 use Rattle.krs_session.specs.declared.ended.Ended.TheVariants.{Closed, Wire, Read, Write, Memory, Turns}
-use Rattle.krs_session.specs.Events.{asks_of, asks_in, moments_of, session_text, AllOfLane, Begins}
+use Rattle.krs_model.specs.Lists.{Begins}
+use Rattle.krs_session.specs.Events.{asks_of, asks_in, moments_of, replies_of, session_text, AllOfLane}
 
 -- the bytes are cut into these frames, and a rest or a fault
 abbrev pub AreAll : List ℕ → List Framed → Type 0
@@ -58,14 +59,21 @@ pub record Session (gave : List ℕ → Type 0) (led : List Event → Type 0) (t
   pub lanes : AllOfLane lane (events ++ last ∷ [])
   pub order : asks_of events ≡ asks_in frames
   pub leave : last.ask ≡ leave
-  pub served : ServesBytes took bytes frames (session_text events) ended
+  pub served : ServesBytes took bytes frames (session_text frames (replies_of events)) ended
 
--- Why a session ended, by what its ends counted before and after: reads into room, those that gave no bytes, failed
--- reads; failed writes, with those that took none of a piece that isn't empty.
-abbrev pub EndsBy : (turns reads0 reads1 empties0 empties1 failed0 failed1 unwritten0 unwritten1 : ℕ) → Ended → Type 0
-EndsBy turns reads0 reads1 empties0 empties1 failed0 failed1 unwritten0 unwritten1 Turns = reads1 ≡ reads0 + turns
-EndsBy turns reads0 reads1 empties0 empties1 failed0 failed1 unwritten0 unwritten1 Closed = empties0 < empties1
-EndsBy turns reads0 reads1 empties0 empties1 failed0 failed1 unwritten0 unwritten1 Read = failed0 < failed1
-EndsBy turns reads0 reads1 empties0 empties1 failed0 failed1 unwritten0 unwritten1 Write = unwritten0 < unwritten1
-EndsBy turns reads0 reads1 empties0 empties1 failed0 failed1 unwritten0 unwritten1 Memory = Unit {0}
-EndsBy turns reads0 reads1 empties0 empties1 failed0 failed1 unwritten0 unwritten1 (Wire fault) = Unit {0}
+-- what the ends of a connection have counted: reads into room, those of them that gave no bytes, reads that failed,
+-- and writes that failed or took none of a piece that isn't empty
+pub record Counts : Type 0 where
+  pub reads : ℕ
+  pub empties : ℕ
+  pub failed_reads : ℕ
+  pub failed_writes : ℕ
+
+-- why a session ended, by what its ends had counted before it and after it
+abbrev pub EndsBy : ℕ → Counts → Counts → Ended → Type 0
+EndsBy turns before after Turns = after.reads ≡ before.reads + turns
+EndsBy turns before after Closed = before.empties < after.empties
+EndsBy turns before after Read = before.failed_reads < after.failed_reads
+EndsBy turns before after Write = before.failed_writes < after.failed_writes
+EndsBy turns before after Memory = Unit {0}
+EndsBy turns before after (Wire fault) = Unit {0}

@@ -1,6 +1,6 @@
 ghost use Rattle.std.specs.Prelude.{◌≡◌, ℕ, List, [], ◌∷◌, ◌++◌};
 ghost use Rattle.krs_types.specs.declared.event.Event.{Event};
-ghost use Rattle.krs_session.specs.Events.{event};
+ghost use Rattle.krs_model.specs.History.{event_of};
 
 use krs_types::{Ask, Reply};
 
@@ -24,7 +24,7 @@ pub trait Keeper<S, R> {
         requires { ready self.now seat.old }
         ensures ready { ready self.now seat.new }
         ensures lane { lane_of seat.new ≡ lane_of seat.old }
-        ensures led { leads seat.old (event (lane_of seat.old) moment ask result ∷ []) seat.new };
+        ensures led { leads seat.old (event_of (lane_of seat.old) moment ask result ∷ []) seat.new };
 
     ghost starts: { (s : S) → leads s [] s };
 

@@ -44,7 +44,7 @@ impl OneDesk {
 
 impl<R> Keeper<OneSeat, R> for OneDesk {
     ghost use Rattle.krs_model.specs.History.{IsLegal};
-    ghost use Rattle.krs_session.specs.Legal.{IsLegal-nil, IsLegal-append};
+    ghost use Rattle.krs_model.proofs.Legal.{legal_none, legal_both};
 
     ghost ready = { λ d s. Unit {0} };
 
@@ -62,7 +62,7 @@ impl<R> Keeper<OneSeat, R> for OneDesk {
         seat.store.apply(0, moment, ask)
     }
 
-    ghost starts = { IsLegal-nil };
+    ghost starts = { legal_none };
 
-    ghost joins = { IsLegal-append };
+    ghost joins = { legal_both };
 }

@@ -4,7 +4,7 @@ ghost use Rattle.krs_wire.specs.Feeding.{fault_of};
 ghost use Rattle.krs_session.specs.Session.{Session, EndsBy};
 ghost use Rattle.krs_session.specs.Serving.{Served, PieceEndsBy, TurnEndsBy, Finished};
 
-use crate::asking::{answer_all, ask_one};
+use crate::asking::{Setting, answer_all, ask_one};
 use crate::{Clock, Ended, Gate, Keeper, Sink, Source};
 use krs_types::{Ask, Op};
 use krs_wire::{Feed, WireFault};
@@ -15,24 +15,21 @@ const READ_SIZE: usize = 4096;
 
 /// Cuts a piece of the stream, asks what its frames ask, and writes the replies. What ends the session is the answer.
 fn serve_piece<H, W: Sink, S, D: Keeper<S, H>, C: Clock, G: Gate>(
-    rt: &H,
-    alloc: Global,
+    setting: &Setting<'_, H, D, G>,
     feed: &mut Feed,
     piece: &[u8],
     writer: &mut W,
-    desk: &D,
     seat: &mut S,
     clock: &mut C,
-    gate: &G,
 ) -> Option<Ended>
     requires unfailed { fault_of feed.old ≡ None }
-    requires ready { D.ready desk.now seat.old }
+    requires ready { D.ready setting.now.desk.now seat.old }
     requires failures { W.failures writer.old < u64.MAX }
     ensures served { Served D.leads C.ticked W.took (D.lane_of seat.old)
         seat.old seat.new clock.old clock.new writer.old writer.new feed.old feed.new piece.now result }
     ensures count { PieceEndsBy (W.failures writer.old) (W.failures writer.new) result }
     ensures not_wire { result ≢ Some (Ended.Wire WireFault.Memory) }
-    ensures ready { D.ready desk.now seat.new }
+    ensures ready { D.ready setting.now.desk.now seat.new }
     ensures lane { D.lane_of seat.new ≡ D.lane_of seat.old }
 {
     match feed.feed(piece) {
@@ -40,7 +37,7 @@ fn serve_piece<H, W: Sink, S, D: Keeper<S, H>, C: Clock, G: Gate>(
             WireFault::Memory => Some(Ended::Memory),
             _ => Some(Ended::Wire(fault)),
         },
-        Ok(frames) => match answer_all(rt, alloc, writer, desk, seat, clock, gate, frames) {
+        Ok(frames) => match answer_all(setting, writer, seat, clock, frames) {
             Some(stop) => Some(stop),
             None => match feed.fault() {
                 None => None,
@@ -52,18 +49,15 @@ fn serve_piece<H, W: Sink, S, D: Keeper<S, H>, C: Clock, G: Gate>(
 
 /// One read, and what it leads to.
 fn turn<H, R: Source, W: Sink, S, D: Keeper<S, H>, C: Clock, G: Gate>(
-    rt: &H,
-    alloc: Global,
+    setting: &Setting<'_, H, D, G>,
     feed: &mut Feed,
     reader: &mut R,
     writer: &mut W,
-    desk: &D,
     seat: &mut S,
     clock: &mut C,
-    gate: &G,
 ) -> Option<Ended>
     requires unfailed { fault_of feed.old ≡ None }
-    requires ready { D.ready desk.now seat.old }
+    requires ready { D.ready setting.now.desk.now seat.old }
     requires failures { W.failures writer.old < u64.MAX }
     requires reads { R.reads reader.old < u64.MAX }
     requires empties { R.empties reader.old < u64.MAX }
@@ -72,10 +66,19 @@ fn turn<H, R: Source, W: Sink, S, D: Keeper<S, H>, C: Clock, G: Gate>(
         × Served D.leads C.ticked W.took (D.lane_of seat.old)
         seat.old seat.new clock.old clock.new writer.old writer.new feed.old feed.new bytes result }
     ensures reads { R.reads reader.new ≡ R.reads reader.old + 1 }
-    ensures count { TurnEndsBy (R.empties reader.old) (R.empties reader.new)
-        (R.failures reader.old) (R.failures reader.new) (W.failures writer.old) (W.failures writer.new) result }
+    ensures count { TurnEndsBy (record {
+      reads = R.reads reader.old;
+      empties = R.empties reader.old;
+      failed_reads = R.failures reader.old;
+      failed_writes = W.failures writer.old;
+    }) (record {
+      reads = R.reads reader.new;
+      empties = R.empties reader.new;
+      failed_reads = R.failures reader.new;
+      failed_writes = W.failures writer.new;
+    }) result }
     ensures not_wire { result ≢ Some (Ended.Wire WireFault.Memory) }
-    ensures ready { D.ready desk.now seat.new }
+    ensures ready { D.ready setting.now.desk.now seat.new }
     ensures lane { D.lane_of seat.new ≡ D.lane_of seat.old }
 {
     let mut room = [0u8; READ_SIZE];
@@ -85,24 +88,21 @@ fn turn<H, R: Source, W: Sink, S, D: Keeper<S, H>, C: Clock, G: Gate>(
             if n == 0 {
                 return Some(Ended::Closed);
             }
-            serve_piece(rt, alloc, feed, &room[..n], writer, desk, seat, clock, gate)
+            serve_piece(setting, feed, &room[..n], writer, seat, clock)
         }
     }
 }
 
 /// Turns until something ends the session.
 fn serve<H, R: Source, W: Sink, S, D: Keeper<S, H>, C: Clock, G: Gate>(
-    rt: &H,
-    alloc: Global,
+    setting: &Setting<'_, H, D, G>,
     reader: &mut R,
     writer: &mut W,
-    desk: &D,
     seat: &mut S,
     clock: &mut C,
-    gate: &G,
     turns: u64,
 ) -> Ended
-    requires ready { D.ready desk.now seat.old }
+    requires ready { D.ready setting.now.desk.now seat.old }
     requires failures { W.failures writer.old < u64.MAX }
     requires reads { R.reads reader.old + turns < 2 ^ 64 }
     requires empties { R.empties reader.old < u64.MAX }
@@ -110,18 +110,25 @@ fn serve<H, R: Source, W: Sink, S, D: Keeper<S, H>, C: Clock, G: Gate>(
     ensures finished { Finished R.gave D.leads C.ticked W.took (D.lane_of seat.old)
         (R.reads reader.new - R.reads reader.old)
         reader.old reader.new seat.old seat.new clock.old clock.new writer.old writer.new result }
-    ensures count { EndsBy turns (R.reads reader.old) (R.reads reader.new)
-        (R.empties reader.old) (R.empties reader.new) (R.failures reader.old) (R.failures reader.new)
-        (W.failures writer.old) (W.failures writer.new) result }
+    ensures count { EndsBy turns (record {
+      reads = R.reads reader.old;
+      empties = R.empties reader.old;
+      failed_reads = R.failures reader.old;
+      failed_writes = W.failures writer.old;
+    }) (record {
+      reads = R.reads reader.new;
+      empties = R.empties reader.new;
+      failed_reads = R.failures reader.new;
+      failed_writes = W.failures writer.new;
+    }) result }
+    ensures bounded { R.reads reader.new ≤ R.reads reader.old + turns }
     ensures not_wire { result ≢ Ended.Wire WireFault.Memory }
-    ensures ready { D.ready desk.now seat.new }
+    ensures ready { D.ready setting.now.desk.now seat.new }
     ensures lane { D.lane_of seat.new ≡ D.lane_of seat.old }
 {
-    let mut feed = Feed::new(alloc);
+    let mut feed = Feed::new(setting.alloc);
     for made in 0..turns {
-        let ended = turn(
-            rt, alloc, &mut feed, reader, writer, desk, seat, clock, gate,
-        );
+        let ended = turn(setting, &mut feed, reader, writer, seat, clock);
         if let Some(ended) = ended {
             return ended;
         }
@@ -155,19 +162,34 @@ pub fn run<H, R: Source, W: Sink, S, D: Keeper<S, H>, C: Clock, G: Gate>(
         (λ text. W.took writer.old text writer.new)
         (D.lane_of seat.old) (R.reads reader.new - R.reads reader.old) result }
 
-    // Why it ended, by the counts of its ends.
-    ensures count { EndsBy turns (R.reads reader.old) (R.reads reader.new)
-        (R.empties reader.old) (R.empties reader.new) (R.failures reader.old) (R.failures reader.new)
-        (W.failures writer.old) (W.failures writer.new) result }
+    // Why it ended, by the counts of its ends, and how many reads it made at most, however it ended.
+    ensures count { EndsBy turns (record {
+      reads = R.reads reader.old;
+      empties = R.empties reader.old;
+      failed_reads = R.failures reader.old;
+      failed_writes = W.failures writer.old;
+    }) (record {
+      reads = R.reads reader.new;
+      empties = R.empties reader.new;
+      failed_reads = R.failures reader.new;
+      failed_writes = W.failures writer.new;
+    }) result }
+    ensures bounded { R.reads reader.new ≤ R.reads reader.old + turns }
     ensures not_wire { result ≢ Ended.Wire WireFault.Memory }
     ensures ready { D.ready desk.now seat.new }
     ensures lane { D.lane_of seat.new ≡ D.lane_of seat.old }
 {
-    let ended = serve(rt, alloc, reader, writer, desk, seat, clock, gate, turns);
+    let setting = Setting {
+        rt,
+        alloc,
+        desk,
+        gate,
+    };
+    let ended = serve(&setting, reader, writer, seat, clock, turns);
     let leave = Ask {
         context: 0,
         op: Op::Leave,
     };
-    let _ = ask_one(rt, desk, seat, clock, gate, leave);
+    let _ = ask_one(&setting, seat, clock, leave);
     ended
 }

@@ -7,6 +7,6 @@ invariant-frames g l = record {
   state : Answers g.D.Keeper.leads g.C.Clock.ticked g.W.Sink.took (g.D.Keeper.lane_of l.initial.seat) l.initial.seat
       l.seat l.initial.clock l.clock l.initial.writer l.writer l.yielded l.stop;
   count : StopsBy (g.W.Sink.failures l.initial.writer) (g.W.Sink.failures l.writer) l.stop;
-  ready : g.D.Keeper.ready l.desk l.seat;
+  ready : g.D.Keeper.ready l.setting.desk.now l.seat;
   lane : g.D.Keeper.lane_of l.seat ≡ g.D.Keeper.lane_of l.initial.seat;
 }

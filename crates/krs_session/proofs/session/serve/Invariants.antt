@@ -13,6 +13,6 @@ invariant-loop-made g l = record {
   empties : g.R.Source.empties l.reader ≡ g.R.Source.empties l.initial.reader;
   read_failures : g.R.Source.failures l.reader ≡ g.R.Source.failures l.initial.reader;
   failures : g.W.Sink.failures l.writer ≡ g.W.Sink.failures l.initial.writer;
-  ready : g.D.Keeper.ready l.desk l.seat;
+  ready : g.D.Keeper.ready l.setting.desk.now l.seat;
   lane : g.D.Keeper.lane_of l.seat ≡ g.D.Keeper.lane_of l.initial.seat;
 }
