@@ -33,8 +33,8 @@ use Rattle.krs_model.specs.Asks.Finding.{search_from, searched_for, sought_into,
 use Rattle.krs_model.specs.Asks.Finding.{requested_into, sought_name}
 use Rattle.krs_model.specs.Asks.Adding.{Place, Updated, Made, add, added, added_in, admitted, made, new_key, place_of}
 use Rattle.krs_model.specs.Asks.Changing.{changed, update, updated, revoke, chown, set_perm, set_timeout}
-use Rattle.krs_model.specs.Asks.Linked.{link, linked, linked_into, unlink, clear, nestable, link_check, name_of, if_linked}
-use Rattle.krs_model.specs.Asks.Linked.{without_link}
+use Rattle.krs_model.specs.Asks.Linked.{link, linked, linked_into, unlink, clear, nestable, link_check, name_of}
+use Rattle.krs_model.specs.Asks.Linked.{if_linked, without_link}
 use Rattle.krs_model.specs.Asks.Invalidating.{invalidate, invalidated}
 use Rattle.krs_model.specs.Asks.Reading.{read, describe}
 use Rattle.krs_model.specs.Asks.Leaving.{exit, exited}

@@ -105,7 +105,8 @@ rings_stand s c stands =
     let n = s.next_serial in
     let user = user_key c in
     let one = with_new s user in
-    let first : Stands one = key_stands s user (λ k no. absurd (true≢false (sym no))) (λ name. omega arith) refl stands in
+    let first : Stands one =
+    key_stands s user (λ k no. absurd (true≢false (sym no))) (λ name. omega arith) refl stands in
     let there : IsSome (at one.keys n) = some_there one.keys n user (at_put_same s.keys n user) in
     key_stands one (session_key c n)
     (λ k i. subst (λ (z : ℕ). IsSome (at one.keys z)) (sym (only_in k n i)) there)

@@ -55,7 +55,8 @@ pub further_owned :
     → AllOwned contexts uids → AllOwned (put contexts n c) uids
 further_owned contexts uids n c there owned =
     has_owned (put contexts n c) uids (λ uid i. ⊎_elim
-    (λ (mine : is_in uid (own_uid c) ≡ true). subst (λ (z : ℕ). IsSome (at uids z)) (sym (only_in uid c.caller.uid mine)) there)
+    (λ (mine : is_in uid (own_uid c) ≡ true).
+    subst (λ (z : ℕ). IsSome (at uids z)) (sym (only_in uid c.caller.uid mine)) there)
     (λ was. owned_has contexts uids owned uid was) (attached_either own_uid contexts n c uid i))
 
 -- a further context of a further process

@@ -271,7 +271,8 @@ plain_search :
     → IsPlain (search_from s client context head type_name desc dest)
 unfolding search_from
 plain_search s client context head type_name desc dest =
-    search (plain, plain_context, plain_sought, plain_look_up, plain_within, plain_links, plain_into, plain_found) depth 12
+    search (plain, plain_context, plain_sought, plain_look_up, plain_within, plain_links, plain_into, plain_found)
+    depth 12
 
 plain_request :
     (s : State) (client context : ℕ) (type_name desc : List ℕ) (dest : ℤ)

@@ -219,8 +219,8 @@ fork_stands s client context stands =
     sustains_after (if_context_number s) _ (λ left _.
     let is = own_there s client context c own in
     sustains_ok (entered_stands s client c.caller c.session
-    (λ k i. own_session_there s context c k is stands i) (owner_there s.contexts s.uids context c is stands.housed.owned)
-    stands))))
+    (λ k i. own_session_there s context c k is stands i)
+    (owner_there s.contexts s.uids context c is stands.housed.owned) stands))))
 
 pub exec_stands : (s : State) (client context : ℕ) → Stands s → Sustains (exec s client context)
 unfolding exec

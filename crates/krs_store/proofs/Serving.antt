@@ -1,25 +1,23 @@
 -- For a store that takes a step in turn: posts and the sweep touch different parts, so the order between them is free.
-use Rattle.std.proofs.Common.{◌≡◌, ℕ, List, [], ◌∷◌, ◌++◌, Some, map, flat_map, Result, Ok}
+use Rattle.std.proofs.Common.{◌≡◌, ℕ, List, [], ◌∷◌, ◌++◌, map, flat_map, Result, Ok}
 use Rattle.std.proofs.Common.{refl, ap, ◌∙◌, sym, subst, append_assoc}
-use Rattle.std.proofs.lemmas.Option.{none-some}
 use Rattle.std.proofs.lemmas.List.{append-nil}
 use Rattle.krs_types.specs.declared.errno.Errno.{Errno}
 use Rattle.krs_types.specs.declared.ask.Answer.{Answer}
 use Rattle.krs_types.specs.declared.ask.Op.{Op}
 use Rattle.krs_model.specs.Table.{Table}
 use Rattle.krs_model.specs.State.{State, Key, Queue, raised}
-use Rattle.krs_model.specs.Queues.{Queues, Watch, queues_of, watch_at}
+use Rattle.krs_model.specs.Queues.{Queues, Watch, queues_of}
 use Rattle.krs_model.specs.Reach.{IsAcyclic, links_in}
 use Rattle.krs_model.specs.Sound.{IsSound}
 use Rattle.krs_model.specs.Sweep.{IsSweep, live_watches}
 use Rattle.krs_model.specs.Step.{Serves, outcome_of, posts_by, watches_left}
 use Rattle.krs_store.specs.Serving.{Tells, SweepsOut}
 use Rattle.krs_model.specs.Notes.Posting.{Note, Post, removal_for, posts_of, posts, dropped_watches, posted_in}
-use Rattle.krs_model.specs.Notes.Telling.{notes_of, ended_by, named}
+use Rattle.krs_model.specs.Notes.Telling.{notes_of, ended_by}
 use Rattle.krs_model.proofs.Posting.{post_all-append}
 use Rattle.krs_model.proofs.Effects.{Effect, OfKeys, Opens, Filters, Reads, Closes, Watches, Unwatches, Leaves}
 use Rattle.krs_model.proofs.Effects.{effect_of}
-use Rattle.krs_model.proofs.Keeping.{ended_set}
 use Rattle.krs_model.proofs.Soundness.{served_sound, served_acyclic, raised_sound}
 
 -- what is swept after posts is what was swept before them, with those posts
