@@ -1,3 +1,4 @@
 pub mod RunningLemmas
 pub mod ListingLemmas
 pub mod Going
+pub mod ChoiceLemmas

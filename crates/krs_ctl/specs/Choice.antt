@@ -19,10 +19,13 @@ words_rule = record (new_rule (codes "COMMAND")) {
   range = Some (record { start_inclusive = 0; end_inclusive = usize_max });
 }
 
+-- a command that tells its version
+abbrev pub with_version : App → App
+with_version = on_top (λ shape. record shape { has_version = true })
+
 -- what the reader of options is told of the program: it takes words, and has a version
 abbrev pub command_line : App
-command_line =
-    with_rule (on_top (λ shape. record shape { has_version = true }) (new_app (codes "keyretain"))) words_rule
+command_line = with_rule (with_version (new_app (codes "keyretain"))) words_rule
 
 abbrev pub is_script_alone : List Text → Bool
 is_script_alone (word ∷ []) = bytes_eq word (codes "script")

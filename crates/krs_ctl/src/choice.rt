@@ -1,8 +1,9 @@
-ghost use Rattle.std.specs.Prelude.{◌≡◌, map, string_bytes, IfOk, MatchResult};
+ghost use Rattle.std.specs.Prelude.{◌≡◌, false, map, option_map, string_bytes, IfOk, MatchResult};
+ghost use Rattle.std.specs.Option.{option_map_or};
 ghost use Rattle.std.specs.IoError.{error_kind};
 ghost use Rattle.std.specs.Vec.Iter.{into_iter_items};
 ghost use Rattle.clap.specs.Words.{kind_of, app_of, FailsBy, fault_of};
-ghost use Rattle.krs_ctl.specs.Choice.{command_line, is_script, IsChoice, IsUnread, Tells};
+ghost use Rattle.krs_ctl.specs.Choice.{command_line, is_script, is_script_alone, IsChoice, IsUnread, Tells};
 
 use clap::error::ErrorKind;
 use clap::{Arg, ArgAction, Command, Error};
@@ -129,10 +130,17 @@ fn asks_for_script(alloc: Global, words: &[String]) -> Result<bool, Error>
     ensures fails { FailsBy (fault_of command_line (map string_bytes words.now)) result }
 {
     let matches = command_line(alloc)?.try_get_matches_from(words)?;
-    Ok(match matches.get_strs(WORDS) {
+    Ok(is_script_alone(matches.get_strs(WORDS)))
+}
+
+fn is_script_alone(words: Option<&[&str]>) -> bool
+    ensures { result ≡ option_map_or is_script_alone
+        (option_map (λ all. map (λ word. word.now) all.now) words) false }
+{
+    match words {
         Some([word]) => *word == "script",
         _ => false,
-    })
+    }
 }
 
 fn command_line<'a>(alloc: Global) -> Result<Command<'a>, AllocError>
