@@ -4,8 +4,18 @@ use std::process::Abort;
 
 mod adding;
 mod clients;
+mod contexts;
+mod filters;
 mod growth;
+mod holders;
 mod joining;
+mod keys;
+mod links;
+mod records;
+mod rings;
+mod values;
+mod walks;
+mod watches;
 
 /// Stops the test where a reply is not the one that is wanted, and names the row.
 fn expect(rt: &impl Abort, reply: Reply, want: Want<'_>, row: &str) {

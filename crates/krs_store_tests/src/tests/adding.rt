@@ -2,11 +2,12 @@
 use super::expect;
 use krs_store::Store;
 use krs_store_asks::{Want, add, hello, read};
-use krs_types::Errno;
+use krs_types::{Ask, Errno};
+use std::alloc::{AllocError, Global};
 use std::test::Fail;
 
 #[test]
-fn lengths_and_type_names(rt: HostRuntime) -> Result<(), Fail> {
+fn lengths_and_type_names_are_bounded(rt: HostRuntime) -> Result<(), Fail> {
     let alloc = rt.alloc();
     let long = vec![in alloc; b'a'; 32768]?;
     let long = long.as_slice();
@@ -98,42 +99,33 @@ fn lengths_and_type_names(rt: HostRuntime) -> Result<(), Fail> {
     Ok(())
 }
 
+/// The asks of the test of the last serials, by their number.
+fn late_ask(alloc: Global, step: u8) -> Result<Ask, AllocError> {
+    match step {
+        0 => Ok(hello(alloc, 1000)),
+        1 => add(alloc, b"user", b"k", b"x", -4),
+        2 => Ok(hello(alloc, 2000)),
+        3 => Ok(read(1, -4)),
+        _ => Ok(read(1, -5)),
+    }
+}
+
+/// The keyrings of a uid take the last two serials: the number of an ask, and what that is answered with.
 #[test]
-fn the_last_serials(rt: HostRuntime) -> Result<(), Fail> {
+fn without_serials_nothing_is_made(rt: HostRuntime) -> Result<(), Fail> {
     let alloc = rt.alloc();
     let mut store = Store::starting_at(alloc, 2147483646);
-    expect(
-        &rt,
-        store.apply(0, 0, hello(alloc, 1000)),
-        Want::Number(1),
-        "hello",
-    );
-    let ask = add(alloc, b"user", b"k", b"x", -4)?;
-    let none_left = Want::Refused(Errno::ENOSPC);
-    expect(&rt, store.apply(0, 0, ask), none_left, "add");
-    expect(
-        &rt,
-        store.apply(0, 0, hello(alloc, 2000)),
-        none_left,
-        "another uid",
-    );
-    expect(
-        &rt,
-        store.apply(0, 0, hello(alloc, 1000)),
-        Want::Number(2),
-        "the same uid",
-    );
-    expect(
-        &rt,
-        store.apply(0, 0, read(1, -4)),
-        Want::Bytes(&[]),
-        "its keyring",
-    );
-    expect(
-        &rt,
-        store.apply(0, 0, read(1, -5)),
-        Want::Bytes(&[0xfe, 0xff, 0xff, 0x7f]),
-        "its session keyring",
-    );
+    let rows: [(u8, Want<'_>); 6] = [
+        (0, Want::Number(1)),
+        (1, Want::Refused(Errno::ENOSPC)),
+        (2, Want::Refused(Errno::ENOSPC)),
+        (0, Want::Number(2)),
+        (3, Want::Bytes(&[])),
+        (4, Want::Bytes(&[0xfe, 0xff, 0xff, 0x7f])),
+    ];
+    for (step, want) in rows {
+        let ask = late_ask(alloc, step)?;
+        expect(&rt, store.apply(0, 0, ask), want, "a row");
+    }
     Ok(())
 }

@@ -1,58 +1,50 @@
 //! Session keyrings: lengths of names, and the last serial.
+ghost use Rattle.std.specs.Prelude.{◌≤◌};
+
 use super::expect;
 use krs_store::Store;
 use krs_store_asks::{Want, change, hello};
-use krs_types::{Ask, Blob, Errno, Op};
-use std::alloc::{AllocError, Global};
+use krs_types::{Blob, Errno, Op};
+use std::alloc::Global;
+use std::process::Abort;
 use std::test::Fail;
 
-fn join(alloc: Global, name: &[u8]) -> Result<Ask, AllocError> {
+/// JOIN, behind the HELLO of a uid whose two keyrings take the first two serials.
+fn check_join(
+    rt: &impl Abort,
+    alloc: Global,
+    first: u32,
+    name: &[u8],
+    want: Want<'_>,
+) -> Result<(), Fail>
+    requires { 3 ≤ first }
+{
+    let mut store = Store::starting_at(alloc, first);
     let name = Blob::from_slice(alloc, name)?;
-    Ok(change(Op::Join { name }))
+    let asks = [
+        (hello(alloc, 1000), Want::Number(1)),
+        (change(Op::Join { name }), want),
+    ];
+    for (ask, want) in asks {
+        expect(rt, store.apply(0, 0, ask), want, "a join");
+    }
+    Ok(())
 }
 
 #[test]
-fn session_names_and_serials_run_out(rt: HostRuntime) -> Result<(), Fail> {
+fn a_session_name_has_at_most_4095_bytes(rt: HostRuntime) -> Result<(), Fail> {
     let alloc = rt.alloc();
     let long = vec![in alloc; b'a'; 4096]?;
     let long = long.as_slice();
     assert!(rt; long.len() == 4096);
-    let mut store = Store::new(alloc);
-    expect(
-        &rt,
-        store.apply(0, 0, hello(alloc, 1000)),
-        Want::Number(1),
-        "hello",
-    );
-    let longest = join(alloc, &long[..4095])?;
-    expect(&rt, store.apply(0, 0, longest), Want::Number(5), "longest");
-    let longer = join(alloc, long)?;
-    expect(
-        &rt,
-        store.apply(0, 0, longer),
-        Want::Refused(Errno::EINVAL),
-        "too long",
-    );
-    let mut last = Store::starting_at(alloc, 2147483645);
-    expect(
-        &rt,
-        last.apply(0, 0, hello(alloc, 1000)),
-        Want::Number(1),
-        "hello",
-    );
-    let join_last = join(alloc, b"")?;
-    expect(
-        &rt,
-        last.apply(0, 0, join_last),
-        Want::Number(2147483647),
-        "the last serial",
-    );
-    let join_none = join(alloc, b"")?;
-    expect(
-        &rt,
-        last.apply(0, 0, join_none),
-        Want::Refused(Errno::ENOSPC),
-        "no serial",
-    );
-    Ok(())
+    check_join(&rt, alloc, 3, &long[..4095], Want::Number(5))?;
+    check_join(&rt, alloc, 3, long, Want::Refused(Errno::EINVAL))
+}
+
+#[test]
+fn a_joined_keyring_may_take_the_last_serial(rt: HostRuntime) -> Result<(), Fail> {
+    let alloc = rt.alloc();
+    let (last, none_left) = (Want::Number(2147483647), Want::Refused(Errno::ENOSPC));
+    check_join(&rt, alloc, 2147483645, b"", last)?;
+    check_join(&rt, alloc, 2147483646, b"", none_left)
 }

@@ -17,7 +17,7 @@ fn note(key: u32) -> Record
 }
 
 #[test]
-fn holds_1_to_512_records(rt: HostRuntime) {
+fn a_ring_holds_1_to_512_records(rt: HostRuntime) {
     for (capacity, good) in [
         (0, false),
         (1, true),
@@ -36,7 +36,7 @@ fn holds_1_to_512_records(rt: HostRuntime) {
 
 /// Three updates come to a ring of one record: the first waits, and one loss stands for the other two.
 #[test]
-fn tells_of_drops_once(rt: HostRuntime) -> Result<(), Fail> {
+fn a_ring_tells_of_drops_once(rt: HostRuntime) -> Result<(), Fail> {
     let mut ring = NoteRing::new(rt.alloc(), 1)?;
     for key in [5, 6, 7] {
         ring.post(note(key));
@@ -50,7 +50,7 @@ fn tells_of_drops_once(rt: HostRuntime) -> Result<(), Fail> {
 
 /// A loss takes no room, stays behind the record that it was marked at, and is told again for later drops.
 #[test]
-fn keeps_losses_in_their_places(rt: HostRuntime) -> Result<(), Fail> {
+fn a_loss_keeps_its_place(rt: HostRuntime) -> Result<(), Fail> {
     let mut ring = NoteRing::new(rt.alloc(), 2)?;
     for key in [1, 2, 3] {
         ring.post(note(key));
@@ -75,7 +75,7 @@ fn keeps_losses_in_their_places(rt: HostRuntime) -> Result<(), Fail> {
 
 /// At its edge a ring keeps exactly as many records as were asked for.
 #[test]
-fn keeps_its_capacity(rt: HostRuntime) -> Result<(), Fail> {
+fn a_ring_keeps_its_capacity(rt: HostRuntime) -> Result<(), Fail> {
     for capacity in [1, 2, 511, 512] {
         let mut ring = NoteRing::new(rt.alloc(), capacity)?;
         for key in 0..=capacity {

@@ -29,7 +29,7 @@ fn errors_have_their_numbers_and_names(rt: HostRuntime) -> Result<(), Fail> {
 }
 
 #[test]
-fn type_names(rt: HostRuntime) {
+fn a_type_is_known_by_its_name(rt: HostRuntime) {
     let long = [b'a'; 32];
     assert_eq!(rt; Kind::named(&long), Err(Errno::EINVAL));
     assert_eq!(rt; Kind::named(&long[..31]), Err(Errno::ENODEV));
@@ -49,7 +49,7 @@ fn type_names(rt: HostRuntime) {
 }
 
 #[test]
-fn descriptions_and_payloads(rt: HostRuntime) -> Result<(), Fail> {
+fn descriptions_and_payloads_are_bounded(rt: HostRuntime) -> Result<(), Fail> {
     let long = vec![in rt.alloc(); b'd'; 32768]?;
     let long = long.as_slice();
     assert!(rt; long.len() == 32768);
@@ -123,7 +123,7 @@ fn descriptions_and_payloads(rt: HostRuntime) -> Result<(), Fail> {
 }
 
 #[test]
-fn key_ids(rt: HostRuntime) {
+fn ids_are_serials_or_special_keyrings(rt: HostRuntime) {
     let rows = [
         (0, Err(Errno::EINVAL)),
         (1, Ok(KeyId::Serial(Serial::new(1)))),

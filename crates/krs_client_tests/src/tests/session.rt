@@ -2,7 +2,7 @@ ghost use Rattle.std.specs.Prelude.{◌≡◌, ◌++◌, ◌∷◌, [], ℕ, Lis
 ghost use Rattle.krs_types.specs.declared.event.Event.{Event};
 ghost use Rattle.krs_model.specs.History.{IsLegal};
 ghost use Rattle.krs_wire.specs.declared.framed.Framed.{Framed};
-ghost use Rattle.krs_session.specs.Events.{asks_of, asks_in, session_text};
+ghost use Rattle.krs_session.specs.Events.{asks_of, asks_in, replies_of, session_text};
 ghost use Rattle.krs_session.specs.Session.{AreWhole};
 
 mod fakes;
@@ -177,7 +177,7 @@ fn check(rt: &impl Abort, alloc: Global, case: &Case<'_>) {
 const ALL: (usize, usize, Then) = (4096, 4096, Then::GivesNone);
 
 #[test]
-fn any_two_pieces(rt: HostRuntime) {
+fn asks_in_any_two_pieces_are_answered_alike(rt: HostRuntime) {
     for first in 1..=ASKS.len() {
         let mut reader = reader_of(&ASKS, first, ASKS.len(), Then::GivesNone);
         let mut writer = Over::new(Vec::new(rt.alloc()));
@@ -204,7 +204,7 @@ fn any_two_pieces(rt: HostRuntime) {
 
 #[test]
 #[rattlefmt::skip]
-fn ends(rt: HostRuntime) {
+fn each_end_is_told_and_leave_is_asked_last(rt: HostRuntime) {
     let closed = Then::GivesNone;
     let fails = Then::Fails;
     let bad = Ended::Wire(WireFault::BadLength);
@@ -248,7 +248,7 @@ fn converse(
     ensures { result.1 ≡ Ended.Closed
         → (front left : List ℕ) × (frames : List Framed) × (events : List Event) × (last : Event)
         × (input.now ≡ front ++ left) × AreWhole front frames × (asks_of events ≡ asks_in frames)
-        × (result.0.items ≡ session_text events) × IsLegal seat.old (events ++ last ∷ []) seat.new }
+        × (result.0.items ≡ session_text frames (replies_of events)) × IsLegal seat.old (events ++ last ∷ []) seat.new }
 {
     let mut reader = Over::new(input);
     let mut writer = Over::new(Vec::new(alloc));
@@ -268,7 +268,7 @@ fn converse(
 }
 
 #[test]
-fn over_memory(rt: HostRuntime) {
+fn a_session_over_memory_is_answered(rt: HostRuntime) {
     let (desk, mut seat) = OneDesk::open(1, Store::new(rt.alloc()));
     let gate = watches(0);
     let (text, ended) = converse(&rt, rt.alloc(), &ASKS, &mut seat, &gate);

@@ -53,7 +53,7 @@ const UPDATES: [(u32, u32, u32, u32, bool); 12] = [
 ];
 
 #[test]
-fn takes_good_entries(rt: HostRuntime) -> Result<(), Fail> {
+fn a_filter_takes_good_entries(rt: HostRuntime) -> Result<(), Fail> {
     for (note_type, info_filter, info_mask, good) in ENTRIES {
         let one = [entry(note_type, info_filter, info_mask, 2)].to_vec(rt.alloc())?;
         assert_eq!(rt;
@@ -66,7 +66,7 @@ fn takes_good_entries(rt: HostRuntime) -> Result<(), Fail> {
 }
 
 #[test]
-fn takes_1_to_16_entries(rt: HostRuntime) -> Result<(), Fail> {
+fn a_filter_takes_1_to_16_entries(rt: HostRuntime) -> Result<(), Fail> {
     for (count, good) in [(0, false), (1, true), (16, true), (17, false)] {
         let entries = vec![in rt.alloc(); entry(1, 0, 0, 2); count]?;
         match Filter::new(entries) {
@@ -78,7 +78,7 @@ fn takes_1_to_16_entries(rt: HostRuntime) -> Result<(), Fail> {
 }
 
 #[test]
-fn passes_what_is_asked_for(rt: HostRuntime) -> Result<(), Fail> {
+fn a_note_passes_what_asks_for_it(rt: HostRuntime) -> Result<(), Fail> {
     let update = note(KeyEvent::Updated, 9);
     for (note_type, info_filter, info_mask, subtypes, pass) in UPDATES {
         let one = [entry(note_type, info_filter, info_mask, subtypes)].to_vec(rt.alloc())?;
@@ -95,7 +95,7 @@ fn passes_what_is_asked_for(rt: HostRuntime) -> Result<(), Fail> {
 }
 
 #[test]
-fn passes_by_any_entry_or_none(rt: HostRuntime) -> Result<(), Fail> {
+fn a_note_passes_any_entry_and_no_filter(rt: HostRuntime) -> Result<(), Fail> {
     let two = [entry(1, 0, 0, 0b10), entry(1, 0, 0, 0b1000_0000)].to_vec(rt.alloc())?;
     let filter = Filter::new(two)?;
     for (subtype, pass) in [

@@ -59,7 +59,7 @@ fn check_numbers(rt: &impl Abort, alloc: Global, asks: &[Ask], stream: &[u8]) ->
 }
 
 #[test]
-fn hello_add_and_read(rt: HostRuntime) -> Result<(), Fail> {
+fn hello_add_and_read_are_spelled(rt: HostRuntime) -> Result<(), Fail> {
     let alloc = rt.alloc();
     let (front, read) = STREAM.split_at(59);
     let (hello_frame, add_frame) = front.split_at(24);
@@ -76,7 +76,7 @@ fn hello_add_and_read(rt: HostRuntime) -> Result<(), Fail> {
 }
 
 #[test]
-fn changes_of_keys(rt: HostRuntime) -> Result<(), Fail> {
+fn changes_of_keys_are_spelled(rt: HostRuntime) -> Result<(), Fail> {
     let payload = Blob::from_slice(rt.alloc(), b"s4")?;
     let (mask, gid) = (0x3f01_0001, 4_294_967_295);
     let uid = 1000;
@@ -91,7 +91,7 @@ fn changes_of_keys(rt: HostRuntime) -> Result<(), Fail> {
 }
 
 #[test]
-fn changes_of_keyrings(rt: HostRuntime) -> Result<(), Fail> {
+fn changes_of_keyrings_are_spelled(rt: HostRuntime) -> Result<(), Fail> {
     let asks = [
         in_context_1(Op::Link { key: 6, ring: 5 }),
         in_context_1(Op::Unlink { key: 5, ring: -4 }),
@@ -101,7 +101,7 @@ fn changes_of_keyrings(rt: HostRuntime) -> Result<(), Fail> {
 }
 
 #[test]
-fn ids_and_contexts(rt: HostRuntime) -> Result<(), Fail> {
+fn ids_and_contexts_are_spelled(rt: HostRuntime) -> Result<(), Fail> {
     let (get, create) = (5, -1);
     let unnamed = join(rt.alloc(), b"")?;
     let named = join(rt.alloc(), b"s")?;
@@ -123,7 +123,7 @@ fn ids_and_contexts(rt: HostRuntime) -> Result<(), Fail> {
 }
 
 #[test]
-fn searches(rt: HostRuntime) -> Result<(), Fail> {
+fn searches_are_spelled(rt: HostRuntime) -> Result<(), Fail> {
     let search = search_into_6(rt.alloc())?;
     let request = request(rt.alloc())?;
     let asks = [in_context_1(search), in_context_1(request)];
@@ -131,7 +131,7 @@ fn searches(rt: HostRuntime) -> Result<(), Fail> {
 }
 
 #[test]
-fn ends_of_keys_and_contexts(rt: HostRuntime) -> Result<(), Fail> {
+fn ends_of_keys_and_contexts_are_spelled(rt: HostRuntime) -> Result<(), Fail> {
     let asks = [
         in_context_1(Op::Invalidate { id: 6 }),
         in_context_1(Op::Invalidate { id: -4 }),
@@ -142,7 +142,7 @@ fn ends_of_keys_and_contexts(rt: HostRuntime) -> Result<(), Fail> {
 }
 
 #[test]
-fn watches_of_keys(rt: HostRuntime) -> Result<(), Fail> {
+fn watches_are_spelled(rt: HostRuntime) -> Result<(), Fail> {
     let asks = [
         in_context_1(Op::Watch {
             id: 5,
@@ -159,13 +159,13 @@ fn watches_of_keys(rt: HostRuntime) -> Result<(), Fail> {
 }
 
 #[test]
-fn an_opened_queue(rt: HostRuntime) -> Result<(), Fail> {
+fn an_opened_queue_is_spelled(rt: HostRuntime) -> Result<(), Fail> {
     let asks = [in_context_1(Op::OpenQueue { capacity: 8 })];
     check_numbers(&rt, rt.alloc(), &asks, &OPENED)
 }
 
 #[test]
-fn filters_of_queues(rt: HostRuntime) -> Result<(), Fail> {
+fn filters_are_spelled(rt: HostRuntime) -> Result<(), Fail> {
     let none = FilterEntries::new(Vec::new(rt.alloc()));
     let entry = FilterEntry {
         note_type: 1,
@@ -188,7 +188,7 @@ fn filters_of_queues(rt: HostRuntime) -> Result<(), Fail> {
 }
 
 #[test]
-fn records_of_queues(rt: HostRuntime) -> Result<(), Fail> {
+fn records_of_a_queue_are_spelled(rt: HostRuntime) -> Result<(), Fail> {
     // An updated note of watch 9 of key 5, and a loss.
     let reply = [
         28, 0, 0, 0, 0, 0, 0, 0, 1, 0, 0, 1, 16, 9, 0, 0, 5, 0, 0, 0, 0, 0, 0, 0, //
@@ -200,7 +200,7 @@ fn records_of_queues(rt: HostRuntime) -> Result<(), Fail> {
 }
 
 #[test]
-fn a_closed_queue(rt: HostRuntime) -> Result<(), Fail> {
+fn a_closed_queue_is_spelled(rt: HostRuntime) -> Result<(), Fail> {
     let asks = [in_context_1(Op::CloseQueue { queue: 1 })];
     check_changes(&rt, rt.alloc(), &asks, &CLOSED)
 }

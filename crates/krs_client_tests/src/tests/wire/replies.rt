@@ -7,7 +7,7 @@ use std::process::Abort;
 use std::test::Fail;
 
 #[test]
-fn refusals(rt: HostRuntime) -> Result<(), Fail> {
+fn refusals_have_their_numbers(rt: HostRuntime) -> Result<(), Fail> {
     let alloc = rt.alloc();
     let nothing = Ok(Answer::Nothing);
     check_reply(&rt, alloc, &Op::Leave, &nothing, &NOTHING)?;
@@ -33,14 +33,14 @@ fn check_reply_fault(rt: &impl Abort, alloc: Global, op: &Op, bytes: &[u8], faul
 }
 
 #[test]
-fn faults_of_replies(rt: HostRuntime) {
+fn faults_of_replies_are_told(rt: HostRuntime) {
     for (bytes, fault) in REPLY_FAULTS {
         check_reply_fault(&rt, rt.alloc(), &Op::Leave, bytes, fault);
     }
 }
 
 #[test]
-fn numbers_for_nothing(rt: HostRuntime) {
+fn a_change_is_not_answered_with_a_number(rt: HostRuntime) {
     let asks = [
         Op::Revoke { id: 5 },
         Op::Invalidate { id: 5 },
@@ -60,7 +60,7 @@ fn numbers_for_nothing(rt: HostRuntime) {
 }
 
 #[test]
-fn no_numbers(rt: HostRuntime) -> Result<(), Fail> {
+fn a_number_has_four_bytes(rt: HostRuntime) -> Result<(), Fail> {
     let get = Op::GetId {
         id: 5,
         create: false,

@@ -55,7 +55,7 @@ const QUEUE_FAULTS: [(&[u8], WireFault); 11] = [
 
 // Counts of 0, 1, 2 and 4294967295 with the bytes of one entry: only 1 agrees with them.
 #[test]
-fn counts_of_entries(rt: HostRuntime) -> Result<(), Fail> {
+fn a_filter_has_as_many_entries_as_it_counts(rt: HostRuntime) -> Result<(), Fail> {
     let (_, frame) = FILTERS.split_at(20);
     for count in [0, 2, 4_294_967_295_u32] {
         let mut bytes = Vec::from_slice(rt.alloc(), &frame[..16])?;
@@ -70,7 +70,7 @@ fn counts_of_entries(rt: HostRuntime) -> Result<(), Fail> {
 }
 
 #[test]
-fn faults_of_queue_asks(rt: HostRuntime) {
+fn faults_of_queue_asks_are_told(rt: HostRuntime) {
     for (bytes, fault) in QUEUE_FAULTS {
         check_fault(&rt, rt.alloc(), bytes, fault);
     }
@@ -99,7 +99,7 @@ fn check_later_fault(
 }
 
 #[test]
-fn faults_of_asks(rt: HostRuntime) -> Result<(), Fail> {
+fn faults_are_told_at_once_and_from_then_on(rt: HostRuntime) -> Result<(), Fail> {
     for (bytes, fault) in FAULTS {
         check_fault(&rt, rt.alloc(), bytes, fault);
         check_later_fault(&rt, rt.alloc(), bytes, fault)?;

@@ -14,7 +14,7 @@ fn frames_of(alloc: Global, frames: &[Framed], text: &mut Vec<u8>) -> Result<(),
 }
 
 #[test]
-fn any_two_pieces(rt: HostRuntime) -> Result<(), Fail> {
+fn a_stream_in_any_two_pieces_is_one_stream(rt: HostRuntime) -> Result<(), Fail> {
     for stream in STREAMS {
         for cut in 0..=stream.len() {
             let (front, back) = stream.split_at(cut);
@@ -30,7 +30,7 @@ fn any_two_pieces(rt: HostRuntime) -> Result<(), Fail> {
 }
 
 #[test]
-fn a_byte_at_a_time(rt: HostRuntime) -> Result<(), Fail> {
+fn a_stream_byte_by_byte_is_one_stream(rt: HostRuntime) -> Result<(), Fail> {
     for stream in STREAMS {
         let mut feed = Feed::new(rt.alloc());
         let mut text = Vec::new(rt.alloc());

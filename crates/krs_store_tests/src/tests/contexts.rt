@@ -104,7 +104,7 @@ fn contexts_enter_and_end(rt: HostRuntime) -> Result<(), Fail> {
 }
 
 #[test]
-fn a_client_leaves(rt: HostRuntime) -> Result<(), Fail> {
+fn a_client_leaves_with_its_own_contexts(rt: HostRuntime) -> Result<(), Fail> {
     let alloc = rt.alloc();
     let mut contexts = Contexts::new(alloc);
     assert!(rt; hello(&mut contexts, alloc, 0, 1000, Some(rings(3))) == Ok(1));

@@ -46,7 +46,7 @@ const NO_RECORDS: [(&str, usize, u128); 17] = [
 ];
 
 #[test]
-fn gives_the_bytes_of_the_header(rt: HostRuntime) {
+fn records_are_spelled_as_in_the_header(rt: HostRuntime) {
     for (note, len, digits) in RECORDS {
         let all = digits.to_be_bytes();
         assert!(rt; len <= 16);
@@ -57,7 +57,7 @@ fn gives_the_bytes_of_the_header(rt: HostRuntime) {
 }
 
 #[test]
-fn gives_no_other_record(rt: HostRuntime) {
+fn other_bytes_are_no_record(rt: HostRuntime) {
     for (name, len, digits) in NO_RECORDS {
         let all = digits.to_be_bytes();
         assert!(rt; len <= 16);
@@ -66,7 +66,7 @@ fn gives_no_other_record(rt: HostRuntime) {
 }
 
 #[test]
-fn gives_one_record_at_a_time(rt: HostRuntime) {
+fn one_record_is_read_at_a_time(rt: HostRuntime) {
     let two = 0x00000001_08000000_00000001_08000000_u128.to_be_bytes();
     assert!(rt; decode(&two) == Some((Record::Loss, 8)));
     assert!(rt; decode(&two[8..]) == Some((Record::Loss, 8)));

@@ -143,3 +143,29 @@ fn refused_links_change_nothing(rt: HostRuntime) -> Result<(), Fail> {
     expect(&rt, &links, &[5], &[5]);
     Ok(())
 }
+
+/// A full keyring takes no new name, and a link of an equal name in the place of the other: keyctl(2), KEYCTL_LINK,
+/// "ENFILE"; profile, full keyrings.
+#[test]
+fn a_full_keyring_only_displaces(rt: HostRuntime) -> Result<(), Fail> {
+    let alloc = rt.alloc();
+    let mut links = Links::new(alloc);
+    for number in 1..65_536u32 {
+        let new = name(alloc, Kind::User, &number.to_le_bytes())?;
+        assert!(rt; !links.is_full(), "{number}");
+        assert_eq!(rt; links.put(new, Serial::new(number)), Ok(None), "{number}");
+    }
+    assert!(rt; links.is_full());
+    let seven = 7u32.to_le_bytes();
+    let unlike = name(alloc, Kind::Logon, &seven)?;
+    assert_eq!(rt; links.put(unlike, Serial::new(70_000)), Err(Errno::ENFILE));
+    let alike = name(alloc, Kind::User, &seven)?;
+    assert_eq!(rt;
+        links.put(alike, Serial::new(70_000)),
+        Ok(Some(Serial::new(7)))
+    );
+    let known = name(alloc, Kind::User, &seven)?;
+    assert_eq!(rt; links.find(&known), Some(Serial::new(70_000)));
+    assert_eq!(rt; links.len(), 65_535);
+    Ok(())
+}

@@ -43,7 +43,7 @@ impl KeySet for Below {
 /// uapi linux/keyctl.h, KEYCTL_WATCH_KEY; Documentation/security/keys/core.rst:
 /// the greatest id, a key that is watched already, the end of a watch.
 #[test]
-fn watches_and_ends(rt: HostRuntime) -> Result<(), Fail> {
+fn a_key_is_watched_once_and_unwatched(rt: HostRuntime) -> Result<(), Fail> {
     let mut queues = watching(rt.alloc(), 4, 11, 255)?;
     let key = Serial::new(11);
     queues.post_all(KeyEvent::Updated, key, 0);
@@ -63,7 +63,7 @@ fn watches_and_ends(rt: HostRuntime) -> Result<(), Fail> {
 
 /// watch_queue.rst: a full queue drops what comes, and tells so once.
 #[test]
-fn tells_of_drops(rt: HostRuntime) -> Result<(), Fail> {
+fn a_full_queue_tells_of_drops_once(rt: HostRuntime) -> Result<(), Fail> {
     let mut queues = watching(rt.alloc(), 1, 5, 0)?;
     for event in [KeyEvent::Updated, KeyEvent::Updated, KeyEvent::Setattr] {
         queues.post_all(event, Serial::new(5), 0);
@@ -78,7 +78,7 @@ fn tells_of_drops(rt: HostRuntime) -> Result<(), Fail> {
 
 /// watch_queue.rst, "Event Filtering": a filter for updates alone; a removal passes it.
 #[test]
-fn filters_notes(rt: HostRuntime) -> Result<(), Fail> {
+fn a_removal_passes_any_filter(rt: HostRuntime) -> Result<(), Fail> {
     let alloc = rt.alloc();
     let mut queues = watching(alloc, 4, 5, 9)?;
     let updates = FilterEntry {
@@ -107,7 +107,7 @@ fn filters_notes(rt: HostRuntime) -> Result<(), Fail> {
 
 /// Removal records by rising serial, of the keys that are gone: profile, order of notes.
 #[test]
-fn sweeps_watches(rt: HostRuntime) -> Result<(), Fail> {
+fn removals_come_by_rising_serial(rt: HostRuntime) -> Result<(), Fail> {
     let mut queues = watching(rt.alloc(), 4, 7, 1)?;
     queues.watch(0, 1, Serial::new(5), 2)?;
     queues.watch(0, 1, Serial::new(6), 3)?;
@@ -124,7 +124,7 @@ fn sweeps_watches(rt: HostRuntime) -> Result<(), Fail> {
 
 /// 256 queues at once, numbers that rise, and no number twice: profile, queue numbers.
 #[test]
-fn numbers_queues(rt: HostRuntime) -> Result<(), Fail> {
+fn queues_are_256_and_no_number_comes_twice(rt: HostRuntime) -> Result<(), Fail> {
     let mut queues = WatchQueues::new(rt.alloc());
     for number in 1..257 {
         assert_eq!(rt; queues.open_queue(number % 2, 1)?, number);
@@ -142,7 +142,7 @@ fn numbers_queues(rt: HostRuntime) -> Result<(), Fail> {
 
 /// uapi linux/keyctl.h, KEYCTL_WATCH_KEY; Documentation/security/keys/core.rst: ids.
 #[test]
-fn reads_ids(rt: HostRuntime) {
+fn watch_ids_are_bytes_or_minus_1(rt: HostRuntime) {
     for (id, found) in [
         (0, Ok(Some(0))),
         (255, Ok(Some(255))),

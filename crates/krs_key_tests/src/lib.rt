@@ -1,6 +1,0 @@
-//! The tests of links, keys, holders and walks. They stand in a crate of their own, so that the crates are not proved a
-//! second time with them.
-#![tactic(auto)]
-
-#[cfg(test)]
-mod tests;

@@ -1,4 +1,0 @@
-mod holders;
-mod keys;
-mod links;
-mod walks;

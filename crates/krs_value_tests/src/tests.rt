@@ -1,6 +1,0 @@
-mod contexts;
-mod filters;
-mod records;
-mod rings;
-mod values;
-mod watches;
