@@ -1,9 +1,7 @@
-ghost use Rattle.std.specs.Prelude.{◌≡◌, ◌++◌, ◌∷◌, [], ℕ, List};
+ghost use Rattle.std.specs.Prelude.{◌≡◌, ◌++◌, ◌∷◌, [], List};
 ghost use Rattle.krs_types.specs.declared.event.Event.{Event};
 ghost use Rattle.krs_model.specs.History.{IsLegal};
-ghost use Rattle.krs_wire.specs.declared.framed.Framed.{Framed};
-ghost use Rattle.krs_session.specs.Events.{asks_of, asks_in, replies_of, session_text};
-ghost use Rattle.krs_session.specs.Session.{AreWhole};
+ghost use Rattle.krs_client_tests.specs.Conversing.{Conversed};
 
 mod fakes;
 
@@ -130,11 +128,38 @@ struct Case<'a> {
     written: usize,
 }
 
-fn check(rt: &impl Abort, alloc: Global, case: &Case<'_>) {
+// A session over the ends of a case, and what `run` tells of it there where it was closed: no bytes but those of the
+// stream, and no moments but those of the clock.
+fn converse_in_pieces(
+    rt: &impl Abort,
+    alloc: Global,
+    case: &Case<'_>,
+    seat: &mut Chair,
+    gate: &Watching,
+) -> (Vec<u8>, Ended)
+    ensures { result.1 ≡ Ended.Closed
+        → (events : List Event) × (last : Event) × Conversed case.now.stream.now result.0.items events last }
+{
     let (next, later, then) = case.reads;
     let mut reader = reader_of(case.stream, next, later, then);
     let (most, room, then) = case.writes;
     let mut writer = writer_of(alloc, most, room, then);
+    let mut clock = Rising { at: 100 };
+    let ended = run(
+        rt,
+        alloc,
+        &mut reader,
+        &mut writer,
+        &Table,
+        seat,
+        &mut clock,
+        gate,
+        case.turns,
+    );
+    (writer.text, ended)
+}
+
+fn check(rt: &impl Abort, alloc: Global, case: &Case<'_>) {
     let mut seat = Chair {
         alloc,
         lane: 7,
@@ -143,19 +168,8 @@ fn check(rt: &impl Abort, alloc: Global, case: &Case<'_>) {
         late: 0,
         moment: 0,
     };
-    let mut clock = Rising { at: 100 };
     let gate = watches(7);
-    let ended = run(
-        rt,
-        alloc,
-        &mut reader,
-        &mut writer,
-        &Table,
-        &mut seat,
-        &mut clock,
-        &gate,
-        case.turns,
-    );
+    let (text, ended) = converse_in_pieces(rt, alloc, case, &mut seat, &gate);
     let name = case.name;
     assert_eq!(rt; ended, case.ended, "{name}");
     assert_eq!(rt; seat.asked, case.asked, "{name}");
@@ -168,7 +182,7 @@ fn check(rt: &impl Abort, alloc: Global, case: &Case<'_>) {
     );
     assert_eq!(rt; gate.wrong.get(), 0, "{name}");
     assert_eq!(rt;
-        Some(writer.text.as_slice()),
+        Some(text.as_slice()),
         REPLIES.get(..case.written),
         "{name}"
     );
@@ -235,9 +249,8 @@ fn each_end_is_told_and_leave_is_asked_last(rt: HostRuntime) {
     }
 }
 
-// A session over bytes in memory, and what `run` tells of it there: where it was closed, some front of the input is
-// cut into frames, whose asks are those of a legal history, and the output is the text of its replies, without
-// LEAVE's.
+// A session over bytes in memory, and what `run` tells of it there where it was closed: its events are a legal
+// history.
 fn converse(
     rt: &impl Abort,
     alloc: Global,
@@ -246,9 +259,8 @@ fn converse(
     gate: &Watching,
 ) -> (Vec<u8>, Ended)
     ensures { result.1 ≡ Ended.Closed
-        → (front left : List ℕ) × (frames : List Framed) × (events : List Event) × (last : Event)
-        × (input.now ≡ front ++ left) × AreWhole front frames × (asks_of events ≡ asks_in frames)
-        × (result.0.items ≡ session_text frames (replies_of events)) × IsLegal seat.old (events ++ last ∷ []) seat.new }
+        → (events : List Event) × (last : Event) × Conversed input.now result.0.items events last
+        × IsLegal seat.old (events ++ last ∷ []) seat.new }
 {
     let mut reader = Over::new(input);
     let mut writer = Over::new(Vec::new(alloc));

@@ -1,5 +1,6 @@
-// Fakes of all that a session is handed. They keep the counts that their contracts ask for, and tell nothing else.
-ghost use Rattle.std.specs.Prelude.{◌≡◌};
+// Fakes of all that a session is handed. The ends tell their bytes and the clock its answers, so that the contract of a
+// session says of them what it did; the desk tells nothing.
+ghost use Rattle.std.specs.Prelude.{◌≡◌, [], Some};
 
 use krs_session::*;
 use krs_types::{Answer, Ask, Body, Errno, Op, Reply};
@@ -29,6 +30,7 @@ pub(super) fn reader_of<'a>(left: &'a [u8], next: usize, later: usize, then: The
     ensures reads { result.reads ≡ 0 }
     ensures empties { result.empties ≡ 0 }
     ensures failures { result.failures ≡ 0 }
+    ensures left { result.left.now ≡ left.now }
 {
     Pieces {
         left,
@@ -42,7 +44,10 @@ pub(super) fn reader_of<'a>(left: &'a [u8], next: usize, later: usize, then: The
 }
 
 impl<'a> Source for Pieces<'a> {
-    ghost gave = { λ a bytes b. Unit {0} };
+    ghost use Rattle.std.specs.Io.KnownBytes.{Consumes};
+    ghost use Rattle.std.proofs.KnownBytes.{Consumes-nil, Consumes-trans};
+
+    ghost gave = { λ a bytes b. Consumes (Some a.left.now) (Some b.left.now) bytes };
 
     ghost reads = { λ a. a.reads };
 
@@ -50,9 +55,10 @@ impl<'a> Source for Pieces<'a> {
 
     ghost failures = { λ a. a.failures };
 
-    ghost starts = { λ a. tt };
+    ghost starts = { λ a. Consumes-nil (Some a.left.now) };
 
-    ghost joins = { λ a b c xs ys p q. tt };
+    ghost joins = { λ a b c xs ys p q.
+        Consumes-trans (Some a.left.now) (Some b.left.now) (Some c.left.now) xs ys p q };
 
     fn read(&mut self, room: &mut [u8]) -> Result<usize, Failed> {
         if !room.is_empty() {
@@ -85,7 +91,8 @@ pub(super) struct Bites {
 }
 
 pub(super) fn writer_of(alloc: Global, most: usize, room: usize, then: Then) -> Bites
-    ensures { result.failures ≡ 0 }
+    ensures failures { result.failures ≡ 0 }
+    ensures text { result.text.items ≡ [] }
 {
     Bites {
         text: Vec::new(alloc),
@@ -97,13 +104,17 @@ pub(super) fn writer_of(alloc: Global, most: usize, room: usize, then: Then) -> 
 }
 
 impl Sink for Bites {
-    ghost took = { λ a bytes b. Unit {0} };
+    ghost use Rattle.std.specs.Io.KnownBytes.{Appends};
+    ghost use Rattle.std.proofs.KnownBytes.{Appends-nil, Appends-trans};
+
+    ghost took = { λ a bytes b. Appends (Some a.text.items) (Some b.text.items) bytes };
 
     ghost failures = { λ a. a.failures };
 
-    ghost starts = { λ a. tt };
+    ghost starts = { λ a. Appends-nil (Some a.text.items) };
 
-    ghost joins = { λ a b c xs ys p q. tt };
+    ghost joins = { λ a b c xs ys p q.
+        Appends-trans (Some a.text.items) (Some b.text.items) (Some c.text.items) xs ys p q };
 
     fn write(&mut self, piece: &[u8]) -> Result<usize, Failed> {
         let count = piece.len().min(self.most).min(self.room);
@@ -128,11 +139,13 @@ pub(super) struct Rising {
 }
 
 impl Clock for Rising {
-    ghost ticked = { λ a moments b. Unit {0} };
+    ghost use Rattle.krs_client_tests.specs.Ticks.{Ticks, ticks_none, ticks_both};
 
-    ghost starts = { λ a. tt };
+    ghost ticked = { λ a moments b. Ticks a.at moments b.at };
 
-    ghost joins = { λ a b c xs ys p q. tt };
+    ghost starts = { λ a. ticks_none a.at };
+
+    ghost joins = { λ a b c xs ys p q. ticks_both a.at b.at c.at xs ys p q };
 
     fn now(&mut self) -> u64 {
         let at = self.at;
