@@ -1,4 +1,3 @@
 pub mod RunningLemmas
 pub mod ListingLemmas
 pub mod Going
-pub mod ChoiceLemmas

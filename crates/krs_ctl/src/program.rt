@@ -1,8 +1,7 @@
-ghost use Rattle.std.specs.Prelude.{map, string_bytes, MatchResult};
+ghost use Rattle.std.specs.Prelude.{IfErr};
 ghost use Rattle.std.specs.IoError.{error_kind};
-ghost use Rattle.std.specs.Vec.Iter.{into_iter_items};
 ghost use Rattle.krs_ctl.specs.declared.choice.Choice.{Choice as ChoiceIs};
-ghost use Rattle.krs_ctl.specs.Choice.{IsChoice, IsUnread};
+ghost use Rattle.krs_ctl.specs.Choice.{IsUnread};
 ghost use Rattle.krs_ctl.specs.Program.{Answers};
 
 use crate::choice::{Choice, choose};
@@ -24,8 +23,7 @@ pub fn run_program<R: Read + Drop, W: Write, E: Write>(
     errors: &mut E,
 ) -> u8
     ensures { (choice : ChoiceIs)
-        × MatchResult words (λ args. IsChoice (map string_bytes (into_iter_items args)) choice)
-            (λ error. IsUnread (error_kind error) choice)
+        × IfErr words (λ error. IsUnread (error_kind error) choice)
         × Answers choice (R.remaining input) (W.contents output.old) (W.contents output.new)
             (E.contents errors.old) (E.contents errors.new) result }
 {
