@@ -1,4 +1,5 @@
 -- A search from its head, level by level.
+use Rattle.krs_model.specs.Search.{found_with, requested_with}
 use Rattle.std.proofs.Common.{◌≡◌, ◌≤◌, ◌<◌, ◌+◌, ◌-◌, ℕ, zero, suc, Bool, true, false, cond, List, [], ◌∷◌, ◌++◌}
 use Rattle.std.proofs.Common.{length, take, drop, filter, Option, None, Some, Result, Ok, Err, refl, ap, ◌∙◌, sym}
 use Rattle.std.proofs.Common.{arith, append_assoc, ⊎_elim}
@@ -24,8 +25,8 @@ use Rattle.krs_model.specs.Sweep.{linked_by}
 use Rattle.krs_model.proofs.Levels.{levels_more}
 use Rattle.krs_model.proofs.Searching.{sought_append}
 use Rattle.krs_walk.specs.Lists.{join}
-use Rattle.krs_walk.specs.Walks.{OnlyRingsLink}
-use Rattle.krs_walk.specs.Searching.{entered_rings, found_with, requested_with}
+use Rattle.krs_keys.specs.Keys.{OnlyRingsLink}
+use Rattle.krs_walk.specs.Searching.{entered_rings}
 use Rattle.krs_walk.proofs.ListsLemmas.{fresh, join_fresh, join_append, any_join, in_none, in_head, in_cons}
 use Rattle.krs_walk.proofs.LevelsLemmas.{Covers, follow_fresh, at_next}
 use Rattle.krs_walk.proofs.HeldLemmas.{walk_at, joined_front}

@@ -1,4 +1,5 @@
 -- The possessed keyrings, as far as they were walked.
+use Rattle.krs_model.specs.Possession.{attached_with, followed_at, possessed_with}
 use Rattle.std.proofs.Common.{◌≡◌, ◌≤◌, ◌<◌, ◌+◌, ◌-◌, ℕ, suc, ◌==◌, List, [], length, take, drop, true, false}
 use Rattle.std.proofs.Common.{Option, flat_map, refl, ap, ◌∙◌, sym, subst, arith}
 use Rattle.std.proofs.lemmas.List.{take_at}
@@ -12,7 +13,8 @@ use Rattle.krs_keys.specs.Keys.{shown}
 use Rattle.krs_walk.specs.declared.search.Search.{Search}
 use Rattle.krs_walk.specs.declared.held.HeldRings.{HeldRings}
 use Rattle.krs_walk.specs.Lists.{join}
-use Rattle.krs_walk.specs.Walks.{OnlyRingsLink, attached_with, followed_at, followed_rings, possessed_with}
+use Rattle.krs_keys.specs.Keys.{OnlyRingsLink}
+use Rattle.krs_walk.specs.Walks.{followed_rings}
 use Rattle.krs_walk.specs.Searching.{held_to, AreHeld}
 use Rattle.krs_walk.proofs.ListsLemmas.{fresh, join_fresh, join_append, any_join}
 use Rattle.krs_walk.proofs.LevelsLemmas.{IsAt, at_next, levels_next, levels_fewer}

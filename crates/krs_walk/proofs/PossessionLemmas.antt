@@ -1,4 +1,5 @@
 -- What is possessed, by the keyrings that link it.
+use Rattle.krs_model.specs.Possession.{attached_with, followed_at, is_followed, possessed_with}
 use Rattle.std.proofs.Common.{◌≡◌, ◌≤◌, ℕ, zero, suc, ◌==◌, ◌||◌, List, [], ◌∷◌, Bool, true, false, cond, filter}
 use Rattle.std.proofs.Common.{Option, None, Some, ⊎_elim, sym, refl, ap, ◌∙◌, arith}
 use Rattle.std.specs.Option.{option_map}
@@ -22,8 +23,9 @@ use Rattle.krs_links.proofs.NamesLemmas.{equal_names, same_name_equiv}
 use Rattle.krs_keys.specs.declared.key.Key.{Key}
 use Rattle.krs_keys.specs.Keys.{content_links, seen, shown, name_at, AreNamed, AreFit}
 use Rattle.krs_keys.proofs.KeysLemmas.{serials-content}
-use Rattle.krs_walk.specs.Walks.{OnlyRingsLink, attached_with, followed_at, followed_rings, is_followed}
-use Rattle.krs_walk.specs.Walks.{possessed_with, is_linked, is_found}
+use Rattle.krs_keys.specs.Keys.{OnlyRingsLink}
+use Rattle.krs_walk.specs.Walks.{followed_rings}
+use Rattle.krs_walk.specs.Walks.{is_linked, is_found}
 use Rattle.krs_walk.proofs.ListsLemmas.{in_none, in_one, in_left, in_right, in_head, in_tail, is_same, or_left}
 use Rattle.krs_walk.proofs.ListsLemmas.{or_right, or_one, any_at}
 use Rattle.krs_walk.proofs.LevelsLemmas.{Fewer, in_flat_map, levels_from, levels_next, levels_fewer}
