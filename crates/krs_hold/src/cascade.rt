@@ -1,5 +1,5 @@
 //! What goes once nothing holds it, key after key: without a list, without recursion.
-ghost use Rattle.std.specs.Prelude.{◌≡◌, ◌<◌, ◌≤◌, ℕ, List, Some, None};
+ghost use Rattle.std.specs.Prelude.{◌≡◌, ◌<◌, ℕ, List, Some, None};
 ghost use Rattle.krs_model.specs.Table.{at, without};
 ghost use Rattle.krs_model.specs.Sweep.{linked_by};
 ghost use Rattle.krs_keys.specs.Keys.{shown};

@@ -1,5 +1,5 @@
 //! The counts by serial, and the chain through those that wait for a look.
-ghost use Rattle.std.specs.Prelude.{◌≡◌, ◌<◌, ◌^◌, ◌-◌, Some, cond, drop};
+ghost use Rattle.std.specs.Prelude.{◌≡◌, ◌<◌, ◌^◌, ◌-◌, Some, cond};
 ghost use Rattle.std.specs.Prelude.{replicate};
 ghost use Rattle.krs_model.specs.Table.{at, alter, without};
 ghost use Rattle.krs_links.specs.Links.{serials};

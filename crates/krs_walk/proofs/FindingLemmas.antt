@@ -1,5 +1,4 @@
 -- A search from its head, level by level.
-use Rattle.krs_model.specs.Search.{found_with, requested_with}
 use Rattle.std.proofs.Common.{◌≡◌, ◌≤◌, ◌<◌, ◌+◌, ◌-◌, ℕ, zero, suc, Bool, true, false, cond, List, [], ◌∷◌, ◌++◌}
 use Rattle.std.proofs.Common.{length, take, drop, filter, Option, None, Some, Result, Ok, Err, refl, ap, ◌∙◌, sym}
 use Rattle.std.proofs.Common.{arith, append_assoc, ⊎_elim}
@@ -17,6 +16,7 @@ use Rattle.krs_types.specs.declared.name.Name.{Name}
 use Rattle.krs_model.specs.Table.{at}
 use Rattle.krs_model.specs.State.{Key, State}
 use Rattle.krs_model.specs.Levels.{level, levels, is_in}
+use Rattle.krs_model.specs.Search.{found_with, requested_with}
 use Rattle.krs_model.specs.Possession.{links_of, possessed, process_ring}
 use Rattle.krs_model.specs.Reach.{is_ring}
 use Rattle.krs_model.specs.Search.{Searcher, entered, open_links, is_open, is_answer, is_revoked, is_expired}

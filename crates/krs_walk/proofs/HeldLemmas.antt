@@ -1,5 +1,4 @@
 -- The possessed keyrings, as far as they were walked.
-use Rattle.krs_model.specs.Possession.{attached_with, followed_at, possessed_with}
 use Rattle.std.proofs.Common.{◌≡◌, ◌≤◌, ◌<◌, ◌+◌, ◌-◌, ℕ, suc, ◌==◌, List, [], length, take, drop, true, false}
 use Rattle.std.proofs.Common.{Option, flat_map, refl, ap, ◌∙◌, sym, subst, arith}
 use Rattle.std.proofs.lemmas.List.{take_at}
@@ -7,6 +6,7 @@ use Rattle.krs_types.specs.declared.context.Context.{Context}
 use Rattle.krs_model.specs.Table.{Table, at}
 use Rattle.krs_model.specs.State.{Key}
 use Rattle.krs_model.specs.Levels.{level, levels, is_in}
+use Rattle.krs_model.specs.Possession.{attached_with, followed_at, possessed_with}
 use Rattle.krs_model.specs.Reach.{is_ring}
 use Rattle.krs_model.proofs.Levels.{levels_more}
 use Rattle.krs_keys.specs.Keys.{shown}

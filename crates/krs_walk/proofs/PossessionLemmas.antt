@@ -1,5 +1,4 @@
 -- What is possessed, by the keyrings that link it.
-use Rattle.krs_model.specs.Possession.{attached_with, followed_at, is_followed, possessed_with}
 use Rattle.std.proofs.Common.{◌≡◌, ◌≤◌, ℕ, zero, suc, ◌==◌, ◌||◌, List, [], ◌∷◌, Bool, true, false, cond, filter}
 use Rattle.std.proofs.Common.{Option, None, Some, ⊎_elim, sym, refl, ap, ◌∙◌, arith}
 use Rattle.std.specs.Option.{option_map}
@@ -13,7 +12,7 @@ use Rattle.krs_types.specs.Name.{same_name}
 use Rattle.krs_model.specs.Table.{Table, at}
 use Rattle.krs_model.specs.State as model
 use Rattle.krs_model.specs.Levels.{level, levels, is_in}
-use Rattle.krs_model.specs.Possession.{followed, links_of}
+use Rattle.krs_model.specs.Possession.{attached_with, followed_at, is_followed, possessed_with, followed, links_of}
 use Rattle.krs_model.specs.Reach.{is_ring}
 use Rattle.krs_model.specs.Sweep.{linked_by}
 use Rattle.krs_model.proofs.Levels.{in_flat}

@@ -1,11 +1,8 @@
 -- What the search goes by, over the keys of the definitions.
-use Rattle.std.specs.Prelude.{◌≡◌, ◌≤◌, ◌-◌, ℕ, Bool, List, [], length, take, filter, flat_map, Option, Result, Ok}
+use Rattle.std.specs.Prelude.{◌≡◌, ◌≤◌, ◌-◌, ℕ, Bool, List, [], length, take, filter, flat_map, Result, Ok}
 use Rattle.std.specs.Prelude.{Err}
-use Rattle.krs_types.specs.declared.context.Context.{Context}
 use Rattle.krs_types.specs.declared.errno.Errno.{Errno}
-use Rattle.krs_types.specs.declared.name.Name.{Name}
-use Rattle.krs_model.specs.Table.{Table, at}
-use Rattle.krs_model.specs.State.{Key}
+use Rattle.krs_model.specs.Table.{at}
 use Rattle.krs_model.specs.Levels.{levels}
 use Rattle.krs_model.specs.Reach.{is_ring}
 use Rattle.krs_model.specs.Search.{Searcher, searcher_with, entered, or_next, searched, sought}

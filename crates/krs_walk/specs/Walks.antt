@@ -1,8 +1,7 @@
 -- What the walks answer, over the keys of the definitions.
-use Rattle.std.specs.Prelude.{◌≡◌, ℕ, ◌+◌, List, ◌++◌, Bool, true, false, ◌&&◌, ◌==◌, filter, flat_map, drop, Option}
+use Rattle.std.specs.Prelude.{◌≡◌, ℕ, ◌+◌, List, Bool, true, false, ◌==◌, filter, flat_map, drop, Option}
 use Rattle.std.specs.Prelude.{None, Some}
 use Rattle.std.specs.List.{list_any}
-use Rattle.std.specs.Option.{option_to_list}
 use Rattle.krs_types.specs.declared.caller.Caller.{Caller}
 use Rattle.krs_types.specs.declared.context.Context.{Context}
 use Rattle.krs_types.specs.declared.errno.Errno.TheVariants.{ELOOP}
@@ -12,10 +11,8 @@ use Rattle.krs_model.specs.Table.{Table, at}
 use Rattle.krs_walk.specs.Lists.{join}
 use Rattle.krs_model.specs.State.{Key}
 use Rattle.krs_model.specs.Levels.{levels, is_in}
-use Rattle.krs_types.specs.Rights.{has_all, SEARCH}
-use Rattle.krs_model.specs.Access.{is_alive, rights_on}
 use Rattle.krs_model.specs.Possession.{attached_with, followed_at}
-use Rattle.krs_model.specs.Reach.{links_in, is_ring, has_chain}
+use Rattle.krs_model.specs.Reach.{is_ring, has_chain}
 
 -- the longest chain of nested keyrings that hangs down from the key has that many links: profile, nesting depth
 pub record IsHeight (keys : Table Key) (key height : ℕ) : Type 0 where

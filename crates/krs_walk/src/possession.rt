@@ -1,14 +1,13 @@
-ghost use Rattle.krs_model.specs.Possession.{attached_with, is_followed, possessed_with};
 ghost use Rattle.std.specs.Prelude.{◌≡◌, ◌≤◌, [], false, Some, drop, length, IfOk, OnOk};
 ghost use Rattle.std.specs.List.{list_any};
 ghost use Rattle.std.specs.Option.{option_to_list};
 ghost use Rattle.krs_model.specs.Levels.{is_in};
 ghost use Rattle.krs_model.specs.Table.{at};
+ghost use Rattle.krs_model.specs.Possession.{attached_with, is_followed, possessed_with};
 ghost use Rattle.krs_links.specs.Links.{linked_as};
 ghost use Rattle.krs_keys.specs.Keys.{content_links, seen, shown, AreFit};
 ghost use Rattle.krs_walk.specs.Lists.{join};
 ghost use Rattle.krs_walk.specs.Walks.{followed_rings, is_found, is_linked};
-ghost use Rattle.krs_keys.specs.Keys.{OnlyRingsLink};
 ghost use Rattle.krs_walk.specs.Walks.{links_it, with_next};
 
 use crate::keyrings::rings_in;

@@ -1,10 +1,9 @@
-ghost use Rattle.krs_model.specs.Search.{found_with, requested_with};
 ghost use Rattle.std.specs.Prelude.{◌≡◌, ◌≤◌, ◌&&◌, [], ◌∷◌, Some, Err, true, drop, length};
 ghost use Rattle.std.specs.Prelude.{IfOk, OnOk};
 ghost use Rattle.std.specs.Option.{option_to_list};
 ghost use Rattle.krs_model.specs.Table.{at};
 ghost use Rattle.krs_model.specs.Access.{rights_on};
-ghost use Rattle.krs_model.specs.Search.{found_by, grants_search, is_open};
+ghost use Rattle.krs_model.specs.Search.{found_with, requested_with, found_by, grants_search, is_open};
 ghost use Rattle.krs_model.specs.Search.{or_next, weight, weightier};
 ghost use Rattle.krs_model.specs.Outcome.{Gives};
 ghost use Rattle.krs_types.specs.Name.{same_name};

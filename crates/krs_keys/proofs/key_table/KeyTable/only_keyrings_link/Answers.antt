@@ -1,4 +1,4 @@
-use Rattle.std.proofs.Common.{ap, subst}
+use Rattle.std.proofs.Common.{subst}
 use Rattle.krs_keys.specs.Keys.{AreOfKind, OnlyRingsLink, shown}
 use Rattle.krs_keys.specs.Table.{Keys}
 use Rattle.krs_keys.proofs.KindsLemmas.{only_rings}

@@ -1,6 +1,6 @@
-use Rattle.krs_model.specs.Possession.{attached_with}
 use Rattle.std.proofs.Common.{◌≤◌, arith, ◌≡◌, Bool, ap, sym, subst, ◌∙◌, IfOk}
 use Rattle.std.specs.Option.{option_copied}
+use Rattle.krs_model.specs.Possession.{attached_with}
 use Rattle.krs_keys.specs.Keys.{shown}
 use Rattle.krs_walk.specs.Walks.{followed_rings, links_it}
 use Rattle.krs_walk.proofs.RoundsLemmas.{head_passes}
