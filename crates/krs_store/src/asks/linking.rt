@@ -6,14 +6,14 @@ ghost use Rattle.krs_model.specs.Lookup.{context_of};
 ghost use Rattle.krs_model.specs.Sound.{IsSound};
 ghost use Rattle.krs_model.specs.Asks.Adding.{IsRing};
 ghost use Rattle.krs_model.specs.Asks.Linked.{link, unlink, clear, nestable};
-ghost use Rattle.krs_keys.specs.Keys.{seen, links_at};
+ghost use Rattle.krs_keys.specs.Keys.{seen};
 ghost use Rattle.krs_links.specs.Links.{serials};
-ghost use Rattle.krs_store.specs.Linked.{name_in, has_link, Puts, Takes};
+ghost use Rattle.krs_store.specs.Linked.{name_in, Puts, Takes};
 ghost use Rattle.krs_store.specs.Specials.{Makes, is_coming};
 
 use crate::asks::making::Special;
 use crate::tables::Tables;
-use krs_keys::{Change, Content, Key, KeyTable};
+use krs_keys::{Change, Content, Key};
 use krs_links::Links;
 use krs_types::{Answer, Errno, Fault, KeyId, Name, Rights, Serial, Want};
 use krs_walk::Walker;
@@ -168,30 +168,13 @@ impl Tables {
     fn take_link(&mut self, ring: Serial, serial: Serial) -> Result<(), Errno>
         ensures { Takes self.old result self.new ring serial }
     {
-        if !is_linked(&self.keys, ring, serial) {
+        if !self.keys.has_link(ring, serial) {
             return Err(Errno::ENOENT);
         }
         self.keys.unlink(ring, serial);
         self.holders.let_go(serial);
         Ok(())
     }
-}
-
-/// Whether a keyring links a key.
-fn is_linked(keys: &KeyTable, ring: Serial, serial: Serial) -> bool
-    ensures { result ≡ has_link serial (links_at keys.now.keys ring) }
-{
-    match keys.get(ring) {
-        Some(key) => has_link(key.entries(), serial),
-        None => false,
-    }
-}
-
-/// Whether one of these links is to a key.
-fn has_link(links: &[(Name, Serial)], serial: Serial) -> bool
-    ensures { result ≡ has_link serial links.now }
-{
-    links.iter().any(|link| link.1.number() == serial.number())
 }
 
 /// The links of a keyring: ENOTDIR where it is none.
