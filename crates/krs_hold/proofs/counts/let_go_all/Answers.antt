@@ -1,4 +1,5 @@
-use Rattle.std.proofs.Common.{arith, ◌<◌, ◌≡◌, ℕ, ◌+◌, List, ◌∷◌, drop, length, Option, Some, refl, ap, ◌∙◌, sym, add-one}
+use Rattle.std.proofs.Common.{arith, ◌<◌, ◌≡◌, ℕ, ◌+◌, List, ◌∷◌, drop, length, Option, Some, refl, ap, ◌∙◌, sym}
+use Rattle.std.proofs.Common.{add-one}
 use Rattle.std.proofs.lemmas.Option.{slice_get_within, none-some, slice_get-get_or, get_or_from_slice_get}
 use Rattle.std.proofs.lemmas.List.{length-map}
 use Rattle.std.proofs.Math.Seq.{drop-cons}

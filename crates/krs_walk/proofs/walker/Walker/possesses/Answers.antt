@@ -17,8 +17,8 @@ returns-then-attached_link c =
     let keys = shown c.args.keys.now.keys in
     let caller = c.args.context.now.caller in
     let one : 1 ≤ 7 = omega arith in
-    sym (linked_possessed keys c.args.clock c.args.context.now c.args.process_ring c.args.serial c.only_keyrings_link.ensures.only
-    (sym c.is_attached.ensures ∙ c.if-is_attached.false)
+    sym (linked_possessed keys c.args.clock c.args.context.now c.args.process_ring c.args.serial
+    c.only_keyrings_link.ensures.only (sym c.is_attached.ensures ∙ c.if-is_attached.false)
     ∙ head_passes (links_it keys c.args.clock caller c.args.serial) (followed_rings keys c.args.clock caller)
     (attached_with c.args.context.now c.args.process_ring) 7 one
     (sym c.attached_link.ensures ∙ c.if-attached_link.true))
