@@ -115,10 +115,12 @@ empty_fit es n key none empty fit =
     fit_put es n key none
     (subst (λ (links : _). AreNamed (name_at (put es n key)) links) (sym (bare_links key empty)) tt) fit
 
+pub empty_kind : (key : Key) → IsEmptyRing key → IsOfKind key.name.kind key.content
+empty_kind key empty =
+    subst (λ (content : Content). IsOfKind key.name.kind content) (sym empty.1) (rw empty.0 refl)
+
 pub empty_kinds : (es : Table Key) (n : ℕ) (key : Key) → IsEmptyRing key → AreOfKind es → AreOfKind (put es n key)
-empty_kinds es n key empty kinds =
-    kinds_put es n key
-    (subst (λ (content : Content). IsOfKind key.name.kind content) (sym empty.1) (rw empty.0 refl)) kinds
+empty_kinds es n key empty kinds = kinds_put es n key (empty_kind key empty) kinds
 
 -- the keyrings that JOIN makes, as the definitions see them
 pub seen-session_key : (name : List ℕ) (c : Caller) → seen (session_key name c) ≡ session_ring name c

@@ -1,5 +1,5 @@
 //! What goes once nothing holds it, key after key: without a list, without recursion.
-ghost use Rattle.std.specs.Prelude.{◌≡◌, ◌<◌, ◌≤◌, ℕ, List, Some, None};
+ghost use Rattle.std.specs.Prelude.{◌≡◌, ◌<◌, ℕ, List, Some, None};
 ghost use Rattle.krs_model.specs.Table.{at, without};
 ghost use Rattle.krs_model.specs.Sweep.{linked_by};
 ghost use Rattle.krs_keys.specs.Keys.{shown};
@@ -8,7 +8,7 @@ ghost use Rattle.krs_keys.specs.Hashed.{by_serial};
 ghost use Rattle.krs_hold.specs.Tally.{AreExact};
 ghost use Rattle.krs_hold.specs.Chain.{numbers_of, IsChained, Spares, gone_all, total_weight};
 
-use crate::counts::{Count, forget, holders, let_go_all, rest};
+use crate::counts::{Count, forget, holders, let_go_links, rest};
 use krs_keys::KeyTable;
 use krs_types::Serial;
 use std::collections::HashMap;
@@ -30,7 +30,7 @@ fn drop_key(
 {
     forget(counts, serial);
     match keys.remove(Serial::new(serial)) {
-        Some(key) => let_go_all(counts, first, key.entries()),
+        Some(key) => let_go_links(counts, first, &key.content),
         None => first,
     }
 }

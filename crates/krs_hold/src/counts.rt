@@ -1,13 +1,15 @@
 //! The counts by serial, and the chain through those that wait for a look.
-ghost use Rattle.std.specs.Prelude.{◌≡◌, ◌<◌, ◌^◌, ◌-◌, Some, cond, drop};
+ghost use Rattle.std.specs.Prelude.{◌≡◌, ◌<◌, ◌^◌, ◌-◌, Some, cond};
 ghost use Rattle.std.specs.Prelude.{replicate};
 ghost use Rattle.krs_model.specs.Table.{at, alter, without};
 ghost use Rattle.krs_links.specs.Links.{serials};
 ghost use Rattle.krs_keys.specs.Hashed.{by_serial};
+ghost use Rattle.krs_keys.specs.Keys.{content_links};
 ghost use Rattle.krs_hold.specs.Chain.{holders_at, next_at, falls_at, lowered, raised, rested};
 ghost use Rattle.krs_hold.specs.Chain.{gone, gone_all};
 
-use krs_types::{Name, Serial};
+use krs_keys::Content;
+use krs_links::Links;
 use std::collections::HashMap;
 
 /// What holds a key.
@@ -117,18 +119,35 @@ pub(crate) fn let_go(
 }
 
 /// One holder less for each of these links. The first of the chain is answered.
-pub(crate) fn let_go_all(
+fn let_go_all(
     counts: &mut HashMap<u32, Count>,
     mut first: Option<u32>,
-    links: &[(Name, Serial)],
+    links: &Links,
 ) -> Option<u32>
     ensures { gone_all (record { counts = by_serial counts.old.entries; first = first }) (serials links.now)
         ≡ record { counts = by_serial counts.new.entries; first = result } }
 {
-    for link in links {
-        first = let_go(counts, first, link.1.number());
+    for place in 0..links.len() {
+        if let Some(serial) = links.serial_at(place) {
+            first = let_go(counts, first, serial.number());
+        }
     }
     first
+}
+
+/// Lets go of what a key links. The first of the chain is answered.
+pub(crate) fn let_go_links(
+    counts: &mut HashMap<u32, Count>,
+    first: Option<u32>,
+    content: &Content,
+) -> Option<u32>
+    ensures { gone_all (record { counts = by_serial counts.old.entries; first = first })
+        (serials (content_links content.now)) ≡ record { counts = by_serial counts.new.entries; first = result } }
+{
+    match content {
+        Content::Payload(_) => first,
+        Content::Links(links) => let_go_all(counts, first, links),
+    }
 }
 
 /// So many holders less. The first of the chain is answered.

@@ -5,16 +5,16 @@ ghost use Rattle.krs_types.specs.declared.errno.Errno.TheVariants.{ENOMEM};
 ghost use Rattle.krs_model.specs.Table.{at};
 ghost use Rattle.krs_model.specs.Reach.{IsAcyclic, links_in};
 ghost use Rattle.krs_links.specs.Links.{serials};
-ghost use Rattle.krs_keys.specs.Keys.{shown};
+ghost use Rattle.krs_keys.specs.Keys.{content_links, shown};
 ghost use Rattle.krs_keys.specs.Kept.{KeepsAnchored, Sweeps};
 ghost use Rattle.krs_hold.specs.Tally.{number_at, with_number, one_more, one_less, all_less};
 ghost use Rattle.krs_hold.specs.Tally.{IsTallied, AreExact};
 ghost use Rattle.krs_hold.specs.Taken.{taken_at};
 
 use crate::cascade::sweep;
-use crate::counts::{Count, holders, let_go, let_go_all, let_go_times, raise};
-use krs_keys::{Change, KeyTable};
-use krs_types::{Errno, Name, Serial};
+use crate::counts::{Count, holders, let_go, let_go_links, let_go_times, raise};
+use krs_keys::{Change, Content, KeyTable};
+use krs_types::{Errno, Serial};
 use std::alloc::Global;
 use std::collections::HashMap;
 use std::marker::Model;
@@ -119,11 +119,11 @@ impl Holders {
         self.first = let_go_times(&mut self.counts, self.first, serial.number(), left);
     }
 
-    /// Lets go of all that a keyring links.
-    fn let_go_all(&mut self, links: &[(Name, Serial)])
-        ensures { self.new ≡ all_less (serials links.now) self.old }
+    /// Lets go of all that a key links.
+    fn let_go_links(&mut self, content: &Content)
+        ensures { self.new ≡ all_less (serials (content_links content.now)) self.old }
     {
-        self.first = let_go_all(&mut self.counts, self.first, links);
+        self.first = let_go_links(&mut self.counts, self.first, content);
     }
 
     /// Lets go of what a change is about to take out of the key at a serial.
@@ -131,7 +131,7 @@ impl Holders {
         ensures { self.new ≡ all_less (taken_at change.now (at keys.now.keys serial)) self.old }
     {
         match (change, keys.get(serial)) {
-            (Change::Revoked | Change::Cleared, Some(key)) => self.let_go_all(key.entries()),
+            (Change::Revoked | Change::Cleared, Some(key)) => self.let_go_links(&key.content),
             _ => {}
         }
     }

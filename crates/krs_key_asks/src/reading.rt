@@ -41,8 +41,10 @@ fn serial_bytes(alloc: Global, links: &Links) -> Result<Body, AllocError>
     ensures { IfOk result (λ b. b ≡ serial_bytes (serials links.now)) }
 {
     let mut bytes = Vec::with_capacity(alloc, 4 * links.len())?;
-    for link in links.as_slice() {
-        bytes.extend_from_slice(&link.1.number().to_le_bytes())?;
+    for place in 0..links.len() {
+        if let Some(serial) = links.serial_at(place) {
+            bytes.extend_from_slice(&serial.number().to_le_bytes())?;
+        }
     }
     Ok(Body::new(bytes))
 }

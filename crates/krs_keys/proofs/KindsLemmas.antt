@@ -1,16 +1,27 @@
 -- Each key holds what keys of its type hold.
-use Rattle.std.proofs.Common.{◌≡◌, ℕ, Some, Bool, filter, List, ◌∙◌, sym, subst, ⊎_elim}
-use Rattle.std.proofs.lemmas.Option.{same_Some}
+use Rattle.std.proofs.Common.{◌≡◌, ℕ, Option, None, Some, Bool, true, filter, List, refl, ap, ◌∙◌, sym, subst, ⊎_elim}
+use Rattle.std.specs.Option.{option_map}
+use Rattle.std.proofs.lemmas.Bool.{true≢false}
+use Rattle.std.proofs.lemmas.Option.{none-some, same_Some}
+use Rattle.krs_types.specs.declared.kind.Kind.TheVariants.{Keyring}
+use Rattle.krs_types.specs.Kind.{same_kind}
+use Rattle.krs_model.specs.State as model
+use Rattle.krs_model.specs.Levels.{is_in}
+use Rattle.krs_model.specs.Possession.{links_of}
+use Rattle.krs_model.specs.Reach.{is_ring}
+use Rattle.krs_model.specs.Sweep.{linked_by}
 use Rattle.krs_types.specs.declared.kind.Kind.{Kind}
 use Rattle.krs_types.specs.declared.name.Name.{Name}
-use Rattle.krs_model.specs.Table.{Table, at, put, alter}
+use Rattle.krs_model.specs.Table.{Table, at, put, alter, without}
 use Rattle.krs_model.proofs.Tables.{at_put_same, at_put_other, at_or_apart, at_alter_same, at_alter_other, at_kept}
+use Rattle.krs_model.proofs.Tables.{at_map, at_without_other}
 use Rattle.krs_keys.specs.declared.key.Key.{Key}
 use Rattle.krs_keys.specs.declared.key.Content.{Content}
 use Rattle.krs_keys.specs.declared.key.Content.TheVariants.{Payload, Links}
 use Rattle.krs_keys.specs.declared.key.Change.{Change}
 use Rattle.krs_keys.specs.declared.key.Change.TheVariants as change
 use Rattle.krs_keys.specs.Keys.{IsOfKind, AreOfKind, with_entry, entered, without_key, keyless_content}
+use Rattle.krs_keys.specs.Keys.{seen, seen_content, shown, OnlyRingsLink}
 use Rattle.krs_keys.specs.Changes.{changed, paid_with, emptied, cleared_content}
 use Rattle.krs_keys.proofs.TableLemmas.{mapped_some, was_there}
 
@@ -72,3 +83,29 @@ keyless_as kind serial (Links links) is = is
 
 pub keyless_kind : (serial : ℕ) → KeepsKind (without_key serial)
 keyless_kind serial v is = keyless_as v.name.kind serial v.content is
+
+-- what is left when a key is taken out
+pub kinds_without : (keys rest : Table Key) (k : ℕ) → rest ≡ without keys k → at rest k ≡ None → AreOfKind keys
+    → AreOfKind rest
+kinds_without keys rest k is gone kinds q key h =
+    ⊎_elim (λ (e : q ≡ k). absurd
+    (none-some key (sym gone ∙ subst (λ (z : ℕ). at rest z ≡ Some key) e h)))
+    (λ apart. kinds q key (sym (at_without_other keys k q apart)
+    ∙ (ap (λ (es : Table Key). at es q) (sym is) ∙ h))) (at_or_apart q k)
+
+ring_content : (kind : Kind) (k : ℕ) (content : Content) → IsOfKind kind content
+    → is_in k (links_of (seen_content content)) ≡ true → same_kind kind Keyring ≡ true
+ring_content kind k (Payload bytes) is h = absurd (true≢false (sym h))
+ring_content kind k (Links links) is h = is
+
+ring_of : (k : ℕ) (o : Option Key) → ((key : Key) → o ≡ Some key → IsOfKind key.name.kind key.content)
+    → is_in k (linked_by (option_map seen o)) ≡ true → is_ring (option_map seen o) ≡ true
+ring_of k None is h = absurd (true≢false (sym h))
+ring_of k (Some key) is h = ring_content key.name.kind k key.content (is key refl) h
+
+-- only keyrings link keys
+pub only_rings : (es : Table Key) → AreOfKind es → OnlyRingsLink (shown es)
+only_rings es kinds j k h =
+    subst (λ (o : Option model.Key). is_ring o ≡ true) (sym (at_map seen es j))
+    (ring_of k (at es j) (λ key there. kinds j key there) (subst (λ (o : Option model.Key). is_in k (linked_by o)
+    ≡ true) (at_map seen es j) h))

@@ -7,6 +7,8 @@ use Rattle.krs_types.specs.Kind.{same_kind}
 use Rattle.krs_types.specs.declared.name.Name.{Name}
 use Rattle.krs_model.specs.Table.{Table, at, map_values}
 use Rattle.krs_model.specs.State as model
+use Rattle.krs_model.specs.Levels.{is_in}
+use Rattle.krs_model.specs.Reach.{links_in, is_ring}
 use Rattle.krs_model.specs.Linking.{link_named}
 use Rattle.krs_model.specs.Asks.Joining.{is_joinable}
 use Rattle.krs_types.specs.declared.caller.Caller.{Caller}
@@ -90,6 +92,10 @@ IsOfKind kind (Links links) = same_kind kind Keyring ≡ true
 -- each key holds what keys of its type hold: keyrings(7), "Key types"
 abbrev pub AreOfKind : Table Key → Type 0
 AreOfKind keys = (serial : ℕ) (key : Key) → at keys serial ≡ Some key → IsOfKind key.name.kind key.content
+
+-- only keyrings link keys: keyrings(7), "Keyrings"
+abbrev pub OnlyRingsLink : Table model.Key → Type 0
+OnlyRingsLink keys = (j k : ℕ) → is_in k (links_in keys j) ≡ true → is_ring (at keys j) ≡ true
 
 -- the serial that a link of that name in a keyring displaces
 abbrev pub displaced_by : Name → Option Key → Option ℕ

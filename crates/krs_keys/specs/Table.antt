@@ -2,16 +2,22 @@
 use Rattle.std.specs.Prelude.{◌≡◌, ◌⊎◌, ℕ, ◌+◌, ◌≤◌, nat_lt, cond, if◌then◌else◌}
 use Rattle.krs_types.specs.declared.name.Name.{Name}
 use Rattle.krs_links.specs.Links.{link_error}
-use Rattle.krs_keys.specs.Keys.{links_at, with_entry}
+use Rattle.krs_keys.specs.Keys.{links_at, with_entry, AreOfKind}
 use Rattle.krs_types.specs.declared.errno.Errno.{Errno}
 use Rattle.krs_types.specs.declared.errno.Errno.TheVariants.{ENOSPC, ENOMEM}
-use Rattle.krs_model.specs.Table.{Table, put, alter}
+use Rattle.krs_model.specs.Table.{Table, put, alter, IsBelow}
 use Rattle.krs_keys.specs.declared.key.Key.{Key}
 
 -- the keys by serial, and the serial that comes next
 pub record Keys : Type 0 where
   pub keys : Table Key
   pub next : ℕ
+
+-- The serial that comes next and those above it are in no use. Each key holds what keys of its type hold: so only
+-- keyrings link keys.
+pub record AreKept (keys : Table Key) (next : ℕ) : Type 0 where
+  pub below : IsBelow keys next
+  pub kinds : AreOfKind keys
 
 -- one more key, under the next serial
 abbrev pub with_key : Keys → Key → Keys

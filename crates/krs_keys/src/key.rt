@@ -1,9 +1,8 @@
 ghost use Rattle.std.specs.Prelude.{◌≡◌, false, IfOk, IfErr, OnOk, OnErr};
-ghost use Rattle.krs_links.specs.Links.{linked_as, is_refused, link_error, serials};
-ghost use Rattle.krs_keys.specs.Keys.{with_entry, without_key, content_links, seen, seen_content};
+ghost use Rattle.krs_links.specs.Links.{linked_as, has_link, is_refused, link_error};
+ghost use Rattle.krs_keys.specs.Keys.{with_entry, without_key, content_links, seen};
 ghost use Rattle.krs_keys.specs.Changes.{changed};
 ghost use Rattle.krs_model.specs.Asks.Changing.{or_left};
-ghost use Rattle.krs_model.specs.Possession.{links_of};
 ghost use Rattle.krs_model.specs.Access.{is_over, is_alive, rights_on};
 ghost use Rattle.krs_model.specs.Asks.Joining.{is_joinable};
 
@@ -85,14 +84,13 @@ impl Key {
             && self.grants(caller, false).contains(Rights::SEARCH)
     }
 
-    /// What it links, with names; nothing where it is no keyring.
-    pub fn entries(&self) -> &[(Name, Serial)]
-        ensures entries { result.now ≡ content_links self.now.content }
-        ensures serials { serials result.now ≡ links_of (seen_content self.now.content) }
+    /// Whether it links a key.
+    pub fn links_to(&self, serial: Serial) -> bool
+        ensures { result ≡ has_link serial (content_links self.now.content) }
     {
         match &self.content {
-            Content::Payload(_) => &[],
-            Content::Links(links) => links.as_slice(),
+            Content::Payload(_) => false,
+            Content::Links(links) => links.has(serial),
         }
     }
 

@@ -5,7 +5,8 @@ ghost use Rattle.std.specs.Map.{keys_of};
 ghost use Rattle.std.specs.Ordering.{nat_cmp};
 ghost use Rattle.krs_model.specs.Table.{at, put, without, alter, map_values, IsBelow};
 ghost use Rattle.krs_keys.specs.Keys.{with_entry, without_key, displaced_at, links_at};
-ghost use Rattle.krs_links.specs.Links.{is_refused, link_error};
+ghost use Rattle.krs_keys.specs.Keys.{shown, IsOfKind, AreOfKind, OnlyRingsLink};
+ghost use Rattle.krs_links.specs.Links.{has_link, is_refused, link_error};
 ghost use Rattle.krs_keys.specs.Changes.{changed};
 ghost use Rattle.krs_keys.specs.Table.{with_key, with_linked_key, AreLeft};
 ghost use Rattle.krs_keys.specs.Table.{insert_error, IsLinkError, IsLinkedError};
@@ -33,12 +34,12 @@ impl Model for KeyTable {
 
     ghost Value = { Keys };
 
-    ghost use Rattle.krs_model.specs.Table.{IsBelow};
+    ghost use Rattle.krs_keys.specs.Table.{AreKept};
     ghost use Rattle.krs_keys.specs.Hashed.{by_serial};
 
     ghost view = { λ t. record { keys = by_serial t.keys.entries; next = t.next } };
 
-    ghost invariant = { λ t. IsBelow (by_serial t.keys.entries) t.next };
+    ghost invariant = { λ t. AreKept (by_serial t.keys.entries) t.next };
 }
 
 impl KeyTable {
@@ -60,6 +61,14 @@ impl KeyTable {
         self.next
     }
 
+    /// Each key holds what keys of its type hold: so only keyrings link keys. It does nothing.
+    pub fn only_keyrings_link(&self)
+        ensures kinds { AreOfKind self.now.keys }
+        ensures only { OnlyRingsLink (shown self.now.keys) }
+    {
+        let _keys = &self.keys;
+    }
+
     /// How many keys there are. A contract sees them by rising serial.
     pub fn len(&self) -> usize
         ensures len { result ≡ length self.now.keys }
@@ -75,6 +84,16 @@ impl KeyTable {
         self.keys.get(&serial.number())
     }
 
+    /// Whether a keyring links a key.
+    pub fn has_link(&self, ring: Serial, serial: Serial) -> bool
+        ensures { result ≡ has_link serial (links_at self.now.keys ring) }
+    {
+        match self.get(ring) {
+            Some(key) => key.links_to(serial),
+            None => false,
+        }
+    }
+
     /// The keyring of the least serial that a caller may join by this name: keyctl(2), KEYCTL_JOIN_SESSION_KEYRING.
     pub fn joinable(&self, desc: &[u8], caller: &Caller, clock: u64) -> Option<Serial>
         ensures { result ≡ joinable_in clock caller.now desc.now self.now.keys }
@@ -84,6 +103,7 @@ impl KeyTable {
 
     /// One more key, under the next serial, which is answered: ENOSPC, ENOMEM.
     pub fn insert(&mut self, key: Key) -> Result<Serial, Errno>
+        requires { IsOfKind key.name.kind key.content }
         ensures serial { IfOk result (λ n. n ≡ self.old.next) }
         ensures ok { OnOk result (self.new ≡ with_key self.old key) }
         ensures left { OnOk result (AreLeft self.old.next 1) }
@@ -106,6 +126,8 @@ impl KeyTable {
     /// Two more keys, under consecutive serials, the first of which is answered: ENOSPC, ENOMEM. A refusal leaves
     /// neither.
     pub fn insert_two(&mut self, first: Key, second: Key) -> Result<Serial, Errno>
+        requires first { IsOfKind first.name.kind first.content }
+        requires second { IsOfKind second.name.kind second.content }
         ensures serial { IfOk result (λ n. n ≡ self.old.next) }
         ensures ok { OnOk result (self.new ≡ with_key (with_key self.old first) second) }
         ensures left { OnOk result (AreLeft self.old.next 2) }
@@ -133,6 +155,7 @@ impl KeyTable {
         name: Name,
         key: Key,
     ) -> Result<Option<Serial>, Errno>
+        requires { IsOfKind key.name.kind key.content }
         ensures displaced { IfOk result (λ old. old ≡ displaced_at (put self.old.keys self.old.next key) ring name) }
         ensures ok { OnOk result (self.new ≡ with_linked_key self.old ring name key) }
         ensures left { OnOk result (AreLeft self.old.next 1) }

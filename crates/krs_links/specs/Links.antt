@@ -2,7 +2,7 @@
 use Rattle.std.specs.Prelude.{ℕ, ◌==◌, Bool, ◌&&◌, cond, not, nat_le, if◌then◌else◌, List, [], ◌∷◌, length, map}
 use Rattle.std.specs.Prelude.{filter, find, Option, is_none}
 use Rattle.std.specs.Option.{option_map}
-use Rattle.std.specs.List.{IsDistinct}
+use Rattle.std.specs.List.{IsDistinct, list_any}
 use Rattle.krs_types.specs.declared.kind.Kind.TheVariants.{Keyring}
 use Rattle.krs_types.specs.declared.name.Name.{Name}
 use Rattle.krs_types.specs.declared.errno.Errno.{Errno}
@@ -29,6 +29,10 @@ IsUnique links = IsDistinct same_name (names links)
 -- the serial that is linked under a name
 abbrev pub linked_as : LinkList → Name → Option ℕ
 linked_as links name = option_map (λ link. link.1) (find (λ link. same_name name link.0) links)
+
+-- a key is linked
+abbrev pub has_link : ℕ → LinkList → Bool
+has_link serial links = list_any (λ link. link.1 == serial) links
 
 -- with this link: in the place of the link of that name, else last. Profile, place of a link
 abbrev pub linked : LinkList → Name → ℕ → LinkList

@@ -1,6 +1,6 @@
 ghost use Rattle.std.specs.Prelude.{◌≡◌, ◌≤◌, [], length, slice_get, false, IfOk, OnOk, IfErr, OnErr, IsOk, IsSome};
 ghost use Rattle.std.specs.Option.{ok_or, option_copied};
-ghost use Rattle.krs_links.specs.Links.{linked_as, linked, unlinked, unlinked_key, nested, serials};
+ghost use Rattle.krs_links.specs.Links.{linked_as, linked, unlinked, unlinked_key, nested, names, serials, has_link};
 ghost use Rattle.krs_links.specs.Links.{is_full, is_refused, link_error, IsUnique};
 
 use crate::lists;
@@ -56,17 +56,33 @@ impl Links {
         MAX_LINKS <= self.entries.len()
     }
 
-    pub fn as_slice(&self) -> &[(Name, Serial)]
-        ensures { result.now ≡ self.now }
+    /// The name of the link at a place of the link order.
+    pub fn name_at(&self, place: usize) -> Option<&Name>
+        ensures { option_copied result ≡ slice_get (names self.now) place }
     {
-        self.entries.as_slice()
+        match self.entries.get(place) {
+            Some(link) => Some(&link.0),
+            None => None,
+        }
     }
 
-    /// The link at a place of the link order.
-    pub fn at(&self, place: usize) -> Option<&(Name, Serial)>
-        ensures { option_copied result ≡ slice_get self.now place }
+    /// The serial that is linked at a place of the link order.
+    pub fn serial_at(&self, place: usize) -> Option<Serial>
+        ensures { result ≡ slice_get (serials self.now) place }
     {
-        self.entries.get(place)
+        match self.entries.get(place) {
+            Some(link) => Some(link.1),
+            None => None,
+        }
+    }
+
+    /// Whether a key is linked.
+    pub fn has(&self, serial: Serial) -> bool
+        ensures { result ≡ has_link serial self.now }
+    {
+        self.entries
+            .iter()
+            .any(|link| link.1.number() == serial.number())
     }
 
     /// The serial that is linked under a name. Names of different types are different: keyrings(7), "Keyrings".

@@ -168,7 +168,7 @@ pub found_other :
     (s t : State) (c d : Context) (desc before after : List ℕ) (head : ℕ) (name : Name)
     → HasMade s c t d desc before after → AllLinked s.keys → at s.keys s.next_serial ≡ None → head ≢ s.next_serial
     → found t d head name ≡ found s c head name
-unfolding found
+unfolding found possessed
 found_other s t c d desc before after head name made linked none other =
     let was = searcher_of s c in
     ap (λ (search_from : ℕ → List ℕ). sought (searcher_of t d) name (search_from head))
@@ -273,7 +273,7 @@ pub requested_with :
     → requested t d name
     ≡ cond (is_named name (Some (special_ring desc c.caller)))
     (or_next (in_turn (λ head. found s c head name) before) (Ok s.next_serial)) (requested s c name)
-unfolding requested found
+unfolding requested found possessed
 requested_with s t c d desc before after name made linked none there =
     let n = s.next_serial in
     let by = searcher_of t d in

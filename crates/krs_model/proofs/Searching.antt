@@ -11,7 +11,7 @@ use Rattle.krs_types.specs.declared.errno.Errno.{Errno}
 use Rattle.krs_types.specs.declared.name.Name.{Name}
 use Rattle.krs_types.specs.Refusing.{or_refuse}
 use Rattle.krs_model.specs.State.{State}
-use Rattle.krs_model.specs.Possession.{attached}
+use Rattle.krs_model.specs.Possession.{attached, possessed}
 use Rattle.krs_model.specs.Levels.{level, levels}
 use Rattle.krs_model.specs.Search.{Searcher, searcher_of, entered, searched, is_answer, is_revoked, is_expired}
 use Rattle.krs_model.specs.Search.{is_denied, fault, fault_among, sought, found_by, found, requested, weightier}
@@ -69,7 +69,7 @@ in_turn_flat by name (head ∷ heads) =
 
 pub request_in_turn : (s : State) (c : Context) (name : Name)
     → requested s c name ≡ in_turn (λ head. found s c head name) (attached s c)
-unfolding requested found
+unfolding requested found possessed
 request_in_turn s c name = in_turn_flat (searcher_of s c) name (attached s c)
 
 -- one element more before which nothing passes
@@ -193,7 +193,7 @@ refused_none e f (Some x) h = cc
 
 pub found_is_first : (s : State) (c : Context) (head : ℕ) (name : Name) (serial : ℕ) → found s c head name ≡ Ok serial
     → IsFirstAnswer (searcher_of s c) head name serial
-unfolding found searched
+unfolding found searched possessed
 found_is_first s c head name serial h =
     let by = searcher_of s c in
     let r = least_passes (is_answer by name) (entered by) (head ∷ []) 8 serial
@@ -209,7 +209,7 @@ found_is_first s c head name serial h =
 
 pub refused_has_none : (s : State) (c : Context) (head : ℕ) (name : Name) (error : Errno)
     → found s c head name ≡ Err error → HasNoAnswer (searcher_of s c) head name
-unfolding found searched
+unfolding found searched possessed
 refused_has_none s c head name error h n i other le at =
     let by = searcher_of s c in
     let less : n < 8 = omega arith in

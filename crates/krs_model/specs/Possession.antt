@@ -4,7 +4,7 @@ use Rattle.std.specs.Option.{option_to_list, unwrap_or}
 use Rattle.krs_types.specs.declared.context.Context.{Context}
 use Rattle.krs_types.specs.declared.caller.Caller.{Caller}
 use Rattle.krs_types.specs.Rights.{has_all, SEARCH}
-use Rattle.krs_model.specs.Table.{at}
+use Rattle.krs_model.specs.Table.{Table, at}
 use Rattle.krs_model.specs.State.{State, Key, Content, Payload, Links}
 use Rattle.krs_model.specs.Access.{is_alive, rights_on}
 use Rattle.krs_model.specs.Levels.{levels, is_in}
@@ -13,27 +13,45 @@ use Rattle.krs_model.specs.Levels.{levels, is_in}
 abbrev pub process_ring : State → ℕ → Option ℕ
 process_ring s process = unwrap_or (at s.processes process) None
 
+-- the thread, process and session keyring of a context whose process has this keyring, where there are any:
+-- keyrings(7), "Possession", (2) and (3)
+abbrev pub attached_with : Context → Option ℕ → List ℕ
+attached_with c ring = option_to_list c.thread ++ (option_to_list ring ++ option_to_list c.session)
+
 -- the thread, process and session keyring of a context, where it has them
 abbrev pub attached : State → Context → List ℕ
-attached s c = option_to_list c.thread ++ (option_to_list (process_ring s c.process) ++ option_to_list c.session)
+attached s c = attached_with c (process_ring s c.process)
 
 -- the serials that a key links
 abbrev pub links_of : Content → List ℕ
 links_of (Payload bytes) = []
 links_of (Links serials) = serials
 
--- the links that the possessor of a keyring follows: it is alive, and grants SEARCH with the possessor's byte counted.
--- Profile, possessor byte; profile, expired keyrings are not followed
+-- a key whose links its possessor follows: it is alive, and grants SEARCH with the possessor's byte counted. Profile,
+-- possessor byte; profile, expired keyrings are not followed
+abbrev pub is_followed : ℕ → Caller → Key → Bool
+is_followed clock caller key = is_alive clock key && has_all (rights_on key caller true) SEARCH
+
+-- the links that the possessor of a keyring follows: keyrings(7), "Possession", (4)
 abbrev pub followed : ℕ → Caller → Option Key → List ℕ
 followed clock caller None = []
-followed clock caller (Some key) =
-    if is_alive clock key && has_all (rights_on key caller true) SEARCH then links_of key.content else []
+followed clock caller (Some key) = if is_followed clock caller key then links_of key.content else []
+
+-- the links that are followed from the key at a serial
+abbrev pub followed_at : Table Key → ℕ → Caller → ℕ → List ℕ
+followed_at keys clock caller serial = followed clock caller (at keys serial)
 
 -- the links that a context follows from the key at a serial
 abbrev pub followed_in : State → Context → ℕ → List ℕ
-followed_in s c serial = followed s.clock c.caller (at s.keys serial)
+followed_in s c serial = followed_at s.keys s.clock c.caller serial
 
--- attached, or linked along at most seven followed keyrings, whatever rights the key itself grants:
--- profile, search depth; profile, possession without rights
+-- possessed among these keys, at this time, by a context whose process has this keyring: attached, or linked along at
+-- most seven followed keyrings, whatever rights the key itself grants. Profile, search depth; profile, possession
+-- without rights
+abbrev pub possessed_with : Table Key → ℕ → Context → Option ℕ → ℕ → Bool
+possessed_with keys clock c ring serial =
+    is_in serial (levels (followed_at keys clock c.caller) (attached_with c ring) 8)
+
+-- possessed by a context of a store: keyrings(7), "Possession"
 unfoldable pub possessed : State → Context → ℕ → Bool
-possessed s c serial = is_in serial (levels (followed_in s c) (attached s c) 8)
+possessed s c serial = possessed_with s.keys s.clock c (process_ring s c.process) serial

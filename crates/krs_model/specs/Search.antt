@@ -14,7 +14,7 @@ use Rattle.krs_model.specs.State.{State, Key}
 use Rattle.krs_model.specs.Access.{is_alive, is_over, rights_on}
 use Rattle.krs_model.specs.Levels.{levels}
 use Rattle.krs_model.specs.Linking.{is_named}
-use Rattle.krs_model.specs.Possession.{attached, links_of, possessed}
+use Rattle.krs_model.specs.Possession.{attached_with, links_of, possessed, possessed_with, process_ring}
 
 -- who searches, and where: the keys and the clock of a store, a caller, and which keys its context possesses
 pub record Searcher : Type 0 where
@@ -22,6 +22,15 @@ pub record Searcher : Type 0 where
   pub clock : ℕ
   pub caller : Caller
   pub possesses : ℕ → Bool
+
+-- a context as one who searches these keys at this time, where its process has this keyring
+abbrev pub searcher_with : Table Key → ℕ → Context → Option ℕ → Searcher
+searcher_with keys clock c ring = record {
+  keys = keys;
+  clock = clock;
+  caller = c.caller;
+  possesses = possessed_with keys clock c ring;
+}
 
 -- a context of a store as one who searches: its caller, and what it possesses
 abbrev pub searcher_of : State → Context → Searcher
@@ -90,18 +99,26 @@ sought by name serials = or_refuse (fault_among by name serials) (find (is_answe
 abbrev pub found_by : Searcher → ℕ → Name → Result ℕ Errno
 found_by by head name = sought by name (searched by head)
 
--- what a search of a context from this head comes to: keyctl(2), KEYCTL_SEARCH
+-- what a search of such a context from this head comes to: keyctl(2), KEYCTL_SEARCH
+abbrev pub found_with : Table Key → ℕ → Context → Option ℕ → ℕ → Name → Result ℕ Errno
+found_with keys clock c ring head name = found_by (searcher_with keys clock c ring) head name
+
+-- what a search of a context of a store comes to: keyctl(2), KEYCTL_SEARCH
 unfoldable pub found : State → Context → ℕ → Name → Result ℕ Errno
-found s c head name = found_by (searcher_of s c) head name
+found s c head name = found_with s.keys s.clock c (process_ring s c.process) head name
 
 -- what searches from these heads come to, one after the other
 abbrev pub requested_by : Searcher → List ℕ → Name → Result ℕ Errno
 requested_by by heads name = sought by name (flat_map (searched by) heads)
 
--- what a request comes to, which searches the attached thread, process and session keyring: request_key(2); profile,
--- three keyrings of a request
+-- what a request of a context whose process has this keyring comes to, which searches the attached thread, process
+-- and session keyring: request_key(2); profile, three keyrings of a request
+abbrev pub requested_with : Table Key → ℕ → Context → Option ℕ → Name → Result ℕ Errno
+requested_with keys clock c ring name = requested_by (searcher_with keys clock c ring) (attached_with c ring) name
+
+-- what a request of a context of a store comes to: request_key(2)
 unfoldable pub requested : State → Context → Name → Result ℕ Errno
-requested s c name = requested_by (searcher_of s c) (attached s c) name
+requested s c name = requested_with s.keys s.clock c (process_ring s c.process) name
 
 -- how much a fault of a search weighs
 abbrev pub weight : Errno → ℕ

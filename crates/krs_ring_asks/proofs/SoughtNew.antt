@@ -74,7 +74,7 @@ find_passes p (x ∷ xs) k h =
 
 requested_there :
     (s : State) (c : Context) (name : Name) (k : ℕ) → requested s c name ≡ Ok k → IsSome (at s.keys k)
-unfolding requested
+unfolding requested possessed
 requested_there s c name k h =
     let by = searcher_of s c in
     let serials = flat_map (searched by) (attached s c) in

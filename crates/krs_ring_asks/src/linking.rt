@@ -6,12 +6,12 @@ ghost use Rattle.krs_model.specs.Lookup.{context_of};
 ghost use Rattle.krs_model.specs.Sound.{IsSound};
 ghost use Rattle.krs_model.specs.Asks.Adding.{IsRing};
 ghost use Rattle.krs_model.specs.Asks.Linked.{link, unlink, clear, nestable};
-ghost use Rattle.krs_keys.specs.Keys.{seen, links_at};
+ghost use Rattle.krs_keys.specs.Keys.{seen};
 ghost use Rattle.krs_links.specs.Links.{serials};
-ghost use Rattle.krs_tables.specs.Linked.{name_in, has_link, Puts, Takes};
+ghost use Rattle.krs_tables.specs.Linked.{name_in, Puts, Takes};
 ghost use Rattle.krs_tables.specs.Specials.{Makes, is_coming};
 
-use krs_keys::{Change, Content, Key, KeyTable};
+use krs_keys::{Change, Content, Key};
 use krs_links::Links;
 use krs_tables::{Special, Tables};
 use krs_types::{Answer, Errno, Fault, KeyId, Name, Rights, Serial, Want};
@@ -177,29 +177,12 @@ pub(crate) fn put_link(
 fn take_link(tables: &mut Tables, ring: Serial, serial: Serial) -> Result<(), Errno>
     ensures { Takes tables.old result tables.new ring serial }
 {
-    if !is_linked(&tables.keys, ring, serial) {
+    if !tables.keys.has_link(ring, serial) {
         return Err(Errno::ENOENT);
     }
     tables.keys.unlink(ring, serial);
     tables.holders.let_go(serial);
     Ok(())
-}
-
-/// Whether a keyring links a key.
-fn is_linked(keys: &KeyTable, ring: Serial, serial: Serial) -> bool
-    ensures { result ≡ has_link serial (links_at keys.now.keys ring) }
-{
-    match keys.get(ring) {
-        Some(key) => has_link(key.entries(), serial),
-        None => false,
-    }
-}
-
-/// Whether one of these links is to a key.
-fn has_link(links: &[(Name, Serial)], serial: Serial) -> bool
-    ensures { result ≡ has_link serial links.now }
-{
-    links.iter().any(|link| link.1.number() == serial.number())
 }
 
 /// The links of a keyring: ENOTDIR where it is none.

@@ -175,7 +175,7 @@ ring_counted s special maker links (Some k) attached unused are h =
     let y = times-cons q k [] in
     omega (arith, e, x, y)) two
 
-ring_kind : (special : Special) → same_kind (special_name special).kind Keyring ≡ true
+pub ring_kind : (special : Special) → same_kind (special_name special).kind Keyring ≡ true
 ring_kind Thread = refl
 ring_kind Process = refl
 

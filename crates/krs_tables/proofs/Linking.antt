@@ -4,7 +4,6 @@ use Rattle.std.proofs.Common.{Ok, Err, length, zero, suc, take, ◌*◌, ◌≤�
 use Rattle.std.proofs.Common.{subst}
 use Rattle.std.specs.Option.{option_map}
 use Rattle.std.specs.Prelude.{nat_le}
-use Rattle.std.proofs.lemmas.Bool.{true≢false}
 use Rattle.std.proofs.lemmas.Option.{none-some, same_Some}
 use Rattle.krs_types.specs.declared.errno.Errno.TheVariants.{ENFILE, ENOMEM}
 use Rattle.krs_types.specs.declared.name.Name.{Name}
@@ -14,13 +13,12 @@ use Rattle.krs_types.specs.Kind.{same_kind}
 use Rattle.krs_model.specs.Table.{Table, at, alter}
 use Rattle.krs_model.specs.State as model
 use Rattle.krs_model.specs.Levels.{is_in}
-use Rattle.krs_model.specs.Possession.{links_of}
 use Rattle.krs_model.specs.Sweep.{linked_by}
 use Rattle.krs_model.specs.Reach.{links_in, is_ring}
 use Rattle.krs_model.specs.Linking.{has_room, link_named, linking}
 use Rattle.krs_model.specs.Asks.Linked.{name_of}
 use Rattle.krs_model.proofs.Tables.{at_map, alter_map}
-use Rattle.krs_links.specs.Links.{LinkList, linked_as, serials, is_refused}
+use Rattle.krs_links.specs.Links.{has_link, LinkList, linked_as, serials, is_refused}
 use Rattle.krs_keys.specs.declared.key.Key.{Key}
 use Rattle.krs_keys.specs.declared.key.Content.{Content}
 use Rattle.krs_keys.specs.declared.key.Content.TheVariants.{Payload, Links}
@@ -31,10 +29,9 @@ use Rattle.krs_keys.proofs.KeysLemmas.{serials-content, found_named, seen-with_e
 use Rattle.krs_tables.specs.declared.tables.Tables.TheInside.{Inside}
 use Rattle.std.specs.Int.{w32, to_le_bytes}
 use Rattle.krs_model.specs.Asks.Reading.{serial_bytes}
-use Rattle.krs_walk.specs.Walks.{OnlyRingsLink}
 use Rattle.krs_model.specs.Asks.Adding.{IsRing}
 use Rattle.krs_tables.specs.View.{state_of}
-use Rattle.krs_tables.specs.Linked.{name_in, room_in, has_link}
+use Rattle.krs_tables.specs.Linked.{name_in, room_in}
 
 name_shown : (o : Option Key) (name : Name) → option_map name_of (option_map seen o) ≡ Some name
     → option_map (λ (k : Key). k.name) o ≡ Some name
@@ -119,23 +116,6 @@ room_told es ring name fit =
     ap (λ zs. has_room zs (link_named (shown es) name zs)) same
     ∙ (ap (has_room (serials links)) (found_named es name links (ring_named es ring fit))
     ∙ room_by links name (linked_as links name) refl)
-
-ring_content : (kind : Kind) (k : ℕ) (content : Content) → IsOfKind kind content
-    → is_in k (links_of (seen_content content)) ≡ true → same_kind kind Keyring ≡ true
-ring_content kind k (Payload bytes) is h = absurd (true≢false (sym h))
-ring_content kind k (Links links) is h = is
-
-ring_of : (k : ℕ) (o : Option Key) → ((key : Key) → o ≡ Some key → IsOfKind key.name.kind key.content)
-    → is_in k (linked_by (option_map seen o)) ≡ true → is_ring (option_map seen o) ≡ true
-ring_of k None is h = absurd (true≢false (sym h))
-ring_of k (Some key) is h = ring_content key.name.kind k key.content (is key refl) h
-
--- only keyrings link keys
-pub only_rings : (es : Table Key) → AreOfKind es → OnlyRingsLink (shown es)
-only_rings es kinds j k h =
-    subst (λ (o : Option model.Key). is_ring o ≡ true) (sym (at_map seen es j))
-    (ring_of k (at es j) (λ key there. kinds j key there) (subst (λ (o : Option model.Key). is_in k (linked_by o)
-    ≡ true) (at_map seen es j) h))
 
 keyring_content : (kind : Kind) (content : Content) (links : List ℕ) → IsOfKind kind content
     → seen_content content ≡ model.Links links → same_kind kind Keyring ≡ true

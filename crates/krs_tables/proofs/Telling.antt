@@ -65,7 +65,7 @@ first_named names User payload = tt
 first_named names Logon payload = tt
 first_named names Keyring payload = tt
 
-first_kind : (kind : Kind) (payload : List ℕ) → IsOfKind kind (first_content kind payload)
+pub first_kind : (kind : Kind) (payload : List ℕ) → IsOfKind kind (first_content kind payload)
 first_kind User payload = tt
 first_kind Logon payload = tt
 first_kind Keyring payload = refl

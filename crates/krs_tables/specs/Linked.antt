@@ -1,12 +1,10 @@
 -- What the store tells of one link more, or one less.
-use Rattle.std.specs.Prelude.{◌≡◌, ◌==◌, ℕ, Bool, true, false, Option, Result, Ok, Err}
+use Rattle.std.specs.Prelude.{◌≡◌, ℕ, true, false, Option, Result, Ok, Err}
 use Rattle.std.specs.Option.{option_map}
-use Rattle.std.specs.List.{list_any}
 use Rattle.krs_types.specs.declared.errno.Errno.{Errno}
 use Rattle.krs_types.specs.declared.errno.Errno.TheVariants.{ENOENT}
 use Rattle.krs_types.specs.declared.fault.Fault.{Fault}
 use Rattle.krs_types.specs.declared.name.Name.{Name}
-use Rattle.krs_links.specs.Links.{LinkList}
 use Rattle.krs_model.specs.Table.{Table, at}
 use Rattle.krs_model.specs.State.{State, Key}
 use Rattle.krs_model.specs.Levels.{is_in}
@@ -29,10 +27,6 @@ abbrev pub Puts : State → Result (Unit {0}) Fault → State → ℕ → Name �
 Puts old (Ok done) new ring name serial =
     (room_in old.keys ring name ≡ Ok tt) × (new ≡ changed old ring (linking old.keys name serial))
 Puts old (Err e) new ring name serial = Fails e (room_in old.keys ring name) × (new ≡ old)
-
--- one of these links is to the key
-abbrev pub has_link : ℕ → LinkList → Bool
-has_link serial links = list_any (λ link. link.1 == serial) links
 
 -- the keyring does not link the key any more, where it did; else nothing has changed
 abbrev pub Takes : State → Result (Unit {0}) Errno → State → ℕ → ℕ → Type 0

@@ -18,7 +18,7 @@ use Rattle.krs_model.proofs.Levels.{levels_on}
 use Rattle.krs_model.proofs.Tables.{same_at}
 use Rattle.krs_walk.specs.Lists.{join}
 use Rattle.krs_model.specs.Laws.{ClosesCycle}
-use Rattle.krs_walk.specs.Walks.{OnlyRingsLink}
+use Rattle.krs_keys.specs.Keys.{OnlyRingsLink}
 use Rattle.krs_walk.proofs.ListsLemmas.{Within, fresh, join_fresh, in_join, in_join_left, in_append, in_head, in_tail}
 use Rattle.krs_walk.proofs.ListsLemmas.{in_cons, in_none, in_single, same_is, is_same}
 use Rattle.krs_walk.proofs.LevelsLemmas.{Covers, covers_more, levels_next, levels_fewer}

@@ -16,6 +16,7 @@ use Rattle.krs_types.specs.declared.name.Name.{Name}
 use Rattle.krs_model.specs.Table.{at}
 use Rattle.krs_model.specs.State.{Key, State}
 use Rattle.krs_model.specs.Levels.{level, levels, is_in}
+use Rattle.krs_model.specs.Search.{found_with, requested_with}
 use Rattle.krs_model.specs.Possession.{links_of, possessed, process_ring}
 use Rattle.krs_model.specs.Reach.{is_ring}
 use Rattle.krs_model.specs.Search.{Searcher, entered, open_links, is_open, is_answer, is_revoked, is_expired}
@@ -24,8 +25,8 @@ use Rattle.krs_model.specs.Sweep.{linked_by}
 use Rattle.krs_model.proofs.Levels.{levels_more}
 use Rattle.krs_model.proofs.Searching.{sought_append}
 use Rattle.krs_walk.specs.Lists.{join}
-use Rattle.krs_walk.specs.Walks.{OnlyRingsLink}
-use Rattle.krs_walk.specs.Searching.{entered_rings, found_with, requested_with}
+use Rattle.krs_keys.specs.Keys.{OnlyRingsLink}
+use Rattle.krs_walk.specs.Searching.{entered_rings}
 use Rattle.krs_walk.proofs.ListsLemmas.{fresh, join_fresh, join_append, any_join, in_none, in_head, in_cons}
 use Rattle.krs_walk.proofs.LevelsLemmas.{Covers, follow_fresh, at_next}
 use Rattle.krs_walk.proofs.HeldLemmas.{walk_at, joined_front}

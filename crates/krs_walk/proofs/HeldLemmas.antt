@@ -6,13 +6,15 @@ use Rattle.krs_types.specs.declared.context.Context.{Context}
 use Rattle.krs_model.specs.Table.{Table, at}
 use Rattle.krs_model.specs.State.{Key}
 use Rattle.krs_model.specs.Levels.{level, levels, is_in}
+use Rattle.krs_model.specs.Possession.{attached_with, followed_at, possessed_with}
 use Rattle.krs_model.specs.Reach.{is_ring}
 use Rattle.krs_model.proofs.Levels.{levels_more}
 use Rattle.krs_keys.specs.Keys.{shown}
 use Rattle.krs_walk.specs.declared.search.Search.{Search}
 use Rattle.krs_walk.specs.declared.held.HeldRings.{HeldRings}
 use Rattle.krs_walk.specs.Lists.{join}
-use Rattle.krs_walk.specs.Walks.{OnlyRingsLink, attached_with, followed_at, followed_rings, possessed_with}
+use Rattle.krs_keys.specs.Keys.{OnlyRingsLink}
+use Rattle.krs_walk.specs.Walks.{followed_rings}
 use Rattle.krs_walk.specs.Searching.{held_to, AreHeld}
 use Rattle.krs_walk.proofs.ListsLemmas.{fresh, join_fresh, join_append, any_join}
 use Rattle.krs_walk.proofs.LevelsLemmas.{IsAt, at_next, levels_next, levels_fewer}

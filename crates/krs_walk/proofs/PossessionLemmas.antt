@@ -12,7 +12,7 @@ use Rattle.krs_types.specs.Name.{same_name}
 use Rattle.krs_model.specs.Table.{Table, at}
 use Rattle.krs_model.specs.State as model
 use Rattle.krs_model.specs.Levels.{level, levels, is_in}
-use Rattle.krs_model.specs.Possession.{followed, links_of}
+use Rattle.krs_model.specs.Possession.{attached_with, followed_at, is_followed, possessed_with, followed, links_of}
 use Rattle.krs_model.specs.Reach.{is_ring}
 use Rattle.krs_model.specs.Sweep.{linked_by}
 use Rattle.krs_model.proofs.Levels.{in_flat}
@@ -22,8 +22,9 @@ use Rattle.krs_links.proofs.NamesLemmas.{equal_names, same_name_equiv}
 use Rattle.krs_keys.specs.declared.key.Key.{Key}
 use Rattle.krs_keys.specs.Keys.{content_links, seen, shown, name_at, AreNamed, AreFit}
 use Rattle.krs_keys.proofs.KeysLemmas.{serials-content}
-use Rattle.krs_walk.specs.Walks.{OnlyRingsLink, attached_with, followed_at, followed_rings, is_followed}
-use Rattle.krs_walk.specs.Walks.{possessed_with, is_linked, is_found}
+use Rattle.krs_keys.specs.Keys.{OnlyRingsLink}
+use Rattle.krs_walk.specs.Walks.{followed_rings}
+use Rattle.krs_walk.specs.Walks.{is_linked, is_found}
 use Rattle.krs_walk.proofs.ListsLemmas.{in_none, in_one, in_left, in_right, in_head, in_tail, is_same, or_left}
 use Rattle.krs_walk.proofs.ListsLemmas.{or_right, or_one, any_at}
 use Rattle.krs_walk.proofs.LevelsLemmas.{Fewer, in_flat_map, levels_from, levels_next, levels_fewer}

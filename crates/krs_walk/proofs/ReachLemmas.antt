@@ -7,7 +7,7 @@ use Rattle.krs_model.specs.Levels.{level, levels, is_in}
 use Rattle.krs_model.specs.Reach.{Reaches, Directly, Further, links_in, nested_in, is_ring}
 use Rattle.krs_model.proofs.Levels.{in_flat}
 use Rattle.krs_model.specs.Laws.{ClosesCycle}
-use Rattle.krs_walk.specs.Walks.{OnlyRingsLink}
+use Rattle.krs_keys.specs.Keys.{OnlyRingsLink}
 use Rattle.krs_walk.proofs.ListsLemmas.{in_head, in_tail, in_cons, in_none, in_one, in_single}
 use Rattle.krs_walk.proofs.LevelsLemmas.{Fewer}
 

@@ -17,7 +17,7 @@ use Rattle.krs_keys.specs.Keys.{content_links, seen, seen_content, shown, AreFit
 use Rattle.krs_keys.specs.Changes.{links_some}
 use Rattle.krs_walk.specs.declared.search.Search.{Search}
 use Rattle.krs_walk.specs.Lists.{join}
-use Rattle.krs_walk.specs.Walks.{OnlyRingsLink}
+use Rattle.krs_keys.specs.Keys.{OnlyRingsLink}
 use Rattle.krs_walk.specs.Searching.{searcher_for, sought_in, entered_rings}
 use Rattle.krs_walk.proofs.ListsLemmas.{in_head}
 use Rattle.krs_walk.proofs.KeyringsLemmas.{nested_serials}

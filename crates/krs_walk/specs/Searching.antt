@@ -1,37 +1,19 @@
 -- What the search goes by, over the keys of the definitions.
-use Rattle.std.specs.Prelude.{◌≡◌, ◌≤◌, ◌-◌, ℕ, Bool, List, [], length, take, filter, flat_map, Option, Result, Ok}
+use Rattle.std.specs.Prelude.{◌≡◌, ◌≤◌, ◌-◌, ℕ, Bool, List, [], length, take, filter, flat_map, Result, Ok}
 use Rattle.std.specs.Prelude.{Err}
-use Rattle.krs_types.specs.declared.context.Context.{Context}
 use Rattle.krs_types.specs.declared.errno.Errno.{Errno}
-use Rattle.krs_types.specs.declared.name.Name.{Name}
-use Rattle.krs_model.specs.Table.{Table, at}
-use Rattle.krs_model.specs.State.{Key}
+use Rattle.krs_model.specs.Table.{at}
 use Rattle.krs_model.specs.Levels.{levels}
 use Rattle.krs_model.specs.Reach.{is_ring}
-use Rattle.krs_model.specs.Search.{Searcher, entered, found_by, or_next, requested_by, searched, sought}
+use Rattle.krs_model.specs.Search.{Searcher, searcher_with, entered, or_next, searched, sought}
 use Rattle.krs_keys.specs.Keys.{shown}
 use Rattle.krs_walk.specs.declared.search.Search.{Search}
 use Rattle.krs_walk.specs.declared.held.HeldRings.{HeldRings}
 use Rattle.krs_walk.specs.Lists.{join}
-use Rattle.krs_walk.specs.Walks.{attached_with, followed_rings, possessed_with}
+use Rattle.krs_model.specs.Possession.{attached_with}
+use Rattle.krs_walk.specs.Walks.{followed_rings}
 
--- a context that searches, whose process has this keyring
-abbrev pub searcher_with : Table Key → ℕ → Context → Option ℕ → Searcher
-searcher_with keys clock c ring = record {
-  keys = keys;
-  clock = clock;
-  caller = c.caller;
-  possesses = possessed_with keys clock c ring;
-}
-
--- what it finds: keyctl(2), KEYCTL_SEARCH
-abbrev pub found_with : Table Key → ℕ → Context → Option ℕ → ℕ → Name → Result ℕ Errno
-found_with keys clock c ring head name = found_by (searcher_with keys clock c ring) head name
-
--- what it finds from its attached keyrings in turn: request_key(2)
-abbrev pub requested_with : Table Key → ℕ → Context → Option ℕ → Name → Result ℕ Errno
-requested_with keys clock c ring name = requested_by (searcher_with keys clock c ring) (attached_with c ring) name
-
+-- the context that searches
 abbrev pub searcher_for : Search → Searcher
 searcher_for s = searcher_with (shown s.keys.now.keys) s.clock s.context.now s.process_ring
 

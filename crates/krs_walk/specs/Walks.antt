@@ -1,8 +1,7 @@
 -- What the walks answer, over the keys of the definitions.
-use Rattle.std.specs.Prelude.{◌≡◌, ℕ, ◌+◌, List, ◌++◌, Bool, true, false, ◌&&◌, ◌==◌, filter, flat_map, drop, Option}
+use Rattle.std.specs.Prelude.{◌≡◌, ℕ, ◌+◌, List, Bool, true, false, ◌==◌, filter, flat_map, drop, Option}
 use Rattle.std.specs.Prelude.{None, Some}
 use Rattle.std.specs.List.{list_any}
-use Rattle.std.specs.Option.{option_to_list}
 use Rattle.krs_types.specs.declared.caller.Caller.{Caller}
 use Rattle.krs_types.specs.declared.context.Context.{Context}
 use Rattle.krs_types.specs.declared.errno.Errno.TheVariants.{ELOOP}
@@ -12,14 +11,8 @@ use Rattle.krs_model.specs.Table.{Table, at}
 use Rattle.krs_walk.specs.Lists.{join}
 use Rattle.krs_model.specs.State.{Key}
 use Rattle.krs_model.specs.Levels.{levels, is_in}
-use Rattle.krs_types.specs.Rights.{has_all, SEARCH}
-use Rattle.krs_model.specs.Access.{is_alive, rights_on}
-use Rattle.krs_model.specs.Possession.{followed}
-use Rattle.krs_model.specs.Reach.{links_in, is_ring, has_chain}
-
--- only keyrings link keys: keyrings(7), "Keyrings"
-abbrev pub OnlyRingsLink : Table Key → Type 0
-OnlyRingsLink keys = (j k : ℕ) → is_in k (links_in keys j) ≡ true → is_ring (at keys j) ≡ true
+use Rattle.krs_model.specs.Possession.{attached_with, followed_at}
+use Rattle.krs_model.specs.Reach.{is_ring, has_chain}
 
 -- the longest chain of nested keyrings that hangs down from the key has that many links: profile, nesting depth
 pub record IsHeight (keys : Table Key) (key height : ℕ) : Type 0 where
@@ -31,21 +24,9 @@ abbrev pub IsTooDeep : Table Key → ℕ → Fault → Type 0
 IsTooDeep keys key Memory = Unit {0}
 IsTooDeep keys key (Refused errno) = (errno ≡ ELOOP) × (has_chain keys key 6 ≡ true)
 
--- the attached keyrings of a context whose process has this keyring: keyrings(7), "Possession", (2) and (3)
-abbrev pub attached_with : Context → Option ℕ → List ℕ
-attached_with c ring = option_to_list c.thread ++ (option_to_list ring ++ option_to_list c.session)
-
--- the links of a keyring that its possessor follows: keyrings(7), "Possession", (4)
-abbrev pub followed_at : Table Key → ℕ → Caller → ℕ → List ℕ
-followed_at keys clock caller serial = followed clock caller (at keys serial)
-
--- those of them that are to keyrings
+-- the links to keyrings among those that the possessor of a keyring follows: keyrings(7), "Possession", (4)
 abbrev pub followed_rings : Table Key → ℕ → Caller → ℕ → List ℕ
 followed_rings keys clock caller serial = filter (λ k. is_ring (at keys k)) (followed_at keys clock caller serial)
-
--- a key whose links its possessor follows: it is alive, and grants SEARCH with the possessor's byte counted
-abbrev pub is_followed : ℕ → Caller → Key → Bool
-is_followed clock caller key = is_alive clock key && has_all (rights_on key caller true) SEARCH
 
 -- a keyring whose possessor follows a link to this key
 abbrev pub links_it : Table Key → ℕ → Caller → ℕ → ℕ → Bool
@@ -54,11 +35,6 @@ links_it keys clock caller serial k = is_in serial (followed_at keys clock calle
 -- what a walk has come to, with the keyrings that are followed from those from a place on
 abbrev pub with_next : Table Key → ℕ → Caller → ℕ → List ℕ → List ℕ
 with_next keys clock caller start seen = join seen (flat_map (followed_rings keys clock caller) (drop start seen))
-
--- attached, or linked along at most seven followed keyrings: profile, search depth
-abbrev pub possessed_with : Table Key → ℕ → Context → Option ℕ → ℕ → Bool
-possessed_with keys clock c ring serial =
-    is_in serial (levels (followed_at keys clock c.caller) (attached_with c ring) 8)
 
 -- a followed keyring of the first seven levels links it
 abbrev pub is_linked : Table Key → ℕ → Context → Option ℕ → ℕ → Bool

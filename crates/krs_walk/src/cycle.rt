@@ -3,7 +3,7 @@ ghost use Rattle.krs_model.specs.Table.{at};
 ghost use Rattle.krs_model.specs.Reach.{is_ring, links_in, nested_in, closes};
 ghost use Rattle.krs_keys.specs.Keys.{shown, AreFit};
 ghost use Rattle.krs_model.specs.Laws.{ClosesCycle};
-ghost use Rattle.krs_walk.specs.Walks.{OnlyRingsLink};
+ghost use Rattle.krs_keys.specs.Keys.{OnlyRingsLink};
 
 use crate::keyrings::rings_of;
 use crate::{Visits, Walker};
@@ -20,13 +20,13 @@ impl Walker {
         ring: Serial,
     ) -> Result<bool, AllocError>
         requires fit { AreFit keys.now.keys }
-        requires only { OnlyRingsLink (shown keys.now.keys) }
         requires key { IsSome (at (shown keys.now.keys) key) }
         requires ring { is_ring (at (shown keys.now.keys) ring) ≡ true }
         ensures closes { IfOk result (λ b. b ≡ closes (shown keys.now.keys) key ring) }
         ensures reached { IfOk result (λ b. IsTrue b ↔ ClosesCycle (links_in (shown keys.now.keys)) key ring) }
         ensures leaf { nested_in (shown keys.now.keys) key ≡ [] → IsOk result }
     {
+        keys.only_keyrings_link();
         if key == ring {
             return Ok(true);
         }

@@ -3,7 +3,7 @@ ghost use Rattle.krs_model.specs.Table.{at};
 ghost use Rattle.krs_model.specs.Reach.{is_ring};
 ghost use Rattle.krs_keys.specs.Keys.{shown, AreFit};
 ghost use Rattle.krs_walk.specs.declared.search.Search as search;
-ghost use Rattle.krs_walk.specs.Walks.{OnlyRingsLink};
+ghost use Rattle.krs_keys.specs.Keys.{OnlyRingsLink};
 ghost use Rattle.krs_walk.specs.Searching.{is_held, AreHeld};
 
 use crate::Visits;

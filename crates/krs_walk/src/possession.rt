@@ -3,11 +3,12 @@ ghost use Rattle.std.specs.List.{list_any};
 ghost use Rattle.std.specs.Option.{option_to_list};
 ghost use Rattle.krs_model.specs.Levels.{is_in};
 ghost use Rattle.krs_model.specs.Table.{at};
+ghost use Rattle.krs_model.specs.Possession.{attached_with, is_followed, possessed_with};
 ghost use Rattle.krs_links.specs.Links.{linked_as};
 ghost use Rattle.krs_keys.specs.Keys.{content_links, seen, shown, AreFit};
 ghost use Rattle.krs_walk.specs.Lists.{join};
-ghost use Rattle.krs_walk.specs.Walks.{attached_with, followed_rings, is_followed, is_found, is_linked};
-ghost use Rattle.krs_walk.specs.Walks.{links_it, possessed_with, with_next, OnlyRingsLink};
+ghost use Rattle.krs_walk.specs.Walks.{followed_rings, is_found, is_linked};
+ghost use Rattle.krs_walk.specs.Walks.{links_it, with_next};
 
 use crate::keyrings::rings_in;
 use crate::{Visits, Walker};
@@ -30,10 +31,10 @@ impl Walker {
         clock: u64,
         serial: Serial,
     ) -> Result<bool, AllocError>
-        requires fit { AreFit keys.now.keys }
-        requires only { OnlyRingsLink (shown keys.now.keys) }
+        requires { AreFit keys.now.keys }
         ensures { IfOk result (λ b. b ≡ possessed_with (shown keys.now.keys) clock context.now process_ring serial) }
     {
+        keys.only_keyrings_link();
         if is_attached(context, &process_ring, serial) {
             return Ok(true);
         }

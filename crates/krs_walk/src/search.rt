@@ -3,7 +3,7 @@ ghost use Rattle.std.specs.Prelude.{IfOk, OnOk};
 ghost use Rattle.std.specs.Option.{option_to_list};
 ghost use Rattle.krs_model.specs.Table.{at};
 ghost use Rattle.krs_model.specs.Access.{rights_on};
-ghost use Rattle.krs_model.specs.Search.{found_by, grants_search, is_open};
+ghost use Rattle.krs_model.specs.Search.{found_with, requested_with, found_by, grants_search, is_open};
 ghost use Rattle.krs_model.specs.Search.{or_next, weight, weightier};
 ghost use Rattle.krs_model.specs.Outcome.{Gives};
 ghost use Rattle.krs_types.specs.Name.{same_name};
@@ -11,8 +11,8 @@ ghost use Rattle.krs_types.specs.Rights.{has_all, SEARCH};
 ghost use Rattle.krs_links.specs.Links.{nested, serials};
 ghost use Rattle.krs_keys.specs.Keys.{content_links, name_at, seen, shown, AreNamed, AreFit};
 ghost use Rattle.krs_keys.specs.Changes.{links_some};
-ghost use Rattle.krs_walk.specs.Walks.{OnlyRingsLink};
-ghost use Rattle.krs_walk.specs.Searching.{found_with, is_held, requested_with};
+ghost use Rattle.krs_keys.specs.Keys.{OnlyRingsLink};
+ghost use Rattle.krs_walk.specs.Searching.{is_held};
 ghost use Rattle.krs_walk.specs.Searching.{links_by, links_from, rings_by, rings_from};
 ghost use Rattle.krs_walk.specs.Searching.{searched_from, searcher_for, sought_behind, sought_in};
 ghost use Rattle.krs_walk.specs.Searching.{AreHeld, Joins};
@@ -53,11 +53,11 @@ impl Walker {
         head: Serial,
         name: &Name,
     ) -> Result<Serial, Fault>
-        requires fit { AreFit keys.now.keys }
-        requires only { OnlyRingsLink (shown keys.now.keys) }
+        requires { AreFit keys.now.keys }
         ensures { Gives (λ k. k) result
             (found_with (shown keys.now.keys) clock context.now process_ring head name.now) }
     {
+        keys.only_keyrings_link();
         let search = Search {
             walker: self,
             keys,
@@ -79,11 +79,11 @@ impl Walker {
         clock: u64,
         name: &Name,
     ) -> Result<Serial, Fault>
-        requires fit { AreFit keys.now.keys }
-        requires only { OnlyRingsLink (shown keys.now.keys) }
+        requires { AreFit keys.now.keys }
         ensures { Gives (λ k. k) result
             (requested_with (shown keys.now.keys) clock context.now process_ring name.now) }
     {
+        keys.only_keyrings_link();
         let search = Search {
             walker: self,
             keys,
@@ -243,7 +243,6 @@ impl Search<'_> {
         fault: Errno,
     ) -> Result<Result<Serial, Errno>, AllocError>
         requires fit { AreFit self.now.keys.now.keys }
-        requires only { OnlyRingsLink (shown self.now.keys.now.keys) }
         requires named { AreNamed (name_at self.now.keys.now.keys) (content_links content.now) }
         ensures sought { IfOk result (λ r. r ≡
             sought_behind self.now fault (serials (content_links content.now))) }
@@ -262,7 +261,6 @@ impl Search<'_> {
     /// What the links of a keyring come to: no other than that of the name.
     fn judge_link(&self, content: &Content) -> Result<Result<Serial, Errno>, AllocError>
         requires fit { AreFit self.now.keys.now.keys }
-        requires only { OnlyRingsLink (shown self.now.keys.now.keys) }
         requires named { AreNamed (name_at self.now.keys.now.keys) (content_links content.now) }
         ensures { IfOk result (λ r. r ≡ sought_in self.now (serials (content_links content.now))) }
     {
@@ -274,8 +272,7 @@ impl Search<'_> {
 
     /// What a key comes to.
     fn judge(&self, serial: Serial) -> Result<Result<Serial, Errno>, AllocError>
-        requires fit { AreFit self.now.keys.now.keys }
-        requires only { OnlyRingsLink (shown self.now.keys.now.keys) }
+        requires { AreFit self.now.keys.now.keys }
         ensures { IfOk result (λ r. r ≡ sought_in self.now (serial ∷ [])) }
     {
         match self.keys.get(serial) {
@@ -287,7 +284,6 @@ impl Search<'_> {
     /// What a key of the name comes to.
     fn judge_match(&self, key: &Key, serial: Serial) -> Result<Result<Serial, Errno>, AllocError>
         requires fit { AreFit self.now.keys.now.keys }
-        requires only { OnlyRingsLink (shown self.now.keys.now.keys) }
         requires key { at self.now.keys.now.keys serial ≡ Some key.now }
         requires named { same_name self.now.name.now key.now.name ≡ true }
         ensures { IfOk result (λ r. r ≡ sought_in self.now (serial ∷ [])) }
@@ -307,8 +303,7 @@ impl Search<'_> {
 
     /// Whether a key grants SEARCH. Possession is asked where it makes a difference.
     fn grants(&self, key: &Key, serial: Serial) -> Result<bool, AllocError>
-        requires fit { AreFit self.now.keys.now.keys }
-        requires only { OnlyRingsLink (shown self.now.keys.now.keys) }
+        requires { AreFit self.now.keys.now.keys }
         ensures { IfOk result (λ b. b ≡
             grants_search (searcher_for self.now) serial (seen key.now)) }
     {
@@ -321,8 +316,7 @@ impl Search<'_> {
     }
 
     fn possesses(&self, serial: Serial) -> Result<bool, AllocError>
-        requires fit { AreFit self.now.keys.now.keys }
-        requires only { OnlyRingsLink (shown self.now.keys.now.keys) }
+        requires { AreFit self.now.keys.now.keys }
         ensures { IfOk result (λ b. b ≡ is_held self.now serial) }
     {
         self.walker.possesses(

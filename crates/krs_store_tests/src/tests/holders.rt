@@ -1,3 +1,6 @@
+ghost use Rattle.std.specs.Prelude.{◌≡◌, IfOk};
+ghost use Rattle.krs_keys.specs.Keys.{IsOfKind};
+
 use krs_hold::Holders;
 use krs_keys::{Change, Content, Key, KeyTable};
 use krs_links::Links;
@@ -27,7 +30,9 @@ impl Held {
     }
 
     /// A key that nothing holds.
-    fn make(&mut self, key: Key) -> Result<u32, AllocError> {
+    fn make(&mut self, key: Key) -> Result<u32, AllocError>
+        requires { IsOfKind key.name.kind key.content }
+    {
         let serial = Serial::new(self.keys.next());
         self.holders.made(serial).map_err(no_memory)?;
         let _ = self.keys.insert(key).map_err(no_memory)?;
@@ -35,7 +40,9 @@ impl Held {
     }
 
     /// A key that a keyring links.
-    fn make_in(&mut self, ring: u32, name: Name, key: Key) -> Result<u32, AllocError> {
+    fn make_in(&mut self, ring: u32, name: Name, key: Key) -> Result<u32, AllocError>
+        requires { IsOfKind key.name.kind key.content }
+    {
         let serial = Serial::new(self.keys.next());
         self.holders.made(serial).map_err(no_memory)?;
         let displaced = self
@@ -56,7 +63,9 @@ fn no_memory(_errno: Errno) -> AllocError {
     AllocError
 }
 
-fn name(alloc: Global, kind: Kind, number: u32) -> Result<Name, AllocError> {
+fn name(alloc: Global, kind: Kind, number: u32) -> Result<Name, AllocError>
+    ensures { IfOk result (λ name. name.kind ≡ kind) }
+{
     let desc = Blob::new(format!(in alloc; "k{number}")?.into_bytes());
     if desc.as_slice().len() > 4095 {
         return Err(AllocError);
@@ -67,11 +76,20 @@ fn name(alloc: Global, kind: Kind, number: u32) -> Result<Name, AllocError> {
     })
 }
 
-fn key(alloc: Global, kind: Kind, number: u32) -> Result<Key, AllocError> {
-    let content = match kind {
+/// No links, or no payload.
+fn content(alloc: Global, kind: Kind) -> Content
+    ensures { IsOfKind kind result }
+{
+    match kind {
         Kind::Keyring => Content::Links(Links::new(alloc)),
         Kind::User | Kind::Logon => Content::Payload(Body::new(Vec::new(alloc))),
-    };
+    }
+}
+
+fn key(alloc: Global, kind: Kind, number: u32) -> Result<Key, AllocError>
+    ensures { IfOk result (λ key. IsOfKind key.name.kind key.content) }
+{
+    let content = content(alloc, kind);
     Ok(Key {
         name: name(alloc, kind, number)?,
         uid: 1000,

@@ -1,16 +1,23 @@
+ghost use Rattle.std.specs.Prelude.{◌≡◌, IfOk};
+ghost use Rattle.krs_keys.specs.Keys.{IsOfKind};
+
 use krs_keys::{Change, Content, Key, KeyTable};
 use krs_links::Links;
 use krs_types::{Blob, Body, Desc, Errno, Kind, Name, Perm, Serial};
 use std::alloc::{AllocError, Global};
 use std::test::Fail;
 
-fn name(alloc: Global, kind: Kind, desc: &[u8]) -> Result<Name, AllocError> {
+fn name(alloc: Global, kind: Kind, desc: &[u8]) -> Result<Name, AllocError>
+    ensures { IfOk result (λ name. name.kind ≡ kind) }
+{
     let desc = Blob::from_slice(alloc, desc)?;
     assume_short(desc, kind)
 }
 
 /// A name of a description that is short, as those of these tests are.
-fn assume_short(desc: Blob, kind: Kind) -> Result<Name, AllocError> {
+fn assume_short(desc: Blob, kind: Kind) -> Result<Name, AllocError>
+    ensures { IfOk result (λ name. name.kind ≡ kind) }
+{
     if desc.as_slice().len() > 4095 {
         return Err(AllocError);
     }
@@ -20,11 +27,20 @@ fn assume_short(desc: Blob, kind: Kind) -> Result<Name, AllocError> {
     })
 }
 
-fn key(alloc: Global, kind: Kind, desc: &[u8]) -> Result<Key, AllocError> {
-    let content = match kind {
-        Kind::Keyring => Content::Links(Links::new(alloc)),
-        Kind::User | Kind::Logon => Content::Payload(body(alloc, b"s3")?),
-    };
+/// No links, or a payload.
+fn content(alloc: Global, kind: Kind) -> Result<Content, AllocError>
+    ensures { IfOk result (IsOfKind kind) }
+{
+    match kind {
+        Kind::Keyring => Ok(Content::Links(Links::new(alloc))),
+        Kind::User | Kind::Logon => Ok(Content::Payload(body(alloc, b"s3")?)),
+    }
+}
+
+fn key(alloc: Global, kind: Kind, desc: &[u8]) -> Result<Key, AllocError>
+    ensures { IfOk result (λ key. IsOfKind key.name.kind key.content) }
+{
+    let content = content(alloc, kind)?;
     Ok(Key {
         name: name(alloc, kind, desc)?,
         uid: 1000,

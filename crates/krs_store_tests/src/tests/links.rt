@@ -18,13 +18,13 @@ fn name(alloc: Global, kind: Kind, desc: &[u8]) -> Result<Name, Fail>
 
 /// The serials of the links, and those of the nested keyrings, in link order.
 fn expect(rt: &impl Abort, links: &Links, all: &[u32], rings: &[u32]) {
-    assert!(rt;
-        links.len() == all.len() && links.as_slice().len() == all.len(),
-        "{all:?}"
-    );
-    for (link, serial) in links.as_slice().iter().zip(all) {
-        assert_eq!(rt; link.1.number(), *serial, "of {all:?}");
+    assert_eq!(rt; links.len(), all.len(), "{all:?}");
+    for (place, serial) in all.iter().enumerate() {
+        let serial = Serial::new(*serial);
+        assert_eq!(rt; links.serial_at(place), Some(serial), "of {all:?}");
+        assert!(rt; links.has(serial), "of {all:?}");
     }
+    assert!(rt; links.serial_at(all.len()).is_none() && !links.has(Serial::new(0)));
     assert_eq!(rt; links.rings().len(), rings.len(), "{rings:?}");
     for (ring, serial) in links.rings().iter().zip(rings) {
         assert_eq!(rt; ring.number(), *serial, "of {rings:?}");
@@ -51,10 +51,9 @@ fn finds_by_type_and_description(rt: HostRuntime) -> Result<(), Fail> {
         links.find(&name(alloc, Kind::User, b"s:y".as_slice())?),
         None
     );
-    let (first, serial) = links.at(0).ok_or("no first link")?;
+    let first = links.name_at(0).ok_or("no first link")?;
     assert!(rt; first.kind.is(Kind::User) && first.desc.as_slice() == b"s:x".as_slice());
-    assert_eq!(rt; serial.number(), 5);
-    assert!(rt; links.at(2).is_some() && links.at(3).is_none() && !links.is_full());
+    assert!(rt; links.name_at(2).is_some() && links.name_at(3).is_none() && !links.is_full());
     Ok(())
 }
 

@@ -1,7 +1,6 @@
 ghost use Rattle.std.specs.Prelude.{◌≡◌, [], IfOk};
 ghost use Rattle.krs_types.specs.declared.kind.Kind.TheVariants.{Keyring};
-ghost use Rattle.krs_keys.specs.Keys.{content_links, shown, AreFit};
-ghost use Rattle.krs_walk.specs.Walks.{OnlyRingsLink};
+ghost use Rattle.krs_keys.specs.Keys.{content_links, AreFit, IsOfKind};
 
 use krs_keys::{Content, Key, KeyTable};
 use krs_links::Links;
@@ -28,7 +27,7 @@ fn name(alloc: Global, desc: &[u8]) -> Result<Name, AllocError>
 /// A keyring that links nothing.
 fn ring(alloc: Global, desc: &[u8], expiry: Option<u64>, revoked: bool) -> Result<Key, AllocError>
     ensures empty { IfOk result (λ key. content_links key.content ≡ []) }
-    ensures ring { IfOk result (λ key. key.name.kind ≡ Keyring) }
+    ensures kind { IfOk result (λ key. IsOfKind key.name.kind key.content) }
 {
     Ok(Key {
         name: name(alloc, desc)?,
@@ -59,8 +58,7 @@ fn with_session(alloc: Global, session: Option<Serial>) -> Context {
 
 /// What is possessed by a context whose session keyring is key 3, where it and key 4 are keyrings that link nothing.
 fn check_possession(rt: &impl Abort, alloc: Global, keys: &KeyTable) -> Result<(), Fault>
-    requires fit { AreFit keys.now.keys }
-    requires only { OnlyRingsLink (shown keys.now.keys) }
+    requires { AreFit keys.now.keys }
 {
     let (three, four) = (Serial::new(3), Serial::new(4));
     let walker = Walker::new(alloc);
@@ -109,8 +107,7 @@ const SEARCHES: [(bool, u64, u32, &[u8], Result<u32, Errno>); 5] = [
 ];
 
 fn check_searches(rt: &impl Abort, alloc: Global, keys: &KeyTable) -> Result<(), AllocError>
-    requires fit { AreFit keys.now.keys }
-    requires only { OnlyRingsLink (shown keys.now.keys) }
+    requires { AreFit keys.now.keys }
 {
     let walker = Walker::new(alloc);
     for (attached, clock, head, desc, answer) in SEARCHES {

@@ -18,6 +18,7 @@ use Rattle.krs_tables.specs.Making.{uid_key}
 use Rattle.krs_tables.specs.View.{state_of}
 use Rattle.krs_tables.proofs.Counting.{first_tallied, first_times, first_counted, room_on}
 use Rattle.krs_tables.proofs.Telling.{first_told}
+use Rattle.krs_keys.specs.Keys.{IsOfKind}
 use Rattle.krs_context_asks.proofs.greeting.open_first.Goals as goal
 
 pub returns-in_err-number : goal.returns-in_err-number
@@ -115,3 +116,10 @@ returns-in-Ok c =
     rw (← c.tables.view_is)
     (hello_done base s.contexts mid c.args.client x c.in_ok-number.number c.requires.known no_uid few accepted
     ∙ rw (told.is, told.next) refl)
+
+pub insert_two-requires-clause-first : goal.insert_two-requires-clause-first
+insert_two-requires-clause-first c = subst (λ (k : Key). IsOfKind k.name.kind k.content) (sym c.requires.user) refl
+
+pub insert_two-requires-clause-second : goal.insert_two-requires-clause-second
+insert_two-requires-clause-second c =
+    subst (λ (k : Key). IsOfKind k.name.kind k.content) (sym c.requires.session) refl

@@ -13,6 +13,7 @@ use Rattle.krs_ctx.specs.Told.{changed}
 use Rattle.krs_context_asks.specs.Joined.{session_in}
 use Rattle.krs_tables.specs.View.{state_of, IsConsistent}
 use Rattle.krs_context_asks.proofs.Joined.{made_joined_tallied, empty_fit, empty_kinds, joined_anew_is}
+use Rattle.krs_context_asks.proofs.Joined.{empty_kind}
 use Rattle.krs_context_asks.proofs.joining.join_new.Goals as goal
 
 pub invariant_of-tables-in-Ok : goal.invariant_of-tables-in-Ok
@@ -67,3 +68,6 @@ returns-in-Ok c =
     rw (← c.tables.view_is)
     (joined_anew_is base c.args.number (seen key) few
     ∙ rw (c.in-Ok.ensures.ok, anchors, put_map seen es n key, answer) refl)
+
+pub insert-requires : goal.insert-requires
+insert-requires c = empty_kind c.args.key c.requires.empty

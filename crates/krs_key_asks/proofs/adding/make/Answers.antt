@@ -15,6 +15,8 @@ use Rattle.krs_hold.specs.Tally.{AreExact, with_number, one_more, all_less}
 use Rattle.krs_hold.proofs.Tallies.{tallied_with}
 use Rattle.krs_tables.proofs.Counting.{made_tallied, first_links}
 use Rattle.krs_tables.specs.declared.tables.Tables.TheInside.{Inside}
+use Rattle.krs_keys.specs.Keys.{IsOfKind}
+use Rattle.krs_tables.proofs.Telling.{first_kind}
 use Rattle.krs_key_asks.proofs.adding.make.Goals as goal
 
 room_sound : (s : Inside) (numbers : Table ℕ) (k : ℕ) → IsConsistent s → numbers ≡ with_number k s.holders
@@ -95,3 +97,7 @@ returns-in-Ok-insert_linked-clause-ok c =
     told.is ∙ (ap (λ (t : State). made t c.args.ring c.args.name (seen key)) c.tables.view_is
     ∙ ap (made c.args.tables.now c.args.ring c.args.name) (seen-maker_key c.args.name c.args.payload c.args.uid
     c.args.gid))
+
+pub insert_linked-requires : goal.insert_linked-requires
+insert_linked-requires c =
+    subst (λ (k : Key). IsOfKind k.name.kind k.content) (sym c.new_key-key.ensures) (first_kind c.args.name.kind c.args.payload)

@@ -1,16 +1,11 @@
 use Rattle.std.proofs.Common.{◌≡◌, ap, sym, ◌∙◌, subst}
 use Rattle.krs_model.specs.State.{State}
 use Rattle.krs_model.specs.Possession.{process_ring}
-use Rattle.krs_model.specs.Search.{found}
+use Rattle.krs_model.specs.Search.{found_with, found}
 use Rattle.krs_model.specs.Outcome.{Gives}
-use Rattle.krs_walk.specs.Searching.{found_with}
 use Rattle.krs_walk.proofs.FindingLemmas.{found_is}
 use Rattle.krs_tables.specs.View.{state_of}
-use Rattle.krs_tables.proofs.Linking.{only_rings}
 use Rattle.krs_ring_asks.proofs.finding.find.Goals as goal
-
-pub search-requires-clause-only : goal.search-requires-clause-only
-search-requires-clause-only c = only_rings c.tables.inside.keys.keys c.tables.invariant.kinds
 
 pub returns : goal.returns
 returns c =

@@ -1,16 +1,11 @@
 use Rattle.std.proofs.Common.{◌≡◌, ap, sym, ◌∙◌, subst}
 use Rattle.krs_model.specs.State.{State}
 use Rattle.krs_model.specs.Possession.{process_ring}
-use Rattle.krs_model.specs.Search.{requested}
+use Rattle.krs_model.specs.Search.{requested_with, requested}
 use Rattle.krs_model.specs.Outcome.{Gives}
-use Rattle.krs_walk.specs.Searching.{requested_with}
 use Rattle.krs_walk.proofs.FindingLemmas.{requested_is}
 use Rattle.krs_tables.specs.View.{state_of}
-use Rattle.krs_tables.proofs.Linking.{only_rings}
 use Rattle.krs_ring_asks.proofs.finding.find_attached.Goals as goal
-
-pub request-requires-clause-only : goal.request-requires-clause-only
-request-requires-clause-only c = only_rings c.tables.inside.keys.keys c.tables.invariant.kinds
 
 pub returns : goal.returns
 returns c =

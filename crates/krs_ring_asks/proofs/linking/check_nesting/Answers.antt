@@ -4,11 +4,8 @@ use Rattle.krs_keys.specs.Keys.{shown}
 use Rattle.krs_model.specs.State.{State}
 use Rattle.krs_model.specs.Asks.Adding.{IsRing}
 use Rattle.krs_model.specs.Asks.Linked.{nestable}
-use Rattle.krs_tables.proofs.Linking.{only_rings, is_keyring}
+use Rattle.krs_tables.proofs.Linking.{is_keyring}
 use Rattle.krs_ring_asks.proofs.linking.check_nesting.Goals as goal
-
-pub would_cycle-requires-clause-only : goal.would_cycle-requires-clause-only
-would_cycle-requires-clause-only c = only_rings c.tables.inside.keys.keys c.tables.invariant.kinds
 
 pub would_cycle-requires-clause-ring : goal.would_cycle-requires-clause-ring
 would_cycle-requires-clause-ring c =

@@ -6,6 +6,9 @@ use Rattle.krs_hold.specs.Tally.{with_number, one_more}
 use Rattle.krs_tables.specs.Holding.{more_of}
 use Rattle.krs_tables.specs.Specials.{ring_key, HasPlace, AreLinksTo, attached_as, ring_at}
 use Rattle.krs_tables.proofs.Attaching.{room_beside, ring_sound, ring_told}
+use Rattle.krs_keys.specs.declared.key.Key.{Key}
+use Rattle.krs_keys.specs.Keys.{IsOfKind}
+use Rattle.krs_tables.proofs.Attaching.{ring_kind}
 use Rattle.krs_tables.proofs.tables.Tables.make_ring.Goals as goal
 
 pub hold_of-requires : goal.hold_of-requires
@@ -47,3 +50,7 @@ returns-in-Ok-clause-ok c =
     ring_told s c.args.special c.args.maker c.args.links c.args.linked c.insert.new.self c.attach.new.contexts
     c.hold_of.new.holders are keys contexts
     ∙ ap (ring_at c.args.special c.args.maker (option_to_list c.args.linked)) c.self.view_is
+
+pub insert-requires : goal.insert-requires
+insert-requires c =
+    subst (λ (k : Key). IsOfKind k.name.kind k.content) (sym c.in_ok-key.ensures) (ring_kind c.args.special)

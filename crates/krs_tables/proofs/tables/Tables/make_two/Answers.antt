@@ -6,6 +6,10 @@ use Rattle.krs_keys.specs.Table.{Keys}
 use Rattle.krs_tables.specs.Specials.{ring_at}
 use Rattle.krs_tables.specs.View.{state_of, IsConsistent}
 use Rattle.krs_tables.proofs.TwoMade.{two_made, room_left}
+use Rattle.krs_keys.specs.declared.key.Key.{Key}
+use Rattle.krs_keys.specs.Keys.{IsOfKind}
+use Rattle.krs_tables.proofs.Attaching.{ring_kind}
+use Rattle.krs_tables.proofs.Telling.{first_kind}
 use Rattle.krs_tables.proofs.tables.Tables.make_two.Goals as goal
 
 pub hold-requires-in-Ok : goal.hold-requires-in-Ok
@@ -64,3 +68,12 @@ returns-in-Ok-clause-ok c =
     }) in
     told.is ∙ ap (λ (t : State). made (ring_at c.args.special c.args.maker [] t) t.next_serial c.args.name
     (new_key c.args.name c.args.payload c.args.maker.uid c.args.maker.gid)) c.self.view_is
+
+pub insert_two-requires-clause-first : goal.insert_two-requires-clause-first
+insert_two-requires-clause-first c =
+    subst (λ (k : Key). IsOfKind k.name.kind k.content) (sym c.in_ok-ring.ensures.ring) (ring_kind c.args.special)
+
+pub insert_two-requires-clause-second : goal.insert_two-requires-clause-second
+insert_two-requires-clause-second c =
+    subst (λ (k : Key). IsOfKind k.name.kind k.content) (sym c.in_ok-ring.ensures.key)
+    (first_kind c.args.name.kind c.args.payload)

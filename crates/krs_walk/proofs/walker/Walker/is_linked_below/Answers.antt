@@ -1,8 +1,9 @@
 use Rattle.std.proofs.Common.{◌≡◌, ◌+◌, ℕ, Bool, false, sym, subst, ◌∙◌, arith}
 use Rattle.std.specs.List.{list_any}
 use Rattle.krs_model.specs.Levels.{levels, is_in}
+use Rattle.krs_model.specs.Possession.{followed_at, attached_with}
 use Rattle.krs_keys.specs.Keys.{shown}
-use Rattle.krs_walk.specs.Walks.{followed_at, followed_rings, attached_with}
+use Rattle.krs_walk.specs.Walks.{followed_rings}
 use Rattle.krs_walk.proofs.RoundsLemmas.{IsSearch, search_behind, search_goes_on, search_finds}
 use Rattle.krs_walk.proofs.walker.Walker.is_linked_below.Goals as goal
 

@@ -1,6 +1,7 @@
+use Rattle.krs_model.specs.Possession.{followed_at, attached_with}
 use Rattle.krs_model.specs.Levels.{is_in}
 use Rattle.krs_keys.specs.Keys.{shown}
-use Rattle.krs_walk.specs.Walks.{followed_at, followed_rings, attached_with}
+use Rattle.krs_walk.specs.Walks.{followed_rings}
 use Rattle.krs_walk.proofs.RoundsLemmas.{IsSearch}
 use Rattle.krs_walk.proofs.walker.Walker.is_linked_below.Given as goal
 

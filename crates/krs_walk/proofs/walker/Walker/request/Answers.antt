@@ -1,9 +1,9 @@
 use Rattle.std.proofs.Common.{ℕ, Result, subst}
 use Rattle.std.specs.Option.{option_to_list}
 use Rattle.krs_types.specs.declared.errno.Errno.{Errno}
+use Rattle.krs_model.specs.Search.{searcher_with}
 use Rattle.krs_model.specs.Outcome.{Gives}
 use Rattle.krs_keys.specs.Keys.{shown}
-use Rattle.krs_walk.specs.Searching.{searcher_with}
 use Rattle.krs_walk.proofs.FindingLemmas.{found_in_turn}
 use Rattle.krs_walk.proofs.walker.Walker.request.Goals as goal
 

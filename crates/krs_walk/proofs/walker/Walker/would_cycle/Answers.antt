@@ -18,7 +18,8 @@ returns-then-is_empty-clause-closes c =
     let leaf : nested_in keys c.args.key ≡ [] =
     sym c.rings_of.ensures ∙ nil_from_length c.rings_of.result.now
     (is_same (length c.rings_of.result.now) 0 (sym c.is_empty.ensures ∙ c.if-is_empty.true)) in
-    sym (missed_closes keys c.args.key c.args.ring 1 (c.args.key ∷ []) c.requires.only c.requires.ring
+    sym (missed_closes keys c.args.key c.args.ring 1 (c.args.key ∷ [])
+    c.only_keyrings_link.ensures.only c.requires.ring
     (leaf_misses (nested_in keys) c.args.key c.args.ring leaf
     (λ e. true≢false (sym (same_is c.args.key c.args.ring e) ∙ (sym c.eq.ensures ∙ c.if-eq.false))))
     (omega arith))
@@ -30,8 +31,8 @@ returns-then-is_empty-clause-reached c =
     sym c.rings_of.ensures ∙ nil_from_length c.rings_of.result.now
     (is_same (length c.rings_of.result.now) 0 (sym c.is_empty.ensures ∙ c.if-is_empty.true)) in (
       λ t. absurd (true≢false (sym t)),
-      λ closing. absurd (missed_reached keys c.args.key c.args.ring 1 (c.args.key ∷ []) c.requires.only
-          c.requires.ring
+      λ closing. absurd (missed_reached keys c.args.key c.args.ring 1 (c.args.key ∷ [])
+          c.only_keyrings_link.ensures.only c.requires.ring
           (leaf_misses (nested_in keys) c.args.key c.args.ring leaf
           (λ e. true≢false (sym (same_is c.args.key c.args.ring e) ∙ (sym c.eq.ensures ∙ c.if-eq.false))))
           (omega arith) closing),

@@ -1,19 +1,20 @@
 use Rattle.krs_links.specs.Links.{serials}
+use Rattle.krs_keys.specs.Keys.{content_links}
 use Rattle.krs_hold.specs.Chain.{Chained}
 use Rattle.krs_hold.proofs.Numbers.{gone_all_numbers, gone_all_chain}
 use Rattle.krs_keys.specs.Hashed.{by_serial}
-use Rattle.krs_hold.proofs.holders.Holders.let_go_all.Goals as goal
+use Rattle.krs_hold.proofs.holders.Holders.let_go_links.Goals as goal
 
 pub invariant_of-self : goal.invariant_of-self
 invariant_of-self c =
     let t : Chained = record { counts = by_serial c.self.inside.counts.entries; first = c.self.inside.first } in
-    let done = c.let_go_all-self-inside in
+    let done = c.let_go_links-self-inside in
     let u : Chained = record { counts = by_serial done.new.counts.entries; first = done.result } in
-    gone_all_chain (serials c.args.links.now) t u done.ensures c.self.invariant
+    gone_all_chain (serials (content_links c.args.content.now)) t u done.ensures c.self.invariant
 
 pub returns : goal.returns
 returns c =
     let t : Chained = record { counts = by_serial c.self.inside.counts.entries; first = c.self.inside.first } in
-    let done = c.let_go_all-self-inside in
+    let done = c.let_go_links-self-inside in
     let u : Chained = record { counts = by_serial done.new.counts.entries; first = done.result } in
-    gone_all_numbers (serials c.args.links.now) t u _ c.self.view_is done.ensures
+    gone_all_numbers (serials (content_links c.args.content.now)) t u _ c.self.view_is done.ensures
