@@ -150,9 +150,3 @@ length-serial_bytes [] = refl
 length-serial_bytes (x ∷ xs) =
     let rest = length-serial_bytes xs in rw (length-append (to_le_bytes w32 x) (serial_bytes xs))
     (omega (arith, rest))
-
--- no more than there are
-pub length-taken : (n : ℕ) (links : LinkList) → length (serials (take n links)) ≤ length links
-length-taken zero links = omega arith
-length-taken (suc n) [] = omega arith
-length-taken (suc n) (link ∷ links) = let rest = length-taken n links in omega (arith, rest)

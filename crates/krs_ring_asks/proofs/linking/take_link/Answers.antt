@@ -15,11 +15,11 @@ use Rattle.krs_tables.proofs.Counting.{unlinked_tallied}
 use Rattle.krs_tables.proofs.Linking.{linked_told}
 use Rattle.krs_ring_asks.proofs.linking.take_link.Goals as goal
 
-pub returns-then-not-is_linked : goal.returns-then-not-is_linked
-returns-then-not-is_linked c = (
+pub returns-then-not-has_link : goal.returns-then-not-has_link
+returns-then-not-has_link c = (
   subst (λ (t : State). is_in c.args.serial (links_in t.keys c.args.ring) ≡ false) c.tables.view_is
       (sym (linked_told c.tables.inside.keys.keys c.args.ring c.args.serial)
-      ∙ (sym c.is_linked.ensures ∙ c.if-not-is_linked.true)),
+      ∙ (sym c.has_link.ensures ∙ c.if-not-has_link.true)),
   (refl, refl),
 )
 
@@ -36,7 +36,7 @@ invariant_of-tables c =
       tallied =
           subst (λ (zs : Table ℕ). AreExact c.unlink.new.self.keys zs attached) (sym c.let_go.ensures)
           (rw c.unlink.ensures (unlinked_tallied es attached s.holders ring serial c.tables.invariant.fit
-          (sym (linked_told es ring serial) ∙ (sym c.is_linked.ensures ∙ c.if-not-is_linked.false))
+          (sym (linked_told es ring serial) ∙ (sym c.has_link.ensures ∙ c.if-not-has_link.false))
           c.tables.invariant.tallied));
     }
 
@@ -46,7 +46,7 @@ returns c =
     let ring = c.args.ring in
     let serial = c.args.serial in (
       subst (λ (t : State). is_in serial (links_in t.keys ring) ≡ true) c.tables.view_is
-          (sym (linked_told s.keys.keys ring serial) ∙ (sym c.is_linked.ensures ∙ c.if-not-is_linked.false)),
+          (sym (linked_told s.keys.keys ring serial) ∙ (sym c.has_link.ensures ∙ c.if-not-has_link.false)),
       ap (λ zs. record (state_of s) { keys = shown zs.keys; next_serial = zs.next }) c.unlink.ensures
           ∙ (ap (λ zs. record (state_of s) { keys = zs }) (shown-keyless serial s.keys.keys ring)
           ∙ ap (λ (t : State). changed t ring (without_link serial)) c.tables.view_is),
