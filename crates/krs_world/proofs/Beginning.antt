@@ -12,12 +12,15 @@ use Rattle.krs_world.specs.declared.step.WorldStep.{WorldStep}
 use Rattle.krs_world.specs.Knowing.{one, fresh}
 use Rattle.krs_world.specs.History.{Known, Fits, Stands}
 use Rattle.krs_world.specs.declared.world.Lane.{Lane}
-use Rattle.krs_world.specs.World.{Free, World, fresh_lanes, empty_cells, new_world, Runs, cell_of, IsOneHistory}
+use Rattle.krs_world.specs.World.{Free, World, fresh_lanes, empty_cells, new_world, Runs, cell_of, IsHistory, IsOneHistory}
+use Rattle.krs_world.specs.World.{SeenGrows}
+use Rattle.krs_types.specs.declared.event.Event.{Event}
+use Rattle.krs_model.specs.Lists.{Begins}
 use Rattle.krs_world.specs.Kept.{part_by, world_of, fresh_lane, AreFreshLanes}
 use Rattle.krs_world.specs.Kept.{IsKept}
 use Rattle.krs_model.proofs.Legal.{legal_none}
 use Rattle.krs_world.proofs.Seating.{at_snoc}
-use Rattle.krs_world.proofs.Worlds.{of_map, runs_keep}
+use Rattle.krs_world.proofs.Worlds.{get_map, of_map, prefix_none, runs_keep, runs_grow, history_is_one}
 
 cells_empty : (k l : ℕ) → cell_of (empty_cells k) l ≡ Empty
 cells_empty zero l = refl
@@ -34,6 +37,16 @@ fresh_at n (suc k) (suc j) p e = let t = fresh_at (n + 1) k j p e in
 fresh_here : (lanes j : ℕ) (p : Part) → get_elem? (fresh_lanes 0 lanes) j ≡ some p → (fresh j ≡ p) × (j < lanes)
 fresh_here lanes j p e = let t = fresh_at 0 lanes j p e in let same : j ≡ 0 + j = omega arith in
     (ap fresh same ∙ t.0, t.1)
+
+fresh_in : (n k j : ℕ) → j < k → get_elem? (fresh_lanes n k) j ≡ some (fresh (n + j))
+fresh_in n zero j lt = absurd (omega arith)
+fresh_in n (suc k) zero lt = let same : n ≡ n + 0 = omega arith in ap (λ (m : ℕ). some (fresh m)) same
+fresh_in n (suc k) (suc j) lt = let same : (n + 1) + j ≡ n + suc j = omega arith in
+    fresh_in (n + 1) k j (omega arith) ∙ ap (λ (m : ℕ). some (fresh m)) same
+
+fresh_there : (lanes j : ℕ) → j < lanes → get_elem? (fresh_lanes 0 lanes) j ≡ some (fresh j)
+fresh_there lanes j lt = let same : 0 + j ≡ j = omega arith in
+    fresh_in 0 lanes j lt ∙ ap (λ (m : ℕ). some (fresh m)) same
 
 known : (lanes j : ℕ) → j < lanes → Known [] 0 0 lanes (λ l. l) (cell_of (empty_cells lanes)) None j (fresh j)
 known lanes j lt = record {
@@ -60,9 +73,12 @@ begins_world lanes = let a : State = starting_at 3 in record {
     longest = λ _. inl refl;
     legal = legal_none a;
     at_home = λ _. refl;
+    word = omega arith;
+    opener = λ n. absurd (omega arith);
     young = λ _. refl;
     unserved = λ _. refl;
-    undealt = λ l _. cells_empty lanes l;
+    seated = λ l lt. (one a (fresh l), get_map (one a) (fresh_lanes 0 lanes) l (fresh l) (fresh_there lanes l lt), refl);
+    undealt = λ l _. (cells_empty lanes l, refl);
     serves = λ l m ask is. absurd (let no = sym (cells_empty lanes l) ∙ is in cc);
     served = λ s is. absurd cc;
     openings = λ j v e. let m = of_map (one a) (fresh_lanes 0 lanes) j v e in
@@ -71,13 +87,24 @@ begins_world lanes = let a : State = starting_at 3 in record {
         subst (λ (w : View). Stands [] 0 0 lanes (λ l. l) (cell_of (empty_cells lanes)) None j w.stands)
         (ap (one a) t.0 ∙ m.2) (known lanes j t.1);
   };
-  out = tt;
+  whole = (inl refl, λ j p e. let t = fresh_here lanes j p e in prefix_none p.seen [] (ap (λ (q : Part). q.seen) (sym t.0)));
   lanes = λ j p e. let t = fresh_here lanes j p e in ap (λ (q : Part). q.lane) (sym t.0);
 }
 
 pub always_one : (lanes : ℕ) (steps : List WorldStep) (end : World) → Runs (new_world lanes) steps end
     → IsOneHistory end
 always_one lanes steps end r = runs_keep (new_world lanes) steps end (begins_world lanes) r
+
+-- the history only grows
+pub only_grows : (lanes : ℕ) (steps more : List WorldStep) (middle end : World) (log later : List Event)
+    → Runs (new_world lanes) steps middle → Runs middle more end → IsHistory middle log → IsHistory end later
+    → Begins log later × SeenGrows middle end
+only_grows lanes steps more middle end log later r s h g = let o = always_one lanes steps middle r in
+    let n : IsOneHistory end = runs_keep middle more end o s in let t = runs_grow middle more end o n s in (
+      subst (λ (x : List Event × List Event). Begins x.0 x.1)
+          (λ i. (sym (history_is_one middle o log h) i, sym (history_is_one end n later g) i)) t.0,
+      t.1,
+    )
 
 begins_whole : (lanes : ℕ) → (o : IsOneHistory (new_world lanes)) × (o.history.log ≡ [])
 unfolding begins_world

@@ -1,5 +1,5 @@
 -- Each step keeps the one history.
-use Rattle.std.proofs.Common.{◌≡◌, ◌≢◌, ℕ, zero, suc, ◌==◌, cond, List, []}
+use Rattle.std.proofs.Common.{◌≡◌, ◌≢◌, ℕ, zero, suc, ◌<◌, ◌==◌, cond, List, []}
 use Rattle.std.proofs.Common.{◌∷◌, ◌++◌, length, set, Option, Some, None, refl, sym, ap, ◌∙◌, subst, inl, inr}
 use Rattle.std.proofs.Common.{◌⊎◌, ⊎_elim, arith, append_assoc, ne_eqb, eq-eqb}
 use Rattle.std.proofs.lemmas.List.Elements.{filter-append}
@@ -23,7 +23,7 @@ use Rattle.krs_world.specs.declared.view.Standing.TheVariants.{Spent, One, Two, 
 use Rattle.krs_world.specs.declared.view.View.{View}
 use Rattle.krs_world.specs.Knowing.{events_of, flight, view, one, celled, taken, missed, put_own}
 use Rattle.krs_world.specs.Knowing.{put_none, loaded}
-use Rattle.krs_world.specs.History.{Fits, Known, Stands, HasSeen, HasTurn, IsSeen, IsHeld}
+use Rattle.krs_world.specs.History.{Fits, Known, Stands, HasSeen, HasTurn, StandsFor, IsSeen, IsHeld, IsSeated, IsDealing}
 use Rattle.krs_world.specs.History.{OneHistory}
 
 -- Lists.
@@ -107,17 +107,32 @@ seen_set log views id v w at go s = ⊎_elim inl (λ (t : (j : ℕ) × (x : View
     ))
     (λ not. (t.0, t.1, set_else views id t.0 w not ∙ t.2, t.3)))) s
 
-pub held_set : (log : List Event) (holder : ℕ) (views : List View) (id : ℕ) (v w : View) → get_elem? views id ≡ some v
-    → (HasTurn log v.stands → HasTurn log w.stands) → IsHeld log holder views → IsHeld log holder (set views id w)
-held_set log holder views id v w at go t = dite (ℕ_discrete holder id)
+-- what holds of what the view at a place stands for holds after a step that keeps it
+pub place_set : (P : Standing → Type 0) (place : ℕ) (views : List View) (id : ℕ) (v w : View)
+    → get_elem? views id ≡ some v → (P v.stands → P w.stands)
+    → (x : View) × (get_elem? views place ≡ some x) × P x.stands
+    → (x : View) × (get_elem? (set views id w) place ≡ some x) × P x.stands
+place_set P place views id v w at go t = dite (ℕ_discrete place id)
     (λ same. (
       w,
       ap (get_elem? (set views id w)) same ∙ set_at views id w v at,
-      go
-          (subst (λ (x : View). HasTurn log x.stands) (some-injective t.0 v (sym t.1 ∙ (ap (get_elem? views) same ∙ at)))
-          t.2),
+      go (subst (λ (x : View). P x.stands) (some-injective t.0 v (sym t.1 ∙ (ap (get_elem? views) same ∙ at))) t.2),
     ))
-    (λ not. (t.0, set_else views id holder w not ∙ t.1, t.2))
+    (λ not. (t.0, set_else views id place w not ∙ t.1, t.2))
+
+pub held_set : (log : List Event) (holder : ℕ) (views : List View) (id : ℕ) (v w : View) → get_elem? views id ≡ some v
+    → (HasTurn log v.stands → HasTurn log w.stands) → IsHeld log holder views → IsHeld log holder (set views id w)
+held_set log holder views id v w at go t = place_set (HasTurn log) holder views id v w at go t
+
+pub seated_set : (lane place : ℕ) (views : List View) (id : ℕ) (v w : View) → get_elem? views id ≡ some v
+    → (StandsFor lane v.stands → StandsFor lane w.stands) → IsSeated lane place views
+    → IsSeated lane place (set views id w)
+seated_set lane place views id v w at go t = place_set (StandsFor lane) place views id v w at go t
+
+pub dealing_set : (dealt holder : ℕ) (views : List View) (id : ℕ) (v w : View) → get_elem? views id ≡ some v
+    → (v.stands ≡ Opening dealt → w.stands ≡ Opening dealt) → IsDealing dealt holder views
+    → IsDealing dealt holder (set views id w)
+dealing_set dealt holder views id v w at go t = place_set (λ s. s ≡ Opening dealt) holder views id v w at go t
 
 pub seen_snoc : (log : List Event) (views : List View) (x : View) → IsSeen log views → IsSeen log (views ++ x ∷ [])
 seen_snoc log views x s = ⊎_elim inl (λ (t : (j : ℕ) × (v : View) × (get_elem? views j ≡ some v)
@@ -126,6 +141,14 @@ seen_snoc log views x s = ⊎_elim inl (λ (t : (j : ℕ) × (v : View) × (get_
 pub held_snoc : (log : List Event) (holder : ℕ) (views : List View) (x : View) → IsHeld log holder views
     → IsHeld log holder (views ++ x ∷ [])
 held_snoc log holder views x t = (t.0, snoc_at views holder x t.0 t.1, t.2)
+
+pub seated_snoc : (lane place : ℕ) (views : List View) (x : View) → IsSeated lane place views
+    → IsSeated lane place (views ++ x ∷ [])
+seated_snoc lane place views x t = (t.0, snoc_at views place x t.0 t.1, t.2)
+
+pub dealing_snoc : (dealt holder : ℕ) (views : List View) (x : View) → IsDealing dealt holder views
+    → IsDealing dealt holder (views ++ x ∷ [])
+dealing_snoc dealt holder views x t = (t.0, snoc_at views holder x t.0 t.1, t.2)
 
 -- what holds of the view that a step gives and of all others holds of each
 pub each_set : (S : ℕ → View → Type 0) (views : List View) (id : ℕ) (w : View) → S id w → ((j : ℕ) (v : View) → j ≢ id
@@ -239,6 +262,12 @@ module _ (a : State) (views : List View) (id : ℕ) (p : Part) (at : get_elem? v
   views_open turn home cell o st = each_set (λ j v. (v.stands ≡ Spent) ⊎ (v.opening ≡ a)) views id (view a st)
       (inr refl) (λ j v _ e. o.openings j v e)
 
+  -- each lane has its seat as before, where this one is its lane's still
+  seats_stay : (turn : ℕ) (home : Option State) (cell : ℕ → Cell) (o : OneHistory a turn home cell views) (q : Part)
+      → q.lane ≡ p.lane → (lane : ℕ) → lane < o.dealt → IsSeated lane (o.seat lane) (set views id (one a q))
+  seats_stay turn home cell o q same lane lt = seated_set lane (o.seat lane) views id (one a p) (one a q) at
+      (λ is. same ∙ is) (o.seated lane lt)
+
   -- the turn was free, and is had
   pub takes : (home home' : Option State) (cell : ℕ → Cell) → (o : OneHistory a 0 home cell views) → p.holding ≡ None
       → OneHistory a 1 home' cell (set views id (one a (taken p o.log)))
@@ -251,11 +280,14 @@ module _ (a : State) (views : List View) (id : ℕ) (p : Part) (at : get_elem? v
         seat = o.seat;
         serving = o.serving;
         held = λ _. (one a (taken p o.log), set_at views id (one a (taken p o.log)) (one a p) at, refl);
+        word = omega arith;
         longest = λ n. absurd (n refl);
         legal = o.legal;
         at_home = λ n. absurd (n refl);
+        opener = λ n. absurd (omega arith);
         young = λ n. absurd (omega arith);
         unserved = λ n. absurd (n refl);
+        seated = seats_stay 0 home cell o (taken p o.log) refl;
         undealt = o.undealt;
         serves = o.serves;
         served = o.served;
@@ -268,7 +300,7 @@ module _ (a : State) (views : List View) (id : ℕ) (p : Part) (at : get_elem? v
               base = prefix_self o.log;
               calls = k.calls;
               fits = fits_same o.log p (taken p o.log) refl refl refl refl (cell p.lane) k.fits;
-              holding = λ l e. record { out = refl; here = refl; whole = cc; serves = k.unheld none ∙ sym quiet };
+              holding = λ l e. record { out = refl; here = refl; whole = cc; same_service = k.unheld none ∙ sym quiet };
               unheld = λ e. k.unheld none;
             }
             (λ j v not e. others_stand o.log o.log 0 1 o.holder id o.dealt o.dealt o.seat o.seat cell cell o.serving
@@ -289,10 +321,10 @@ module _ (a : State) (views : List View) (id : ℕ) (p : Part) (at : get_elem? v
 
   -- a step that changes no word and no list
   pub stays : (turn : ℕ) (home : Option State) (cell : ℕ → Cell) (o : OneHistory a turn home cell views) (q : Part)
-      → q.holding ≡ p.holding → (p.seen ≡ o.log → q.seen ≡ o.log)
+      → q.lane ≡ p.lane → q.holding ≡ p.holding → (p.seen ≡ o.log → q.seen ≡ o.log)
       → Known o.log turn o.holder o.dealt o.seat cell o.serving id q
       → OneHistory a turn home cell (set views id (one a q))
-  stays turn home cell o q holds sees k = record {
+  stays turn home cell o q same holds sees k = record {
     log = o.log;
     last = o.last;
     holder = o.holder;
@@ -302,9 +334,12 @@ module _ (a : State) (views : List View) (id : ℕ) (p : Part) (at : get_elem? v
     held = λ n. held_set o.log o.holder views id (one a p) (one a q) at (λ h. holds ∙ h) (o.held n);
     longest = λ n. seen_set o.log views id (one a p) (one a q) at sees (o.longest n);
     legal = o.legal;
+    word = o.word;
     at_home = o.at_home;
+    opener = λ n. dealing_set o.dealt o.holder views id (one a p) (one a q) at (λ is. absurd cc) (o.opener n);
     young = o.young;
     unserved = o.unserved;
+    seated = seats_stay turn home cell o q same;
     undealt = o.undealt;
     serves = o.serves;
     served = o.served;
@@ -315,7 +350,7 @@ module _ (a : State) (views : List View) (id : ℕ) (p : Part) (at : get_elem? v
 
   pub misses : (turn : ℕ) (home : Option State) (cell : ℕ → Cell) (o : OneHistory a turn home cell views)
       → OneHistory a turn home cell (set views id (one a (missed p)))
-  misses turn home cell o = let k = own turn home cell o in stays turn home cell o (missed p) refl (λ e. e) record {
+  misses turn home cell o = let k = own turn home cell o in stays turn home cell o (missed p) refl refl (λ e. e) record {
     at = k.at;
     given = k.given;
     seen = k.seen;
@@ -326,8 +361,7 @@ module _ (a : State) (views : List View) (id : ℕ) (p : Part) (at : get_elem? v
       out = h.out;
       here = h.here;
       whole = h.whole;
-      serves =
-          h.serves;
+      same_service = h.same_service;
     };
     unheld = k.unheld;
   }
@@ -337,7 +371,7 @@ module _ (a : State) (views : List View) (id : ℕ) (p : Part) (at : get_elem? v
       → Cell) (l : List Event) (o : OneHistory a turn home cell views) → Begins p.seen l → Begins l o.log
       → OneHistory a turn home cell (set views id (one a (loaded p l)))
   loads turn home cell l o more begins = let k = own turn home cell o in
-      stays turn home cell o (loaded p l) refl
+      stays turn home cell o (loaded p l) refl refl
       (λ e. prefix_both l o.log begins (subst (λ (x : List Event). Begins x l) e more)) record {
         at = k.at;
         given = k.given;
@@ -350,8 +384,7 @@ module _ (a : State) (views : List View) (id : ℕ) (p : Part) (at : get_elem? v
           out = h.out;
           here = h.here;
           whole = h.whole;
-          serves =
-              h.serves;
+          same_service = h.same_service;
         };
         unheld = k.unheld;
       }
@@ -363,7 +396,7 @@ module _ (a : State) (views : List View) (id : ℕ) (p : Part) (at : get_elem? v
       × OneHistory a 0 (Some next) cell (set views id (one a (put_own p log e)))
   puts turn home cell log e last next o held idle quiet legal step lane = let k = own turn home cell o in
       let t = k.holding log held in let all : log ≡ o.log = t.whole in let out : turn ≡ 1 = t.out in
-      let w : View = one a (put_own p log e) in let none : o.serving ≡ None = sym t.serves ∙ idle in
+      let w : View = one a (put_own p log e) in let none : o.serving ≡ None = sym t.same_service ∙ idle in
       let empty : cell p.lane ≡ Empty = empty_if_idle p o.log (cell p.lane) quiet k.fits in
       let fits : Fits o.log p Empty = subst (Fits o.log p) empty k.fits in
       let mine : events_of p.lane (log ++ e ∷ []) ≡ p.mine ++ e ∷ [] = own_event p.lane log e lane
@@ -380,13 +413,19 @@ module _ (a : State) (views : List View) (id : ℕ) (p : Part) (at : get_elem? v
           dealt = o.dealt;
           seat = o.seat;
           serving = o.serving;
+          word = omega arith;
           held = λ n. absurd (omega arith);
           longest = λ n. inr (id, w, set_at views id w (one a p) at, refl);
           legal = legal_more a last next log e legal step;
           at_home = λ _. refl;
+          opener = λ n. absurd (omega arith);
           young = λ n. absurd (omega arith);
           unserved = λ _. none;
-          undealt = o.undealt;
+          seated = seats_stay turn home cell o (put_own p log e) refl;
+          undealt = λ l le. let u = o.undealt l le in let g = k.given in (
+            u.0,
+            other_event l log e (λ is. let same : p.lane ≡ l = sym lane ∙ is in omega arith) ∙ (ap (events_of l) all ∙ u.1),
+          );
           serves = o.serves;
           served = o.served;
           openings = views_open turn home cell o (One (put_own p log e));
@@ -431,12 +470,15 @@ module _ (a : State) (views : List View) (id : ℕ) (p : Part) (at : get_elem? v
           dealt = o.dealt;
           seat = o.seat;
           serving = o.serving;
+          word = omega arith;
           held = λ n. absurd (omega arith);
           longest = λ n. inr (id, w, set_at views id w (one a p) at, all);
           legal = subst (λ l. IsLegal a l last) all legal;
           at_home = λ _. refl;
+          opener = λ n. absurd (omega arith);
           young = λ n. absurd (omega arith);
-          unserved = λ _. sym t.serves ∙ idle;
+          unserved = λ _. sym t.same_service ∙ idle;
+          seated = seats_stay turn home cell o (put_none p log) refl;
           undealt = o.undealt;
           serves = o.serves;
           served = o.served;

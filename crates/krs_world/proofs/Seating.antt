@@ -1,5 +1,5 @@
 -- Dealing the seats, joining two and splitting them keeps the one history.
-use Rattle.std.proofs.Common.{◌≡◌, ◌≢◌, ℕ, zero, suc, ◌+◌, ◌==◌, cond, List, []}
+use Rattle.std.proofs.Common.{◌≡◌, ◌≢◌, ℕ, zero, suc, ◌+◌, ◌<◌, ◌==◌, cond, List, []}
 use Rattle.std.proofs.Common.{◌∷◌, ◌++◌, length, set, Option, Some, None, refl, sym, ap, ◌∙◌, subst, inl, inr, ◌⊎◌}
 use Rattle.std.proofs.Common.{⊎_elim, arith, length-set, ne_eqb, eq-eqb}
 use mathlib.Core.Option.{some, some-injective, some-ne-none}
@@ -16,10 +16,10 @@ use Rattle.krs_world.specs.declared.view.Part.{Part}
 use Rattle.krs_world.specs.declared.view.Standing.TheVariants.{Spent, Two, Opening}
 use Rattle.krs_world.specs.declared.view.View.{View}
 use Rattle.krs_world.specs.Knowing.{events_of, view, one, fresh, loaded}
-use Rattle.krs_world.specs.History.{Fits, Holds, Known, Stands, HasSeen, IsSeen, OneHistory}
+use Rattle.krs_world.specs.History.{Fits, Holds, Known, Stands, StandsFor, HasSeen, IsSeen, IsSeated, OneHistory}
 use Rattle.krs_world.proofs.Keeping.{prefix_self, prefix_trans, events_prefix, set_at, set_else}
 use Rattle.krs_world.proofs.Keeping.{snoc_at, snoc_end, seen_set, held_set, seen_snoc, held_snoc, each_set}
-use Rattle.krs_world.proofs.Keeping.{others_stand, fits_same}
+use Rattle.krs_world.proofs.Keeping.{others_stand, fits_same, seated_set, seated_snoc, dealing_set, dealing_snoc}
 
 pub at_snoc : {A : Type 0} (l : List A) (a b : A) (j : ℕ) → get_elem? (l ++ a ∷ []) j ≡ some b
     → (get_elem? l j ≡ some b) ⊎ ((a ≡ b) × (j ≡ length l))
@@ -37,6 +37,14 @@ seated_here seat lane id = ap (λ b. cond b id (seat lane)) (eq-eqb lane lane re
 
 seated_else : (seat : ℕ → ℕ) (lane id l : ℕ) → l ≢ lane → seated seat lane id l ≡ seat l
 seated_else seat lane id l not = ap (λ b. cond b id (seat l)) (ne_eqb l lane not)
+
+-- a lane has a seat again, where one gets another place and all others keep theirs
+seats_again : (seat : ℕ → ℕ) (lane place l : ℕ) (views : List View) → (l ≡ lane → IsSeated lane place views)
+    → (l ≢ lane → IsSeated l (seat l) views) → IsSeated l (seated seat lane place l) views
+seats_again seat lane place l views here else = dite (ℕ_discrete l lane)
+    (λ same. subst (λ (x : ℕ). IsSeated x (seated seat lane place x) views) (sym same)
+    (subst (λ (x : ℕ). IsSeated lane x views) (sym (seated_here seat lane place)) (here same)))
+    (λ not. subst (λ (x : ℕ). IsSeated l x views) (sym (seated_else seat lane place l not)) (else not))
 
 each_snoc : (S : ℕ → View → Type 0) (views : List View) (n : ℕ) (w : View) → length views ≡ n → S n w
     → ((j : ℕ) (v : View) → get_elem? views j ≡ some v → S j v)
@@ -70,19 +78,30 @@ deals a turn home cell views id n o at = let k = o.each id (view a (Opening n)) 
     let quiet : o.log ≡ [] = o.young k.0 in let all : n ≡ o.dealt = k.2 in let two : turn ≡ 2 = k.0 in
     let N : ℕ = length views in let w : View = view a (Opening (n + 1)) in let len : length (set views id w) ≡ N =
     length-set views id w in
-    let empty : cell n ≡ Empty = o.undealt n (omega arith) in record {
+    let x : View = one a (fresh n) in let L : List View = set views id w in
+    let empty : cell n ≡ Empty = (o.undealt n (omega arith)).0 in record {
       log = o.log;
       last = o.last;
       holder = o.holder;
       dealt = n + 1;
       seat = seated o.seat n N;
       serving = o.serving;
+      word = o.word;
       held = λ h. absurd (omega arith);
       longest = λ _. inl quiet;
       legal = o.legal;
       at_home = o.at_home;
+      opener = λ _. (
+        w,
+        snoc_at L o.holder x w (ap (get_elem? L) (sym k.1) ∙ set_at views id w (view a (Opening n)) at),
+        refl,
+      );
       young = o.young;
       unserved = o.unserved;
+      seated = λ l lt. seats_again o.seat n N l (L ++ x ∷ [])
+          (λ _. (x, ap (get_elem? (L ++ x ∷ [])) (sym len) ∙ snoc_end L x, refl))
+          (λ not. seated_snoc l (o.seat l) L x (seated_set l (o.seat l) views id (view a (Opening n)) w at (λ t. t)
+          (o.seated l (omega arith))));
       undealt = λ l le. o.undealt l (omega arith);
       serves = o.serves;
       served = o.served;
@@ -130,12 +149,15 @@ opens a turn home cell views id n o at = let k = o.each id (view a (Opening n)) 
       dealt = o.dealt;
       seat = o.seat;
       serving = o.serving;
+      word = omega arith;
       held = λ h. absurd (omega arith);
       longest = λ _. inl quiet;
       legal = o.legal;
       at_home = λ _. o.at_home (λ e. omega arith);
+      opener = λ e. absurd (omega arith);
       young = λ e. absurd (omega arith);
       unserved = λ _. o.unserved (λ e. omega arith);
+      seated = λ l lt. seated_set l (o.seat l) views id (view a (Opening n)) (view a Spent) at (λ t. t) (o.seated l lt);
       undealt = o.undealt;
       serves = o.serves;
       served = o.served;
@@ -172,10 +194,15 @@ spares a turn home cell views id v o at = record {
       (λ t. t) (o.held h));
   longest = λ h. seen_snoc o.log (set views id v) (view a Spent) (seen_set o.log views id v v at
       (λ t. t) (o.longest h));
+  word = o.word;
   legal = o.legal;
   at_home = o.at_home;
+  opener = λ h. dealing_snoc o.dealt o.holder (set views id v) (view a Spent) (dealing_set o.dealt o.holder views id v v
+      at (λ t. t) (o.opener h));
   young = o.young;
   unserved = o.unserved;
+  seated = λ l lt. seated_snoc l (o.seat l) (set views id v) (view a Spent) (seated_set l (o.seat l) views id v v at
+      (λ t. t) (o.seated l lt));
   undealt = o.undealt;
   serves = o.serves;
   served = o.served;
@@ -244,10 +271,21 @@ joins a b turn home cell views id other p q o at apart at' np nq =
           (held_set o.log o.holder views id (one a p) both at (λ t. absurd (let no : p.holding ≡ Some o.log = t in
           let none : Some o.log ≡ None = sym no ∙ np in cc)) (o.held n));
       longest = λ n. seen_join o.log a b views id other p q at apart there (o.longest n);
+      word = o.word;
       legal = o.legal;
       at_home = o.at_home;
+      opener = λ n. dealing_set o.dealt o.holder (set views id both) other (one a q) spent at' (λ is. absurd cc)
+          (dealing_set o.dealt o.holder views id (one a p) both at (λ is. absurd cc) (o.opener n));
       young = o.young;
       unserved = o.unserved;
+      seated = λ l lt. seats_again o.seat q.lane id l (set (set views id both) other spent)
+          (λ _. (
+            both,
+            set_else (set views id both) other id spent (λ e. apart (sym e)) ∙ set_at views id both (one a p) at,
+            inr refl,
+          ))
+          (λ not. seated_set l (o.seat l) (set views id both) other (one a q) spent at' (λ is. not (sym is))
+          (seated_set l (o.seat l) views id (one a p) both at (λ is. inl is) (o.seated l lt)));
       undealt = o.undealt;
       serves = o.serves;
       served = o.served;
@@ -286,7 +324,7 @@ sees log turn holder dealt seat cell j p sv k = record {
   calls = prefix_trans p.mine (events_of p.lane p.seen) (events_of p.lane log) k.calls
       (events_prefix p.lane p.seen log k.seen);
   fits = fits_same log p (loaded p log) refl refl refl refl (cell p.lane) k.fits;
-  holding = λ l is. let h = k.holding l is in record { out = h.out; here = h.here; whole = h.whole; serves = h.serves };
+  holding = λ l is. let h = k.holding l is in record { out = h.out; here = h.here; whole = h.whole; same_service = h.same_service };
   unheld = k.unheld;
 }
 
@@ -304,10 +342,13 @@ looks a turn home cell views id p q o at = let k = o.each id (view a (Two p q)) 
       serving = o.serving;
       held = λ n. held_set o.log o.holder views id (view a (Two p q)) w at (λ t. t) (o.held n);
       longest = λ _. inr (id, w, set_at views id w (view a (Two p q)) at, inl refl);
+      word = o.word;
       legal = o.legal;
       at_home = o.at_home;
+      opener = λ n. dealing_set o.dealt o.holder views id (view a (Two p q)) w at (λ is. absurd cc) (o.opener n);
       young = o.young;
       unserved = o.unserved;
+      seated = λ l lt. seated_set l (o.seat l) views id (view a (Two p q)) w at (λ t. t) (o.seated l lt);
       undealt = o.undealt;
       serves = o.serves;
       served = o.served;
@@ -352,10 +393,22 @@ parts a turn home cell views id p q o at = let k = o.each id (view a (Two p q)) 
       held = λ n. held_snoc o.log o.holder (set views id (one a p)) (one a q) (held_set o.log o.holder views id
           (view a (Two p q)) (one a p) at (λ t. absurd t) (o.held n));
       longest = λ n. seen_part o.log a views id p q at (o.longest n);
+      word = o.word;
       legal = o.legal;
       at_home = o.at_home;
+      opener = λ n. dealing_snoc o.dealt o.holder (set views id (one a p)) (one a q) (dealing_set o.dealt o.holder views id
+          (view a (Two p q)) (one a p) at (λ is. absurd cc) (o.opener n));
       young = o.young;
       unserved = o.unserved;
+      seated = λ l lt. seats_again o.seat q.lane N l (set views id (one a p) ++ one a q ∷ [])
+          (λ _. (
+            one a q,
+            ap (get_elem? (set views id (one a p) ++ one a q ∷ [])) (sym len) ∙ snoc_end (set views id (one a p)) (one a q),
+            refl,
+          ))
+          (λ not. seated_snoc l (o.seat l) (set views id (one a p)) (one a q) (seated_set l (o.seat l) views id
+          (view a (Two p q)) (one a p) at (λ (t : StandsFor l (Two p q)). ⊎_elim (λ (e : p.lane ≡ l). e)
+          (λ (e : q.lane ≡ l). absurd (not (sym e))) t) (o.seated l lt)));
       undealt = o.undealt;
       serves = o.serves;
       served = o.served;
@@ -393,9 +446,12 @@ begins a = record {
   longest = λ _. inl refl;
   legal = legal_none a;
   at_home = λ _. refl;
+  word = omega arith;
+  opener = λ _. (view a (Opening 0), refl, refl);
   young = λ _. refl;
   unserved = λ _. refl;
-  undealt = λ l _. refl;
+  seated = λ l lt. absurd (omega arith);
+  undealt = λ l _. (refl, refl);
   serves = λ l m ask is. absurd cc;
   served = λ s is. absurd cc;
   openings = λ j v e. inr (ap (λ (w : View). w.opening) (sym (only_at (view a (Opening 0)) v j e).1));

@@ -45,8 +45,11 @@ pub record IsKept (store : State) (out : Option ℕ) (log : List Event) (lanes :
   pub one : IsOneHistory (world_of store out log lanes)
   pub whole : one.history.log ≡ log
   pub legal : IsLegal (starting_at 3) log store
+  -- the lengths that a lane has are within the list
   pub short : (j : ℕ) (l : Lane) → get_elem? lanes j ≡ some l → (l.seen ≤ length log) × (l.base ≤ length log)
+  -- seat j is lane j's
   pub numbered : (j : ℕ) (l : Lane) → get_elem? lanes j ≡ some l → l.lane ≡ j
+  -- only the lane that is out holds the list
   pub holds : (j : ℕ) (l : Lane) → get_elem? lanes j ≡ some l → l.holding ≡ true → out ≡ Some j
 
 -- a lane that nothing was done for

@@ -34,7 +34,7 @@ fresh lane = record {
   done = false;
 }
 
--- take: the turn is had, at this history
+-- take: the seat has the turn and holds this history; it has looked at no cell
 abbrev pub taken : Part → List Event → Part
 taken p log = record p { holding = Some log; base = log; taken = p.taken + 1; checked = [] }
 
@@ -75,10 +75,10 @@ answered p log e = record p {
 abbrev pub collected : Part → List Event → Event → Part
 collected p seen e = record p { seen = seen; mine = p.mine ++ e ∷ []; flight = None; done = false }
 
--- load of a holder: a lane's cell was looked at, and wasn't posted
+-- load of a holder: a lane's cell was looked at, and wasn't posted; finished: it is the seat's own cell, and answered
 abbrev pub looked_at : Part → ℕ → Bool → Part
 looked_at p lane finished = record p { checked = p.checked ++ lane ∷ []; done = cond finished true p.done }
 
--- one lane's cell is another
+-- the cells, with c as this lane's
 abbrev pub celled : (ℕ → Cell) → ℕ → Cell → ℕ → Cell
 celled cell lane c l = cond (l == lane) c (cell l)

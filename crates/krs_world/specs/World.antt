@@ -68,7 +68,7 @@ IsHistoryBy (Out lane) log seats = (p : Part) × (get_elem? seats lane ≡ some 
 abbrev pub IsHistory : World → List Event → Type 0
 IsHistory w log = IsHistoryBy w.turn log w.seats
 
--- what the lane's seat knows is another
+-- the machine, with p as what the lane's seat knows
 abbrev pub reseated : World → ℕ → Part → World
 reseated w lane p = record w { seats = slice_set w.seats lane p }
 
@@ -118,7 +118,8 @@ Refuses w lane p TakeFound error =
     (error ≡ ENOSPC) × (p.found ≡ 18446744073709551615)
     × ((holder : ℕ) × (w.turn ≡ Out holder) × (holder ≢ lane))
 Refuses w lane p (Put None) error = ⊥
-Refuses w lane p (Put (Some call)) error = (error ≡ ENOMEM) × (w.turn ≡ Out lane)
+Refuses w lane p (Put (Some call)) error =
+    (error ≡ ENOMEM) × (w.turn ≡ Out lane) × (p.serving ≡ None) × (p.flight ≡ None)
 Refuses w lane p (Load n) error = ⊥
 
 -- a refusal changes nothing
@@ -143,17 +144,26 @@ cell_of cells lane = slice_index_or cells lane Empty
 abbrev pub views_of : World → List View
 views_of w = map (one w.opening) w.seats
 
--- the seat of the lane where the turn is out holds a list
-abbrev pub IsOutAt : Turn → List Part → Type 0
-IsOutAt (Free store) seats = Unit {0}
-IsOutAt (Out lane) seats = (p : Part) × (log : List Event) × (get_elem? seats lane ≡ some p) × (p.holding ≡ Some log)
-
--- there is one history of all calls; seat i is lane i's
+-- there is one history of all calls, and it is the machine's; seat i is lane i's
 pub record IsOneHistory (w : World) : Type 0 where
   pub history : OneHistory w.opening (turn_word w.turn) (at_home w.turn) (cell_of w.cells) (views_of w)
-  pub out : IsOutAt w.turn w.seats
+  pub whole : IsHistory w history.log
   pub lanes : (j : ℕ) (p : Part) → get_elem? w.seats j ≡ some p → p.lane ≡ j
 
 -- after every list of steps there is one history
 abbrev pub StaysOne : Type 0
 StaysOne = (lanes : ℕ) (steps : List WorldStep) (end : World) → Runs (new_world lanes) steps end → IsOneHistory end
+
+-- each seat is still there, and what it had seen begins what it has seen
+abbrev pub SeenGrows : World → World → Type 0
+SeenGrows old new =
+    (j : ℕ) (p : Part) → get_elem? old.seats j ≡ some p
+    → (q : Part) × (get_elem? new.seats j ≡ some q) × Begins p.seen q.seen
+
+-- Whatever steps are made, the history only grows, and so does what each seat has seen: no call is ever taken back,
+-- changed or moved
+abbrev pub OnlyGrows : Type 0
+OnlyGrows =
+    (lanes : ℕ) (steps more : List WorldStep) (middle end : World) (log later : List Event)
+    → Runs (new_world lanes) steps middle → Runs middle more end → IsHistory middle log → IsHistory end later
+    → Begins log later × SeenGrows middle end

@@ -33,7 +33,7 @@ pub struct Part {
     /// The beginning of the history that it has seen.
     pub seen: LinkedList<Event>,
 
-    /// The lane's calls that have their replies.
+    /// The lane's calls whose replies the seat has, in order.
     pub mine: LinkedList<Event>,
 
     /// The whole history, while the seat has the turn.
@@ -54,10 +54,10 @@ pub struct Part {
     /// How often it found the turn taken.
     pub found: u64,
 
-    /// The lanes whose cells it has looked at since it took the turn.
+    /// The lanes whose cells it answered, or found not posted, since it took the turn.
     pub checked: LinkedList<u32>,
 
-    /// It found its own cell answered.
+    /// It answered its own cell, or found it answered.
     pub done: bool,
 }
 
