@@ -13,11 +13,12 @@ use Rattle.krs_world.specs.Knowing.{one, fresh}
 use Rattle.krs_world.specs.History.{Known, Fits, Stands}
 use Rattle.krs_world.specs.declared.world.Lane.{Lane}
 use Rattle.krs_world.specs.World.{Free, World, fresh_lanes, empty_cells, new_world, Runs, cell_of, IsOneHistory}
+use Rattle.krs_world.specs.World.{StaysOne}
 use Rattle.krs_world.specs.Kept.{part_by, world_of, fresh_lane, AreFreshLanes}
 use Rattle.krs_world.specs.Kept.{IsKept}
 use Rattle.krs_model.proofs.Legal.{legal_none}
 use Rattle.krs_world.proofs.Seating.{at_snoc}
-use Rattle.krs_world.proofs.Worlds.{of_map, runs_keep}
+use Rattle.krs_world.proofs.Worlds.{of_map, history_stands, runs_keep}
 
 cells_empty : (k l : ℕ) → cell_of (empty_cells k) l ≡ Empty
 cells_empty zero l = refl
@@ -75,9 +76,10 @@ begins_world lanes = let a : State = starting_at 3 in record {
   lanes = λ j p e. let t = fresh_here lanes j p e in ap (λ (q : Part). q.lane) (sym t.0);
 }
 
-pub always_one : (lanes : ℕ) (steps : List WorldStep) (end : World) → Runs (new_world lanes) steps end
-    → IsOneHistory end
-always_one lanes steps end r = runs_keep (new_world lanes) steps end (begins_world lanes) r
+pub always_one : StaysOne
+always_one lanes steps end r = let one : IsOneHistory end = runs_keep (new_world lanes) steps end
+    (begins_world lanes) r in
+    (one, history_stands end.opening (cell_of end.cells) end.seats end.turn one.history one.out)
 
 begins_whole : (lanes : ℕ) → (o : IsOneHistory (new_world lanes)) × (o.history.log ≡ [])
 unfolding begins_world

@@ -114,7 +114,8 @@ held_set log holder views id v w at go t = dite (ℕ_discrete holder id)
       w,
       ap (get_elem? (set views id w)) same ∙ set_at views id w v at,
       go
-          (subst (λ (x : View). HasTurn log x.stands) (some-injective t.0 v (sym t.1 ∙ (ap (get_elem? views) same ∙ at)))
+          (subst (λ (x : View). HasTurn log x.stands) (some-injective t.0 v (sym t.1 ∙ (ap (get_elem? views) same
+          ∙ at)))
           t.2),
     ))
     (λ not. (t.0, set_else views id holder w not ∙ t.1, t.2))
@@ -260,7 +261,8 @@ module _ (a : State) (views : List View) (id : ℕ) (p : Part) (at : get_elem? v
         serves = o.serves;
         served = o.served;
         openings = views_open 0 home cell o (One (taken p o.log));
-        each = each_set (λ j v. Stands o.log 1 id o.dealt o.seat cell o.serving j v.stands) views id (one a (taken p o.log))
+        each = each_set (λ j v. Stands o.log 1 id o.dealt o.seat cell o.serving j v.stands) views id
+            (one a (taken p o.log))
             record {
               at = k.at;
               given = k.given;

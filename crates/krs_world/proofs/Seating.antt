@@ -141,7 +141,8 @@ opens a turn home cell views id n o at = let k = o.each id (view a (Opening n)) 
       served = o.served;
       openings = each_set (λ j v. (v.stands ≡ Spent) ⊎ (v.opening ≡ a)) views id (view a Spent) (inr refl)
           (λ j v _ e. o.openings j v e);
-      each = each_set (λ j v. Stands o.log 0 o.holder o.dealt o.seat cell o.serving j v.stands) views id (view a Spent) tt
+      each = each_set (λ j v. Stands o.log 0 o.holder o.dealt o.seat cell o.serving j v.stands) views id
+          (view a Spent) tt
           (λ j v not e. others_stand o.log o.log turn 0 o.holder o.holder o.dealt o.dealt o.seat o.seat cell cell
           o.serving o.serving j
           (λ q h. record {
@@ -311,7 +312,8 @@ looks a turn home cell views id p q o at = let k = o.each id (view a (Two p q)) 
       undealt = o.undealt;
       serves = o.serves;
       served = o.served;
-      openings = each_set (λ j v. (v.stands ≡ Spent) ⊎ (v.opening ≡ a)) views id w (inr refl) (λ j v _ e. o.openings j v e);
+      openings = each_set (λ j v. (v.stands ≡ Spent) ⊎ (v.opening ≡ a)) views id w (inr refl)
+          (λ j v _ e. o.openings j v e);
       each = each_set (λ j v. Stands o.log turn o.holder o.dealt o.seat cell o.serving j v.stands) views id w (
         sees o.log turn o.holder o.dealt o.seat cell id p o.serving k.0,
         sees o.log turn o.holder o.dealt o.seat cell id q o.serving k.1,

@@ -1,5 +1,5 @@
 -- Each step of the machine keeps the one history.
-use Rattle.std.proofs.Common.{◌≡◌, ◌≢◌, ℕ, zero, suc, List, [], ◌∷◌, ◌++◌, map, set}
+use Rattle.std.proofs.Common.{inl, inr, ◌≡◌, ◌≢◌, ℕ, zero, suc, List, [], ◌∷◌, ◌++◌, map, set}
 use Rattle.std.proofs.Common.{Option, Some, None, refl, sym, ap, ◌∙◌, subst, ⊎_elim, arith}
 use mathlib.Core.Option.{some, some-injective, some-ne-none}
 use Rattle.krs_model.specs.Lists.{Begins}
@@ -67,6 +67,22 @@ module _ (a : State) (cell : ℕ → Cell) (seats : List Part) where
   history_is (Out lane) o log h = let k = o.each lane (one a h.0) (get_map (one a) seats lane h.0 h.1) in
       (k.holding log h.2).whole
 
+  -- and the list of the one history is such a history
+  pub history_stands : (turn : Turn) (o : OneHistory a (turn_word turn) (at_home turn) cell views) → IsOutAt turn seats
+      → IsHistoryBy turn o.log seats
+  history_stands (Free store) o out = (
+    ⊎_elim inl (λ (t : (j : ℕ) × (v : View) × (get_elem? views j ≡ some v) × HasSeen o.log v.stands).
+        let m = of_map (one a) seats t.0 t.1 t.2 in
+        let s : m.0.seen ≡ o.log = subst (λ (v : View). HasSeen o.log v.stands) (sym m.2) t.3 in inr (t.0, m.0, m.1, s))
+        (o.longest (λ e. omega arith)),
+    λ j p at. (o.each j (one a p) (get_map (one a) seats j p at)).seen,
+  )
+  history_stands (Out lane) o out = (
+    out.0,
+    out.2,
+    out.3 ∙ ap (λ (l : List Event). Some l) (history_is (Out lane) o out.1 (out.0, out.2, out.3)),
+  )
+
   seat_of : (lane : ℕ) (p : Part) → get_elem? seats lane ≡ some p → get_elem? views lane ≡ some (one a p)
   seat_of lane p at = get_map (one a) seats lane p at
 
@@ -92,7 +108,8 @@ out_stays (Out holder) seats lane p q at same t = dite (ℕ_discrete holder lane
       t.1,
       ap (get_elem? (set seats lane q)) here ∙ set_at seats lane q p at,
       same
-          ∙ (ap (λ (x : Part). x.holding) (some-injective p t.0 (sym at ∙ (ap (get_elem? seats) (sym here) ∙ t.2))) ∙ t.3),
+          ∙ (ap (λ (x : Part). x.holding) (some-injective p t.0 (sym at ∙ (ap (get_elem? seats) (sym here) ∙ t.2)))
+          ∙ t.3),
     ))
     (λ away. (t.0, t.1, set_else seats lane holder q away ∙ t.2, t.3))
 
