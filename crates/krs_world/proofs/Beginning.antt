@@ -8,19 +8,16 @@ use Rattle.krs_model.specs.State.{State, starting_at}
 use Rattle.krs_world.specs.declared.view.Cell.TheVariants.{Empty}
 use Rattle.krs_world.specs.declared.view.Part.{Part}
 use Rattle.krs_world.specs.declared.view.View.{View}
-use Rattle.krs_world.specs.declared.step.WorldStep.{WorldStep}
 use Rattle.krs_world.specs.Knowing.{one, fresh}
 use Rattle.krs_world.specs.History.{Known, Fits, Stands}
 use Rattle.krs_world.specs.declared.world.Lane.{Lane}
-use Rattle.krs_world.specs.World.{Free, World, fresh_lanes, empty_cells, new_world, Runs, cell_of, IsHistory, IsOneHistory}
-use Rattle.krs_world.specs.World.{SeenGrows}
-use Rattle.krs_types.specs.declared.event.Event.{Event}
-use Rattle.krs_model.specs.Lists.{Begins}
+use Rattle.krs_world.specs.World.{Free, World, fresh_lanes, empty_cells, new_world, cell_of, IsOneHistory}
+use Rattle.krs_world.specs.World.{StaysOne}
 use Rattle.krs_world.specs.Kept.{part_by, world_of, fresh_lane, AreFreshLanes}
 use Rattle.krs_world.specs.Kept.{IsKept}
 use Rattle.krs_model.proofs.Legal.{legal_none}
-use Rattle.krs_world.proofs.Seating.{at_snoc}
-use Rattle.krs_world.proofs.Worlds.{get_map, of_map, prefix_none, runs_keep, runs_grow, history_is_one}
+use Rattle.krs_world.proofs.Lanes.{at_snoc}
+use Rattle.krs_world.proofs.Worlds.{get_map, of_map, prefix_none, runs_keep}
 
 cells_empty : (k l : ℕ) → cell_of (empty_cells k) l ≡ Empty
 cells_empty zero l = refl
@@ -91,20 +88,8 @@ begins_world lanes = let a : State = starting_at 3 in record {
   lanes = λ j p e. let t = fresh_here lanes j p e in ap (λ (q : Part). q.lane) (sym t.0);
 }
 
-pub always_one : (lanes : ℕ) (steps : List WorldStep) (end : World) → Runs (new_world lanes) steps end
-    → IsOneHistory end
+pub always_one : StaysOne
 always_one lanes steps end r = runs_keep (new_world lanes) steps end (begins_world lanes) r
-
--- the history only grows
-pub only_grows : (lanes : ℕ) (steps more : List WorldStep) (middle end : World) (log later : List Event)
-    → Runs (new_world lanes) steps middle → Runs middle more end → IsHistory middle log → IsHistory end later
-    → Begins log later × SeenGrows middle end
-only_grows lanes steps more middle end log later r s h g = let o = always_one lanes steps middle r in
-    let n : IsOneHistory end = runs_keep middle more end o s in let t = runs_grow middle more end o n s in (
-      subst (λ (x : List Event × List Event). Begins x.0 x.1)
-          (λ i. (sym (history_is_one middle o log h) i, sym (history_is_one end n later g) i)) t.0,
-      t.1,
-    )
 
 begins_whole : (lanes : ℕ) → (o : IsOneHistory (new_world lanes)) × (o.history.log ≡ [])
 unfolding begins_world

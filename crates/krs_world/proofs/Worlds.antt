@@ -1,6 +1,6 @@
 -- Each step of the machine keeps the one history.
-use Rattle.std.proofs.Common.{◌≡◌, ◌≢◌, ℕ, zero, suc, List, [], ◌∷◌, ◌++◌, map, set}
-use Rattle.std.proofs.Common.{Option, Some, None, refl, sym, ap, ◌∙◌, subst, inl, inr, ⊎_elim, arith}
+use Rattle.std.proofs.Common.{inl, inr, ◌≡◌, ◌≢◌, ℕ, zero, suc, List, [], ◌∷◌, ◌++◌, map, set}
+use Rattle.std.proofs.Common.{Option, Some, None, refl, sym, ap, ◌∙◌, subst, ⊎_elim, arith}
 use mathlib.Core.Option.{some, some-injective, some-ne-none}
 use Rattle.krs_model.specs.Lists.{Begins}
 use mathlib.Core.Logic.{dite}
@@ -18,8 +18,8 @@ use Rattle.krs_world.specs.declared.step.WorldStep.{WorldStep}
 use Rattle.krs_world.specs.Knowing.{one, taken, missed, put_own, put_none, loaded}
 use Rattle.krs_world.specs.History.{OneHistory, HasSeen}
 use Rattle.krs_world.specs.World.{Turn, Free, Out, World, IsLongest, IsHistoryBy, reseated, StepsAs, Steps, Runs}
-use Rattle.krs_world.specs.World.{turn_word, at_home, cell_of, views_of, IsHistory, IsOneHistory, SeenGrows}
-use Rattle.krs_world.proofs.Keeping.{prefix_self, prefix_more, prefix_trans, prefix_both, at_set, set_at, set_else}
+use Rattle.krs_world.specs.World.{turn_word, at_home, cell_of, views_of, IsHistory, IsOneHistory}
+use Rattle.krs_world.proofs.Keeping.{prefix_both, at_set, set_at, set_else}
 use Rattle.krs_world.proofs.Keeping as law
 
 map_set : {A B : Type 0} (f : A → B) (xs : List A) (i : ℕ) (x : A) → map f (set xs i x) ≡ set (map f xs) i (f x)
@@ -76,21 +76,21 @@ module _ (a : State) (cell : ℕ → Cell) (seats : List Part) where
   history_is (Out lane) o log h = let k = o.each lane (one a h.0) (get_map (one a) seats lane h.0 h.1) in
       (k.holding log h.2).whole
 
-  -- the one history is the longest list that is seen, where the turn is free
-  free_whole : (home : Option State) (o : OneHistory a 0 home cell views) → IsLongest o.log seats
-  free_whole home o = (
-    ⊎_elim inl (λ (t : (j : ℕ) × (v : View) × (get_elem? views j ≡ some v) × HasSeen o.log v.stands). let m =
-        of_map (one a) seats t.0 t.1 t.2 in
-        inr (t.0, m.0, m.1, subst (λ (v : View). HasSeen o.log v.stands) (sym m.2) t.3)) (o.longest (λ e. omega arith)),
-    λ j p e. (o.each j (one a p) (get_map (one a) seats j p e)).seen,
-  )
-
-  -- the one history is the machine's, where the seat that is out holds a list
-  pub whole_is : (turn : Turn) (o : OneHistory a (turn_word turn) (at_home turn) cell views) → IsOutAt turn seats
+  -- and the list of the one history is such a history
+  pub history_stands : (turn : Turn) (o : OneHistory a (turn_word turn) (at_home turn) cell views) → IsOutAt turn seats
       → IsHistoryBy turn o.log seats
-  whole_is (Free store) o t = free_whole (Some store) o
-  whole_is (Out lane) o t = let k = o.each lane (one a t.0) (get_map (one a) seats lane t.0 t.2) in
-      (t.0, t.2, t.3 ∙ ap (λ (l : List Event). Some l) (k.holding t.1 t.3).whole)
+  history_stands (Free store) o out = (
+    ⊎_elim inl (λ (t : (j : ℕ) × (v : View) × (get_elem? views j ≡ some v) × HasSeen o.log v.stands).
+        let m = of_map (one a) seats t.0 t.1 t.2 in
+        let s : m.0.seen ≡ o.log = subst (λ (v : View). HasSeen o.log v.stands) (sym m.2) t.3 in inr (t.0, m.0, m.1, s))
+        (o.longest (λ e. omega arith)),
+    λ j p at. (o.each j (one a p) (get_map (one a) seats j p at)).seen,
+  )
+  history_stands (Out lane) o out = (
+    out.0,
+    out.2,
+    out.3 ∙ ap (λ (l : List Event). Some l) (history_is (Out lane) o out.1 (out.0, out.2, out.3)),
+  )
 
   seat_of : (lane : ℕ) (p : Part) → get_elem? seats lane ≡ some p → get_elem? views lane ≡ some (one a p)
   seat_of lane p at = get_map (one a) seats lane p at
@@ -117,7 +117,8 @@ out_stays (Out holder) seats lane p q at same t = dite (ℕ_discrete holder lane
       t.1,
       ap (get_elem? (set seats lane q)) here ∙ set_at seats lane q p at,
       same
-          ∙ (ap (λ (x : Part). x.holding) (some-injective p t.0 (sym at ∙ (ap (get_elem? seats) (sym here) ∙ t.2))) ∙ t.3),
+          ∙ (ap (λ (x : Part). x.holding) (some-injective p t.0 (sym at ∙ (ap (get_elem? seats) (sym here) ∙ t.2)))
+          ∙ t.3),
     ))
     (λ away. (t.0, t.1, set_else seats lane holder q away ∙ t.2, t.3))
 
@@ -136,7 +137,7 @@ one_now : (new : World) (history : OneHistory new.opening (turn_word new.turn) (
     → ((j : ℕ) (p : Part) → get_elem? new.seats j ≡ some p → p.lane ≡ j) → IsOneHistory new
 one_now new history out lanes = record {
   history = history;
-  whole = whole_is new.opening (cell_of new.cells) new.seats new.turn history out;
+  whole = history_stands new.opening (cell_of new.cells) new.seats new.turn history out;
   lanes = lanes;
 }
 
@@ -189,122 +190,6 @@ pub runs_keep : (w : World) (steps : List WorldStep) (end : World) → IsOneHist
 runs_keep w [] end o r = subst IsOneHistory r o
 runs_keep w (s ∷ more) end o r = runs_keep r.0 more end (steps_keep w s r.0 o r.1) r.2
 
--- The history only grows.
-
 -- a list that is the machine's history is the one history
 pub history_is_one : (w : World) (o : IsOneHistory w) (log : List Event) → IsHistory w log → log ≡ o.history.log
 history_is_one w o log h = history_is w.opening (cell_of w.cells) w.seats w.turn o.history log h
-
--- what a seat has seen begins the one history
-seen_begins : (w : World) (o : IsOneHistory w) (j : ℕ) (p : Part) → get_elem? w.seats j ≡ some p
-    → Begins p.seen o.history.log
-seen_begins w o j p at =
-    (o.history.each j (one w.opening p) (get_map (one w.opening) w.seats j p at)).seen
-
--- another seat, which has seen more
-grows_set : (seats : List Part) (lane : ℕ) (p q : Part) → get_elem? seats lane ≡ some p → Begins p.seen q.seen
-    → (j : ℕ) (r : Part) → get_elem? seats j ≡ some r
-    → (s : Part) × (get_elem? (set seats lane q) j ≡ some s) × Begins r.seen s.seen
-grows_set seats lane p q at more j r e = dite (ℕ_discrete j lane)
-    (λ same. (
-      q,
-      ap (get_elem? (set seats lane q)) same ∙ set_at seats lane q p at,
-      subst (λ (x : Part). Begins x.seen q.seen)
-          (some-injective p r (sym at ∙ (ap (get_elem? seats) (sym same) ∙ e))) more,
-    ))
-    (λ not. (r, set_else seats lane j q not ∙ e, prefix_self r.seen))
-
--- what one step makes of what the seats have seen
-seats_grow : (w : World) (lane : ℕ) (p : Part) (k : Kind) (new : World) → IsOneHistory w
-    → get_elem? w.seats lane ≡ some p → StepsAs w lane p k new → SeenGrows w new
-seats_grow w lane p Take new o at t = subst (SeenGrows w) (sym t.4)
-    (grows_set w.seats lane p (taken p t.1) at (prefix_self p.seen))
-seats_grow w lane p TakeFound new o at t = subst (SeenGrows w) (sym t.3)
-    (grows_set w.seats lane p (missed p) at (prefix_self p.seen))
-seats_grow w lane p (Put None) new o at t = let k =
-    o.history.each lane (one w.opening p) (get_map (one w.opening) w.seats lane p at) in
-    subst (SeenGrows w) (sym t.6)
-    (grows_set w.seats lane p (put_none p t.0) at (subst (Begins p.seen) (sym (k.holding t.0 t.3).whole) k.seen))
-seats_grow w lane p (Put (Some call)) new o at t = let u = t.6 in
-    let k = o.history.each lane (one w.opening p) (get_map (one w.opening) w.seats lane p at) in
-    let e : Event = event_of lane call.0 call.1 u.0 in
-    subst (SeenGrows w) (sym u.4)
-    (grows_set w.seats lane p (put_own p t.0 e) at
-    (prefix_more p.seen t.0 (e ∷ []) (subst (Begins p.seen) (sym (k.holding t.0 t.3).whole) k.seen)))
-seats_grow w lane p (Load n) new o at t = subst (SeenGrows w) (sym t.6)
-    (grows_set w.seats lane p (loaded p t.1) at t.3)
-
--- the one history is another's beginning where all have seen more, and it was the longest list that was seen
-free_grows : (w new : World) (o : IsOneHistory w) (n : IsOneHistory new) → SeenGrows w new
-    → IsLongest o.history.log w.seats → Begins o.history.log n.history.log
-free_grows w new o n grows l = ⊎_elim (λ (e : o.history.log ≡ []). prefix_none o.history.log n.history.log e)
-    (λ (t : (j : ℕ) × (p : Part) × (get_elem? w.seats j ≡ some p) × (p.seen ≡ o.history.log)).
-    let g = grows t.0 t.1 t.2 in
-    subst (λ (x : List Event). Begins x n.history.log) t.3
-    (prefix_trans t.1.seen g.0.seen n.history.log g.2 (seen_begins new n t.0 g.0 g.1))) l.0
-
--- what is the history of the machine before a step and after it is one
-same_grows : (w new : World) (o : IsOneHistory w) (n : IsOneHistory new) (log : List Event) → IsHistory w log
-    → IsHistory new log → Begins o.history.log n.history.log
-same_grows w new o n log h g = subst (λ (x : List Event × List Event). Begins x.0 x.1)
-    (λ i. (history_is_one w o log h i, history_is_one new n log g i)) (prefix_self log)
-
--- a step that leaves the turn, and what is held, as they were
-turn_grows : (w new : World) (lane : ℕ) (p q : Part) (o : IsOneHistory w) (n : IsOneHistory new)
-    → get_elem? w.seats lane ≡ some p → q.holding ≡ p.holding → new ≡ reseated w lane q → SeenGrows w new
-    → (turn : Turn) → w.turn ≡ turn → Begins o.history.log n.history.log
-turn_grows w new lane p q o n at same is grows (Free store) turn = free_grows w new o n grows
-    (subst (λ (x : Turn). IsHistoryBy x o.history.log w.seats) turn o.whole)
-turn_grows w new lane p q o n at same is grows (Out holder) turn = let log : List Event = o.history.log in
-    let h : IsHistoryBy (Out holder) log w.seats = subst (λ (x : Turn). IsHistoryBy x log w.seats) turn o.whole in
-    let g : IsHistoryBy (Out holder) log (set w.seats lane q) = dite (ℕ_discrete holder lane)
-        (λ here. (
-          q,
-          ap (get_elem? (set w.seats lane q)) here ∙ set_at w.seats lane q p at,
-          same
-              ∙ (ap (λ (x : Part). x.holding) (some-injective p h.0 (sym at ∙ (ap (get_elem? w.seats) (sym here) ∙ h.1)))
-              ∙ h.2),
-        ))
-        (λ away. (h.0, set_else w.seats lane holder q away ∙ h.1, h.2)) in
-    same_grows w new o n log o.whole (subst (λ (x : World). IsHistory x log) (sym is)
-    (subst (λ (x : Turn). IsHistoryBy x log (set w.seats lane q)) (sym turn) g))
-
--- the seat of the step, once it was made
-seat_now : (w new : World) (lane : ℕ) (p q : Part) (turn : Turn) → get_elem? w.seats lane ≡ some p
-    → new ≡ record (reseated w lane q) { turn = turn } → get_elem? new.seats lane ≡ some q
-seat_now w new lane p q turn at is = subst (λ (x : World). get_elem? x.seats lane ≡ some q) (sym is)
-    (set_at w.seats lane q p at)
-
-log_grows : (w : World) (lane : ℕ) (p : Part) (k : Kind) (new : World) (o : IsOneHistory w) (n : IsOneHistory new)
-    → get_elem? w.seats lane ≡ some p → StepsAs w lane p k new → Begins o.history.log n.history.log
-log_grows w lane p Take new o n at t = let q : Part = taken p t.1 in
-    same_grows w new o n t.1 t.3 (subst (λ (x : World). IsHistory x t.1) (sym t.4)
-    (q, set_at w.seats lane q p at, refl))
-log_grows w lane p TakeFound new o n at t = turn_grows w new lane p (missed p) o n at refl t.3
-    (seats_grow w lane p TakeFound new o at t) (Out t.0) t.1
-log_grows w lane p (Put None) new o n at t = let q : Part = put_none p t.0 in let k =
-    o.history.each lane (one w.opening p) (get_map (one w.opening) w.seats lane p at) in
-    subst (λ (x : List Event). Begins x n.history.log) (k.holding t.0 t.3).whole
-    (seen_begins new n lane q (seat_now w new lane p q (Free t.1) at t.6))
-log_grows w lane p (Put (Some call)) new o n at t = let u = t.6 in
-    let e : Event = event_of lane call.0 call.1 u.0 in let q : Part = put_own p t.0 e in
-    let k = o.history.each lane (one w.opening p) (get_map (one w.opening) w.seats lane p at) in
-    subst (λ (x : List Event). Begins x n.history.log) (k.holding t.0 t.3).whole
-    (prefix_trans t.0 (t.0 ++ e ∷ []) n.history.log (prefix_more t.0 t.0 (e ∷ []) (prefix_self t.0))
-    (seen_begins new n lane q (seat_now w new lane p q (Free u.1) at u.4)))
-log_grows w lane p (Load n') new o n at t = turn_grows w new lane p (loaded p t.1) o n at refl t.6
-    (seats_grow w lane p (Load n') new o at t) w.turn refl
-
-pub runs_grow : (w : World) (steps : List WorldStep) (end : World) (o : IsOneHistory w) (n : IsOneHistory end)
-    → Runs w steps end → Begins o.history.log n.history.log × SeenGrows w end
-runs_grow w [] end o n r = (
-  same_grows w end o n o.history.log o.whole (subst (λ (x : World). IsHistory x o.history.log) r o.whole),
-  subst (SeenGrows w) r (λ j p at. (p, at, prefix_self p.seen)),
-)
-runs_grow w (s ∷ more) end o n r = let m : IsOneHistory r.0 = steps_keep w s r.0 o r.1 in let t = r.1 in
-    let first : SeenGrows w r.0 = seats_grow w s.lane t.0 s.kind r.0 o t.1 t.2 in
-    let rest = runs_grow r.0 more end m n r.2 in (
-      prefix_trans o.history.log m.history.log n.history.log (log_grows w s.lane t.0 s.kind r.0 o m t.1 t.2) rest.0,
-      λ j p at. let f = first j p at in let g = rest.1 j f.0 f.1 in
-          (g.0, g.1, prefix_trans p.seen f.0.seen g.0.seen f.2 g.2),
-    )

@@ -77,7 +77,8 @@ pub record Known (log : List Event) (turn holder dealt : ℕ) (seat : ℕ → �
   pub given : p.lane < dealt  -- it is one of the lanes that were dealt
   pub seen : Begins p.seen log  -- what it has seen begins the history
   pub base : Begins p.base log  -- so does the history as it last took the turn
-  pub calls : Begins p.mine (events_of p.lane p.seen)  -- of its lane's in what it has seen, those it knows of come first
+  -- of its lane's operations in what it has seen, those that it knows of come first
+  pub calls : Begins p.mine (events_of p.lane p.seen)
   pub fits : Fits log p (cell p.lane)  -- the history has its operations once, in their order
   pub holding : (l : List Event) → p.holding ≡ Some l → Holds log turn holder serving j p l  -- one seat alone holds
   pub unheld : p.holding ≡ None → p.serving ≡ None  -- who doesn't hold the history serves no call
@@ -145,7 +146,7 @@ pub record OneHistory (opening : State) (turn : ℕ) (home : Option State) (cell
   pub longest : turn ≢ 1 → IsSeen log views  -- else the longest list that a seat has seen (each begins it: `seen`)
   pub legal : IsLegal opening log last  -- it is one of the sequential store, from the opening on
   pub at_home : turn ≢ 1 → home ≡ Some last  -- it ends in the state at home, where the turn is not out
-  pub opener : turn ≡ 2 → IsDealing dealt holder views  -- while the seats are dealt, the dealer is at the holder's place
+  pub opener : turn ≡ 2 → IsDealing dealt holder views  -- while they are dealt, the dealer is at the holder's place
   pub young : turn ≡ 2 → log ≡ []  -- the history is empty while the seats are dealt
   pub unserved : turn ≢ 1 → serving ≡ None  -- no call is served unless the turn is out
   pub seated : (lane : ℕ) → lane < dealt → IsSeated lane (seat lane) views  -- each lane that was dealt has a seat

@@ -1,5 +1,6 @@
 -- The machine of many seats, its steps, and the one history that it has. The form is this project's own.
-use Rattle.std.specs.Prelude.{◌≡◌, ◌≢◌, ◌⊎◌, ℕ, zero, suc, ◌+◌, Bool, true, false, List, [], ◌∷◌, Option, Some, None}
+use Rattle.std.specs.Prelude.{◌≡◌, ◌≢◌, ◌≤◌, ◌⊎◌, ℕ, zero, suc, ◌+◌, Bool, true, false, List, [], ◌∷◌, Option, Some}
+use Rattle.std.specs.Prelude.{None}
 use Rattle.std.specs.Prelude.{Result, map, length, slice_index_or, slice_set}
 use mathlib.Core.Option.{some}
 use lib.ListN.{get_elem?}
@@ -113,9 +114,9 @@ MovesBy old lane kind false new =
 -- ENOMEM where it was to put a call
 abbrev pub Refuses : World → ℕ → Part → Kind → Errno → Type 0
 Refuses w lane p Take error =
-    (error ≡ ENOSPC) × (p.taken ≡ 18446744073709551615) × ((store : State) × (w.turn ≡ Free store))
+    (error ≡ ENOSPC) × (18446744073709551615 ≤ p.taken) × ((store : State) × (w.turn ≡ Free store))
 Refuses w lane p TakeFound error =
-    (error ≡ ENOSPC) × (p.found ≡ 18446744073709551615)
+    (error ≡ ENOSPC) × (18446744073709551615 ≤ p.found)
     × ((holder : ℕ) × (w.turn ≡ Out holder) × (holder ≢ lane))
 Refuses w lane p (Put None) error = ⊥
 Refuses w lane p (Put (Some call)) error =
@@ -150,20 +151,6 @@ pub record IsOneHistory (w : World) : Type 0 where
   pub whole : IsHistory w history.log
   pub lanes : (j : ℕ) (p : Part) → get_elem? w.seats j ≡ some p → p.lane ≡ j
 
--- after every list of steps there is one history
+-- after every list of steps there is one history: what the holder of the turn holds, or the longest list that is seen
 abbrev pub StaysOne : Type 0
 StaysOne = (lanes : ℕ) (steps : List WorldStep) (end : World) → Runs (new_world lanes) steps end → IsOneHistory end
-
--- each seat is still there, and what it had seen begins what it has seen
-abbrev pub SeenGrows : World → World → Type 0
-SeenGrows old new =
-    (j : ℕ) (p : Part) → get_elem? old.seats j ≡ some p
-    → (q : Part) × (get_elem? new.seats j ≡ some q) × Begins p.seen q.seen
-
--- Whatever steps are made, the history only grows, and so does what each seat has seen: no call is ever taken back,
--- changed or moved
-abbrev pub OnlyGrows : Type 0
-OnlyGrows =
-    (lanes : ℕ) (steps more : List WorldStep) (middle end : World) (log later : List Event)
-    → Runs (new_world lanes) steps middle → Runs middle more end → IsHistory middle log → IsHistory end later
-    → Begins log later × SeenGrows middle end

@@ -1,4 +1,4 @@
-use Rattle.krs_world.proofs.Beginning.{only_grows}
+use Rattle.krs_world.proofs.Orders.{only_grows}
 use Rattle.krs_world.proofs.law.the_history_only_grows.Goals as goal
 
 pub returns : goal.returns
