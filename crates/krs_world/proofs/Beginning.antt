@@ -8,16 +8,15 @@ use Rattle.krs_model.specs.State.{State, starting_at}
 use Rattle.krs_world.specs.declared.view.Cell.TheVariants.{Empty}
 use Rattle.krs_world.specs.declared.view.Part.{Part}
 use Rattle.krs_world.specs.declared.view.View.{View}
-use Rattle.krs_world.specs.declared.step.WorldStep.{WorldStep}
 use Rattle.krs_world.specs.Knowing.{one, fresh}
 use Rattle.krs_world.specs.History.{Known, Fits, Stands}
 use Rattle.krs_world.specs.declared.world.Lane.{Lane}
-use Rattle.krs_world.specs.World.{Free, World, fresh_lanes, empty_cells, new_world, Runs, cell_of, IsOneHistory}
+use Rattle.krs_world.specs.World.{Free, World, fresh_lanes, empty_cells, new_world, cell_of, IsOneHistory}
 use Rattle.krs_world.specs.World.{StaysOne}
 use Rattle.krs_world.specs.Kept.{part_by, world_of, fresh_lane, AreFreshLanes}
 use Rattle.krs_world.specs.Kept.{IsKept}
 use Rattle.krs_model.proofs.Legal.{legal_none}
-use Rattle.krs_world.proofs.Seating.{at_snoc}
+use Rattle.krs_world.proofs.Lanes.{at_snoc}
 use Rattle.krs_world.proofs.Worlds.{of_map, history_stands, runs_keep}
 
 cells_empty : (k l : ℕ) → cell_of (empty_cells k) l ≡ Empty

@@ -17,16 +17,9 @@ use Rattle.krs_world.specs.declared.view.Standing.TheVariants.{Spent, Two, Openi
 use Rattle.krs_world.specs.declared.view.View.{View}
 use Rattle.krs_world.specs.Knowing.{events_of, view, one, fresh, loaded}
 use Rattle.krs_world.specs.History.{Fits, Holds, Known, Stands, HasSeen, IsSeen, OneHistory}
-use Rattle.krs_world.proofs.Keeping.{prefix_self, prefix_trans, events_prefix, set_at, set_else}
+use Rattle.krs_world.proofs.Keeping.{at_snoc, prefix_self, prefix_trans, events_prefix, set_at, set_else}
 use Rattle.krs_world.proofs.Keeping.{snoc_at, snoc_end, seen_set, held_set, seen_snoc, held_snoc, each_set}
 use Rattle.krs_world.proofs.Keeping.{others_stand, fits_same}
-
-pub at_snoc : {A : Type 0} (l : List A) (a b : A) (j : ℕ) → get_elem? (l ++ a ∷ []) j ≡ some b
-    → (get_elem? l j ≡ some b) ⊎ ((a ≡ b) × (j ≡ length l))
-at_snoc [] a b zero e = inr (some-injective a b e, refl)
-at_snoc [] a b (suc j) e = absurd (some-ne-none b (sym e))
-at_snoc (x ∷ xs) a b zero e = inl e
-at_snoc (x ∷ xs) a b (suc j) e = ⊎_elim inl (λ t. inr (t.0, ap suc t.1)) (at_snoc xs a b j e)
 
 -- the seats of lanes, with another for one lane
 abbrev pub seated : (ℕ → ℕ) → ℕ → ℕ → ℕ → ℕ
