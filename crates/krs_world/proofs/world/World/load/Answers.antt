@@ -1,15 +1,12 @@
-use Rattle.std.proofs.Common.{rules, arith, ◌≡◌, ◌≢◌, ◌+◌, ◌<◌, ◌≤◌, ℕ, List, [], ◌∷◌, ◌++◌, refl, sym, ap, ◌∙◌}
-use Rattle.std.proofs.Common.{subst, inl, inr, Some, None}
+use Rattle.std.proofs.Common.{rules, arith, ◌≡◌, ◌<◌, ◌≤◌, List, refl}
+use Rattle.std.proofs.Common.{subst, inl, inr}
 use Rattle.std.proofs.Common.{length}
 use lib.ListN.{get_elem?}
 use mathlib.Core.Option.{some}
-use Rattle.krs_types.specs.declared.event.Event.{Event}
-use Rattle.krs_model.specs.History.{event_of}
 use Rattle.krs_world.specs.declared.world.Lane.{Lane}
-use Rattle.krs_world.specs.declared.step.Kind.TheVariants.{Take, TakeFound, Put, Load}
+use Rattle.krs_world.specs.declared.step.Kind.TheVariants.{Load}
 use Rattle.krs_world.proofs.world.World.load.Goals as goal
-use Rattle.krs_world.proofs.Moves.{takes, misses, puts_none, puts_at, loads, unseated, lane_at, moves, loads_not}
-use Rattle.krs_world.proofs.Moves.{take_full, found_full}
+use Rattle.krs_world.proofs.Moves.{loads, unseated, lane_at, moves, loads_not}
 
 pub returns-in_default : goal.returns-in_default
 returns-in_default c = let w = c.self.inside in

@@ -1,15 +1,13 @@
-use Rattle.std.proofs.Common.{rules, arith, ◌≡◌, ◌≢◌, ◌+◌, ◌<◌, ◌≤◌, ℕ, List, [], ◌∷◌, ◌++◌, refl, sym, ap, ◌∙◌}
-use Rattle.std.proofs.Common.{subst, inl, inr, Some, None}
+use Rattle.std.proofs.Common.{rules, ◌≡◌, ◌<◌, ◌≤◌, ℕ, List, [], ◌∷◌, ◌++◌, refl, ap, ◌∙◌}
+use Rattle.std.proofs.Common.{subst, Some}
 use Rattle.std.proofs.Common.{length}
 use lib.ListN.{get_elem?}
 use mathlib.Core.Option.{some}
-use Rattle.krs_types.specs.declared.event.Event.{Event}
 use Rattle.krs_model.specs.History.{event_of}
 use Rattle.krs_world.specs.declared.world.Lane.{Lane}
-use Rattle.krs_world.specs.declared.step.Kind.TheVariants.{Take, TakeFound, Put, Load}
+use Rattle.krs_world.specs.declared.step.Kind.TheVariants.{Put}
 use Rattle.krs_world.proofs.world.World.put.Goals as goal
-use Rattle.krs_world.proofs.Moves.{takes, misses, puts_none, puts_at, loads, unseated, lane_at, moves, loads_not}
-use Rattle.krs_world.proofs.Moves.{take_full, found_full}
+use Rattle.krs_world.proofs.Moves.{puts_at, unseated, lane_at, moves, no_memory}
 
 pub returns-in_default-get-clause-moved : goal.returns-in_default-get-clause-moved
 returns-in_default-get-clause-moved c = let w = c.self.inside in
@@ -19,6 +17,28 @@ returns-in_default-get-clause-moved c = let w = c.self.inside in
       λ p other at steps. unseated c.args.self.now w.store w.out w.log.items w.lanes.items c.args.lane p
           c.self.view_is at beyond,
     )
+
+pub returns-in_default-copy-clause-refused : goal.returns-in_default-copy-clause-refused
+returns-in_default-copy-clause-refused c = let w = c.self.inside in let x = c.in-Some-get.seat.now in
+    let within : c.args.lane < length c.deref.result.now = search rules in
+    let at : get_elem? w.lanes.items c.args.lane ≡ some x =
+    lane_at w.lanes.items c.deref.result.now c.args.lane x c.deref.ensures.value within c.in-Some-get.ensures.lookup.1
+    in
+    let same : c.in-Some.holder ≡ c.args.lane = search rules in
+    let here : w.out ≡ Some c.args.lane = c.in-Some.is ∙ ap (λ (n : ℕ). Some n) same in
+    let refused = no_memory c.args.self.now w.store w.out w.log.items w.lanes.items c.args.lane x
+    (c.args.moment, c.args.ask) at c.self.view_is here in (search rules, refused.1)
+
+pub returns-in_default-reserve-clause-refused : goal.returns-in_default-reserve-clause-refused
+returns-in_default-reserve-clause-refused c = let w = c.self.inside in let x = c.in-Some-get.seat.now in
+    let within : c.args.lane < length c.deref.result.now = search rules in
+    let at : get_elem? w.lanes.items c.args.lane ≡ some x =
+    lane_at w.lanes.items c.deref.result.now c.args.lane x c.deref.ensures.value within c.in-Some-get.ensures.lookup.1
+    in
+    let same : c.in-Some.holder ≡ c.args.lane = search rules in
+    let here : w.out ≡ Some c.args.lane = c.in-Some.is ∙ ap (λ (n : ℕ). Some n) same in
+    let refused = no_memory c.args.self.now w.store w.out w.log.items w.lanes.items c.args.lane x
+    (c.args.moment, c.args.ask) at c.self.view_is here in (search rules, refused.1)
 
 pub invariant_of-self-2 : goal.invariant_of-self-2
 invariant_of-self-2 c = let w = c.self.inside in let x = c.in-Some-get.seat.now in
