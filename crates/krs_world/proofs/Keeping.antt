@@ -1,0 +1,291 @@
+-- Each step keeps the one history.
+use Rattle.std.proofs.Common.{◌≡◌, ◌≢◌, ℕ, ◌<◌, List, []}
+use Rattle.std.proofs.Common.{◌∷◌, ◌++◌, set, Option, Some, None, refl, sym, ap, ◌∙◌, subst, inr}
+use Rattle.std.proofs.Common.{◌⊎◌, arith}
+use mathlib.Core.Option.{some}
+use Rattle.krs_model.specs.Lists.{Begins}
+use lib.ListN.{get_elem?}
+use Rattle.krs_types.specs.declared.event.Event.{Event}
+use Rattle.krs_model.specs.State.{State}
+use Rattle.krs_model.specs.Step.{Step}
+use Rattle.krs_model.specs.History.{IsLegal}
+use Rattle.krs_model.proofs.Legal.{legal_more}
+use Rattle.krs_world.specs.declared.view.Cell.{Cell}
+use Rattle.krs_world.specs.declared.view.Cell.TheVariants.{Empty}
+use Rattle.krs_world.specs.declared.view.Part.{Part}
+use Rattle.krs_world.specs.declared.view.Standing.{Standing}
+use Rattle.krs_world.specs.declared.view.Standing.TheVariants.{Spent, One}
+use Rattle.krs_world.specs.declared.view.View.{View}
+use Rattle.krs_world.specs.Knowing.{events_of, view, one, taken, missed, put_own}
+use Rattle.krs_world.specs.Knowing.{put_none, loaded}
+use Rattle.krs_world.specs.History.{Fits, Known, Stands}
+use Rattle.krs_world.specs.History.{OneHistory}
+pub use Rattle.krs_world.proofs.Lanes.{prefix_self, prefix_more, prefix_trans, prefix_both, events_prefix, own_event}
+pub use Rattle.krs_world.proofs.Lanes.{other_event, at_set, set_at, set_else, snoc_at, snoc_end, at_snoc, seen_set}
+pub use Rattle.krs_world.proofs.Lanes.{held_set, seen_snoc, held_snoc, each_set, others_stand, celled_here}
+pub use Rattle.krs_world.proofs.Lanes.{celled_else, fits_more, fits_same, empty_if_idle, idle_mine}
+use Rattle.krs_world.specs.History.{IsSeated}
+use Rattle.krs_world.proofs.Places.{seated_set, dealing_set}
+
+-- Steps of one lane's seat.
+
+module _ (a : State) (views : List View) (id : ℕ) (p : Part) (at : get_elem? views id ≡ some (one a p)) where
+  pub own : (turn : ℕ) (home : Option State) (cell : ℕ → Cell) → (o : OneHistory a turn home cell views)
+      → Known o.log turn o.holder o.dealt o.seat cell o.serving id p
+  own turn home cell o = o.each id (one a p) at
+
+  views_open : (turn : ℕ) (home : Option State) (cell : ℕ → Cell) → OneHistory a turn home cell views
+      → (st : Standing) → (j : ℕ) (v : View) → get_elem? (set views id (view a st)) j ≡ some v → (v.stands ≡ Spent)
+      ⊎ (v.opening ≡ a)
+  views_open turn home cell o st = each_set (λ j v. (v.stands ≡ Spent) ⊎ (v.opening ≡ a)) views id (view a st)
+      (inr refl) (λ j v _ e. o.openings j v e)
+
+  -- each lane has its seat as before, where this one is its lane's still
+  seats_stay : (turn : ℕ) (home : Option State) (cell : ℕ → Cell) (o : OneHistory a turn home cell views) (q : Part)
+      → q.lane ≡ p.lane → (lane : ℕ) → lane < o.dealt → IsSeated lane (o.seat lane) (set views id (one a q))
+  seats_stay turn home cell o q same lane lt = seated_set lane (o.seat lane) views id (one a p) (one a q) at
+      (λ is. same ∙ is) (o.seated lane lt)
+
+  -- the turn was free, and is had
+  pub takes : (home home' : Option State) (cell : ℕ → Cell) → (o : OneHistory a 0 home cell views) → p.holding ≡ None
+      → OneHistory a 1 home' cell (set views id (one a (taken p o.log)))
+  takes home home' cell o none = let k = own 0 home cell o in
+      let quiet : o.serving ≡ None = o.unserved (λ e. omega arith) in record {
+        log = o.log;
+        last = o.last;
+        holder = id;
+        dealt = o.dealt;
+        seat = o.seat;
+        serving = o.serving;
+        held = λ _. (one a (taken p o.log), set_at views id (one a (taken p o.log)) (one a p) at, refl);
+        word = omega arith;
+        longest = λ n. absurd (n refl);
+        legal = o.legal;
+        at_home = λ n. absurd (n refl);
+        opener = λ n. absurd (omega arith);
+        young = λ n. absurd (omega arith);
+        unserved = λ n. absurd (n refl);
+        seated = seats_stay 0 home cell o (taken p o.log) refl;
+        undealt = o.undealt;
+        serves = o.serves;
+        served = o.served;
+        openings = views_open 0 home cell o (One (taken p o.log));
+        each = each_set (λ j v. Stands o.log 1 id o.dealt o.seat cell o.serving j v.stands) views id
+            (one a (taken p o.log))
+            record {
+              at = k.at;
+              given = k.given;
+              seen = k.seen;
+              base = prefix_self o.log;
+              calls = k.calls;
+              fits = fits_same o.log p (taken p o.log) refl refl refl refl (cell p.lane) k.fits;
+              holding = λ l e. record { out = refl; here = refl; whole = cc; same_service = k.unheld none ∙ sym quiet };
+              unheld = λ e. k.unheld none;
+            }
+            (λ j v not e. others_stand o.log o.log 0 1 o.holder id o.dealt o.dealt o.seat o.seat cell cell o.serving
+            o.serving j
+            (λ q h. record {
+              at = h.at;
+              given = h.given;
+              seen = h.seen;
+              base = h.base;
+              calls = h.calls;
+              fits =
+                  h.fits;
+              holding = λ l is. let t = (h.holding l is).out in absurd (omega arith);
+              unheld = h.unheld;
+            })
+            (λ t. absurd (omega arith)) v.stands (o.each j v e));
+      }
+
+  -- a step that changes no word and no list
+  pub stays : (turn : ℕ) (home : Option State) (cell : ℕ → Cell) (o : OneHistory a turn home cell views) (q : Part)
+      → q.lane ≡ p.lane → q.holding ≡ p.holding → (p.seen ≡ o.log → q.seen ≡ o.log)
+      → Known o.log turn o.holder o.dealt o.seat cell o.serving id q
+      → OneHistory a turn home cell (set views id (one a q))
+  stays turn home cell o q same holds sees k = record {
+    log = o.log;
+    last = o.last;
+    holder = o.holder;
+    dealt = o.dealt;
+    seat = o.seat;
+    serving = o.serving;
+    held = λ n. held_set o.log o.holder views id (one a p) (one a q) at (λ h. holds ∙ h) (o.held n);
+    longest = λ n. seen_set o.log views id (one a p) (one a q) at sees (o.longest n);
+    legal = o.legal;
+    word = o.word;
+    at_home = o.at_home;
+    opener = λ n. dealing_set o.dealt o.holder views id (one a p) (one a q) at (λ is. absurd cc) (o.opener n);
+    young = o.young;
+    unserved = o.unserved;
+    seated = seats_stay turn home cell o q same;
+    undealt = o.undealt;
+    serves = o.serves;
+    served = o.served;
+    openings = views_open turn home cell o (One q);
+    each = each_set (λ j v. Stands o.log turn o.holder o.dealt o.seat cell o.serving j v.stands) views id (one a q) k
+        (λ j v _ e. o.each j v e);
+  }
+
+  pub misses : (turn : ℕ) (home : Option State) (cell : ℕ → Cell) (o : OneHistory a turn home cell views)
+      → OneHistory a turn home cell (set views id (one a (missed p)))
+  misses turn home cell o = let k = own turn home cell o in stays turn home cell o (missed p) refl refl (λ e. e) record {
+    at = k.at;
+    given = k.given;
+    seen = k.seen;
+    base = k.base;
+    calls = k.calls;
+    fits = fits_same o.log p (missed p) refl refl refl refl (cell p.lane) k.fits;
+    holding = λ l is. let h = k.holding l is in record {
+      out = h.out;
+      here = h.here;
+      whole = h.whole;
+      same_service = h.same_service;
+    };
+    unheld = k.unheld;
+  }
+
+  -- the seat sees more of the list
+  pub loads : (turn : ℕ) (home : Option State) (cell : ℕ
+      → Cell) (l : List Event) (o : OneHistory a turn home cell views) → Begins p.seen l → Begins l o.log
+      → OneHistory a turn home cell (set views id (one a (loaded p l)))
+  loads turn home cell l o more begins = let k = own turn home cell o in
+      stays turn home cell o (loaded p l) refl refl
+      (λ e. prefix_both l o.log begins (subst (λ (x : List Event). Begins x l) e more)) record {
+        at = k.at;
+        given = k.given;
+        seen = begins;
+        base = k.base;
+        calls = prefix_trans p.mine (events_of p.lane p.seen) (events_of p.lane l) k.calls
+            (events_prefix p.lane p.seen l more);
+        fits = fits_same o.log p (loaded p l) refl refl refl refl (cell p.lane) k.fits;
+        holding = λ x is. let h = k.holding x is in record {
+          out = h.out;
+          here = h.here;
+          whole = h.whole;
+          same_service = h.same_service;
+        };
+        unheld = k.unheld;
+      }
+
+  -- the holder adds the event of its own call to the list, and brings the store home
+  pub puts : (turn : ℕ) (home : Option State) (cell : ℕ → Cell) (log : List Event) (e : Event) (last next : State)
+      → (o : OneHistory a turn home cell views) → p.holding ≡ Some log → p.serving ≡ None → p.flight ≡ None
+      → IsLegal a log last → Step last e next → e.lane ≡ p.lane → (turn ≡ 1)
+      × OneHistory a 0 (Some next) cell (set views id (one a (put_own p log e)))
+  puts turn home cell log e last next o held idle quiet legal step lane = let k = own turn home cell o in
+      let t = k.holding log held in let all : log ≡ o.log = t.whole in let out : turn ≡ 1 = t.out in
+      let w : View = one a (put_own p log e) in let none : o.serving ≡ None = sym t.same_service ∙ idle in
+      let empty : cell p.lane ≡ Empty = empty_if_idle p o.log (cell p.lane) quiet k.fits in
+      let fits : Fits o.log p Empty = subst (Fits o.log p) empty k.fits in
+      let mine : events_of p.lane (log ++ e ∷ []) ≡ p.mine ++ e ∷ [] = own_event p.lane log e lane
+      ∙ ap (λ l. l ++ e ∷ []) (ap (events_of p.lane) all ∙ fits.1) in
+      let more : (q : Part) → q.lane ≢ p.lane → Fits o.log q (cell q.lane) → Fits (log ++ e ∷ []) q (cell q.lane) =
+      λ q other f.
+      subst (λ l. Fits (l ++ e ∷ []) q (cell q.lane)) (sym all) (fits_more o.log e q (λ same. other (sym same ∙ lane))
+      (cell q.lane) f) in (
+        out,
+        record {
+          log = log ++ e ∷ [];
+          last = next;
+          holder = o.holder;
+          dealt = o.dealt;
+          seat = o.seat;
+          serving = o.serving;
+          word = omega arith;
+          held = λ n. absurd (omega arith);
+          longest = λ n. inr (id, w, set_at views id w (one a p) at, refl);
+          legal = legal_more a last next log e legal step;
+          at_home = λ _. refl;
+          opener = λ n. absurd (omega arith);
+          young = λ n. absurd (omega arith);
+          unserved = λ _. none;
+          seated = seats_stay turn home cell o (put_own p log e) refl;
+          undealt = λ l le. let u = o.undealt l le in let g = k.given in (
+            u.0,
+            other_event l log e (λ is. let same : p.lane ≡ l = sym lane ∙ is in omega arith) ∙ (ap (events_of l) all ∙ u.1),
+          );
+          serves = o.serves;
+          served = o.served;
+          openings = views_open turn home cell o (One (put_own p log e));
+          each = each_set (λ j v. Stands (log ++ e ∷ []) 0 o.holder o.dealt o.seat cell o.serving j v.stands) views id w
+              record {
+                at = k.at;
+                given = k.given;
+                seen = prefix_self (log ++ e ∷ []);
+                base = subst (λ l. Begins p.base (l ++ e ∷ [])) (sym all) (prefix_more p.base o.log (e ∷ []) k.base);
+                calls = subst (Begins (p.mine ++ e ∷ [])) (sym mine) (prefix_self (p.mine ++ e ∷ []));
+                fits = subst (Fits (log ++ e ∷ []) (put_own p log e)) (sym empty) (quiet, mine, fits.2);
+                holding = λ l is. absurd cc;
+                unheld = λ _. idle;
+              }
+              (λ j v not at'. others_stand o.log (log ++ e ∷ []) turn 0 o.holder o.holder o.dealt o.dealt o.seat
+              o.seat cell cell o.serving o.serving j
+              (λ q h. record {
+                at = h.at;
+                given = h.given;
+                seen = subst (λ l. Begins q.seen (l ++ e ∷ [])) (sym all) (prefix_more q.seen o.log (e ∷ []) h.seen);
+                base = subst (λ l. Begins q.base (l ++ e ∷ [])) (sym all) (prefix_more q.base o.log (e ∷ []) h.base);
+                calls = h.calls;
+                fits = more q (λ same. not (sym h.at ∙ (ap o.seat same ∙ k.at))) h.fits;
+                holding = λ l is. let u = h.holding l is in absurd (not (u.here ∙ sym t.here));
+                unheld = h.unheld;
+              })
+              (λ two is. absurd (let n : 1 ≡ 2 = sym out ∙ two in omega arith)) v.stands (o.each j v at'));
+        },
+      )
+
+  -- the holder brings the store home, with no call of its own
+  pub puts_none : (turn : ℕ) (home : Option State) (cell : ℕ → Cell) (log : List Event) (last : State)
+      (o : OneHistory a turn home cell views) → p.holding ≡ Some log → p.serving ≡ None → IsLegal a log last
+      → (turn ≡ 1) × OneHistory a 0 (Some last) cell (set views id (one a (put_none p log)))
+  puts_none turn home cell log last o held idle legal = let k = own turn home cell o in let t = k.holding log held in
+      let all : log ≡ o.log = t.whole in let out : turn ≡ 1 = t.out in let w : View = one a (put_none p log) in (
+        out,
+        record {
+          log = o.log;
+          last = last;
+          holder = o.holder;
+          dealt = o.dealt;
+          seat = o.seat;
+          serving = o.serving;
+          word = omega arith;
+          held = λ n. absurd (omega arith);
+          longest = λ n. inr (id, w, set_at views id w (one a p) at, all);
+          legal = subst (λ l. IsLegal a l last) all legal;
+          at_home = λ _. refl;
+          opener = λ n. absurd (omega arith);
+          young = λ n. absurd (omega arith);
+          unserved = λ _. sym t.same_service ∙ idle;
+          seated = seats_stay turn home cell o (put_none p log) refl;
+          undealt = o.undealt;
+          serves = o.serves;
+          served = o.served;
+          openings = views_open turn home cell o (One (put_none p log));
+          each = each_set (λ j v. Stands o.log 0 o.holder o.dealt o.seat cell o.serving j v.stands) views id w
+              record {
+                at = k.at;
+                given = k.given;
+                seen = subst (λ l. Begins l o.log) (sym all) (prefix_self o.log);
+                base = k.base;
+                calls = prefix_trans p.mine (events_of p.lane p.seen) (events_of p.lane log) k.calls
+                    (events_prefix p.lane p.seen log (subst (Begins p.seen) (sym all) k.seen));
+                fits = fits_same o.log p (put_none p log) refl refl refl refl (cell p.lane) k.fits;
+                holding = λ l is. absurd cc;
+                unheld = λ _. idle;
+              }
+              (λ j v not e. others_stand o.log o.log turn 0 o.holder o.holder o.dealt o.dealt o.seat o.seat cell cell
+              o.serving o.serving j
+              (λ q h. record {
+                at = h.at;
+                given = h.given;
+                seen = h.seen;
+                base = h.base;
+                calls = h.calls;
+                fits = h.fits;
+                holding = λ l is. let u = h.holding l is in absurd (not (u.here ∙ sym t.here));
+                unheld = h.unheld;
+              })
+              (λ two is. absurd (let n : 1 ≡ 2 = sym out ∙ two in omega arith)) v.stands (o.each j v e));
+        },
+      )

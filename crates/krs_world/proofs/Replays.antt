@@ -1,0 +1,112 @@
+-- A list of events leads to one store, or can't have happened.
+use Rattle.std.proofs.Common.{◌≡◌, ℕ, ◌+◌, ◌<◌, List, [], ◌∷◌, ◌++◌, length, take, drop, get_or, Result, Ok, Err}
+use Rattle.std.proofs.Common.{refl, sym}
+use Rattle.std.proofs.Common.{ap, ◌∙◌, subst, suc, Bool, ⊎_elim, true, false}
+use Rattle.std.specs.Prelude.{◌≢◌, IsErr}
+use Rattle.std.proofs.lemmas.List.{take-append-drop}
+use Rattle.std.proofs.Math.Seq.{drop-cons}
+use Rattle.krs_types.specs.declared.errno.Errno.{Errno}
+use Rattle.krs_types.specs.declared.errno.Errno.TheVariants.{ENOMEM}
+use Rattle.krs_types.specs.declared.ask.Answer.{Answer}
+use Rattle.krs_types.specs.declared.ask.Ask.{Ask}
+use Rattle.krs_types.specs.declared.ask.Op.{Op}
+use Rattle.krs_types.specs.declared.event.Event.{Event}
+use Rattle.krs_types.specs.Growth.{grows_meanwhile}
+use Rattle.krs_model.specs.State.{State, raised}
+use Rattle.krs_model.specs.Outcome.{Outcome}
+use Rattle.krs_model.specs.Step.{Step, Ends, LacksMemory, outcome_of}
+use Rattle.krs_model.specs.History.{event_of}
+use Rattle.krs_model.proofs.Steps.{refusal_stays}
+use Rattle.krs_model.proofs.Determined.{one_step}
+use Rattle.krs_world.specs.Replay.{FoundNoMemory, Replayed, ReplaysTo, Replays}
+
+-- what is true isn't false
+pub no_both : (b : Bool) → b ≡ true → b ≡ false → ⊥
+no_both b holds fails = let both : true ≡ false = sym holds ∙ fails in cc
+
+-- the reply of what an ask comes to
+abbrev replied : Outcome → Result Answer Errno
+replied (Ok done) = Ok done.1
+replied (Err e) = Err e
+
+reply_is : (s new : State) (client context : ℕ) (op : Op) (reply : Result Answer Errno)
+    → Ends s client context op reply new → (reply ≡ Err ENOMEM → grows_meanwhile op ≡ true → ⊥)
+    → reply ≡ replied (outcome_of s client context op)
+reply_is s new client context op (Ok answer) ends not = sym (ap replied ends.meant)
+reply_is s new client context op (Err e) ends not =
+    let error : Errno → Result Answer Errno = λ x. Err x in
+    ⊎_elim (λ (meant : outcome_of s client context op ≡ Err e). sym (ap replied meant))
+    (λ (wanting : LacksMemory op e (outcome_of s client context op)). absurd (not (ap error wanting.0) wanting.1))
+    ends.0
+
+-- what is asked of a state is answered with one reply, unless an ask that may find no memory found none
+only_reply : (old a b : State) (e f : Event) → e.lane ≡ f.lane → e.moment ≡ f.moment → e.ask ≡ f.ask → Step old e a
+    → Step old f b → (FoundNoMemory e → ⊥) → f.reply ≢ Err ENOMEM → e.reply ≡ f.reply
+unfolding Step
+only_reply old a b e f lane moment ask first second memory other =
+    let meant : ℕ → ℕ → Ask → Outcome = λ n at_moment asked.
+    outcome_of (raised old at_moment) n asked.context asked.op in
+    let this : e.reply ≡ replied (meant e.lane e.moment e.ask) =
+    reply_is (raised old e.moment) a e.lane e.ask.context e.ask.op e.reply first (λ is grows. memory (is, grows)) in
+    let that : f.reply ≡ replied (meant f.lane f.moment f.ask) =
+    reply_is (raised old f.moment) b f.lane f.ask.context f.ask.op f.reply second (λ is _. other is) in
+    let same : meant e.lane e.moment e.ask ≡ meant f.lane f.moment f.ask =
+    ap (λ (n : ℕ). meant n e.moment e.ask) lane
+    ∙ (ap (λ (n : ℕ). meant f.lane n e.ask) moment ∙ ap (λ (x : Ask). meant f.lane f.moment x) ask) in
+    this ∙ (ap replied same ∙ sym that)
+
+-- an event that the store answers otherwise can't have happened
+pub answered_else : (old new other : State) (event : Event) (reply : Result Answer Errno)
+    → Step old (event_of event.lane event.moment event.ask reply) new → reply ≢ event.reply → reply ≢ Err ENOMEM
+    → (FoundNoMemory event → ⊥) → Replayed old event other → ⊥
+answered_else old new other event reply step differs memory found replayed = ⊎_elim
+    (λ (s : Step old event other). differs (sym (only_reply old other new event
+    (event_of event.lane event.moment event.ask reply) refl refl refl s step found memory)))
+    (λ (t : FoundNoMemory event × (other ≡ raised old event.moment)). found t.0) replayed
+
+-- an event leads to one state
+stays : (old new : State) (event : Event) → Step old event new → FoundNoMemory event → new ≡ raised old event.moment
+stays old new event step found =
+    refusal_stays old new event step (subst (λ (r : Result Answer Errno). IsErr r) (sym found.0) refl)
+
+one_replayed : (old a b : State) (event : Event) → Replayed old event a → Replayed old event b → a ≡ b
+one_replayed old a b event f g = ⊎_elim
+    (λ (s : Step old event a). ⊎_elim (λ (t : Step old event b). one_step old a b event s t)
+    (λ (t : FoundNoMemory event × (b ≡ raised old event.moment)). stays old a event s t.0 ∙ sym t.1) g)
+    (λ (s : FoundNoMemory event × (a ≡ raised old event.moment)). ⊎_elim
+    (λ (t : Step old event b). s.1 ∙ sym (stays old b event t s.0))
+    (λ (t : FoundNoMemory event × (b ≡ raised old event.moment)). s.1 ∙ sym t.1) g) f
+
+-- one event more
+replays_more : (start mid next : State) (events : List Event) (event : Event) → ReplaysTo start events mid
+    → Replayed mid event next → ReplaysTo start (events ++ event ∷ []) next
+replays_more start mid next [] event r step = (next, subst (λ (s : State). Replayed s event next) (sym r) step, refl)
+replays_more start mid next (x ∷ xs) event r step = (r.0, r.1, replays_more r.0 mid next xs event r.2 step)
+
+-- what happened after a beginning
+replays_on : (start mid end : State) (xs ys : List Event) (event : Event) → ReplaysTo start xs mid
+    → ReplaysTo start (xs ++ event ∷ ys) end → (next : State) × Replayed mid event next
+replays_on start mid end [] ys event r all = (all.0, subst (λ (s : State). Replayed s event all.0) r all.1)
+replays_on start mid end (x ∷ xs) ys event r all =
+    let same : all.0 ≡ r.0 = one_replayed start all.0 r.0 x all.1 r.1 in
+    replays_on r.0 mid end xs ys event r.2 (subst (λ (s : State). ReplaysTo s (xs ++ event ∷ ys) end) same all.2)
+
+-- The same, by places in the list.
+
+pub further : (start mid next : State) (events : List Event) (i : ℕ) (event : Event)
+    → take (i + 1) events ≡ take i events ++ event ∷ [] → ReplaysTo start (take i events) mid → Replayed mid event next
+    → ReplaysTo start (take (i + 1) events) next
+further start mid next events i event is so_far step =
+    subst (λ (l : List Event). ReplaysTo start l next) (sym is) (replays_more start mid next
+    (take i events) event so_far step)
+
+pub stops : (start mid : State) (events : List Event) (i : ℕ) (event : Event) → i < length events
+    → event ≡ get_or events i event → ReplaysTo start (take i events) mid
+    → ((other : State) → Replayed mid event other → ⊥) → Replays start events → ⊥
+stops start mid events i event within is so_far never all =
+    let split : take i events ++ event ∷ drop (suc i) events ≡ events =
+    (λ j. take i events ++ is j ∷ drop (suc i) events)
+    ∙ (ap (λ (l : List Event). take i events ++ l) (sym (drop-cons events i event within))
+    ∙ take-append-drop i events) in
+    let on = replays_on start mid all.0 (take i events) (drop (suc i) events) event so_far
+    (subst (λ (l : List Event). ReplaysTo start l all.0) (sym split) all.1) in never on.0 on.1

@@ -1,0 +1,31 @@
+use Rattle.std.proofs.Common.{rules, arith, ◌≡◌, ◌+◌, ◌<◌, Bool, true, false, [], ◌∷◌, ◌++◌, length, take, sym, ◌∙◌}
+use Rattle.std.proofs.Common.{subst}
+use Rattle.std.proofs.lemmas.List.{take_more}
+use Rattle.krs_model.specs.State.{State, starting_at}
+use Rattle.krs_world.specs.Replay.{Replayed, IsReplayedBy}
+use Rattle.krs_world.proofs.Replays.{further, stops}
+use Rattle.krs_world.proofs.replay.replay_check.Goals as goal
+
+pub returns-then-not-happened-clause-replayed : goal.returns-then-not-happened-clause-replayed
+returns-then-not-happened-clause-replayed c = let events = c.args.events.now in let i = c.loop-event.event-index in
+    let event = c.event-item.result in let within : i < length events = omega arith in
+    let not : c.in_ok-happened.happened ≡ false = search rules in
+    let never : (other : State) → Replayed c.loop-event.store event other → ⊥ =
+    subst (λ (b : Bool). IsReplayedBy c.loop-event.store event b c.replay.new.store) not
+    c.in_ok-happened.ensures.replayed in (
+      λ holds. absurd (let both : false ≡ true = holds in cc),
+      λ all. absurd
+          (stops (starting_at 3) c.loop-event.store events i event within c.event-item.is c.loop-event.invariant never
+          all),
+    )
+
+pub loop-event-preserved : goal.loop-event-preserved
+loop-event-preserved c = let events = c.args.events.now in let i = c.loop-event.event-index in
+    let event = c.event-item.result in let within : i < length events = omega arith in
+    let so : c.in_ok-happened.happened ≡ true = search rules in
+    let step : Replayed c.loop-event.store event c.replay.new.store =
+    subst (λ (b : Bool). IsReplayedBy c.loop-event.store event b c.replay.new.store) so
+    c.in_ok-happened.ensures.replayed in
+    let more : take (i + 1) events ≡ take i events ++ event ∷ [] =
+    take_more events i event within ∙ (λ j. take i events ++ sym c.event-item.is j ∷ []) in
+    further (starting_at 3) c.loop-event.store c.replay.new.store events i event more c.loop-event.invariant step

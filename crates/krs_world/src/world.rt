@@ -1,0 +1,216 @@
+//! The machine: it runs the steps, and a contract sees what every seat knows.
+ghost use Rattle.std.specs.Prelude.{◌≡◌, ◌≤◌, Some, None, IfOk, IfErr};
+ghost use Rattle.krs_world.specs.declared.step.Kind.TheVariants.{Take, TakeFound, Put, Load};
+ghost use Rattle.krs_world.specs.World.{new_world, MovesBy, RefusedBy};
+
+use crate::{Kind, WorldStep};
+use krs_store::Store;
+use krs_types::{Ask, Errno, Event};
+use std::alloc::{AllocError, Global};
+use std::marker::Model;
+
+/// What a seat knows, by lengths of the history.
+#[derive(Clone, Copy)]
+pub(crate) struct Lane {
+    lane: u32,
+    seen: usize,
+    base: usize,
+    holding: bool,
+    taken: u64,
+    found: u64,
+}
+
+/// Seats of lanes over one store, with the list of all calls. No store is copied, and no event: what a seat has seen
+/// is a length of the list.
+#[derive(Drop)]
+pub struct World {
+    store: Store,
+    out: Option<u32>,
+    log: Vec<Event>,
+    lanes: Vec<Lane>,
+}
+
+impl Model for World {
+    ghost use Rattle.krs_world.specs.World as world;
+    ghost use Rattle.krs_world.specs.Kept.{world_of, IsKept};
+
+    ghost Value = { world.World };
+
+    ghost view = { λ w. world_of w.store w.out w.log.items w.lanes.items };
+
+    ghost invariant = { λ w. IsKept w.store w.out w.log.items w.lanes.items };
+}
+
+impl World {
+    /// Seats of so many lanes, over a new store.
+    pub fn new(alloc: Global, lanes: u32) -> Result<World, AllocError>
+        requires { 1 ≤ lanes }
+        ensures { IfOk result (λ w. w ≡ new_world lanes) }
+    {
+        let mut seats = Vec::with_capacity(alloc, lanes as usize)?;
+        for lane in 0..lanes {
+            seats.push_reserved(Lane {
+                lane,
+                seen: 0,
+                base: 0,
+                holding: false,
+                taken: 0,
+                found: 0,
+            });
+        }
+        Ok(World {
+            store: Store::new(alloc),
+            out: None,
+            log: Vec::new(alloc),
+            lanes: seats,
+        })
+    }
+
+    /// One step: true where it was made, false where it isn't possible. A put serves its ask by the store at home, and
+    /// its reply is what that store answers, ENOMEM too. ENOSPC where the step would raise a number that is the
+    /// greatest already; ENOMEM where there is no memory for the event of a call.
+    pub fn step(&mut self, step: WorldStep) -> Result<bool, Errno>
+        ensures moved { IfOk result (λ done. MovesBy self.old step.lane step.kind done self.new) }
+        ensures refused { IfErr result (λ error. RefusedBy self.old step.lane step.kind error self.new) }
+    {
+        let lane = step.lane;
+        match step.kind {
+            Kind::Take => self.take(lane),
+            Kind::TakeFound => self.take_found(lane),
+            Kind::Put(Some((moment, ask))) => self.put(lane, moment, ask),
+            Kind::Put(None) => Ok(self.put_none(lane)),
+            Kind::Load(seen) => Ok(self.load(lane, seen)),
+        }
+    }
+
+    // The lane's seat has the turn, where it is free.
+    fn take(&mut self, lane: u32) -> Result<bool, Errno>
+        ensures moved { IfOk result (λ done. MovesBy self.old lane Take done self.new) }
+        ensures refused { IfErr result (λ error. RefusedBy self.old lane Take error self.new) }
+    {
+        let None = self.out else {
+            return Ok(false);
+        };
+        let at = lane as usize;
+        let Some(seat) = self.lanes.get(at) else {
+            return Ok(false);
+        };
+        let Some(taken) = seat.taken.checked_add(1) else {
+            return Err(Errno::ENOSPC);
+        };
+        let seat = Lane {
+            taken,
+            holding: true,
+            base: self.log.len(),
+            ..*seat
+        };
+        self.lanes[at] = seat;
+        self.out = Some(lane);
+        Ok(true)
+    }
+
+    // The lane's seat finds the turn out at another.
+    fn take_found(&mut self, lane: u32) -> Result<bool, Errno>
+        ensures moved { IfOk result (λ done. MovesBy self.old lane TakeFound done self.new) }
+        ensures refused { IfErr result (λ error. RefusedBy self.old lane TakeFound error self.new) }
+    {
+        let Some(holder) = self.out else {
+            return Ok(false);
+        };
+        if holder == lane {
+            return Ok(false);
+        }
+        let at = lane as usize;
+        let Some(seat) = self.lanes.get(at) else {
+            return Ok(false);
+        };
+        let Some(found) = seat.found.checked_add(1) else {
+            return Err(Errno::ENOSPC);
+        };
+        let seat = Lane { found, ..*seat };
+        self.lanes[at] = seat;
+        Ok(true)
+    }
+
+    // The holder brings the store home as it was.
+    fn put_none(&mut self, lane: u32) -> bool
+        ensures { MovesBy self.old lane (Put None) result self.new }
+    {
+        let Some(holder) = self.out else {
+            return false;
+        };
+        if holder != lane {
+            return false;
+        }
+        let at = lane as usize;
+        let Some(seat) = self.lanes.get(at) else {
+            return false;
+        };
+        let seat = Lane {
+            seen: self.log.len(),
+            holding: false,
+            ..*seat
+        };
+        self.lanes[at] = seat;
+        self.out = None;
+        true
+    }
+
+    // The holder has its ask served, and brings the store home.
+    fn put(&mut self, lane: u32, moment: u64, ask: Ask) -> Result<bool, Errno>
+        ensures moved { IfOk result (λ done. MovesBy self.old lane (Put (Some (moment, ask))) done self.new) }
+        ensures refused { IfErr result (λ error. RefusedBy self.old lane (Put (Some (moment, ask))) error self.new) }
+    {
+        let Some(holder) = self.out else {
+            return Ok(false);
+        };
+        if holder != lane {
+            return Ok(false);
+        }
+        let at = lane as usize;
+        let Some(seat) = self.lanes.get(at) else {
+            return Ok(false);
+        };
+        let seat = *seat;
+        let alloc = *self.log.allocator();
+        let Ok(copy) = ask.copy(alloc) else {
+            return Err(Errno::ENOMEM);
+        };
+        let Ok(()) = self.log.reserve(1) else {
+            return Err(Errno::ENOMEM);
+        };
+        let reply = self.store.apply(lane, moment, ask);
+        self.log.push_reserved(Event {
+            lane,
+            moment,
+            ask: copy,
+            reply,
+        });
+        self.lanes[at] = Lane {
+            seen: self.log.len(),
+            holding: false,
+            ..seat
+        };
+        self.out = None;
+        Ok(true)
+    }
+
+    // The lane's seat has seen the history up to this length.
+    fn load(&mut self, lane: u32, seen: usize) -> bool
+        ensures { MovesBy self.old lane (Load seen) result self.new }
+    {
+        let at = lane as usize;
+        let Some(seat) = self.lanes.get(at) else {
+            return false;
+        };
+        if seen < seat.seen {
+            return false;
+        }
+        if self.log.len() < seen {
+            return false;
+        }
+        let seat = Lane { seen, ..*seat };
+        self.lanes[at] = seat;
+        true
+    }
+}
