@@ -1,0 +1,11 @@
+use Rattle.std.proofs.Common.{rules, ap, sym, ◌∙◌}
+use mathlib.Core.Option.{some}
+use Rattle.krs_desk.proofs.Ending.{ends_in, ends_at}
+use Rattle.krs_desk.proofs.desk.Desk.close.Goals as goal
+
+pub returns : goal.returns
+returns c =
+    let closed = c.close_with-closed.ensures.values in
+    ends_at c.args.seat _ _ _ c.seat.view_is
+        (ends_in _ _ _ c.seat.inside.token.me _ _ c.in-Home.store c.seat.invariant.rests.0 closed.2
+            (c.word-turn.ensures ∙ ap some c.if-turn-ne0.false) (c.take-home.ensures.value ∙ ap some c.in-Home.is))
