@@ -1,5 +1,7 @@
 -- The rule of the table holds as it is made, and when the last seat has been dealt.
-use Rattle.std.proofs.Common.{◌≡◌, ℕ, zero, suc, ◌+◌, ◌<◌, List, [], ◌∷◌, ◌++◌, length, get_or, set, Option, Some, refl, sym, ap, ◌∙◌, subst, All}
+use Rattle.std.proofs.Common.{◌≡◌, ℕ, zero, suc, ◌+◌, ◌<◌, List, [], ◌∷◌, ◌++◌, length, get_or, set, Option, Some}
+use Rattle.std.proofs.Common.{refl, sym, ap, ◌∙◌, subst, All}
+use Rattle.std.proofs.lemmas.List.Elements.{All-nil, All-push, All-same}
 use mathlib.Core.Option.{none, some}
 use Rattle.atomic_table.specs.Seated.{TableId}
 use Rattle.atomic_table.specs.Table.{opening, step, keeps, Allows}
@@ -15,6 +17,7 @@ use Rattle.krs_desk.specs.declared.place.Place.{Place}
 use Rattle.krs_desk.specs.declared.place.Place.TheVariants.{Home}
 use Rattle.krs_desk.specs.Rule.{InOneOrder, first_view, AreZero}
 use Rattle.krs_desk.specs.Told.{opens_told}
+use Rattle.krs_desk.specs.Sitting.{Sitting, fresh_seat, fresh_seats}
 use Rattle.krs_desk.specs.Seated.{Me}
 use Rattle.krs_desk.proofs.Steps.{turn, moved}
 use Rattle.krs_desk.proofs.Joining.{opening_is}
@@ -44,7 +47,9 @@ pub opens_at :
     (key a : State) (n : ℕ) (slots id : ℕ) (m : Me) → m ≡ (view a (Opening n), [])
     → Allows (InOneOrder key) slots id m 0 (λ _. 0) (λ _. opens_told (step slots 0 0 0 none) m 0)
 opens_at key a n slots id m is =
-    subst (λ (z : Me). Allows (InOneOrder key) slots id z 0 (λ _. 0) (λ _. opens_told (step slots 0 0 0 none) z 0)) (sym is)
+    subst
+    (λ (z : Me). Allows (InOneOrder key) slots id z 0 (λ _. 0) (λ _. opens_told (step slots 0 0 0 none) z 0))
+    (sym is)
     (λ s r len at small.
     let e : a ≡ key = opening_is key a (Opening n) s id r at (λ e. cc) in
     let from = subst (λ (k : State). OneHistory k (turn s) r.home r.cell s.views) (sym e) r.history in
@@ -56,3 +61,16 @@ opens_at key a n slots id m is =
       moved key s r 0 views (subst (λ (b : State). OneHistory b 0 r.home r.cell views) e h),
       refl,
     ))
+
+fresh_fit : (table : TableId) (a : State) (n : ℕ) → All (λ (s : Sitting). s.table ≡ table) (fresh_seats table a n)
+fresh_fit table a zero = All-nil (λ (s : Sitting). s.table ≡ table)
+fresh_fit table a (suc n) =
+    All-push (λ (s : Sitting). s.table ≡ table) (fresh_seats table a n) (fresh_seat table a n) (fresh_fit table a n)
+        refl
+
+-- every seat that is dealt fits the desk
+pub all_fit :
+    (table : TableId) (a : State) (n : ℕ) (xs : List Sitting) → xs ≡ fresh_seats table a n
+    → All (λ (s : Sitting). s.table ≡ table) xs
+all_fit table a n xs is =
+    All-same (λ (s : Sitting). s.table ≡ table) xs (fresh_seats table a n) is (fresh_fit table a n)

@@ -48,6 +48,6 @@ ends_in key id table m ws xs store is f stands has =
     }
 
 pub ends_at :
-    (s : Sitting) (table : TableId) (m : Me) (store : State) → sitting_of table m ≡ s → EndsIn (sitting_of table m) store
-    → EndsIn s store
+    (s : Sitting) (table : TableId) (m : Me) (store : State) → sitting_of table m ≡ s
+    → EndsIn (sitting_of table m) store → EndsIn s store
 ends_at s table m store is ends = subst (λ (z : Sitting). EndsIn z store) is ends

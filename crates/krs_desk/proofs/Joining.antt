@@ -1,5 +1,6 @@
 -- Splitting a token, joining two, and the look of a token of two lanes keep the rule of the table.
-use Rattle.std.proofs.Common.{◌≡◌, ◌≢◌, ℕ, ◌+◌, List, [], ◌∷◌, ◌++◌, set, Option, Some, None, ⊎_elim, refl, sym, ap, ◌∙◌, subst}
+use Rattle.std.proofs.Common.{◌≡◌, ◌≢◌, ℕ, ◌+◌, List, [], ◌∷◌, ◌++◌, set, Option, Some, None, ⊎_elim, refl, sym, ap}
+use Rattle.std.proofs.Common.{◌∙◌, subst}
 use mathlib.Core.Option.{none, some}
 use lib.ListN.{get_elem?}
 use Rattle.atomic_table.specs.Table.{step, keeps, Allows, Splits, Joins}
@@ -55,7 +56,8 @@ pub cuts_one :
     (key a : State) (p : Part) (id : ℕ)
     → Splits (InOneOrder key) id (one a p) (kept_view (one a p)) (given_view (one a p))
 cuts_one key a p id =
-    cuts key a (One p) id (λ e. cc) (λ turn home cell views o at. seating.spares a turn home cell views id (one a p) o at)
+    cuts key a (One p) id (λ e. cc)
+    (λ turn home cell views o at. seating.spares a turn home cell views id (one a p) o at)
 
 pub cuts_two :
     (key a : State) (p q : Part) (id : ℕ)
@@ -149,11 +151,13 @@ looks_at key a p q slots id m is =
 -- Tokens after a split, a join and a look.
 
 pub kept_is :
-    (a : State) (st : Standing) (m n : Me) → m ≡ (view a st, []) → n ≡ (kept_view m.0, m.1) → n ≡ (view a (kept_of st), [])
+    (a : State) (st : Standing) (m n : Me) → m ≡ (view a st, []) → n ≡ (kept_view m.0, m.1)
+    → n ≡ (view a (kept_of st), [])
 kept_is a st m n is e = e ∙ ap (λ (k : Me). (kept_view k.0, k.1)) is
 
 pub given_is :
-    (a : State) (st : Standing) (m n : Me) → m ≡ (view a st, []) → n ≡ (given_view m.0, []) → n ≡ (view a (given_of st), [])
+    (a : State) (st : Standing) (m n : Me) → m ≡ (view a st, []) → n ≡ (given_view m.0, [])
+    → n ≡ (view a (given_of st), [])
 given_is a st m n is e = e ∙ ap (λ (k : Me). (given_view k.0, [])) is
 
 pub both_is :

@@ -1,5 +1,6 @@
 -- Seats after a call, a missed turn, and a meeting: what holds of them, and what their callers are told.
-use Rattle.std.proofs.Common.{◌≡◌, ℕ, zero, suc, ◌+◌, List, [], ◌∷◌, ◌++◌, Some, None, refl, sym, ap, ◌∙◌, subst, append-nil}
+use Rattle.std.proofs.Common.{◌≡◌, ℕ, zero, suc, ◌+◌, List, [], ◌∷◌, ◌++◌, Some, None, refl, sym, ap, ◌∙◌, subst}
+use Rattle.std.proofs.Common.{append-nil}
 use Rattle.atomic_table.specs.Seated.{TableId}
 use Rattle.krs_types.specs.declared.ask.Ask.{Ask}
 use Rattle.krs_types.specs.declared.event.Event.{Event}
@@ -64,10 +65,10 @@ called m n w log e c is put =
     put log (ap (λ (k : Me). (part k).holding) is) ∙ ap (λ (k : Me). (one (opening k) (put_own (part k) log e), [])) is
 
 pub called_seated :
-    (lane : ℕ) (m n : Me) (log : List Event) (e : Event) (last next : State) → IsSeated lane m
-    → n ≡ (one (opening m) (put_own (taken (part m) log) log e), []) → IsLegal (opening m) log last
+    (lane : ℕ) (m n : Me) (log : List Event) (said e : Event) (last next : State) → IsSeated lane m
+    → n ≡ (one (opening m) (put_own (taken (part m) log) log said), []) → said ≡ e → IsLegal (opening m) log last
     → Step last e next → IsSeated lane n
-called_seated lane m n log e last next seated is legal does =
+called_seated lane m n log said e last next seated is says legal does =
     subst (λ (z : Me). IsSeated lane z) (sym is)
     record {
       rests = (refl, refl);
@@ -76,7 +77,9 @@ called_seated lane m n log e last next seated is legal does =
       numbered = seated.numbered;
       sound = seated.sound;
       last = next;
-      legal = legal_more (opening m) last next log e legal does;
+      legal =
+          subst (λ (x : Event). IsLegal (opening m) (log ++ x ∷ []) next) (sym says)
+          (legal_more (opening m) last next log e legal does);
     }
 
 adds :

@@ -37,12 +37,14 @@ next_step a b c xs x rest front whole =
 
 pub not_read_revoked :
     (a end : State) (seen : List Event) → StaysUnread a → IsLegal a seen end → IsNotReadRevoked a seen
-not_read_revoked a end seen unread legal before later rest revoking reading old late serial is to_old revokes to_late reads =
+not_read_revoked
+    a end seen unread legal before later rest revoking reading old late serial is to_old revokes to_late reads =
     let revoked = next_step a old late before revoking later to_old to_late in
     let read =
-        next_step a late end (before ++ revoking ∷ later) reading rest to_late
-            (subst (λ (l : List Event). IsLegal a l end) is legal) in
-    unread before old to_old revoking revoked.0 serial revoked.1 revokes later late revoked.2 reading read.0 read.1 reads
+    next_step a late end (before ++ revoking ∷ later) reading rest to_late
+    (subst (λ (l : List Event). IsLegal a l end) is legal) in
+    unread before old to_old revoking revoked.0 serial revoked.1 revokes later late revoked.2 reading read.0 read.1
+    reads
 
 pub gives_its_streams :
     (a end : State) (seen : List Event) → IsSound a → IsLegal a seen end → GivesItsStreams a seen
@@ -52,6 +54,6 @@ gives_its_streams a end seen sound legal q capacity =
       end = end;
       moves = some.0;
       from = some.1;
-      still_open = λ queue opened open. gives.still_open end seen some.0 q capacity queue some.1 opened open;
+      still_open = λ queue opened stays. gives.still_open end seen some.0 q capacity queue some.1 opened stays;
       begun = λ opened. gives.begun end seen some.0 q capacity some.1 opened;
     }

@@ -1,5 +1,7 @@
 -- The steps of a call keep the rule of the table: taking the turn, finding it out, and giving it back.
-use Rattle.std.proofs.Common.{◌≡◌, ◌≢◌, ℕ, ◌+◌, ◌<◌, ◌==◌, eqb, List, [], ◌∷◌, ◌++◌, length, get_or, set, Option, Some, None, ⊎_elim, refl, sym, ap, ◌∙◌, subst, arith, eq-eqb, ne_eqb, length-set, get_or-set_same, get_or-set_other}
+use Rattle.std.proofs.Common.{◌≡◌, ◌≢◌, ℕ, ◌+◌, ◌<◌, ◌==◌, eqb, List, [], ◌∷◌, ◌++◌, length, get_or, set, Option}
+use Rattle.std.proofs.Common.{Some, None, ⊎_elim, refl, sym, ap, ◌∙◌, subst, arith, eq-eqb, ne_eqb, length-set}
+use Rattle.std.proofs.Common.{get_or-set_same, get_or-set_other}
 use mathlib.Core.Option.{none, some}
 use mathlib.Core.Option as maybe
 use mathlib.Core.Logic.{dite}
@@ -167,7 +169,8 @@ takes_at key slots id m is some_slot empty =
     let a : State = opening m in
     let p : Part = part m in
     subst
-    (λ (z : Me). Allows (InOneOrder key) slots id z 0 (λ n. either (eqb n 0) 1 n) (takes_told (step slots 0 0 1 none) z))
+    (λ (z : Me).
+    Allows (InOneOrder key) slots id z 0 (λ n. either (eqb n 0) 1 n) (takes_told (step slots 0 0 1 none) z))
     (sym is)
     (any_key key a slots id p [] (λ n. either (eqb n 0) 1 n) (takes_told (step slots 0 0 1 none) (one a p, []))
     (takes_allowed a slots id p some_slot empty))
@@ -187,7 +190,8 @@ puts_after key slots id m n y store e log last was same some_slot held legal uns
     let is : n ≡ (one a p, (0, Home store) ∷ []) =
     same ∙ (λ i. (ap (λ (q : Me). q.0) was i, (0, Home store) ∷ rest (ap (λ (q : Me). q.1) was i))) in
     subst
-    (λ (z : Me). Allows (InOneOrder key) slots id z 0 (λ k. either (eqb k 1) 0 k) (puts_told (e ∷ []) (step slots 0 1 0 none) z))
+    (λ (z : Me).
+    Allows (InOneOrder key) slots id z 0 (λ k. either (eqb k 1) 0 k) (puts_told (e ∷ []) (step slots 0 1 0 none) z))
     (sym is)
     (any_key key a slots id p ((0, Home store) ∷ []) (λ k. either (eqb k 1) 0 k)
     (puts_told (e ∷ []) (step slots 0 1 0 none) (one a p, (0, Home store) ∷ []))

@@ -20,9 +20,7 @@ impl Desk {
         requires table { seat.table ≡ self }
         ensures { IfOk result (λ store. EndsIn seat store) }
     {
-        let Desk { table, sleepers: _ } = self;
-        let Seat { lane: _, token } = seat;
-        let mut closed = table.close_with(token);
+        let mut closed = self.into_table().close_with(seat.into_token());
         let turn = closed.word(0);
         let home = closed.take(0);
         closed.free();

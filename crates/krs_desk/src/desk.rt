@@ -1,5 +1,5 @@
 //! The desk, and calls at it.
-ghost use Rattle.std.specs.Prelude.{◌≡◌, List, [], ◌∷◌, IfSome, IfNone, IfOk, IfErr, Some};
+ghost use Rattle.std.specs.Prelude.{◌≡◌, ◌<◌, List, [], ◌∷◌, IfSome, IfNone, IfOk, IfErr, Some};
 ghost use Rattle.krs_types.specs.declared.event.Event.{Event};
 ghost use Rattle.krs_model.specs.State.{State};
 ghost use Rattle.krs_model.specs.Step.{Step};
@@ -22,7 +22,6 @@ use std::{hint, thread};
 
 /// A store with one turn, which is had by one seat at a time. Threads share it by reference. A contract sees which desk
 /// it is.
-#[derive(Drop)]
 pub struct Desk {
     pub(crate) table: Board,
 
@@ -44,12 +43,31 @@ impl Model for Desk {
     ghost invariant = { λ d. (0 < d.table.shared.table_id.words) × (d.table.shared.table_id.slots ≡ 1) };
 }
 
+// By hand, so that a crate which lets a desk go needn't know what a store is made of.
+impl Drop for Desk {
+    fn drop(self) {
+        let Self {
+            table: _,
+            sleepers: _,
+        } = self;
+    }
+}
+
 // So often a call looks at the turn, and then lets other threads go first, before it sleeps.
 const LOOKS: u32 = 16;
 
 const YIELDS: u32 = 16;
 
 impl Desk {
+    // The table of a desk that is given up.
+    pub(crate) fn into_table(self) -> Board
+        ensures table { result.shared.table_id ≡ self }
+        ensures sized { (0 < result.shared.table_id.words) × (result.shared.table_id.slots ≡ 1) }
+    {
+        let Self { table, sleepers: _ } = self;
+        table
+    }
+
     // The store, where the turn was free.
     fn take(&self, token: &mut Token) -> Option<Store>
         requires table { token.old.table_id ≡ self.now }
@@ -71,7 +89,8 @@ impl Desk {
     // Brings the store home, with one event more, and wakes a thread that waits for the turn.
     fn put<E: Added>(&self, token: &mut Token, store: Store, note: Note)
         requires table { token.old.table_id ≡ self.now }
-        requires held { (log : List Event) × (last : State) × HoldsAt token.old.me log last × Step last (event_in note) store }
+        requires held { (log : List Event) × (last : State) × HoldsAt token.old.me log last
+            × Step last (event_in note) store }
         requires event { (E.events ≡ event_in note ∷ []) × (note.lane ≡ (part token.old.me).lane) }
         ensures table { token.new.table_id ≡ token.old.table_id }
         ensures put { (log : List Event) → (part token.old.me).holding ≡ Some log
