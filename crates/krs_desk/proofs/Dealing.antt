@@ -1,12 +1,11 @@
 -- The rule of the table holds as it is made, and when the last seat has been dealt.
-use Rattle.std.proofs.Common.{◌≡◌, ℕ, zero, suc, ◌+◌, ◌<◌, List, [], ◌∷◌, ◌++◌, length, get_or, set, Option, Some}
-use Rattle.std.proofs.Common.{refl, sym, ap, ◌∙◌, subst, All}
+use Rattle.std.proofs.Common.{◌≡◌, ℕ, zero, suc, ◌<◌, List, [], ◌∷◌, length, get_or, set, Some}
+use Rattle.std.proofs.Common.{refl, sym, subst, All}
 use Rattle.std.proofs.lemmas.List.Elements.{All-nil, All-push, All-same}
 use mathlib.Core.Option.{none, some}
 use Rattle.atomic_table.specs.Seated.{TableId}
 use Rattle.atomic_table.specs.Table.{opening, step, keeps, Allows}
 use Rattle.krs_model.specs.State.{State}
-use Rattle.krs_world.specs.declared.view.Cell.{Cell}
 use Rattle.krs_world.specs.declared.view.Cell.TheVariants as cells
 use Rattle.krs_world.specs.declared.view.View.{View}
 use Rattle.krs_world.specs.declared.view.Standing.TheVariants.{Spent, Opening}
@@ -66,7 +65,7 @@ fresh_fit : (table : TableId) (a : State) (n : ℕ) → All (λ (s : Sitting). s
 fresh_fit table a zero = All-nil (λ (s : Sitting). s.table ≡ table)
 fresh_fit table a (suc n) =
     All-push (λ (s : Sitting). s.table ≡ table) (fresh_seats table a n) (fresh_seat table a n) (fresh_fit table a n)
-        refl
+    refl
 
 -- every seat that is dealt fits the desk
 pub all_fit :

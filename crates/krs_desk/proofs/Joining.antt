@@ -1,5 +1,5 @@
 -- Splitting a token, joining two, and the look of a token of two lanes keep the rule of the table.
-use Rattle.std.proofs.Common.{◌≡◌, ◌≢◌, ℕ, ◌+◌, List, [], ◌∷◌, ◌++◌, set, Option, Some, None, ⊎_elim, refl, sym, ap}
+use Rattle.std.proofs.Common.{◌≡◌, ◌≢◌, ℕ, List, [], ◌∷◌, ◌++◌, set, Option, None, ⊎_elim, refl, sym, ap}
 use Rattle.std.proofs.Common.{◌∙◌, subst}
 use mathlib.Core.Option.{none, some}
 use lib.ListN.{get_elem?}
@@ -16,7 +16,7 @@ use Rattle.krs_world.specs.Knowing.{view, one, loaded}
 use Rattle.krs_world.specs.History.{OneHistory}
 use Rattle.krs_world.proofs.Keeping as law
 use Rattle.krs_world.proofs.Seating as seating
-use Rattle.krs_desk.specs.Parts.{part_of, kept_of, given_of, kept_view, given_view, both_views}
+use Rattle.krs_desk.specs.Parts.{kept_of, given_of, kept_view, given_view, both_views}
 use Rattle.krs_desk.specs.Rule.{InOneOrder}
 use Rattle.krs_desk.specs.Told.{Found, looks_told}
 use Rattle.krs_desk.specs.Seated.{Me}

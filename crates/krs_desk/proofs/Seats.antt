@@ -1,5 +1,5 @@
 -- Seats after a call, a missed turn, and a meeting: what holds of them, and what their callers are told.
-use Rattle.std.proofs.Common.{◌≡◌, ℕ, zero, suc, ◌+◌, List, [], ◌∷◌, ◌++◌, Some, None, refl, sym, ap, ◌∙◌, subst}
+use Rattle.std.proofs.Common.{◌≡◌, ℕ, List, [], ◌∷◌, ◌++◌, Some, None, refl, sym, ap, ◌∙◌, subst}
 use Rattle.std.proofs.Common.{append-nil}
 use Rattle.atomic_table.specs.Seated.{TableId}
 use Rattle.krs_types.specs.declared.ask.Ask.{Ask}
@@ -10,11 +10,9 @@ use Rattle.std.specs.Prelude.{Result}
 use Rattle.krs_model.specs.State.{State}
 use Rattle.krs_model.specs.Sound.{IsSound}
 use Rattle.krs_model.specs.Step.{Step}
-use Rattle.krs_model.specs.Lists.{Begins}
 use Rattle.krs_model.specs.History.{IsLegal, event_of}
 use Rattle.krs_model.proofs.Legal.{legal_none, legal_more}
-use Rattle.krs_world.specs.declared.view.Part.{Part}
-use Rattle.krs_world.specs.Knowing.{events_of, one, fresh, taken, missed, put_own, loaded}
+use Rattle.krs_world.specs.Knowing.{one, fresh, taken, missed, put_own, loaded}
 use Rattle.krs_world.proofs.Keeping.{own_event}
 use Rattle.krs_desk.specs.declared.place.Place.{Place}
 use Rattle.krs_desk.specs.Told.{Found}

@@ -1,14 +1,14 @@
 -- The laws of a store, told of the list that a seat has seen.
-use Rattle.std.proofs.Common.{◌≡◌, ℕ, List, [], ◌∷◌, ◌++◌, Some, refl, sym, ap, ◌∙◌, subst}
+use Rattle.std.proofs.Common.{◌≡◌, List, [], ◌∷◌, ◌++◌, refl, subst}
 use Rattle.krs_types.specs.declared.event.Event.{Event}
 use Rattle.krs_model.specs.State.{State}
 use Rattle.krs_model.specs.Sound.{IsSound}
 use Rattle.krs_model.specs.Step.{Step}
 use Rattle.krs_model.specs.History.{IsLegal}
-use Rattle.krs_model.specs.Revocation.{StaysUnread, Revokes, Reads}
+use Rattle.krs_model.specs.Revocation.{StaysUnread}
 use Rattle.krs_model.proofs.Determined.{one_history, legal_moves}
 use Rattle.krs_model.proofs.Histories.{gives_streams}
-use Rattle.krs_desk.specs.Seen.{IsOneHistory, IsNotReadRevoked, GivesStream, GivesItsStreams}
+use Rattle.krs_desk.specs.Seen.{IsNotReadRevoked, GivesItsStreams}
 
 -- a legal history, cut in two
 legal_cut :

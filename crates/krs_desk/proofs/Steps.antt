@@ -1,5 +1,5 @@
 -- The steps of a call keep the rule of the table: taking the turn, finding it out, and giving it back.
-use Rattle.std.proofs.Common.{◌≡◌, ◌≢◌, ℕ, ◌+◌, ◌<◌, ◌==◌, eqb, List, [], ◌∷◌, ◌++◌, length, get_or, set, Option}
+use Rattle.std.proofs.Common.{◌≡◌, ℕ, ◌+◌, ◌<◌, eqb, List, [], ◌∷◌, length, get_or, set, Option}
 use Rattle.std.proofs.Common.{Some, None, ⊎_elim, refl, sym, ap, ◌∙◌, subst, arith, eq-eqb, ne_eqb, length-set}
 use Rattle.std.proofs.Common.{get_or-set_same, get_or-set_other}
 use mathlib.Core.Option.{none, some}
@@ -25,9 +25,8 @@ use Rattle.krs_world.specs.History.{OneHistory}
 use Rattle.krs_world.proofs.Keeping as law
 use Rattle.krs_desk.specs.declared.place.Place.{Place}
 use Rattle.krs_desk.specs.declared.place.Place.TheVariants.{Home}
-use Rattle.krs_desk.specs.Parts.{part_of}
 use Rattle.krs_desk.specs.Rule.{IsAtHome, word_of, InOneOrder}
-use Rattle.krs_desk.specs.Told.{Found, takes_told, puts_told}
+use Rattle.krs_desk.specs.Told.{takes_told, puts_told}
 use Rattle.krs_desk.specs.Seated.{Me, opening, part}
 
 abbrev pub Table : Type 0

@@ -1,5 +1,5 @@
 -- The lanes that a token stands for, and how joining and splitting tokens changes them. The form is this project's own.
-use Rattle.std.specs.Prelude.{ℕ, ◌+◌}
+use Rattle.std.specs.Prelude.{◌+◌}
 use Rattle.krs_world.specs.declared.view.Part.{Part}
 use Rattle.krs_world.specs.declared.view.Standing.{Standing}
 use Rattle.krs_world.specs.declared.view.Standing.TheVariants.{Spent, One, Two, Opening}

@@ -1,4 +1,4 @@
-use Rattle.std.proofs.Common.{rules, ap, sym, ◌∙◌}
+use Rattle.std.proofs.Common.{ap, ◌∙◌}
 use mathlib.Core.Option.{some}
 use Rattle.krs_desk.proofs.Ending.{ends_in, ends_at}
 use Rattle.krs_desk.proofs.desk.Desk.close.Goals as goal

@@ -1,4 +1,4 @@
-use Rattle.std.proofs.Common.{rules, ap, ◌+◌, ◌∙◌}
+use Rattle.std.proofs.Common.{rules, ap}
 use Rattle.krs_world.specs.declared.view.Standing.TheVariants.{Opening}
 use Rattle.krs_desk.proofs.Joining.{cuts_of, cuts_deal, given_is}
 use Rattle.krs_desk.proofs.Dealing.{opens_at}

@@ -1,4 +1,3 @@
-use Rattle.std.proofs.Common.{rules}
 use Rattle.krs_desk.proofs.Dealing.{begins_at}
 use Rattle.krs_desk.proofs.desk.Desk.lay.Goals as goal
 

@@ -1,8 +1,8 @@
-use Rattle.std.proofs.Common.{rules, refl, sym, ap, ◌∙◌, subst, [], ◌∷◌}
+use Rattle.std.proofs.Common.{rules, ap, ◌∙◌}
 use Rattle.krs_world.specs.declared.view.Standing.TheVariants.{One, Two}
 use Rattle.krs_world.specs.Knowing.{loaded}
 use Rattle.krs_desk.specs.Seated.{opening, part}
-use Rattle.krs_desk.proofs.Joining.{cuts_of, cuts_one, cuts_two, kept_is, given_is, glues_at, both_is, looks_at}
+use Rattle.krs_desk.proofs.Joining.{cuts_of, cuts_one, cuts_two, kept_is, glues_at, both_is, looks_at}
 use Rattle.krs_desk.proofs.Joining.{looked_is}
 use Rattle.krs_desk.proofs.desk.Desk.look.Goals as goal
 

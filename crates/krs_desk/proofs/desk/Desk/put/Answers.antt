@@ -1,4 +1,4 @@
-use Rattle.std.proofs.Common.{rules, sym, ap, ◌∙◌, subst, [], ◌∷◌}
+use Rattle.std.proofs.Common.{rules}
 use Rattle.krs_desk.specs.Told.{event_in}
 use Rattle.krs_desk.proofs.Steps.{puts_after}
 use Rattle.krs_desk.proofs.desk.Desk.put.Goals as goal
