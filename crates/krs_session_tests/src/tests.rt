@@ -5,6 +5,7 @@ ghost use Rattle.krs_wire.specs.declared.framed.Framed.{Framed};
 ghost use Rattle.krs_session.specs.Events.{asks_of, asks_in, session_text};
 ghost use Rattle.krs_session.specs.Session.{AreWhole};
 
+mod desk;
 mod fakes;
 
 use fakes::{Chair, Rising, Table, Then, Watching, reader_of, watches, writer_of};
