@@ -3,6 +3,7 @@ ghost use Rattle.krs_types.specs.declared.event.Event.{Event};
 ghost use Rattle.krs_model.specs.History.{IsLegal};
 ghost use Rattle.krs_client_tests.specs.Conversing.{Conversed};
 
+mod desk;
 mod fakes;
 
 use fakes::{Chair, Rising, Table, Then, Watching, reader_of, watches, writer_of};
