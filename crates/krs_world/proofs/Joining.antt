@@ -154,7 +154,8 @@ sees log turn holder dealt seat cell j p sv k = record {
   calls = prefix_trans p.mine (events_of p.lane p.seen) (events_of p.lane log) k.calls
       (events_prefix p.lane p.seen log k.seen);
   fits = fits_same log p (loaded p log) refl refl refl refl (cell p.lane) k.fits;
-  holding = λ l is. let h = k.holding l is in record { out = h.out; here = h.here; whole = h.whole; same_service = h.same_service };
+  holding = λ l is. let h = k.holding l is in record { out = h.out; here = h.here; whole = h.whole;
+      same_service = h.same_service };
   unheld = k.unheld;
 }
 
@@ -227,14 +228,16 @@ parts a turn home cell views id p q o at = let k = o.each id (view a (Two p q)) 
       word = o.word;
       legal = o.legal;
       at_home = o.at_home;
-      opener = λ n. dealing_snoc o.dealt o.holder (set views id (one a p)) (one a q) (dealing_set o.dealt o.holder views id
+      opener = λ n. dealing_snoc o.dealt o.holder (set views id (one a p)) (one a q)
+          (dealing_set o.dealt o.holder views id
           (view a (Two p q)) (one a p) at (λ is. absurd cc) (o.opener n));
       young = o.young;
       unserved = o.unserved;
       seated = λ l lt. seats_again o.seat q.lane N l (set views id (one a p) ++ one a q ∷ [])
           (λ _. (
             one a q,
-            ap (get_elem? (set views id (one a p) ++ one a q ∷ [])) (sym len) ∙ snoc_end (set views id (one a p)) (one a q),
+            ap (get_elem? (set views id (one a p) ++ one a q ∷ [])) (sym len)
+                ∙ snoc_end (set views id (one a p)) (one a q),
             refl,
           ))
           (λ not. seated_snoc l (o.seat l) (set views id (one a p)) (one a q) (seated_set l (o.seat l) views id

@@ -129,7 +129,8 @@ module _ (a : State) (views : List View) (id : ℕ) (p : Part) (at : get_elem? v
 
   pub misses : (turn : ℕ) (home : Option State) (cell : ℕ → Cell) (o : OneHistory a turn home cell views)
       → OneHistory a turn home cell (set views id (one a (missed p)))
-  misses turn home cell o = let k = own turn home cell o in stays turn home cell o (missed p) refl refl (λ e. e) record {
+  misses turn home cell o = let k = own turn home cell o in
+      stays turn home cell o (missed p) refl refl (λ e. e) record {
     at = k.at;
     given = k.given;
     seen = k.seen;
@@ -203,7 +204,8 @@ module _ (a : State) (views : List View) (id : ℕ) (p : Part) (at : get_elem? v
           seated = seats_stay turn home cell o (put_own p log e) refl;
           undealt = λ l le. let u = o.undealt l le in let g = k.given in (
             u.0,
-            other_event l log e (λ is. let same : p.lane ≡ l = sym lane ∙ is in omega arith) ∙ (ap (events_of l) all ∙ u.1),
+            other_event l log e (λ is. let same : p.lane ≡ l = sym lane ∙ is in omega arith)
+                ∙ (ap (events_of l) all ∙ u.1),
           );
           serves = o.serves;
           served = o.served;

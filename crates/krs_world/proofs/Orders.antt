@@ -109,14 +109,14 @@ turn_grows w new lane p q o n at same is grows (Free store) turn = free_grows w 
 turn_grows w new lane p q o n at same is grows (Out holder) turn = let log : List Event = o.history.log in
     let h : IsHistoryBy (Out holder) log w.seats = subst (λ (x : Turn). IsHistoryBy x log w.seats) turn o.whole in
     let g : IsHistoryBy (Out holder) log (set w.seats lane q) = dite (ℕ_discrete holder lane)
-        (λ here. (
-          q,
-          ap (get_elem? (set w.seats lane q)) here ∙ set_at w.seats lane q p at,
-          same
-              ∙ (ap (λ (x : Part). x.holding) (some-injective p h.0 (sym at ∙ (ap (get_elem? w.seats) (sym here) ∙ h.1)))
-              ∙ h.2),
-        ))
-        (λ away. (h.0, set_else w.seats lane holder q away ∙ h.1, h.2)) in
+    (λ here. (
+      q,
+      ap (get_elem? (set w.seats lane q)) here ∙ set_at w.seats lane q p at,
+      same
+          ∙ (ap (λ (x : Part). x.holding) (some-injective p h.0 (sym at ∙ (ap (get_elem? w.seats) (sym here) ∙ h.1)))
+          ∙ h.2),
+    ))
+    (λ away. (h.0, set_else w.seats lane holder q away ∙ h.1, h.2)) in
     same_grows w new o n log o.whole (subst (λ (x : World). IsHistory x log) (sym is)
     (subst (λ (x : Turn). IsHistoryBy x log (set w.seats lane q)) (sym turn) g))
 
