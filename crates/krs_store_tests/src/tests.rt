@@ -16,6 +16,7 @@ mod rings;
 mod values;
 mod walks;
 mod watches;
+mod world;
 
 /// Stops the test where a reply is not the one that is wanted, and names the row.
 fn expect(rt: &impl Abort, reply: Reply, want: Want<'_>, row: &str) {
