@@ -6,6 +6,7 @@ mod adding;
 mod clients;
 mod growth;
 mod joining;
+mod world;
 
 /// Stops the test where a reply is not the one that is wanted, and names the row.
 fn expect(rt: &impl Abort, reply: Reply, want: Want<'_>, row: &str) {
