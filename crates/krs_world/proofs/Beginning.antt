@@ -74,8 +74,11 @@ begins_world lanes = let a : State = starting_at 3 in record {
     opener = λ n. absurd (omega arith);
     young = λ _. refl;
     unserved = λ _. refl;
-    seated = λ l lt. (one a (fresh l),
-        get_map (one a) (fresh_lanes 0 lanes) l (fresh l) (fresh_there lanes l lt), refl);
+    seated = λ l lt. (
+      one a (fresh l),
+      get_map (one a) (fresh_lanes 0 lanes) l (fresh l) (fresh_there lanes l lt),
+      refl,
+    );
     undealt = λ l _. (cells_empty lanes l, refl);
     serves = λ l m ask is. absurd (let no = sym (cells_empty lanes l) ∙ is in cc);
     served = λ s is. absurd cc;
@@ -85,8 +88,11 @@ begins_world lanes = let a : State = starting_at 3 in record {
         subst (λ (w : View). Stands [] 0 0 lanes (λ l. l) (cell_of (empty_cells lanes)) None j w.stands)
         (ap (one a) t.0 ∙ m.2) (known lanes j t.1);
   };
-  whole = (inl refl, λ j p e. let t = fresh_here lanes j p e in
-      prefix_none p.seen [] (ap (λ (q : Part). q.seen) (sym t.0)));
+  whole = (
+    inl refl,
+    λ j p e. let t = fresh_here lanes j p e in
+        prefix_none p.seen [] (ap (λ (q : Part). q.seen) (sym t.0)),
+  );
   lanes = λ j p e. let t = fresh_here lanes j p e in ap (λ (q : Part). q.lane) (sym t.0);
 }
 

@@ -154,8 +154,12 @@ sees log turn holder dealt seat cell j p sv k = record {
   calls = prefix_trans p.mine (events_of p.lane p.seen) (events_of p.lane log) k.calls
       (events_prefix p.lane p.seen log k.seen);
   fits = fits_same log p (loaded p log) refl refl refl refl (cell p.lane) k.fits;
-  holding = λ l is. let h = k.holding l is in record { out = h.out; here = h.here; whole = h.whole;
-      same_service = h.same_service };
+  holding = λ l is. let h = k.holding l is in record {
+    out = h.out;
+    here = h.here;
+    whole = h.whole;
+    same_service = h.same_service;
+  };
   unheld = k.unheld;
 }
 

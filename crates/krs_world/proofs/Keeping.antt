@@ -131,20 +131,20 @@ module _ (a : State) (views : List View) (id : ℕ) (p : Part) (at : get_elem? v
       → OneHistory a turn home cell (set views id (one a (missed p)))
   misses turn home cell o = let k = own turn home cell o in
       stays turn home cell o (missed p) refl refl (λ e. e) record {
-    at = k.at;
-    given = k.given;
-    seen = k.seen;
-    base = k.base;
-    calls = k.calls;
-    fits = fits_same o.log p (missed p) refl refl refl refl (cell p.lane) k.fits;
-    holding = λ l is. let h = k.holding l is in record {
-      out = h.out;
-      here = h.here;
-      whole = h.whole;
-      same_service = h.same_service;
-    };
-    unheld = k.unheld;
-  }
+        at = k.at;
+        given = k.given;
+        seen = k.seen;
+        base = k.base;
+        calls = k.calls;
+        fits = fits_same o.log p (missed p) refl refl refl refl (cell p.lane) k.fits;
+        holding = λ l is. let h = k.holding l is in record {
+          out = h.out;
+          here = h.here;
+          whole = h.whole;
+          same_service = h.same_service;
+        };
+        unheld = k.unheld;
+      }
 
   -- the seat sees more of the list
   pub loads : (turn : ℕ) (home : Option State) (cell : ℕ
