@@ -1,5 +1,5 @@
 -- A script between two lines, and how it ends from there.
-use Rattle.std.proofs.Common.{ℕ, ◌≡◌, ◌⊎◌, ◌+◌, ◌<◌, ◌≤◌, inl, inr, Bool, List, [], ◌∷◌, ◌++◌, Option, None, Some}
+use Rattle.std.proofs.Common.{ℕ, ◌≡◌, ◌⊎◌, ◌+◌, ◌<◌, inl, inr, Bool, List, [], ◌∷◌, ◌++◌, Option, None, Some}
 use Rattle.std.proofs.Common.{IfSome, Result, Ok, Err, refl, sym, ap, ◌∙◌, subst, append_assoc, append-nil, length, length-append, arith}
 use Rattle.std.specs.Io.KnownBytes.{Appends, IsAtEnd}
 use Rattle.std.proofs.KnownBytes.{Appends-trans}
@@ -219,8 +219,11 @@ pub record Said (c v : Option (List ℕ)) (text : List ℕ) (stopped : Result (U
 says_last : (c w v : Option (List ℕ)) (q text last : List ℕ) (wanted status : ℕ) → Prints c [] w q text
     → Says w v (q ++ last) wanted status → Says c v (text ++ last) wanted status
 says_last c w v q text last wanted status (x, adds, is) (inl (same, more)) =
-    inl (same, subst (Appends c v) (sym (append_assoc x q last) ∙ ap (λ l. l ++ last) (sym is))
-    (Appends-trans c w v x (q ++ last) adds more))
+    inl (
+      same,
+      subst (Appends c v) (sym (append_assoc x q last) ∙ ap (λ l. l ++ last) (sym is))
+          (Appends-trans c w v x (q ++ last) adds more),
+    )
 says_last c w v q text last wanted status prints (inr (three, front)) =
     inr (three, WritesFront-behind c w v [] q text last prints front)
 

@@ -86,8 +86,7 @@ pub fn choose(alloc: Global, words: io::Result<Args>) -> Choice
     }
 }
 
-fn choice_of_all(alloc: Global, words: Args) -> Choice
-{
+fn choice_of_all(alloc: Global, words: Args) -> Choice {
     let words: Result<Vec<String>, AllocError> = words.collect(alloc);
     match words {
         Ok(words) => choice_of(alloc, words.as_slice()),
@@ -95,8 +94,7 @@ fn choice_of_all(alloc: Global, words: Args) -> Choice
     }
 }
 
-fn choice_of(alloc: Global, words: &[String]) -> Choice
-{
+fn choice_of(alloc: Global, words: &[String]) -> Choice {
     match asks_for_script(alloc, words) {
         Ok(true) => Choice::Script,
         Ok(false) => Choice::Usage,
@@ -120,8 +118,7 @@ fn told(alloc: Global, error: &Error) -> Choice
 
 /// Whether the words, behind the program's name, are `script` alone. An error is `clap`'s refusal of them, or the
 /// text of `--help` or `--version`.
-fn asks_for_script(alloc: Global, words: &[String]) -> Result<bool, Error>
-{
+fn asks_for_script(alloc: Global, words: &[String]) -> Result<bool, Error> {
     let matches = command_line(alloc)?.try_get_matches_from(words)?;
     Ok(match matches.get_strs(WORDS) {
         Some([word]) => *word == "script",
@@ -129,8 +126,7 @@ fn asks_for_script(alloc: Global, words: &[String]) -> Result<bool, Error>
     })
 }
 
-fn command_line<'a>(alloc: Global) -> Result<Command<'a>, AllocError>
-{
+fn command_line<'a>(alloc: Global) -> Result<Command<'a>, AllocError> {
     let words = Arg::new(alloc, WORDS)
         .action(ArgAction::Append)
         .num_args(0..)

@@ -25,7 +25,7 @@ pub fn run_program<R: Read + Drop, W: Write, E: Write>(
     ensures { (choice : ChoiceIs)
         × IfErr words (λ error. IsUnread (error_kind error) choice)
         × Answers choice (R.remaining input) (W.contents output.old) (W.contents output.new)
-            (E.contents errors.old) (E.contents errors.new) result }
+        (E.contents errors.old) (E.contents errors.new) result }
 {
     let choice = choose(alloc, words);
     answer(alloc, choice, input, output, errors)

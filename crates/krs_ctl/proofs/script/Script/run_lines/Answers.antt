@@ -1,6 +1,5 @@
-use Rattle.std.proofs.Common.{◌≡◌, ◌<◌, Ok, inr, ap, refl, arith}
+use Rattle.std.proofs.Common.{Ok, ap, arith}
 use Rattle.std.proofs.lemmas.Result.{err_from_is_err_and}
-use Rattle.krs_ctl.specs.Script.{most_lines}
 use Rattle.krs_ctl.proofs.Going.{going_start, going_same, going_more, runs_at_line, runs_to_end, runs_unread}
 use Rattle.krs_ctl.proofs.Going.{runs_too_long, runs_unwritten}
 use Rattle.krs_ctl.proofs.script.Script.run_lines.Goals as goal
