@@ -1,6 +1,8 @@
-//! Times asks of a store with few and with many keys linked in one keyring. Run by hand: `make bench`.
+//! Times asks of a store with few and with many keys linked in one keyring, and calls at a desk. Run by hand:
+//! `make bench`.
 #![tactic(auto)]
 
+mod desk;
 mod operation;
 mod ops;
 mod session;
@@ -8,6 +10,7 @@ mod stock;
 mod timing;
 
 use anyhow::Result;
+use desk::print_desk;
 use operation::{OPERATIONS, Operation};
 use std::env;
 use timing::{Way, nanoseconds};
@@ -18,6 +21,7 @@ const COUNTS: [u32; 3] = [10, 1_000, 10_000];
 const USAGE: &str = "\
 usage: krs_bench OPERATION [COUNT]
 OPERATION is all, or one of these:
+  desk      READ at a desk: one thread by try_call, and 1, 2, 4, 8 and 16 threads that call for a second
   read      READ of a key
   update    UPDATE of a key
   match     ADD of a key that is there
@@ -36,6 +40,10 @@ fn main(rt: HostRuntime) -> Result<()> {
     let name = words.get(1).map_or("", |word| word.as_str());
     let count = words.get(2).map_or("", |word| word.as_str());
     let mut is_usage = true;
+    if name == "desk" || name == "all" {
+        print_desk(&rt)?;
+        is_usage = false;
+    }
     for (word, operation) in OPERATIONS {
         if name == word || name == "all" {
             print_rows(&rt, word, operation, count)?;

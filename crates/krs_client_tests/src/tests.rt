@@ -1,3 +1,4 @@
+mod desk;
 mod script;
 mod session;
 mod wire;

@@ -1,0 +1,125 @@
+//! Times calls of one thread and of many at one desk. Processor time is the shell's to tell, by `time`.
+ghost use Rattle.std.specs.Prelude.{◌≡◌};
+
+use crate::ops::hello;
+use anyhow::{Result, bail};
+use krs_desk::{Desk, Seat};
+use krs_store::Store;
+use krs_types::{Answer, Ask, Op};
+use std::alloc::Global;
+use std::sync::Wait;
+use std::thread;
+use std::time::{Duration, Instant};
+
+/// How many threads call, in turn.
+const THREADS: [u32; 5] = [1, 2, 4, 8, 16];
+
+/// How long they call.
+const TIME: Duration = Duration::from_secs(1);
+
+/// So many calls are made between two looks at the clock.
+const ROUND: u32 = 64;
+
+/// How many asks one thread makes, of the store and of a desk.
+const ASKS: u32 = 1_000_000;
+
+/// Prints what a call costs one thread beside the store's own time, and then how many asks a second many threads make.
+pub fn print_desk(rt: &HostRuntime) -> Result<()> {
+    let in_store = time_store(rt, rt.alloc())?;
+    let at_desk = time_desk(rt, rt.alloc())?;
+    println!(rt; "read by one thread: {in_store} ns, by try_call {at_desk} ns")?;
+    for threads in THREADS {
+        print_row(rt, threads)?;
+    }
+    Ok(())
+}
+
+fn print_row(rt: &HostRuntime, threads: u32) -> Result<()> {
+    let alloc = rt.alloc();
+    let Ok((desk, seats)) = Desk::open(alloc, threads, Store::new(alloc)) else {
+        bail!("no desk");
+    };
+    let counts = thread::map_vec(rt, seats, &|seat| count_calls(rt, alloc, &desk, seat))?;
+    let total = counts
+        .iter()
+        .fold(0u64, |sum, count| sum.saturating_add(*count));
+    let least = counts.iter().copied().min().unwrap_or(0);
+    let greatest = counts.iter().copied().max().unwrap_or(0);
+    println!(rt; "{threads} threads: {total} asks a second, {least} to {greatest} by one thread")?;
+    Ok(())
+}
+
+/// READ of the user keyring.
+fn read(context: u32) -> Ask {
+    Ask {
+        context,
+        op: Op::Read { id: -4 },
+    }
+}
+
+fn greeting(alloc: Global) -> Ask {
+    Ask {
+        context: 0,
+        op: hello(alloc, 1000),
+    }
+}
+
+/// The nanoseconds of one of the asks.
+fn share(took: Duration) -> u64 {
+    u64::try_from(took.as_nanos() / u128::from(ASKS)).unwrap_or(u64::MAX)
+}
+
+fn time_store<R: std::rt::Clock>(rt: &R, alloc: Global) -> Result<u64> {
+    let mut store = Store::new(alloc);
+    let _ = store.apply(0, 0, greeting(alloc))?;
+    let start = Instant::now(rt)?;
+    for _ in 0..ASKS {
+        let _ = store.apply(0, 0, read(1));
+    }
+    Ok(share(start.elapsed(rt)?))
+}
+
+fn time_desk<R: std::rt::Clock>(rt: &R, alloc: Global) -> Result<u64> {
+    let Ok((desk, mut seats)) = Desk::open(alloc, 1, Store::new(alloc)) else {
+        bail!("no desk");
+    };
+    let Some(mut seat) = seats.pop() else {
+        bail!("no seat");
+    };
+    let _ = desk.try_call(&mut seat, 0, greeting(alloc));
+    let start = Instant::now(rt)?;
+    for _ in 0..ASKS {
+        let _ = desk.try_call(&mut seat, 0, read(1));
+    }
+    Ok(share(start.elapsed(rt)?))
+}
+
+/// How many calls a thread made at its seat.
+fn count_calls<R: Wait + std::rt::Clock>(rt: &R, alloc: Global, desk: &Desk, mut seat: Seat) -> u64
+    requires { seat.table ≡ desk.now }
+{
+    let Ok(Answer::Number(context)) = desk.call(rt, &mut seat, 0, greeting(alloc)) else {
+        return 0;
+    };
+    let Ok(start) = Instant::now(rt) else {
+        return 0;
+    };
+    let mut count = 0u64;
+    for _ in 0..u64::MAX {
+        call_round(rt, desk, &mut seat, context);
+        count = count.saturating_add(u64::from(ROUND));
+        if start.elapsed(rt).map_or(true, |took| took >= TIME) {
+            break;
+        }
+    }
+    count
+}
+
+fn call_round<R: Wait>(rt: &R, desk: &Desk, seat: &mut Seat, context: u32)
+    requires { seat.old.table ≡ desk.now }
+    ensures { seat.new.table ≡ desk.now }
+{
+    for _ in 0..ROUND {
+        let _ = desk.call(rt, seat, 0, read(context));
+    }
+}

@@ -1,0 +1,59 @@
+-- The laws of a store, told of the list that a seat has seen.
+use Rattle.std.proofs.Common.{◌≡◌, List, [], ◌∷◌, ◌++◌, refl, subst}
+use Rattle.krs_types.specs.declared.event.Event.{Event}
+use Rattle.krs_model.specs.State.{State}
+use Rattle.krs_model.specs.Sound.{IsSound}
+use Rattle.krs_model.specs.Step.{Step}
+use Rattle.krs_model.specs.History.{IsLegal}
+use Rattle.krs_model.specs.Revocation.{StaysUnread}
+use Rattle.krs_model.proofs.Determined.{one_history, legal_moves}
+use Rattle.krs_model.proofs.Histories.{gives_streams}
+use Rattle.krs_desk.specs.Seen.{IsNotReadRevoked, GivesItsStreams}
+
+-- a legal history, cut in two
+legal_cut :
+    (a c : State) (xs ys : List Event) → IsLegal a (xs ++ ys) c
+    → (b : State) × IsLegal a xs b × IsLegal b ys c
+unfolding IsLegal
+legal_cut a c [] ys legal = (a, refl, legal)
+legal_cut a c (x ∷ xs) ys legal =
+    let t = legal_cut legal.0 c xs ys legal.2 in
+    (t.0, (legal.0, legal.1, t.1), t.2)
+
+-- its first event, and the rest
+legal_first :
+    (a c : State) (x : Event) (xs : List Event) → IsLegal a (x ∷ xs) c → (b : State) × Step a x b × IsLegal b xs c
+unfolding IsLegal
+legal_first a c x xs legal = legal
+
+-- the event behind a history that led to this state
+next_step :
+    (a b c : State) (xs : List Event) (x : Event) (rest : List Event) → IsLegal a xs b → IsLegal a (xs ++ x ∷ rest) c
+    → (d : State) × Step b x d × IsLegal d rest c
+next_step a b c xs x rest front whole =
+    let t = legal_cut a c xs (x ∷ rest) whole in
+    let same : t.0 ≡ b = one_history a t.0 b xs t.1 front in
+    legal_first b c x rest (subst (λ (s : State). IsLegal s (x ∷ rest) c) same t.2)
+
+pub not_read_revoked :
+    (a end : State) (seen : List Event) → StaysUnread a → IsLegal a seen end → IsNotReadRevoked a seen
+not_read_revoked
+    a end seen unread legal before later rest revoking reading old late serial is to_old revokes to_late reads =
+    let revoked = next_step a old late before revoking later to_old to_late in
+    let read =
+    next_step a late end (before ++ revoking ∷ later) reading rest to_late
+    (subst (λ (l : List Event). IsLegal a l end) is legal) in
+    unread before old to_old revoking revoked.0 serial revoked.1 revokes later late revoked.2 reading read.0 read.1
+    reads
+
+pub gives_its_streams :
+    (a end : State) (seen : List Event) → IsSound a → IsLegal a seen end → GivesItsStreams a seen
+gives_its_streams a end seen sound legal q capacity =
+    let some = legal_moves q a seen end sound legal in
+    let gives = gives_streams a sound in record {
+      end = end;
+      moves = some.0;
+      from = some.1;
+      still_open = λ queue opened stays. gives.still_open end seen some.0 q capacity queue some.1 opened stays;
+      begun = λ opened. gives.begun end seen some.0 q capacity some.1 opened;
+    }

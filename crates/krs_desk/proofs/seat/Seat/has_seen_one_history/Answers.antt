@@ -1,0 +1,9 @@
+use Rattle.std.proofs.Common.{subst}
+use Rattle.krs_desk.specs.Sitting.{Sitting}
+use Rattle.krs_desk.specs.Seen.{IsOneHistory}
+use Rattle.krs_desk.proofs.seat.Seat.has_seen_one_history.Goals as goal
+
+pub returns : goal.returns
+returns c =
+    subst (λ (s : Sitting). IsOneHistory s.opening s.part.seen) c.self.view_is
+    (c.self.invariant.last, c.self.invariant.legal)

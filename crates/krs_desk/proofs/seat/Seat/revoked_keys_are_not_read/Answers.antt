@@ -1,0 +1,18 @@
+use Rattle.std.proofs.Common.{subst}
+use Rattle.krs_model.specs.Revocation.{StaysUnread}
+use Rattle.krs_model.proofs.Revocations.{revoked_unread}
+use Rattle.krs_desk.specs.Sitting.{Sitting}
+use Rattle.krs_desk.specs.Seen.{IsNotReadRevoked}
+use Rattle.krs_desk.proofs.Seen.{not_read_revoked}
+use Rattle.krs_desk.proofs.seat.Seat.revoked_keys_are_not_read.Goals as goal
+
+pub returns-clause-seen : goal.returns-clause-seen
+returns-clause-seen c =
+    let seated = c.self.invariant in
+    subst (λ (s : Sitting). IsNotReadRevoked s.opening s.part.seen) c.self.view_is
+    (not_read_revoked _ seated.last _ (revoked_unread _ seated.sound.unused) seated.legal)
+
+pub returns-clause-always : goal.returns-clause-always
+returns-clause-always c =
+    subst (λ (s : Sitting). StaysUnread s.opening) c.self.view_is
+    (revoked_unread _ c.self.invariant.sound.unused)

@@ -1,0 +1,6 @@
+pub mod Parts
+pub mod Rule
+pub mod Told
+pub mod Sitting
+pub mod Seated
+pub mod Seen

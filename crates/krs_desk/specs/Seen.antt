@@ -1,0 +1,38 @@
+-- What holds of every list that a seat has seen. The form is this project's own.
+use Rattle.std.specs.Prelude.{◌≡◌, ℕ, List, ◌∷◌, ◌++◌, Some}
+use Rattle.krs_types.specs.declared.event.Event.{Event}
+use Rattle.krs_model.specs.Table.{at}
+use Rattle.krs_model.specs.State.{State, Queue}
+use Rattle.krs_model.specs.Lists.{Begins}
+use Rattle.krs_model.specs.History.{IsLegal}
+use Rattle.krs_model.specs.Revocation.{Revokes, Reads}
+use Rattle.krs_model.specs.Receiving.{HasMoves, IsOpened}
+use Rattle.krs_model.specs.Notes.Stream.{Move, taken, stream}
+
+-- the list leads from the opening state to some state, event after event
+abbrev pub IsOneHistory : State → List Event → Type 0
+IsOneHistory opening seen = (end : State) × IsLegal opening seen end
+
+-- Of two events of the list, an accepted REVOKE and after it an accepted READ, never are both of one key: keyctl(2),
+-- KEYCTL_REVOKE. Which key an id stands for is a matter of the state that the events before have left.
+abbrev pub IsNotReadRevoked : State → List Event → Type 0
+IsNotReadRevoked opening seen =
+    (before later rest : List Event) (revoking reading : Event) (old late : State) (serial : ℕ)
+    → seen ≡ (before ++ revoking ∷ later) ++ reading ∷ rest
+    → IsLegal opening before old → Revokes old revoking serial
+    → IsLegal opening (before ++ revoking ∷ later) late → Reads late reading serial → ⊥
+
+-- For each queue, what the list calls for and what its replies spell, up to the state that it ends in. Where the queue
+-- was opened in the list and is open at its end, what was read, followed by what waits, is its stream; and what was
+-- read of a queue that was opened begins its stream, open or not. core-api/watch_queue.rst.
+pub record GivesStream (opening : State) (seen : List Event) (q capacity : ℕ) : Type 0 where
+  pub end : State
+  pub moves : List Move
+  pub from : HasMoves q opening seen moves end
+  pub still_open :
+      (queue : Queue) → IsOpened q capacity seen → at end.queues q ≡ Some queue
+      → taken moves ++ queue.waiting ≡ stream capacity moves
+  pub begun : IsOpened q capacity seen → Begins (taken moves) (stream capacity moves)
+
+abbrev pub GivesItsStreams : State → List Event → Type 0
+GivesItsStreams opening seen = (q capacity : ℕ) → GivesStream opening seen q capacity

@@ -1,0 +1,75 @@
+-- What a caller knows of a seat, and how calls, meeting and closing change it. The form is this project's own.
+use Rattle.std.specs.Prelude.{◌≡◌, ℕ, zero, suc, List, [], ◌∷◌, ◌++◌, None}
+use Rattle.atomic_table.specs.Seated.{TableId}
+use Rattle.krs_types.specs.declared.event.Event.{Event}
+use Rattle.krs_model.specs.State.{State}
+use Rattle.krs_model.specs.Lists.{Begins}
+use Rattle.krs_model.specs.History.{IsLegal}
+use Rattle.krs_world.specs.declared.view.Part.{Part}
+use Rattle.krs_world.specs.Knowing.{events_of, fresh, missed}
+
+-- A seat: of which desk it is, the state of the store that the desk was opened with, and what the seat knows: its lane,
+-- the events that it has `seen`, its own calls `mine`, and how often it `found` the turn taken.
+pub record Sitting : Type 0 where
+  pub table : TableId
+  pub opening : State
+  pub part : Part
+
+-- a seat that nothing was called on
+abbrev pub fresh_seat : TableId → State → ℕ → Sitting
+fresh_seat table opening lane = record { table = table; opening = opening; part = fresh lane }
+
+-- one for each lane below this one, in order
+abbrev pub fresh_seats : TableId → State → ℕ → List Sitting
+fresh_seats table opening zero = []
+fresh_seats table opening (suc lane) = fresh_seats table opening lane ++ fresh_seat table opening lane ∷ []
+
+-- the turn was found taken once more
+abbrev pub missed_by : Sitting → Sitting
+missed_by s = record s { part = missed s.part }
+
+-- A call was made. Some beginning `upto` of what is now seen is legal from the opening state, begins with all that had
+-- been seen, and ends with the call. The call is one more of the lane's, and what is now seen has just those.
+pub record Adds (s : Sitting) (event : Event) (t : Sitting) : Type 0 where
+  pub table : t.table ≡ s.table
+  pub opening : t.opening ≡ s.opening
+  pub lane : t.part.lane ≡ s.part.lane
+  pub upto : List Event
+  pub between : List Event
+  pub last : State
+  pub begins : Begins upto t.part.seen
+  pub legal : IsLegal s.opening upto last
+  pub ends : upto ≡ (s.part.seen ++ between) ++ event ∷ []
+  pub mine : t.part.mine ≡ s.part.mine ++ event ∷ []
+  pub own : events_of t.part.lane t.part.seen ≡ t.part.mine
+
+-- the list has just the calls of the lane that have their replies, where none is in flight
+abbrev pub HasItsCalls : Sitting → Type 0
+HasItsCalls s = s.part.flight ≡ None → events_of s.part.lane s.part.seen ≡ s.part.mine
+
+-- Two seats met: both have seen one list, which is legal from the one opening state, begins with what either had seen,
+-- and has just the calls of each.
+pub record Meets (s t new_s new_t : Sitting) : Type 0 where
+  pub opening : (new_s.opening ≡ s.opening) × (new_t.opening ≡ s.opening)
+  pub lanes : (new_s.part.lane ≡ s.part.lane) × (new_t.part.lane ≡ t.part.lane)
+  pub same : new_t.part.seen ≡ new_s.part.seen
+  pub last : State
+  pub legal : IsLegal s.opening new_s.part.seen last
+  pub first : Begins s.part.seen new_s.part.seen
+  pub second : Begins t.part.seen new_s.part.seen
+  pub mine : (new_s.part.mine ≡ s.part.mine) × (new_t.part.mine ≡ t.part.mine)
+  pub own : HasItsCalls new_s × HasItsCalls new_t
+
+-- the store is the end of a legal list, which begins with what the seat had seen
+pub record EndsIn (s : Sitting) (store : State) : Type 0 where
+  pub log : List Event
+  pub legal : IsLegal s.opening log store
+  pub seen : Begins s.part.seen log
+
+-- nothing was called: all but how often the turn was found taken is as before
+pub record HasWaited (s t : Sitting) : Type 0 where
+  pub table : t.table ≡ s.table
+  pub opening : t.opening ≡ s.opening
+  pub lane : t.part.lane ≡ s.part.lane
+  pub seen : t.part.seen ≡ s.part.seen
+  pub mine : t.part.mine ≡ s.part.mine

@@ -1,0 +1,34 @@
+//! What holds of all that a seat has seen.
+ghost use Rattle.krs_model.specs.Receiving.{GivesStreams};
+ghost use Rattle.krs_model.specs.Revocation.{StaysUnread};
+ghost use Rattle.krs_desk.specs.Seen.{IsOneHistory, IsNotReadRevoked, GivesItsStreams};
+
+use crate::seat::Seat;
+
+impl Seat {
+    /// What a seat has seen is one legal history from the store that the desk was opened with.
+    pub fn has_seen_one_history(&self)
+        ensures { IsOneHistory self.now.opening self.now.part.seen }
+    {
+        let _token = &self.token;
+    }
+
+    /// In what a seat has seen, no READ of a key is accepted after an accepted REVOKE of it. So it is in every history
+    /// of the desk. keyctl(2), KEYCTL_REVOKE.
+    pub fn revoked_keys_are_not_read(&self)
+        ensures seen { IsNotReadRevoked self.now.opening self.now.part.seen }
+        ensures always { StaysUnread self.now.opening }
+    {
+        let _token = &self.token;
+    }
+
+    /// For a queue that was opened in what a seat has seen: while it is open, what was read, followed by what waits, is
+    /// its stream; once it is closed, what was read begins it. So it is in every history of the desk.
+    /// core-api/watch_queue.rst, "Watch Queue (Notification Output) API".
+    pub fn queues_give_their_streams(&self)
+        ensures seen { GivesItsStreams self.now.opening self.now.part.seen }
+        ensures always { GivesStreams self.now.opening }
+    {
+        let _token = &self.token;
+    }
+}

@@ -1,0 +1,18 @@
+//! A store that any number of threads share, each by a seat of its own. There is one history of all calls: each reply
+//! is the sequential store's at one point of it, and a contract sees a seat as what it knows of that history.
+#![tactic(auto)]
+
+mod closing;
+mod desk;
+mod laws;
+mod meeting;
+mod opening;
+mod place;
+mod plays;
+mod seat;
+
+pub use closing::Stopped;
+pub use desk::Desk;
+pub use opening::{Refused, Why};
+pub use place::Place;
+pub use seat::Seat;

@@ -1,0 +1,35 @@
+//! What the slot of the table holds, and which events a step on the turn adds.
+use krs_store::Store;
+use krs_types::{Ask, Reply};
+use std::marker::Brand;
+use std::snapshot::Snapshot;
+
+/// The slot of the table: the store while the turn is free, and nothing while it is out.
+#[derive(Drop)]
+pub enum Place {
+    Empty,
+    Home(Store),
+}
+
+/// A call as clauses see it. It holds neither the ask nor the reply.
+#[derive(Drop)]
+pub(crate) struct Note {
+    pub lane: u32,
+    pub moment: u64,
+    pub ask: Snapshot<Ask>,
+    pub reply: Snapshot<Reply>,
+}
+
+/// Which events a step adds to the history. Each call of a program picks them.
+pub(crate) trait Added {
+    ghost use Rattle.std.specs.Prelude.{List};
+    ghost use Rattle.krs_types.specs.declared.event.Event.{Event};
+
+    ghost events: { List Event };
+}
+
+impl Added for Brand {
+    ghost use Rattle.std.specs.Prelude.{[]};
+
+    ghost events = { [] };
+}

@@ -1,0 +1,51 @@
+//! What a thread knows of the one history.
+ghost use Rattle.std.specs.Prelude.{◌≡◌};
+ghost use Rattle.krs_desk.specs.Seated.{IsResting, sitting_of};
+
+use crate::plays::Token;
+use std::marker::Model;
+
+/// A client's place at the desk that made it. It may be sent to another thread. A contract sees which desk it is of,
+/// the state of the store that the desk was opened with, and what it knows of the history: the events that it has seen,
+/// its own calls, and how often it found the turn taken.
+pub struct Seat {
+    pub(crate) lane: u32,
+    pub(crate) token: Token,
+}
+
+impl Model for Seat {
+    ghost use Rattle.krs_desk.specs.Sitting.{Sitting};
+
+    ghost Value = { Sitting };
+
+    ghost use Rattle.krs_desk.specs.Seated.{sitting_of, IsSeated};
+
+    ghost view = { λ s. sitting_of s.token.table_id s.token.me };
+
+    ghost invariant = { λ s. IsSeated s.lane s.token.me };
+}
+
+// By hand, as the desk's.
+impl Drop for Seat {
+    fn drop(self) {
+        let Self { lane: _, token: _ } = self;
+    }
+}
+
+impl Seat {
+    // The token of a seat that is given up.
+    pub(crate) fn into_token(self) -> Token
+        ensures sitting { sitting_of result.table_id result.me ≡ self }
+        ensures rests { IsResting result.me }
+    {
+        let Self { lane: _, token } = self;
+        token
+    }
+
+    /// The number of the seat at its desk. The store knows it as the client's number.
+    pub fn lane(&self) -> u32
+        ensures { result ≡ self.now.part.lane }
+    {
+        self.lane
+    }
+}

@@ -1,0 +1,125 @@
+-- A machine that begins has one history, and so has it after every list of steps.
+use Rattle.std.proofs.Common.{◌≡◌, ℕ, zero, suc, ◌+◌, ◌<◌, ◌≤◌, true, false, List, [], ◌∷◌, ◌++◌, map}
+use Rattle.std.proofs.Common.{length, length-append, ⊎_elim, None, refl, sym, ap, ◌∙◌}
+use Rattle.std.proofs.Common.{subst, inl, inr, arith}
+use mathlib.Core.Option.{some, some-injective, some-ne-none}
+use lib.ListN.{get_elem?}
+use Rattle.krs_model.specs.State.{State, starting_at}
+use Rattle.krs_world.specs.declared.view.Cell.TheVariants.{Empty}
+use Rattle.krs_world.specs.declared.view.Part.{Part}
+use Rattle.krs_world.specs.declared.view.View.{View}
+use Rattle.krs_world.specs.declared.step.WorldStep.{WorldStep}
+use Rattle.krs_world.specs.Knowing.{one, fresh}
+use Rattle.krs_world.specs.History.{Known, Fits, Stands}
+use Rattle.krs_world.specs.declared.world.Lane.{Lane}
+use Rattle.krs_world.specs.World.{Free, World, fresh_lanes, empty_cells, new_world, Runs, cell_of, IsOneHistory}
+use Rattle.krs_world.specs.Kept.{part_by, world_of, fresh_lane, AreFreshLanes}
+use Rattle.krs_world.specs.Kept.{IsKept}
+use Rattle.krs_model.proofs.Legal.{legal_none}
+use Rattle.krs_world.proofs.Seating.{at_snoc}
+use Rattle.krs_world.proofs.Worlds.{of_map, runs_keep}
+
+cells_empty : (k l : ℕ) → cell_of (empty_cells k) l ≡ Empty
+cells_empty zero l = refl
+cells_empty (suc k) zero = refl
+cells_empty (suc k) (suc l) = cells_empty k l
+
+fresh_at : (n k j : ℕ) (p : Part) → get_elem? (fresh_lanes n k) j ≡ some p → (fresh (n + j) ≡ p) × (j < k)
+fresh_at n zero j p e = absurd (some-ne-none p (sym e))
+fresh_at n (suc k) zero p e = let same : n + 0 ≡ n = omega arith in
+    (ap fresh same ∙ some-injective (fresh n) p e, omega arith)
+fresh_at n (suc k) (suc j) p e = let t = fresh_at (n + 1) k j p e in
+    let same : n + suc j ≡ (n + 1) + j = omega arith in let lt = t.1 in (ap fresh same ∙ t.0, omega arith)
+
+fresh_here : (lanes j : ℕ) (p : Part) → get_elem? (fresh_lanes 0 lanes) j ≡ some p → (fresh j ≡ p) × (j < lanes)
+fresh_here lanes j p e = let t = fresh_at 0 lanes j p e in let same : j ≡ 0 + j = omega arith in
+    (ap fresh same ∙ t.0, t.1)
+
+known : (lanes j : ℕ) → j < lanes → Known [] 0 0 lanes (λ l. l) (cell_of (empty_cells lanes)) None j (fresh j)
+known lanes j lt = record {
+  at = refl;
+  given = lt;
+  seen = ([], refl);
+  base = ([], refl);
+  calls = ([], refl);
+  fits = subst (Fits [] (fresh j)) (sym (cells_empty lanes j)) (refl, refl, refl);
+  holding = λ l is. absurd cc;
+  unheld = λ _. refl;
+}
+
+pub begins_world : (lanes : ℕ) → IsOneHistory (new_world lanes)
+begins_world lanes = let a : State = starting_at 3 in record {
+  history = record {
+    log = [];
+    last = a;
+    holder = 0;
+    dealt = lanes;
+    seat = λ l. l;
+    serving = None;
+    held = λ n. absurd (omega arith);
+    longest = λ _. inl refl;
+    legal = legal_none a;
+    at_home = λ _. refl;
+    young = λ _. refl;
+    unserved = λ _. refl;
+    undealt = λ l _. cells_empty lanes l;
+    serves = λ l m ask is. absurd (let no = sym (cells_empty lanes l) ∙ is in cc);
+    served = λ s is. absurd cc;
+    openings = λ j v e. let m = of_map (one a) (fresh_lanes 0 lanes) j v e in
+        inr (ap (λ (w : View). w.opening) (sym m.2));
+    each = λ j v e. let m = of_map (one a) (fresh_lanes 0 lanes) j v e in let t = fresh_here lanes j m.0 m.1 in
+        subst (λ (w : View). Stands [] 0 0 lanes (λ l. l) (cell_of (empty_cells lanes)) None j w.stands)
+        (ap (one a) t.0 ∙ m.2) (known lanes j t.1);
+  };
+  out = tt;
+  lanes = λ j p e. let t = fresh_here lanes j p e in ap (λ (q : Part). q.lane) (sym t.0);
+}
+
+pub always_one : (lanes : ℕ) (steps : List WorldStep) (end : World) → Runs (new_world lanes) steps end
+    → IsOneHistory end
+always_one lanes steps end r = runs_keep (new_world lanes) steps end (begins_world lanes) r
+
+begins_whole : (lanes : ℕ) → (o : IsOneHistory (new_world lanes)) × (o.history.log ≡ [])
+unfolding begins_world
+begins_whole lanes = (begins_world lanes, refl)
+
+fresh_parts : (n : ℕ) (lanes : List Lane) → ((j : ℕ) (l : Lane) → get_elem? lanes j ≡ some l → l ≡ fresh_lane (n + j))
+    → map (part_by []) lanes ≡ fresh_lanes n (length lanes)
+fresh_parts n [] all = refl
+fresh_parts n (x ∷ xs) all = let first : x ≡ fresh_lane n = all 0 x refl ∙ ap fresh_lane (omega arith) in
+    let head : part_by [] x ≡ fresh n = ap (part_by []) first in
+    let more = fresh_parts (n + 1) xs (λ j l e. all (suc j) l e ∙ ap fresh_lane (omega arith)) in λ i. head i ∷ more i
+
+-- a machine that is made of fresh lanes
+pub new_is : (lanes : List Lane) (n : ℕ) → AreFreshLanes n lanes → world_of (starting_at 3) None [] lanes ≡ new_world n
+new_is lanes n f = let parts : map (part_by []) lanes ≡ fresh_lanes 0 (length lanes) =
+    fresh_parts 0 lanes (λ j l e. f.1 j l e ∙ ap fresh_lane (omega arith)) in
+    λ i. record {
+      opening = starting_at 3;
+      turn = Free (starting_at 3);
+      cells = empty_cells (f.0 i);
+      seats =
+          (parts ∙ ap (fresh_lanes 0) f.0) i;
+    }
+
+pub new_kept : (lanes : List Lane) (n : ℕ) → AreFreshLanes n lanes → IsKept (starting_at 3) None [] lanes
+new_kept lanes n f = let b : (o : IsOneHistory (world_of (starting_at 3) None [] lanes)) × (o.history.log ≡ []) =
+    subst (λ (w : World). (o : IsOneHistory w) × (o.history.log ≡ [])) (sym (new_is lanes n f)) (begins_whole n) in
+    record {
+      one = b.0;
+      whole = b.1;
+      legal = legal_none (starting_at 3);
+      short = λ j l e. subst (λ (z : Lane). (z.seen ≤ 0) × (z.base ≤ 0)) (sym (f.1 j l e)) (omega arith, omega arith);
+      numbered = λ j l e. ap (λ (z : Lane). z.lane) (f.1 j l e);
+      holds = λ j l e held. absurd (let no : false ≡ true = sym (ap (λ (z : Lane). z.holding) (f.1 j l e)) ∙ held in
+          cc);
+    }
+
+-- one lane more
+pub fresh_more : (lanes : List Lane) (n : ℕ) → AreFreshLanes n lanes
+    → AreFreshLanes (n + 1) (lanes ++ fresh_lane n ∷ [])
+fresh_more lanes n f = (
+  length-append lanes (fresh_lane n ∷ []) ∙ ap (λ (k : ℕ). k + 1) f.0,
+  λ j l e. ⊎_elim (λ (t : get_elem? lanes j ≡ some l). f.1 j l t) (λ (t : (fresh_lane n ≡ l)
+      × (j ≡ length lanes)). sym t.0 ∙ ap fresh_lane (sym (t.1 ∙ f.0))) (at_snoc lanes (fresh_lane n) l j e),
+)

@@ -1,0 +1,130 @@
+-- One history: what holds, between any two steps, of the turn, the store, the cells and what all seats know.
+-- The words are those of Herlihy and Wing, "Linearizability" (1990). An operation is a call with its reply, here an
+-- `Event`: lane, moment, ask, reply. A history is a list of operations; it is legal where each is a step of the
+-- sequential store from the state that the one before it left. The form is this project's own.
+use Rattle.std.specs.Prelude.{◌≡◌, ◌≢◌, ◌⊎◌, ℕ, ◌<◌, ◌≤◌, ◌==◌, false, List, [], ◌∷◌, ◌++◌, Option, Some, None}
+use Rattle.std.specs.List.{filter}
+use mathlib.Core.Option.{some}
+use lib.ListN.{get_elem?}
+use Rattle.krs_types.specs.declared.ask.Ask.{Ask}
+use Rattle.krs_types.specs.declared.event.Event.{Event}
+use Rattle.krs_model.specs.State.{State}
+use Rattle.krs_model.specs.Lists.{Begins}
+use Rattle.krs_model.specs.History.{event_of, IsLegal}
+use Rattle.krs_world.specs.declared.view.Cell.{Cell}
+use Rattle.krs_world.specs.declared.view.Cell.TheVariants.{Empty, Posted, Serving, Answered}
+use Rattle.krs_world.specs.declared.view.Flight.{Flight}
+use Rattle.krs_world.specs.declared.view.Service.{Service}
+use Rattle.krs_world.specs.declared.view.Part.{Part}
+use Rattle.krs_world.specs.declared.view.Standing.{Standing}
+use Rattle.krs_world.specs.declared.view.Standing.TheVariants.{Spent, One, Two, Opening}
+use Rattle.krs_world.specs.declared.view.View.{View}
+
+-- the operations of one lane, in the order of the history
+abbrev pub events_of : ℕ → List Event → List Event
+events_of lane log = filter (λ e. e.lane == lane) log
+
+-- a call that the holder of the turn serves
+abbrev pub service : ℕ → ℕ → Ask → Service
+service lane moment ask = record { lane = lane; moment = moment; ask = ask }
+
+-- a call in flight, posted by a lane that had seen this list
+abbrev pub flight : ℕ → Ask → List Event → Flight
+flight moment ask after = record { moment = moment; ask = ask; after = after }
+
+-- real-time order: the operation stands in the history behind all of this list, which begins the history
+abbrev pub StandsAfter : List Event → Event → List Event → Type 0
+StandsAfter before e log = (between : List Event) × (rest : List Event) × (log ≡ (before ++ between) ++ e ∷ rest)
+
+-- The history has a lane's operations once, in their order: those that the lane knows of (`mine`) and, where its cell
+-- is answered, the one that the cell says, which stands after all that the lane had seen as it posted it. A cell that
+-- isn't empty has the call in flight, with its moment and ask; the lane is `done` only where its cell is answered.
+abbrev pub Fits : List Event → Part → Cell → Type 0
+Fits log p Empty = (p.flight ≡ None) × (events_of p.lane log ≡ p.mine) × (p.done ≡ false)
+Fits log p (Posted m a) =
+    (f : List Event) × (p.flight ≡ Some (flight m a f)) × (events_of p.lane log ≡ p.mine) × (p.done ≡ false)
+    × Begins f log
+Fits log p (Serving m a) =
+    (f : List Event) × (p.flight ≡ Some (flight m a f)) × (events_of p.lane log ≡ p.mine) × (p.done ≡ false)
+    × Begins f log
+Fits log p (Answered m a r) =
+    (f : List Event) × (p.flight ≡ Some (flight m a f))
+    × (events_of p.lane log ≡ p.mine ++ event_of p.lane m a r ∷ []) × StandsAfter f (event_of p.lane m a r) log
+
+-- what is so of a seat j that holds a list: the turn is out, and out here; the list is the whole history
+pub record Holds (log : List Event) (turn holder : ℕ) (serving : Option Service) (j : ℕ) (p : Part) (l : List Event)
+    : Type 0 where
+  pub out : turn ≡ 1
+  pub here : j ≡ holder
+  pub whole : l ≡ log
+  pub serves : p.serving ≡ serving  -- the one call that is being served is its to serve
+
+-- what is so of a lane that the seat j stands for
+pub record Known (log : List Event) (turn holder dealt : ℕ) (seat : ℕ → ℕ) (cell : ℕ → Cell) (serving : Option Service)
+    (j : ℕ) (p : Part) : Type 0 where
+  pub at : seat p.lane ≡ j  -- no other seat stands for this lane
+  pub given : p.lane < dealt  -- it is one of the lanes that were dealt
+  pub seen : Begins p.seen log  -- what it has seen begins the history
+  pub base : Begins p.base log  -- so does the history as it last took the turn
+  pub calls : Begins p.mine (events_of p.lane p.seen)  -- it has seen the operations that it knows of as its own
+  pub fits : Fits log p (cell p.lane)  -- the history has its operations once, in their order
+  pub holding : (l : List Event) → p.holding ≡ Some l → Holds log turn holder serving j p l  -- one seat alone holds
+  pub unheld : p.holding ≡ None → p.serving ≡ None  -- who doesn't hold the history serves no call
+
+-- what is so of the lanes that a seat stands for: one; two while two seats meet; none yet, or none any more
+module _ (log : List Event) (turn holder dealt : ℕ) (seat : ℕ → ℕ) (cell : ℕ → Cell) (serving : Option Service)
+    (j : ℕ) where
+  abbrev pub Stands : Standing → Type 0
+  Stands Spent = Unit {0}
+  Stands (One p) = Known log turn holder dealt seat cell serving j p
+  Stands (Two p q) =
+      Known log turn holder dealt seat cell serving j p × Known log turn holder dealt seat cell serving j q
+      × (p.lane ≢ q.lane) × (p.holding ≡ None) × (q.holding ≡ None)
+  Stands (Opening n) = (turn ≡ 2) × (j ≡ holder) × (n ≡ dealt)
+
+-- a lane of the seat has seen just this list
+abbrev pub HasSeen : List Event → Standing → Type 0
+HasSeen log Spent = ⊥
+HasSeen log (One p) = p.seen ≡ log
+HasSeen log (Two p q) = (p.seen ≡ log) ⊎ (q.seen ≡ log)
+HasSeen log (Opening n) = ⊥
+
+-- the seat has the turn, and holds just this list
+abbrev pub HasTurn : List Event → Standing → Type 0
+HasTurn log Spent = ⊥
+HasTurn log (One p) = p.holding ≡ Some log
+HasTurn log (Two p q) = ⊥
+HasTurn log (Opening n) = ⊥
+
+-- some seat has seen just this list, or it is empty
+abbrev pub IsSeen : List Event → List View → Type 0
+IsSeen log views = (log ≡ []) ⊎ ((j : ℕ) × (v : View) × (get_elem? views j ≡ some v) × HasSeen log v.stands)
+
+-- the seat at the holder's place holds just this list
+abbrev pub IsHeld : List Event → ℕ → List View → Type 0
+IsHeld log holder views = (v : View) × (get_elem? views holder ≡ some v) × HasTurn log v.stands
+
+-- There is one history, `log`. The turn is 0 where it is free, 1 where it is out, and 2 while the seats are dealt;
+-- `home` is the store's state where it is at home; `views` is what each seat knows.
+pub record OneHistory (opening : State) (turn : ℕ) (home : Option State) (cell : ℕ → Cell) (views : List View)
+    : Type 0 where
+  pub log : List Event  -- the history
+  pub last : State  -- the state that it ends in
+  pub holder : ℕ  -- the seat that has the turn, where it is out
+  pub dealt : ℕ  -- how many lanes have a seat
+  pub seat : ℕ → ℕ  -- which seat stands for a lane
+  pub serving : Option Service  -- the posted call that is being served, if any
+  pub held : turn ≡ 1 → IsHeld log holder views  -- it is what the holder holds, while the turn is out
+  pub longest : turn ≢ 1 → IsSeen log views  -- else it is the longest list that a seat has seen
+  pub legal : IsLegal opening log last  -- it is one of the sequential store, from the opening on
+  pub at_home : turn ≢ 1 → home ≡ Some last  -- it ends in the state at home, where the turn is free
+  pub young : turn ≡ 2 → log ≡ []  -- nothing is called while the seats are dealt
+  pub unserved : turn ≢ 1 → serving ≡ None  -- no call is served unless the turn is out
+  pub undealt : (lane : ℕ) → dealt ≤ lane → cell lane ≡ Empty  -- a lane without a seat has posted nothing
+  -- a cell is served exactly where the holder serves it, with its moment and ask
+  pub serves : (lane moment : ℕ) (ask : Ask) → cell lane ≡ Serving moment ask → serving ≡ Some (service lane moment ask)
+  pub served : (s : Service) → serving ≡ Some s → cell s.lane ≡ Serving s.moment s.ask
+  -- each seat that stands for a lane knows the store's state at the opening
+  pub openings : (j : ℕ) (v : View) → get_elem? views j ≡ some v → (v.stands ≡ Spent) ⊎ (v.opening ≡ opening)
+  -- what each seat knows is so
+  pub each : (j : ℕ) (v : View) → get_elem? views j ≡ some v → Stands log turn holder dealt seat cell serving j v.stands
