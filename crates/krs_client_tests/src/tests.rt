@@ -1,4 +1,5 @@
 mod desk;
 mod script;
+mod seats;
 mod session;
 mod wire;

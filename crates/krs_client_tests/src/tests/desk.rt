@@ -1,7 +1,8 @@
 //! Seats of one desk: in turn on one thread, and side by side on two. Where a growth of `open` is refused, the store
 //! that came back opens the next desk, so that each of these also shows that it came back whole.
-ghost use Rattle.std.specs.Prelude.{◌≡◌, IfSome};
+ghost use Rattle.std.specs.Prelude.{◌≡◌};
 
+use super::seats::two_seats;
 use krs_desk::{Desk, Seat, Why};
 use krs_store::Store;
 use krs_types::{Answer, Ask, Blob, Caller, Errno, Groups, Op, Reply};
@@ -62,19 +63,6 @@ fn gives_length(reply: &Reply, length: usize) -> bool {
         Ok(Answer::Bytes(body)) => body.as_slice().len() == length,
         _ => false,
     }
-}
-
-/// A desk of two lanes and its seats. Where memory was refused it is tried again with the store that came back.
-fn two_seats(alloc: Global, store: Store) -> Option<(Desk, Seat, Seat)>
-    ensures { IfSome result (λ d. (d.1.table ≡ d.0) × (d.2.table ≡ d.0)) }
-{
-    let (desk, mut seats) = match Desk::open(alloc, 2, store) {
-        Ok(opened) => opened,
-        Err(refused) => Desk::open(alloc, 2, refused.store).ok()?,
-    };
-    let second = seats.pop()?;
-    let first = seats.pop()?;
-    Some((desk, first, second))
 }
 
 // Every call by `try_call` on one thread: no ask comes back.
