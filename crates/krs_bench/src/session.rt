@@ -1,11 +1,13 @@
-ghost use Rattle.std.specs.Prelude.{ℕ, List};
+ghost use Rattle.std.specs.Prelude.{◌≡◌, ℕ, List};
 
 use anyhow::{Result, bail};
-use krs_session::{Clock, Ended, Gate, OneDesk, OneSeat, Over, Point, run};
+use krs_desk::{Desk, Seat};
+use krs_session::{Clock, Ended, Gate, Over, Point, run};
 use krs_store::Store;
 use krs_types::Ask;
 use krs_wire::encode_ask;
 use std::alloc::Global;
+use std::sync::Wait;
 use std::time::{Duration, Instant};
 
 /// More reads than any stream here wants.
@@ -36,14 +38,19 @@ impl Gate for Open {
 }
 
 /// Times asks that a session hands to a store.
-pub fn time_session<R: AllocGlobal + std::rt::Clock>(
+pub fn time_session<R: AllocGlobal + std::rt::Clock + Wait>(
     rt: &R,
     store: Store,
     asks: Vec<Ask>,
 ) -> Result<Duration> {
     let alloc = rt.alloc();
     let stream = frames(alloc, asks)?;
-    let (desk, mut seat) = OneDesk::open(1, store);
+    let Ok((desk, mut seats)) = Desk::open(alloc, 1, store) else {
+        bail!("no desk");
+    };
+    let Some(mut seat) = seats.pop() else {
+        bail!("no seat");
+    };
     let start = Instant::now(rt)?;
     let is_whole = serve(rt, alloc, &stream, &desk, &mut seat);
     let took = start.elapsed(rt)?;
@@ -54,7 +61,9 @@ pub fn time_session<R: AllocGlobal + std::rt::Clock>(
 }
 
 /// One session over a stream. Whether it was served to its end.
-fn serve<R>(rt: &R, alloc: Global, stream: &[u8], desk: &OneDesk, seat: &mut OneSeat) -> bool {
+fn serve<R: Wait>(rt: &R, alloc: Global, stream: &[u8], desk: &Desk, seat: &mut Seat) -> bool
+    requires { seat.old.table ≡ desk.now }
+{
     let mut reader = Over::new(stream);
     let mut writer = Over::new(Vec::new(alloc));
     let mut clock = Still;

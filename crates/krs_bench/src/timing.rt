@@ -5,6 +5,7 @@ use anyhow::{Result, bail};
 use krs_store::Store;
 use krs_types::{Ask, Errno, Fault};
 use std::alloc::{AllocError, Global};
+use std::sync::Wait;
 use std::time::{Duration, Instant};
 
 /// How many runs are made.
@@ -25,7 +26,7 @@ pub enum Way {
 }
 
 /// How many nanoseconds a round takes with so many links, at least one: the median of the runs.
-pub fn nanoseconds<R: AllocGlobal + std::rt::Clock>(
+pub fn nanoseconds<R: AllocGlobal + std::rt::Clock + Wait>(
     rt: &R,
     operation: Operation,
     count: u32,
@@ -41,7 +42,7 @@ pub fn nanoseconds<R: AllocGlobal + std::rt::Clock>(
 }
 
 /// Times one run, on a store of its own.
-fn time_run<R: AllocGlobal + std::rt::Clock>(
+fn time_run<R: AllocGlobal + std::rt::Clock + Wait>(
     rt: &R,
     operation: Operation,
     count: u32,

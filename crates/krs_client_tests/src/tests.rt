@@ -1,3 +1,5 @@
+mod desk;
 mod script;
+mod seats;
 mod session;
 mod wire;

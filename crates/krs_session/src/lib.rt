@@ -5,11 +5,12 @@
 
 mod asking;
 mod clock;
+mod desk;
 mod ended;
 mod ends;
 mod gate;
 mod keeper;
-mod one_desk;
+mod laws;
 mod over;
 mod session;
 mod writing;
@@ -19,6 +20,6 @@ pub use ended::Ended;
 pub use ends::{Failed, Sink, Source};
 pub use gate::{Gate, Point};
 pub use keeper::Keeper;
-pub use one_desk::{OneDesk, OneSeat};
+pub use laws::{a_seat_gains_its_calls, a_session_is_its_asks_and_leave};
 pub use over::Over;
 pub use session::run;

@@ -1,17 +1,20 @@
 ghost use Rattle.std.specs.Prelude.{◌≡◌, ◌++◌, ◌∷◌, [], List};
 ghost use Rattle.krs_types.specs.declared.event.Event.{Event};
-ghost use Rattle.krs_model.specs.History.{IsLegal};
+ghost use Rattle.krs_session.specs.Leads.{GainsSession};
 ghost use Rattle.krs_client_tests.specs.Conversing.{Conversed};
 
-mod desk;
 mod fakes;
+mod shared;
 
+use super::seats::one_seat;
 use fakes::{Chair, Rising, Table, Then, Watching, reader_of, watches, writer_of};
+use krs_desk::{Desk, Seat};
 use krs_session::*;
 use krs_store::Store;
 use krs_wire::WireFault;
 use std::alloc::Global;
 use std::process::Abort;
+use std::sync::Wait;
 use std::test::*;
 
 // HELLO 1000 1000 without groups; ADD user alpha `s3` to -4 in context 1; READ 5 in context 1.
@@ -192,11 +195,11 @@ fn check(rt: &impl Abort, alloc: Global, case: &Case<'_>) {
 const ALL: (usize, usize, Then) = (4096, 4096, Then::GivesNone);
 
 #[test]
-fn asks_in_any_two_pieces_are_answered_alike(rt: HostRuntime) {
+fn asks_in_any_two_pieces_are_answered_alike(rt: HostRuntime) -> Result<(), Fail> {
     for first in 1..=ASKS.len() {
         let mut reader = reader_of(&ASKS, first, ASKS.len(), Then::GivesNone);
         let mut writer = Over::new(Vec::new(rt.alloc()));
-        let (desk, mut seat) = OneDesk::open(1, Store::new(rt.alloc()));
+        let (desk, mut seat) = one_seat(rt.alloc(), Store::new(rt.alloc())).ok_or("no desk")?;
         let mut clock = Rising { at: 100 };
         let gate = watches(0);
         let ended = run(
@@ -215,6 +218,7 @@ fn asks_in_any_two_pieces_are_answered_alike(rt: HostRuntime) {
         assert_eq!(rt; text.as_slice(), REPLIES.as_slice(), "cut at {first}");
         assert_eq!(rt; gate.answered.get(), 4, "cut at {first}");
     }
+    Ok(())
 }
 
 #[test]
@@ -250,28 +254,32 @@ fn each_end_is_told_and_leave_is_asked_last(rt: HostRuntime) {
     }
 }
 
-// A session over bytes in memory, and what `run` tells of it there where it was closed: its events are a legal
-// history.
-fn converse(
-    rt: &impl Abort,
+// A session over bytes in memory, and what `run` tells of it there where it was closed: the seat's new calls are what
+// its frames ask, and one LEAVE.
+fn converse<R: Wait>(
+    rt: &R,
     alloc: Global,
     input: &[u8],
-    seat: &mut OneSeat,
+    desk: &Desk,
+    seat: &mut Seat,
     gate: &Watching,
 ) -> (Vec<u8>, Ended)
-    ensures { result.1 ≡ Ended.Closed
-        → (events : List Event) × (last : Event) × Conversed input.now result.0.items events last
-        × IsLegal seat.old (events ++ last ∷ []) seat.new }
+    requires { seat.old.table ≡ desk.now }
+    ensures table { seat.new.table ≡ desk.now }
+    ensures closed { result.1 ≡ Ended.Closed
+        → (events : List Event) × (last : Event) × (said : Conversed input.now result.0.items events last)
+        × GainsSession seat.old said.frames (events ++ last ∷ []) seat.new }
 {
     let mut reader = Over::new(input);
     let mut writer = Over::new(Vec::new(alloc));
     let mut clock = Rising { at: 100 };
+    a_session_is_its_asks_and_leave::<Over<&[u8]>, Over<Vec<u8>>, Rising>();
     let ended = run(
         rt,
         alloc,
         &mut reader,
         &mut writer,
-        &OneDesk,
+        desk,
         seat,
         &mut clock,
         gate,
@@ -281,27 +289,33 @@ fn converse(
 }
 
 #[test]
-fn a_session_over_memory_is_answered(rt: HostRuntime) {
-    let (desk, mut seat) = OneDesk::open(1, Store::new(rt.alloc()));
+fn a_session_over_memory_is_answered(rt: HostRuntime) -> Result<(), Fail> {
+    let (desk, mut seat) = one_seat(rt.alloc(), Store::new(rt.alloc())).ok_or("no desk")?;
     let gate = watches(0);
-    let (text, ended) = converse(&rt, rt.alloc(), &ASKS, &mut seat, &gate);
+    let (text, ended) = converse(&rt, rt.alloc(), &ASKS, &desk, &mut seat, &gate);
     assert_eq!(rt; ended, Ended::Closed);
     assert_eq!(rt; text.as_slice(), REPLIES.as_slice());
-    let _ = desk.close(seat);
+    assert!(rt; desk.close(seat).is_ok());
+    Ok(())
 }
 
 // A session of HELLO, ADD and these asks, and the replies to them behind those to HELLO and ADD.
-fn check_replies(rt: &impl Abort, alloc: Global, asks: &[u8], wanted: &[u8]) -> Result<(), Fail> {
+fn check_replies<R: Abort + Wait>(
+    rt: &R,
+    alloc: Global,
+    asks: &[u8],
+    wanted: &[u8],
+) -> Result<(), Fail> {
     let mut stream = Vec::from_slice(alloc, &ASKS[..59])?;
     stream.extend_from_slice(asks)?;
     let mut replies = Vec::from_slice(alloc, &REPLIES[..24])?;
     replies.extend_from_slice(wanted)?;
-    let (desk, mut seat) = OneDesk::open(1, Store::new(alloc));
+    let (desk, mut seat) = one_seat(alloc, Store::new(alloc)).ok_or("no desk")?;
     let gate = watches(0);
-    let (text, ended) = converse(rt, alloc, &stream, &mut seat, &gate);
+    let (text, ended) = converse(rt, alloc, &stream, &desk, &mut seat, &gate);
     assert_eq!(rt; ended, Ended::Closed);
     assert_eq!(rt; text.as_slice(), replies.as_slice());
-    let _ = desk.close(seat);
+    assert!(rt; desk.close(seat).is_ok());
     Ok(())
 }
 

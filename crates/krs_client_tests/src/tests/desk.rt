@@ -1,0 +1,193 @@
+//! Seats of one desk: in turn on one thread, and side by side on two. Where a growth of `open` is refused, the store
+//! that came back opens the next desk, so that each of these also shows that it came back whole.
+ghost use Rattle.std.specs.Prelude.{◌≡◌};
+
+use super::seats::two_seats;
+use krs_desk::{Desk, Seat, Why};
+use krs_store::Store;
+use krs_types::{Answer, Ask, Blob, Caller, Errno, Groups, Op, Reply};
+use std::alloc::{AllocError, Global};
+use std::sync::Wait;
+use std::test::*;
+use std::thread;
+use std::thread::Threads;
+
+/// HELLO 1000 1000 without other groups.
+fn hello(alloc: Global) -> Ask {
+    let groups = Groups::new(Vec::new(alloc));
+    Ask {
+        context: 0,
+        op: Op::Hello(Caller {
+            uid: 1000,
+            gid: 1000,
+            groups,
+        }),
+    }
+}
+
+/// ADD of a user key to the user keyring.
+fn add(alloc: Global, context: u32, desc: &[u8], payload: &[u8]) -> Result<Ask, AllocError> {
+    let op = Op::Add {
+        type_name: Blob::from_slice(alloc, b"user")?,
+        desc: Blob::from_slice(alloc, desc)?,
+        payload: Blob::from_slice(alloc, payload)?,
+        ring: -4,
+    };
+    Ok(Ask { context, op })
+}
+
+fn read(context: u32, id: i32) -> Ask {
+    Ask {
+        context,
+        op: Op::Read { id },
+    }
+}
+
+/// The number that a reply gives, and 0 for any other reply.
+fn number_of(reply: &Reply) -> u32 {
+    match reply {
+        Ok(Answer::Number(number)) => *number,
+        _ => 0,
+    }
+}
+
+fn gives_bytes(reply: &Reply, bytes: &[u8]) -> bool {
+    match reply {
+        Ok(Answer::Bytes(body)) => body.as_slice() == bytes,
+        _ => false,
+    }
+}
+
+fn gives_length(reply: &Reply, length: usize) -> bool {
+    match reply {
+        Ok(Answer::Bytes(body)) => body.as_slice().len() == length,
+        _ => false,
+    }
+}
+
+// Every call by `try_call` on one thread: no ask comes back.
+#[test]
+fn one_thread_is_never_handed_an_ask_back(rt: HostRuntime) -> Result<(), Fail> {
+    let alloc = rt.alloc();
+    let (desk, mut first, mut second) = two_seats(alloc, Store::new(alloc)).ok_or("no desk")?;
+    let reply = desk.try_call(&mut first, 0, hello(alloc));
+    assert!(rt; reply.is_ok_and(|reply| number_of(&reply) == 1));
+    let reply = desk.try_call(&mut first, 0, add(alloc, 1, b"alpha", b"s3")?);
+    assert!(rt; reply.is_ok_and(|reply| number_of(&reply) == 5));
+    desk.meet(&mut first, &mut second);
+    let reply = desk.try_call(&mut second, 0, hello(alloc));
+    assert!(rt; reply.is_ok_and(|reply| number_of(&reply) == 2));
+    let reply = desk.try_call(&mut second, 0, read(2, 5));
+    assert!(rt; reply.is_ok_and(|reply| gives_bytes(&reply, b"s3")));
+    let reply = desk.try_call(&mut second, 0, read(1, 5));
+    assert!(rt; reply.is_ok_and(|reply| reply == Err(Errno::ESRCH)));
+    Ok(())
+}
+
+/// What a thread did at its seat: its context, and the serials of its keys.
+#[derive(Drop)]
+struct Work {
+    context: u32,
+    serials: Vec<u32>,
+}
+
+// HELLO, and a hundred keys whose descriptions begin with this letter.
+fn add_hundred<R: Wait>(
+    rt: &R,
+    alloc: Global,
+    desk: &Desk,
+    seat: &mut Seat,
+    letter: u8,
+) -> Result<Work, AllocError>
+    requires { seat.old.table ≡ desk.now }
+    ensures { seat.new.table ≡ desk.now }
+{
+    let context = number_of(&desk.call(rt, seat, 0, hello(alloc)));
+    let mut serials = Vec::with_capacity(alloc, 100)?;
+    for n in 0..100u8 {
+        let desc = [letter, b'0' + n / 10, b'0' + n % 10];
+        let ask = add(alloc, context, &desc, b"x")?;
+        serials.push(number_of(&desk.call(rt, seat, 0, ask)))?;
+    }
+    Ok(Work { context, serials })
+}
+
+// The seat goes to the thread, and comes back with what was done.
+fn work<R: Wait>(
+    rt: &R,
+    alloc: Global,
+    desk: &Desk,
+    mut seat: Seat,
+    letter: u8,
+) -> (Seat, Result<Work, AllocError>)
+    requires { seat.table ≡ desk.now }
+    ensures { result.0.table ≡ desk.now }
+{
+    let done = add_hundred(rt, alloc, desk, &mut seat, letter);
+    (seat, done)
+}
+
+// Two threads share the desk by reference.
+fn work_side_by_side<R: Threads + Wait + Sync>(
+    rt: &R,
+    alloc: Global,
+    desk: &Desk,
+    first: Seat,
+    second: Seat,
+) -> (
+    (Seat, Result<Work, AllocError>),
+    (Seat, Result<Work, AllocError>),
+)
+    requires { (first.table ≡ desk.now) × (second.table ≡ desk.now) }
+    ensures { (result.0.0.table ≡ desk.now) × (result.1.0.table ≡ desk.now) }
+{
+    thread::join(
+        rt,
+        || work(rt, alloc, desk, first, b'k'),
+        || work(rt, alloc, desk, second, b'h'),
+    )
+}
+
+// 200 keys of two threads have the serials 5 to 204, each once. Both contexts read 800 bytes of links then, and so does
+// the store that the desk gives back.
+#[test]
+fn two_threads_share_one_store(rt: HostRuntime) -> Result<(), Fail> {
+    let alloc = rt.alloc();
+    let (desk, first, second) = two_seats(alloc, Store::new(alloc)).ok_or("no desk")?;
+    let ((mut first, one), (mut second, two)) = work_side_by_side(&rt, alloc, &desk, first, second);
+    let (one, two) = (one?, two?);
+    let mut serials = one.serials;
+    for serial in two.serials {
+        serials.push(serial)?;
+    }
+    serials.sort_unstable();
+    assert_eq!(rt; serials.len(), 200);
+    let mut wanted = 5;
+    for serial in serials.iter() {
+        assert_eq!(rt; *serial, wanted);
+        wanted += 1;
+    }
+    desk.meet(&mut first, &mut second);
+    assert!(rt; gives_length(&desk.call(&rt, &mut first, 0, read(one.context, -4)), 800));
+    assert!(rt; gives_length(&desk.call(&rt, &mut second, 0, read(two.context, -4)), 800));
+    let mut store = desk.close(first).map_err(|_| "the turn is out")?;
+    assert!(rt; gives_length(&store.apply(0, 0, read(one.context, -4)), 800));
+    Ok(())
+}
+
+#[test]
+fn too_few_or_many_lanes_hand_the_store_back(rt: HostRuntime) -> Result<(), Fail> {
+    let alloc = rt.alloc();
+    for lanes in [0, 257] {
+        let mut store = Store::new(alloc);
+        let _ = store.apply(0, 0, hello(alloc));
+        let _ = store.apply(0, 0, add(alloc, 1, b"alpha", b"s3")?);
+        let Err(refused) = Desk::open(alloc, lanes, store) else {
+            panic!(rt; "a desk of {lanes} lanes")
+        };
+        assert!(rt; refused.why == Why::Lanes);
+        let mut store = refused.store;
+        assert!(rt; gives_bytes(&store.apply(0, 0, read(1, 5)), b"s3"));
+    }
+    Ok(())
+}

@@ -1,0 +1,111 @@
+//! Sessions on the seats of one desk.
+ghost use Rattle.std.specs.Prelude.{◌≡◌};
+
+use super::converse;
+use super::fakes::watches;
+use crate::tests::seats::{one_seat, two_seats};
+use krs_desk::{Desk, Seat};
+use krs_session::Ended;
+use krs_store::Store;
+use std::alloc::Global;
+use std::sync::Wait;
+use std::test::*;
+use std::thread;
+use std::thread::Threads;
+
+// HELLO 1000 1000 without groups, and the replies to it: context 1, and context 2.
+const HELLO: [u8; 24] = [
+    0x14, 0, 0, 0, 1, 0, 0, 1, 0, 0, 0, 0, 0xe8, 3, 0, 0, 0xe8, 3, 0, 0, 0, 0, 0, 0,
+];
+
+const CONTEXT_1: [u8; 12] = [8, 0, 0, 0, 0, 0, 0, 0, 1, 0, 0, 0];
+
+const CONTEXT_2: [u8; 12] = [8, 0, 0, 0, 0, 0, 0, 0, 2, 0, 0, 0];
+
+// HELLO, and READ of 5 in context 1: context 2, and ESRCH.
+const HELLO_AND_READ: [u8; 40] = [
+    0x14, 0, 0, 0, 1, 0, 0, 1, 0, 0, 0, 0, 0xe8, 3, 0, 0, 0xe8, 3, 0, 0, 0, 0, 0, 0, //
+    0x0c, 0, 0, 0, 1, 0, 0x0b, 0, 1, 0, 0, 0, 5, 0, 0, 0,
+];
+
+const CONTEXT_2_AND_ESRCH: [u8; 20] = [8, 0, 0, 0, 0, 0, 0, 0, 2, 0, 0, 0, 4, 0, 0, 0, 3, 0, 0, 0];
+
+/// What a session gave: the bytes it wrote, how it ended, and how many asks passed its gate.
+#[derive(Drop)]
+struct Greeted {
+    text: Vec<u8>,
+    ended: Ended,
+    answered: u32,
+}
+
+// The seat goes to the thread that serves a session of HELLO on it, and comes back.
+fn greet<R: Wait>(rt: &R, alloc: Global, desk: &Desk, mut seat: Seat) -> (Seat, Greeted)
+    requires { seat.table ≡ desk.now }
+    ensures { result.0.table ≡ desk.now }
+{
+    let gate = watches(seat.lane());
+    let (text, ended) = converse(rt, alloc, &HELLO, desk, &mut seat, &gate);
+    let answered = gate.answered.get();
+    (
+        seat,
+        Greeted {
+            text,
+            ended,
+            answered,
+        },
+    )
+}
+
+// Two threads share the desk by reference.
+fn greet_side_by_side<R: Threads + Wait + Sync>(
+    rt: &R,
+    alloc: Global,
+    desk: &Desk,
+    first: Seat,
+    second: Seat,
+) -> ((Seat, Greeted), (Seat, Greeted))
+    requires { (first.table ≡ desk.now) × (second.table ≡ desk.now) }
+    ensures { (result.0.0.table ≡ desk.now) × (result.1.0.table ≡ desk.now) }
+{
+    thread::join(
+        rt,
+        || greet(rt, alloc, desk, first),
+        || greet(rt, alloc, desk, second),
+    )
+}
+
+// Each session has the answer to its own HELLO: contexts 1 and 2, each once.
+#[test]
+fn two_sessions_share_one_desk(rt: HostRuntime) -> Result<(), Fail> {
+    let alloc = rt.alloc();
+    let (desk, first, second) = two_seats(alloc, Store::new(alloc)).ok_or("no desk")?;
+    let ((first, one), (_, two)) = greet_side_by_side(&rt, alloc, &desk, first, second);
+    for greeted in [&one, &two] {
+        assert_eq!(rt; greeted.ended, Ended::Closed);
+        assert_eq!(rt; greeted.answered, 2);
+    }
+    let (one, two) = (one.text.as_slice(), two.text.as_slice());
+    let is_first = one == CONTEXT_1.as_slice() && two == CONTEXT_2.as_slice();
+    let is_second = one == CONTEXT_2.as_slice() && two == CONTEXT_1.as_slice();
+    assert!(rt; is_first || is_second);
+    assert!(rt; desk.close(first).is_ok());
+    Ok(())
+}
+
+// The second session has a new context, and that of the first is gone.
+#[test]
+fn one_seat_serves_two_sessions(rt: HostRuntime) -> Result<(), Fail> {
+    let alloc = rt.alloc();
+    let (desk, mut seat) = one_seat(alloc, Store::new(alloc)).ok_or("no desk")?;
+    let rows = [
+        (HELLO.as_slice(), CONTEXT_1.as_slice()),
+        (HELLO_AND_READ.as_slice(), CONTEXT_2_AND_ESRCH.as_slice()),
+    ];
+    for (asks, replies) in rows {
+        let (text, ended) = converse(&rt, alloc, asks, &desk, &mut seat, &watches(0));
+        assert_eq!(rt; ended, Ended::Closed);
+        assert_eq!(rt; text.as_slice(), replies);
+    }
+    assert!(rt; desk.close(seat).is_ok());
+    Ok(())
+}

@@ -1,0 +1,54 @@
+-- Which calls lead from one seat of a desk to another, and what the seat gains by them. The form is this project's own.
+use Rattle.std.specs.Prelude.{◌≡◌, ◌≢◌, List, [], ◌∷◌, ◌++◌, refl}
+use Rattle.std.proofs.Common.{subst, sym}
+use Rattle.krs_types.specs.declared.event.Event.{Event}
+use Rattle.krs_model.specs.State.{State}
+use Rattle.krs_model.specs.Lists.{Begins}
+use Rattle.krs_model.specs.History.{IsLegal}
+use Rattle.krs_world.specs.Knowing.{events_of}
+use Rattle.krs_desk.specs.Sitting.{Sitting, Adds}
+use Rattle.krs_wire.specs.declared.framed.Framed.{Framed}
+use Rattle.krs_session.specs.Events.{asks_of, asks_in}
+use Rattle.krs_session.specs.Session.{leave}
+
+-- each call is made at the seat that the one before it left
+abbrev pub Leads : Sitting → List Event → Sitting → Type 0
+Leads s [] t = s ≡ t
+Leads s (call ∷ calls) t = (u : Sitting) × Adds s call u × Leads u calls t
+
+pub leads_none : (s : Sitting) → Leads s [] s
+leads_none s = refl
+
+pub leads_both : (s t u : Sitting) (xs ys : List Event) → Leads s xs t → Leads t ys u → Leads s (xs ++ ys) u
+leads_both s t u [] ys p q = subst (λ (z : Sitting). Leads z ys u) (sym p) q
+leads_both s t u (x ∷ xs) ys p q = (p.0, p.1, leads_both p.0 t u xs ys p.2 q)
+
+-- Some beginning `upto` of what is now seen is legal from the opening state, begins with all that had been seen, and
+-- ends with this call.
+pub record SeesUpTo (s : Sitting) (call : Event) (t : Sitting) : Type 0 where
+  pub upto : List Event
+  pub between : List Event
+  pub last : State
+  pub begins : Begins upto t.part.seen
+  pub legal : IsLegal s.opening upto last
+  pub ends : upto ≡ (s.part.seen ++ between) ++ call ∷ []
+
+-- The seat has just these calls more, in this order, and what it had seen begins what it has now seen. Up to each of
+-- them that is a legal history; and it has just the seat's calls, where any was made.
+pub record Gains (s : Sitting) (calls : List Event) (t : Sitting) : Type 0 where
+  pub table : t.table ≡ s.table
+  pub opening : t.opening ≡ s.opening
+  pub lane : t.part.lane ≡ s.part.lane
+  pub mine : t.part.mine ≡ s.part.mine ++ calls
+  pub seen : Begins s.part.seen t.part.seen
+  pub each : (before after : List Event) (call : Event) → calls ≡ before ++ call ∷ after → SeesUpTo s call t
+  pub own : calls ≢ [] → events_of t.part.lane t.part.seen ≡ t.part.mine
+
+abbrev pub GainsTheirCalls : Type 0
+GainsTheirCalls = (s t : Sitting) (calls : List Event) → Leads s calls t → Gains s calls t
+
+-- the seat's new calls are what the frames ask, in order, and then one LEAVE
+pub record GainsSession (s : Sitting) (frames : List Framed) (calls : List Event) (t : Sitting) : Type 0 where
+  pub asks : asks_of calls ≡ asks_in frames ++ leave ∷ []
+  pub mine : t.part.mine ≡ s.part.mine ++ calls
+  pub gains : Gains s calls t

@@ -1,0 +1,30 @@
+//! The desk of many seats.
+ghost use Rattle.std.specs.Prelude.{◌≡◌};
+
+use crate::Keeper;
+use krs_desk::{Desk, Seat};
+use krs_types::{Ask, Reply};
+use std::sync::Wait;
+
+impl<R: Wait> Keeper<Seat, R> for Desk {
+    ghost use Rattle.krs_session.specs.Leads.{Leads, leads_none, leads_both};
+
+    ghost ready = { λ d s. s.table ≡ d };
+
+    ghost lane_of = { λ s. s.part.lane };
+
+    // Each event is a call, at the seat that the one before it left.
+    ghost leads = { Leads };
+
+    fn lane(&self, seat: &Seat) -> u32 {
+        seat.lane()
+    }
+
+    fn call(&self, rt: &R, seat: &mut Seat, moment: u64, ask: Ask) -> Reply {
+        Desk::call(self, rt, seat, moment, ask)
+    }
+
+    ghost starts = { leads_none };
+
+    ghost joins = { leads_both };
+}

@@ -1,0 +1,25 @@
+//! What sessions do to the seats of a desk.
+ghost use Rattle.std.specs.Prelude.{ℕ, ◌++◌, ◌∷◌, [], List};
+ghost use Rattle.krs_types.specs.declared.event.Event.{Event};
+ghost use Rattle.krs_desk.specs.Sitting.{Sitting};
+ghost use Rattle.krs_session.specs.declared.ended.Ended.{Ended};
+ghost use Rattle.krs_session.specs.Session.{Session};
+ghost use Rattle.krs_session.specs.Leads.{Leads, GainsTheirCalls, GainsSession};
+
+use crate::{Clock, Sink, Source};
+
+/// Where calls lead from one seat to another, the seat has just these calls more, in this order. It is of the same desk
+/// and lane, what it had seen begins what it has now seen, and up to each of the calls that is a legal history.
+pub fn a_seat_gains_its_calls()
+    ensures { GainsTheirCalls }
+{}
+
+/// After a session on a seat the seat's new calls are what the frames ask, in order, and then one LEAVE.
+pub fn a_session_is_its_asks_and_leave<R: Source, W: Sink, C: Clock>()
+    ensures { (s t : Sitting) (reader0 reader1 : R) (writer0 writer1 : W) (clock0 clock1 : C) (lane reads : ℕ)
+        (ended : Ended) (session : Session (λ bytes. R.gave reader0 bytes reader1)
+        (λ events. Leads s events t)
+        (λ moments. C.ticked clock0 moments clock1)
+        (λ text. W.took writer0 text writer1) lane reads ended)
+        → GainsSession s session.frames (session.events ++ session.last ∷ []) t }
+{}
