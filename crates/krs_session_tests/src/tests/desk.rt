@@ -181,10 +181,10 @@ fn two_threads_share_one_store(rt: HostRuntime) -> Result<(), Fail> {
     }
     serials.sort_unstable();
     assert_eq!(rt; serials.len(), 200);
-    let mut wanted = 5;
+    let mut wanted = 5u32;
     for serial in serials.iter() {
         assert_eq!(rt; *serial, wanted);
-        wanted += 1;
+        wanted = wanted.saturating_add(1);
     }
     desk.meet(&mut first, &mut second);
     assert!(rt; gives_length(&desk.call(&rt, &mut first, 0, read(one.context, -4)), 800));
