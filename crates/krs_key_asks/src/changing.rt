@@ -6,7 +6,9 @@ ghost use Rattle.krs_keys.specs.Keys.{seen};
 
 use krs_keys::{Change, Key};
 use krs_tables::Tables;
-use krs_types::{Answer, Blob, Body, Caller, Errno, Fault, Kind, Perm, Rights, Serial, UNCHANGED, Want};
+use krs_types::{
+    Answer, Blob, Body, Caller, Errno, Fault, Kind, Perm, Rights, Serial, UNCHANGED, Want,
+};
 
 /// Another payload for a key: keyctl(2), KEYCTL_UPDATE.
 #[tactic(auto, unfolding(krs_model::specs::Asks::Changing::update))]

@@ -268,7 +268,11 @@ fn ends_after_many_lines(rt: HostRuntime) -> Result<(), Fail> {
     assert_eq!(rt; end.status, 3);
     assert_eq!(rt; output.as_slice(), b"ok\n".as_slice());
     let all_lines = 16_777_216 + "context 1".len();
-    assert!(rt; (all_lines..all_lines + 65_536).contains(&given.get()), "{} bytes", given.get());
+    assert!(rt;
+        (all_lines..all_lines + 65_536).contains(&given.get()),
+        "{} bytes",
+        given.get()
+    );
     Ok(())
 }
 
