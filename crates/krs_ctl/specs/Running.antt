@@ -25,7 +25,6 @@ use Rattle.krs_words.specs.Printing.{shown}
 use Rattle.krs_words.specs.Writing.{Prints, WritesFront}
 use Rattle.krs_ctl.specs.Listing.{listing, records_of}
 use Rattle.krs_ctl.specs.Script.{context_after, most_lines, status_of, last_line, Says}
-use Rattle.krs_ctl.specs.Script.{context_after, status_of, last_line}
 
 -- the store served the ask, in the current context, at the current moment, as client 0
 abbrev pub StoreServes : Script → Op → Result Answer Errno → State → Type 0

@@ -1,0 +1,5 @@
+-- The choice that the words lead to is the one that is answered.
+use Rattle.krs_ctl.proofs.program.run_program.Goals as goal
+
+pub returns : goal.returns
+returns g c = (c.choose-choice.result, c.choose-choice.ensures, c.answer.ensures)
