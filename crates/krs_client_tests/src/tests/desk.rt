@@ -80,7 +80,7 @@ fn one_thread_is_never_handed_an_ask_back(rt: HostRuntime) -> Result<(), Fail> {
     let reply = desk.try_call(&mut second, 0, read(2, 5));
     assert!(rt; reply.is_ok_and(|reply| gives_bytes(&reply, b"s3")));
     let reply = desk.try_call(&mut second, 0, read(1, 5));
-    assert!(rt; reply.is_ok_and(|reply| reply == Err(Errno::ESRCH)));
+    assert!(rt; reply.is_ok_and(|reply| matches!(reply, Err(Errno::ESRCH))));
     Ok(())
 }
 
@@ -113,7 +113,7 @@ fn add_hundred<R: Wait>(
 }
 
 // The seat goes to the thread, and comes back with what was done.
-fn work<R: Wait>(
+fn do_work<R: Wait>(
     rt: &R,
     alloc: Global,
     desk: &Desk,
@@ -143,8 +143,8 @@ fn work_side_by_side<R: Threads + Wait + Sync>(
 {
     thread::join(
         rt,
-        || work(rt, alloc, desk, first, b'k'),
-        || work(rt, alloc, desk, second, b'h'),
+        || do_work(rt, alloc, desk, first, b'k'),
+        || do_work(rt, alloc, desk, second, b'h'),
     )
 }
 
