@@ -1,5 +1,6 @@
 ghost use Rattle.std.specs.Prelude.{◌≡◌, ◌++◌, ◌∷◌, [], List};
 ghost use Rattle.krs_types.specs.declared.event.Event.{Event};
+ghost use Rattle.krs_wire.specs.declared.framed.Framed.{Framed};
 ghost use Rattle.krs_session.specs.Leads.{GainsSession};
 ghost use Rattle.krs_client_tests.specs.Conversing.{Conversed};
 
@@ -254,8 +255,8 @@ fn each_end_is_told_and_leave_is_asked_last(rt: HostRuntime) {
     }
 }
 
-// A session over bytes in memory, and what `run` tells of it there where it was closed: the seat's new calls are what
-// its frames ask, and one LEAVE.
+// A session over bytes in memory, and what `run` tells of it of its bytes there where it was closed, and of its seat:
+// the new calls are what frames ask, and one LEAVE.
 fn converse<R: Wait>(
     rt: &R,
     alloc: Global,
@@ -267,8 +268,8 @@ fn converse<R: Wait>(
     requires { seat.old.table ≡ desk.now }
     ensures table { seat.new.table ≡ desk.now }
     ensures closed { result.1 ≡ Ended.Closed
-        → (events : List Event) × (last : Event) × (said : Conversed input.now result.0.items events last)
-        × GainsSession seat.old said.frames (events ++ last ∷ []) seat.new }
+        → (events : List Event) × (last : Event) × Conversed input.now result.0.items events last }
+    ensures session { (frames : List Framed) × (calls : List Event) × GainsSession seat.old frames calls seat.new }
 {
     let mut reader = Over::new(input);
     let mut writer = Over::new(Vec::new(alloc));
