@@ -7,15 +7,18 @@ use krs_desk::{Desk, Seat};
 use krs_store::Store;
 use krs_types::{Answer, Ask, Op};
 use std::alloc::Global;
+use std::io::Print;
+use std::rt::Clock;
 use std::sync::Wait;
 use std::thread;
+use std::thread::Threads;
 use std::time::{Duration, Instant};
 
 /// How many threads call, in turn.
 const THREADS: [u32; 5] = [1, 2, 4, 8, 16];
 
-/// How long they call.
-const TIME: Duration = Duration::from_secs(1);
+/// How many seconds they call.
+const SECONDS: u64 = 1;
 
 /// So many calls are made between two looks at the clock.
 const ROUND: u32 = 64;
@@ -24,7 +27,7 @@ const ROUND: u32 = 64;
 const ASKS: u32 = 1_000_000;
 
 /// Prints what a call costs one thread beside the store's own time, and then how many asks a second many threads make.
-pub fn print_desk(rt: &HostRuntime) -> Result<()> {
+pub fn print_desk<R: AllocGlobal + Clock + Print + Threads + Wait + Sync>(rt: &R) -> Result<()> {
     let in_store = time_store(rt, rt.alloc())?;
     let at_desk = time_desk(rt, rt.alloc())?;
     println!(rt; "read by one thread: {in_store} ns, by try_call {at_desk} ns")?;
@@ -34,7 +37,10 @@ pub fn print_desk(rt: &HostRuntime) -> Result<()> {
     Ok(())
 }
 
-fn print_row(rt: &HostRuntime, threads: u32) -> Result<()> {
+fn print_row<R: AllocGlobal + Clock + Print + Threads + Wait + Sync>(
+    rt: &R,
+    threads: u32,
+) -> Result<()> {
     let alloc = rt.alloc();
     let Ok((desk, seats)) = Desk::open(alloc, threads, Store::new(alloc)) else {
         bail!("no desk");
@@ -69,9 +75,9 @@ fn share(took: Duration) -> u64 {
     u64::try_from(took.as_nanos() / u128::from(ASKS)).unwrap_or(u64::MAX)
 }
 
-fn time_store<R: std::rt::Clock>(rt: &R, alloc: Global) -> Result<u64> {
+fn time_store<R: Clock>(rt: &R, alloc: Global) -> Result<u64> {
     let mut store = Store::new(alloc);
-    let _ = store.apply(0, 0, greeting(alloc))?;
+    let _ = store.apply(0, 0, greeting(alloc));
     let start = Instant::now(rt)?;
     for _ in 0..ASKS {
         let _ = store.apply(0, 0, read(1));
@@ -79,7 +85,7 @@ fn time_store<R: std::rt::Clock>(rt: &R, alloc: Global) -> Result<u64> {
     Ok(share(start.elapsed(rt)?))
 }
 
-fn time_desk<R: std::rt::Clock>(rt: &R, alloc: Global) -> Result<u64> {
+fn time_desk<R: Clock>(rt: &R, alloc: Global) -> Result<u64> {
     let Ok((desk, mut seats)) = Desk::open(alloc, 1, Store::new(alloc)) else {
         bail!("no desk");
     };
@@ -88,14 +94,14 @@ fn time_desk<R: std::rt::Clock>(rt: &R, alloc: Global) -> Result<u64> {
     };
     let _ = desk.try_call(&mut seat, 0, greeting(alloc));
     let start = Instant::now(rt)?;
-    for _ in 0..ASKS {
+    'calls: for _ in 0..ASKS {
         let _ = desk.try_call(&mut seat, 0, read(1));
     }
     Ok(share(start.elapsed(rt)?))
 }
 
 /// How many calls a thread made at its seat.
-fn count_calls<R: Wait + std::rt::Clock>(rt: &R, alloc: Global, desk: &Desk, mut seat: Seat) -> u64
+fn count_calls<R: Clock + Wait>(rt: &R, alloc: Global, desk: &Desk, mut seat: Seat) -> u64
     requires { seat.table ≡ desk.now }
 {
     let Ok(Answer::Number(context)) = desk.call(rt, &mut seat, 0, greeting(alloc)) else {
@@ -105,10 +111,13 @@ fn count_calls<R: Wait + std::rt::Clock>(rt: &R, alloc: Global, desk: &Desk, mut
         return 0;
     };
     let mut count = 0u64;
-    for _ in 0..u64::MAX {
+    'rounds: for _ in 0..u64::MAX {
         call_round(rt, desk, &mut seat, context);
         count = count.saturating_add(u64::from(ROUND));
-        if start.elapsed(rt).map_or(true, |took| took >= TIME) {
+        if start
+            .elapsed(rt)
+            .map_or(true, |took| took.as_secs() >= SECONDS)
+        {
             break;
         }
     }
@@ -119,7 +128,7 @@ fn call_round<R: Wait>(rt: &R, desk: &Desk, seat: &mut Seat, context: u32)
     requires { seat.old.table ≡ desk.now }
     ensures { seat.new.table ≡ desk.now }
 {
-    for _ in 0..ROUND {
+    'calls: for _ in 0..ROUND {
         let _ = desk.call(rt, seat, 0, read(context));
     }
 }

@@ -13,6 +13,9 @@ use anyhow::Result;
 use desk::print_desk;
 use operation::{OPERATIONS, Operation};
 use std::env;
+use std::io::Print;
+use std::rt::Clock;
+use std::sync::Wait;
 use timing::{Way, nanoseconds};
 
 /// How many keys are linked in the keyring.
@@ -57,7 +60,12 @@ fn main(rt: HostRuntime) -> Result<()> {
 }
 
 /// The row of a count, or those of all.
-fn print_rows(rt: &HostRuntime, name: &str, operation: Operation, count: &str) -> Result<()> {
+fn print_rows<R: AllocGlobal + Clock + Print + Wait>(
+    rt: &R,
+    name: &str,
+    operation: Operation,
+    count: &str,
+) -> Result<()> {
     if let Ok(count) = count.parse() {
         return print_row(rt, name, operation, count);
     }
@@ -67,7 +75,12 @@ fn print_rows(rt: &HostRuntime, name: &str, operation: Operation, count: &str) -
     Ok(())
 }
 
-fn print_row(rt: &HostRuntime, name: &str, operation: Operation, count: u32) -> Result<()> {
+fn print_row<R: AllocGlobal + Clock + Print + Wait>(
+    rt: &R,
+    name: &str,
+    operation: Operation,
+    count: u32,
+) -> Result<()> {
     let in_store = nanoseconds(rt, operation, count, Way::Store)?;
     let in_session = nanoseconds(rt, operation, count, Way::Session)?;
     println!(rt; "{name} with {count} links: {in_store} ns, through a session {in_session} ns")?;

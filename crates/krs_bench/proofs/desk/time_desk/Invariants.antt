@@ -1,0 +1,5 @@
+use Rattle.std.proofs.Common.{◌≡◌}
+use Rattle.krs_bench.proofs.desk.time_desk.Given as goal
+
+abbrev pub invariant-calls : goal.invariant-calls
+invariant-calls g l = l.seat.table ≡ l.initial.seat.table
