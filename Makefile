@@ -16,7 +16,8 @@ run: build
 test:
 	rt ci
 
-# Nanoseconds per ask, on one processor where taskset is there to pin it.
+# Nanoseconds per ask, on one processor where taskset is there to pin it; then threads at one desk, on all processors.
 bench:
 	cd crates/krs_bench && rt run >/dev/null
 	cd crates/krs_bench && $$(command -v taskset >/dev/null && echo taskset -c 0) out/krs_bench all
+	cd crates/krs_bench && out/krs_bench desk
