@@ -1,13 +1,14 @@
 //! The machine of many seats, and the check that a list of events may have happened to a new store.
+use super::keys::body;
 use krs_store_asks::{add, describe, hello, leave, read};
-use krs_types::{Answer, Ask, Body, Event, Reply};
+use krs_types::{Answer, Ask, Event, Reply};
 use krs_world::{Kind, World, WorldStep, replay_check};
 use std::alloc::{AllocError, Global};
 use std::process::Abort;
 use std::test::Fail;
 
 fn bytes(alloc: Global, bytes: &[u8]) -> Result<Reply, AllocError> {
-    Ok(Ok(Answer::Bytes(Body::new(Vec::from_slice(alloc, bytes)?))))
+    Ok(Ok(Answer::Bytes(body(alloc, bytes)?)))
 }
 
 fn event(ask: Ask, reply: Reply) -> Event {
