@@ -81,20 +81,6 @@ fn possession_of_two_keyrings(rt: HostRuntime) -> Result<(), Fail> {
     Ok(())
 }
 
-#[test]
-fn cycles_of_two_keyrings(rt: HostRuntime) -> Result<(), Fail> {
-    let alloc = rt.alloc();
-    let (three, four) = (Serial::new(3), Serial::new(4));
-    let mut keys = KeyTable::starting_at(alloc, 3);
-    let first = ring(alloc, b"a", None, false)?;
-    let second = ring(alloc, b"b", None, false)?;
-    assert!(rt; keys.insert_two(first, second) == Ok(three));
-    let walker = Walker::new(alloc);
-    assert!(rt; walker.would_cycle(&keys, three, three)?);
-    assert!(rt; !walker.would_cycle(&keys, three, four)?);
-    Ok(())
-}
-
 /// Whether the session keyring is attached, the clock, the head and the description that are searched, and the
 /// answer.
 #[rattlefmt::skip]
