@@ -3,9 +3,9 @@
 
 sender=()
 if perl -MSocket -e 1 2>/dev/null; then
-  sender=(perl "$top/tests/service.d/socket.pl")
+  sender=(perl "$top/tests/service.d/peer.pl")
 elif python3 -c 1 2>/dev/null; then
-  sender=(python3 "$top/tests/service.d/socket.py")
+  sender=(python3 "$top/tests/service.d/peer.py")
 fi
 
 # send WAY HEX: what the daemon sends back for these bytes, in hexadecimal

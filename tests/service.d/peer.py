@@ -1,4 +1,4 @@
-"""The same as socket.pl, where perl is not there."""
+"""The same as peer.pl, where perl is not there."""
 import select
 import signal
 import socket

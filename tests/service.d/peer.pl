@@ -1,7 +1,7 @@
-# socket.pl send PATH WAY HEX: sends bytes to a server and prints what comes back, in hexadecimal. WAY is whole; bytes,
+# peer.pl send PATH WAY HEX: sends bytes to a server and prints what comes back, in hexadecimal. WAY is whole; bytes,
 # one a write; open, which does not end its side; dies, which reads nothing; flood, which sends the bytes again and
 # again while they are taken, and reads nothing.
-# socket.pl answer PATH HEX: a server of one connection, which answers the first bytes that come with these, and ends.
+# peer.pl answer PATH HEX: a server of one connection, which answers the first bytes that come with these, and ends.
 use strict;
 use warnings;
 use Socket;
