@@ -1,23 +1,69 @@
-# The toolchain's command `rt` is on PATH; nothing else is needed.
+# The toolchain's command `rt` is on PATH; building and testing need nothing else but a shell.
 
-.PHONY: build run test bench
+PREFIX = /usr/local
+DESTDIR =
+BINDIR = $(PREFIX)/bin
+SBINDIR = $(PREFIX)/sbin
+MANDIR = $(PREFIX)/share/man
+UNITDIR = $(PREFIX)/lib/systemd/system
+SYSUSERSDIR = $(PREFIX)/lib/sysusers.d
+COMPLETIONDIR = $(PREFIX)/share/bash-completion/completions
 
-# Proves and builds the program.
+PROGRAMS = keyretain keyretaind
+
+.PHONY: build run test check-man install uninstall bench measure
+
+# Proves and builds the programs.
 build:
-	cd crates/keyretain && rt run -- --version >/dev/null
 	mkdir -p bin
-	cp crates/keyretain/out/keyretain bin/keyretain
+	for program in $(PROGRAMS); do \
+	  (cd crates/$$program && rt run -- --version >/dev/null) && \
+	  install -m 755 crates/$$program/out/$$program bin/ || exit 1; \
+	done
 
-# A key is made and read back.
+# Starts a daemon, adds a key through it, and reads it back.
 run: build
-	printf 'hello 1000 1000\nadd user alpha s3 @u\nprint 5\nrdescribe 5\n' | bin/keyretain script
+	contrib/first-run
 
-# Proves everything from nothing and runs the tests.
+# Proves everything from nothing, runs the tests, and tries the programs that were built so over real sockets.
 test:
 	rt ci
+	mkdir -p bin
+	for program in $(PROGRAMS); do install -m 755 crates/$$program/out/$$program bin/ || exit 1; done
+	tests/service
+
+# Whether the man pages render without a warning.
+check-man:
+	tests/man-pages
+
+# Puts what `make build` made, the man pages, the systemd unit and the bash completion in their folders.
+install:
+	@for program in $(PROGRAMS); do test -x bin/$$program || { echo 'run make build first' >&2; exit 1; }; done
+	install -d $(DESTDIR)$(BINDIR) $(DESTDIR)$(SBINDIR) $(DESTDIR)$(UNITDIR) $(DESTDIR)$(SYSUSERSDIR) \
+	  $(DESTDIR)$(COMPLETIONDIR) $(DESTDIR)$(MANDIR)/man1 $(DESTDIR)$(MANDIR)/man7 $(DESTDIR)$(MANDIR)/man8
+	install -m 755 bin/keyretain $(DESTDIR)$(BINDIR)/
+	install -m 755 bin/keyretaind $(DESTDIR)$(SBINDIR)/
+	install -m 644 man/keyretain.1 $(DESTDIR)$(MANDIR)/man1/
+	install -m 644 man/keyretain-protocol.7 $(DESTDIR)$(MANDIR)/man7/
+	install -m 644 man/keyretaind.8 $(DESTDIR)$(MANDIR)/man8/
+	sed '/^ExecStart=/s|@sbindir@|$(SBINDIR)|' contrib/systemd/keyretaind.service \
+	  >$(DESTDIR)$(UNITDIR)/keyretaind.service
+	chmod 644 $(DESTDIR)$(UNITDIR)/keyretaind.service
+	install -m 644 contrib/systemd/keyretain.conf $(DESTDIR)$(SYSUSERSDIR)/
+	install -m 644 contrib/bash-completion/keyretain contrib/bash-completion/keyretaind $(DESTDIR)$(COMPLETIONDIR)/
+
+uninstall:
+	rm -f $(DESTDIR)$(BINDIR)/keyretain $(DESTDIR)$(SBINDIR)/keyretaind $(DESTDIR)$(MANDIR)/man1/keyretain.1 \
+	  $(DESTDIR)$(MANDIR)/man7/keyretain-protocol.7 $(DESTDIR)$(MANDIR)/man8/keyretaind.8 \
+	  $(DESTDIR)$(UNITDIR)/keyretaind.service $(DESTDIR)$(SYSUSERSDIR)/keyretain.conf \
+	  $(DESTDIR)$(COMPLETIONDIR)/keyretain $(DESTDIR)$(COMPLETIONDIR)/keyretaind
 
 # Nanoseconds per ask, on one processor where taskset is there to pin it; then threads at one desk, on all processors.
 bench:
 	cd crates/krs_bench && rt run >/dev/null
 	cd crates/krs_bench && $$(command -v taskset >/dev/null && echo taskset -c 0) out/krs_bench all
 	cd crates/krs_bench && out/krs_bench desk
+
+# Asks a second of the daemon over its socket, beside an echo server and a plain server in C. Wants a C compiler.
+measure:
+	bench/measure

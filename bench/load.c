@@ -1,0 +1,210 @@
+/* load PATH ASK CONNECTIONS DEPTH SECONDS: prints how many asks a second a server on a Unix socket answers.
+ * ASK is echo, read, update or add (ADD and UNLINK in turn). Each connection has a thread, which sends DEPTH asks with
+ * one write, reads their replies, and goes on so for SECONDS. */
+#include <pthread.h>
+#include <stdint.h>
+#include <stdio.h>
+#include <stdlib.h>
+#include <string.h>
+#include <sys/socket.h>
+#include <sys/un.h>
+#include <time.h>
+#include <unistd.h>
+
+enum { UPDATE = 2, UNLINK = 9, READ = 11, HELLO = 256, ADD = 262 };
+enum { KEYS = 64, PAYLOAD = 32, USER_KEYRING = -4 };
+
+struct client {
+    pthread_t thread;
+    int number, socket;
+    uint32_t context, keys[KEYS], added[1024];
+    unsigned sent;
+    uint8_t out[1 << 17], in[1 << 17];
+    size_t out_length, frame, in_start, in_end;
+    double asks_a_second;
+};
+
+static const char *path, *ask;
+static unsigned depth;
+static double seconds;
+static pthread_barrier_t all_are_ready;
+
+static void fail(const char *why) {
+    fprintf(stderr, "load: %s\n", why);
+    exit(1);
+}
+
+static double now(void) {
+    struct timespec time;
+    clock_gettime(CLOCK_MONOTONIC, &time);
+    return (double)time.tv_sec + (double)time.tv_nsec / 1e9;
+}
+
+/* Frames: little-endian numbers, as on the machines that this is for. */
+
+static void put(struct client *client, const void *bytes, size_t length) {
+    memcpy(client->out + client->out_length, bytes, length);
+    client->out_length += length;
+}
+
+static void put16(struct client *client, uint16_t number) { put(client, &number, 2); }
+static void put32(struct client *client, uint32_t number) { put(client, &number, 4); }
+
+static void put_text(struct client *client, const char *text) {
+    put16(client, (uint16_t)strlen(text));
+    put(client, text, strlen(text));
+}
+
+static void put_payload(struct client *client) {
+    char payload[PAYLOAD];
+    memset(payload, 'p', sizeof payload);
+    put32(client, PAYLOAD);
+    put(client, payload, sizeof payload);
+}
+
+static void begin(struct client *client, uint16_t operation) {
+    client->frame = client->out_length;
+    put32(client, 0);
+    put16(client, 1);
+    put16(client, operation);
+    put32(client, client->context);
+}
+
+static void end(struct client *client) {
+    uint32_t length = (uint32_t)(client->out_length - client->frame - 4);
+    memcpy(client->out + client->frame, &length, 4);
+}
+
+static void put_add(struct client *client, const char *kind, unsigned number) {
+    char description[32];
+    snprintf(description, sizeof description, "%s%u", kind, number);
+    begin(client, ADD);
+    put_text(client, "user");
+    put_text(client, description);
+    put_payload(client);
+    put32(client, (uint32_t)USER_KEYRING);
+    end(client);
+}
+
+static void send_all(struct client *client) {
+    size_t sent = 0;
+    while (sent < client->out_length) {
+        ssize_t took = write(client->socket, client->out + sent, client->out_length - sent);
+        if (took <= 0) fail("the server takes no bytes");
+        sent += (size_t)took;
+    }
+    client->out_length = 0;
+}
+
+/* The next reply's first number, after its status; an echo has neither. */
+static uint32_t receive(struct client *client) {
+    for (;;) {
+        size_t there = client->in_end - client->in_start;
+        const uint8_t *reply = client->in + client->in_start;
+        uint32_t length = 0, status = 0, number = 0;
+        if (there >= 4) memcpy(&length, reply, 4);
+        if (there >= 4 && there >= 4 + (size_t)length) {
+            client->in_start += 4 + (size_t)length;
+            if (!strcmp(ask, "echo")) return 0;
+            memcpy(&status, reply + 4, 4);
+            if (status != 0) fail("an ask was refused");
+            if (length >= 8) memcpy(&number, reply + 8, 4);
+            return number;
+        }
+        memmove(client->in, reply, there);
+        client->in_start = 0;
+        client->in_end = there;
+        ssize_t got = read(client->socket, client->in + there, sizeof client->in - there);
+        if (got <= 0) fail("the server has ended the connection");
+        client->in_end += (size_t)got;
+    }
+}
+
+/* A context of a uid of its own, with keys in its user keyring. */
+static void set_up(struct client *client) {
+    begin(client, HELLO);
+    put32(client, 1000 + (uint32_t)client->number);
+    put32(client, 1000);
+    put32(client, 0);
+    end(client);
+    send_all(client);
+    client->context = receive(client);
+    for (unsigned key = 0; key < KEYS; key++) {
+        put_add(client, "key", key);
+        send_all(client);
+        client->keys[key] = receive(client);
+    }
+}
+
+/* Sends as many asks as the depth says, and takes their replies. */
+static void ask_once(struct client *client) {
+    int adds = !strcmp(ask, "add") && client->sent / depth % 2 == 0;
+    int unlinks = !strcmp(ask, "add") && !adds;
+    for (unsigned i = 0; i < depth; i++) {
+        uint32_t key = client->keys[(client->sent + i) % KEYS];
+        if (adds) {
+            put_add(client, "new", i);
+        } else if (unlinks) {
+            begin(client, UNLINK);
+            put32(client, client->added[i]);
+            put32(client, (uint32_t)USER_KEYRING);
+            end(client);
+        } else if (!strcmp(ask, "update")) {
+            begin(client, UPDATE);
+            put32(client, key);
+            put_payload(client);
+            end(client);
+        } else {
+            begin(client, READ);
+            put32(client, key);
+            end(client);
+        }
+    }
+    send_all(client);
+    for (unsigned i = 0; i < depth; i++) {
+        uint32_t number = receive(client);
+        if (adds) client->added[i] = number;
+    }
+    client->sent += depth;
+}
+
+static void *run(void *given) {
+    struct client *client = given;
+    struct sockaddr_un address = {.sun_family = AF_UNIX};
+    strncpy(address.sun_path, path, sizeof address.sun_path - 1);
+    client->socket = socket(AF_UNIX, SOCK_STREAM, 0);
+    if (connect(client->socket, (struct sockaddr *)&address, sizeof address) != 0) fail("nobody listens");
+    if (strcmp(ask, "echo") != 0) set_up(client);
+    pthread_barrier_wait(&all_are_ready);
+    double start = now(), spent = 0;
+    while (spent < seconds) {
+        ask_once(client);
+        spent = now() - start;
+    }
+    client->asks_a_second = client->sent / spent;
+    close(client->socket);
+    return NULL;
+}
+
+int main(int count, char **words) {
+    if (count != 6) fail("usage: load PATH echo|read|update|add CONNECTIONS DEPTH SECONDS");
+    path = words[1];
+    ask = words[2];
+    unsigned connections = (unsigned)atoi(words[3]);
+    depth = (unsigned)atoi(words[4]);
+    seconds = atof(words[5]);
+    if (connections < 1 || depth < 1 || depth > 1024) fail("1 connection or more, and a depth of 1 to 1024");
+    pthread_barrier_init(&all_are_ready, NULL, connections);
+    struct client *clients = calloc(connections, sizeof *clients);
+    for (unsigned i = 0; i < connections; i++) {
+        clients[i].number = (int)i;
+        if (pthread_create(&clients[i].thread, NULL, run, &clients[i]) != 0) fail("no thread");
+    }
+    double asks_a_second = 0;
+    for (unsigned i = 0; i < connections; i++) {
+        pthread_join(clients[i].thread, NULL);
+        asks_a_second += clients[i].asks_a_second;
+    }
+    printf("%.0f\n", asks_a_second);
+    return 0;
+}

@@ -1,0 +1,159 @@
+# Clients that share a daemon: what they see of each other, and how they end.
+# shellcheck shell=bash disable=SC2034,SC2154
+
+# One connection keeps a uid's keys; single calls and another client of the uid reach them, other uids do not.
+try_sharing() {
+  start
+  open_client keeper
+  answers keeper 'hello 1000 1000' 1
+  answers keeper 'add user alpha a @u' 5
+  calls 'a call to a kept key' 0 $'a\n' print 5
+  prints 'a call by another uid' 1 $'error 13 EACCES\n' --socket "$path" --uid 2000 --gid 2000 print 5 </dev/null
+  answers keeper 'open 8' 1
+  answers keeper 'watch 5 1 5' ok
+  calls 'a call that updates' 0 $'ok\n' update 5 b
+  answers keeper 'readq 1 64' 01000001100500000500000000000000
+  answers keeper 'readq 1 64' 'error 11 EAGAIN'
+  answers keeper 'print 5' b
+  calls 'a call that adds' 0 $'8\n' add user spaced 'two words' @u
+  answers keeper 'print 8' 'two words'
+  open_client second
+  answers second 'hello 1000 1000' 6
+  answers second 'context 1' ok
+  answers second 'print 5' 'error 3 ESRCH'
+  answers second 'context 6' ok
+  answers second 'print 5' b
+  answers second 'readq 1 64' 'error 9 EBADF'
+  answers second 'revoke 5' ok
+  answers keeper 'print 5' 'error 128 EKEYREVOKED'
+  answers keeper 'timeout 8 1' ok
+  sleep 1.1
+  answers second 'print 8' 'error 127 EKEYEXPIRED'
+  close_client second 1
+  answers keeper 'hello 1000 1000' 7
+  close_client keeper 1
+  until_true is_left
+  calls 'a call after the last context of the uid' 1 $'error 126 ENOKEY\n' print 5
+  calls 'its user keyring is empty' 0 $'\n' rlist @u
+  calls 'its user keyring is a new one' 0 $'keyring;1000;1000;1f3f0000;_uid.1000\n' rdescribe @u
+  kill_daemon TERM
+}
+
+# The daemon may serve a new connection before it has seen the end of an earlier one.
+is_left() {
+  [[ $(timeout "$patience" "$keyretain" --socket "$path" --uid 1000 print 8 2>/dev/null </dev/null) == *ENOKEY ]]
+}
+
+# One lane: a second client waits until the first has ended.
+try_one_lane() {
+  local waiting
+  start --lanes 1 --accept 2
+  open_client first
+  answers first 'hello 1000 1000' 1
+  apart "$keyretain" --socket "$path" --uid 1000 --gid 1000 rdescribe @u >"$dir/waits" 2>/dev/null </dev/null &
+  waiting=$!
+  sleep 0.5
+  is 'one lane: the second client waits' '' "$(<"$dir/waits")"
+  answers first 'id @u' 3
+  close_client first 0
+  finish "$waiting"
+  is 'one lane: the second client is served' $'0 keyring;1000;1000;1f3f0000;_uid.1000' "$status $(<"$dir/waits")"
+  is_served 'one lane' 2
+}
+
+# A client that is killed: what it had ends, and its lane serves the next.
+try_killed_client() {
+  start --lanes 1 --accept 2
+  open_client victim
+  answers victim 'hello 1000 1000' 1
+  answers victim 'add user a x @u' 5
+  kill -KILL "${client[victim]}"
+  close_client victim 137
+  runs_script 'after a killed client' 1 $'2\nok\nerror 3 ESRCH\nok\nerror 126 ENOKEY\n' \
+    'hello 1000 1000' 'context 1' 'print 5' 'context 2' 'print 5'
+  is_served 'a killed client' 2
+}
+
+# A daemon that is killed: its client says that the connection has failed.
+try_killed_daemon() {
+  start
+  open_client orphan
+  answers orphan 'hello 1000 1000' 1
+  kill_daemon KILL
+  answers orphan 'print 3' 'error: connection'
+  close_client orphan 3
+}
+
+# Lines of a client of its own uid, and their answers; serials and the context depend on the others.
+script_client() {
+  local uid=$((2000 + $1))
+  printf '%s\n' "hello $uid $uid" 'newring box @u' "add user name secret-$uid @u" 'rdescribe @u' 'search @u user name' \
+    'rlist @u' 'request user name' 'clear @u' 'request user name' 'rlist @u' 'id 0' 'add logon none x @u' |
+    timeout $((patience * 3)) "$keyretain" --socket "$path" script >"$dir/many.$1" 2>/dev/null
+  echo "status $?" >>"$dir/many.$1"
+}
+
+try_many_scripts() {
+  local n uid got wanted contexts=() waits=()
+  start --lanes 16 --accept 100
+  for n in {1..100}; do
+    script_client "$n" &
+    waits+=("$!")
+  done
+  wait "${waits[@]}"
+  for n in {1..100}; do
+    uid=$((2000 + n))
+    mapfile -t got <"$dir/many.$n"
+    contexts+=("${got[0]}")
+    wanted=("${got[0]}" "${got[1]:-}" "${got[2]:-}" "keyring;$uid;$uid;1f3f0000;_uid.$uid" "${got[2]:-}"
+      "${got[1]:-} ${got[2]:-}" "${got[2]:-}" ok 'error 126 ENOKEY' '' 'error 22 EINVAL' 'error 22 EINVAL' 'status 1')
+    is "client $n of 100 scripts" "${wanted[*]}" "${got[*]}"
+  done
+  is '100 scripts: their contexts' "$(seq 1 100)" "$(printf '%s\n' "${contexts[@]}" | sort -n)"
+  is_served '100 scripts' 100
+}
+
+# A client of its own uid that stays while all others are there, and looks at the key of the next one.
+staying_client() {
+  local n=$1 uid=$((3000 + $1)) next=$(($1 % 100 + 1)) key
+  to=() from=() client=() failed=0 step=0.2
+  open_client "stays$n"
+  ask "stays$n" "hello $uid $uid"
+  ask "stays$n" "add user name secret-$uid @u"
+  key=$answer
+  echo "$key" >"$dir/new.$n" && mv "$dir/new.$n" "$dir/key.$n"
+  until_true test -e "$dir/all-here"
+  answers "stays$n" "print $key" "secret-$uid"
+  answers "stays$n" "print $(<"$dir/key.$next")" 'error 13 EACCES'
+  answers "stays$n" "update $key hex:00ff" ok
+  answers "stays$n" "print $key" ':hex:00ff'
+  answers "stays$n" 'rlist @u' "$key"
+  : >"$dir/saw.$n"
+  until_true test -e "$dir/all-saw"
+  close_client "stays$n" 1
+  [ "$failed" = 0 ]
+}
+
+have_all() {
+  local files=("$dir/$1".*)
+  [ "${#files[@]}" -ge 100 ]
+}
+
+try_many_at_once() {
+  local n waits=()
+  start --lanes 128 --accept 100
+  for n in {1..100}; do
+    staying_client "$n" &
+    waits+=("$!")
+  done
+  until_true have_all key
+  : >"$dir/all-here"
+  until_true have_all saw
+  : >"$dir/all-saw"
+  for n in {1..100}; do
+    wait "${waits[n - 1]}"
+    is "client $n of 100 at once" 0 $?
+  done
+  is '100 at once: their keys' 100 "$(cat "$dir"/key.* | sort -u | wc -l)"
+  is_served '100 at once' 100
+}

@@ -1,0 +1,117 @@
+# The two programs: their words, what they print, and their statuses.
+# shellcheck shell=bash disable=SC2154
+
+row=('hello 1000 1000' 'add user alpha s3 @u' 'print 5' 'rdescribe 5')
+row_text=$'1\n5\ns3\nuser;1000;1000;3f010000;alpha\n'
+
+# Context numbers and serials are known where HELLO follows HELLO. That a connection has ended by the time of the next
+# one is sure with one lane alone.
+
+# The program on a store of its own: the four statuses.
+try_script() {
+  prints 'script: all accepted' 0 "$row_text" script < <(printf '%s\n' "${row[@]}")
+  prints 'script: no lines' 0 '' script </dev/null
+  prints 'script: no newline at the end' 0 $'1\n' script < <(printf 'hello 1000 1000')
+  prints 'script: refused, and goes on' 1 $'1\nerror 126 ENOKEY\n3\n' script \
+    < <(printf '%s\n' 'hello 1000 1000' 'print 5' 'id @u')
+  prints 'script: no such command' 2 $'1\nusage\n' script < <(printf '%s\n' 'hello 1000 1000' frobnicate 'print 5')
+  prints 'script: the moment is set' 0 $'ok\n' script <<<'moment 1'
+  prints 'script: no words' 2 $'usage\n' </dev/null
+  prints 'script: a uid with script' 2 $'usage\n' --uid 1 script </dev/null
+  prints 'script: lines that can not be read' 3 '' script </
+  if [ -c /dev/full ]; then
+    printf '%s\n' "${row[@]}" | "$keyretain" script >/dev/full 2>/dev/null
+    is 'script: output that can not be written' 3 $?
+  else
+    skipped 'output that can not be written: no /dev/full'
+  fi
+  is 'script: --version' 0 "$("$keyretain" --version >/dev/null 2>&1; echo $?)"
+  is 'script: --help' 0 "$("$keyretain" --help >/dev/null 2>&1; echo $?)"
+}
+
+# An output whose reader has gone: the write fails, and the program says so by its status.
+try_broken_pipe() {
+  local end
+  exec {end}> >(:)
+  wait $!
+  (trap '' PIPE; exec "$keyretain" script 1>&"$end" <<<'hello 1000 1000') 2>/dev/null
+  is 'script: output that nobody reads' 3 $?
+  exec {end}>&-
+}
+
+# Words of the daemon that it does not take: status 2, and no path.
+try_words() {
+  local words
+  path=$dir/words.sock
+  for words in '' '--socket' "--socket $path --lanes 0" "--socket $path --lanes 257" "--socket $path --lanes x" \
+    "--socket $path --accept x" "--socket $path --accept 4294967296" "--socket $path --frobnicate" \
+    "--socket $path word" '--lanes 1 --accept 0'; do
+    # shellcheck disable=SC2086 # these are words
+    is "daemon: words '${words//$dir\//}'" 2 "$(timeout "$patience" "$keyretaind" $words >/dev/null 2>&1; echo $?)"
+  done
+  is 'daemon: no path after bad words' gone "$(path_state)"
+  is 'daemon: --version' 0 "$("$keyretaind" --version >/dev/null 2>&1; echo $?)"
+  is 'daemon: --help' 0 "$("$keyretaind" --help >/dev/null 2>&1; echo $?)"
+}
+
+try_nobody() {
+  start --accept 0
+  is_served 'no connection' 0
+}
+
+# Two single calls: the contexts of the first end with its connection, and its key with them.
+try_single_calls() {
+  start --lanes 1 --accept 2
+  calls 'a single call' 0 $'5\n' add user a s @u
+  calls 'a later single call' 1 $'error 126 ENOKEY\n' print 5
+  is_served 'single calls' 2
+}
+
+# Scripts over the socket. The daemon goes on, and is ended by a signal.
+try_remote_scripts() {
+  start
+  runs_script 'remote script: all accepted' 0 "$row_text" "${row[@]}"
+  runs_script 'remote script: refused, and goes on' 1 $'2\nerror 126 ENOKEY\nok\n' \
+    'hello 1000 1000' 'print 99' 'context 2'
+  runs_script 'remote script: moment is no command' 2 $'3\nusage\n' 'hello 1000 1000' 'moment 1' 'print 5'
+  prints 'remote script: no lines' 0 '' --socket "$path" script </dev/null
+  runs_script 'remote script: an ask that fits no frame' 2 $'usage\n' "add user a $(printf '%070000d' 0) @u"
+  runs_script 'remote script: an empty line and a comment' 0 $'4\n' '' '# one' 'hello 1000 1000'
+  prints 'remote script: a uid with script' 2 $'usage\n' --socket "$path" --uid 1 script </dev/null
+  for word in 'hello 1 1' 'context 1' 'moment 1' script frobnicate 'print' 'print x'; do
+    # shellcheck disable=SC2086 # these are words
+    calls "single call: $word" 2 $'usage\n' $word
+  done
+  prints 'single call: uid and gid are 0' 0 $'keyring;0;0;1f3f0000;_uid.0\n' --socket "$path" rdescribe @u </dev/null
+  prints 'single call: no uid' 1 $'error 22 EINVAL\n' --socket "$path" --uid 4294967295 id @u </dev/null
+  is 'single call: a uid that is no number' 2 \
+    "$(timeout "$patience" "$keyretain" --socket "$path" --uid x id @u >/dev/null 2>&1 </dev/null; echo $?)"
+  kill_daemon TERM
+  is 'the daemon, ended by SIGTERM' 143 "$status"
+  is 'the path that SIGTERM leaves' there "$(path_state)"
+  calls 'a path that nobody listens at any more' 3 $'error: connection\n' print 5
+  is_refused 'a path that is left over' "$path"
+}
+
+# is_refused NAME PATH: no daemon can have this path
+is_refused() {
+  is "$1" $'error: socket\nstatus 3' \
+    "$(timeout "$patience" "$keyretaind" --socket "$2" --accept 0 2>/dev/null </dev/null; echo "status $?")"
+}
+
+try_paths() {
+  path=$dir/nobody.sock
+  calls 'a path that is not there' 3 $'error: connection\n' print 5
+  runs_script 'a script on a path that is not there' 3 $'error: connection\n' 'hello 1000 1000'
+  path=$dir/file
+  : >"$path"
+  calls 'a path that is a file' 3 $'error: connection\n' print 5
+  is_refused 'a daemon on a file' "$path"
+  is_refused 'a daemon in no folder' "$dir/none/krs.sock"
+  is_refused 'a path that is too long' "$dir/$(printf '%0120d' 0)"
+  start --accept 1
+  is_refused 'a second daemon' "$path"
+  is 'the path after a second daemon' there "$(path_state)"
+  calls 'the first daemon after a second' 0 $'3\n' id @u
+  is_served 'the first daemon' 1
+}
