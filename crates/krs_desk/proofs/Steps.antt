@@ -101,8 +101,8 @@ takes_allowed a slots id p some_slot empty s r len at small =
       subst (λ b. InOneOrder a (stepped s 0 (either b 1 x) id [] w (takes 0 (Home h.last))))
           (sym (eq-eqb x 0 free))
           (moved_home a s r 1 none None (set s.views id w)
-          (subst (λ (k : ℕ). 0 < k) (sym len) some_slot) tt
-          (law.takes a s.views id p at r.home None r.cell h empty)),
+          (subst (λ (k : ℕ). 0 < k) (sym len) some_slot) refl
+          (law.takes a s.views id p at r.home r.cell h empty)),
       (
         (λ _. (
           h.log,

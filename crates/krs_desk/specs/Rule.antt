@@ -1,6 +1,6 @@
 -- The rule of the table: the one history, read on its words, its slot and the views. The form is this project's own.
 use Rattle.std.specs.Prelude.{◌≡◌, ℕ, ◌+◌, ◌<◌, List, Option, Some, None, length, slice_index}
-use mathlib.Core.Option.{some}
+use mathlib.Core.Option.{none, some}
 use mathlib.Core.Option as maybe
 use lib.ListN.{get_elem?}
 use Rattle.atomic_table.specs.Table as table
@@ -14,9 +14,9 @@ use Rattle.krs_world.specs.History.{OneHistory}
 use Rattle.krs_desk.specs.declared.place.Place.{Place}
 use Rattle.krs_desk.specs.declared.place.Place.TheVariants.{Home}
 
--- where the store is known to be at home, the slot has it
+-- the slot has the store that is at home, and is empty where none is
 abbrev pub IsAtHome : Option State → maybe.Option (maybe.Option Place) → Type 0
-IsAtHome None slot = Unit {0}
+IsAtHome None slot = slot ≡ some none
 IsAtHome (Some store) slot = slot ≡ some (some (Home store))
 
 -- the word of a lane, by its cell

@@ -9,7 +9,7 @@ use Rattle.krs_world.specs.declared.view.Cell.TheVariants.{Empty}
 use Rattle.krs_world.specs.declared.view.Part.{Part}
 use Rattle.krs_world.specs.declared.view.View.{View}
 use Rattle.krs_world.specs.Knowing.{one, fresh}
-use Rattle.krs_world.specs.History.{Known, Fits, Stands}
+use Rattle.krs_world.specs.History.{Shared, Known, Fits, Stands}
 use Rattle.krs_world.specs.declared.world.Lane.{Lane}
 use Rattle.krs_world.specs.World.{Free, World, fresh_lanes, empty_cells, new_world, cell_of, IsOneHistory}
 use Rattle.krs_world.specs.World.{StaysOne}
@@ -45,7 +45,19 @@ fresh_there : (lanes j : ℕ) → j < lanes → get_elem? (fresh_lanes 0 lanes) 
 fresh_there lanes j lt = let same : 0 + j ≡ j = omega arith in
     fresh_in 0 lanes j lt ∙ ap (λ (m : ℕ). some (fresh m)) same
 
-known : (lanes j : ℕ) → j < lanes → Known [] 0 0 lanes (λ l. l) (cell_of (empty_cells lanes)) None j (fresh j)
+-- what the seats of fresh lanes share
+abbrev all_fresh : ℕ → Shared
+all_fresh lanes = record {
+  log = [];
+  turn = 0;
+  holder = 0;
+  dealt = lanes;
+  seat = λ l. l;
+  cell = cell_of (empty_cells lanes);
+  serving = None;
+}
+
+known : (lanes j : ℕ) → j < lanes → Known (all_fresh lanes) j (fresh j)
 known lanes j lt = record {
   at = refl;
   given = lt;
@@ -70,6 +82,7 @@ begins_world lanes = let a : State = starting_at 3 in record {
     longest = λ _. inl refl;
     legal = legal_none a;
     at_home = λ _. refl;
+    away = λ n. absurd (omega arith);
     word = omega arith;
     opener = λ n. absurd (omega arith);
     young = λ _. refl;
@@ -85,7 +98,7 @@ begins_world lanes = let a : State = starting_at 3 in record {
     openings = λ j v e. let m = of_map (one a) (fresh_lanes 0 lanes) j v e in
         inr (ap (λ (w : View). w.opening) (sym m.2));
     each = λ j v e. let m = of_map (one a) (fresh_lanes 0 lanes) j v e in let t = fresh_here lanes j m.0 m.1 in
-        subst (λ (w : View). Stands [] 0 0 lanes (λ l. l) (cell_of (empty_cells lanes)) None j w.stands)
+        subst (λ (w : View). Stands (all_fresh lanes) j w.stands)
         (ap (one a) t.0 ∙ m.2) (known lanes j t.1);
   };
   whole = (

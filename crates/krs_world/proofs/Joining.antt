@@ -9,15 +9,14 @@ use lib.ListN.{get_elem?}
 use Rattle.krs_types.specs.declared.event.Event.{Event}
 use Rattle.krs_model.specs.State.{State}
 use Rattle.krs_world.specs.declared.view.Cell.{Cell}
-use Rattle.krs_world.specs.declared.view.Service.{Service}
 use Rattle.krs_world.specs.declared.view.Part.{Part}
 use Rattle.krs_world.specs.declared.view.Standing.TheVariants.{Spent, Two}
 use Rattle.krs_world.specs.declared.view.View.{View}
 use Rattle.krs_world.specs.Knowing.{events_of, view, one, loaded}
-use Rattle.krs_world.specs.History.{Holds, Known, Stands, StandsFor, HasSeen, IsSeen, OneHistory}
+use Rattle.krs_world.specs.History.{Shared, Holds, Known, Stands, StandsFor, HasSeen, IsSeen, OneHistory}
 use Rattle.krs_world.proofs.Keeping.{at_snoc, prefix_self, prefix_trans, events_prefix, set_at, set_else}
 use Rattle.krs_world.proofs.Keeping.{snoc_at, snoc_end, held_set, held_snoc, each_set}
-use Rattle.krs_world.proofs.Keeping.{others_stand, fits_same}
+use Rattle.krs_world.proofs.Keeping.{shares, others_stand, fits_same}
 use Rattle.krs_world.proofs.Places.{seated_set, seated_snoc, dealing_set, dealing_snoc, seats_again, seated_here}
 use Rattle.krs_world.proofs.Places.{seated_else}
 use Rattle.krs_world.proofs.Places.{seated}
@@ -30,19 +29,21 @@ each_snoc S views n w len last others j v e = ⊎_elim (others j v)
     (at_snoc views w v j e)
 
 -- another seat for a lane
-reseat : (log : List Event) (turn holder dealt : ℕ) (seat seat' : ℕ → ℕ) (cell : ℕ → Cell) (j j' : ℕ) (p : Part)
-    (sv : Option Service) → Known log turn holder dealt seat cell sv j p → seat' p.lane ≡ j'
-    → ((l : List Event) → p.holding ≡ Some l → Holds log turn holder sv j' p l)
-    → Known log turn holder dealt seat' cell sv j' p
-reseat log turn holder dealt seat seat' cell j j' p sv k at holds = record {
+reseat : (s : Shared) (seat : ℕ → ℕ) (j j' : ℕ) (p : Part) → Known s j p → seat p.lane ≡ j'
+    → ((l : List Event) → p.holding ≡ Some l → Holds s j' p l) → Known (record s { seat = seat }) j' p
+reseat s seat j j' p k at holds = record {
   at = at;
   given = k.given;
-  seen =
-      k.seen;
+  seen = k.seen;
   base = k.base;
   calls = k.calls;
   fits = k.fits;
-  holding = holds;
+  holding = λ l is. let h = holds l is in record {
+    out = h.out;
+    here = h.here;
+    whole = h.whole;
+    same_service = h.same_service;
+  };
   unheld = k.unheld;
 }
 
@@ -89,7 +90,8 @@ joins a b turn home cell views id other p q o at apart at' np nq =
     let k = o.each id (one a p) at in let h = o.each other (one a q) there in let both : View = view a (Two p q) in
     let spent : View = view b Spent in
     let differ : p.lane ≢ q.lane = λ e. apart (sym h.at ∙ (ap o.seat (sym e) ∙ k.at)) in
-    let seat' : ℕ → ℕ = seated o.seat q.lane id in record {
+    let seat' : ℕ → ℕ = seated o.seat q.lane id in let s : Shared = shares a turn home cell views o in
+    let s' : Shared = record s { seat = seat' } in record {
       log = o.log;
       last = o.last;
       holder = o.holder;
@@ -104,6 +106,7 @@ joins a b turn home cell views id other p q o at apart at' np nq =
       word = o.word;
       legal = o.legal;
       at_home = o.at_home;
+      away = o.away;
       opener = λ n. dealing_set o.dealt o.holder (set views id both) other (one a q) spent at' (λ is. absurd cc)
           (dealing_set o.dealt o.holder views id (one a p) both at (λ is. absurd cc) (o.opener n));
       young = o.young;
@@ -122,38 +125,35 @@ joins a b turn home cell views id other p q o at apart at' np nq =
       openings = each_set (λ j w. (w.stands ≡ Spent) ⊎ (w.opening ≡ a)) (set views id both) other spent (inl refl)
           (λ j w _ e. each_set (λ j w. (w.stands ≡ Spent) ⊎ (w.opening ≡ a)) views id both (inr refl)
           (λ j w _ e. o.openings j w e) j w e);
-      each = each_set (λ j w. Stands o.log turn o.holder o.dealt seat' cell o.serving j w.stands)
+      each = each_set (λ j w. Stands s' j w.stands)
           (set views id both) other spent tt
           (λ j w not e. each_set (λ j w. j ≢ other
-          → Stands o.log turn o.holder o.dealt seat' cell o.serving j w.stands) views id both
+          → Stands s' j w.stands) views id both
           (λ _. (
-            reseat o.log turn o.holder o.dealt o.seat seat' cell id id p o.serving k
+            reseat s seat' id id p k
                 (seated_else o.seat q.lane id p.lane differ ∙ k.at) (λ l is. absurd cc),
-            reseat o.log turn o.holder o.dealt o.seat seat' cell other id q o.serving h (seated_here o.seat q.lane id)
+            reseat s seat' other id q h (seated_here o.seat q.lane id)
                 (λ l is. absurd cc),
             differ,
             np,
             nq,
           ))
-          (λ j w _ e away. others_stand o.log o.log turn turn o.holder o.holder o.dealt o.dealt o.seat seat' cell cell
-          o.serving o.serving j
-          (λ r g. reseat o.log turn o.holder o.dealt o.seat seat' cell j j r o.serving g
+          (λ j w _ e away. others_stand s s' j
+          (λ r g. reseat s seat' j j r g
           (seated_else o.seat q.lane id r.lane (λ same. away (sym g.at ∙ (ap o.seat same ∙ h.at))) ∙ g.at) g.holding)
           (λ t is. (t, is, refl)) w.stands (o.each j w e)) j w e not);
     }
 
 -- what a lane knows once it has seen the whole list
-sees : (log : List Event) (turn holder dealt : ℕ) (seat : ℕ → ℕ) (cell : ℕ
-    → Cell) (j : ℕ) (p : Part) (sv : Option Service) → Known log turn holder dealt seat cell sv j p
-    → Known log turn holder dealt seat cell sv j (loaded p log)
-sees log turn holder dealt seat cell j p sv k = record {
+sees : (s : Shared) (j : ℕ) (p : Part) → Known s j p → Known s j (loaded p s.log)
+sees s j p k = record {
   at = k.at;
   given = k.given;
-  seen = prefix_self log;
+  seen = prefix_self s.log;
   base = k.base;
-  calls = prefix_trans p.mine (events_of p.lane p.seen) (events_of p.lane log) k.calls
-      (events_prefix p.lane p.seen log k.seen);
-  fits = fits_same log p (loaded p log) refl refl refl refl (cell p.lane) k.fits;
+  calls = prefix_trans p.mine (events_of p.lane p.seen) (events_of p.lane s.log) k.calls
+      (events_prefix p.lane p.seen s.log k.seen);
+  fits = fits_same s.log p (loaded p s.log) refl refl refl refl (s.cell p.lane) k.fits;
   holding = λ l is. let h = k.holding l is in record {
     out = h.out;
     here = h.here;
@@ -168,6 +168,7 @@ pub looks : (a : State) (turn : ℕ) (home : Option State) (cell : ℕ → Cell)
     (o : OneHistory a turn home cell views) → get_elem? views id ≡ some (view a (Two p q))
     → OneHistory a turn home cell (set views id (view a (Two (loaded p o.log) (loaded q o.log))))
 looks a turn home cell views id p q o at = let k = o.each id (view a (Two p q)) at in
+    let s : Shared = shares a turn home cell views o in
     let w : View = view a (Two (loaded p o.log) (loaded q o.log)) in record {
       log = o.log;
       last = o.last;
@@ -180,6 +181,7 @@ looks a turn home cell views id p q o at = let k = o.each id (view a (Two p q)) 
       word = o.word;
       legal = o.legal;
       at_home = o.at_home;
+      away = o.away;
       opener = λ n. dealing_set o.dealt o.holder views id (view a (Two p q)) w at (λ is. absurd cc) (o.opener n);
       young = o.young;
       unserved = o.unserved;
@@ -189,9 +191,9 @@ looks a turn home cell views id p q o at = let k = o.each id (view a (Two p q)) 
       served = o.served;
       openings = each_set (λ j v. (v.stands ≡ Spent) ⊎ (v.opening ≡ a)) views id w (inr refl)
           (λ j v _ e. o.openings j v e);
-      each = each_set (λ j v. Stands o.log turn o.holder o.dealt o.seat cell o.serving j v.stands) views id w (
-        sees o.log turn o.holder o.dealt o.seat cell id p o.serving k.0,
-        sees o.log turn o.holder o.dealt o.seat cell id q o.serving k.1,
+      each = each_set (λ j v. Stands s j v.stands) views id w (
+        sees s id p k.0,
+        sees s id q k.1,
         k.2,
         k.3,
         k.4,
@@ -218,7 +220,8 @@ pub parts : (a : State) (turn : ℕ) (home : Option State) (cell : ℕ → Cell)
     → OneHistory a turn home cell views → get_elem? views id ≡ some (view a (Two p q))
     → OneHistory a turn home cell (set views id (one a p) ++ one a q ∷ [])
 parts a turn home cell views id p q o at = let k = o.each id (view a (Two p q)) at in let N : ℕ = length views in
-    let seat' : ℕ → ℕ = seated o.seat q.lane N in let len : length (set views id (one a p)) ≡ N =
+    let seat' : ℕ → ℕ = seated o.seat q.lane N in let s : Shared = shares a turn home cell views o in
+    let s' : Shared = record s { seat = seat' } in let len : length (set views id (one a p)) ≡ N =
     length-set views id (one a p) in record {
       log = o.log;
       last = o.last;
@@ -232,6 +235,7 @@ parts a turn home cell views id p q o at = let k = o.each id (view a (Two p q)) 
       word = o.word;
       legal = o.legal;
       at_home = o.at_home;
+      away = o.away;
       opener = λ n. dealing_snoc o.dealt o.holder (set views id (one a p)) (one a q)
           (dealing_set o.dealt o.holder views id
           (view a (Two p q)) (one a p) at (λ is. absurd cc) (o.opener n));
@@ -253,16 +257,15 @@ parts a turn home cell views id p q o at = let k = o.each id (view a (Two p q)) 
       openings = each_snoc (λ j w. (w.stands ≡ Spent) ⊎ (w.opening ≡ a)) (set views id (one a p)) N (one a q) len
           (inr refl) (each_set (λ j w. (w.stands ≡ Spent) ⊎ (w.opening ≡ a)) views id (one a p) (inr refl)
           (λ j w _ e. o.openings j w e));
-      each = each_snoc (λ j w. Stands o.log turn o.holder o.dealt seat' cell o.serving j w.stands)
+      each = each_snoc (λ j w. Stands s' j w.stands)
           (set views id (one a p)) N (one a q) len
-          (reseat o.log turn o.holder o.dealt o.seat seat' cell id N q o.serving k.1 (seated_here o.seat q.lane N)
+          (reseat s seat' id N q k.1 (seated_here o.seat q.lane N)
           (λ l is. let none = k.4 in absurd cc))
-          (each_set (λ j w. Stands o.log turn o.holder o.dealt seat' cell o.serving j w.stands) views id (one a p)
-          (reseat o.log turn o.holder o.dealt o.seat seat' cell id id p o.serving k.0
+          (each_set (λ j w. Stands s' j w.stands) views id (one a p)
+          (reseat s seat' id id p k.0
           (seated_else o.seat q.lane N p.lane k.2 ∙ k.0.at) k.0.holding)
-          (λ j w not e. others_stand o.log o.log turn turn o.holder o.holder o.dealt o.dealt o.seat seat' cell cell
-          o.serving o.serving j
-          (λ r g. reseat o.log turn o.holder o.dealt o.seat seat' cell j j r o.serving g
+          (λ j w not e. others_stand s s' j
+          (λ r g. reseat s seat' j j r g
           (seated_else o.seat q.lane N r.lane (λ same. not (sym g.at ∙ (ap o.seat same ∙ k.1.at))) ∙ g.at) g.holding)
           (λ t is. (t, is, refl)) w.stands (o.each j w e)));
     }

@@ -18,11 +18,10 @@ use Rattle.krs_world.specs.declared.view.Standing.TheVariants.{Spent, One}
 use Rattle.krs_world.specs.declared.view.View.{View}
 use Rattle.krs_world.specs.Knowing.{events_of, view, one, taken, missed, put_own}
 use Rattle.krs_world.specs.Knowing.{put_none, loaded}
-use Rattle.krs_world.specs.History.{Fits, Known, Stands}
-use Rattle.krs_world.specs.History.{OneHistory}
+use Rattle.krs_world.specs.History.{Shared, Fits, Known, Stands, OneHistory}
 pub use Rattle.krs_world.proofs.Lanes.{prefix_self, prefix_more, prefix_trans, prefix_both, events_prefix, own_event}
 pub use Rattle.krs_world.proofs.Lanes.{other_event, at_set, set_at, set_else, snoc_at, snoc_end, at_snoc, seen_set}
-pub use Rattle.krs_world.proofs.Lanes.{held_set, seen_snoc, held_snoc, each_set, others_stand, celled_here}
+pub use Rattle.krs_world.proofs.Lanes.{held_set, seen_snoc, held_snoc, each_set, shares, others_stand, celled_here}
 pub use Rattle.krs_world.proofs.Lanes.{celled_else, fits_more, fits_same, empty_if_idle, idle_mine}
 use Rattle.krs_world.specs.History.{IsSeated}
 use Rattle.krs_world.proofs.Places.{seated_set, dealing_set}
@@ -31,7 +30,7 @@ use Rattle.krs_world.proofs.Places.{seated_set, dealing_set}
 
 module _ (a : State) (views : List View) (id : ℕ) (p : Part) (at : get_elem? views id ≡ some (one a p)) where
   pub own : (turn : ℕ) (home : Option State) (cell : ℕ → Cell) → (o : OneHistory a turn home cell views)
-      → Known o.log turn o.holder o.dealt o.seat cell o.serving id p
+      → Known (shares a turn home cell views o) id p
   own turn home cell o = o.each id (one a p) at
 
   views_open : (turn : ℕ) (home : Option State) (cell : ℕ → Cell) → OneHistory a turn home cell views
@@ -47,9 +46,10 @@ module _ (a : State) (views : List View) (id : ℕ) (p : Part) (at : get_elem? v
       (λ is. same ∙ is) (o.seated lane lt)
 
   -- the turn was free, and is had
-  pub takes : (home home' : Option State) (cell : ℕ → Cell) → (o : OneHistory a 0 home cell views) → p.holding ≡ None
-      → OneHistory a 1 home' cell (set views id (one a (taken p o.log)))
-  takes home home' cell o none = let k = own 0 home cell o in
+  pub takes : (home : Option State) (cell : ℕ → Cell) → (o : OneHistory a 0 home cell views) → p.holding ≡ None
+      → OneHistory a 1 None cell (set views id (one a (taken p o.log)))
+  takes home cell o none = let k = own 0 home cell o in let s : Shared = shares a 0 home cell views o in
+      let s' : Shared = record s { turn = 1; holder = id } in
       let quiet : o.serving ≡ None = o.unserved (λ e. omega arith) in record {
         log = o.log;
         last = o.last;
@@ -62,6 +62,7 @@ module _ (a : State) (views : List View) (id : ℕ) (p : Part) (at : get_elem? v
         longest = λ n. absurd (n refl);
         legal = o.legal;
         at_home = λ n. absurd (n refl);
+        away = λ _. refl;
         opener = λ n. absurd (omega arith);
         young = λ n. absurd (omega arith);
         unserved = λ n. absurd (n refl);
@@ -70,8 +71,7 @@ module _ (a : State) (views : List View) (id : ℕ) (p : Part) (at : get_elem? v
         serves = o.serves;
         served = o.served;
         openings = views_open 0 home cell o (One (taken p o.log));
-        each = each_set (λ j v. Stands o.log 1 id o.dealt o.seat cell o.serving j v.stands) views id
-            (one a (taken p o.log))
+        each = each_set (λ j v. Stands s' j v.stands) views id (one a (taken p o.log))
             record {
               at = k.at;
               given = k.given;
@@ -82,8 +82,7 @@ module _ (a : State) (views : List View) (id : ℕ) (p : Part) (at : get_elem? v
               holding = λ l e. record { out = refl; here = refl; whole = cc; same_service = k.unheld none ∙ sym quiet };
               unheld = λ e. k.unheld none;
             }
-            (λ j v not e. others_stand o.log o.log 0 1 o.holder id o.dealt o.dealt o.seat o.seat cell cell o.serving
-            o.serving j
+            (λ j v not e. others_stand s s' j
             (λ q h. record {
               at = h.at;
               given = h.given;
@@ -92,16 +91,16 @@ module _ (a : State) (views : List View) (id : ℕ) (p : Part) (at : get_elem? v
               calls = h.calls;
               fits =
                   h.fits;
-              holding = λ l is. let t = (h.holding l is).out in absurd (omega arith);
+              holding = λ l is. let t : 0 ≡ 1 = (h.holding l is).out in absurd (omega arith);
               unheld = h.unheld;
             })
-            (λ t. absurd (omega arith)) v.stands (o.each j v e));
+            (λ (t : 0 ≡ 2). absurd (omega arith)) v.stands (o.each j v e));
       }
 
   -- a step that changes no word and no list
   pub stays : (turn : ℕ) (home : Option State) (cell : ℕ → Cell) (o : OneHistory a turn home cell views) (q : Part)
       → q.lane ≡ p.lane → q.holding ≡ p.holding → (p.seen ≡ o.log → q.seen ≡ o.log)
-      → Known o.log turn o.holder o.dealt o.seat cell o.serving id q
+      → Known (shares a turn home cell views o) id q
       → OneHistory a turn home cell (set views id (one a q))
   stays turn home cell o q same holds sees k = record {
     log = o.log;
@@ -115,6 +114,7 @@ module _ (a : State) (views : List View) (id : ℕ) (p : Part) (at : get_elem? v
     legal = o.legal;
     word = o.word;
     at_home = o.at_home;
+    away = o.away;
     opener = λ n. dealing_set o.dealt o.holder views id (one a p) (one a q) at (λ is. absurd cc) (o.opener n);
     young = o.young;
     unserved = o.unserved;
@@ -123,7 +123,7 @@ module _ (a : State) (views : List View) (id : ℕ) (p : Part) (at : get_elem? v
     serves = o.serves;
     served = o.served;
     openings = views_open turn home cell o (One q);
-    each = each_set (λ j v. Stands o.log turn o.holder o.dealt o.seat cell o.serving j v.stands) views id (one a q) k
+    each = each_set (λ j v. Stands (shares a turn home cell views o) j v.stands) views id (one a q) k
         (λ j v _ e. o.each j v e);
   }
 
@@ -175,6 +175,8 @@ module _ (a : State) (views : List View) (id : ℕ) (p : Part) (at : get_elem? v
       → IsLegal a log last → Step last e next → e.lane ≡ p.lane → (turn ≡ 1)
       × OneHistory a 0 (Some next) cell (set views id (one a (put_own p log e)))
   puts turn home cell log e last next o held idle quiet legal step lane = let k = own turn home cell o in
+      let s : Shared = shares a turn home cell views o in
+      let s' : Shared = record s { log = log ++ e ∷ []; turn = 0 } in
       let t = k.holding log held in let all : log ≡ o.log = t.whole in let out : turn ≡ 1 = t.out in
       let w : View = one a (put_own p log e) in let none : o.serving ≡ None = sym t.same_service ∙ idle in
       let empty : cell p.lane ≡ Empty = empty_if_idle p o.log (cell p.lane) quiet k.fits in
@@ -198,11 +200,12 @@ module _ (a : State) (views : List View) (id : ℕ) (p : Part) (at : get_elem? v
           longest = λ n. inr (id, w, set_at views id w (one a p) at, refl);
           legal = legal_more a last next log e legal step;
           at_home = λ _. refl;
+          away = λ n. absurd (omega arith);
           opener = λ n. absurd (omega arith);
           young = λ n. absurd (omega arith);
           unserved = λ _. none;
           seated = seats_stay turn home cell o (put_own p log e) refl;
-          undealt = λ l le. let u = o.undealt l le in let g = k.given in (
+          undealt = λ l le. let u = o.undealt l le in let g : p.lane < o.dealt = k.given in (
             u.0,
             other_event l log e (λ is. let same : p.lane ≡ l = sym lane ∙ is in omega arith)
                 ∙ (ap (events_of l) all ∙ u.1),
@@ -210,7 +213,7 @@ module _ (a : State) (views : List View) (id : ℕ) (p : Part) (at : get_elem? v
           serves = o.serves;
           served = o.served;
           openings = views_open turn home cell o (One (put_own p log e));
-          each = each_set (λ j v. Stands (log ++ e ∷ []) 0 o.holder o.dealt o.seat cell o.serving j v.stands) views id w
+          each = each_set (λ j v. Stands s' j v.stands) views id w
               record {
                 at = k.at;
                 given = k.given;
@@ -221,8 +224,7 @@ module _ (a : State) (views : List View) (id : ℕ) (p : Part) (at : get_elem? v
                 holding = λ l is. absurd cc;
                 unheld = λ _. idle;
               }
-              (λ j v not at'. others_stand o.log (log ++ e ∷ []) turn 0 o.holder o.holder o.dealt o.dealt o.seat
-              o.seat cell cell o.serving o.serving j
+              (λ j v not at'. others_stand s s' j
               (λ q h. record {
                 at = h.at;
                 given = h.given;
@@ -242,6 +244,7 @@ module _ (a : State) (views : List View) (id : ℕ) (p : Part) (at : get_elem? v
       (o : OneHistory a turn home cell views) → p.holding ≡ Some log → p.serving ≡ None → IsLegal a log last
       → (turn ≡ 1) × OneHistory a 0 (Some last) cell (set views id (one a (put_none p log)))
   puts_none turn home cell log last o held idle legal = let k = own turn home cell o in let t = k.holding log held in
+      let s : Shared = shares a turn home cell views o in let s' : Shared = record s { turn = 0 } in
       let all : log ≡ o.log = t.whole in let out : turn ≡ 1 = t.out in let w : View = one a (put_none p log) in (
         out,
         record {
@@ -256,6 +259,7 @@ module _ (a : State) (views : List View) (id : ℕ) (p : Part) (at : get_elem? v
           longest = λ n. inr (id, w, set_at views id w (one a p) at, all);
           legal = subst (λ l. IsLegal a l last) all legal;
           at_home = λ _. refl;
+          away = λ n. absurd (omega arith);
           opener = λ n. absurd (omega arith);
           young = λ n. absurd (omega arith);
           unserved = λ _. sym t.same_service ∙ idle;
@@ -264,7 +268,7 @@ module _ (a : State) (views : List View) (id : ℕ) (p : Part) (at : get_elem? v
           serves = o.serves;
           served = o.served;
           openings = views_open turn home cell o (One (put_none p log));
-          each = each_set (λ j v. Stands o.log 0 o.holder o.dealt o.seat cell o.serving j v.stands) views id w
+          each = each_set (λ j v. Stands s' j v.stands) views id w
               record {
                 at = k.at;
                 given = k.given;
@@ -276,8 +280,7 @@ module _ (a : State) (views : List View) (id : ℕ) (p : Part) (at : get_elem? v
                 holding = λ l is. absurd cc;
                 unheld = λ _. idle;
               }
-              (λ j v not e. others_stand o.log o.log turn 0 o.holder o.holder o.dealt o.dealt o.seat o.seat cell cell
-              o.serving o.serving j
+              (λ j v not e. others_stand s s' j
               (λ q h. record {
                 at = h.at;
                 given = h.given;

@@ -10,16 +10,16 @@ use mathlib.Core.Logic.{dite}
 use native.Mathlib.Decide.{ℕ_discrete}
 use lib.ListN.{get_elem?}
 use Rattle.krs_types.specs.declared.event.Event.{Event}
+use Rattle.krs_model.specs.State.{State}
 use Rattle.krs_model.specs.History.{event_of}
 use Rattle.krs_world.specs.declared.view.Cell.{Cell}
 use Rattle.krs_world.specs.declared.view.Cell.TheVariants.{Empty, Posted, Serving, Answered}
-use Rattle.krs_world.specs.declared.view.Service.{Service}
 use Rattle.krs_world.specs.declared.view.Part.{Part}
 use Rattle.krs_world.specs.declared.view.Standing.{Standing}
 use Rattle.krs_world.specs.declared.view.Standing.TheVariants.{Spent, One, Two, Opening}
 use Rattle.krs_world.specs.declared.view.View.{View}
 use Rattle.krs_world.specs.Knowing.{events_of, flight, celled}
-use Rattle.krs_world.specs.History.{Fits, Known, Stands, HasSeen, HasTurn, IsSeen, IsHeld}
+use Rattle.krs_world.specs.History.{Shared, Fits, Known, Stands, HasSeen, HasTurn, IsSeen, IsHeld, OneHistory}
 
 -- Lists.
 
@@ -138,20 +138,27 @@ each_set S views id w mine others j v e = ⊎_elim (λ (t : (j ≡ id) × (w ≡
     (λ i. (sym t.0 i, t.1 i)) mine)
     (λ (t : (j ≢ id) × (get_elem? views j ≡ some v)). others j v t.0 t.1) (at_set views id j w v e)
 
+-- what all seats share in a history
+abbrev pub shares : (a : State) (turn : ℕ) (home : Option State) (cell : ℕ → Cell) (views : List View)
+    → OneHistory a turn home cell views → Shared
+shares a turn home cell views o = record {
+  log = o.log;
+  turn = turn;
+  holder = o.holder;
+  dealt = o.dealt;
+  seat = o.seat;
+  cell = cell;
+  serving = o.serving;
+}
+
 -- what is known of the lanes of another seat is known after the step
-pub others_stand : (log log' : List Event) (turn turn' holder holder' dealt dealt' : ℕ) (seat seat' : ℕ
-    → ℕ) (cell cell' : ℕ → Cell) (sv sv' : Option Service) (j : ℕ)
-    → ((p : Part) → Known log turn holder dealt seat cell sv j p
-    → Known log' turn' holder' dealt' seat' cell' sv' j p) → (turn ≡ 2 → j ≡ holder → (turn' ≡ 2) × (j ≡ holder')
-    × (dealt ≡ dealt'))
-    → (st : Standing) → Stands log turn holder dealt seat cell sv j st
-    → Stands log' turn' holder' dealt' seat' cell' sv' j st
-others_stand log log' turn turn' holder holder' dealt dealt' seat seat' cell cell' sv sv' j go opens Spent s = tt
-others_stand log log' turn turn' holder holder' dealt dealt' seat seat' cell cell' sv sv' j go opens (One p) s = go p s
-others_stand log log' turn turn' holder holder' dealt dealt' seat seat' cell cell' sv sv' j go opens (Two p q) s =
-    (go p s.0, go q s.1, s.2, s.3, s.4)
-others_stand log log' turn turn' holder holder' dealt dealt' seat seat' cell cell' sv sv' j go opens (Opening n) s =
-    let t = opens s.0 s.1 in (t.0, t.1, s.2 ∙ t.2)
+pub others_stand : (s s' : Shared) (j : ℕ) → ((p : Part) → Known s j p → Known s' j p)
+    → (s.turn ≡ 2 → j ≡ s.holder → (s'.turn ≡ 2) × (j ≡ s'.holder) × (s.dealt ≡ s'.dealt))
+    → (st : Standing) → Stands s j st → Stands s' j st
+others_stand s s' j go opens Spent k = tt
+others_stand s s' j go opens (One p) k = go p k
+others_stand s s' j go opens (Two p q) k = (go p k.0, go q k.1, k.2, k.3, k.4)
+others_stand s s' j go opens (Opening n) k = let t = opens k.0 k.1 in (t.0, t.1, k.2 ∙ t.2)
 
 pub celled_here : (cell : ℕ → Cell) (lane : ℕ) (c : Cell) → celled cell lane c lane ≡ c
 celled_here cell lane c = ap (λ b. cond b c (cell lane)) (eq-eqb lane lane refl)

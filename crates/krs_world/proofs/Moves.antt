@@ -1,7 +1,6 @@
 -- What each step comes to on the machine as it is kept: by one list of all calls, and lengths of it.
 use Rattle.std.proofs.Common.{◌≡◌, ◌≢◌, ℕ, ◌+◌, ◌<◌, ◌≤◌, Bool, true, false, cond, List, [], ◌∷◌, ◌++◌, map, length}
-use Rattle.std.proofs.Common.{get_or, take, set, Option, Some, None, Result, refl, sym, ap, ◌∙◌, subst, inl}
-use Rattle.std.proofs.Common.{inr, ◌⊎◌}
+use Rattle.std.proofs.Common.{take, set, Option, Some, None, Result, refl, sym, ap, ◌∙◌, subst, inl, inr, ◌⊎◌}
 use Rattle.std.proofs.Common.{⊎_elim, arith, length-set, length-append}
 use Rattle.std.proofs.lemmas.List.{length-take-le, take-append-le}
 use Rattle.std.proofs.Math.Seq.{take-length}
@@ -12,7 +11,6 @@ use lib.ListN.{get_elem?}
 use Rattle.krs_types.specs.declared.ask.Ask.{Ask}
 use Rattle.krs_types.specs.declared.ask.Answer.{Answer}
 use Rattle.krs_types.specs.declared.errno.Errno.{Errno}
-use Rattle.krs_types.specs.declared.errno.Errno.TheVariants.{ENOMEM, ENOSPC}
 use Rattle.krs_types.specs.declared.event.Event.{Event}
 use Rattle.krs_model.specs.State.{State, starting_at}
 use Rattle.krs_model.specs.Step.{Step}
@@ -23,13 +21,12 @@ use Rattle.krs_world.specs.declared.step.Kind.{Kind}
 use Rattle.krs_world.specs.declared.step.Kind.TheVariants.{Take, TakeFound, Put, Load}
 use Rattle.krs_world.specs.declared.world.Lane.{Lane}
 use Rattle.krs_world.specs.Knowing.{events_of, taken, missed, put_own, put_none, loaded}
-use Rattle.krs_world.specs.World.{Free, World, empty_cells, IsHistory, reseated, StepsAs}
-use Rattle.krs_world.specs.World.{IsOneHistory, MovesBy, RefusedBy}
+use Rattle.krs_world.specs.World.{Free, World, empty_cells, IsHistory, reseated, IsHolder, StepsAs, IsOneHistory}
 use Rattle.krs_world.specs.Kept.{part_by, turn_by, world_of, IsKept}
 use Rattle.krs_world.proofs.Keeping.{at_set, set_at, set_else, own_event, other_event}
-use Rattle.krs_world.proofs.Worlds.{get_map, of_map, step_as}
+use Rattle.krs_world.proofs.Worlds.{get_map, step_as}
 use Rattle.krs_world.proofs.KeptHistory.{seats_by, begins_take, begins_further, begins_short, map_else}
-use Rattle.krs_world.proofs.KeptHistory.{not_true, at_in, in_bounds, history_kept, kept_history}
+use Rattle.krs_world.proofs.KeptHistory.{not_true, history_kept, kept_history}
 use Rattle.krs_world.proofs.KeptHistory.{IsSeenWhole, whole_now, seen_whole, reseats}
 
 -- The steps, by the lane at its place.
@@ -80,17 +77,9 @@ module _ (store : State) (out : Option ℕ) (log : List Event) (lanes : List Lan
 
   -- take
   pub takes : (base n : ℕ) → out ≡ None → base ≡ length log → n ≡ x.taken + 1
-      → Moved store (Some i) log record {
-        lane = x.lane;
-        seen = x.seen;
-        base = base;
-        holding = true;
-        taken =
-            n;
-        found = x.found;
-      } Take
+      → Moved store (Some i) log record x { base = base; holding = true; taken = n } Take
   takes base n free eb en =
-      let y : Lane = record { lane = x.lane; seen = x.seen; base = base; holding = true; taken = n; found = x.found } in
+      let y : Lane = record x { base = base; holding = true; taken = n } in
       let part : part_by log y ≡ taken (part_by log x) log =
       λ j. record (taken (part_by log x) log) {
         base = (ap (λ (b : ℕ). take b log) eb ∙ take-length log) j;
@@ -112,25 +101,9 @@ module _ (store : State) (out : Option ℕ) (log : List Event) (lanes : List Lan
 
   -- take, found out
   pub misses : (n holder : ℕ) → out ≡ Some holder → holder ≢ i → n ≡ x.found + 1
-      → Moved store out log record {
-        lane = x.lane;
-        seen = x.seen;
-        base = x.base;
-        holding = x.holding;
-        taken =
-            x.taken;
-        found = n;
-      } TakeFound
+      → Moved store out log record x { found = n } TakeFound
   misses n holder is not en =
-      let y : Lane = record {
-        lane = x.lane;
-        seen = x.seen;
-        base = x.base;
-        holding = x.holding;
-        taken =
-            x.taken;
-        found = n;
-      } in
+      let y : Lane = record x { found = n } in
       let part : part_by log y ≡ missed (part_by log x) = λ j. record (missed (part_by log x)) { found = en j } in
       let steps : StepsAs w i (part_by log x) TakeFound (world_of store out log (set lanes i y)) =
       (holder, ap (turn_by store) is, not, reseats store out out log lanes i y (missed (part_by log x)) part) in
@@ -141,43 +114,33 @@ module _ (store : State) (out : Option ℕ) (log : List Event) (lanes : List Lan
       )
 
   -- the list that the holder holds
-  holding_is : out ≡ Some i → (part_by log x).holding ≡ Some log
+  pub holding_is : out ≡ Some i → (part_by log x).holding ≡ Some log
   holding_is here = let h = subst (λ (o : Option ℕ). IsHistory (world_of store o log lanes) log) here
       (kept_history store out log lanes k) in
       let same : h.0 ≡ part_by log x = some-injective h.0 (part_by log x) (sym h.1
       ∙ get_map (part_by log) lanes i x at) in
       ap (λ (p : Part). p.holding) (sym same) ∙ h.2
 
+  -- so it is a holder that serves no posted call
+  abbrev pub holder : out ≡ Some i → IsHolder w i (part_by log x)
+  holder here = record {
+    log = log;
+    last = store;
+    out = ap (turn_by store) here;
+    held = holding_is here;
+    unserving = refl;
+    legal = k.legal;
+  }
+
   -- put with no call of its own
   pub puts_none : (seen : ℕ) → out ≡ Some i → seen ≡ length log
-      → Moved store None log record {
-        lane = x.lane;
-        seen = seen;
-        base = x.base;
-        holding = false;
-        taken =
-            x.taken;
-        found = x.found;
-      } (Put None)
+      → Moved store None log record x { seen = seen; holding = false } (Put None)
   puts_none seen here es =
-      let y : Lane = record {
-        lane = x.lane;
-        seen = seen;
-        base = x.base;
-        holding = false;
-        taken = x.taken;
-        found =
-            x.found;
-      } in
+      let y : Lane = record x { seen = seen; holding = false } in
       let part : part_by log y ≡ put_none (part_by log x) log =
       λ j. record (put_none (part_by log x) log) { seen = (ap (λ (b : ℕ). take b log) es ∙ take-length log) j } in
       let steps : StepsAs w i (part_by log x) (Put None) (world_of store None log (set lanes i y)) = (
-        log,
-        store,
-        ap (turn_by store) here,
-        holding_is here,
-        refl,
-        k.legal,
+        holder here,
         reseats store out None log lanes i y (put_none (part_by log x) log) part,
       ) in
       let base = (k.short i x at).1 in (
@@ -218,15 +181,7 @@ module _ (store : State) (out : Option ℕ) (log : List Event) (lanes : List Lan
   pub puts : (seen : ℕ) (call : ℕ × Ask) (reply : Result Answer Errno) (next : State) → out ≡ Some i
       → Step store (event_of i call.0 call.1 reply) next → seen ≡ length log + 1
       → Moved next None (log ++ event_of i call.0 call.1 reply ∷ [])
-      record {
-        lane = x.lane;
-        seen = seen;
-        base = x.base;
-        holding = false;
-        taken = x.taken;
-        found =
-            x.found;
-      } (Put (Some call))
+      record x { seen = seen; holding = false } (Put (Some call))
   puts seen call reply next here step es =
       let e : Event = event_of i call.0 call.1 reply in
       let log' : List Event = log ++ e ∷ [] in
@@ -234,15 +189,7 @@ module _ (store : State) (out : Option ℕ) (log : List Event) (lanes : List Lan
       let whole : seen ≡ length log' = es ∙ sym size in
       let number = k.numbered i x at in
       let base = (k.short i x at).1 in
-      let y : Lane = record {
-        lane = x.lane;
-        seen = seen;
-        base = x.base;
-        holding = false;
-        taken = x.taken;
-        found =
-            x.found;
-      } in
+      let y : Lane = record x { seen = seen; holding = false } in
       let based : take x.base log' ≡ take x.base log = take-append-le x.base log (e ∷ []) base in
       let saw : take seen log' ≡ log' = ap (λ (b : ℕ). take b log') whole ∙ take-length log' in
       let calls : events_of x.lane log' ≡ events_of x.lane log ++ e ∷ [] = own_event x.lane log e (sym number) in
@@ -260,7 +207,7 @@ module _ (store : State) (out : Option ℕ) (log : List Event) (lanes : List Lan
         seats = seats m;
       } in
       let steps : StepsAs w i (part_by log x) (Put (Some call)) (world_of next None log' (set lanes i y)) =
-      (log, store, ap (turn_by store) here, holding_is here, refl, k.legal, (reply, next, refl, step, new)) in (
+      (holder here, reply, next, refl, step, new) in (
         after next None log' y (Put (Some call)) steps (λ _. inr (i, y, set_at lanes i y x at, whole))
             (legal_more (starting_at 3) store next log e k.legal step) (omega arith) refl (omega arith) (omega arith)
             (λ no. absurd (cc)) (λ j not o. absurd (not (let both : Some j ≡ Some i = sym o ∙ here in cc))),
@@ -272,28 +219,12 @@ module _ (store : State) (out : Option ℕ) (log : List Event) (lanes : List Lan
       → out ≡ Some i → Step store (event_of i call.0 call.1 reply) next
       → log' ≡ log ++ event_of i call.0 call.1 reply ∷ [] → seen ≡ length log'
       → Moved next None log'
-      record {
-        lane = x.lane;
-        seen = seen;
-        base = x.base;
-        holding = false;
-        taken = x.taken;
-        found =
-            x.found;
-      } (Put (Some call))
+      record x { seen = seen; holding = false } (Put (Some call))
   puts_at seen call reply next log' here step is es =
       let e : Event = event_of i call.0 call.1 reply in
       let size : seen ≡ length log + 1 = es ∙ (ap length is ∙ length-append log (e ∷ [])) in
       subst (λ (l : List Event). Moved next None l
-      record {
-        lane = x.lane;
-        seen = seen;
-        base = x.base;
-        holding = false;
-        taken = x.taken;
-        found =
-            x.found;
-      } (Put (Some call)))
+      record x { seen = seen; holding = false } (Put (Some call)))
       (sym is) (puts seen call reply next here step size)
 
   -- after a load some lane has seen all calls, where one had before
@@ -309,25 +240,9 @@ module _ (store : State) (out : Option ℕ) (log : List Event) (lanes : List Lan
 
   -- load
   pub loads : (n : ℕ) → x.seen ≤ n → n ≤ length log
-      → Moved store out log record {
-        lane = x.lane;
-        seen = n;
-        base = x.base;
-        holding = x.holding;
-        taken =
-            x.taken;
-        found = x.found;
-      } (Load n)
+      → Moved store out log record x { seen = n } (Load n)
   loads n more within =
-      let y : Lane = record {
-        lane = x.lane;
-        seen = n;
-        base = x.base;
-        holding = x.holding;
-        taken = x.taken;
-        found =
-            x.found;
-      } in
+      let y : Lane = record x { seen = n } in
       let steps : StepsAs w i (part_by log x) (Load n) (world_of store out log (set lanes i y)) = (
         log,
         take n log,
@@ -361,63 +276,3 @@ module _ (store : State) (out : Option ℕ) (log : List Event) (lanes : List Lan
       let above : length steps.1 ≤ length steps.0 = begins_short steps.1 steps.0 steps.4 in
       let all : length steps.0 ≡ length log = ap length whole in let is : length steps.1 ≡ n = steps.5 in
       ⊎_elim (λ (lt : n < x.seen). omega arith) (λ (lt : length log < n). omega arith) outside
-
--- The same, where the machine is seen as its view.
-
--- a lane that has no seat
-pub unseated : (w : World) (store : State) (out : Option ℕ) (log : List Event) (lanes : List Lane) (i : ℕ) (p : Part)
-    → world_of store out log lanes ≡ w → get_elem? w.seats i ≡ some p → length lanes ≤ i → ⊥
-unseated w store out log lanes i p is e beyond =
-    let at : get_elem? (seats_by log lanes) i ≡ some p = subst (λ (z : World). get_elem? z.seats i ≡ some p)
-    (sym is) e in
-    let m = of_map (part_by log) lanes i p at in let within = in_bounds lanes i m.0 m.1 in omega arith
-
--- a lane that is there, by its look-up
-pub lane_at : (lanes seen : List Lane) (i : ℕ) (x : Lane) → seen ≡ lanes → i < length seen → x ≡ get_or seen i x
-    → get_elem? lanes i ≡ some x
-lane_at lanes seen i x same within is =
-    subst (λ (z : List Lane). get_elem? z i ≡ some x) same (at_in seen i x within ∙ ap (λ (z : Lane). some z) (sym is))
-
--- a step that was made
-pub moves : (w new : World) (store : State) (out : Option ℕ) (log : List Event) (lanes : List Lane) (i : ℕ) (x : Lane)
-    (kind : Kind) → world_of store out log lanes ≡ w → get_elem? lanes i ≡ some x
-    → StepsAs (world_of store out log lanes) i (part_by log x) kind new → MovesBy w i kind true new
-moves w new store out log lanes i x kind is at steps =
-    subst (λ (z : World). MovesBy z i kind true new) is (part_by log x, get_map (part_by log) lanes i x at, steps)
-
--- a load outside of what may be seen
-pub loads_not : (w : World) (store : State) (out : Option ℕ) (log : List Event) (lanes : List Lane) (i : ℕ) (x : Lane)
-    → IsKept store out log lanes → get_elem? lanes i ≡ some x → world_of store out log lanes ≡ w → (n : ℕ)
-    → (n < x.seen) ⊎ (length log < n) → MovesBy w i (Load n) false w
-loads_not w store out log lanes i x k at is n outside = (
-  refl,
-  subst (λ (z : World). (p : Part) (other : World) → get_elem? z.seats i ≡ some p → StepsAs z i p (Load n) other → ⊥) is
-      (no_load store out log lanes i x k at n outside),
-)
-
--- a take that would raise a number that is the greatest
-pub take_full : (w : World) (store : State) (out : Option ℕ) (log : List Event) (lanes : List Lane) (i : ℕ) (x : Lane)
-    → get_elem? lanes i ≡ some x → world_of store out log lanes ≡ w → out ≡ None → 18446744073709551615 ≤ x.taken
-    → RefusedBy w i Take ENOSPC w
-take_full w store out log lanes i x at is free full = subst (λ (z : World). RefusedBy z i Take ENOSPC z) is (
-  refl,
-  (part_by log x, get_map (part_by log) lanes i x at, (refl, full, (store, ap (turn_by store) free))),
-)
-
-pub found_full : (w : World) (store : State) (out : Option ℕ) (log : List Event) (lanes : List Lane) (i : ℕ) (x : Lane)
-    (holder : ℕ) → get_elem? lanes i ≡ some x → world_of store out log lanes ≡ w → out ≡ Some holder → holder ≢ i
-    → 18446744073709551615 ≤ x.found → RefusedBy w i TakeFound ENOSPC w
-found_full w store out log lanes i x holder at is held not full =
-    subst (λ (z : World). RefusedBy z i TakeFound ENOSPC z) is (
-      refl,
-      (part_by log x, get_map (part_by log) lanes i x at, (refl, full, (holder, ap (turn_by store) held, not))),
-    )
-
-pub no_memory : (w : World) (store : State) (out : Option ℕ) (log : List Event) (lanes : List Lane) (i : ℕ) (x : Lane)
-    (call : ℕ × Ask) → get_elem? lanes i ≡ some x → world_of store out log lanes ≡ w → out ≡ Some i
-    → RefusedBy w i (Put (Some call)) ENOMEM w
-no_memory w store out log lanes i x call at is here =
-    subst (λ (z : World). RefusedBy z i (Put (Some call)) ENOMEM z) is (
-      refl,
-      (part_by log x, get_map (part_by log) lanes i x at, (refl, ap (turn_by store) here, refl, refl)),
-    )

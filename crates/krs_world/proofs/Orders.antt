@@ -67,13 +67,13 @@ step_sees w lane p Take new o at t j r is = subst (λ (z : World). Grown z.seats
     (grown_at w.seats lane p (taken p t.1) at (prefix_self p.seen) j r is)
 step_sees w lane p TakeFound new o at t j r is = subst (λ (z : World). Grown z.seats j r) (sym t.3)
     (grown_at w.seats lane p (missed p) at (prefix_self p.seen) j r is)
-step_sees w lane p (Put None) new o at t j r is = subst (λ (z : World). Grown z.seats j r) (sym t.6)
-    (grown_at w.seats lane p (put_none p t.0) at (held_begins w o lane p t.0 at t.3) j r is)
-step_sees w lane p (Put (Some call)) new o at t j r is = let u = t.6 in
-    let e : Event = event_of lane call.0 call.1 u.0 in
-    subst (λ (z : World). Grown z.seats j r) (sym u.4)
-    (grown_at w.seats lane p (put_own p t.0 e) at
-    (prefix_more p.seen t.0 (e ∷ []) (held_begins w o lane p t.0 at t.3)) j r is)
+step_sees w lane p (Put None) new o at t j r is = subst (λ (z : World). Grown z.seats j r) (sym t.1)
+    (grown_at w.seats lane p (put_none p t.0.log) at (held_begins w o lane p t.0.log at t.0.held) j r is)
+step_sees w lane p (Put (Some call)) new o at t j r is = let h = t.0 in
+    let e : Event = event_of lane call.0 call.1 t.1 in
+    subst (λ (z : World). Grown z.seats j r) (sym t.5)
+    (grown_at w.seats lane p (put_own p h.log e) at
+    (prefix_more p.seen h.log (e ∷ []) (held_begins w o lane p h.log at h.held)) j r is)
 step_sees w lane p (Load n) new o at t j r is = subst (λ (z : World). Grown z.seats j r) (sym t.6)
     (grown_at w.seats lane p (loaded p t.1) at t.3 j r is)
 
@@ -138,11 +138,11 @@ log_grows w lane p Take new o n at t = same_grows w new o n t.1 t.3 (subst (λ (
 log_grows w lane p TakeFound new o n at t = turn_grows w new lane p (missed p) o n at refl t.3
     (step_sees w lane p TakeFound new o at t) (Out t.0) t.1
 log_grows w lane p (Put None) new o n at t =
-    put_grows w new o n lane p (put_none p t.0) t.0 (Free t.1) at t.3 (prefix_self t.0) t.6
-log_grows w lane p (Put (Some call)) new o n at t = let u = t.6 in
-    let e : Event = event_of lane call.0 call.1 u.0 in
-    put_grows w new o n lane p (put_own p t.0 e) t.0 (Free u.1) at t.3
-    (prefix_more t.0 t.0 (e ∷ []) (prefix_self t.0)) u.4
+    put_grows w new o n lane p (put_none p t.0.log) t.0.log (Free t.0.last) at t.0.held (prefix_self t.0.log) t.1
+log_grows w lane p (Put (Some call)) new o n at t = let h = t.0 in
+    let e : Event = event_of lane call.0 call.1 t.1 in
+    put_grows w new o n lane p (put_own p h.log e) h.log (Free t.2) at h.held
+    (prefix_more h.log h.log (e ∷ []) (prefix_self h.log)) t.5
 log_grows w lane p (Load seen) new o n at t = turn_grows w new lane p (loaded p t.1) o n at refl t.6
     (step_sees w lane p (Load seen) new o at t) w.turn refl
 
@@ -185,23 +185,23 @@ real_time lanes before after mid next end lane p call log first at step second h
     let o : IsOneHistory mid = runs_keep (new_world lanes) before mid (begins_world lanes) first in
     let put : IsOneHistory next = step_as mid lane p (Put (Some call)) next o at step in
     let last : IsOneHistory end = runs_keep next after end put second in
-    let u = step.6 in let e : Event = event_of lane call.0 call.1 u.0 in let q : Part = put_own p step.0 e in
+    let h = step.0 in let e : Event = event_of lane call.0 call.1 step.1 in let q : Part = put_own p h.log e in
     let here : get_elem? next.seats lane ≡ some q =
-    subst (λ (z : World). get_elem? z.seats lane ≡ some q) (sym u.4) (set_at mid.seats lane q p at) in
+    subst (λ (z : World). get_elem? z.seats lane ≡ some q) (sym step.5) (set_at mid.seats lane q p at) in
     let grown = runs_see next after end put second lane q here in
     let whole : log ≡ last.history.log =
     history_is end.opening (cell_of end.cells) end.seats end.turn last.history log history in
-    let begun : Begins (step.0 ++ e ∷ []) log = subst (Begins (step.0 ++ e ∷ [])) (sym whole)
-    (prefix_trans (step.0 ++ e ∷ []) grown.0.seen last.history.log grown.2
+    let begun : Begins (h.log ++ e ∷ []) log = subst (Begins (h.log ++ e ∷ [])) (sym whole)
+    (prefix_trans (h.log ++ e ∷ []) grown.0.seen last.history.log grown.2
     (seen_begins end last lane grown.0 grown.1)) in
-    let saw : Begins p.seen step.0 = held_begins mid o lane p step.0 at step.3 in (
-      u.0,
+    let saw : Begins p.seen h.log = held_begins mid o lane p h.log at h.held in (
+      step.1,
       q,
       here,
       refl,
       (
         saw.0,
         begun.0,
-        sym begun.1 ∙ (append_assoc step.0 (e ∷ []) begun.0 ∙ ap (λ (l : List Event). l ++ e ∷ begun.0) (sym saw.1)),
+        sym begun.1 ∙ (append_assoc h.log (e ∷ []) begun.0 ∙ ap (λ (l : List Event). l ++ e ∷ begun.0) (sym saw.1)),
       ),
     )

@@ -1,5 +1,5 @@
 -- Dealing the seats, joining two and splitting them keeps the one history.
-use Rattle.std.proofs.Common.{◌≡◌, ℕ, zero, suc, ◌+◌, List, []}
+use Rattle.std.proofs.Common.{◌≡◌, ℕ, zero, suc, ◌+◌, ◌<◌, List, []}
 use Rattle.std.proofs.Common.{◌∷◌, ◌++◌, length, set, Option, Some, None, refl, sym, ap, ◌∙◌, subst, inl, inr, ◌⊎◌}
 use Rattle.std.proofs.Common.{arith, length-set}
 use mathlib.Core.Option.{some, some-injective, some-ne-none}
@@ -11,10 +11,10 @@ use Rattle.krs_world.specs.declared.view.Cell.TheVariants.{Empty}
 use Rattle.krs_world.specs.declared.view.Standing.TheVariants.{Spent, Opening}
 use Rattle.krs_world.specs.declared.view.View.{View}
 use Rattle.krs_world.specs.Knowing.{events_of, view, one, fresh}
-use Rattle.krs_world.specs.History.{Fits, Stands, OneHistory}
+use Rattle.krs_world.specs.History.{Shared, Fits, Stands, OneHistory}
 use Rattle.krs_world.proofs.Keeping.{set_at}
 use Rattle.krs_world.proofs.Keeping.{snoc_at, snoc_end, seen_set, held_set, seen_snoc, held_snoc, each_set}
-use Rattle.krs_world.proofs.Keeping.{others_stand}
+use Rattle.krs_world.proofs.Keeping.{shares, others_stand}
 use Rattle.krs_world.proofs.Places.{seated_set, seated_snoc, dealing_set, dealing_snoc, seats_again, seated_here}
 use Rattle.krs_world.proofs.Places.{seated_else}
 pub use Rattle.krs_world.proofs.Places.{seated}
@@ -26,6 +26,8 @@ pub deals : (a : State) (turn : ℕ) (home : Option State) (cell : ℕ → Cell)
     → OneHistory a turn home cell views → get_elem? views id ≡ some (view a (Opening n))
     → OneHistory a turn home cell (set views id (view a (Opening (n + 1))) ++ one a (fresh n) ∷ [])
 deals a turn home cell views id n o at = let k = o.each id (view a (Opening n)) at in
+    let s : Shared = shares a turn home cell views o in
+    let s' : Shared = record s { dealt = n + 1; seat = seated o.seat n (length views) } in
     let quiet : o.log ≡ [] = o.young k.0 in let all : n ≡ o.dealt = k.2 in let two : turn ≡ 2 = k.0 in
     let N : ℕ = length views in let w : View = view a (Opening (n + 1)) in let len : length (set views id w) ≡ N =
     length-set views id w in
@@ -42,6 +44,7 @@ deals a turn home cell views id n o at = let k = o.each id (view a (Opening n)) 
       longest = λ _. inl quiet;
       legal = o.legal;
       at_home = o.at_home;
+      away = o.away;
       opener = λ _. (
         w,
         snoc_at L o.holder x w (ap (get_elem? L) (sym k.1) ∙ set_at views id w (view a (Opening n)) at),
@@ -59,7 +62,7 @@ deals a turn home cell views id n o at = let k = o.each id (view a (Opening n)) 
       openings = each_snoc (λ j v. (v.stands ≡ Spent) ⊎ (v.opening ≡ a)) (set views id w) N (one a (fresh n)) len
           (inr refl)
           (each_set (λ j v. (v.stands ≡ Spent) ⊎ (v.opening ≡ a)) views id w (inr refl) (λ j v _ e. o.openings j v e));
-      each = each_snoc (λ j v. Stands o.log turn o.holder (n + 1) (seated o.seat n N) cell o.serving j v.stands)
+      each = each_snoc (λ j v. Stands s' j v.stands)
           (set views id w) N (one a (fresh n)) len
           record {
             at = seated_here o.seat n N;
@@ -71,18 +74,22 @@ deals a turn home cell views id n o at = let k = o.each id (view a (Opening n)) 
             holding = λ l e. absurd cc;
             unheld = λ _. refl;
           }
-          (each_set (λ j v. Stands o.log turn o.holder (n + 1) (seated o.seat n N) cell o.serving j v.stands) views id
+          (each_set (λ j v. Stands s' j v.stands) views id
           w (k.0, k.1, refl)
-          (λ j v not e. others_stand o.log o.log turn turn o.holder o.holder o.dealt (n + 1) o.seat
-          (seated o.seat n N) cell cell o.serving o.serving j
-          (λ q h. let g = h.given in record {
+          (λ j v not e. others_stand s s' j
+          (λ q h. let g : q.lane < o.dealt = h.given in record {
             at = seated_else o.seat n N q.lane (λ e. omega arith) ∙ h.at;
             given = omega arith;
             seen = h.seen;
             base = h.base;
             calls = h.calls;
             fits = h.fits;
-            holding = h.holding;
+            holding = λ l is. let t = h.holding l is in record {
+              out = t.out;
+              here = t.here;
+              whole = t.whole;
+              same_service = t.same_service;
+            };
             unheld = h.unheld;
           })
           (λ t is. absurd (not (is ∙ sym k.1))) v.stands (o.each j v e)));
@@ -93,6 +100,7 @@ pub opens : (a : State) (turn : ℕ) (home : Option State) (cell : ℕ → Cell)
     → OneHistory a turn home cell views → get_elem? views id ≡ some (view a (Opening n))
     → OneHistory a 0 home cell (set views id (view a Spent))
 opens a turn home cell views id n o at = let k = o.each id (view a (Opening n)) at in let two : turn ≡ 2 = k.0 in
+    let s : Shared = shares a turn home cell views o in let s' : Shared = record s { turn = 0 } in
     let quiet : o.log ≡ [] = o.young two in record {
       log = o.log;
       last = o.last;
@@ -105,6 +113,7 @@ opens a turn home cell views id n o at = let k = o.each id (view a (Opening n)) 
       longest = λ _. inl quiet;
       legal = o.legal;
       at_home = λ _. o.at_home (λ e. omega arith);
+      away = λ e. absurd (omega arith);
       opener = λ e. absurd (omega arith);
       young = λ e. absurd (omega arith);
       unserved = λ _. o.unserved (λ e. omega arith);
@@ -114,10 +123,8 @@ opens a turn home cell views id n o at = let k = o.each id (view a (Opening n)) 
       served = o.served;
       openings = each_set (λ j v. (v.stands ≡ Spent) ⊎ (v.opening ≡ a)) views id (view a Spent) (inr refl)
           (λ j v _ e. o.openings j v e);
-      each = each_set (λ j v. Stands o.log 0 o.holder o.dealt o.seat cell o.serving j v.stands) views id
-          (view a Spent) tt
-          (λ j v not e. others_stand o.log o.log turn 0 o.holder o.holder o.dealt o.dealt o.seat o.seat cell cell
-          o.serving o.serving j
+      each = each_set (λ j v. Stands s' j v.stands) views id (view a Spent) tt
+          (λ j v not e. others_stand s s' j
           (λ q h. record {
             at = h.at;
             given = h.given;
@@ -149,6 +156,7 @@ spares a turn home cell views id v o at = record {
   word = o.word;
   legal = o.legal;
   at_home = o.at_home;
+  away = o.away;
   opener = λ h. dealing_snoc o.dealt o.holder (set views id v) (view a Spent) (dealing_set o.dealt o.holder views id v v
       at (λ t. t) (o.opener h));
   young = o.young;
@@ -162,9 +170,9 @@ spares a turn home cell views id v o at = record {
       (length-set views id v) (inr refl)
       (each_set (λ j w. (w.stands ≡ Spent) ⊎ (w.opening ≡ a)) views id v (o.openings id v at)
       (λ j w _ e. o.openings j w e));
-  each = each_snoc (λ j w. Stands o.log turn o.holder o.dealt o.seat cell o.serving j w.stands) (set views id v)
+  each = each_snoc (λ j w. Stands (shares a turn home cell views o) j w.stands) (set views id v)
       (length views) (view a Spent) (length-set views id v) tt
-      (each_set (λ j w. Stands o.log turn o.holder o.dealt o.seat cell o.serving j w.stands) views id v
+      (each_set (λ j w. Stands (shares a turn home cell views o) j w.stands) views id v
       (o.each id v at) (λ j w _ e. o.each j w e));
 }
 
@@ -185,6 +193,7 @@ begins a = record {
   longest = λ _. inl refl;
   legal = legal_none a;
   at_home = λ _. refl;
+  away = λ n. absurd (omega arith);
   word = omega arith;
   opener = λ _. (view a (Opening 0), refl, refl);
   young = λ _. refl;
@@ -194,7 +203,9 @@ begins a = record {
   serves = λ l m ask is. absurd cc;
   served = λ s is. absurd cc;
   openings = λ j v e. inr (ap (λ (w : View). w.opening) (sym (only_at (view a (Opening 0)) v j e).1));
-  each = λ j v e. subst (λ (x : ℕ × View). Stands [] 2 0 0 (λ _. 0) (λ _. Empty) None x.0 x.1.stands)
+  each = λ j v e. subst (λ (x : ℕ × View). Stands
+      record { log = []; turn = 2; holder = 0; dealt = 0; seat = λ _. 0; cell = λ _. Empty; serving = None }
+      x.0 x.1.stands)
       (λ i. (sym (only_at (view a (Opening 0)) v j e).0 i, (only_at (view a (Opening 0)) v j e).1 i))
       (refl, refl, refl);
 }

@@ -152,7 +152,7 @@ step_as w lane p Take new o at t = let a = w.opening in let cell = cell_of w.cel
     subst IsOneHistory (sym t.4) (one_now (record (reseated w lane q) { turn = Out lane })
     (reads a cell w.seats 1 None lane q (subst (λ (l : List Event). OneHistory a 1 None cell
     (set (views_of w) lane (one a (taken p l)))) (sym is)
-    (law.takes a (views_of w) lane p (seat_of a cell w.seats lane p at) (Some store) None cell h
+    (law.takes a (views_of w) lane p (seat_of a cell w.seats lane p at) (Some store) cell h
     (none_held a cell w.seats (Some store) h lane p at p.holding refl))))
     (q, t.1, set_at w.seats lane q p at, refl) (lanes_stay w.seats lane p q at refl o.lanes))
 step_as w lane p TakeFound new o at t = let a = w.opening in let cell = cell_of w.cells in let q : Part = missed p in
@@ -162,17 +162,17 @@ step_as w lane p TakeFound new o at t = let a = w.opening in let cell = cell_of 
     (out_stays w.turn w.seats lane p q at refl (out_at w.turn w.seats o.history.log o.whole))
     (lanes_stay w.seats lane p q at refl o.lanes))
 step_as w lane p (Put None) new o at t = let a = w.opening in let cell = cell_of w.cells in
-    let q : Part = put_none p t.0 in
+    let q : Part = put_none p t.0.log in
     let r = law.puts_none a (views_of w) lane p (seat_of a cell w.seats lane p at) (turn_word w.turn)
-    (at_home w.turn) cell t.0 t.1 o.history t.3 t.4 t.5 in
-    subst IsOneHistory (sym t.6) (one_now (record (reseated w lane q) { turn = Free t.1 })
-    (reads a cell w.seats 0 (Some t.1) lane q r.1) tt (lanes_stay w.seats lane p q at refl o.lanes))
-step_as w lane p (Put (Some call)) new o at t = let a = w.opening in let cell = cell_of w.cells in let u = t.6 in
-    let e : Event = event_of lane call.0 call.1 u.0 in let q : Part = put_own p t.0 e in
+    (at_home w.turn) cell t.0.log t.0.last o.history t.0.held t.0.unserving t.0.legal in
+    subst IsOneHistory (sym t.1) (one_now (record (reseated w lane q) { turn = Free t.0.last })
+    (reads a cell w.seats 0 (Some t.0.last) lane q r.1) tt (lanes_stay w.seats lane p q at refl o.lanes))
+step_as w lane p (Put (Some call)) new o at t = let a = w.opening in let cell = cell_of w.cells in let h = t.0 in
+    let e : Event = event_of lane call.0 call.1 t.1 in let q : Part = put_own p h.log e in
     let r = law.puts a (views_of w) lane p (seat_of a cell w.seats lane p at) (turn_word w.turn)
-    (at_home w.turn) cell t.0 e t.1 u.1 o.history t.3 t.4 u.2 t.5 u.3 (sym (o.lanes lane p at)) in
-    subst IsOneHistory (sym u.4) (one_now (record (reseated w lane q) { turn = Free u.1 })
-    (reads a cell w.seats 0 (Some u.1) lane q r.1) tt (lanes_stay w.seats lane p q at refl o.lanes))
+    (at_home w.turn) cell h.log e h.last t.2 o.history h.held h.unserving t.3 h.legal t.4 (sym (o.lanes lane p at)) in
+    subst IsOneHistory (sym t.5) (one_now (record (reseated w lane q) { turn = Free t.2 })
+    (reads a cell w.seats 0 (Some t.2) lane q r.1) tt (lanes_stay w.seats lane p q at refl o.lanes))
 step_as w lane p (Load n) new o at t = let a = w.opening in let cell = cell_of w.cells in let q : Part = loaded p t.1 in
     let is : t.0 ≡ o.history.log = history_is a cell w.seats w.turn o.history t.0 t.2 in
     subst IsOneHistory (sym t.6) (one_now (reseated w lane q)

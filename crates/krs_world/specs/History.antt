@@ -62,37 +62,42 @@ Fits log p (Answered m a r) =
     (f : List Event) × (p.flight ≡ Some (flight m a f))
     × (events_of p.lane log ≡ p.mine ++ event_of p.lane m a r ∷ []) × StandsAfter f (event_of p.lane m a r) log
 
+-- what all seats share: the history, the turn, and who stands where (the fields are those of `OneHistory`)
+pub record Shared : Type 0 where
+  pub log : List Event
+  pub turn : ℕ
+  pub holder : ℕ
+  pub dealt : ℕ
+  pub seat : ℕ → ℕ
+  pub cell : ℕ → Cell
+  pub serving : Option Service
+
 -- what is so of a seat j that holds a list: the turn is out, and out here; the list is the whole history
-pub record Holds (log : List Event) (turn holder : ℕ) (serving : Option Service) (j : ℕ) (p : Part) (l : List Event)
-    : Type 0 where
-  pub out : turn ≡ 1
-  pub here : j ≡ holder
-  pub whole : l ≡ log
-  pub same_service : p.serving ≡ serving  -- the one call that is being served is its to serve
+pub record Holds (s : Shared) (j : ℕ) (p : Part) (l : List Event) : Type 0 where
+  pub out : s.turn ≡ 1
+  pub here : j ≡ s.holder
+  pub whole : l ≡ s.log
+  pub same_service : p.serving ≡ s.serving  -- the one call that is being served is its to serve
 
 -- what is so of a lane that the seat j stands for
-pub record Known (log : List Event) (turn holder dealt : ℕ) (seat : ℕ → ℕ) (cell : ℕ → Cell) (serving : Option Service)
-    (j : ℕ) (p : Part) : Type 0 where
-  pub at : seat p.lane ≡ j  -- no other seat stands for this lane
-  pub given : p.lane < dealt  -- it is one of the lanes that were dealt
-  pub seen : Begins p.seen log  -- what it has seen begins the history
-  pub base : Begins p.base log  -- so does the history as it last took the turn
+pub record Known (s : Shared) (j : ℕ) (p : Part) : Type 0 where
+  pub at : s.seat p.lane ≡ j  -- no other seat stands for this lane
+  pub given : p.lane < s.dealt  -- it is one of the lanes that were dealt
+  pub seen : Begins p.seen s.log  -- what it has seen begins the history
+  pub base : Begins p.base s.log  -- so does the history as it last took the turn
   -- of its lane's operations in what it has seen, those that it knows of come first
   pub calls : Begins p.mine (events_of p.lane p.seen)
-  pub fits : Fits log p (cell p.lane)  -- the history has its operations once, in their order
-  pub holding : (l : List Event) → p.holding ≡ Some l → Holds log turn holder serving j p l  -- one seat alone holds
+  pub fits : Fits s.log p (s.cell p.lane)  -- the history has its operations once, in their order
+  pub holding : (l : List Event) → p.holding ≡ Some l → Holds s j p l  -- one seat alone holds
   pub unheld : p.holding ≡ None → p.serving ≡ None  -- who doesn't hold the history serves no call
 
 -- what is so of the lanes that a seat stands for: one; two while two seats meet; none yet, or none any more
-module _ (log : List Event) (turn holder dealt : ℕ) (seat : ℕ → ℕ) (cell : ℕ → Cell) (serving : Option Service)
-    (j : ℕ) where
-  abbrev pub Stands : Standing → Type 0
-  Stands Spent = Unit {0}
-  Stands (One p) = Known log turn holder dealt seat cell serving j p
-  Stands (Two p q) =
-      Known log turn holder dealt seat cell serving j p × Known log turn holder dealt seat cell serving j q
-      × (p.lane ≢ q.lane) × (p.holding ≡ None) × (q.holding ≡ None)
-  Stands (Opening n) = (turn ≡ 2) × (j ≡ holder) × (n ≡ dealt)
+abbrev pub Stands : Shared → ℕ → Standing → Type 0
+Stands s j Spent = Unit {0}
+Stands s j (One p) = Known s j p
+Stands s j (Two p q) =
+    Known s j p × Known s j q × (p.lane ≢ q.lane) × (p.holding ≡ None) × (q.holding ≡ None)
+Stands s j (Opening n) = (s.turn ≡ 2) × (j ≡ s.holder) × (n ≡ s.dealt)
 
 -- a lane of the seat has seen just this list
 abbrev pub HasSeen : List Event → Standing → Type 0
@@ -132,7 +137,7 @@ abbrev pub IsDealing : ℕ → ℕ → List View → Type 0
 IsDealing dealt holder views = (v : View) × (get_elem? views holder ≡ some v) × (v.stands ≡ Opening dealt)
 
 -- There is one history, `log`. The turn is 0 where it is free, 1 where it is out, and 2 while the seats are dealt;
--- `home` is the store's state where it is at home; `views` is what each seat knows.
+-- `home` is the store's state, none where no store is at home; `views` is what each seat knows.
 pub record OneHistory (opening : State) (turn : ℕ) (home : Option State) (cell : ℕ → Cell) (views : List View)
     : Type 0 where
   pub log : List Event  -- the history
@@ -146,6 +151,7 @@ pub record OneHistory (opening : State) (turn : ℕ) (home : Option State) (cell
   pub longest : turn ≢ 1 → IsSeen log views  -- else the longest list that a seat has seen (each begins it: `seen`)
   pub legal : IsLegal opening log last  -- it is one of the sequential store, from the opening on
   pub at_home : turn ≢ 1 → home ≡ Some last  -- it ends in the state at home, where the turn is not out
+  pub away : turn ≡ 1 → home ≡ None  -- no store is at home while the turn is out
   pub opener : turn ≡ 2 → IsDealing dealt holder views  -- while they are dealt, the dealer is at the holder's place
   pub young : turn ≡ 2 → log ≡ []  -- the history is empty while the seats are dealt
   pub unserved : turn ≢ 1 → serving ≡ None  -- no call is served unless the turn is out
@@ -159,4 +165,7 @@ pub record OneHistory (opening : State) (turn : ℕ) (home : Option State) (cell
   -- opening, which may be any, is read by nobody
   pub openings : (j : ℕ) (v : View) → get_elem? views j ≡ some v → (v.stands ≡ Spent) ⊎ (v.opening ≡ opening)
   -- what each seat knows is so
-  pub each : (j : ℕ) (v : View) → get_elem? views j ≡ some v → Stands log turn holder dealt seat cell serving j v.stands
+  pub each : (j : ℕ) (v : View) → get_elem? views j ≡ some v
+      → Stands
+      record { log = log; turn = turn; holder = holder; dealt = dealt; seat = seat; cell = cell; serving = serving }
+      j v.stands

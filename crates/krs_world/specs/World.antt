@@ -4,7 +4,6 @@ use Rattle.std.specs.Prelude.{None}
 use Rattle.std.specs.Prelude.{Result, map, length, slice_index_or, slice_set}
 use mathlib.Core.Option.{some}
 use lib.ListN.{get_elem?}
-use Rattle.krs_types.specs.declared.ask.Ask.{Ask}
 use Rattle.krs_types.specs.declared.ask.Answer.{Answer}
 use Rattle.krs_types.specs.declared.errno.Errno.{Errno}
 use Rattle.krs_types.specs.declared.errno.Errno.TheVariants.{ENOMEM, ENOSPC}
@@ -73,13 +72,18 @@ IsHistory w log = IsHistoryBy w.turn log w.seats
 abbrev pub reseated : World → ℕ → Part → World
 reseated w lane p = record w { seats = slice_set w.seats lane p }
 
--- the store comes home, with the event of an own call at the end of the list or with none
-abbrev pub Puts : World → ℕ → Part → List Event → State → Option (ℕ × Ask) → World → Type 0
-Puts w lane p log last None new = new ≡ record (reseated w lane (put_none p log)) { turn = Free last }
-Puts w lane p log last (Some call) new =
-    (reply : Result Answer Errno) × (next : State) × (p.flight ≡ None)
-    × Step last (event_of lane call.0 call.1 reply) next
-    × (new ≡ record (reseated w lane (put_own p log (event_of lane call.0 call.1 reply))) { turn = Free next })
+-- the same, with this store at home
+abbrev pub brought_home : World → ℕ → Part → State → World
+brought_home w lane p store = record (reseated w lane p) { turn = Free store }
+
+-- the lane's seat, which knows p, has the turn, and serves no posted call
+pub record IsHolder (w : World) (lane : ℕ) (p : Part) : Type 0 where
+  pub log : List Event  -- the list that it holds
+  pub last : State  -- the state that this list ends in
+  pub out : w.turn ≡ Out lane
+  pub held : p.holding ≡ Some log
+  pub unserving : p.serving ≡ None
+  pub legal : IsLegal w.opening log last
 
 -- what a step of this kind does, by the lane's seat, which knows p
 abbrev pub StepsAs : World → ℕ → Part → Kind → World → Type 0
@@ -88,9 +92,12 @@ StepsAs w lane p Take new =
     × (new ≡ record (reseated w lane (taken p log)) { turn = Out lane })
 StepsAs w lane p TakeFound new =
     (holder : ℕ) × (w.turn ≡ Out holder) × (holder ≢ lane) × (new ≡ reseated w lane (missed p))
-StepsAs w lane p (Put call) new =
-    (log : List Event) × (last : State) × (w.turn ≡ Out lane) × (p.holding ≡ Some log) × (p.serving ≡ None)
-    × IsLegal w.opening log last × Puts w lane p log last call new
+StepsAs w lane p (Put None) new =
+    (h : IsHolder w lane p) × (new ≡ brought_home w lane (put_none p h.log) h.last)
+StepsAs w lane p (Put (Some call)) new =
+    (h : IsHolder w lane p) × (reply : Result Answer Errno) × (next : State) × (p.flight ≡ None)
+    × Step h.last (event_of lane call.0 call.1 reply) next
+    × (new ≡ brought_home w lane (put_own p h.log (event_of lane call.0 call.1 reply)) next)
 StepsAs w lane p (Load n) new =
     (log : List Event) × (seen : List Event) × IsHistory w log × Begins p.seen seen × Begins seen log
     × (length seen ≡ n) × (new ≡ reseated w lane (loaded p seen))
@@ -120,7 +127,7 @@ Refuses w lane p TakeFound error =
     × ((holder : ℕ) × (w.turn ≡ Out holder) × (holder ≢ lane))
 Refuses w lane p (Put None) error = ⊥
 Refuses w lane p (Put (Some call)) error =
-    (error ≡ ENOMEM) × (w.turn ≡ Out lane) × (p.serving ≡ None) × (p.flight ≡ None)
+    (error ≡ ENOMEM) × IsHolder w lane p × (p.flight ≡ None)
 Refuses w lane p (Load n) error = ⊥
 
 -- a refusal changes nothing

@@ -6,7 +6,8 @@ use mathlib.Core.Option.{some}
 use Rattle.krs_world.specs.declared.world.Lane.{Lane}
 use Rattle.krs_world.specs.declared.step.Kind.TheVariants.{Load}
 use Rattle.krs_world.proofs.world.World.load.Goals as goal
-use Rattle.krs_world.proofs.Moves.{loads, unseated, lane_at, moves, loads_not}
+use Rattle.krs_world.proofs.Moves.{loads}
+use Rattle.krs_world.proofs.Answering.{unseated, lane_at, moves, loads_not}
 
 pub returns-in_default : goal.returns-in_default
 returns-in_default c = let w = c.self.inside in

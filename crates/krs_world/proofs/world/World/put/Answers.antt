@@ -7,7 +7,8 @@ use Rattle.krs_model.specs.History.{event_of}
 use Rattle.krs_world.specs.declared.world.Lane.{Lane}
 use Rattle.krs_world.specs.declared.step.Kind.TheVariants.{Put}
 use Rattle.krs_world.proofs.world.World.put.Goals as goal
-use Rattle.krs_world.proofs.Moves.{puts_at, unseated, lane_at, moves, no_memory}
+use Rattle.krs_world.proofs.Moves.{puts_at}
+use Rattle.krs_world.proofs.Answering.{unseated, lane_at, moves, no_memory}
 
 pub returns-in_default-get-clause-moved : goal.returns-in_default-get-clause-moved
 returns-in_default-get-clause-moved c = let w = c.self.inside in
@@ -27,7 +28,7 @@ returns-in_default-copy-clause-refused c = let w = c.self.inside in let x = c.in
     let same : c.in-Some.holder ≡ c.args.lane = search rules in
     let here : w.out ≡ Some c.args.lane = c.in-Some.is ∙ ap (λ (n : ℕ). Some n) same in
     let refused = no_memory c.args.self.now w.store w.out w.log.items w.lanes.items c.args.lane x
-    (c.args.moment, c.args.ask) at c.self.view_is here in (search rules, refused.1)
+    (c.args.moment, c.args.ask) c.self.invariant at c.self.view_is here in (search rules, refused.1)
 
 pub returns-in_default-reserve-clause-refused : goal.returns-in_default-reserve-clause-refused
 returns-in_default-reserve-clause-refused c = let w = c.self.inside in let x = c.in-Some-get.seat.now in
@@ -38,7 +39,7 @@ returns-in_default-reserve-clause-refused c = let w = c.self.inside in let x = c
     let same : c.in-Some.holder ≡ c.args.lane = search rules in
     let here : w.out ≡ Some c.args.lane = c.in-Some.is ∙ ap (λ (n : ℕ). Some n) same in
     let refused = no_memory c.args.self.now w.store w.out w.log.items w.lanes.items c.args.lane x
-    (c.args.moment, c.args.ask) at c.self.view_is here in (search rules, refused.1)
+    (c.args.moment, c.args.ask) c.self.invariant at c.self.view_is here in (search rules, refused.1)
 
 pub invariant_of-self-2 : goal.invariant_of-self-2
 invariant_of-self-2 c = let w = c.self.inside in let x = c.in-Some-get.seat.now in

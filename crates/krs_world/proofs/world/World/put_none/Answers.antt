@@ -6,7 +6,8 @@ use mathlib.Core.Option.{some}
 use Rattle.krs_world.specs.declared.world.Lane.{Lane}
 use Rattle.krs_world.specs.declared.step.Kind.TheVariants.{Put}
 use Rattle.krs_world.proofs.world.World.put_none.Goals as goal
-use Rattle.krs_world.proofs.Moves.{puts_none, unseated, lane_at, moves}
+use Rattle.krs_world.proofs.Moves.{puts_none}
+use Rattle.krs_world.proofs.Answering.{unseated, lane_at, moves}
 
 pub returns-in_default-get : goal.returns-in_default-get
 returns-in_default-get c = let w = c.self.inside in

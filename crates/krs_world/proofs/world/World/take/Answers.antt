@@ -6,8 +6,8 @@ use mathlib.Core.Option.{some}
 use Rattle.krs_world.specs.declared.world.Lane.{Lane}
 use Rattle.krs_world.specs.declared.step.Kind.TheVariants.{Take}
 use Rattle.krs_world.proofs.world.World.take.Goals as goal
-use Rattle.krs_world.proofs.Moves.{takes, unseated, lane_at, moves}
-use Rattle.krs_world.proofs.Moves.{take_full}
+use Rattle.krs_world.proofs.Moves.{takes}
+use Rattle.krs_world.proofs.Answering.{unseated, lane_at, moves, take_full}
 
 pub returns-in_default-get-clause-moved : goal.returns-in_default-get-clause-moved
 returns-in_default-get-clause-moved c = let w = c.self.inside in

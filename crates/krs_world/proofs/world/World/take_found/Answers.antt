@@ -6,8 +6,8 @@ use mathlib.Core.Option.{some}
 use Rattle.krs_world.specs.declared.world.Lane.{Lane}
 use Rattle.krs_world.specs.declared.step.Kind.TheVariants.{TakeFound}
 use Rattle.krs_world.proofs.world.World.take_found.Goals as goal
-use Rattle.krs_world.proofs.Moves.{misses, unseated, lane_at, moves}
-use Rattle.krs_world.proofs.Moves.{found_full}
+use Rattle.krs_world.proofs.Moves.{misses}
+use Rattle.krs_world.proofs.Answering.{unseated, lane_at, moves, found_full}
 
 pub returns-in_default-get-clause-moved : goal.returns-in_default-get-clause-moved
 returns-in_default-get-clause-moved c = let w = c.self.inside in
