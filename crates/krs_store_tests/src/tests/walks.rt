@@ -84,7 +84,7 @@ fn possession_of_two_keyrings(rt: HostRuntime) -> Result<(), Fail> {
     Ok(())
 }
 
-/// Which links would close a cycle, where keys 3 and 4 are keyrings that link nothing: that of a keyring to itself alone.
+/// Where keys 3 and 4 are keyrings that link nothing, a link of one to itself would close a cycle, and no other.
 fn check_cycles(rt: &impl Abort, alloc: Global, keys: &KeyTable) -> Result<(), AllocError>
     requires fit { AreFit keys.now.keys }
     requires three { is_ring (at (shown keys.now.keys) 3) ≡ true }
