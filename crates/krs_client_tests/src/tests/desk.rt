@@ -98,22 +98,22 @@ struct Work {
     serials: Vec<u32>,
 }
 
-// HELLO, and a hundred keys whose descriptions begin with this letter.
+// HELLO, and keys whose descriptions are this letter and the numbers 1 to 100.
 fn add_hundred<R: Wait>(
     rt: &R,
     alloc: Global,
     desk: &Desk,
     seat: &mut Seat,
-    letter: u8,
+    letter: char,
 ) -> Result<Work, AllocError>
     requires { seat.old.table ≡ desk.now }
     ensures { seat.new.table ≡ desk.now }
 {
     let context = number_of(&desk.call(rt, seat, 0, hello(alloc)));
     let mut serials = Vec::with_capacity(alloc, 100)?;
-    for n in 0..100u8 {
-        let desc = [letter, b'0' + n / 10, b'0' + n % 10];
-        let ask = add(alloc, context, &desc, b"x")?;
+    for n in 1..=100u8 {
+        let desc = format!(in alloc; "{letter}{n}")?;
+        let ask = add(alloc, context, desc.as_bytes(), b"x")?;
         serials.push(number_of(&desk.call(rt, seat, 0, ask)))?;
     }
     Ok(Work { context, serials })
@@ -125,7 +125,7 @@ fn work_at<R: Wait>(
     alloc: Global,
     desk: &Desk,
     mut seat: Seat,
-    letter: u8,
+    letter: char,
 ) -> (Seat, Result<Work, AllocError>)
     requires { seat.table ≡ desk.now }
     ensures { result.0.table ≡ desk.now }
@@ -150,8 +150,8 @@ fn work_side_by_side<R: Threads + Wait + Sync>(
 {
     thread::join(
         rt,
-        || work_at(rt, alloc, desk, first, b'k'),
-        || work_at(rt, alloc, desk, second, b'h'),
+        || work_at(rt, alloc, desk, first, 'k'),
+        || work_at(rt, alloc, desk, second, 'h'),
     )
 }
 
@@ -182,14 +182,36 @@ fn two_threads_share_one_store(rt: HostRuntime) -> Result<(), Fail> {
     Ok(())
 }
 
+/// A store with context 1 of client 0 and key 5 of the payload `s3`.
+fn used_store(alloc: Global) -> Result<Store, AllocError> {
+    let mut store = Store::new(alloc);
+    let _ = store.apply(0, 0, hello(alloc));
+    let _ = store.apply(0, 0, add(alloc, 1, b"alpha", b"s3")?);
+    Ok(store)
+}
+
+// The seats of a desk go on with what its store has. Where a growth of `open` was refused it is the store that came
+// back.
+#[test]
+fn a_desk_goes_on_with_its_store(rt: HostRuntime) -> Result<(), Fail> {
+    let alloc = rt.alloc();
+    let (desk, mut first, mut second) = two_seats(alloc, used_store(alloc)?).ok_or("no desk")?;
+    let reply = desk.try_call(&mut first, 0, read(1, 5));
+    assert!(rt; reply.is_ok_and(|reply| gives_bytes(&reply, b"s3")));
+    let reply = desk.try_call(&mut second, 0, hello(alloc));
+    assert!(rt; reply.is_ok_and(|reply| number_of(&reply) == 2));
+    let reply = desk.try_call(&mut second, 0, read(2, -4));
+    assert!(rt; reply.is_ok_and(|reply| gives_bytes(&reply, &[5, 0, 0, 0])));
+    let mut store = desk.close(first).map_err(|_| "the turn is out")?;
+    assert!(rt; gives_bytes(&store.apply(0, 0, read(1, 5)), b"s3"));
+    Ok(())
+}
+
 #[test]
 fn too_few_or_many_lanes_hand_the_store_back(rt: HostRuntime) -> Result<(), Fail> {
     let alloc = rt.alloc();
     for lanes in [0, 257] {
-        let mut store = Store::new(alloc);
-        let _ = store.apply(0, 0, hello(alloc));
-        let _ = store.apply(0, 0, add(alloc, 1, b"alpha", b"s3")?);
-        let Err(refused) = Desk::open(alloc, lanes, store) else {
+        let Err(refused) = Desk::open(alloc, lanes, used_store(alloc)?) else {
             panic!(rt; "a desk of {lanes} lanes")
         };
         assert!(rt; refused.why == Why::Lanes);

@@ -1,6 +1,8 @@
-ghost use Rattle.std.specs.Prelude.{◌≡◌, [], IfOk};
+ghost use Rattle.std.specs.Prelude.{◌≡◌, [], true, IfOk};
 ghost use Rattle.krs_types.specs.declared.kind.Kind.TheVariants.{Keyring};
-ghost use Rattle.krs_keys.specs.Keys.{content_links, AreFit, IsOfKind};
+ghost use Rattle.krs_model.specs.Table.{at};
+ghost use Rattle.krs_model.specs.Reach.{is_ring};
+ghost use Rattle.krs_keys.specs.Keys.{content_links, shown, AreFit, IsOfKind};
 
 use krs_keys::{Content, Key, KeyTable};
 use krs_links::Links;
@@ -28,6 +30,7 @@ fn name(alloc: Global, desc: &[u8]) -> Result<Name, AllocError>
 fn ring(alloc: Global, desc: &[u8], expiry: Option<u64>, revoked: bool) -> Result<Key, AllocError>
     ensures empty { IfOk result (λ key. content_links key.content ≡ []) }
     ensures kind { IfOk result (λ key. IsOfKind key.name.kind key.content) }
+    ensures keyring { IfOk result (λ key. key.name.kind ≡ Keyring) }
 {
     Ok(Key {
         name: name(alloc, desc)?,
@@ -78,6 +81,30 @@ fn possession_of_two_keyrings(rt: HostRuntime) -> Result<(), Fail> {
     let second = ring(alloc, b"b", None, false)?;
     assert!(rt; keys.insert_two(first, second) == Ok(Serial::new(3)));
     check_possession(&rt, alloc, &keys)?;
+    Ok(())
+}
+
+/// Where keys 3 and 4 are keyrings that link nothing, a link of one to itself would close a cycle, and no other.
+fn check_cycles(rt: &impl Abort, alloc: Global, keys: &KeyTable) -> Result<(), AllocError>
+    requires fit { AreFit keys.now.keys }
+    requires three { is_ring (at (shown keys.now.keys) 3) ≡ true }
+    requires four { is_ring (at (shown keys.now.keys) 4) ≡ true }
+{
+    let (three, four) = (Serial::new(3), Serial::new(4));
+    let walker = Walker::new(alloc);
+    assert!(rt; walker.would_cycle(keys, three, three)?);
+    assert!(rt; !walker.would_cycle(keys, three, four)?);
+    Ok(())
+}
+
+#[test]
+fn cycles_of_two_keyrings(rt: HostRuntime) -> Result<(), Fail> {
+    let alloc = rt.alloc();
+    let mut keys = KeyTable::starting_at(alloc, 3);
+    let first = ring(alloc, b"a", None, false)?;
+    let second = ring(alloc, b"b", None, false)?;
+    assert!(rt; keys.insert_two(first, second) == Ok(Serial::new(3)));
+    check_cycles(&rt, alloc, &keys)?;
     Ok(())
 }
 
