@@ -12,8 +12,6 @@ use Rattle.krs_world.specs.declared.view.Standing.TheVariants.{Spent, Opening}
 use Rattle.krs_world.specs.Knowing.{view}
 use Rattle.krs_world.specs.History.{OneHistory}
 use Rattle.krs_world.proofs.Seating as seating
-use Rattle.krs_desk.specs.declared.place.Place.{Place}
-use Rattle.krs_desk.specs.declared.place.Place.TheVariants.{Home}
 use Rattle.krs_desk.specs.Rule.{InOneOrder, first_view, AreZero}
 use Rattle.krs_desk.specs.Told.{opens_told}
 use Rattle.krs_desk.specs.Sitting.{Sitting, fresh_seat, fresh_seats}
@@ -23,7 +21,7 @@ use Rattle.krs_desk.proofs.Joining.{opening_is}
 
 begins :
     (a : State) (ws : List ℕ) → 0 < length ws → get_or ws 0 0 ≡ 2 → AreZero ws
-    → InOneOrder a record { words = ws; homes = some (Home a) ∷ []; views = first_view a ∷ [] }
+    → InOneOrder a record { words = ws; homes = some a ∷ []; views = first_view a ∷ [] }
 begins a ws wide two zeros = record {
   wide = wide;
   home = Some a;
@@ -35,10 +33,10 @@ begins a ws wide two zeros = record {
 }
 
 pub begins_at :
-    (a : State) (ws vs : List ℕ) (slots : List Place) → vs ≡ ws → slots ≡ Home a ∷ [] → 0 < length ws
+    (a : State) (ws vs : List ℕ) (slots : List State) → vs ≡ ws → slots ≡ a ∷ [] → 0 < length ws
     → get_or ws 0 0 ≡ 2 → AreZero ws → InOneOrder a (opening vs slots (first_view a))
 begins_at a ws vs slots same is wide two zeros =
-    subst (λ (z : List ℕ × List Place). InOneOrder a (opening z.0 z.1 (first_view a))) (λ i. (sym same i, sym is i))
+    subst (λ (z : List ℕ × List State). InOneOrder a (opening z.0 z.1 (first_view a))) (λ i. (sym same i, sym is i))
     (begins a ws wide two zeros)
 
 -- the turn is freed

@@ -9,8 +9,6 @@ use Rattle.krs_model.specs.History.{IsLegal}
 use Rattle.krs_world.specs.declared.view.Part.{Part}
 use Rattle.krs_world.specs.declared.view.Standing.TheVariants.{One}
 use Rattle.krs_world.specs.Knowing.{one}
-use Rattle.krs_desk.specs.declared.place.Place.{Place}
-use Rattle.krs_desk.specs.declared.place.Place.TheVariants.{Home}
 use Rattle.krs_desk.specs.Rule.{IsAtHome, InOneOrder}
 use Rattle.krs_desk.specs.Sitting.{Sitting, EndsIn}
 use Rattle.krs_desk.specs.Seated.{Me, opening, part, sitting_of}
@@ -23,9 +21,9 @@ first_of (x ∷ xs) n e = some-injective x n e
 
 -- where the turn stands free, the store in the slot ends a list that begins with what the seat had seen
 pub ends_in :
-    (key : State) (id : ℕ) (table : TableId) (m : Me) (ws : List ℕ) (xs : List Place) (store : State)
+    (key : State) (id : ℕ) (table : TableId) (m : Me) (ws : List ℕ) (xs : List State) (store : State)
     → m ≡ (one (opening m) (part m), []) → Final (Seen (InOneOrder key) id m.0) ws xs → get_elem? ws 0 ≡ some 0
-    → get_elem? xs 0 ≡ some (Home store) → EndsIn (sitting_of table m) store
+    → get_elem? xs 0 ≡ some store → EndsIn (sitting_of table m) store
 ends_in key id table m ws xs store is f stands has =
     let s = f.0 in
     let r = f.1.0 in
@@ -36,9 +34,9 @@ ends_in key id table m ws xs store is f stands has =
     let e : a ≡ key = opening_is key a (One p) s id r at (λ e. cc) in
     let free : turn s ≡ 0 = ap (λ (l : List ℕ). get_or l 0 0) f.2 ∙ first_of ws 0 stands in
     let home = r.history.at_home (λ out. let no : 0 ≡ 1 = sym free ∙ out in omega arith) in
-    let slot : get_elem? s.homes 0 ≡ some (some (Home r.history.last)) =
+    let slot : get_elem? s.homes 0 ≡ some (some r.history.last) =
     subst (λ b. IsAtHome b (get_elem? s.homes 0)) home r.slot in
-    let same : some (Home r.history.last) ≡ some (Home store) = sym (f.4 0 (Home r.history.last) slot) ∙ has in
+    let same : some r.history.last ≡ some store = sym (f.4 0 r.history.last slot) ∙ has in
     let one_store : r.history.last ≡ store = cc in
     record {
       log = r.history.log;

@@ -1,6 +1,6 @@
 -- Seats after a call, a missed turn, and a meeting: what holds of them, and what their callers are told.
 use Rattle.std.proofs.Common.{◌≡◌, ℕ, List, [], ◌∷◌, ◌++◌, Some, None, refl, sym, ap, ◌∙◌, subst}
-use Rattle.std.proofs.Common.{append-nil}
+use Rattle.std.proofs.Common.{append-nil, get_or}
 use Rattle.atomic_table.specs.Seated.{TableId}
 use Rattle.krs_types.specs.declared.ask.Ask.{Ask}
 use Rattle.krs_types.specs.declared.event.Event.{Event}
@@ -14,10 +14,9 @@ use Rattle.krs_model.specs.History.{IsLegal, event_of}
 use Rattle.krs_model.proofs.Legal.{legal_none, legal_more}
 use Rattle.krs_world.specs.Knowing.{one, fresh, taken, missed, put_own, loaded}
 use Rattle.krs_world.proofs.Keeping.{own_event}
-use Rattle.krs_desk.specs.declared.place.Place.{Place}
 use Rattle.krs_desk.specs.Told.{Found}
 use Rattle.krs_desk.specs.Sitting.{Sitting, missed_by, Adds, Meets}
-use Rattle.krs_desk.specs.Seated.{Me, part, opening, sitting_of, IsSeated, SeeOneList}
+use Rattle.krs_desk.specs.Seated.{Me, part, opening, sitting_of, IsSeated, Holds, Serves, HoldsBefore, SeeOneList}
 
 -- a seat that is dealt
 pub fresh_seated : (lane : ℕ) (a : State) (m : Me) → IsSound a → m ≡ (one a (fresh lane), []) → IsSeated lane m
@@ -55,12 +54,45 @@ missed_is k l m n s view same is = (λ i. sitting_of (same i) (is i)) ∙ ap mis
 
 -- a call that had the turn, from the list that it found to the list that it left
 pub called :
-    (m n w : Me) (log : List Event) (e : Event) (c : List (ℕ × Place))
+    (m n w : Me) (log : List Event) (e : Event) (c : List (ℕ × State))
     → n ≡ (one (opening m) (taken (part m) log), c)
     → ((l : List Event) → (part n).holding ≡ Some l → w ≡ (one (opening n) (put_own (part n) l e), []))
     → w ≡ (one (opening m) (put_own (taken (part m) log) log e), [])
 called m n w log e c is put =
     put log (ap (λ (k : Me). (part k).holding) is) ∙ ap (λ (k : Me). (one (opening k) (put_own (part k) log e), [])) is
+
+-- the token of a call that had the turn, once its ask is served
+pub serves_is :
+    (m n w : Me) (e : Event) (h : Holds m n) (s : Serves n e w)
+    → w ≡ (one (opening m) (taken (part m) h.log), (0, s.after) ∷ [])
+serves_is m n w e h s = s.has ∙ ap (λ (k : Me). (k.0, (0, s.after) ∷ [])) h.has
+
+-- the step of that ask was made on the store that was found
+pub serves_last : (m n w : Me) (e : Event) (h : Holds m n) (s : Serves n e w) → Step h.last e s.after
+serves_last m n w e h s =
+    let same : s.before ≡ h.last =
+    ap (λ (l : List (ℕ × State)). (get_or l 0 (0, h.last)).1) (sym s.had ∙ ap (λ (k : Me). k.1) h.has) in
+    subst (λ (z : State). Step z e s.after) same s.step
+
+pub served_lane :
+    (lane : ℕ) (m n w : Me) (e : Event) → IsSeated lane m → Holds m n → Serves n e w → lane ≡ (part w).lane
+served_lane lane m n w e seated h s =
+    seated.numbered ∙ sym (ap (λ (k : Me). (part k).lane) (serves_is m n w e h s))
+
+pub holds_before :
+    (lane : ℕ) (m n w : Me) (e : Event) → IsSeated lane m → (h : Holds m n) → Serves n e w → HoldsBefore w h.log e
+holds_before lane m n w e seated h s =
+    subst (λ (z : Me). HoldsBefore z h.log e) (sym (serves_is m n w e h s))
+    record {
+      last = h.last;
+      after = s.after;
+      has = refl;
+      held = refl;
+      legal = h.found.legal;
+      step = serves_last m n w e h s;
+      unserving = seated.unserving;
+      idle = seated.idle;
+    }
 
 pub called_seated :
     (lane : ℕ) (m n : Me) (log : List Event) (said e : Event) (last next : State) → IsSeated lane m

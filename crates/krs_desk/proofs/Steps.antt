@@ -23,24 +23,22 @@ use Rattle.krs_world.specs.declared.view.Standing.TheVariants.{Spent}
 use Rattle.krs_world.specs.Knowing.{one, taken, missed, put_own}
 use Rattle.krs_world.specs.History.{OneHistory}
 use Rattle.krs_world.proofs.Keeping as law
-use Rattle.krs_desk.specs.declared.place.Place.{Place}
-use Rattle.krs_desk.specs.declared.place.Place.TheVariants.{Home}
 use Rattle.krs_desk.specs.Rule.{IsAtHome, word_of, InOneOrder}
 use Rattle.krs_desk.specs.Told.{takes_told, puts_told}
-use Rattle.krs_desk.specs.Seated.{Me, opening, part}
+use Rattle.krs_desk.specs.Seated.{Me, opening, part, HoldsBefore}
 
 abbrev pub Table : Type 0
-Table = table.State Place View
+Table = table.State State View
 
 abbrev pub turn : Table → ℕ
 turn s = get_or s.words 0 0
 
 abbrev Slot : Type 0
-Slot = maybe.Option Place
+Slot = maybe.Option State
 
 -- a step that changes no word
 pub unmoved :
-    (a : State) (s : Table) (r : InOneOrder a s) (id : ℕ) (w : View) (c : List (ℕ × Place))
+    (a : State) (s : Table) (r : InOneOrder a s) (id : ℕ) (w : View) (c : List (ℕ × State))
     → OneHistory a (turn s) r.home r.cell (set s.views id w) → InOneOrder a (stepped s 0 (turn s) id c w keeps)
 unmoved a s r id w c h =
     subst (λ (ws : List ℕ). InOneOrder a record { words = ws; homes = s.homes; views = set s.views id w })
@@ -92,13 +90,13 @@ takes_allowed a slots id p some_slot empty s r len at small =
     let h : OneHistory a 0 r.home r.cell s.views =
     subst (λ (n : ℕ). OneHistory a n r.home r.cell s.views) free r.history in
     let k = law.own a s.views id p at 0 r.home r.cell h in
-    let slot : get_elem? s.homes 0 ≡ some (some (Home h.last)) =
+    let slot : get_elem? s.homes 0 ≡ some (some h.last) =
     subst (λ b. IsAtHome b (get_elem? s.homes 0)) (h.at_home (λ e. omega arith)) r.slot in
     let w : View = one a (taken p h.log) in (
       w,
-      takes 0 (Home h.last),
+      takes 0 h.last,
       slot,
-      subst (λ b. InOneOrder a (stepped s 0 (either b 1 x) id [] w (takes 0 (Home h.last))))
+      subst (λ b. InOneOrder a (stepped s 0 (either b 1 x) id [] w (takes 0 h.last)))
           (sym (eq-eqb x 0 free))
           (moved_home a s r 1 none None (set s.views id w)
           (subst (λ (k : ℕ). 0 < k) (sym len) some_slot) refl
@@ -132,8 +130,8 @@ puts_allowed :
     (a : State) (slots id : ℕ) (p : Part) (store : State) (e : Event) (log : List Event) (last : State)
     → 0 < slots → p.holding ≡ Some log → IsLegal a log last → p.serving ≡ None → p.flight ≡ None
     → Step last e store → e.lane ≡ p.lane
-    → Allows (InOneOrder a) slots id (one a p, (0, Home store) ∷ []) 0 (λ n. either (eqb n 1) 0 n)
-    (puts_told (e ∷ []) (step slots 0 1 0 none) (one a p, (0, Home store) ∷ []))
+    → Allows (InOneOrder a) slots id (one a p, (0, store) ∷ []) 0 (λ n. either (eqb n 1) 0 n)
+    (puts_told (e ∷ []) (step slots 0 1 0 none) (one a p, (0, store) ∷ []))
 puts_allowed a slots id p store e log last some_slot held legal unserving idle does lane s r len at small =
     let x : ℕ = turn s in
     let t = law.puts a s.views id p at x r.home r.cell log e last store r.history held unserving idle legal does lane in
@@ -141,8 +139,8 @@ puts_allowed a slots id p store e log last some_slot held legal unserving idle d
       w,
       gives,
       tt,
-      subst (λ b. InOneOrder a (stepped s 0 (either b 0 x) id ((0, Home store) ∷ []) w gives)) (sym (eq-eqb x 1 t.0))
-          (moved_home a s r 0 (some (Home store)) (Some store) (set s.views id w)
+      subst (λ b. InOneOrder a (stepped s 0 (either b 0 x) id ((0, store) ∷ []) w gives)) (sym (eq-eqb x 1 t.0))
+          (moved_home a s r 0 (some store) (Some store) (set s.views id w)
           (subst (λ (k : ℕ). 0 < k) (sym len) some_slot) refl t.1),
       λ log' e' held' said'.
           let same_log : log ≡ log' = cc in
@@ -152,7 +150,7 @@ puts_allowed a slots id p store e log last some_slot held legal unserving idle d
 
 -- the key is what every view has for the opening state
 any_key :
-    (key a : State) (slots id : ℕ) (p : Part) (c : List (ℕ × Place)) (f : ℕ → ℕ) (then : ℕ → Me → Type 0)
+    (key a : State) (slots id : ℕ) (p : Part) (c : List (ℕ × State)) (f : ℕ → ℕ) (then : ℕ → Me → Type 0)
     → Allows (InOneOrder a) slots id (one a p, c) 0 f then → Allows (InOneOrder key) slots id (one a p, c) 0 f then
 any_key key a slots id p c f then allowed s r len at small =
     let e : a ≡ key =
@@ -174,24 +172,20 @@ takes_at key slots id m is some_slot empty =
     (any_key key a slots id p [] (λ n. either (eqb n 0) 1 n) (takes_told (step slots 0 0 1 none) (one a p, []))
     (takes_allowed a slots id p some_slot empty))
 
-pub front : (c : List (ℕ × Place)) (x : ℕ × Place) (xs : List (ℕ × Place)) → c ≡ x ∷ xs → c ≡ x ∷ rest c
+pub front : (c : List (ℕ × State)) (x : ℕ × State) (xs : List (ℕ × State)) → c ≡ x ∷ xs → c ≡ x ∷ rest c
 front c x xs e = e ∙ ap (λ l. x ∷ rest l) (sym e)
 
-pub puts_after :
-    (key : State) (slots id : ℕ) (m n : Me) (y : Place) (store : State) (e : Event) (log : List Event) (last : State)
-    → m ≡ (one (opening m) (part m), (0, y) ∷ []) → n ≡ (m.0, (0, Home store) ∷ rest m.1) → 0 < slots
-    → (part m).holding ≡ Some log → IsLegal (opening m) log last → (part m).serving ≡ None → (part m).flight ≡ None
-    → Step last e store → e.lane ≡ (part m).lane
-    → Allows (InOneOrder key) slots id n 0 (λ k. either (eqb k 1) 0 k) (puts_told (e ∷ []) (step slots 0 1 0 none) n)
-puts_after key slots id m n y store e log last was same some_slot held legal unserving idle does lane =
+pub puts_at :
+    (key : State) (slots id : ℕ) (m : Me) (e : Event) (log : List Event) → HoldsBefore m log e → 0 < slots
+    → e.lane ≡ (part m).lane
+    → Allows (InOneOrder key) slots id m 0 (λ k. either (eqb k 1) 0 k) (puts_told (e ∷ []) (step slots 0 1 0 none) m)
+puts_at key slots id m e log h some_slot lane =
     let a : State = opening m in
     let p : Part = part m in
-    let is : n ≡ (one a p, (0, Home store) ∷ []) =
-    same ∙ (λ i. (ap (λ (q : Me). q.0) was i, (0, Home store) ∷ rest (ap (λ (q : Me). q.1) was i))) in
+    let c : List (ℕ × State) = (0, h.after) ∷ [] in
     subst
     (λ (z : Me).
     Allows (InOneOrder key) slots id z 0 (λ k. either (eqb k 1) 0 k) (puts_told (e ∷ []) (step slots 0 1 0 none) z))
-    (sym is)
-    (any_key key a slots id p ((0, Home store) ∷ []) (λ k. either (eqb k 1) 0 k)
-    (puts_told (e ∷ []) (step slots 0 1 0 none) (one a p, (0, Home store) ∷ []))
-    (puts_allowed a slots id p store e log last some_slot held legal unserving idle does lane))
+    (sym h.has)
+    (any_key key a slots id p c (λ k. either (eqb k 1) 0 k) (puts_told (e ∷ []) (step slots 0 1 0 none) (one a p, c))
+    (puts_allowed a slots id p h.after e log h.last some_slot h.held h.legal h.unserving h.idle h.step lane))

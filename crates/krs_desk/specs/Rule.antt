@@ -11,13 +11,11 @@ use Rattle.krs_world.specs.declared.view.View.{View}
 use Rattle.krs_world.specs.declared.view.Standing.TheVariants.{Opening}
 use Rattle.krs_world.specs.Knowing.{view}
 use Rattle.krs_world.specs.History.{OneHistory}
-use Rattle.krs_desk.specs.declared.place.Place.{Place}
-use Rattle.krs_desk.specs.declared.place.Place.TheVariants.{Home}
 
 -- the slot has the store that is at home, and is empty where none is
-abbrev pub IsAtHome : Option State → maybe.Option (maybe.Option Place) → Type 0
+abbrev pub IsAtHome : Option State → maybe.Option (maybe.Option State) → Type 0
 IsAtHome None slot = slot ≡ some none
-IsAtHome (Some store) slot = slot ≡ some (some (Home store))
+IsAtHome (Some store) slot = slot ≡ some (some store)
 
 -- the word of a lane, by its cell
 abbrev pub word_of : Cell → ℕ
@@ -27,7 +25,7 @@ word_of (Serving moment ask) = 2
 word_of (Answered moment ask reply) = 3
 
 -- Word 0 is the turn: 0 free, 1 out, 2 while the seats are dealt. Word 1 + i is the cell of the lane i.
-pub record InOneOrder (opening : State) (s : table.State Place View) : Type 0 where
+pub record InOneOrder (opening : State) (s : table.State State View) : Type 0 where
   pub wide : 0 < length s.words
   pub home : Option State
   pub slot : IsAtHome home (get_elem? s.homes 0)

@@ -5,19 +5,18 @@ use Rattle.atomic_table.specs.Table as table
 use Rattle.krs_types.specs.declared.event.Event.{Event}
 use Rattle.krs_model.specs.State.{State}
 use Rattle.krs_model.specs.Sound.{IsSound}
+use Rattle.krs_model.specs.Step.{Step}
 use Rattle.krs_model.specs.History.{IsLegal}
 use Rattle.krs_world.specs.declared.view.Part.{Part}
 use Rattle.krs_world.specs.declared.view.View.{View}
 use Rattle.krs_world.specs.Knowing.{one, taken, loaded}
-use Rattle.krs_desk.specs.declared.place.Place.{Place}
-use Rattle.krs_desk.specs.declared.place.Place.TheVariants.{Empty}
 use Rattle.krs_desk.specs.Parts.{part_of}
 use Rattle.krs_desk.specs.Told.{Found}
 use Rattle.krs_desk.specs.Sitting.{Sitting}
 
 -- what a token knows, and the slots that it holds
 abbrev pub Me : Type 0
-Me = table.Me Place View
+Me = table.Me State View
 
 -- the lane that a token stands for
 abbrev pub part : Me → Part
@@ -45,16 +44,32 @@ pub record IsSeated (lane : ℕ) (m : Me) : Type 0 where
   pub legal : IsLegal (opening m) (part m).seen last
 
 -- the turn was had, with the store at the end of the history
-pub record Holds (m n : Me) (store : State) : Type 0 where
+pub record Holds (m n : Me) : Type 0 where
   pub log : List Event
-  pub has : n ≡ (one (opening m) (taken (part m) log), (0, Empty) ∷ [])
-  pub found : Found (opening m) (part m) log store
+  pub last : State
+  pub has : n ≡ (one (opening m) (taken (part m) log), (0, last) ∷ [])
+  pub found : Found (opening m) (part m) log last
 
--- the token holds this list, which ends in this state, and the slot
-pub record HoldsAt (m : Me) (log : List Event) (last : State) : Type 0 where
-  pub has : m ≡ (one (opening m) (part m), (0, Empty) ∷ [])
+-- the store that the token has
+abbrev pub Has : Me → State → Type 0
+Has m store = m.1 ≡ (0, store) ∷ []
+
+-- a step was made on the store that the token has
+pub record Serves (m : Me) (event : Event) (n : Me) : Type 0 where
+  pub before : State
+  pub after : State
+  pub had : Has m before
+  pub has : n ≡ (m.0, (0, after) ∷ [])
+  pub step : Step before event after
+
+-- the token holds this list, and has the store as this event leaves it
+pub record HoldsBefore (m : Me) (log : List Event) (event : Event) : Type 0 where
+  pub last : State
+  pub after : State
+  pub has : m ≡ (one (opening m) (part m), (0, after) ∷ [])
   pub held : (part m).holding ≡ Some log
   pub legal : IsLegal (opening m) log last
+  pub step : Step last event after
   pub unserving : (part m).serving ≡ None
   pub idle : (part m).flight ≡ None
 

@@ -3,7 +3,6 @@ ghost use Rattle.std.specs.Prelude.{◌≡◌, ◌<◌, IfOk};
 ghost use Rattle.krs_desk.specs.Sitting.{EndsIn};
 
 use crate::desk::Desk;
-use crate::place::Place;
 use crate::seat::Seat;
 use krs_store::Store;
 
@@ -22,14 +21,11 @@ impl Desk {
     {
         let mut closed = self.into_table().close_with(seat.into_token());
         let turn = closed.word(0);
-        let home = closed.take(0);
+        let store = closed.take(0);
         closed.free();
         if turn != 0 {
             return Err(Stopped { turn });
         }
-        let Place::Home(store) = home else {
-            unreachable!()
-        };
         Ok(store)
     }
 }

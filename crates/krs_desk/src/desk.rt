@@ -1,18 +1,16 @@
 //! The desk, and calls at it.
-ghost use Rattle.std.specs.Prelude.{◌≡◌, ◌<◌, List, [], ◌∷◌, IfSome, IfNone, IfOk, IfErr, Some};
+ghost use Rattle.std.specs.Prelude.{◌≡◌, ◌<◌, true, false, List, [], ◌∷◌, IfOk, IfErr, Some};
 ghost use Rattle.krs_types.specs.declared.event.Event.{Event};
 ghost use Rattle.krs_model.specs.State.{State};
-ghost use Rattle.krs_model.specs.Step.{Step};
 ghost use Rattle.krs_model.specs.History.{event_of};
 ghost use Rattle.krs_world.specs.Knowing.{one, missed, put_own};
 ghost use Rattle.krs_desk.specs.Told.{event_in};
 ghost use Rattle.krs_desk.specs.Sitting.{Adds, missed_by};
-ghost use Rattle.krs_desk.specs.Seated.{IsResting, Holds, HoldsAt, part, opening};
+ghost use Rattle.krs_desk.specs.Seated.{IsResting, Holds, Has, Serves, HoldsBefore, part, opening};
 
-use crate::place::{Added, Note, Place};
+use crate::note::{Added, Note};
 use crate::plays::{Board, Puts, Takes, Token};
 use crate::seat::Seat;
-use krs_store::Store;
 use krs_types::{Ask, Reply};
 use std::marker::{Brand, Model};
 use std::snapshot::Snapshot;
@@ -56,7 +54,7 @@ impl Drop for Desk {
 // So often a call looks at the turn, and then lets other threads go first, before it sleeps.
 const LOOKS: u32 = 16;
 
-const YIELDS: u32 = 16;
+const YIELDS: u32 = 1_000;
 
 impl Desk {
     // The table of a desk that is given up.
@@ -68,36 +66,39 @@ impl Desk {
         table
     }
 
-    // The store, where the turn was free.
-    fn take(&self, token: &mut Token) -> Option<Store>
+    // Whether the turn was free. The token has the store then.
+    fn take(&self, token: &mut Token) -> bool
         requires table { token.old.table_id ≡ self.now }
         requires rests { IsResting token.old.me }
         ensures table { token.new.table_id ≡ token.old.table_id }
-        ensures had { IfSome result (λ store. Holds token.old.me token.new.me store) }
-        ensures missed { IfNone result (token.new.me ≡ (one (opening token.old.me) (missed (part token.old.me)), [])) }
+        ensures had { result ≡ true → Holds token.old.me token.new.me }
+        ensures missed { result ≡ false
+            → token.new.me ≡ (one (opening token.old.me) (missed (part token.old.me)), []) }
     {
-        let shared = &self.table.shared;
-        if shared.compare_exchange::<Takes>(token, 0, 0, 1) != 0 {
-            return None;
-        }
-        let Place::Home(store) = shared.exchange(token, 0, Place::Empty) else {
-            unreachable!()
-        };
-        Some(store)
+        self.table.shared.compare_exchange::<Takes>(token, 0, 0, 1) == 0
+    }
+
+    // Asks the store that the token has, which stays in its slot.
+    fn serve(&self, token: &mut Token, lane: u32, moment: u64, ask: Ask) -> Reply
+        requires table { token.old.table_id ≡ self.now }
+        requires has { (store : State) × Has token.old.me store }
+        ensures table { token.new.table_id ≡ token.old.table_id }
+        ensures served { Serves token.old.me (event_of lane moment ask result) token.new.me }
+    {
+        let store = token.slot_mut(&self.table.shared, 0);
+        store.apply(lane, moment, ask)
     }
 
     // Brings the store home, with one event more, and wakes a thread that waits for the turn.
-    fn put<E: Added>(&self, token: &mut Token, store: Store, note: Note)
+    fn put<E: Added>(&self, token: &mut Token, note: Note)
         requires table { token.old.table_id ≡ self.now }
-        requires held { (log : List Event) × (last : State) × HoldsAt token.old.me log last
-            × Step last (event_in note) store }
+        requires held { (log : List Event) × HoldsBefore token.old.me log (event_in note) }
         requires event { (E.events ≡ event_in note ∷ []) × (note.lane ≡ (part token.old.me).lane) }
         ensures table { token.new.table_id ≡ token.old.table_id }
         ensures put { (log : List Event) → (part token.old.me).holding ≡ Some log
             → token.new.me ≡ (one (opening token.old.me) (put_own (part token.old.me) log (event_in note)), []) }
     {
         let shared = &self.table.shared;
-        drop(shared.exchange(token, 0, Place::Home(store)));
         shared.compare_exchange::<Puts<E>>(token, 0, 1, 0);
         if self.sleepers.load(Ordering::SeqCst) > 0 {
             shared.wake_one(0);
@@ -130,18 +131,18 @@ impl Desk {
         ensures added { IfOk result (λ reply. Adds seat.old (event_of seat.old.part.lane moment ask reply) seat.new) }
         ensures missed { IfErr result (λ back. (back ≡ ask) × (seat.new ≡ missed_by seat.old)) }
     {
-        let Some(mut store) = self.take(&mut seat.token) else {
+        if !self.take(&mut seat.token) {
             return Err(ask);
-        };
+        }
         let asked = Snapshot::of(&ask);
-        let reply = store.apply(seat.lane, moment, ask);
+        let reply = self.serve(&mut seat.token, seat.lane, moment, ask);
         let note = Note {
             lane: seat.lane,
             moment,
             ask: asked,
             reply: Snapshot::of(&reply),
         };
-        self.put::<Brand>(&mut seat.token, store, note);
+        self.put::<Brand>(&mut seat.token, note);
         Ok(reply)
     }
 

@@ -6,13 +6,12 @@ mod closing;
 mod desk;
 mod laws;
 mod meeting;
+mod note;
 mod opening;
-mod place;
 mod plays;
 mod seat;
 
 pub use closing::Stopped;
 pub use desk::Desk;
 pub use opening::{Refused, Why};
-pub use place::Place;
 pub use seat::Seat;

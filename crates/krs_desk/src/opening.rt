@@ -3,13 +3,11 @@ ghost use Rattle.std.specs.Prelude.{◌≡◌, ◌<◌, ◌≤◌, ◌↔◌, []
 ghost use Rattle.krs_model.specs.Sound.{IsSound};
 ghost use Rattle.krs_world.specs.Knowing.{view};
 ghost use Rattle.krs_world.specs.declared.view.Standing.TheVariants.{Opening};
-ghost use Rattle.krs_desk.specs.declared.place.Place.TheVariants.{Home};
 ghost use Rattle.krs_desk.specs.declared.opening.Why.TheVariants.{Lanes, Memory};
 ghost use Rattle.krs_desk.specs.Rule.{AreZero};
 ghost use Rattle.krs_desk.specs.Sitting.{fresh_seats};
 
 use crate::desk::Desk;
-use crate::place::Place;
 use crate::plays::{Board, Cut, Opens, Token};
 use crate::seat::Seat;
 use atomic_table::Table;
@@ -90,7 +88,7 @@ impl Desk {
         };
         store.is_sound();
         let about = Snapshot::of(&store);
-        slots.push_reserved(Place::Home(store));
+        slots.push_reserved(store);
         let (desk, opener) = Desk::lay(alloc, words, slots, &about)?;
         desk.deal(opener, lanes, &mut seats, about);
         Ok((desk, seats))
@@ -100,11 +98,11 @@ impl Desk {
     fn lay(
         alloc: Global,
         words: Vec<u64>,
-        slots: Vec<Place>,
+        slots: Vec<Store>,
         about: &Snapshot<Store>,
     ) -> Result<(Desk, Token), Store>
         requires words { (0 < length words.items) × (slice_index words.items 0 ≡ 2) × AreZero words.items }
-        requires slots { slots.items ≡ Home about.now.value ∷ [] }
+        requires slots { slots.items ≡ about.now.value ∷ [] }
         ensures table { IfOk result (λ t. t.1.table_id ≡ t.0) }
         ensures opens { IfOk result (λ t. t.1.me ≡ (view about.now.value (Opening 0), [])) }
         ensures store { IfErr result (λ back. back ≡ about.now.value) }
@@ -120,7 +118,7 @@ impl Desk {
             )),
             Err(refused) => {
                 let mut back = refused.slots;
-                let Some(Place::Home(store)) = back.pop() else {
+                let Some(store) = back.pop() else {
                     unreachable!()
                 };
                 Err(store)

@@ -2,7 +2,7 @@
 ghost use Rattle.krs_desk.specs.Told.{takes_told, puts_told, looks_told, opens_told};
 ghost use Rattle.krs_desk.specs.Parts.{kept_view, given_view};
 
-use crate::place::{Added, Place};
+use crate::note::Added;
 use atomic_table::{Join, Play, Split, Table, TableRule};
 use krs_store::Store;
 use krs_world::View;
@@ -13,7 +13,7 @@ use std::snapshot::Snapshot;
 /// There is one history of all calls, from the state of the store that the desk was opened with.
 pub struct OneOrder;
 
-impl TableRule<Place, View, Snapshot<Store>> for OneOrder {
+impl TableRule<Store, View, Snapshot<Store>> for OneOrder {
     ghost use Rattle.krs_desk.specs.Rule.{InOneOrder, first_view};
 
     ghost holds = { λ key. InOneOrder key.value };
@@ -21,14 +21,15 @@ impl TableRule<Place, View, Snapshot<Store>> for OneOrder {
     ghost first = { λ key. first_view key.value };
 }
 
-pub type Board = Table<Place, View, Snapshot<Store>, OneOrder, Global>;
+/// The words, and the store in the one slot.
+pub type Board = Table<Store, View, Snapshot<Store>, OneOrder, Global>;
 
-pub type Token = atomic_table::Seat<Place, View>;
+pub type Token = atomic_table::Seat<Store, View>;
 
 // The turn is had, or found taken.
 pub(crate) struct Takes;
 
-impl Play<Place, View> for Takes {
+impl Play<Store, View> for Takes {
     ghost then = { takes_told };
 }
 
@@ -37,21 +38,21 @@ pub(crate) struct Puts<E> {
     event: PhantomData<E>,
 }
 
-impl<E: Added> Play<Place, View> for Puts<E> {
+impl<E: Added> Play<Store, View> for Puts<E> {
     ghost then = { puts_told E.events };
 }
 
 // A token of two lanes sees the history so far.
 pub(crate) struct Looks;
 
-impl Play<Place, View> for Looks {
+impl Play<Store, View> for Looks {
     ghost then = { looks_told };
 }
 
 // All seats are dealt.
 pub(crate) struct Opens;
 
-impl Play<Place, View> for Opens {
+impl Play<Store, View> for Opens {
     ghost then = { opens_told };
 }
 

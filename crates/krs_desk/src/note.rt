@@ -1,15 +1,7 @@
-//! What the slot of the table holds, and which events a step on the turn adds.
-use krs_store::Store;
+//! A call as clauses see it, and which events a step on the turn adds.
 use krs_types::{Ask, Reply};
 use std::marker::Brand;
 use std::snapshot::Snapshot;
-
-/// The slot of the table: the store while the turn is free, and nothing while it is out.
-#[derive(Drop)]
-pub enum Place {
-    Empty,
-    Home(Store),
-}
 
 /// A call as clauses see it. It holds neither the ask nor the reply.
 #[derive(Drop)]
