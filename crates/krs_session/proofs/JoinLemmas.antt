@@ -10,7 +10,7 @@ use Rattle.krs_session.specs.declared.ended.Ended.TheVariants.{Closed, Wire, Rea
 use Rattle.krs_model.specs.Lists.{Begins}
 use Rattle.krs_session.specs.Events.{asks_of, asks_in, moments_of, replies_of, reply_text, session_text, AllOfLane}
 use Rattle.krs_session.specs.Session.{TookFront}
-use Rattle.krs_session.specs.Serving.{Asked, Wrote, WroteNext, StopsBy, StopsNext, Answers}
+use Rattle.krs_session.specs.Serving.{Asked, Wrote, Pending, PendingNext, StopsBy, StopsNext, Answers, Holds}
 
 -- a part of the bytes was taken, and these are left
 pub record Taken {W : Type 0} (took : W → List ℕ → W → Type 0) (old new : W) (bytes left : List ℕ) : Type 0 where
@@ -98,12 +98,35 @@ module _ {W : Type 0} (took : W → List ℕ → W → Type 0) (joins : Joins to
   wrote_stopped w0 w1 xs ys Read a = absurd a
   wrote_stopped w0 w1 xs ys Turns a = absurd a
 
-  pub wrote_next : (w0 w1 w2 : W) (xs ys : List ℕ) (stop result : Option Ended) → Wrote took w0 w1 xs stop
-      → WroteNext took w1 w2 ys stop result → Wrote took w0 w2 (xs ++ ys) result
-  wrote_next w0 w1 w2 xs ys None result a b = wrote_joins w0 w1 w2 xs ys result a b
-  wrote_next w0 w1 w2 xs ys (Some stop) result a b =
-      subst (λ (r : Option Ended). Wrote took w0 w2 (xs ++ ys) r) (sym b.1)
+  -- ---- what is held
+
+  held_text : (front held xs ys : List ℕ) → front ++ held ≡ xs → front ++ (held ++ ys) ≡ xs ++ ys
+  held_text front held xs ys is = sym (append_assoc front held ys) ∙ ap (λ (x : List ℕ). x ++ ys) is
+
+  held_joins : (w0 w1 w2 : W) (held1 held2 xs ys : List ℕ) (result : Option Ended) → Pending took w0 w1 held1 xs None
+      → Pending took w1 w2 held2 (held1 ++ ys) result → Pending took w0 w2 held2 (xs ++ ys) result
+  held_joins w0 w1 w2 held1 held2 xs ys None a b = (
+    a.0 ++ b.0,
+    append_assoc a.0 b.0 held2 ∙ ap (λ (x : List ℕ). a.0 ++ x) b.1 ∙ held_text a.0 held1 xs ys a.1,
+    joins w0 w1 w2 a.0 b.0 a.2 b.2,
+  )
+  held_joins w0 w1 w2 held1 held2 xs ys (Some stop) a b =
+      subst (λ (x : List ℕ). Wrote took w0 w2 x (Some stop)) (held_text a.0 held1 xs ys a.1)
+      (wrote_joins w0 w1 w2 a.0 (held1 ++ ys) (Some stop) a.2 b)
+
+  pub pending_next : (w0 w1 w2 : W) (held1 held2 xs ys : List ℕ) (stop result : Option Ended)
+      → Pending took w0 w1 held1 xs stop → PendingNext took w1 w2 held1 held2 ys stop result
+      → Pending took w0 w2 held2 (xs ++ ys) result
+  pending_next w0 w1 w2 held1 held2 xs ys None result a b = held_joins w0 w1 w2 held1 held2 xs ys result a b
+  pending_next w0 w1 w2 held1 held2 xs ys (Some stop) result a b =
+      subst (λ (r : Option Ended). Pending took w0 w2 held2 (xs ++ ys) r) (sym b.2)
       (subst (λ (w : W). Wrote took w0 w (xs ++ ys) (Some stop)) (sym b.0) (wrote_stopped w0 w1 xs ys stop a))
+
+  -- what was held is written
+  pub pending_wrote : (w0 w1 w2 : W) (held text : List ℕ) (result : Option Ended) → Pending took w0 w1 held text None
+      → Wrote took w1 w2 held result → Wrote took w0 w2 text result
+  pending_wrote w0 w1 w2 held text result a b =
+      subst (λ (x : List ℕ). Wrote took w0 w2 x result) a.1 (wrote_joins w0 w1 w2 a.0 held result a.2 b)
 
 pub stops_next : (old mid new : ℕ) (stop result : Option Ended) → StopsBy old mid stop → StopsNext mid new stop result
     → StopsBy old new result
@@ -130,13 +153,13 @@ module _ {S C W : Type 0} (leads : S → List Event → S → Type 0) (ticked : 
     (took : W → List ℕ → W → Type 0)
     (led : (a b c : S) (p q : List Event) → leads a p b → leads b q c → leads a (p ++ q) c) (ticks : Joins ticked)
     (joins : Joins took) where
-  pub answers_more : (lane : ℕ) (s0 s1 s2 : S) (c0 c1 c2 : C) (w0 w1 w2 : W) (frames : List Framed) (framed : Framed)
-      (event : Event) (stop result : Option Ended)
-      → Answers leads ticked took lane s0 s1 c0 c1 w0 w1 frames stop → event.ask ≡ framed.ask
+  pub holds_more : (lane : ℕ) (s0 s1 s2 : S) (c0 c1 c2 : C) (w0 w1 w2 : W) (held1 held2 : List ℕ)
+      (frames : List Framed) (framed : Framed) (event : Event) (stop result : Option Ended)
+      → Holds leads ticked took lane s0 s1 c0 c1 w0 w1 held1 frames stop → event.ask ≡ framed.ask
       → Asked leads ticked lane s1 s2 c1 c2 (event ∷ [])
-      → WroteNext took w1 w2 (reply_text framed event.reply) stop result
-      → Answers leads ticked took lane s0 s2 c0 c2 w0 w2 (frames ++ framed ∷ []) result
-  answers_more lane s0 s1 s2 c0 c1 c2 w0 w1 w2 frames framed event stop result a same one wrote =
+      → PendingNext took w1 w2 held1 held2 (reply_text framed event.reply) stop result
+      → Holds leads ticked took lane s0 s2 c0 c2 w0 w2 held2 (frames ++ framed ∷ []) result
+  holds_more lane s0 s1 s2 c0 c1 c2 w0 w1 w2 held1 held2 frames framed event stop result a same one next =
       let before : List ℕ = session_text frames (replies_of a.events) in
       let text : session_text (frames ++ framed ∷ []) (replies_of (a.events ++ event ∷ []))
       ≡ before ++ reply_text framed event.reply =
@@ -148,16 +171,30 @@ module _ {S C W : Type 0} (leads : S → List Event → S → Type 0) (ticked : 
             ∙ ap (λ (x : List Ask). x ++ event.ask ∷ []) a.order ∙ ap (λ (x : Ask). asks_in frames ++ x ∷ []) same
             ∙ sym (map-append (λ (x : Framed). x.ask) frames (framed ∷ []));
         asked = asked_joins leads ticked lane s0 s1 s2 c0 c1 c2 a.events (event ∷ []) led ticks a.asked one;
-        wrote = subst (λ (x : List ℕ). Wrote took w0 w2 x result) (sym text)
-            (wrote_next took joins w0 w1 w2 before (reply_text framed event.reply) stop result a.wrote wrote);
+        pending = subst (λ (x : List ℕ). Pending took w0 w2 held2 x result) (sym text)
+            (pending_next took joins w0 w1 w2 held1 held2 before (reply_text framed event.reply) stop result
+            a.pending next);
       }
 
-  pub answers_none : (lane : ℕ) (s0 : S) (c0 : C) (w0 : W) → leads s0 [] s0 → ticked c0 [] c0 → took w0 [] w0
-      → Answers leads ticked took lane s0 s0 c0 c0 w0 w0 [] None
-  answers_none lane s0 c0 w0 a b d =
+  pub holds_none : (lane : ℕ) (s0 : S) (c0 : C) (w0 : W) (held : List ℕ) → leads s0 [] s0 → ticked c0 [] c0
+      → took w0 [] w0 → held ≡ [] → Holds leads ticked took lane s0 s0 c0 c0 w0 w0 held [] None
+  holds_none lane s0 c0 w0 held a b d none =
       record {
         events = [];
         order = refl;
         asked = record { led = a; moments = b; lanes = tt };
-        wrote = d;
+        pending = ([], none, d);
+      }
+
+  -- what is held is written in the end, unless something stopped the writing
+  pub holds_wrote : (lane : ℕ) (s0 s1 : S) (c0 c1 : C) (w0 w1 w2 : W) (held : List ℕ) (frames : List Framed)
+      (result : Option Ended) → Holds leads ticked took lane s0 s1 c0 c1 w0 w1 held frames None
+      → Wrote took w1 w2 held result → Answers leads ticked took lane s0 s1 c0 c1 w0 w2 frames result
+  holds_wrote lane s0 s1 c0 c1 w0 w1 w2 held frames result a wrote =
+      record {
+        events = a.events;
+        order = a.order;
+        asked = a.asked;
+        wrote = pending_wrote took joins w0 w1 w2 held (session_text frames (replies_of a.events)) result a.pending
+            wrote;
       }

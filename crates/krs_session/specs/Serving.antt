@@ -36,11 +36,19 @@ StopsBy old new (Some (Wire fault)) = ⊥
 StopsBy old new (Some Read) = ⊥
 StopsBy old new (Some Turns) = ⊥
 
--- one more text, where nothing stopped the writing before
-abbrev pub WroteNext : {W : Type 0} → (W → List ℕ → W → Type 0) → W → W → List ℕ → Option Ended
+-- What was written of a text, and what of it is held to be written later: it is all one or the other, unless something
+-- stopped the writing.
+abbrev pub Pending : {W : Type 0} → (W → List ℕ → W → Type 0) → W → W → List ℕ → List ℕ → Option Ended → Type 0
+Pending took writer0 writer1 held text None = (front : List ℕ) × (front ++ held ≡ text) × took writer0 front writer1
+Pending took writer0 writer1 held text (Some stop) = Wrote took writer0 writer1 text (Some stop)
+
+-- one more text behind what was held, where nothing stopped the writing before
+abbrev pub PendingNext : {W : Type 0} → (W → List ℕ → W → Type 0) → W → W → List ℕ → List ℕ → List ℕ → Option Ended
     → Option Ended → Type 0
-WroteNext took writer0 writer1 text None result = Wrote took writer0 writer1 text result
-WroteNext took writer0 writer1 text (Some stop) result = (writer1 ≡ writer0) × (result ≡ Some stop)
+PendingNext took writer0 writer1 held0 held1 text None result =
+    Pending took writer0 writer1 held1 (held0 ++ text) result
+PendingNext took writer0 writer1 held0 held1 text (Some stop) result =
+    (writer1 ≡ writer0) × (held1 ≡ held0) × (result ≡ Some stop)
 
 abbrev pub StopsNext : ℕ → ℕ → Option Ended → Option Ended → Type 0
 StopsNext old new None result = StopsBy old new result
@@ -54,6 +62,15 @@ pub record Answers {S C W : Type 0} (leads : S → List Event → S → Type 0) 
   pub order : asks_of events ≡ asks_in frames
   pub asked : Asked leads ticked lane seat0 seat1 clock0 clock1 events
   pub wrote : Wrote took writer0 writer1 (session_text frames (replies_of events)) stop
+
+-- the asks of these frames were made, and this is held of the text of the replies
+pub record Holds {S C W : Type 0} (leads : S → List Event → S → Type 0) (ticked : C → List ℕ → C → Type 0)
+    (took : W → List ℕ → W → Type 0) (lane : ℕ) (seat0 seat1 : S) (clock0 clock1 : C) (writer0 writer1 : W)
+    (held : List ℕ) (frames : List Framed) (stop : Option Ended) : Type 0 where
+  pub events : List Event
+  pub order : asks_of events ≡ asks_in frames
+  pub asked : Asked leads ticked lane seat0 seat1 clock0 clock1 events
+  pub pending : Pending took writer0 writer1 held (session_text frames (replies_of events)) stop
 
 -- for every stream that ended so, with this piece behind it: these frames come next, and maybe more
 abbrev pub FeedsMore : End → List ℕ → List Framed → Type 0

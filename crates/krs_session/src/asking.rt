@@ -2,9 +2,9 @@
 ghost use Rattle.std.specs.Prelude.{◌≡◌, ◌<◌, [], ◌∷◌};
 ghost use Rattle.krs_types.specs.declared.event.Event.{Event};
 ghost use Rattle.krs_session.specs.Events.{reply_text};
-ghost use Rattle.krs_session.specs.Serving.{Asked, Answers, WroteNext, StopsBy, StopsNext};
+ghost use Rattle.krs_session.specs.Serving.{Asked, Answers, Holds, PendingNext, StopsBy, StopsNext};
 
-use crate::writing::write_reply;
+use crate::writing::{flush, send_reply};
 use crate::{Clock, Ended, Gate, Keeper, Point, Sink};
 use krs_types::{Ask, Reply};
 use krs_wire::Framed;
@@ -40,10 +40,11 @@ pub(crate) fn ask_one<H, S, D: Keeper<S, H>, C: Clock, G: Gate>(
     reply
 }
 
-/// What a frame asks, and its reply written where nothing stopped the writing before.
+/// What a frame asks. Its reply is held or written where nothing stopped the writing before.
 fn answer_one<H, W: Sink, S, D: Keeper<S, H>, C: Clock, G: Gate>(
     setting: &Setting<'_, H, D, G>,
     writer: &mut W,
+    out: &mut Vec<u8>,
     seat: &mut S,
     clock: &mut C,
     framed: Framed,
@@ -53,22 +54,50 @@ fn answer_one<H, W: Sink, S, D: Keeper<S, H>, C: Clock, G: Gate>(
     requires failures { stop ≡ None → W.failures writer.old < u64.MAX }
     ensures asked { (event : Event) × (event.ask ≡ framed.ask)
         × Asked D.leads C.ticked (D.lane_of seat.old) seat.old seat.new clock.old clock.new (event ∷ [])
-        × WroteNext W.took writer.old writer.new (reply_text framed event.reply) stop result }
+        × PendingNext W.took writer.old writer.new out.old.items out.new.items
+        (reply_text framed event.reply) stop result }
     ensures count { StopsNext (W.failures writer.old) (W.failures writer.new) stop result }
     ensures ready { D.ready setting.now.desk.now seat.new }
     ensures lane { D.lane_of seat.new ≡ D.lane_of seat.old }
 {
     let reply = ask_one(setting, seat, clock, framed.ask);
     match stop {
-        None => write_reply(setting.alloc, writer, &reply),
+        None => send_reply(writer, out, &reply),
         Some(_) => stop,
     }
 }
 
-/// Asks what all the frames ask, and writes the replies while nothing stops it.
+/// Asks what all the frames ask. The replies are held or written while nothing stops the writing.
+fn ask_all<H, W: Sink, S, D: Keeper<S, H>, C: Clock, G: Gate>(
+    setting: &Setting<'_, H, D, G>,
+    writer: &mut W,
+    out: &mut Vec<u8>,
+    seat: &mut S,
+    clock: &mut C,
+    frames: Vec<Framed>,
+) -> Option<Ended>
+    requires ready { D.ready setting.now.desk.now seat.old }
+    requires failures { W.failures writer.old < u64.MAX }
+    requires empty { out.old.items ≡ [] }
+    ensures holds { Holds D.leads C.ticked W.took (D.lane_of seat.old) seat.old seat.new clock.old clock.new
+        writer.old writer.new out.new.items frames.items result }
+    ensures count { StopsBy (W.failures writer.old) (W.failures writer.new) result }
+    ensures ready { D.ready setting.now.desk.now seat.new }
+    ensures lane { D.lane_of seat.new ≡ D.lane_of seat.old }
+{
+    let mut stop = None;
+    'frames: for framed in frames {
+        stop = answer_one(setting, writer, out, seat, clock, framed, stop);
+    }
+    stop
+}
+
+/// Asks what all the frames ask, and writes the replies together while nothing stops it. `out` is room for those that
+/// are not written yet: what stands there before means nothing.
 pub(crate) fn answer_all<H, W: Sink, S, D: Keeper<S, H>, C: Clock, G: Gate>(
     setting: &Setting<'_, H, D, G>,
     writer: &mut W,
+    out: &mut Vec<u8>,
     seat: &mut S,
     clock: &mut C,
     frames: Vec<Framed>,
@@ -81,9 +110,9 @@ pub(crate) fn answer_all<H, W: Sink, S, D: Keeper<S, H>, C: Clock, G: Gate>(
     ensures ready { D.ready setting.now.desk.now seat.new }
     ensures lane { D.lane_of seat.new ≡ D.lane_of seat.old }
 {
-    let mut stop = None;
-    'frames: for framed in frames {
-        stop = answer_one(setting, writer, seat, clock, framed, stop);
+    out.clear();
+    match ask_all(setting, writer, out, seat, clock, frames) {
+        None => flush(writer, out),
+        Some(stop) => Some(stop),
     }
-    stop
 }

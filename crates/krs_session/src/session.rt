@@ -17,6 +17,7 @@ const READ_SIZE: usize = 4096;
 fn serve_piece<H, W: Sink, S, D: Keeper<S, H>, C: Clock, G: Gate>(
     setting: &Setting<'_, H, D, G>,
     feed: &mut Feed,
+    out: &mut Vec<u8>,
     piece: &[u8],
     writer: &mut W,
     seat: &mut S,
@@ -37,7 +38,7 @@ fn serve_piece<H, W: Sink, S, D: Keeper<S, H>, C: Clock, G: Gate>(
             WireFault::Memory => Some(Ended::Memory),
             _ => Some(Ended::Wire(fault)),
         },
-        Ok(frames) => match answer_all(setting, writer, seat, clock, frames) {
+        Ok(frames) => match answer_all(setting, writer, out, seat, clock, frames) {
             Some(stop) => Some(stop),
             None => match feed.fault() {
                 None => None,
@@ -51,6 +52,8 @@ fn serve_piece<H, W: Sink, S, D: Keeper<S, H>, C: Clock, G: Gate>(
 fn turn<H, R: Source, W: Sink, S, D: Keeper<S, H>, C: Clock, G: Gate>(
     setting: &Setting<'_, H, D, G>,
     feed: &mut Feed,
+    room: &mut [u8; READ_SIZE],
+    out: &mut Vec<u8>,
     reader: &mut R,
     writer: &mut W,
     seat: &mut S,
@@ -81,14 +84,13 @@ fn turn<H, R: Source, W: Sink, S, D: Keeper<S, H>, C: Clock, G: Gate>(
     ensures ready { D.ready setting.now.desk.now seat.new }
     ensures lane { D.lane_of seat.new ≡ D.lane_of seat.old }
 {
-    let mut room = [0u8; READ_SIZE];
-    match reader.read(&mut room) {
+    match reader.read(room) {
         Err(_) => Some(Ended::Read),
         Ok(n) => {
             if n == 0 {
                 return Some(Ended::Closed);
             }
-            serve_piece(setting, feed, &room[..n], writer, seat, clock)
+            serve_piece(setting, feed, out, &room[..n], writer, seat, clock)
         }
     }
 }
@@ -127,8 +129,12 @@ fn serve<H, R: Source, W: Sink, S, D: Keeper<S, H>, C: Clock, G: Gate>(
     ensures lane { D.lane_of seat.new ≡ D.lane_of seat.old }
 {
     let mut feed = Feed::new(setting.alloc);
+    let mut room = [0u8; READ_SIZE];
+    let mut out = Vec::new(setting.alloc);
     for made in 0..turns {
-        let ended = turn(setting, &mut feed, reader, writer, seat, clock);
+        let ended = turn(
+            setting, &mut feed, &mut room, &mut out, reader, writer, seat, clock,
+        );
         if let Some(ended) = ended {
             return ended;
         }
@@ -138,8 +144,8 @@ fn serve<H, R: Source, W: Sink, S, D: Keeper<S, H>, C: Clock, G: Gate>(
 
 /// Serves a connection to its end: docs/FORMAT.md, "A connection". A turn is one read of at most 4096 bytes, and
 /// after `turns` turns the session ends. Each ask takes one answer of the clock, and passes the gate before it goes
-/// to the desk and after its reply is there. However the session ends, LEAVE is asked last in the same way, and its
-/// reply is not written.
+/// to the desk and after its reply is there. The replies to what a turn brought go out together, or in pieces of about
+/// 64 KiB. However the session ends, LEAVE is asked last in the same way, and its reply is not written.
 pub fn run<H, R: Source, W: Sink, S, D: Keeper<S, H>, C: Clock, G: Gate>(
     rt: &H,
     alloc: Global,

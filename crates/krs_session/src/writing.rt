@@ -1,13 +1,15 @@
 // The writing end of a session.
-ghost use Rattle.std.specs.Prelude.{◌≡◌, ◌<◌, ◌+◌, OnOk, OnErr};
+ghost use Rattle.std.specs.Prelude.{◌≡◌, ◌≢◌, ◌<◌, ◌+◌, ◌++◌, [], vec_len, Some, OnOk, OnErr};
 ghost use Rattle.krs_wire.specs.Reply.{reply_frame};
 ghost use Rattle.krs_session.specs.Session.{TookFront};
-ghost use Rattle.krs_session.specs.Serving.{Wrote, StopsBy};
+ghost use Rattle.krs_session.specs.Serving.{Wrote, Pending, StopsBy};
 
 use crate::{Ended, Failed, Sink};
 use krs_types::Reply;
-use krs_wire::encode_reply;
-use std::alloc::Global;
+use krs_wire::append_reply;
+
+/// The replies that are held are written before the next ask from so many bytes on.
+const FLUSH_SIZE: usize = 65_536;
 
 /// Writes all the bytes, or as many as the writer took before it failed.
 fn write_all<W: Sink>(writer: &mut W, bytes: &[u8]) -> Result<(), Failed>
@@ -33,17 +35,40 @@ fn write_all<W: Sink>(writer: &mut W, bytes: &[u8]) -> Result<(), Failed>
     Ok(())
 }
 
-/// Writes a reply. What stops the writing is the answer.
-pub(crate) fn write_reply<W: Sink>(alloc: Global, writer: &mut W, reply: &Reply) -> Option<Ended>
+/// Writes the replies that are held, after which none is. What stops the writing is the answer.
+pub(crate) fn flush<W: Sink>(writer: &mut W, out: &mut Vec<u8>) -> Option<Ended>
     requires { W.failures writer.old < u64.MAX }
-    ensures wrote { Wrote W.took writer.old writer.new (reply_frame reply.now) result }
+    ensures wrote { Wrote W.took writer.old writer.new out.old.items result }
     ensures count { StopsBy (W.failures writer.old) (W.failures writer.new) result }
+    ensures not_memory { result ≢ Some Ended.Memory }
+    ensures empty { out.new.items ≡ [] }
 {
-    match encode_reply(alloc, reply) {
-        Err(_) => Some(Ended::Memory),
-        Ok(bytes) => match write_all(writer, &bytes) {
-            Ok(()) => None,
-            Err(_) => Some(Ended::Write),
-        },
+    let written = write_all(writer, out);
+    out.clear();
+    match written {
+        Ok(()) => None,
+        Err(_) => Some(Ended::Write),
     }
+}
+
+/// Holds a reply, and writes what is held once that is much. Where no memory is left for the reply, what was held
+/// before it is written. What stops the writing is the answer.
+pub(crate) fn send_reply<W: Sink>(writer: &mut W, out: &mut Vec<u8>, reply: &Reply) -> Option<Ended>
+    requires { W.failures writer.old < u64.MAX }
+    ensures sent { Pending W.took writer.old writer.new out.new.items
+        (out.old.items ++ reply_frame reply.now) result }
+    ensures count { StopsBy (W.failures writer.old) (W.failures writer.new) result }
+    ensures memory { result ≡ Some Ended.Memory → W.took writer.old out.old.items writer.new }
+    ensures bounded { vec_len out.new < 65536 }
+{
+    if append_reply(out, reply).is_err() {
+        return match flush(writer, out) {
+            None => Some(Ended::Memory),
+            Some(stop) => Some(stop),
+        };
+    }
+    if out.len() < FLUSH_SIZE {
+        return None;
+    }
+    flush(writer, out)
 }

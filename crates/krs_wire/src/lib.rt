@@ -17,5 +17,5 @@ pub use fault::WireFault;
 pub use feed::Feed;
 pub use framed::Framed;
 pub use laws::{one_cut, one_spelling};
-pub use replies::{decode_reply, encode_reply};
+pub use replies::{append_reply, decode_reply, encode_reply};
 pub use shape::Shape;

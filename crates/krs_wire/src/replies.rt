@@ -1,4 +1,4 @@
-ghost use Rattle.std.specs.Prelude.{◌≡◌, ◌≤◌, IfOk, IfErr, IfSome, length};
+ghost use Rattle.std.specs.Prelude.{◌≡◌, ◌≤◌, ◌++◌, IfOk, IfErr, IfSome, OnOk, OnErr, length};
 ghost use Rattle.std.specs.Int.{w32};
 ghost use Rattle.krs_wire.specs.Faulting.{GivesRead};
 ghost use Rattle.krs_wire.specs.Field.{number};
@@ -9,25 +9,42 @@ use crate::fields::{ended, u32_at};
 use crate::{Shape, WireFault};
 use byteorder::{ByteOrder, LittleEndian};
 use krs_types::{Answer, Body, Errno, Op, Reply};
-use std::alloc::Global;
+use std::alloc::{AllocError, Global};
 
 /// The least and the greatest length of a reply's frame, which counts the bytes behind it.
 const MIN_LENGTH: usize = 4;
 
 const MAX_LENGTH: usize = 262_144;
 
-fn encode_frame(alloc: Global, status: u32, body: &[u8]) -> Result<Vec<u8>, WireFault>
+fn put_frame(out: &mut Vec<u8>, status: u32, body: &[u8]) -> Result<(), AllocError>
     requires { length body.now ≤ 262140 }
-    ensures frame { IfOk result (λ v. v.items ≡ frame_of status body.now) }
-    ensures memory { IfErr result (λ fault. fault ≡ WireFault.Memory) }
+    ensures ok { OnOk result (out.new.items ≡ out.old.items ++ frame_of status body.now) }
+    ensures err { OnErr result (out.new.items ≡ out.old.items) }
 {
     let mut head = [0; 8];
     LittleEndian::write_u32(&mut head, body.len() as u32 + 4);
     LittleEndian::write_u32(&mut head[4..], status);
-    let mut out = Vec::with_capacity(alloc, 8 + body.len())?;
+    out.reserve(8 + body.len())?;
     out.extend_from_slice(&head)?;
     out.extend_from_slice(body)?;
-    Ok(out)
+    Ok(())
+}
+
+/// Appends the frame of a reply.
+pub fn append_reply(out: &mut Vec<u8>, reply: &Reply) -> Result<(), AllocError>
+    ensures ok { OnOk result (out.new.items ≡ out.old.items ++ reply_frame reply.now) }
+    ensures err { OnErr result (out.new.items ≡ out.old.items) }
+{
+    match reply {
+        Ok(Answer::Nothing) => put_frame(out, 0, &[]),
+        Ok(Answer::Number(number)) => {
+            let mut body = [0; 4];
+            LittleEndian::write_u32(&mut body, *number);
+            put_frame(out, 0, &body)
+        }
+        Ok(Answer::Bytes(bytes)) => put_frame(out, 0, bytes.as_slice()),
+        Err(error) => put_frame(out, error.number(), &[]),
+    }
 }
 
 /// The frame of a reply.
@@ -35,16 +52,9 @@ pub fn encode_reply(alloc: Global, reply: &Reply) -> Result<Vec<u8>, WireFault>
     ensures frame { IfOk result (λ v. v.items ≡ reply_frame reply.now) }
     ensures memory { IfErr result (λ fault. fault ≡ WireFault.Memory) }
 {
-    match reply {
-        Ok(Answer::Nothing) => encode_frame(alloc, 0, &[]),
-        Ok(Answer::Number(number)) => {
-            let mut body = [0; 4];
-            LittleEndian::write_u32(&mut body, *number);
-            encode_frame(alloc, 0, &body)
-        }
-        Ok(Answer::Bytes(bytes)) => encode_frame(alloc, 0, bytes.as_slice()),
-        Err(error) => encode_frame(alloc, error.number(), &[]),
-    }
+    let mut out = Vec::new(alloc);
+    append_reply(&mut out, reply)?;
+    Ok(out)
 }
 
 fn answer_at(alloc: Global, shape: Shape, body: &[u8]) -> Result<Reply, WireFault>

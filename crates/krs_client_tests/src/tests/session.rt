@@ -5,10 +5,11 @@ ghost use Rattle.krs_session.specs.Leads.{GainsSession};
 ghost use Rattle.krs_client_tests.specs.Conversing.{Conversed};
 
 mod fakes;
+mod joined;
 mod shared;
 
 use super::seats::one_seat;
-use fakes::{Chair, Rising, Table, Then, Watching, reader_of, watches, writer_of};
+use fakes::{Bites, Chair, Rising, Table, Then, Watching, chair_of, reader_of, watches, writer_of};
 use krs_desk::{Desk, Seat};
 use krs_session::*;
 use krs_store::Store;
@@ -131,6 +132,8 @@ struct Case<'a> {
     ended: Ended,
     asked: u32,
     written: usize,
+    // How often the writer was called.
+    calls: u32,
 }
 
 // A session over the ends of a case, and what `run` tells of it there where it was closed: no bytes but those of the
@@ -141,9 +144,10 @@ fn converse_in_pieces(
     case: &Case<'_>,
     seat: &mut Chair,
     gate: &Watching,
-) -> (Vec<u8>, Ended)
+) -> (Bites, Ended)
     ensures { result.1 ≡ Ended.Closed
-        → (events : List Event) × (last : Event) × Conversed case.now.stream.now result.0.items events last }
+        → (events : List Event) × (last : Event)
+        × Conversed case.now.stream.now result.0.text.items events last }
 {
     let (next, later, then) = case.reads;
     let mut reader = reader_of(case.stream, next, later, then);
@@ -161,20 +165,13 @@ fn converse_in_pieces(
         gate,
         case.turns,
     );
-    (writer.text, ended)
+    (writer, ended)
 }
 
 fn check(rt: &impl Abort, alloc: Global, case: &Case<'_>) {
-    let mut seat = Chair {
-        alloc,
-        lane: 7,
-        asked: 0,
-        leaves: 0,
-        late: 0,
-        moment: 0,
-    };
+    let mut seat = chair_of(alloc, 7, 1);
     let gate = watches(7);
-    let (text, ended) = converse_in_pieces(rt, alloc, case, &mut seat, &gate);
+    let (writer, ended) = converse_in_pieces(rt, alloc, case, &mut seat, &gate);
     let name = case.name;
     assert_eq!(rt; ended, case.ended, "{name}");
     assert_eq!(rt; seat.asked, case.asked, "{name}");
@@ -186,8 +183,9 @@ fn check(rt: &impl Abort, alloc: Global, case: &Case<'_>) {
         "{name}"
     );
     assert_eq!(rt; gate.wrong.get(), 0, "{name}");
+    assert_eq!(rt; writer.calls, case.calls, "{name}");
     assert_eq!(rt;
-        Some(text.as_slice()),
+        Some(writer.text.as_slice()),
         REPLIES.get(..case.written),
         "{name}"
     );
@@ -230,25 +228,25 @@ fn each_end_is_told_and_leave_is_asked_last(rt: HostRuntime) {
     let bad = Ended::Wire(WireFault::BadLength);
     let cases = [
         Case { name: "byte by byte", stream: &ASKS, reads: (1, 1, closed), writes: ALL,
-            turns: 99, ended: Ended::Closed, asked: 4, written: 34 },
+            turns: 99, ended: Ended::Closed, asked: 4, written: 34, calls: 3 },
         Case { name: "three bytes a write", stream: &ASKS, reads: ALL, writes: (3, 4096, closed),
-            turns: 99, ended: Ended::Closed, asked: 4, written: 34 },
+            turns: 99, ended: Ended::Closed, asked: 4, written: 34, calls: 12 },
         Case { name: "mid-frame", stream: &ASKS[..70], reads: ALL, writes: ALL,
-            turns: 99, ended: Ended::Closed, asked: 3, written: 24 },
+            turns: 99, ended: Ended::Closed, asked: 3, written: 24, calls: 1 },
         Case { name: "length 7", stream: &[7, 0, 0, 0], reads: ALL, writes: ALL,
-            turns: 99, ended: bad, asked: 1, written: 0 },
+            turns: 99, ended: bad, asked: 1, written: 0, calls: 0 },
         Case { name: "length 65537", stream: &[1, 0, 1, 0], reads: (1, 1, closed), writes: ALL,
-            turns: 99, ended: bad, asked: 1, written: 0 },
+            turns: 99, ended: bad, asked: 1, written: 0, calls: 0 },
         Case { name: "a read fails", stream: &ASKS, reads: (24, 51, fails), writes: ALL,
-            turns: 99, ended: Ended::Read, asked: 4, written: 34 },
+            turns: 99, ended: Ended::Read, asked: 4, written: 34, calls: 2 },
         Case { name: "a write fails", stream: &ASKS, reads: ALL, writes: (4096, 20, fails),
-            turns: 99, ended: Ended::Write, asked: 4, written: 20 },
+            turns: 99, ended: Ended::Write, asked: 4, written: 20, calls: 2 },
         Case { name: "a write takes none", stream: &ASKS, reads: (24, 35, closed), writes: (5, 5, closed),
-            turns: 99, ended: Ended::Write, asked: 2, written: 5 },
+            turns: 99, ended: Ended::Write, asked: 2, written: 5, calls: 2 },
         Case { name: "two turns", stream: &ASKS, reads: (24, 35, closed), writes: ALL,
-            turns: 2, ended: Ended::Turns, asked: 3, written: 24 },
+            turns: 2, ended: Ended::Turns, asked: 3, written: 24, calls: 2 },
         Case { name: "no turns", stream: &ASKS, reads: ALL, writes: ALL,
-            turns: 0, ended: Ended::Turns, asked: 1, written: 0 },
+            turns: 0, ended: Ended::Turns, asked: 1, written: 0, calls: 0 },
     ];
     for case in &cases {
         check(&rt, rt.alloc(), case);

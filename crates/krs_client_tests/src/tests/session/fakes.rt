@@ -4,7 +4,7 @@ ghost use Rattle.std.specs.Prelude.{◌≡◌, [], Some};
 
 use krs_session::*;
 use krs_types::{Answer, Ask, Body, Errno, Op, Reply};
-use std::alloc::Global;
+use std::alloc::{AllocError, Global};
 use std::cell::Cell;
 
 /// What an end does once its bytes are given, or its room is full.
@@ -80,13 +80,16 @@ impl<'a> Source for Pieces<'a> {
     }
 }
 
-/// A writer that takes at most so many bytes at a time, and so many in all.
+/// A writer that takes at most so many bytes at a time, and so many in all. It counts its calls, and keeps the length
+/// of the longest piece.
 #[derive(Drop)]
 pub(super) struct Bites {
     pub text: Vec<u8>,
     pub most: usize,
     pub room: usize,
     pub then: Then,
+    pub calls: u32,
+    pub longest: usize,
     failures: u64,
 }
 
@@ -99,6 +102,8 @@ pub(super) fn writer_of(alloc: Global, most: usize, room: usize, then: Then) -> 
         most,
         room,
         then,
+        calls: 0,
+        longest: 0,
         failures: 0,
     }
 }
@@ -117,6 +122,8 @@ impl Sink for Bites {
         Appends-trans (Some a.text.items) (Some b.text.items) (Some c.text.items) xs ys p q };
 
     fn write(&mut self, piece: &[u8]) -> Result<usize, Failed> {
+        self.calls = self.calls.wrapping_add(1);
+        self.longest = self.longest.max(piece.len());
         let count = piece.len().min(self.most).min(self.room);
         let fails = self.room == 0 && matches!(self.then, Then::Fails);
         let (front, _) = piece.split_at(count);
@@ -192,15 +199,38 @@ impl Gate for Watching {
 #[derive(Drop)]
 pub(super) struct Table;
 
-/// How many asks a seat made, how many of them were LEAVE and how many were asked after it, and the last moment.
+/// How many asks a seat made, how many of them were LEAVE and how many were asked after it, and the last moment. A key
+/// that is read has `s3` so often.
 #[derive(Drop)]
 pub(super) struct Chair {
     pub alloc: Global,
     pub lane: u32,
+    pub times: usize,
     pub asked: u32,
     pub leaves: u32,
     pub late: u32,
     pub moment: u64,
+}
+
+pub(super) fn chair_of(alloc: Global, lane: u32, times: usize) -> Chair {
+    Chair {
+        alloc,
+        lane,
+        times,
+        asked: 0,
+        leaves: 0,
+        late: 0,
+        moment: 0,
+    }
+}
+
+fn payload(alloc: Global, times: usize) -> Result<Body, AllocError> {
+    let mut bytes = Vec::new(alloc);
+    for _ in 0..times {
+        bytes.extend_from_slice(b"s3")?;
+    }
+    bytes.truncate(262_140);
+    Ok(Body::new(bytes))
 }
 
 impl<R> Keeper<Chair, R> for Table {
@@ -226,9 +256,9 @@ impl<R> Keeper<Chair, R> for Table {
             Op::Exec | Op::Exit | Op::Invalidate { .. } => Ok(Answer::Nothing),
             Op::GetId { .. } | Op::Join { .. } | Op::Add { .. } => Ok(Answer::Number(5)),
             Op::Search { .. } | Op::Request { .. } => Ok(Answer::Number(5)),
-            Op::Read { .. } => match Vec::from_slice(seat.alloc, b"s3") {
-                Ok(bytes) if bytes.len() < 3 => Ok(Answer::Bytes(Body::new(bytes))),
-                _ => Err(Errno::ENOMEM),
+            Op::Read { .. } => match payload(seat.alloc, seat.times) {
+                Ok(bytes) => Ok(Answer::Bytes(bytes)),
+                Err(_) => Err(Errno::ENOMEM),
             },
             Op::Describe { .. } => Err(Errno::ENOKEY),
             Op::Update { .. } | Op::Revoke { .. } | Op::Chown { .. } => Ok(Answer::Nothing),

@@ -1,11 +1,11 @@
 use Rattle.std.proofs.Common.{◌≡◌}
-use Rattle.krs_session.specs.Serving.{Answers, StopsBy}
-use Rattle.krs_session.proofs.asking.answer_all.Given as goal
+use Rattle.krs_session.specs.Serving.{Holds, StopsBy}
+use Rattle.krs_session.proofs.asking.ask_all.Given as goal
 
 abbrev pub invariant-frames : goal.invariant-frames
 invariant-frames g l = record {
-  state : Answers g.D.Keeper.leads g.C.Clock.ticked g.W.Sink.took (g.D.Keeper.lane_of l.initial.seat) l.initial.seat
-      l.seat l.initial.clock l.clock l.initial.writer l.writer l.yielded l.stop;
+  state : Holds g.D.Keeper.leads g.C.Clock.ticked g.W.Sink.took (g.D.Keeper.lane_of l.initial.seat) l.initial.seat
+      l.seat l.initial.clock l.clock l.initial.writer l.writer l.out.items l.yielded l.stop;
   count : StopsBy (g.W.Sink.failures l.initial.writer) (g.W.Sink.failures l.writer) l.stop;
   ready : g.D.Keeper.ready l.setting.desk.now l.seat;
   lane : g.D.Keeper.lane_of l.seat ≡ g.D.Keeper.lane_of l.initial.seat;
