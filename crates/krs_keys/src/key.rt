@@ -94,6 +94,16 @@ impl Key {
         }
     }
 
+    /// Whether it would refuse a link under this name: it is a full keyring, and no link is displaced.
+    pub fn would_refuse(&self, name: &Name) -> bool
+        ensures { result ≡ is_refused (content_links self.now.content) name.now }
+    {
+        match &self.content {
+            Content::Payload(_) => false,
+            Content::Links(links) => links.would_refuse(name),
+        }
+    }
+
     /// Without a link to this key, where it is a keyring.
     pub fn unlink_key(&mut self, serial: Serial)
         ensures { self.new ≡ without_key serial self.old }

@@ -94,6 +94,16 @@ impl KeyTable {
         }
     }
 
+    /// Whether a keyring would refuse a link under this name: it is full, and no link is displaced.
+    pub fn would_refuse(&self, ring: Serial, name: &Name) -> bool
+        ensures { result ≡ is_refused (links_at self.now.keys ring) name.now }
+    {
+        let Some(key) = self.get(ring) else {
+            return false;
+        };
+        key.would_refuse(name)
+    }
+
     /// The keyring of the least serial that a caller may join by this name: keyctl(2), KEYCTL_JOIN_SESSION_KEYRING.
     pub fn joinable(&self, desc: &[u8], caller: &Caller, clock: u64) -> Option<Serial>
         ensures { result ≡ joinable_in clock caller.now desc.now self.now.keys }

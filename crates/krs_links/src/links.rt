@@ -92,6 +92,14 @@ impl Links {
         lists::find(self.entries.as_slice(), name)
     }
 
+    /// Whether a link under this name would be refused: there are as many as there may be, and none is displaced.
+    /// Profile, full keyrings.
+    pub fn would_refuse(&self, name: &Name) -> bool
+        ensures { result ≡ is_refused self.now name.now }
+    {
+        self.is_full() && self.find(name).is_none()
+    }
+
     /// The nested keyrings, in link order.
     pub fn rings(&self) -> &[Serial]
         ensures { result.now ≡ serials (nested self.now) }

@@ -1,5 +1,5 @@
 -- The record whose bytes come first is the one that is guessed by its type, subtype and length.
-use Rattle.std.proofs.Common.{◌≡◌, ℕ, ◌≤◌, List, ◌∷◌, ◌++◌, Some, length, ltb, false, refl, ap, ◌∙◌, arith}
+use Rattle.std.proofs.Common.{◌≡◌, ℕ, ◌≤◌, List, ◌∷◌, ◌++◌, Some, length, ltb, false, refl, sym, ap, ◌∙◌, arith}
 use Rattle.std.specs.List.{slice_index}
 use Rattle.std.specs.Int.{w32, w64, to_le_bytes, from_le_bytes}
 use Rattle.std.proofs.lemmas.Nat.{from_le_bytes-to_le_bytes_4, from_le_bytes-to_le_bytes_8}
@@ -9,7 +9,8 @@ use Rattle.krs_types.specs.declared.note.Record.TheVariants.{Key, Removal, Loss}
 use Rattle.krs_types.specs.declared.note.KeyEvent.{KeyEvent}
 use Rattle.krs_types.specs.declared.note.KeyEvent.TheVariants.{Instantiated, Updated, Linked, Unlinked, Cleared}
 use Rattle.krs_types.specs.declared.note.KeyEvent.TheVariants.{Revoked, Invalidated, Setattr}
-use Rattle.krs_model.specs.Notes.Bytes.{event_number, bytes_of, Fits, Begins}
+use Rattle.krs_model.specs.Lists.{Begins}
+use Rattle.krs_model.specs.Notes.Bytes.{event_number, bytes_of, Fits}
 use Rattle.krs_model.proofs.Spelling.{bytes_of-Key, bytes_of-Removal}
 use Rattle.krs_notes.specs.Guess.{guess, event_numbered, four, eight}
 
@@ -58,4 +59,4 @@ guess-append (Removal w id) rest h =
 guess-append Loss rest h = guess-loss (bytes_of Loss ++ rest) (omega arith) refl refl
 
 pub guess-begins : (r : Record) (bytes : List ℕ) → Fits r → Begins (bytes_of r) bytes → guess bytes ≡ Some r
-guess-begins r bytes h b = ap guess b.1 ∙ guess-append r b.0 h
+guess-begins r bytes h b = ap guess (sym b.1) ∙ guess-append r b.0 h

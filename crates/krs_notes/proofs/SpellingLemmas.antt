@@ -109,6 +109,6 @@ one_spelling r (a ∷ b ∷ c ∷ d ∷ e ∷ f ∷ g ∷ []) small s =
 -- one that began another would be the guess of the other's bytes
 pub none_begins_another : NoneBeginsAnother
 none_begins_another r s hr hs b =
-    let one : Some s ≡ Some r = sym (guess-begins s (bytes_of s) hs ([], sym (append-nil (bytes_of s))))
+    let one : Some s ≡ Some r = sym (guess-begins s (bytes_of s) hs ([], append-nil (bytes_of s)))
     ∙ guess-begins r (bytes_of s) hr b in
     cc

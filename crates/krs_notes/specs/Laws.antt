@@ -5,7 +5,8 @@ use Rattle.std.specs.Int.{w32, from_le_bytes}
 use Rattle.std.specs.Int.RustNames.{bit_and}
 use Rattle.krs_types.specs.declared.note.Record.{Record}
 use Rattle.krs_model.specs.Notes.Bytes.{type_of, subtype_of, size_of, watch_of, tail_of, bytes_of, bytes_of_all}
-use Rattle.krs_model.specs.Notes.Bytes.{Fits, AllFit, Begins}
+use Rattle.krs_model.specs.Notes.Bytes.{Fits, AllFit}
+use Rattle.krs_model.specs.Lists.{Begins}
 
 -- the little-endian word of four bytes at a place
 abbrev pub word_at : List ℕ → ℕ → ℕ

@@ -1,6 +1,7 @@
 ghost use Rattle.std.specs.Prelude.{◌≡◌, Some, length, IfSome};
 ghost use Rattle.krs_types.specs.declared.note.Record.{Record};
-ghost use Rattle.krs_model.specs.Notes.Bytes.{bytes_of, size_of, Fits, Begins};
+ghost use Rattle.krs_model.specs.Lists.{Begins};
+ghost use Rattle.krs_model.specs.Notes.Bytes.{bytes_of, size_of, Fits};
 ghost use Rattle.krs_notes.specs.Guess.{guess};
 
 use crate::subtype::{event_number, event_numbered};

@@ -1,7 +1,7 @@
 -- LINK and UNLINK, from what the store has looked up to what they come to.
 use Rattle.std.proofs.Common.{◌≡◌, ℕ, ℤ, List, Option, None, Some, FitsSigned, to_z, of_z, Result, Ok, Err, refl, ap}
 use Rattle.std.proofs.Common.{◌∙◌, sym, subst, nat_lt, false, arith}
-use Rattle.std.specs.Option.{IsSome}
+use Rattle.std.specs.Option.{IsSome, IfSome, option_map}
 use Rattle.std.specs.Int.{w32}
 use Rattle.std.proofs.lemmas.Int.{to_z-of_z}
 use Rattle.std.proofs.lemmas.Bool.{true≢false}
@@ -30,7 +30,7 @@ use Rattle.krs_model.specs.Asks.Adding.{IsRing}
 use Rattle.krs_model.specs.Asks.Changing.{changed}
 use Rattle.krs_model.specs.Asks.Linked.{name_of, nestable, link, unlink, if_linked, without_link}
 use Rattle.krs_model.proofs.Lookups.{look_up_usable}
-use Rattle.krs_tables.specs.Linked.{room_in, Puts, Takes}
+use Rattle.krs_tables.specs.Linked.{name_in, room_in, FailsLast, Puts, Takes}
 
 -- a keyring that was looked up
 pub record IsFoundRing (s : State) (ring : ℕ × Key) : Type 0 where
@@ -124,6 +124,13 @@ link_met s client context key ring c into found l =
     (ap (within_serials s) (answered (room_in s.keys into.0 (name_of found.1))
     (changed s into.0 (linking s.keys (name_of found.1) found.0))))
 
+-- the link of a key that is there has the key's name
+pub put_under : (s new : State) (r : Result (Unit {0}) Fault) (ring serial : ℕ) (key : Key)
+    → at s.keys serial ≡ Some key → IfSome (name_in s serial) (λ name. Puts s r new ring name serial)
+    → Puts s r new ring (name_of key) serial
+put_under s new r ring serial key there h =
+    subst (λ (o : Option Key). IfSome (option_map name_of o) (λ name. Puts s r new ring name serial)) there h
+
 pub link_done : (s new : State) (client context : ℕ) (key ring : ℤ) (c : Context) (into found : ℕ × Key)
     → LooksUp s client context key ring c into found → Puts s (Ok (tt {0})) new into.0 (name_of found.1) found.0
     → link s client context key ring ≡ Ok (new, Nothing)
@@ -132,7 +139,7 @@ link_done s new client context key ring c into found l puts =
     link_met s client context key ring c into found l
     ∙ (rw (puts.0, puts.1) (within_as s changes Nothing refl))
 
-refused_room : (s : State) (room : Result (Unit {0}) Errno) (done : State × Answer) (e : Fault) → Fails e room
+refused_room : (s : State) (room : Result (Unit {0}) Errno) (done : State × Answer) (e : Fault) → FailsLast e room
     → Fails e (within_serials s (room >>= (λ there. Ok done)))
 refused_room s room done Memory h = tt
 refused_room s room done (Refused x) h = rw h refl

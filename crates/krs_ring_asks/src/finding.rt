@@ -162,11 +162,10 @@ fn link_found(
     ensures { Leads tables.old result tables.new (link_found tables.old client number into serial) }
 {
     let context = tables.context_of(client, number)?;
-    let found = linkable(tables, context, serial)?;
-    let name = found.name.copy(tables.alloc)?;
+    let _found = linkable(tables, context, serial)?;
     let into = Serial::new(into);
     check_nesting(tables, into, serial)?;
-    put_link(tables, into, name, serial)?;
+    put_link(tables, into, serial)?;
     Ok(Answer::Number(serial.number()))
 }
 

@@ -1,14 +1,15 @@
-ghost use Rattle.std.specs.Prelude.{◌≡◌, None, Some, IsSome, IfOk};
+ghost use Rattle.std.specs.Prelude.{◌≡◌, None, Some, Ok, IsSome, IfSome, IfOk, OnOk, OnErr};
 ghost use Rattle.krs_model.specs.Outcome.{Leads, Is, Gives};
 ghost use Rattle.krs_model.specs.Table.{at};
-ghost use Rattle.krs_model.specs.Linking.{ring_links};
+ghost use Rattle.krs_model.specs.Linking.{ring_links, linking};
 ghost use Rattle.krs_model.specs.Lookup.{context_of};
 ghost use Rattle.krs_model.specs.Sound.{IsSound};
 ghost use Rattle.krs_model.specs.Asks.Adding.{IsRing};
+ghost use Rattle.krs_model.specs.Asks.Changing.{changed};
 ghost use Rattle.krs_model.specs.Asks.Linked.{link, unlink, clear, nestable};
 ghost use Rattle.krs_keys.specs.Keys.{seen};
 ghost use Rattle.krs_links.specs.Links.{serials};
-ghost use Rattle.krs_tables.specs.Linked.{name_in, Puts, Takes};
+ghost use Rattle.krs_tables.specs.Linked.{name_in, room_in, Puts, Takes};
 ghost use Rattle.krs_tables.specs.Specials.{Makes, is_coming};
 
 use krs_keys::{Change, Content, Key};
@@ -16,6 +17,7 @@ use krs_links::Links;
 use krs_tables::{Special, Tables};
 use krs_types::{Answer, Errno, Fault, KeyId, Name, Rights, Serial, Want};
 use krs_walk::Walker;
+use std::alloc::AllocError;
 
 /// One link less in a keyring; the key's state and rights do not matter: keyctl(2), KEYCTL_UNLINK.
 #[tactic(auto, unfolding(krs_model::specs::Asks::Linked::unlink))]
@@ -82,11 +84,10 @@ fn link_to(
 {
     let context = tables.context_of(client, number)?;
     let (ring, into) = tables.look_up(context, ring, Want::Granted(Rights::WRITE))?;
-    let (serial, found) = tables.look_up(context, key, Want::Granted(Rights::LINK))?;
+    let (serial, _found) = tables.look_up(context, key, Want::Granted(Rights::LINK))?;
     links_of(into)?;
     check_nesting(tables, Serial::new(ring), Serial::new(serial))?;
-    let name = found.name.copy(tables.alloc)?;
-    put_link(tables, Serial::new(ring), name, Serial::new(serial))?;
+    put_link(tables, Serial::new(ring), Serial::new(serial))?;
     Ok(Answer::Nothing)
 }
 
@@ -148,19 +149,47 @@ pub(crate) fn check_nesting(tables: &Tables, ring: Serial, key: Serial) -> Resul
     Ok(())
 }
 
-/// A link to a key in a keyring, in the place of that which it displaces, else last. The name is the key's own.
-pub(crate) fn put_link(
+/// A link to a key in a keyring, under the key's name, in the place of that which it displaces, else last: ENFILE. It
+/// asks for memory only where the keyring has room.
+pub(crate) fn put_link(tables: &mut Tables, ring: Serial, serial: Serial) -> Result<(), Fault>
+    requires there { IsSome (at tables.old.keys serial) }
+    requires ring { IsRing tables.old ring }
+    ensures { IfSome (name_in tables.old serial) (λ name. Puts tables.old result tables.new ring name serial) }
+{
+    let Some(key) = tables.key(serial) else {
+        return Err(Fault::Refused(Errno::ENOKEY));
+    };
+    check_full(tables, ring, &key.name)?;
+    let name = key.name.copy(tables.alloc)?;
+    put_named(tables, ring, name, serial)?;
+    Ok(())
+}
+
+/// A keyring takes a link under this name: ENFILE where it is full, and no link is displaced. It takes no memory.
+fn check_full(tables: &Tables, ring: Serial, name: &Name) -> Result<(), Errno>
+    ensures { Is (λ done. done) result (room_in tables.now.keys ring name.now) }
+{
+    if tables.keys.would_refuse(ring, name) {
+        return Err(Errno::ENFILE);
+    }
+    Ok(())
+}
+
+/// A link in a keyring that has room for it. Where memory is wanting, nothing has changed.
+fn put_named(
     tables: &mut Tables,
     ring: Serial,
     name: Name,
     serial: Serial,
-) -> Result<(), Fault>
+) -> Result<(), AllocError>
     requires named { name_in tables.old serial ≡ Some name }
     requires ring { IsRing tables.old ring }
-    ensures { Puts tables.old result tables.new ring name serial }
+    requires room { room_in tables.old.keys ring name ≡ Ok tt }
+    ensures ok { OnOk result (tables.new ≡ changed tables.old ring (linking tables.old.keys name serial)) }
+    ensures err { OnErr result (tables.new ≡ tables.old) }
 {
     if !tables.holders.has_room(serial, 1) {
-        return Err(Fault::Memory);
+        return Err(AllocError);
     }
     match tables.keys.link(ring, name, serial) {
         Ok(displaced) => {
@@ -168,8 +197,7 @@ pub(crate) fn put_link(
             tables.holders.let_go_of(displaced);
             Ok(())
         }
-        Err(Errno::ENFILE) => Err(Fault::Refused(Errno::ENFILE)),
-        Err(_) => Err(Fault::Memory),
+        Err(_) => Err(AllocError),
     }
 }
 

@@ -1,7 +1,7 @@
--- An ask and its note: what is told is known before the ask, and posted after it.
+-- An ask and its notes: what is told is known before the ask, and posted after it.
 use Rattle.std.proofs.Common.{◌≡◌, ℕ, ℤ, List, [], Option, None, Some, Result, Ok, Err, nat_lt, cond, true, false}
-use Rattle.std.proofs.Common.{refl, ap, ◌∙◌, sym, subst, ◌⊎◌, inl, inr, ⊎_elim, flat_map}
-use Rattle.std.specs.Option.{option_to_list, is_some}
+use Rattle.std.proofs.Common.{refl, ap, ◌∙◌, sym, subst, ◌⊎◌, inl, inr, ⊎_elim, flat_map, map, filter, ◌++◌, ◌∷◌}
+use Rattle.std.specs.Option.{option_to_list, option_map, is_some}
 use Rattle.std.specs.Result.{result_ok}
 use Rattle.std.proofs.lemmas.List.{append-nil}
 use Rattle.krs_types.specs.declared.errno.Errno.{Errno}
@@ -16,19 +16,23 @@ use Rattle.krs_types.specs.declared.ask.Op.TheVariants.{Clear, Read, Describe, W
 use Rattle.krs_types.specs.declared.ask.Op.TheVariants.{CloseQueue, Exit, Leave}
 use Rattle.krs_types.specs.declared.note.KeyEvent.TheVariants.{Updated, Linked}
 use Rattle.krs_model.specs.Table.{Table, at}
-use Rattle.krs_model.specs.State.{State, Key}
+use Rattle.krs_model.specs.State.{State, Key, Queue}
 use Rattle.krs_model.specs.Queues.{Queues, queues_of}
 use Rattle.krs_model.specs.Outcome.{Leads}
 use Rattle.krs_model.specs.Sound.{IsSound}
 use Rattle.krs_model.specs.Step.{outcome_of}
 use Rattle.krs_tables.specs.Serving.{Tells, LeadsTold}
-use Rattle.krs_model.specs.Notes.Posting.{Note, Post, posts_of, posted_in}
+use Rattle.krs_types.specs.declared.note.Record.{Record}
+use Rattle.krs_model.specs.Notes.Posting.{Note, Post, posts_of, posted_in, note_for, watches_at, passes_at}
+use Rattle.krs_model.specs.Notes.Posting.{after_note, after_notes, post_all, records_for}
+use Rattle.krs_model.specs.Notes.Filter.{passes_if_any}
+use Rattle.krs_model.proofs.Posting.{at_post_all, post_all-append}
 use Rattle.krs_model.specs.Notes.Telling.{named, about, about_link, about_added, notes_of, ended_by}
 use Rattle.krs_model.proofs.NotedKeys.{add_serial, added_before}
 use Rattle.krs_tables.proofs.Serving.{tells_after, posted_nothing}
-use Rattle.krs_store.specs.declared.telling.Telling.{Telling}
+use Rattle.krs_store.specs.declared.telling.Tellings.{Tellings}
 use Rattle.krs_store.specs.declared.telling.Telling.TheVariants.{OfAdded}
-use Rattle.krs_store.specs.Telling.{told_of, added_note, new_note, updated_note, posts_told, Foretells, Runs}
+use Rattle.krs_store.specs.Telling.{only, told_by, added_note, new_note, updated_note, posts_told, Foretells, Runs}
 
 -- an ask that ends no watch
 record EndsNone (s : State) (client context : ℕ) (op : Op) (r : Result Answer Fault) (new : State) : Type 0 where
@@ -77,27 +81,64 @@ posts_told_is : (q : Queues) (o : Option Note) → posts_told q o ≡ flat_map (
 posts_told_is q None = refl
 posts_told_is q (Some note) = sym (append-nil (posts_of q note))
 
-untold : (q : Queues) (o : Option Note) → option_to_list o ≡ [] → posts_told q o ≡ []
-untold q None h = refl
-untold q (Some note) h = absurd cc
+-- a record that came changes no filter
+filter_kept : (notes : List Record) (queue : Queue) → (after_notes notes queue).filter ≡ queue.filter
+filter_kept [] queue = refl
+filter_kept (note ∷ notes) queue = filter_kept notes (after_note note queue)
 
--- an accepted ask, and its note
+passes_kept : (notes : List Record) (o : Option Queue) (note : Record)
+    → passes_at (option_map (after_notes notes) o) note ≡ passes_at o note
+passes_kept notes None note = refl
+passes_kept notes (Some queue) note = ap (λ f. passes_if_any f note) (filter_kept notes queue)
+
+passes_after : (ps : List Post) (queues : Table Queue) (q : ℕ) (note : Record)
+    → passes_at (at (post_all ps queues) q) note ≡ passes_at (at queues q) note
+passes_after ps queues q note =
+    ap (λ o. passes_at o note) (at_post_all ps queues q) ∙ passes_kept (records_for q ps) (at queues q) note
+
+-- a note goes to the same queues once others were posted
+posts_after : (ps : List Post) (s : State) (note : Note)
+    → posts_of (queues_of (posted_in ps s)) note ≡ posts_of (queues_of s) note
+posts_after ps s note = λ i.
+    filter (λ p. passes_after ps s.queues p.0 p.1 i) (map (note_for note) (watches_at note.key s.watches))
+
+told_after : (ps : List Post) (s : State) (o : Option Note)
+    → posts_told (queues_of (posted_in ps s)) o ≡ posts_told (queues_of s) o
+told_after ps s None = refl
+told_after ps s (Some note) = posts_after ps s note
+
+both_told : (q : Queues) (first second : Option Note) → posts_told q first ++ posts_told q second
+    ≡ flat_map (posts_of q) (option_to_list first ++ option_to_list second)
+both_told q None second = posts_told_is q second
+both_told q (Some note) second = ap (λ (ps : List Post). posts_of q note ++ ps) (posts_told_is q second)
+
+-- two notes, one after the other
+pub told_twice : (s mid told : State) (first second : Option Note)
+    → mid ≡ posted_in (posts_told (queues_of s) first) s → told ≡ posted_in (posts_told (queues_of mid) second) mid
+    → told ≡ posted_in (flat_map (posts_of (queues_of s)) (option_to_list first ++ option_to_list second)) s
+told_twice s mid told first second one two =
+    let ps = posts_told (queues_of s) first in
+    let qs = posts_told (queues_of s) second in
+    two
+    ∙ (ap (λ (t : State). posted_in (posts_told (queues_of t) second) t) one
+    ∙ (ap (λ (zs : List Post). posted_in zs (posted_in ps s)) (told_after ps s second)
+    ∙ (ap (λ (zs : Table Queue). record s { queues = zs }) (sym (post_all-append ps qs s.queues))
+    ∙ ap (λ (zs : List Post). posted_in zs s) (both_told (queues_of s) first second))))
+
+-- an accepted ask, and its notes
 pub ran_told :
-    (s mid told : State) (client context : ℕ) (op : Op) (answer : Answer) (telling : Telling)
-    → Runs s client context op (Ok answer) mid → Foretells telling s client context op
-    → told ≡ posted_in (posts_told (queues_of mid) (told_of telling answer)) mid
+    (s mid told : State) (client context : ℕ) (op : Op) (answer : Answer) (tellings : Tellings)
+    → Runs s client context op (Ok answer) mid → Foretells tellings s client context op
+    → told ≡ posted_in (flat_map (posts_of (queues_of mid)) (told_by tellings answer)) mid
     → Tells s client context op answer told
-ran_told s mid told client context op answer telling ran foretells posted =
-    let note = told_of telling answer in
+ran_told s mid told client context op answer tellings ran foretells posted =
+    let goes : List Note → List Post = flat_map (posts_of (queues_of mid)) in
     ⊎_elim (λ (is : EndsNone s client context op (Ok answer) mid).
-    let notes : posts_told (queues_of mid) note
-    ≡ flat_map (posts_of (queues_of mid)) (notes_of s client context op answer) =
-    posts_told_is (queues_of mid) note ∙ ap (flat_map (posts_of (queues_of mid))) (foretells mid answer is.leads) in
-    tells_after is.leads is.none_ended (posted ∙ ap (λ (ps : List Post). posted_in ps mid) notes))
+    tells_after is.leads is.none_ended
+    (posted ∙ ap (λ (notes : List Note). posted_in (goes notes) mid) (foretells mid answer is.leads)))
     (λ (is : TellsNone s client context op (Ok answer) mid).
     let none = foretells is.told.mid answer is.told.meant ∙ is.quiet answer in
-    let same : told ≡ mid =
-    posted ∙ posted_nothing (posts_told (queues_of mid) note) mid (untold (queues_of mid) note none) in
+    let same : told ≡ mid = posted ∙ posted_nothing (goes (told_by tellings answer)) mid (ap goes none) in
     subst (λ (t : State). Tells s client context op answer t) (sym same) is.told)
     (ran_as s client context op (Ok answer) mid ran)
 
@@ -121,10 +162,11 @@ added_told keys next ring n same =
 -- ADD
 pub add_foretold :
     (s : State) (client context : ℕ) (type_name desc payload : List ℕ) (ring : ℤ) → IsSound s
-    → Foretells (OfAdded (result_ok (named s client context ring)) s.next_serial) s client context
+    → Foretells (only (OfAdded (result_ok (named s client context ring)) s.next_serial)) s client context
     (Add type_name desc payload ring)
 add_foretold s client context type_name desc payload ring sound mid Nothing h = refl
 add_foretold s client context type_name desc payload ring sound mid (Bytes bytes) h = refl
 add_foretold s client context type_name desc payload ring sound mid (Number n) h =
-    added_told s.keys s.next_serial (named s client context ring) n
+    append-nil (option_to_list (added_note (result_ok (named s client context ring)) s.next_serial (Some n)))
+    ∙ added_told s.keys s.next_serial (named s client context ring) n
     (added_before s n sound.unused (add_serial s mid client context type_name desc payload ring n sound.placed h))

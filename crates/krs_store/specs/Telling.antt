@@ -1,5 +1,5 @@
 -- What the store tells of an ask that it accepts: known before the ask is served, but for its answer.
-use Rattle.std.specs.Prelude.{◌≡◌, ℕ, nat_lt, List, [], Option, None, Some, Result, Ok, if◌then◌else◌}
+use Rattle.std.specs.Prelude.{◌≡◌, ℕ, nat_lt, List, [], ◌++◌, Option, None, Some, Result, Ok, if◌then◌else◌}
 use Rattle.std.specs.Option.{option_to_list}
 use Rattle.krs_types.specs.declared.ask.Answer.{Answer}
 use Rattle.krs_types.specs.declared.ask.Answer.TheVariants.{Nothing, Number, Bytes}
@@ -16,6 +16,7 @@ use Rattle.krs_model.specs.Notes.Posting.{Note, Post, posts_of}
 use Rattle.krs_model.specs.Notes.Telling.{notes_of}
 use Rattle.krs_store.specs.declared.telling.KeyNote.{KeyNote}
 use Rattle.krs_store.specs.declared.telling.Telling.{Telling}
+use Rattle.krs_store.specs.declared.telling.Tellings.{Tellings}
 use Rattle.krs_store.specs.declared.telling.Telling.TheVariants.{Quiet, OfKey, OfLink, OfFound, OfAdded}
 
 -- the note of the definitions
@@ -58,22 +59,31 @@ told_of (OfLink event ring key) answer = Some (record { event = event; key = rin
 told_of (OfFound ring) answer = found_note ring (number_of answer)
 told_of (OfAdded ring next) answer = added_note ring next (number_of answer)
 
--- with each answer it tells these notes
-abbrev pub Says : Telling → (Answer → List Note) → Type 0
-Says telling notes = (answer : Answer) → option_to_list (told_of telling answer) ≡ notes answer
+-- this alone
+abbrev pub only : Telling → Tellings
+only telling = record { first = telling; second = Quiet }
 
--- it tells what the ask tells of, where that is accepted
-abbrev pub Foretells : Telling → State → ℕ → ℕ → Op → Type 0
-Foretells telling s client context op =
+-- the notes that these tell with an answer, in order
+abbrev pub told_by : Tellings → Answer → List Note
+told_by tellings answer =
+    option_to_list (told_of tellings.first answer) ++ option_to_list (told_of tellings.second answer)
+
+-- with each answer they tell these notes
+abbrev pub Says : Tellings → (Answer → List Note) → Type 0
+Says tellings notes = (answer : Answer) → told_by tellings answer ≡ notes answer
+
+-- they tell what the ask tells of, where that is accepted
+abbrev pub Foretells : Tellings → State → ℕ → ℕ → Op → Type 0
+Foretells tellings s client context op =
     (mid : State) (answer : Answer) → outcome_of s client context op ≡ Ok (mid, answer)
-    → option_to_list (told_of telling answer) ≡ notes_of s client context op answer
+    → told_by tellings answer ≡ notes_of s client context op answer
 
 -- what is posted of a note, where there is one
 abbrev pub posts_told : Queues → Option Note → List Post
 posts_told q None = []
 posts_told q (Some note) = posts_of q note
 
--- What an ask comes to before its note is posted. WATCH tells no note, and posts the removal record of the watch that
+-- What an ask comes to before its notes are posted. WATCH tells no note, and posts the removal record of the watch that
 -- it ends.
 abbrev pub Runs : State → ℕ → ℕ → Op → Result Answer Fault → State → Type 0
 Runs s client context (Watch id queue watch) result new = LeadsTold s client context (Watch id queue watch) result new

@@ -13,16 +13,16 @@ use krs_ring_asks::{clear, get_id, invalidate, link, request, search, unlink};
 use krs_tables::Tables;
 use krs_types::{Answer, Ask, Fault, Op};
 
-/// One ask in the state that it finds, and the note of what it did.
+/// One ask in the state that it finds, and the notes of what it did.
 pub(crate) fn serve(tables: &mut Tables, client: u32, ask: Ask) -> Result<Answer, Fault>
     requires sound { IsSound tables.old }
     ensures told { LeadsTold tables.old client ask.context ask.op result tables.new }
     ensures memory { IsErrOf result Fault.Memory → grows_meanwhile ask.op ≡ true }
 {
-    let telling = foretell(tables, client, ask.context, &ask.op);
+    let tellings = foretell(tables, client, ask.context, &ask.op);
     match run(tables, client, ask) {
         Ok(answer) => {
-            tell(tables, telling, &answer);
+            tell(tables, tellings, &answer);
             Ok(answer)
         }
         Err(fault) => Err(fault),

@@ -1,14 +1,15 @@
-ghost use Rattle.std.specs.Prelude.{◌≡◌};
+ghost use Rattle.std.specs.Prelude.{◌≡◌, flat_map};
 ghost use Rattle.std.specs.Option.{option_map};
 ghost use Rattle.std.specs.Result.{result_ok};
 ghost use Rattle.krs_model.specs.Outcome.{Is};
 ghost use Rattle.krs_model.specs.Queues.{queues_of};
 ghost use Rattle.krs_model.specs.Sound.{IsSound};
 ghost use Rattle.krs_types.specs.Growth.{has_destination};
-ghost use Rattle.krs_model.specs.Notes.Posting.{posted_in};
+ghost use Rattle.krs_model.specs.Notes.Posting.{posted_in, posts_of};
 ghost use Rattle.krs_model.specs.Notes.Telling.{named, about, about_link, about_found};
-ghost use Rattle.krs_store.specs.Telling.{told_of, meant_note, linked_note, number_of, posts_told, Says, Foretells};
-ghost use Rattle.krs_store.specs.declared.telling.Telling.TheVariants.{OfAdded};
+ghost use Rattle.krs_store.specs.Telling.{told_of, told_by, only, meant_note, linked_note, number_of, posts_told};
+ghost use Rattle.krs_store.specs.Telling.{Says, Foretells};
+ghost use Rattle.krs_store.specs.declared.telling.Telling.TheVariants.{Quiet, OfAdded};
 
 use krs_tables::Tables;
 use krs_types::{Answer, Errno, KeyEvent, Op, Serial};
@@ -35,6 +36,13 @@ pub(crate) enum Telling {
     OfFound(Serial),
     /// A key of a serial below `next` is updated. Another one is new, and linked by this keyring, where it is there.
     OfAdded { ring: Option<Serial>, next: u32 },
+}
+
+/// The notes of an ask, in order: no ask tells more than two.
+#[derive(Clone, Copy, Debug, PartialEq, Eq)]
+pub(crate) struct Tellings {
+    first: Telling,
+    second: Telling,
 }
 
 impl KeyNote {
@@ -83,6 +91,25 @@ impl Telling {
     }
 }
 
+impl Tellings {
+    /// No note.
+    fn none() -> Tellings
+        ensures { result ≡ only Quiet }
+    {
+        Tellings::one(Telling::Quiet)
+    }
+
+    /// One note at most.
+    fn one(telling: Telling) -> Tellings
+        ensures { result ≡ only telling }
+    {
+        Tellings {
+            first: telling,
+            second: Telling::Quiet,
+        }
+    }
+}
+
 /// The number that an ask is answered with.
 fn number_of(answer: &Answer) -> Option<u32>
     ensures { result ≡ number_of answer.now }
@@ -94,7 +121,7 @@ fn number_of(answer: &Answer) -> Option<u32>
 }
 
 /// What an ask tells of, if it is accepted.
-pub(crate) fn foretell(tables: &Tables, client: u32, context: u32, op: &Op) -> Telling
+pub(crate) fn foretell(tables: &Tables, client: u32, context: u32, op: &Op) -> Tellings
     requires sound { IsSound tables.now }
     ensures { Foretells result tables.now client context op.now }
 {
@@ -120,19 +147,28 @@ pub(crate) fn foretell(tables: &Tables, client: u32, context: u32, op: &Op) -> T
         Op::Search { dest, .. } => about_found(tables, client, context, *dest),
         Op::Request { dest, .. } => about_found(tables, client, context, *dest),
         Op::Add { ring, .. } => about_added(tables, client, context, *ring),
-        Op::Hello(_) | Op::Thread | Op::Fork | Op::Exec | Op::GetId { .. } => Telling::Quiet,
-        Op::Join { .. } | Op::Read { .. } | Op::Describe { .. } => Telling::Quiet,
-        Op::Watch { .. } | Op::OpenQueue { .. } | Op::SetFilter { .. } => Telling::Quiet,
-        Op::ReadQueue { .. } | Op::CloseQueue { .. } => Telling::Quiet,
-        Op::Exit | Op::Leave => Telling::Quiet,
+        Op::Hello(_) | Op::Thread | Op::Fork | Op::Exec | Op::GetId { .. } => Tellings::none(),
+        Op::Join { .. } | Op::Read { .. } | Op::Describe { .. } => Tellings::none(),
+        Op::Watch { .. } | Op::OpenQueue { .. } | Op::SetFilter { .. } => Tellings::none(),
+        Op::ReadQueue { .. } | Op::CloseQueue { .. } => Tellings::none(),
+        Op::Exit | Op::Leave => Tellings::none(),
     }
 }
 
-/// A note of an accepted ask goes to those that watch its key and let it pass.
-pub(crate) fn tell(tables: &mut Tables, telling: Telling, answer: &Answer)
-    ensures { tables.new ≡ posted_in (posts_told (queues_of tables.old) (told_of telling answer.now)) tables.old }
+/// The notes of an accepted ask go out, one after the other.
+pub(crate) fn tell(tables: &mut Tables, tellings: Tellings, answer: &Answer)
+    ensures { tables.new
+        ≡ posted_in (flat_map (posts_of (queues_of tables.old)) (told_by tellings answer.now)) tables.old }
 {
-    match telling.note(answer) {
+    post(tables, tellings.first.note(answer));
+    post(tables, tellings.second.note(answer));
+}
+
+/// A note, where there is one, goes to those that watch its key and let it pass.
+fn post(tables: &mut Tables, note: Option<KeyNote>)
+    ensures { tables.new ≡ posted_in (posts_told (queues_of tables.old) (option_map meant_note note)) tables.old }
+{
+    match note {
         Some(note) => tables.queues.post_all(note.event, note.key, note.aux),
         None => {}
     }
@@ -148,12 +184,12 @@ fn named(tables: &Tables, client: u32, number: u32, id: i32) -> Result<Serial, E
 }
 
 /// This happens to the key that an id stands for.
-fn about(tables: &Tables, client: u32, number: u32, event: KeyEvent, id: i32) -> Telling
+fn about(tables: &Tables, client: u32, number: u32, event: KeyEvent, id: i32) -> Tellings
     ensures { Says result (λ answer. about event (named tables.now client number id)) }
 {
     match named(tables, client, number, id) {
-        Ok(key) => Telling::OfKey(event, key),
-        Err(_) => Telling::Quiet,
+        Ok(key) => Tellings::one(Telling::OfKey(event, key)),
+        Err(_) => Tellings::none(),
     }
 }
 
@@ -165,7 +201,7 @@ fn about_link(
     event: KeyEvent,
     ring: i32,
     key: i32,
-) -> Telling
+) -> Tellings
     ensures { Says result (λ answer.
         about_link event (named tables.now client number ring) (named tables.now client number key)) }
 {
@@ -173,31 +209,31 @@ fn about_link(
         named(tables, client, number, ring),
         named(tables, client, number, key),
     ) {
-        (Ok(ring), Ok(key)) => Telling::OfLink(event, ring, key),
-        _ => Telling::Quiet,
+        (Ok(ring), Ok(key)) => Tellings::one(Telling::OfLink(event, ring, key)),
+        _ => Tellings::none(),
     }
 }
 
 /// The destination that an id stands for links what is found, where one is wanted.
-fn about_found(tables: &Tables, client: u32, number: u32, dest: i32) -> Telling
+fn about_found(tables: &Tables, client: u32, number: u32, dest: i32) -> Tellings
     ensures { Says result (about_found (has_destination dest) (named tables.now client number dest)) }
 {
     if dest == 0 {
-        return Telling::Quiet;
+        return Tellings::none();
     }
     match named(tables, client, number, dest) {
-        Ok(ring) => Telling::OfFound(ring),
-        Err(_) => Telling::Quiet,
+        Ok(ring) => Tellings::one(Telling::OfFound(ring)),
+        Err(_) => Tellings::none(),
     }
 }
 
 /// The keyring that an id stands for links a new key, or a key that is there is updated. A keyring that is made
 /// with the key has no watch yet.
-fn about_added(tables: &Tables, client: u32, number: u32, ring: i32) -> Telling
-    ensures { result ≡ OfAdded (result_ok (named tables.now client number ring)) tables.now.next_serial }
+fn about_added(tables: &Tables, client: u32, number: u32, ring: i32) -> Tellings
+    ensures { result ≡ only (OfAdded (result_ok (named tables.now client number ring)) tables.now.next_serial) }
 {
-    Telling::OfAdded {
+    Tellings::one(Telling::OfAdded {
         ring: named(tables, client, number, ring).ok(),
         next: tables.keys.next(),
-    }
+    })
 }

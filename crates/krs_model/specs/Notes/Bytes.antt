@@ -1,6 +1,6 @@
 -- The bytes of a record of a watch queue, all words little-endian: uapi linux/watch_queue.h, struct
 -- watch_notification, struct watch_notification_removal and struct key_notification.
-use Rattle.std.specs.Prelude.{◌≡◌, ℕ, ◌+◌, ◌*◌, ◌^◌, ◌<◌, Bool, true, false, List, [], ◌∷◌, ◌++◌}
+use Rattle.std.specs.Prelude.{ℕ, ◌+◌, ◌*◌, ◌^◌, ◌<◌, Bool, true, false, List, [], ◌∷◌, ◌++◌}
 use Rattle.std.specs.Int.{w32, w64, to_le_bytes}
 use Rattle.krs_types.specs.declared.note.Record.{Record}
 use Rattle.krs_types.specs.declared.note.Record.TheVariants.{Key, Removal, Loss}
@@ -82,7 +82,3 @@ Fits Loss = Unit {0}
 abbrev pub AllFit : List Record → Type 0
 AllFit [] = Unit {0}
 AllFit (note ∷ notes) = Fits note × AllFit notes
-
--- these bytes begin with those
-abbrev pub Begins : List ℕ → List ℕ → Type 0
-Begins front bytes = (rest : List ℕ) × (bytes ≡ front ++ rest)

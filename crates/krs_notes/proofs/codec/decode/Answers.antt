@@ -12,7 +12,7 @@ returns-then-starts_with-clause-begins c =
     let front = c.as_slice-own.result.now in
     let own : front ≡ bytes_of c.in_ok-note.note = c.as_slice-own.ensures ∙ c.encode-encoded.ensures in
     let starts = starts_is Decides-eqb bytes front true c.if-starts_with.ensures.value in (
-      (drop (length front) bytes, starts.0 refl ∙ ap (λ (xs : List ℕ). xs ++ drop (length front) bytes) own),
+      (drop (length front) bytes, sym (starts.0 refl ∙ ap (λ (xs : List ℕ). xs ++ drop (length front) bytes) own)),
       ap length own,
     )
 
@@ -24,4 +24,4 @@ returns-else-starts_with-clause-each c = λ r h b.
     let is : c.in_ok-note.note ≡ r = cc in
     let own : front ≡ bytes_of r = c.as_slice-own.ensures ∙ (c.encode-encoded.ensures ∙ ap bytes_of is) in
     let starts = starts_is Decides-eqb bytes front false c.if-starts_with.ensures.value in
-    absurd (true≢false (sym (starts.1 b.0 (b.1 ∙ ap (λ (xs : List ℕ). xs ++ b.0) (sym own)))))
+    absurd (true≢false (sym (starts.1 b.0 (sym b.1 ∙ ap (λ (xs : List ℕ). xs ++ b.0) (sym own)))))

@@ -1,0 +1,18 @@
+use Rattle.std.proofs.Common.{◌≡◌, ap, sym, ◌∙◌, subst, Ok, Err, Bool, cond}
+use Rattle.krs_types.specs.declared.errno.Errno.TheVariants.{ENFILE}
+use Rattle.krs_model.specs.State.{State}
+use Rattle.krs_tables.specs.Linked.{room_in}
+use Rattle.krs_tables.proofs.Linking.{room_told}
+use Rattle.krs_ring_asks.proofs.linking.check_full.Goals as goal
+
+pub returns-then-would_refuse : goal.returns-then-would_refuse
+returns-then-would_refuse c =
+    subst (λ (t : State). room_in t.keys c.args.ring c.args.name.now ≡ Err ENFILE) c.tables.view_is
+    (room_told c.tables.inside.keys.keys c.args.ring c.args.name.now c.tables.invariant.fit
+    ∙ ap (λ (b : Bool). cond b (Err ENFILE) (Ok (tt {0}))) (sym c.would_refuse.ensures ∙ c.if-would_refuse.true))
+
+pub returns : goal.returns
+returns c =
+    subst (λ (t : State). room_in t.keys c.args.ring c.args.name.now ≡ Ok (tt {0})) c.tables.view_is
+    (room_told c.tables.inside.keys.keys c.args.ring c.args.name.now c.tables.invariant.fit
+    ∙ ap (λ (b : Bool). cond b (Err ENFILE) (Ok (tt {0}))) (sym c.would_refuse.ensures ∙ c.if-would_refuse.false))

@@ -1,0 +1,43 @@
+use Rattle.std.proofs.Common.{◌≡◌, ℕ, ap, sym, ◌∙◌, subst, Some}
+use Rattle.krs_model.specs.State.{State}
+use Rattle.krs_model.specs.Linking.{linking}
+use Rattle.krs_model.specs.Asks.Changing.{changed}
+use Rattle.krs_keys.specs.Keys.{shown}
+use Rattle.krs_keys.proofs.KindsLemmas.{kinds_alter, linked_kind}
+use Rattle.krs_tables.specs.View.{state_of}
+use Rattle.krs_tables.specs.Linked.{name_in}
+use Rattle.std.specs.Option.{option_to_list}
+use Rattle.krs_model.specs.Table.{Table}
+use Rattle.krs_model.specs.Sweep.{roots}
+use Rattle.krs_model.specs.Asks.Adding.{IsRing}
+use Rattle.krs_hold.specs.Tally.{AreExact, all_less}
+use Rattle.krs_tables.proofs.Counting.{linked_tallied}
+use Rattle.krs_tables.proofs.Linking.{name_kept, fit_linked, shown_linked}
+use Rattle.krs_ring_asks.proofs.linking.put_named.Goals as goal
+
+pub invariant_of-tables : goal.invariant_of-tables
+invariant_of-tables c =
+    let s = c.tables.inside in
+    let es = s.keys.keys in
+    let there =
+    name_kept s c.args.serial c.args.name (subst (λ (t : State). name_in t c.args.serial ≡ Some c.args.name)
+    (sym c.tables.view_is) c.requires.named) in
+    let ring = subst (λ (t : State). IsRing t c.args.ring) (sym c.tables.view_is) c.requires.ring in
+    record {
+      fit = rw c.in-Ok.ensures.ok (fit_linked es c.args.ring c.args.serial c.args.name c.tables.invariant.fit there);
+      kinds = rw c.in-Ok.ensures.ok (kinds_alter es c.args.ring _ (linked_kind c.args.name c.args.serial)
+          c.tables.invariant.kinds);
+      tallied = subst (λ (zs : Table ℕ). AreExact c.link.new.self.keys zs (roots (state_of s)))
+          (sym (c.let_go_of.ensures ∙ ap (all_less (option_to_list c.in-Ok.displaced)) c.hold.ensures))
+          (rw (c.in-Ok.ensures.ok, c.in-Ok.ensures.displaced) (linked_tallied s (roots (state_of s)) c.args.ring
+          c.args.serial c.args.name there ring c.tables.invariant.tallied));
+    }
+
+pub returns-in-Ok-clause-ok : goal.returns-in-Ok-clause-ok
+returns-in-Ok-clause-ok c =
+    let s = c.tables.inside in
+    let es = s.keys.keys in
+    ap (λ zs. record (state_of s) { keys = shown zs.keys; next_serial = zs.next }) c.in-Ok.ensures.ok
+    ∙ (ap (λ zs. record (state_of s) { keys = zs }) (shown_linked es c.args.ring c.args.serial c.args.name
+    c.tables.invariant.fit)
+    ∙ ap (λ (t : State). changed t c.args.ring (linking t.keys c.args.name c.args.serial)) c.tables.view_is)
