@@ -6,7 +6,7 @@ use Rattle.krs_ctl.specs.declared.choice.Choice.{Choice}
 use Rattle.krs_ctl.specs.declared.choice.Choice.TheVariants.{Script, Usage, Memory, Shown, Refused}
 use Rattle.krs_ctl.specs.declared.script.ScriptEnd.{ScriptEnd}
 use Rattle.krs_ctl.specs.Running.{EndsScript}
-use Rattle.krs_ctl.specs.Script.{Says}
+use Rattle.krs_script.specs.Ending.{Says}
 
 -- What is printed, and the status. A script runs on a new store, with its status. What is refused is told on standard
 -- error, as far as that takes it, and nothing is printed. Every other choice says one text on standard output, and

@@ -3,9 +3,7 @@
 #![tactic(auto)]
 
 mod choice;
-mod ending;
 mod laws;
-mod listing;
 mod program;
 mod script;
 

@@ -5,8 +5,8 @@ ghost use Rattle.krs_ctl.specs.Choice.{IsUnread};
 ghost use Rattle.krs_ctl.specs.Program.{Answers};
 
 use crate::choice::{Choice, choose};
-use crate::ending::{OUT_OF_MEMORY, USAGE, say};
 use crate::script::run_script;
+use krs_script::{OUT_OF_MEMORY, USAGE, say};
 use krs_store::Store;
 use krs_words::write_text;
 use std::alloc::Global;

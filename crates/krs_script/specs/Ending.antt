@@ -7,7 +7,7 @@ use Rattle.krs_types.specs.declared.ask.Op.TheVariants as op
 use Rattle.krs_types.specs.declared.ask.Answer.{Answer}
 use Rattle.krs_types.specs.declared.ask.Answer.TheVariants.{Number}
 use Rattle.krs_words.specs.declared.stop.Stop.{Stop}
-use Rattle.krs_words.specs.declared.stop.Stop.TheVariants.{Usage, Memory, Reading, TooLong, Printing}
+use Rattle.krs_words.specs.declared.stop.Stop.TheVariants.{Usage, Memory, Reading, TooLong, Printing, Connection}
 use Rattle.krs_words.specs.Writing.{WritesFront}
 
 -- how many lines are read at most: profile, limits
@@ -22,6 +22,7 @@ status_of (Err Memory) refused = 1
 status_of (Err Reading) refused = 3
 status_of (Err TooLong) refused = 3
 status_of (Err Printing) refused = 3
+status_of (Err Connection) refused = 3
 
 -- the last line of a script that stopped, with its newline
 abbrev pub last_line : Result (Unit {0}) Stop → List ℕ
@@ -31,6 +32,7 @@ last_line (Err Memory) = codes "error 12 ENOMEM\n"
 last_line (Err Reading) = []
 last_line (Err TooLong) = []
 last_line (Err Printing) = []
+last_line (Err Connection) = codes "error: connection\n"
 
 -- This text was written, and this is the status with it. Or writing failed: then a beginning of it was written, and
 -- the status is 3.

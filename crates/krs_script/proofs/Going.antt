@@ -3,23 +3,24 @@ use Rattle.std.proofs.Common.{ℕ, ◌≡◌, ◌⊎◌, ◌+◌, ◌<◌, inl, 
 use Rattle.std.proofs.Common.{IfSome, Result, Ok, Err, refl, sym, ap, ◌∙◌, subst, append_assoc, append-nil, length, length-append, arith}
 use Rattle.std.specs.Io.KnownBytes.{Appends, IsAtEnd}
 use Rattle.std.proofs.KnownBytes.{Appends-trans}
+use Rattle.krs_commands.specs.declared.command.Command.{Command}
+use Rattle.krs_words.specs.declared.output.Output.{Output}
 use Rattle.krs_words.specs.declared.stop.Stop.{Stop}
-use Rattle.krs_words.specs.declared.stop.Stop.TheVariants.{Usage, Memory, Reading, TooLong, Printing}
+use Rattle.krs_words.specs.declared.stop.Stop.TheVariants.{Usage, Memory, Reading, TooLong, Printing, Connection}
 use Rattle.krs_words.specs.Lines.{lines_of, ReadsLines}
 use Rattle.krs_words.specs.Writing.{Prints, WritesFront}
 use Rattle.krs_words.proofs.WritingLemmas.{Prints-nil, Prints-trans, WritesFront-behind}
-use Rattle.krs_ctl.specs.declared.script.Script.{Script}
-use Rattle.krs_ctl.specs.Script.{most_lines, status_of, last_line, Says, Finishes}
-use Rattle.krs_ctl.specs.Running.{TakesLine, TakesLines, ObeysLine, BeginsWith, Runs, IsPrinted, IsShown}
-use Rattle.krs_ctl.proofs.RunningLemmas.{TakesLines-more}
+use Rattle.krs_script.specs.Ending.{most_lines, status_of, last_line, Says, Finishes}
+use Rattle.krs_script.specs.Running.{TakesLine, TakesLines, ObeysLine, BeginsWith, Runs, IsPrinted, IsShown, Ends}
+use Rattle.krs_script.proofs.RunningLemmas.{TakesLines-more}
 
 -- so many lines were read and obeyed so far, and this was printed
-pub record Going (count : ℕ) (input left : Option (List ℕ)) (old now : Script) (c : Option (List ℕ)) (p : List ℕ)
-    (w : Option (List ℕ)) (q : List ℕ) : Type 0 where
+pub record Going {S : Type 0} (acts : S → Command → Output → S → Type 0) (count : ℕ) (input left : Option (List ℕ))
+    (old now : S) (c : Option (List ℕ)) (p : List ℕ) (w : Option (List ℕ)) (q : List ℕ) : Type 0 where
   pub lines : List (List ℕ)
   pub text : List ℕ
   pub counted : length lines ≡ count
-  pub taken : TakesLines old lines text now
+  pub taken : TakesLines acts old lines text now
   pub read : ReadsLines input left lines
   pub prints : Prints c p w q text
 
@@ -50,8 +51,9 @@ counted_more : (lines : List (List ℕ)) (line : List ℕ) (count : ℕ) → len
     → length (lines ++ line ∷ []) ≡ count + 1
 counted_more lines line count is = omega (arith, is, length-append lines (line ∷ []))
 
-pub going_start : (input c : Option (List ℕ)) (p : List ℕ) (s : Script) → Going 0 input input s s c p c p
-going_start input c p s = record {
+pub going_start : {S : Type 0} (acts : S → Command → Output → S → Type 0) (input c : Option (List ℕ)) (p : List ℕ)
+    (s : S) → Going acts 0 input input s s c p c p
+going_start acts input c p s = record {
   lines = [];
   text = [];
   counted = refl;
@@ -71,11 +73,12 @@ front_same : (c w v : Option (List ℕ)) (p q text : List ℕ) → Prints c p w 
 front_same c w v p q text first front =
     rw (append-nil text) at (WritesFront-behind c w v p q text [] first (rw (sym (append-nil q)) at front))
 
-module _ (input : Option (List ℕ)) (old : Script) (c : Option (List ℕ)) (p : List ℕ) where
+module _ {S : Type 0} (acts : S → Command → Output → S → Type 0) (breaks : S → Command → Stop → S → Type 0)
+    (input : Option (List ℕ)) (old : S) (c : Option (List ℕ)) (p : List ℕ) where
   -- what waited may have been written
-  pub going_same : (count : ℕ) (left w v : Option (List ℕ)) (now : Script) (q r : List ℕ)
-      → Going count input left old now c p w q → Prints w q v r []
-      → Going count input left old now c p v r
+  pub going_same : (count : ℕ) (left w v : Option (List ℕ)) (now : S) (q r : List ℕ)
+      → Going acts count input left old now c p w q → Prints w q v r []
+      → Going acts count input left old now c p v r
   going_same count left w v now q r going prints = record {
     lines = going.lines;
     text = going.text;
@@ -86,53 +89,72 @@ module _ (input : Option (List ℕ)) (old : Script) (c : Option (List ℕ)) (p :
   }
 
   -- one more line
-  pub going_more : (count : ℕ) (left after w v : Option (List ℕ)) (now new : Script) (q r line first : List ℕ)
-      → Going count input left old now c p w q
-      → ReadsLines left after (line ∷ []) → TakesLine now line first new → Prints w q v r first
-      → Going (count + 1) input after old new c p v r
+  pub going_more : (count : ℕ) (left after w v : Option (List ℕ)) (now new : S) (q r line first : List ℕ)
+      → Going acts count input left old now c p w q
+      → ReadsLines left after (line ∷ []) → TakesLine acts now line first new → Prints w q v r first
+      → Going acts (count + 1) input after old new c p v r
   going_more count left after w v now new q r line first going reads takes prints = record {
     lines = going.lines ++ line ∷ [];
     text = going.text ++ first;
     counted = counted_more going.lines line count going.counted;
-    taken = TakesLines-more old now new going.lines going.text line first going.taken takes;
+    taken = TakesLines-more acts old now new going.lines going.text line first going.taken takes;
     read = ReadsLines-trans input left after going.lines (line ∷ []) going.read reads;
     prints = Prints-trans c w v p q r going.text first going.prints prints;
   }
 
+  begins_behind : (left after : Option (List ℕ)) (line : List ℕ) (lines : List (List ℕ)) → ReadsLines input left lines
+      → ReadsLines left after (line ∷ []) → BeginsWith input (lines ++ line ∷ [])
+  begins_behind left after line lines read reads =
+      begins input after (lines ++ line ∷ []) (ReadsLines-trans input left after lines (line ∷ []) read reads)
+
   -- the line that was read last ends the script
-  pub runs_at_line : (count : ℕ) (left after w v : Option (List ℕ)) (now new : Script) (q r line : List ℕ)
-      (stop : Stop) → count < most_lines → Going count input left old now c p w q
-      → ReadsLines left after (line ∷ []) → ObeysLine now line new w q v r (Err stop)
-      → Runs input old new c p v r (Err stop)
-  runs_at_line count left after w v now new q r line Usage low going reads (same, kept, none, prints) = record {
+  pub runs_at_line : (count : ℕ) (left after w v : Option (List ℕ)) (now new : S) (q r line : List ℕ)
+      (stop : Stop) → count < most_lines → Going acts count input left old now c p w q
+      → ReadsLines left after (line ∷ []) → ObeysLine acts breaks now line new w q v r (Err stop)
+      → Runs acts breaks input old new c p v r (Err stop)
+  runs_at_line count left after w v now new q r line Usage low going reads (cause, prints) = record {
     lines = going.lines;
     text = going.text;
-    taken = rw same going.taken;
+    last = now;
+    taken = going.taken;
     bound = omega (arith, low, going.counted);
-    behind = (
-      line,
-      kept,
-      none,
-      begins input after (going.lines ++ line ∷ [])
-          (ReadsLines-trans input left after going.lines (line ∷ []) going.read reads),
-    );
+    behind = (line, cause, begins_behind left after line going.lines going.read reads);
+    prints = prints_same c w v p q r going.text going.prints prints;
+  }
+  runs_at_line count left after w v now new q r line Connection low going reads (broke, prints) = record {
+    lines = going.lines;
+    text = going.text;
+    last = now;
+    taken = going.taken;
+    bound = omega (arith, low, going.counted);
+    behind = (line, broke, begins_behind left after line going.lines going.read reads);
     prints = prints_same c w v p q r going.text going.prints prints;
   }
   runs_at_line count left after w v now new q r line Memory low going reads (inl same, prints) = record {
     lines = going.lines;
     text = going.text;
-    taken = rw same going.taken;
+    last = now;
+    taken = going.taken;
     bound = omega (arith, low, going.counted);
-    behind = begins input left going.lines going.read;
+    behind = inl (same, begins input left going.lines going.read);
     prints = (going.text, [], sym (append-nil going.text), prints_same c w v p q r going.text going.prints prints);
   }
-  runs_at_line count left after w v now new q r line Memory low going reads (inr (text, takes), prints) = record {
+  runs_at_line count left after w v now new q r line Memory low going reads (inr (inl broke), prints) = record {
+    lines = going.lines;
+    text = going.text;
+    last = now;
+    taken = going.taken;
+    bound = omega (arith, low, going.counted);
+    behind = inr (line, broke, begins_behind left after line going.lines going.read reads);
+    prints = (going.text, [], sym (append-nil going.text), prints_same c w v p q r going.text going.prints prints);
+  }
+  runs_at_line count left after w v now new q r line Memory low going reads (inr (inr (text, takes)), prints) = record {
     lines = going.lines ++ line ∷ [];
     text = going.text ++ text;
-    taken = TakesLines-more old now new going.lines going.text line text going.taken takes;
+    last = new;
+    taken = TakesLines-more acts old now new going.lines going.text line text going.taken takes;
     bound = omega (arith, low, counted_more going.lines line count going.counted);
-    behind = begins input after (going.lines ++ line ∷ []) (ReadsLines-trans input left after going.lines
-        (line ∷ []) going.read reads);
+    behind = inl (refl, begins_behind left after line going.lines going.read reads);
     prints = (going.text, text, refl, prints_same c w v p q r going.text going.prints prints);
   }
   runs_at_line count left after w v now new q r line Reading low going reads obeys = absurd obeys
@@ -140,71 +162,78 @@ module _ (input : Option (List ℕ)) (old : Script) (c : Option (List ℕ)) (p :
   runs_at_line count left after w v now new q r line Printing low going reads (text, takes, front) = record {
     lines = going.lines ++ line ∷ [];
     text = going.text ++ text;
-    taken = TakesLines-more old now new going.lines going.text line text going.taken takes;
+    last = new;
+    taken = TakesLines-more acts old now new going.lines going.text line text going.taken takes;
     bound = omega (arith, low, counted_more going.lines line count going.counted);
-    behind = begins input after (going.lines ++ line ∷ []) (ReadsLines-trans input left after going.lines
-        (line ∷ []) going.read reads);
+    behind = (refl, begins_behind left after line going.lines going.read reads);
     prints = WritesFront-behind c w v p q going.text text going.prints front;
   }
 
-module _ (count : ℕ) (input left : Option (List ℕ)) (old now : Script) (c : Option (List ℕ)) (p : List ℕ)
+module _ {S : Type 0} (acts : S → Command → Output → S → Type 0) (breaks : S → Command → Stop → S → Type 0)
+    (count : ℕ) (input left : Option (List ℕ)) (old now : S) (c : Option (List ℕ)) (p : List ℕ)
     (w : Option (List ℕ)) (q : List ℕ) where
   -- all lines are read
-  pub runs_to_end : count < most_lines → Going count input left old now c p w q → IsAtEnd left
-      → Runs input old now c p w q (Ok tt)
+  pub runs_to_end : count < most_lines → Going acts count input left old now c p w q → IsAtEnd left
+      → Runs acts breaks input old now c p w q (Ok tt)
   runs_to_end low going end = record {
     lines = going.lines;
     text = going.text;
+    last = now;
     taken = going.taken;
     bound = omega (arith, low, going.counted);
-    behind = all_read input left going.lines going.read end;
+    behind = (refl, all_read input left going.lines going.read end);
     prints = going.prints;
   }
 
   -- as many lines are read as a script has at most
-  pub runs_too_long : count ≡ most_lines → Going count input left old now c p w q
-      → Runs input old now c p w q (Err TooLong)
+  pub runs_too_long : count ≡ most_lines → Going acts count input left old now c p w q
+      → Runs acts breaks input old now c p w q (Err TooLong)
   runs_too_long full going = record {
     lines = going.lines;
     text = going.text;
+    last = now;
     taken = going.taken;
     bound = omega (arith, full, going.counted);
-    behind = (going.counted ∙ full, begins input left going.lines going.read);
+    behind = (refl, going.counted ∙ full, begins input left going.lines going.read);
     prints = going.prints;
   }
 
   -- no line could be read
   pub runs_unread : (stop : Stop) → (stop ≡ Memory) ⊎ (stop ≡ Reading) → count < most_lines
-      → Going count input left old now c p w q → Runs input old now c p w q (Err stop)
+      → Going acts count input left old now c p w q → Runs acts breaks input old now c p w q (Err stop)
   runs_unread Memory cause low going = record {
     lines = going.lines;
     text = going.text;
+    last = now;
     taken = going.taken;
     bound = omega (arith, low, going.counted);
-    behind = begins input left going.lines going.read;
+    behind = inl (refl, begins input left going.lines going.read);
     prints = (going.text, [], sym (append-nil going.text), going.prints);
   }
   runs_unread Reading cause low going = record {
     lines = going.lines;
     text = going.text;
+    last = now;
     taken = going.taken;
     bound = omega (arith, low, going.counted);
-    behind = begins input left going.lines going.read;
+    behind = (refl, begins input left going.lines going.read);
     prints = going.prints;
   }
   runs_unread Usage cause low going = absurd (elim cause [ inl e ↦ cc | inr e ↦ cc ])
   runs_unread TooLong cause low going = absurd (elim cause [ inl e ↦ cc | inr e ↦ cc ])
   runs_unread Printing cause low going = absurd (elim cause [ inl e ↦ cc | inr e ↦ cc ])
+  runs_unread Connection cause low going = absurd (elim cause [ inl e ↦ cc | inr e ↦ cc ])
 
   -- what waited could not be written
   pub runs_unwritten : (v : Option (List ℕ)) (r : List ℕ) → count < most_lines
-      → Going count input left old now c p w q → WritesFront w v q → Runs input old now c p v r (Err Printing)
+      → Going acts count input left old now c p w q → WritesFront w v q → Runs acts breaks input old now c p v r (Err Printing)
   runs_unwritten v r low going front = record {
     lines = going.lines;
     text = going.text;
+    last = now;
     taken = going.taken;
     bound = omega (arith, low, going.counted);
-    behind = begins input left going.lines going.read;
+    behind = (refl, begins input left going.lines going.read);
     prints = front_same c w v p q going.text going.prints front;
   }
 
@@ -260,8 +289,34 @@ script_ends c w v p q text (Err TooLong) refused status none prints says failed 
   shows = refl;
   ends = says_last c w v q text _ _ status (rw none at prints) says;
 }
+script_ends c w v p q text (Err Connection) refused status none prints says failed = record {
+  printed = text;
+  shows = refl;
+  ends = says_last c w v q text _ _ status (rw none at prints) says;
+}
 script_ends c w v p q text (Err Printing) refused status none (rest, (y, adds, is)) says failed = record {
   printed = y;
   shows = (rest, rw none at is);
   ends = inl (three_of _ w v status says, rw (failed refl, append-nil y) adds);
 }
+
+-- lines that were run, and then what ended them, are a whole script
+pub ends_of : {S : Type 0} (acts : S → Command → Output → S → Type 0) (breaks : S → Command → Stop → S → Type 0)
+    (input : Option (List ℕ)) (old new : S) (c w v : Option (List ℕ)) (p q : List ℕ)
+    (stopped : Result (Unit {0}) Stop) (refused : Bool) (status : ℕ) → p ≡ []
+    → Runs acts breaks input old new c p w q stopped → Finishes w q v stopped refused status
+    → (stopped ≡ Err Printing → v ≡ w) → Ends acts breaks input c v old new refused status
+ends_of acts breaks input old new c w v p q stopped refused status none runs says failed =
+    let said = script_ends c w v p q runs.text stopped refused status none runs.prints says failed in
+    record {
+      lines = runs.lines;
+      text = runs.text;
+      printed = said.printed;
+      last = runs.last;
+      stopped = stopped;
+      taken = runs.taken;
+      bound = runs.bound;
+      behind = runs.behind;
+      shows = said.shows;
+      ends = said.ends;
+    }

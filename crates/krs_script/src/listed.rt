@@ -1,5 +1,5 @@
 ghost use Rattle.std.specs.Prelude.{◌≡◌};
-ghost use Rattle.krs_ctl.specs.Listing.{is_keyring, listing, records_of};
+ghost use Rattle.krs_script.specs.Listing.{is_keyring, listing, records_of};
 
 use krs_types::{Answer, Body, Reply};
 use krs_words::Output;

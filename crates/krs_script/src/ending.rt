@@ -1,7 +1,7 @@
-ghost use Rattle.std.specs.Prelude.{◌≡◌, ◌++◌, Err, OnOk, OnErr};
+ghost use Rattle.std.specs.Prelude.{◌≡◌, ◌++◌, Ok, Err, OnOk, OnErr};
 ghost use Rattle.std.specs.Io.KnownBytes.{Appends};
 ghost use Rattle.krs_words.specs.Writing.{WritesFront};
-ghost use Rattle.krs_ctl.specs.Script.{status_of, last_line, Finishes, Says};
+ghost use Rattle.krs_script.specs.Ending.{status_of, last_line, Finishes, Says};
 
 use krs_words::{Stop, write_out, write_text};
 use std::io::Write;
@@ -11,6 +11,9 @@ pub const USAGE: &str = "usage\n";
 
 /// What is printed where the client's own memory is wanting.
 pub const OUT_OF_MEMORY: &str = "error 12 ENOMEM\n";
+
+/// What is printed where there is no connection, or it failed.
+pub const NO_CONNECTION: &str = "error: connection\n";
 
 /// Ends a script: what still waits is written, and the last line of one that stopped; the script's status. Of a writer
 /// that failed nothing more is asked.
@@ -23,6 +26,7 @@ pub fn finish<W: Write>(
     ensures says { Finishes (W.contents writer.old) pending.old.items (W.contents writer.new)
         stopped refused result }
     ensures failed { stopped ≡ Err Stop.Printing → writer.new ≡ writer.old }
+    ensures whole { result ≡ 0 → stopped ≡ Ok tt }
 {
     let (status, last) = ending(stopped, refused);
     if let Err(Stop::Printing) = stopped {
@@ -55,6 +59,7 @@ fn ending(stopped: Result<(), Stop>, refused: bool) -> (u8, &'static str)
         Ok(()) => (0, ""),
         Err(Stop::Usage) => (2, USAGE),
         Err(Stop::Memory) => (1, OUT_OF_MEMORY),
+        Err(Stop::Connection) => (3, NO_CONNECTION),
         Err(Stop::Reading | Stop::TooLong | Stop::Printing) => (3, ""),
     }
 }
