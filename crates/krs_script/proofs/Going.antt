@@ -1,6 +1,7 @@
 -- A script between two lines, and how it ends from there.
 use Rattle.std.proofs.Common.{ℕ, ◌≡◌, ◌⊎◌, ◌+◌, ◌<◌, inl, inr, Bool, List, [], ◌∷◌, ◌++◌, Option, None, Some}
-use Rattle.std.proofs.Common.{IfSome, Result, Ok, Err, refl, sym, ap, ◌∙◌, subst, append_assoc, append-nil, length, length-append, arith}
+use Rattle.std.proofs.Common.{IfSome, Result, Ok, Err, refl, sym, ap, ◌∙◌, subst, append_assoc, append-nil}
+use Rattle.std.proofs.Common.{length, length-append, arith}
 use Rattle.std.specs.Io.KnownBytes.{Appends, IsAtEnd}
 use Rattle.std.proofs.KnownBytes.{Appends-trans}
 use Rattle.krs_commands.specs.declared.command.Command.{Command}
@@ -226,7 +227,8 @@ module _ {S : Type 0} (acts : S → Command → Output → S → Type 0) (breaks
 
   -- what waited could not be written
   pub runs_unwritten : (v : Option (List ℕ)) (r : List ℕ) → count < most_lines
-      → Going acts count input left old now c p w q → WritesFront w v q → Runs acts breaks input old now c p v r (Err Printing)
+      → Going acts count input left old now c p w q → WritesFront w v q
+      → Runs acts breaks input old now c p v r (Err Printing)
   runs_unwritten v r low going front = record {
     lines = going.lines;
     text = going.text;

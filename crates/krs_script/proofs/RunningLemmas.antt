@@ -1,5 +1,6 @@
 -- Lines of a script, one after the other.
-use Rattle.std.proofs.Common.{ℕ, ◌≡◌, ◌⊎◌, inl, inr, List, [], ◌∷◌, ◌++◌, true, false, Option, Some, Result, Ok, Err, OnOk, IfErr}
+use Rattle.std.proofs.Common.{ℕ, ◌≡◌, ◌⊎◌, inl, inr, List, [], ◌∷◌, ◌++◌, true, false, Option, Some, Result, Ok, Err}
+use Rattle.std.proofs.Common.{OnOk, IfErr}
 use Rattle.std.proofs.Common.{refl, sym, ap, ◌∙◌, append_assoc, append-nil, ◌==◌, length, map, Bor}
 use Rattle.krs_words.specs.declared.output.Output.{Output}
 use Rattle.krs_commands.specs.declared.command.Command.{Command}

@@ -5,4 +5,5 @@ use Rattle.krs_ctl.specs.Running.{Acts, NeverBreaks}
 use Rattle.krs_ctl.proofs.script.Script.run.Goals as goal
 
 pub returns-in-Err : goal.returns-in-Err
-returns-in-Err g c = runs_unread Acts NeverBreaks _ _ _ _ _ _ _ _ _ _ (inl refl) (omega arith) (going_start Acts _ _ _ _)
+returns-in-Err g c = runs_unread Acts NeverBreaks _ _ _ _ _ _ _ _ _ _
+    (inl refl) (omega arith) (going_start Acts _ _ _ _)

@@ -17,28 +17,35 @@ returns-in_err-write_before_waiting g c =
 pub returns-in_err-read_next : goal.returns-in_err-read_next
 returns-in_err-read_next g c =
     let p = err_from_is_err_and c.from_residual-in_err-read_next.result c.from_residual-in_err-read_next.ensures.1 in
-    let going = going_same Acts NeverBreaks _ _ _ _ _ _ _ _ _ _ _ c.loop.invariant c.in_ok-write_before_waiting.ensures.ok in
-    rw (p.1, p.2) (runs_unread Acts NeverBreaks _ _ _ _ _ _ _ _ _ _ c.in_err-read_next.ensures.causes c.loop-test.true going)
+    let going = going_same Acts NeverBreaks _ _ _ _ _ _ _ _ _ _ _
+    c.loop.invariant c.in_ok-write_before_waiting.ensures.ok in
+    rw (p.1, p.2) (runs_unread Acts NeverBreaks _ _ _ _ _ _ _ _ _ _
+    c.in_err-read_next.ensures.causes c.loop-test.true going)
 
 pub returns-then-not-branch : goal.returns-then-not-branch
 returns-then-not-branch g c =
-    let going = going_same Acts NeverBreaks _ _ _ _ _ _ _ _ _ _ _ c.loop.invariant c.in_ok-write_before_waiting.ensures.ok in
+    let going = going_same Acts NeverBreaks _ _ _ _ _ _ _ _ _ _ _
+    c.loop.invariant c.in_ok-write_before_waiting.ensures.ok in
     runs_to_end Acts NeverBreaks _ _ _ _ _ _ _ _ _ c.loop-test.true going (c.in_ok-read_next.ensures.end
     (ap Ok c.if-not-branch.true))
 
 pub returns-in_err-obey : goal.returns-in_err-obey
 returns-in_err-obey g c =
     let p = err_from_is_err_and c.from_residual-in_err-obey.result c.from_residual-in_err-obey.ensures.1 in
-    let going = going_same Acts NeverBreaks _ _ _ _ _ _ _ _ _ _ _ c.loop.invariant c.in_ok-write_before_waiting.ensures.ok in
+    let going = going_same Acts NeverBreaks _ _ _ _ _ _ _ _ _ _ _
+    c.loop.invariant c.in_ok-write_before_waiting.ensures.ok in
     let reads = rw (← c.as_slice.ensures.value) at (c.in_ok-read_next.ensures.found (ap Ok c.if-not-branch.false)) in
-    rw (p.1, p.2) (runs_at_line Acts NeverBreaks _ _ _ _ _ _ _ _ _ _ _ _ _ _ _ c.loop-test.true going reads c.in_err-obey.ensures)
+    rw (p.1, p.2) (runs_at_line Acts NeverBreaks _ _ _ _ _ _ _ _ _ _ _ _ _ _ _ c.loop-test.true going
+    reads c.in_err-obey.ensures)
 
 pub loop-preserved : goal.loop-preserved
 loop-preserved g c =
-    let going = going_same Acts NeverBreaks _ _ _ _ _ _ _ _ _ _ _ c.loop.invariant c.in_ok-write_before_waiting.ensures.ok in
+    let going = going_same Acts NeverBreaks _ _ _ _ _ _ _ _ _ _ _
+    c.loop.invariant c.in_ok-write_before_waiting.ensures.ok in
     let reads = rw (← c.as_slice.ensures.value) at (c.in_ok-read_next.ensures.found (ap Ok c.if-not-branch.false)) in
     going_more Acts NeverBreaks _ _ _ _ _ _ _ _ _ _ _ _ _ _ _ going reads c.in_ok-obey.ensures.1 c.in_ok-obey.ensures.2
 
 pub returns : goal.returns
 returns g c =
-    runs_too_long Acts NeverBreaks _ _ _ _ _ _ _ _ _ (omega (arith, c.loop-test.false, c.loop.auto.counter-end)) c.loop.invariant
+    runs_too_long Acts NeverBreaks _ _ _ _ _ _ _ _ _
+    (omega (arith, c.loop-test.false, c.loop.auto.counter-end)) c.loop.invariant
