@@ -159,7 +159,7 @@ fn read_words(alloc: Global, words: &[String]) -> Result<Choice, Error> {
 fn choice_among(alloc: Global, matches: &ArgMatches<'_>) -> Result<Choice, AllocError> {
     let words = matches.get_strs(WORDS).unwrap_or_default();
     let (uid, gid) = (matches.get_one::<u32>(UID), matches.get_one::<u32>(GID));
-    let is_script = words == ["script"];
+    let is_script = words == ["script"].as_slice();
     let names_caller = uid.is_some() || gid.is_some();
     match matches.get_str(SOCKET) {
         None if is_script && !names_caller => Ok(Choice::Script),

@@ -1,8 +1,9 @@
 -- Why commands break off over a connection.
-use Rattle.std.proofs.Common.{ℕ, ℤ, ◌≡◌, ◌⊎◌, inl, inr, List, Option, Result, Ok, Err, refl}
+use Rattle.std.proofs.Common.{ℕ, ℤ, ◌≡◌, ◌⊎◌, inl, inr, List, Option, Result, Ok, Err, IfOk, IfErr, refl}
 use Rattle.krs_types.specs.declared.errno.Errno.{Errno}
 use Rattle.krs_types.specs.declared.ask.Answer.{Answer}
 use Rattle.krs_types.specs.declared.ask.Answer.TheVariants.{Nothing, Number, Bytes}
+use Rattle.krs_types.specs.declared.caller.Caller.{Caller}
 use Rattle.krs_types.specs.declared.ask.Ask.{Ask as AskIs}
 use Rattle.krs_types.specs.declared.ask.Op.{Op}
 use Rattle.krs_types.specs.declared.ask.Op.TheVariants as op
@@ -13,7 +14,8 @@ use Rattle.krs_commands.specs.declared.command.Command.TheVariants.{Context, Mom
 use Rattle.krs_words.specs.declared.stop.Stop.{Stop}
 use Rattle.krs_words.specs.declared.stop.Stop.TheVariants.{Usage, Memory, Reading, TooLong, Printing, Connection}
 use Rattle.krs_remote.specs.Talking.{GivesUp}
-use Rattle.krs_remote.specs.Remote.{Talk, Breaks, StopsList, GivesUpAsk, noted_context}
+use Rattle.krs_remote.specs.Remote.{Talk, Breaks, BreaksCall, StopsList, GivesUpAsk, noted_context}
+use Rattle.krs_remote.specs.Call.{StopsCall}
 
 -- the causes for which a command breaks off
 abbrev pub IsCause : Stop → Type 0
@@ -55,3 +57,21 @@ noted_context-after context (op.Hello caller) (Ok Nothing) = refl
 noted_context-after context (op.Hello caller) (Ok (Bytes bytes)) = refl
 noted_context-after context (op.Hello caller) (Err e) = refl
 noted_context-after context _ _ = refl
+
+-- a call that broke off prints no line
+pub call_stops : (old new : Talk) (caller : Caller) (command : Command) (stop : Stop)
+    → BreaksCall old caller command stop new → StopsCall old caller command stop new
+call_stops old new caller command Memory broke = inr (inl broke)
+call_stops old new caller command Usage broke = broke
+call_stops old new caller command Connection broke = broke
+call_stops old new caller command Reading broke = broke
+call_stops old new caller command TooLong broke = broke
+call_stops old new caller command Printing broke = broke
+
+pub if_ok : {A E : Type 0} (r : Result A E) (P Q : A → Type 0) → IfOk r P → ((x : A) → P x → Q x) → IfOk r Q
+if_ok (Ok x) P Q holds f = f x holds
+if_ok (Err e) P Q holds f = tt
+
+pub if_err : {A E : Type 0} (r : Result A E) (P Q : E → Type 0) → IfErr r P → ((e : E) → P e → Q e) → IfErr r Q
+if_err (Ok x) P Q holds f = tt
+if_err (Err e) P Q holds f = f e holds

@@ -120,12 +120,17 @@ CallsFor old caller command output new =
     (reply : Result Answer Errno) × (mid : Talk) × AsksOver old (op.Hello caller) reply mid
     × CallsOn mid reply command output new
 
+-- how the one command breaks off, which is asked only where HELLO was accepted
+abbrev pub BreaksOn : Talk → Result Answer Errno → Command → Stop → Talk → Type 0
+BreaksOn old (Ok answer) command stop new = Breaks old command stop new
+BreaksOn old (Err e) command stop new = ⊥
+
 -- a single call that broke off, at HELLO or at its command
 abbrev pub BreaksCall : Talk → Caller → Command → Stop → Talk → Type 0
 BreaksCall old caller command stop new =
     GivesUpAsk old (op.Hello caller) stop new
-    ⊎ ((answer : Answer) × (mid : Talk) × AsksOver old (op.Hello caller) (Ok answer) mid
-    × Breaks mid command stop new)
+    ⊎ ((reply : Result Answer Errno) × (mid : Talk) × AsksOver old (op.Hello caller) reply mid
+    × BreaksOn mid reply command stop new)
 
 -- a connection before the first ask
 abbrev pub talk_on : Option (List ℕ) → Option (List ℕ) → Talk

@@ -1,4 +1,6 @@
-ghost use Rattle.std.specs.Prelude.{◌≡◌};
+ghost use Rattle.std.specs.Prelude.{◌≡◌, false, IfOk, IfErr};
+ghost use Rattle.std.specs.Io.Buffered.{reader_remaining};
+ghost use Rattle.krs_remote.specs.Asked.{is_hello};
 
 use crate::asking::ask_and_reply;
 use krs_commands::Command;
@@ -42,7 +44,7 @@ impl<F: Read + Drop> Remote<F> {
 }
 
 impl<F: Read> Remote<F> {
-    ghost use Rattle.std.specs.Prelude.{◌≡◌, ◌||◌, IfOk, IfErr};
+    ghost use Rattle.std.specs.Prelude.{◌||◌};
     ghost use Rattle.std.specs.Result.{is_err};
     ghost use Rattle.krs_remote.specs.Remote.{Acts, AsksOver, AsksUnseen, Breaks, BreaksList, CallsFor, BreaksCall};
     ghost use Rattle.krs_remote.specs.Remote.{GivesUpAsk, Lists, ListsBy, StopsList, noted_context, talk_of};
@@ -120,7 +122,8 @@ impl<F: Read> Remote<F> {
         ensures err { IfErr result (λ stop. BreaksCall (talk_of F.remaining self.old (T.contents to.old))
             caller command stop (talk_of F.remaining self.new (T.contents to.new))) }
     {
-        match self.ask(alloc, to, Op::Hello(caller))? {
+        let reply = self.ask(alloc, to, Op::Hello(caller))?;
+        match reply {
             Ok(_) => self.act(alloc, to, command),
             Err(error) => Ok(Output::Reply(Err(error))),
         }
@@ -132,19 +135,19 @@ impl<F: Read> Remote<F> {
         ensures err { IfErr result (λ stop. GivesUpAsk (talk_of F.remaining self.old (T.contents to.old))
             op stop (talk_of F.remaining self.new (T.contents to.new))) }
     {
-        let is_hello = is_hello(&op);
+        let names_context = is_hello(&op);
         let reply = self.exchange(alloc, to, op)?;
-        self.note(is_hello, &reply);
+        self.note(names_context, &reply);
         Ok(reply)
     }
 
     /// Keeps what the lines that follow need to know of a reply.
-    fn note(&mut self, is_hello: bool, reply: &Reply)
-        ensures context { self.new.context ≡ noted_context self.old.context is_hello reply.now }
+    fn note(&mut self, names_context: bool, reply: &Reply)
+        ensures context { self.new.context ≡ noted_context self.old.context names_context reply.now }
         ensures refused { self.new.refused ≡ (self.old.refused || is_err reply.now) }
         ensures stays { self.new.from ≡ self.old.from }
     {
-        if let (true, Ok(Answer::Number(context))) = (is_hello, reply) {
+        if let (true, Ok(Answer::Number(context))) = (names_context, reply) {
             self.context = *context;
         }
         self.refused |= reply.is_err();

@@ -3,6 +3,7 @@
 use krs_ctl::{run_program, run_remote};
 use krs_remote::{call_command, run_call};
 use krs_types::{Caller, Groups};
+use krs_words::words;
 use std::alloc::{AllocError, Global};
 use std::env::Args;
 use std::io;
@@ -19,6 +20,8 @@ const PAYLOAD: &[u8] = b"\x06\0\0\0\0\0\0\0s3";
 const DESCRIBED: &[u8] = b"\x21\0\0\0\0\0\0\0user;1000;1000;3f010000;alpha";
 
 const REFUSED: &[u8] = b"\x04\0\0\0\x16\0\0\0";
+
+const NO_KEY: &[u8] = b"\x04\0\0\0\x7e\0\0\0";
 
 const ASKS_CONTEXT: &[u8] = b"\x14\0\0\0\x01\0\0\x01\0\0\0\0\xe8\x03\0\0\xe8\x03\0\0\0\0\0\0";
 
@@ -152,14 +155,14 @@ fn ends_that_fail(rt: HostRuntime) -> Result<(), Fail> {
     Ok(())
 }
 
-/// The words of a single call for 1000 1000, the replies, what is printed, and the status.
+/// A single call for 1000 1000, the replies, what is printed, and the status.
 #[rattlefmt::skip]
-const CALLS: [(&[&[u8]], &[&[u8]], &str, u8); 5] = [
-    (&[b"add", b"user", b"alpha", b"s3", b"@u"], &[CONTEXT, ADDED], "5\n", 0),
-    (&[b"print", b"5"], &[CONTEXT, PAYLOAD], "s3\n", 0),
-    (&[b"print", b"5"], &[CONTEXT, b"\x04\0\0\0\x7e\0\0\0"], "error 126 ENOKEY\n", 1),
-    (&[b"print", b"5"], &[REFUSED], "error 22 EINVAL\n", 1),
-    (&[b"print", b"5"], &[CONTEXT], "error: connection\n", 3),
+const CALLS: [(&str, &[&[u8]], &str, u8); 5] = [
+    ("add user alpha s3 @u", &[CONTEXT, ADDED], "5\n", 0),
+    ("print 5", &[CONTEXT, PAYLOAD], "s3\n", 0),
+    ("print 5", &[CONTEXT, NO_KEY], "error 126 ENOKEY\n", 1),
+    ("print 5", &[REFUSED], "error 22 EINVAL\n", 1),
+    ("print 5", &[CONTEXT], "error: connection\n", 3),
 ];
 
 fn caller(alloc: Global) -> Caller {
@@ -173,8 +176,9 @@ fn caller(alloc: Global) -> Caller {
 #[test]
 fn calls(rt: HostRuntime) -> Result<(), Fail> {
     let alloc = rt.alloc();
-    for (words, replies, wanted, status) in CALLS {
-        let command = call_command(alloc, words)?;
+    for (line, replies, wanted, status) in CALLS {
+        let words = words(alloc, line.as_bytes())?;
+        let command = call_command(alloc, words.as_slice())?;
         let replies = joined(alloc, replies)?;
         let (mut output, mut asked) = (Vec::new(alloc), Vec::new(alloc));
         let from = replies.as_slice();

@@ -27,7 +27,7 @@ returns-in_err-output g c =
     let is : command_of (words_of c.args.line.now) ≡ Some c.in_ok-command.command =
     rw (c.as_slice.ensures.value, c.in_ok-words.ensures) at c.in_ok-command.ensures in
     rw (p.1, p.2) (ObeysLine-broken Acts Breaks _ _ c.args.line.now c.in_ok-command.command _ _ _ kept is
-    c.in_err-output.ensures (breaks_by _ _ _ _ c.in_err-output.ensures))
+    c.in_err-output.ensures.err (breaks_by _ _ _ _ c.in_err-output.ensures.err))
 
 pub returns : goal.returns
 returns g c =
@@ -38,5 +38,5 @@ returns g c =
     rw (c.as_slice.ensures.value, c.in_ok-words.ensures) at c.in_ok-command.ensures in
     ObeysLine-command Acts Breaks _ _ c.args.line.now c.in_ok-command.command
     c.in_ok-output.output _ _ _ _
-    c.print_output.result kept is c.in_ok-output.ensures c.print_output.ensures.ok c.print_output.ensures.memory
+    c.print_output.result kept is c.in_ok-output.ensures.ok c.print_output.ensures.ok c.print_output.ensures.memory
     c.print_output.ensures.printing c.print_output.ensures.causes
