@@ -7,6 +7,7 @@ use std::process::ExitCode;
 fn main(rt: HostRuntime) -> ExitCode {
     let words = env::args(&rt);
     ExitCode::from(krs_ctl::run_program(
+        &rt,
         rt.alloc(),
         words,
         rt.reader(),

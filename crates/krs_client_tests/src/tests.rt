@@ -1,4 +1,5 @@
 mod desk;
+mod remote;
 mod script;
 mod seats;
 mod session;

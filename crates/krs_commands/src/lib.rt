@@ -11,3 +11,4 @@ mod name;
 mod queues;
 
 pub use command::{Command, parse};
+pub use name::CommandName;

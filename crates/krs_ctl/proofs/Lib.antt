@@ -1,3 +1,1 @@
-pub mod RunningLemmas
 pub mod ListingLemmas
-pub mod Going

@@ -1,23 +1,52 @@
 -- What the program does: docs/FORMAT.md, "The client, keyretain".
-use Rattle.std.specs.Prelude.{ℕ, ◌≡◌, List, Option, codes, string_bytes}
+use Rattle.std.specs.Prelude.{ℕ, ◌≡◌, ◌⊎◌, List, Option, codes, string_bytes}
 use Rattle.krs_model.specs.State.{starting_at}
 use Rattle.krs_words.specs.Writing.{WritesFront}
+use Rattle.krs_script.specs.Ending.{Says}
+use Rattle.krs_script.specs.Telling.{MayTell}
+use Rattle.krs_remote.specs.Remote.{EndsRemote}
+use Rattle.krs_remote.specs.Call.{EndsCall}
+use Rattle.krs_ctl.specs.declared.choice.Call.{Call as CallIs}
 use Rattle.krs_ctl.specs.declared.choice.Choice.{Choice}
-use Rattle.krs_ctl.specs.declared.choice.Choice.TheVariants.{Script, Usage, Memory, Shown, Refused}
+use Rattle.krs_ctl.specs.declared.choice.Choice.TheVariants.{Script, Remote, Call, Usage, Memory, Shown, Refused}
 use Rattle.krs_ctl.specs.declared.script.ScriptEnd.{ScriptEnd}
 use Rattle.krs_ctl.specs.Running.{EndsScript}
-use Rattle.krs_ctl.specs.Script.{Says}
 
--- What is printed, and the status. A script runs on a new store, with its status. What is refused is told on standard
--- error, as far as that takes it, and nothing is printed. Every other choice says one text on standard output, and
--- nothing on standard error.
+-- there is no connection, or no memory to make one
+abbrev pub SaysUnconnected : Option (List ℕ) → Option (List ℕ) → ℕ → Type 0
+SaysUnconnected old new status =
+    Says old new (codes "error: connection\n") 3 status ⊎ Says old new (codes "error 12 ENOMEM\n") 1 status
+
+-- a script over some connection, where one was made
+abbrev pub RunsAt : Option (List ℕ) → Option (List ℕ) → Option (List ℕ) → ℕ → Type 0
+RunsAt input old new status =
+    SaysUnconnected old new status
+    ⊎ ((sent0 : Option (List ℕ)) × (sent1 : Option (List ℕ)) × (left : Option (List ℕ))
+    × EndsRemote input old new sent0 sent1 left status)
+
+-- a single call over some connection, where one was made
+abbrev pub CallsAt : CallIs → Option (List ℕ) → Option (List ℕ) → ℕ → Type 0
+CallsAt call old new status =
+    SaysUnconnected old new status
+    ⊎ ((sent0 : Option (List ℕ)) × (sent1 : Option (List ℕ)) × (left : Option (List ℕ))
+    × EndsCall call.caller call.command old new sent0 sent1 left status)
+
+-- What is printed, and the status. A script runs on a new store, or over a connection; one that came to its end with
+-- nothing refused tells nothing on standard error. What is refused of the words is told there, as far as that takes it,
+-- and nothing is printed; of words that are none, where help is to be had. Every other choice says one text on standard
+-- output, and nothing on standard error.
 abbrev pub Answers : Choice → Option (List ℕ) → Option (List ℕ) → Option (List ℕ) → Option (List ℕ) → Option (List ℕ)
     → ℕ → Type 0
 Answers Script input old new old_errors new_errors status =
     ((end : ScriptEnd) × EndsScript input old new (starting_at 3) end × (status ≡ end.status))
-    × (new_errors ≡ old_errors)
+    × MayTell old_errors new_errors × (status ≡ 0 → new_errors ≡ old_errors)
+Answers (Remote path) input old new old_errors new_errors status =
+    RunsAt input old new status × MayTell old_errors new_errors
+Answers (Call call) input old new old_errors new_errors status =
+    CallsAt call old new status × (new_errors ≡ old_errors)
 Answers Usage input old new old_errors new_errors status =
-    Says old new (codes "usage\n") 2 status × (new_errors ≡ old_errors)
+    Says old new (codes "usage\n") 2 status
+    × WritesFront old_errors new_errors (codes "keyretain: see keyretain --help\n")
 Answers Memory input old new old_errors new_errors status =
     Says old new (codes "error 12 ENOMEM\n") 1 status × (new_errors ≡ old_errors)
 Answers (Shown text) input old new old_errors new_errors status =

@@ -4,18 +4,32 @@ ghost use Rattle.clap.specs.Words.{kind_of};
 ghost use Rattle.krs_ctl.specs.Choice.{IsUnread, Tells};
 
 use clap::error::ErrorKind;
-use clap::{Arg, ArgAction, Command, Error};
+use clap::{Arg, ArgAction, ArgMatches, Command, Error, value_parser};
+use krs_remote::call_command;
+use krs_types::{Caller, Groups};
+use krs_words::NoCommand;
 use std::alloc::{AllocError, Global};
 use std::env::Args;
 use std::io;
 
 const WORDS: &str = "COMMAND";
 
+const SOCKET: &str = "socket";
+
+const UID: &str = "uid";
+
+const GID: &str = "gid";
+
 const ABOUT: &str =
     "A client of a key store that works as Linux's key retention service does: keyrings(7), keyctl(2).";
 
+const USES: &str = "keyretain script
+       keyretain --socket PATH script
+       keyretain --socket PATH [--uid N] [--gid N] COMMAND ..";
+
 const WORDS_HELP: &str =
-    "script: runs the lines of standard input, one command each, on a store of their own";
+    "script: runs the lines of standard input, one command each, on a store of their own or over the socket; or, over \
+the socket, a single command";
 
 const COMMANDS: &str = "\
 Commands of a script, with what an accepted one prints:
@@ -55,16 +69,27 @@ Commands of a script, with what an accepted one prints:
 KEY and RING are a serial, or @t, @p, @s, @u, @us for the thread, process, session, user and user-session
 keyring. DATA is the word's bytes or, after `hex:`, the bytes that pairs of hexadecimal digits spell. Bytes
 that do not all print are shown as `:hex:` and digits. ENTRY is `type:info_filter:info_mask:subtypes`, four
-hexadecimal numbers. Empty lines and lines that begin with `#` are skipped.
+hexadecimal numbers. Empty lines and lines that begin with `#` are skipped. Over a socket there is no `moment`, as
+the server has its own clock; a single command is none of `hello`, `context` and `moment`, and has a new context of
+--uid and --gid, which ends with it.
 A refused command prints its error, as `error 126 ENOKEY`; one that is none prints `usage` and ends the script.
 
-Exit status: 0; 1 if something was refused or memory was wanting; 2 for usage; 3 if reading or printing failed.";
+Example, a key that is made and read back:
+  printf 'hello 1000 1000\nadd user alpha s3 @u\nprint 5\n' | keyretain script
+prints 1, 5 and s3, a line each.
+
+Exit status: 0; 1 if something was refused or memory was wanting; 2 for usage; 3 if the connection, reading or
+printing failed.";
 
 /// What the program does, by its words.
 #[derive(Drop)]
 pub enum Choice {
-    /// The lines of standard input are run.
+    /// The lines of standard input are run on a store of their own.
     Script,
+    /// The lines of standard input are run over a connection to this path.
+    Remote(String),
+    /// One command is carried out over a connection.
+    Call(Call),
     /// The words are none that the program takes.
     Usage,
     /// Memory was wanting for the words.
@@ -73,6 +98,15 @@ pub enum Choice {
     Shown(String),
     /// What is refused of the words, as the reader of options tells it.
     Refused(String),
+}
+
+/// A single command over a connection to a path.
+#[derive(Drop)]
+pub struct Call {
+    pub path: String,
+    /// For whom a context is made first.
+    pub caller: Caller,
+    pub command: krs_commands::Command,
 }
 
 /// What the words lead to, the first of which is the program's name. Words that are no text are usage.
@@ -95,9 +129,8 @@ fn choice_of_all(alloc: Global, words: Args) -> Choice {
 }
 
 fn choice_of(alloc: Global, words: &[String]) -> Choice {
-    match asks_for_script(alloc, words) {
-        Ok(true) => Choice::Script,
-        Ok(false) => Choice::Usage,
+    match read_words(alloc, words) {
+        Ok(choice) => choice,
         Err(error) => told(alloc, &error),
     }
 }
@@ -116,17 +149,58 @@ fn told(alloc: Global, error: &Error) -> Choice
     }
 }
 
-/// Whether the words, behind the program's name, are `script` alone. An error is `clap`'s refusal of them, or the
-/// text of `--help` or `--version`.
-fn asks_for_script(alloc: Global, words: &[String]) -> Result<bool, Error> {
+/// The choice that the words, behind the program's name, call for. An error is `clap`'s refusal of them, or the text of
+/// `--help` or `--version`.
+fn read_words(alloc: Global, words: &[String]) -> Result<Choice, Error> {
     let matches = command_line(alloc)?.try_get_matches_from(words)?;
-    Ok(match matches.get_strs(WORDS) {
-        Some([word]) => *word == "script",
-        _ => false,
-    })
+    Ok(choice_among(alloc, &matches)?)
+}
+
+fn choice_among(alloc: Global, matches: &ArgMatches<'_>) -> Result<Choice, AllocError> {
+    let words = matches.get_strs(WORDS).unwrap_or_default();
+    let (uid, gid) = (matches.get_one::<u32>(UID), matches.get_one::<u32>(GID));
+    let is_script = words == ["script"].as_slice();
+    let names_caller = uid.is_some() || gid.is_some();
+    match matches.get_str(SOCKET) {
+        None if is_script && !names_caller => Ok(Choice::Script),
+        Some(path) if is_script && !names_caller => {
+            Ok(Choice::Remote(String::from_str(alloc, path)?))
+        }
+        Some(path) if !is_script => {
+            let caller = Caller {
+                uid: uid.unwrap_or(0),
+                gid: gid.unwrap_or(0),
+                groups: Groups::new(Vec::new(alloc)),
+            };
+            choice_of_call(alloc, path, caller, words)
+        }
+        _ => Ok(Choice::Usage),
+    }
+}
+
+fn choice_of_call(
+    alloc: Global,
+    path: &str,
+    caller: Caller,
+    words: &[&str],
+) -> Result<Choice, AllocError> {
+    let words: Vec<&[u8]> = words.iter().map(|word| word.as_bytes()).collect(alloc)?;
+    match call_command(alloc, words.as_slice()) {
+        Ok(command) => Ok(Choice::Call(Call {
+            path: String::from_str(alloc, path)?,
+            caller,
+            command,
+        })),
+        Err(NoCommand::Usage) => Ok(Choice::Usage),
+        Err(NoCommand::Memory) => Ok(Choice::Memory),
+    }
 }
 
 fn command_line<'a>(alloc: Global) -> Result<Command<'a>, AllocError> {
+    let socket = Arg::new(alloc, SOCKET)
+        .long("socket")
+        .value_name("PATH")
+        .help("The path where a server listens");
     let words = Arg::new(alloc, WORDS)
         .action(ArgAction::Append)
         .num_args(0..)
@@ -134,7 +208,26 @@ fn command_line<'a>(alloc: Global) -> Result<Command<'a>, AllocError> {
     Command::new(alloc, "keyretain")
         .version("0.1.0")
         .about(ABOUT)
-        .override_usage("keyretain script")
+        .override_usage(USES)
         .after_help(COMMANDS)
+        .arg(socket)?
+        .arg(number(
+            alloc,
+            UID,
+            "The uid of a single command, 0 where it is left out",
+        ))?
+        .arg(number(
+            alloc,
+            GID,
+            "The gid of a single command, 0 where it is left out",
+        ))?
         .arg(words)
+}
+
+fn number<'a>(alloc: Global, name: &'a str, help: &'a str) -> Arg<'a> {
+    Arg::new(alloc, name)
+        .long(name)
+        .value_name("N")
+        .value_parser(value_parser!(u32))
+        .help(help)
 }

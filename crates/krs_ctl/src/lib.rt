@@ -1,14 +1,15 @@
-//! The client of a key store: a script of commands over a store of its own, and the program that runs one.
+//! The client of a key store: a script of commands over a store of its own or over a connection, a single command over
+//! a connection, and the program that runs one of them.
 //! A contract sees a line as a list of bytes, and a reader and a writer by the bytes that they tell.
 #![tactic(auto)]
 
 mod choice;
-mod ending;
+mod connecting;
 mod laws;
-mod listing;
 mod program;
 mod script;
 
+pub use krs_remote::run_remote;
 pub use laws::listed_keys;
 pub use program::run_program;
 pub use script::{ScriptEnd, run_script};

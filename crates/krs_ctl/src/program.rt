@@ -5,17 +5,24 @@ ghost use Rattle.krs_ctl.specs.Choice.{IsUnread};
 ghost use Rattle.krs_ctl.specs.Program.{Answers};
 
 use crate::choice::{Choice, choose};
-use crate::ending::{OUT_OF_MEMORY, USAGE, say};
-use crate::script::run_script;
+use crate::connecting::{call_at, script_at};
+use crate::script::run_script_at;
+use krs_script::{OUT_OF_MEMORY, Place, USAGE, say, tell};
 use krs_store::Store;
 use krs_words::write_text;
 use std::alloc::Global;
 use std::env::Args;
 use std::io;
 use std::io::{Read, Write};
+use std::net::Net;
 
-/// The program: from its words, the first of which is its name, and its three ends to its exit status.
-pub fn run_program<R: Read + Drop, W: Write, E: Write>(
+/// What is told where the words are none that the program takes.
+const HINT: &str = "keyretain: see keyretain --help\n";
+
+/// The program: from its words, the first of which is its name, and its three ends to its exit status. A connection is
+/// made by `net`.
+pub fn run_program<N: Net, R: Read + Drop, W: Write, E: Write>(
+    net: &N,
     alloc: Global,
     words: io::Result<Args>,
     input: R,
@@ -28,11 +35,12 @@ pub fn run_program<R: Read + Drop, W: Write, E: Write>(
         (E.contents errors.old) (E.contents errors.new) result }
 {
     let choice = choose(alloc, words);
-    answer(alloc, choice, input, output, errors)
+    answer(net, alloc, choice, input, output, errors)
 }
 
 /// What each choice prints, and the status.
-fn answer<R: Read + Drop, W: Write, E: Write>(
+fn answer<N: Net, R: Read + Drop, W: Write, E: Write>(
+    net: &N,
     alloc: Global,
     choice: Choice,
     input: R,
@@ -43,8 +51,19 @@ fn answer<R: Read + Drop, W: Write, E: Write>(
         (E.contents errors.old) (E.contents errors.new) result }
 {
     match choice {
-        Choice::Script => run_script(alloc, input, output, Store::new(alloc)).status,
-        Choice::Usage => say(output, USAGE, 2),
+        Choice::Script => {
+            let mut place = Place::start(alloc);
+            let store = Store::new(alloc);
+            let (end, stopped) = run_script_at(alloc, input, output, store, &mut place);
+            tell(alloc, errors, &place, stopped);
+            end.status
+        }
+        Choice::Remote(path) => script_at(net, alloc, path.as_str(), input, output, errors),
+        Choice::Call(call) => call_at(net, alloc, call, output),
+        Choice::Usage => {
+            let _ = write_text(errors, HINT.as_bytes());
+            say(output, USAGE, 2)
+        }
         Choice::Memory => say(output, OUT_OF_MEMORY, 1),
         Choice::Shown(text) => say(output, text.as_str(), 0),
         Choice::Refused(text) => {

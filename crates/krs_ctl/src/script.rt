@@ -1,23 +1,13 @@
-ghost use Rattle.std.specs.Prelude.{◌≡◌, [], OnOk, OnErr, IfErr};
-ghost use Rattle.krs_words.specs.Writing.{Prints, WritesFront};
+ghost use Rattle.std.specs.Prelude.{◌≡◌, Ok};
 ghost use Rattle.krs_ctl.specs.Running.{EndsScript};
 
-use crate::ending::finish;
-use crate::listing::{listing, records};
 use krs_commands::{Command, parse};
+use krs_script::{MOST_LINES, Place, READ_AHEAD, finish, listing, records, write_before_waiting};
 use krs_store::Store;
 use krs_types::{Answer, Ask, Op, Reply};
-use krs_words::{
-    Output, Stop, has_line_at_hand, is_comment, print_output, read_line, words, write_out,
-};
+use krs_words::{Output, Stop, is_comment, print_output, words};
 use std::alloc::Global;
 use std::io::{BufReader, Read, Write};
-
-/// How many lines are read at most: profile, limits.
-const MOST_LINES: u32 = 16_777_216;
-
-/// How many bytes are read at once.
-const READ_AHEAD: usize = 65_536;
 
 /// The client number of a script: it has its store for itself.
 const CLIENT: u32 = 0;
@@ -41,6 +31,23 @@ pub fn run_script<R: Read + Drop, W: Write>(
     ensures { EndsScript (R.remaining reader) (W.contents writer.old) (W.contents writer.new)
         store result }
 {
+    let mut place = Place::start(alloc);
+    let (end, _) = run_script_at(alloc, reader, writer, store, &mut place);
+    end
+}
+
+/// The same, with where in its lines the script stands at the end, and why it stopped.
+pub(crate) fn run_script_at<R: Read + Drop, W: Write>(
+    alloc: Global,
+    reader: R,
+    writer: &mut W,
+    store: Store,
+    place: &mut Place,
+) -> (ScriptEnd, Result<(), Stop>)
+    ensures ends { EndsScript (R.remaining reader) (W.contents writer.old) (W.contents writer.new)
+        store result.0 }
+    ensures whole { result.0.status ≡ 0 → result.1 ≡ Ok tt }
+{
     let mut script = Script {
         store,
         context: 0,
@@ -48,30 +55,13 @@ pub fn run_script<R: Read + Drop, W: Write>(
         refused: false,
     };
     let mut pending = Vec::new(alloc);
-    let stopped = script.run(alloc, reader, writer, &mut pending);
+    let stopped = script.run(alloc, reader, writer, &mut pending, place);
     let status = finish(writer, &mut pending, stopped, script.refused);
-    ScriptEnd {
+    let end = ScriptEnd {
         status,
         store: script.store,
-    }
-}
-
-/// Writes what waits, unless the next line can be read without asking the reader for more.
-fn write_before_waiting<R: Read, W: Write>(
-    reader: &BufReader<R>,
-    writer: &mut W,
-    pending: &mut Vec<u8>,
-) -> Result<(), Stop>
-    ensures ok { OnOk result (Prints (W.contents writer.old) pending.old.items
-        (W.contents writer.new) pending.new.items []) }
-    ensures failed { OnErr result (WritesFront (W.contents writer.old) (W.contents writer.new)
-        pending.old.items) }
-    ensures causes { IfErr result (λ stop. stop ≡ Stop.Printing) }
-{
-    if has_line_at_hand(reader) {
-        return Ok(());
-    }
-    write_out(writer, pending)
+    };
+    (end, stopped)
 }
 
 /// A script between two lines.
@@ -86,7 +76,8 @@ struct Script {
 impl Script {
     ghost use Rattle.std.specs.Prelude.{◌≡◌};
     ghost use Rattle.std.specs.Io.Buffered.{reader_remaining};
-    ghost use Rattle.krs_ctl.specs.Running.{Acts, Asks, ListsBy, ObeysLine, Runs, StoreServes};
+    ghost use Rattle.krs_script.specs.Running.{ObeysLine, Runs};
+    ghost use Rattle.krs_ctl.specs.Running.{Acts, Asks, ListsBy, NeverBreaks, StoreServes};
 
     fn run<R: Read + Drop, W: Write>(
         &mut self,
@@ -94,12 +85,13 @@ impl Script {
         reader: R,
         writer: &mut W,
         pending: &mut Vec<u8>,
+        place: &mut Place,
     ) -> Result<(), Stop>
-        ensures { Runs (R.remaining reader) self.old self.new (W.contents writer.old)
+        ensures { Runs Acts NeverBreaks (R.remaining reader) self.old self.new (W.contents writer.old)
             pending.old.items (W.contents writer.new) pending.new.items result }
     {
         match BufReader::with_capacity(alloc, READ_AHEAD, reader) {
-            Ok(mut reader) => self.run_lines(alloc, &mut reader, writer, pending),
+            Ok(mut reader) => self.run_lines(alloc, &mut reader, writer, pending, place),
             Err(_) => Err(Stop::Memory),
         }
     }
@@ -110,18 +102,18 @@ impl Script {
         reader: &mut BufReader<R>,
         writer: &mut W,
         pending: &mut Vec<u8>,
+        place: &mut Place,
     ) -> Result<(), Stop>
-        ensures { Runs (reader_remaining R.remaining reader.old) self.old self.new
+        ensures { Runs Acts NeverBreaks (reader_remaining R.remaining reader.old) self.old self.new
             (W.contents writer.old) pending.old.items (W.contents writer.new) pending.new.items
             result }
     {
-        let mut line = Vec::new(alloc);
         for _ in 0..MOST_LINES {
             write_before_waiting(reader, writer, pending)?;
-            if !read_line(reader, &mut line)? {
+            if !place.read_next(reader)? {
                 return Ok(());
             }
-            self.obey(alloc, line.as_slice(), writer, pending)?;
+            self.obey(alloc, place.line.as_slice(), writer, pending)?;
         }
         Err(Stop::TooLong)
     }
@@ -133,7 +125,7 @@ impl Script {
         writer: &mut W,
         pending: &mut Vec<u8>,
     ) -> Result<(), Stop>
-        ensures { ObeysLine self.old line.now self.new (W.contents writer.old)
+        ensures { ObeysLine Acts NeverBreaks self.old line.now self.new (W.contents writer.old)
             pending.old.items (W.contents writer.new) pending.new.items result }
     {
         if is_comment(line) {

@@ -18,6 +18,8 @@ pub enum Stop {
     TooLong,
     /// What was printed could not be written.
     Printing,
+    /// Over a socket: the connection failed, or ended before a reply, or gave what is no reply.
+    Connection,
 }
 
 impl From<NoCommand> for Stop {

@@ -283,11 +283,11 @@ const PROGRAMS: [(&[&str], &str, u8, &str, bool); 11] = [
     (&["script"], ALPHA, 0, "1\n5\ns3\n", false),
     (&["--", "script"], ALPHA, 0, "1\n5\ns3\n", false),
     (&["script"], "context 1\nprint 5\n", 1, "ok\nerror 3 ESRCH\n", false),
-    (&["script"], "context 1\nnonsense\n", 2, "ok\nusage\n", false),
-    (&[], ALPHA, 2, "usage\n", false),
-    (&["scrip"], ALPHA, 2, "usage\n", false),
-    (&["script", "x"], ALPHA, 2, "usage\n", false),
-    (&["print", "5"], ALPHA, 2, "usage\n", false),
+    (&["script"], "context 1\nnonsense\n", 2, "ok\nusage\n", true),
+    (&[], ALPHA, 2, "usage\n", true),
+    (&["scrip"], ALPHA, 2, "usage\n", true),
+    (&["script", "x"], ALPHA, 2, "usage\n", true),
+    (&["print", "5"], ALPHA, 2, "usage\n", true),
     (&["--version"], ALPHA, 0, "keyretain 0.1.0\n", false),
     (&["--help"], ALPHA, 0, "A client of a key store", false),
     (&["--nonsense"], ALPHA, 2, "", true),
@@ -312,7 +312,14 @@ fn programs(rt: HostRuntime) -> Result<(), Fail> {
         let args = program_words(alloc, words)?;
         let mut output = Vec::new(alloc);
         let mut errors = Vec::new(alloc);
-        let ended = run_program(alloc, Ok(args), input.as_bytes(), &mut output, &mut errors);
+        let ended = run_program(
+            &rt,
+            alloc,
+            Ok(args),
+            input.as_bytes(),
+            &mut output,
+            &mut errors,
+        );
         assert_eq!(rt; ended, status, "at {words:?}");
         assert!(rt; output.starts_with(begins.as_bytes()), "at {words:?}");
         assert_eq!(rt; output.is_empty(), begins.is_empty(), "at {words:?}");
@@ -338,7 +345,7 @@ fn programs_that_cannot_print(rt: HostRuntime) -> Result<(), Fail> {
         let mut output = FailsOnce::after(0, &out);
         let mut errors = FailsOnce::after(0, &told);
         let input = ALPHA.as_bytes();
-        let ended = run_program(alloc, Ok(args), input, &mut output, &mut errors);
+        let ended = run_program(&rt, alloc, Ok(args), input, &mut output, &mut errors);
         assert_eq!(rt; ended, status, "at {words:?}");
         assert_eq!(rt; output.taken, 0, "at {words:?}");
         assert_eq!(rt; errors.taken, 0, "at {words:?}");
@@ -357,7 +364,7 @@ fn words_that_fail(rt: HostRuntime) -> Result<(), Fail> {
         let mut output = Vec::new(rt.alloc());
         let mut errors = Vec::new(rt.alloc());
         let input = ALPHA.as_bytes();
-        let ended = run_program(rt.alloc(), words, input, &mut output, &mut errors);
+        let ended = run_program(&rt, rt.alloc(), words, input, &mut output, &mut errors);
         assert_eq!(rt; output.as_slice(), wanted.as_bytes());
         assert_eq!(rt; ended, status);
     }

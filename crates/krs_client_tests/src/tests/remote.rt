@@ -1,0 +1,258 @@
+//! Scripts and single calls over a connection whose ends are in memory: docs/FORMAT.md, "Scripts over a socket",
+//! "Single calls". The replies are the bytes of the vectors, and what is asked is compared with them.
+use krs_ctl::{run_program, run_remote};
+use krs_remote::{call_command, run_call};
+use krs_types::{Caller, Groups};
+use krs_words::words;
+use std::alloc::{AllocError, Global};
+use std::env::Args;
+use std::io;
+use std::io::{ErrorKind, Write};
+use std::test::Fail;
+
+/// Context 1 for 1000 1000, the key 5, its payload, and its description.
+const CONTEXT: &[u8] = b"\x08\0\0\0\0\0\0\0\x01\0\0\0";
+
+const ADDED: &[u8] = b"\x08\0\0\0\0\0\0\0\x05\0\0\0";
+
+const PAYLOAD: &[u8] = b"\x06\0\0\0\0\0\0\0s3";
+
+const DESCRIBED: &[u8] = b"\x21\0\0\0\0\0\0\0user;1000;1000;3f010000;alpha";
+
+const REFUSED: &[u8] = b"\x04\0\0\0\x16\0\0\0";
+
+const NO_KEY: &[u8] = b"\x04\0\0\0\x7e\0\0\0";
+
+const ASKS_CONTEXT: &[u8] = b"\x14\0\0\0\x01\0\0\x01\0\0\0\0\xe8\x03\0\0\xe8\x03\0\0\0\0\0\0";
+
+const ASKS_ADD: &[u8] =
+    b"\x1f\0\0\0\x01\0\x06\x01\x01\0\0\0\x04\0user\x05\0alpha\x02\0\0\0s3\xfc\xff\xff\xff";
+
+const ASKS_READ: &[u8] = b"\x0c\0\0\0\x01\0\x0b\0\x01\0\0\0\x05\0\0\0";
+
+const ASKS_DESCRIBE: &[u8] = b"\x0c\0\0\0\x01\0\x06\0\x01\0\0\0\x05\0\0\0";
+
+const ALPHA: &str = "hello 1000 1000\nadd user alpha s3 @u\nprint 5\nrdescribe 5\n";
+
+fn joined(alloc: Global, parts: &[&[u8]]) -> Result<Vec<u8>, AllocError> {
+    let mut all = Vec::new(alloc);
+    for part in parts {
+        all.extend_from_slice(part)?;
+    }
+    Ok(all)
+}
+
+#[test]
+fn a_script(rt: HostRuntime) -> Result<(), Fail> {
+    let alloc = rt.alloc();
+    let replies = joined(alloc, &[CONTEXT, ADDED, PAYLOAD, DESCRIBED])?;
+    let (mut output, mut asked) = (Vec::new(alloc), Vec::new(alloc));
+    let input = ALPHA.as_bytes();
+    let status = run_remote(alloc, input, &mut output, replies.as_slice(), &mut asked);
+    let wanted = b"1\n5\ns3\nuser;1000;1000;3f010000;alpha\n".as_slice();
+    assert_eq!(rt; output.as_slice(), wanted);
+    assert_eq!(rt; status, 0);
+    let asks = joined(alloc, &[ASKS_CONTEXT, ASKS_ADD, ASKS_READ, ASKS_DESCRIBE])?;
+    assert_eq!(rt; asked.as_slice(), asks.as_slice());
+    Ok(())
+}
+
+/// A script, the bytes of the replies, what is printed, the status, and how many bytes are asked.
+#[rattlefmt::skip]
+const SCRIPTS: [(&str, &[u8], &str, u8, usize); 16] = [
+    // A reply cut short, and none at all.
+    ("leave\n", b"\x04\0\0\0\0\0\0", "error: connection\n", 3, 12),
+    ("leave\n", b"\x04\0\0", "error: connection\n", 3, 12),
+    ("leave\n", b"", "error: connection\n", 3, 12),
+    // A length of 3, one that is too long, a status that no reply has, and bodies that are none.
+    ("leave\n", b"\x03\0\0\0\0\0\0", "error: connection\n", 3, 12),
+    ("leave\n", b"\x01\0\x04\0\0\0\0\0", "error: connection\n", 3, 12),
+    ("leave\n", b"\x04\0\0\0\x07\0\0\0", "error: connection\n", 3, 12),
+    ("leave\n", b"\x05\0\0\0\0\0\0\0\0", "error: connection\n", 3, 12),
+    ("thread\n", b"\x04\0\0\0\0\0\0\0", "error: connection\n", 3, 12),
+    // What was printed stays, and nothing is asked behind it.
+    ("leave\nleave\nleave\n", b"\x04\0\0\0\0\0\0\0\x03\0\0\0", "ok\nerror: connection\n", 3, 24),
+    // The server has its own clock.
+    ("moment 1\n", b"", "usage\n", 2, 0),
+    ("context 7\nnonsense\nleave\n", b"", "ok\nusage\n", 2, 0),
+    // An accepted `hello` names the context, a refused one doesn't.
+    ("context 9\nhello 4294967295 0\nprint 5\n", b"\x04\0\0\0\x16\0\0\0\x04\0\0\0\x03\0\0\0",
+        "ok\nerror 22 EINVAL\nerror 3 ESRCH\n", 1, 40),
+    // A keyring's links, bytes that are none, and those of a key that may not be described.
+    ("rlist 5\n", b"\x08\0\0\0\0\0\0\0\x06\0\0\0\x0c\0\0\0\0\0\0\0keyring;", "6\n", 0, 32),
+    ("rlist 5\n", b"\x08\0\0\0\0\0\0\0abcd\x09\0\0\0\0\0\0\0user;", "abcd\n", 0, 32),
+    ("rlist 5\n", b"\x08\0\0\0\0\0\0\0abcd\x04\0\0\0\x0d\0\0\0", "abcd\n", 0, 32),
+    ("rlist 5\n", b"\x08\0\0\0\0\0\0\0abcd", "error: connection\n", 3, 32),
+];
+
+#[test]
+fn scripts(rt: HostRuntime) -> Result<(), Fail> {
+    let alloc = rt.alloc();
+    for (input, replies, wanted, status, asks) in SCRIPTS {
+        let (mut output, mut asked) = (Vec::new(alloc), Vec::new(alloc));
+        let ended = run_remote(alloc, input.as_bytes(), &mut output, replies, &mut asked);
+        assert_eq!(rt; output.as_slice(), wanted.as_bytes(), "at {input:?}");
+        assert_eq!(rt; ended, status, "at {input:?}");
+        assert_eq!(rt; asked.len(), asks, "at {input:?}");
+    }
+    Ok(())
+}
+
+/// An ask that fits no frame is usage, and nothing of it is asked.
+#[test]
+fn too_long(rt: HostRuntime) -> Result<(), Fail> {
+    let alloc = rt.alloc();
+    let mut input = b"leave\nupdate 5 ".to_vec(alloc)?;
+    for _ in 0..65_530 {
+        input.push(b'a')?;
+    }
+    let (mut output, mut asked) = (Vec::new(alloc), Vec::new(alloc));
+    let replies = b"\x04\0\0\0\0\0\0\0".as_slice();
+    let status = run_remote(alloc, input.as_slice(), &mut output, replies, &mut asked);
+    assert_eq!(rt; output.as_slice(), b"ok\nusage\n".as_slice());
+    assert_eq!(rt; status, 2);
+    assert_eq!(rt; asked.len(), 12);
+    Ok(())
+}
+
+/// Takes so many bytes, and then fails.
+#[derive(Drop)]
+struct Takes {
+    left: usize,
+}
+
+impl Write for Takes {
+    fn write(&mut self, buf: &[u8]) -> io::Result<usize> {
+        if self.left == 0 {
+            return Err(io::Error::from(ErrorKind::BrokenPipe));
+        }
+        let taken = buf.len().min(self.left);
+        self.left -= taken;
+        Ok(taken)
+    }
+
+    fn flush(&mut self) -> io::Result<()> {
+        Ok(())
+    }
+}
+
+/// Printing that fails ends a script without a word, and a connection that takes nothing with one.
+#[test]
+fn ends_that_fail(rt: HostRuntime) -> Result<(), Fail> {
+    let alloc = rt.alloc();
+    let replies = joined(alloc, &[CONTEXT, ADDED, PAYLOAD, DESCRIBED])?;
+    let mut asked = Vec::new(alloc);
+    let mut full = Takes { left: 3 };
+    let input = ALPHA.as_bytes();
+    let status = run_remote(alloc, input, &mut full, replies.as_slice(), &mut asked);
+    assert_eq!(rt; status, 3);
+    for left in [0, 1, 23, 24, 58] {
+        let (mut output, mut to) = (Vec::new(alloc), Takes { left });
+        let status = run_remote(alloc, input, &mut output, replies.as_slice(), &mut to);
+        assert!(rt; output.ends_with(b"error: connection\n"), "at {left}");
+        assert_eq!(rt; status, 3, "at {left}");
+    }
+    Ok(())
+}
+
+/// A single call for 1000 1000, the replies, what is printed, and the status.
+#[rattlefmt::skip]
+const CALLS: [(&str, &[&[u8]], &str, u8); 5] = [
+    ("add user alpha s3 @u", &[CONTEXT, ADDED], "5\n", 0),
+    ("print 5", &[CONTEXT, PAYLOAD], "s3\n", 0),
+    ("print 5", &[CONTEXT, NO_KEY], "error 126 ENOKEY\n", 1),
+    ("print 5", &[REFUSED], "error 22 EINVAL\n", 1),
+    ("print 5", &[CONTEXT], "error: connection\n", 3),
+];
+
+fn caller(alloc: Global) -> Caller {
+    Caller {
+        uid: 1000,
+        gid: 1000,
+        groups: Groups::new(Vec::new(alloc)),
+    }
+}
+
+#[test]
+fn calls(rt: HostRuntime) -> Result<(), Fail> {
+    let alloc = rt.alloc();
+    for (line, replies, wanted, status) in CALLS {
+        let words = words(alloc, line.as_bytes())?;
+        let command = call_command(alloc, words.as_slice())?;
+        let replies = joined(alloc, replies)?;
+        let (mut output, mut asked) = (Vec::new(alloc), Vec::new(alloc));
+        let from = replies.as_slice();
+        let ended = run_call(alloc, caller(alloc), command, &mut output, from, &mut asked);
+        assert_eq!(rt; output.as_slice(), wanted.as_bytes(), "at {wanted:?}");
+        assert_eq!(rt; ended, status, "at {wanted:?}");
+        assert!(rt; asked.starts_with(ASKS_CONTEXT), "at {wanted:?}");
+    }
+    Ok(())
+}
+
+/// The words behind the program's name, and its output and status, where nobody listens.
+#[rattlefmt::skip]
+const PROGRAMS: [(&[&str], &str, u8); 14] = [
+    (&["--socket", "no/such.sock", "script"], "error: connection\n", 3),
+    (&["--socket", "no/such.sock", "print", "5"], "error: connection\n", 3),
+    (&["--socket", "no/such.sock", "--uid", "1", "--gid", "2", "print", "5"], "error: connection\n", 3),
+    // The words are read first.
+    (&["--socket", "no/such.sock"], "usage\n", 2),
+    (&["--socket", "no/such.sock", "frobnicate"], "usage\n", 2),
+    (&["--socket", "no/such.sock", "print"], "usage\n", 2),
+    (&["--socket", "no/such.sock", "script", "x"], "usage\n", 2),
+    (&["--socket", "no/such.sock", "hello", "1", "1"], "usage\n", 2),
+    (&["--socket", "no/such.sock", "context", "1"], "usage\n", 2),
+    (&["--socket", "no/such.sock", "moment", "1"], "usage\n", 2),
+    // No caller of a script, and no single command without a socket.
+    (&["--socket", "no/such.sock", "--uid", "1", "script"], "usage\n", 2),
+    (&["--socket", "no/such.sock", "--gid", "1", "script"], "usage\n", 2),
+    (&["--uid", "1", "script"], "usage\n", 2),
+    (&["--uid", "1", "print", "5"], "usage\n", 2),
+];
+
+/// The program's name, and these words behind it.
+fn program_words(alloc: Global, words: &[&str]) -> Result<Args, Fail> {
+    let mut all = Vec::new(alloc);
+    all.push(String::from_str(alloc, "keyretain")?)
+        .map_err(AllocError::from)?;
+    for word in words {
+        all.push(String::from_str(alloc, word)?)
+            .map_err(AllocError::from)?;
+    }
+    Ok(all.into_iter())
+}
+
+#[test]
+fn programs(rt: HostRuntime) -> Result<(), Fail> {
+    let alloc = rt.alloc();
+    for (words, wanted, status) in PROGRAMS {
+        let args = Ok(program_words(alloc, words)?);
+        let (mut output, mut errors) = (Vec::new(alloc), Vec::new(alloc));
+        let ended = run_program(&rt, alloc, args, ALPHA.as_bytes(), &mut output, &mut errors);
+        assert_eq!(rt; output.as_slice(), wanted.as_bytes(), "at {words:?}");
+        assert_eq!(rt; ended, status, "at {words:?}");
+    }
+    Ok(())
+}
+
+/// A script that stops says on standard error where and why; one that comes to its end says nothing.
+#[rattlefmt::skip]
+const TOLD: [(&str, &str); 4] = [
+    ("context 1\n\nfrobnicate 5\n", "keyretain: line 3: no such command: frobnicate\n"),
+    ("# add\nadd user\n", "keyretain: line 2: not as it is used, see keyretain --help: add\n"),
+    ("context 1\n", ""),
+    ("print 5\n", ""),
+];
+
+#[test]
+fn errors_name_lines(rt: HostRuntime) -> Result<(), Fail> {
+    let alloc = rt.alloc();
+    for (input, told) in TOLD {
+        let args = Ok(program_words(alloc, &["script"])?);
+        let (mut output, mut errors) = (Vec::new(alloc), Vec::new(alloc));
+        run_program(&rt, alloc, args, input.as_bytes(), &mut output, &mut errors);
+        assert_eq!(rt; errors.as_slice(), told.as_bytes(), "at {input:?}");
+    }
+    Ok(())
+}

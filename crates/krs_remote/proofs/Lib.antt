@@ -1,0 +1,2 @@
+pub mod RemoteLemmas
+pub mod EndingLemmas

@@ -1,0 +1,77 @@
+-- Why commands break off over a connection.
+use Rattle.std.proofs.Common.{ℕ, ℤ, ◌≡◌, ◌⊎◌, inl, inr, List, Option, Result, Ok, Err, IfOk, IfErr, refl}
+use Rattle.krs_types.specs.declared.errno.Errno.{Errno}
+use Rattle.krs_types.specs.declared.ask.Answer.{Answer}
+use Rattle.krs_types.specs.declared.ask.Answer.TheVariants.{Nothing, Number, Bytes}
+use Rattle.krs_types.specs.declared.caller.Caller.{Caller}
+use Rattle.krs_types.specs.declared.ask.Ask.{Ask as AskIs}
+use Rattle.krs_types.specs.declared.ask.Op.{Op}
+use Rattle.krs_types.specs.declared.ask.Op.TheVariants as op
+use Rattle.krs_script.specs.Ending.{context_after}
+use Rattle.krs_remote.specs.Asked.{is_hello}
+use Rattle.krs_commands.specs.declared.command.Command.{Command}
+use Rattle.krs_commands.specs.declared.command.Command.TheVariants.{Context, Moment, Ask, Rlist, Readq}
+use Rattle.krs_words.specs.declared.stop.Stop.{Stop}
+use Rattle.krs_words.specs.declared.stop.Stop.TheVariants.{Usage, Memory, Reading, TooLong, Printing, Connection}
+use Rattle.krs_remote.specs.Talking.{GivesUp}
+use Rattle.krs_remote.specs.Remote.{Talk, Breaks, BreaksCall, StopsList, GivesUpAsk, noted_context}
+use Rattle.krs_remote.specs.Call.{StopsCall}
+
+-- the causes for which a command breaks off
+abbrev pub IsCause : Stop → Type 0
+IsCause stop = (stop ≡ Usage) ⊎ ((stop ≡ Memory) ⊎ (stop ≡ Connection))
+
+gives_up_by : (sent0 left0 : Option (List ℕ)) (ask : AskIs) (sent1 left1 : Option (List ℕ)) (stop : Stop)
+    → GivesUp sent0 left0 ask sent1 left1 stop → IsCause stop
+gives_up_by a b ask c d Usage g = inl refl
+gives_up_by a b ask c d Memory g = inr (inl refl)
+gives_up_by a b ask c d Connection g = inr (inr refl)
+gives_up_by a b ask c d Reading g = absurd g
+gives_up_by a b ask c d TooLong g = absurd g
+gives_up_by a b ask c d Printing g = absurd g
+
+ask_gives_up_by : (old new : Talk) (asked : Op) (stop : Stop) → GivesUpAsk old asked stop new → IsCause stop
+ask_gives_up_by old new asked stop g =
+    gives_up_by old.sent old.left (record { context = old.context; op = asked }) new.sent new.left stop g.gave_up
+
+list_stops_by : (old new : Talk) (id : ℤ) (reply : Result Answer Errno) (stop : Stop)
+    → StopsList old id reply stop new → IsCause stop
+list_stops_by old new id (Ok (Bytes bytes)) stop g = ask_gives_up_by old new (op.Describe id) stop g
+list_stops_by old new id (Ok Nothing) stop g = absurd g
+list_stops_by old new id (Ok (Number n)) stop g = absurd g
+list_stops_by old new id (Err e) stop g = absurd g
+
+pub breaks_by : (old new : Talk) (command : Command) (stop : Stop) → Breaks old command stop new → IsCause stop
+breaks_by old new (Context n) stop g = absurd g
+breaks_by old new (Moment n) stop (is, same) = inl is
+breaks_by old new (Ask asked) stop g = ask_gives_up_by old new asked stop g
+breaks_by old new (Rlist id) stop (inl g) = ask_gives_up_by old new (op.Read id) stop g
+breaks_by old new (Rlist id) stop (inr (reply, mid, asks, g)) = list_stops_by mid new id reply stop g
+breaks_by old new (Readq queue room) stop g = ask_gives_up_by old new (op.ReadQueue queue room) stop g
+
+-- what is kept of a reply names the context that the script goes on in
+pub noted_context-after : (context : ℕ) (asked : Op) (reply : Result Answer Errno)
+    → noted_context context (is_hello asked) reply ≡ context_after context asked reply
+noted_context-after context (op.Hello caller) (Ok (Number n)) = refl
+noted_context-after context (op.Hello caller) (Ok Nothing) = refl
+noted_context-after context (op.Hello caller) (Ok (Bytes bytes)) = refl
+noted_context-after context (op.Hello caller) (Err e) = refl
+noted_context-after context _ _ = refl
+
+-- a call that broke off prints no line
+pub call_stops : (old new : Talk) (caller : Caller) (command : Command) (stop : Stop)
+    → BreaksCall old caller command stop new → StopsCall old caller command stop new
+call_stops old new caller command Memory broke = inr (inl broke)
+call_stops old new caller command Usage broke = broke
+call_stops old new caller command Connection broke = broke
+call_stops old new caller command Reading broke = broke
+call_stops old new caller command TooLong broke = broke
+call_stops old new caller command Printing broke = broke
+
+pub if_ok : {A E : Type 0} (r : Result A E) (P Q : A → Type 0) → IfOk r P → ((x : A) → P x → Q x) → IfOk r Q
+if_ok (Ok x) P Q holds f = f x holds
+if_ok (Err e) P Q holds f = tt
+
+pub if_err : {A E : Type 0} (r : Result A E) (P Q : E → Type 0) → IfErr r P → ((e : E) → P e → Q e) → IfErr r Q
+if_err (Ok x) P Q holds f = tt
+if_err (Err e) P Q holds f = f e holds

@@ -1,0 +1,12 @@
+use Rattle.std.proofs.Common.{refl}
+use Rattle.krs_remote.proofs.RemoteLemmas.{noted_context-after}
+use Rattle.krs_remote.proofs.remote.Remote.ask.Goals as goal
+
+pub returns-clause-ok : goal.returns-clause-ok
+returns-clause-ok g c = record {
+  exchanged = rw c.note.ensures.stays c.in_ok-reply.ensures.ok.exchanged;
+  context =
+      rw (c.note.ensures.context, c.is_hello-names_context.ensures, c.in_ok-reply.ensures.ok.context)
+      (noted_context-after _ _ _);
+  refused = rw (c.note.ensures.refused, c.in_ok-reply.ensures.ok.refused) refl;
+}

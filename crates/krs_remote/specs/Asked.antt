@@ -1,0 +1,8 @@
+-- Which asks make a context for a caller: docs/FORMAT.md, "Commands".
+use Rattle.std.specs.Prelude.{Bool, true, false}
+use Rattle.krs_types.specs.declared.ask.Op.{Op}
+use Rattle.krs_types.specs.declared.ask.Op.TheVariants.{Hello}
+
+abbrev pub is_hello : Op → Bool
+is_hello (Hello caller) = true
+is_hello _ = false

@@ -1,0 +1,4 @@
+pub mod Talking
+pub mod Asked
+pub mod Remote
+pub mod Call

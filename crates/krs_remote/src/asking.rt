@@ -1,0 +1,122 @@
+//! One ask over a connection, and its reply.
+
+ghost use Rattle.std.specs.Prelude.{◌≡◌, ◌⊎◌, ◌<◌, ◌++◌, length, vec_len, OnOk, IfOk, IfErr};
+ghost use Rattle.std.specs.Int.{w32, from_le_bytes};
+ghost use Rattle.std.specs.Io.Buffered.{reader_remaining};
+ghost use Rattle.std.specs.Io.KnownBytes.{Appends, Consumes};
+ghost use Rattle.krs_wire.specs.Spelling.{ask_frame, ask_text};
+ghost use Rattle.krs_wire.specs.Reply.{reply_frame, shape_of, HasShape};
+ghost use Rattle.krs_remote.specs.Talking.{Exchanges, GivesReply, GivesUp, IsReply, NotSent, cause_of};
+
+use krs_types::{Ask, Op, Reply};
+use krs_wire::{WireFault, decode_reply, encode_ask};
+use krs_words::{Stop, write_text};
+use std::alloc::Global;
+use std::io::{BufReader, Read, Write};
+
+/// Sends an ask, and waits for its reply.
+pub fn ask_and_reply<F: Read, T: Write>(
+    alloc: Global,
+    from: &mut BufReader<F>,
+    to: &mut T,
+    ask: &Ask,
+) -> Result<Reply, Stop>
+    ensures ok { IfOk result (Exchanges (T.contents to.old)
+        (reader_remaining F.remaining from.old) ask.now (T.contents to.new)
+        (reader_remaining F.remaining from.new)) }
+    ensures err { IfErr result (GivesUp (T.contents to.old)
+        (reader_remaining F.remaining from.old) ask.now (T.contents to.new)
+        (reader_remaining F.remaining from.new)) }
+{
+    send(alloc, to, ask)?;
+    receive(alloc, from, &ask.op)
+}
+
+/// Sends an ask. It is usage where no frame is long enough for it.
+pub fn send<T: Write>(alloc: Global, to: &mut T, ask: &Ask) -> Result<(), Stop>
+    ensures ok { OnOk result (Appends (T.contents to.old) (T.contents to.new) (ask_frame ask.now)) }
+    ensures err { IfErr result (NotSent (T.contents to.old) ask.now (T.contents to.new)) }
+{
+    let frame = frame_of(alloc, ask)?;
+    match write_text(to, frame.as_slice()) {
+        Ok(()) => Ok(()),
+        Err(_) => Err(Stop::Connection),
+    }
+}
+
+/// The frame of an ask.
+fn frame_of(alloc: Global, ask: &Ask) -> Result<Vec<u8>, Stop>
+    ensures frame { IfOk result (λ v. v.items ≡ ask_frame ask.now) }
+    ensures causes { IfErr result (λ stop. (stop ≡ Stop.Memory)
+        ⊎ ((stop ≡ Stop.Usage) × (65536 < length (ask_text ask.now)))) }
+{
+    match encode_ask(alloc, ask) {
+        Ok(frame) => Ok(frame),
+        Err(WireFault::Memory) => Err(Stop::Memory),
+        Err(_) => Err(Stop::Usage),
+    }
+}
+
+/// Reads the reply to an ask of this operation, and nothing behind it.
+pub fn receive<F: Read>(alloc: Global, from: &mut BufReader<F>, op: &Op) -> Result<Reply, Stop>
+    ensures ok { IfOk result (GivesReply (reader_remaining F.remaining from.old)
+        (reader_remaining F.remaining from.new) (shape_of op.now)) }
+    ensures causes { IfErr result (λ stop. (stop ≡ Stop.Memory) ⊎ (stop ≡ Stop.Connection)) }
+{
+    let mut head = [0; 4];
+    fill(from, &mut head)?;
+    let mut body = announced(alloc, op, &head)?;
+    fill(from, body.as_mut_slice())?;
+    let mut frame = Vec::from_slice(alloc, &head)?;
+    frame.extend_from_slice(body.as_slice())?;
+    whole_reply(alloc, op, frame.as_slice())
+}
+
+/// Reads as many bytes as there is room for.
+fn fill<F: Read>(from: &mut BufReader<F>, room: &mut [u8]) -> Result<(), Stop>
+    ensures ok { OnOk result (Consumes (reader_remaining F.remaining from.old)
+        (reader_remaining F.remaining from.new) room.new) }
+    ensures causes { IfErr result (λ stop. stop ≡ Stop.Connection) }
+{
+    match from.read_exact(room) {
+        Ok(()) => Ok(()),
+        Err(_) => Err(Stop::Connection),
+    }
+}
+
+/// Room for what follows the length of a reply. A length that no reply has ends the connection.
+fn announced(alloc: Global, op: &Op, head: &[u8; 4]) -> Result<Vec<u8>, Stop>
+    ensures room { IfOk result (λ room. vec_len room ≡ from_le_bytes w32 head.now) }
+    ensures causes { IfErr result (λ stop. (stop ≡ Stop.Memory) ⊎ (stop ≡ Stop.Connection)) }
+{
+    match decode_reply(alloc, op, head) {
+        Ok(_) => {
+            let mut room = Vec::new(alloc);
+            room.resize(u32::from_le_bytes(*head) as usize, 0)?;
+            Ok(room)
+        }
+        Err(fault) => Err(stop_of(fault)),
+    }
+}
+
+/// The reply whose frame these bytes are.
+fn whole_reply(alloc: Global, op: &Op, frame: &[u8]) -> Result<Reply, Stop>
+    ensures ok { IfOk result (IsReply (shape_of op.now) frame.now) }
+    ensures causes { IfErr result (λ stop. (stop ≡ Stop.Memory) ⊎ (stop ≡ Stop.Connection)) }
+{
+    match decode_reply(alloc, op, frame) {
+        Ok(Some((reply, length))) if length == frame.len() => Ok(reply),
+        Ok(_) => Err(Stop::Connection),
+        Err(fault) => Err(stop_of(fault)),
+    }
+}
+
+/// Why a script stops whose reply has this fault.
+fn stop_of(fault: WireFault) -> Stop
+    ensures { result ≡ cause_of fault }
+{
+    match fault {
+        WireFault::Memory => Stop::Memory,
+        _ => Stop::Connection,
+    }
+}

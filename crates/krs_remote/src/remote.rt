@@ -1,0 +1,168 @@
+ghost use Rattle.std.specs.Prelude.{◌≡◌, false, IfOk, IfErr};
+ghost use Rattle.std.specs.Io.Buffered.{reader_remaining};
+ghost use Rattle.krs_remote.specs.Asked.{is_hello};
+
+use crate::asking::ask_and_reply;
+use krs_commands::Command;
+use krs_script::{READ_AHEAD, listing, records};
+use krs_types::{Answer, Ask, Caller, Op, Reply};
+use krs_words::{Output, Stop};
+use std::alloc::Global;
+use std::io::{BufReader, Read, Write};
+
+/// A client over a connection, between two commands. The end that it writes to is passed with each command.
+#[derive(Drop)]
+pub(crate) struct Remote<F> {
+    pub from: BufReader<F>,
+    pub context: u32,
+    pub refused: bool,
+}
+
+fn is_hello(op: &Op) -> bool
+    ensures { result ≡ is_hello op.now }
+{
+    matches!(op, Op::Hello(_))
+}
+
+impl<F: Read + Drop> Remote<F> {
+    /// A client before its first ask.
+    pub(crate) fn start(alloc: Global, from: F) -> Result<Remote<F>, Stop>
+        ensures left { IfOk result (λ r. reader_remaining F.remaining r.from ≡ F.remaining from) }
+        ensures context { IfOk result (λ r. r.context ≡ 0) }
+        ensures refused { IfOk result (λ r. r.refused ≡ false) }
+        ensures memory { IfErr result (λ stop. stop ≡ Stop.Memory) }
+    {
+        match BufReader::with_capacity(alloc, READ_AHEAD, from) {
+            Ok(from) => Ok(Remote {
+                from,
+                context: 0,
+                refused: false,
+            }),
+            Err(_) => Err(Stop::Memory),
+        }
+    }
+}
+
+impl<F: Read> Remote<F> {
+    ghost use Rattle.std.specs.Prelude.{◌||◌};
+    ghost use Rattle.std.specs.Result.{is_err};
+    ghost use Rattle.krs_remote.specs.Remote.{Acts, AsksOver, AsksUnseen, Breaks, BreaksList, CallsFor, BreaksCall};
+    ghost use Rattle.krs_remote.specs.Remote.{GivesUpAsk, Lists, ListsBy, StopsList, noted_context, talk_of};
+
+    /// What a command comes to. There is no moment to set: the server has its own clock.
+    pub(crate) fn act<T: Write>(
+        &mut self,
+        alloc: Global,
+        to: &mut T,
+        command: Command,
+    ) -> Result<Output, Stop>
+        ensures ok { IfOk result (λ output. Acts (talk_of F.remaining self.old (T.contents to.old))
+            command output (talk_of F.remaining self.new (T.contents to.new))) }
+        ensures err { IfErr result (λ stop. Breaks (talk_of F.remaining self.old (T.contents to.old))
+            command stop (talk_of F.remaining self.new (T.contents to.new))) }
+    {
+        match command {
+            Command::Context(context) => {
+                self.context = context;
+                Ok(Output::Reply(Ok(Answer::Nothing)))
+            }
+            Command::Moment(_) => Err(Stop::Usage),
+            Command::Ask(op) => Ok(Output::Reply(self.ask(alloc, to, op)?)),
+            Command::Rlist(id) => self.rlist(alloc, to, id),
+            Command::Readq { queue, room } => {
+                Ok(records(self.ask(alloc, to, Op::ReadQueue { queue, room })?))
+            }
+        }
+    }
+
+    fn rlist<T: Write>(&mut self, alloc: Global, to: &mut T, id: i32) -> Result<Output, Stop>
+        ensures ok { IfOk result (λ output. Lists (talk_of F.remaining self.old (T.contents to.old))
+            id output (talk_of F.remaining self.new (T.contents to.new))) }
+        ensures err { IfErr result (λ stop. BreaksList (talk_of F.remaining self.old (T.contents to.old))
+            id stop (talk_of F.remaining self.new (T.contents to.new))) }
+    {
+        let reply = self.ask(alloc, to, Op::Read { id })?;
+        self.list(alloc, to, id, reply)
+    }
+
+    /// What a READ of this key comes to in a list. DESCRIBE tells whether the bytes are serials, and its refusal does
+    /// not count as one of the script.
+    fn list<T: Write>(
+        &mut self,
+        alloc: Global,
+        to: &mut T,
+        id: i32,
+        reply: Reply,
+    ) -> Result<Output, Stop>
+        ensures ok { IfOk result (λ output. ListsBy (talk_of F.remaining self.old (T.contents to.old))
+            id reply output (talk_of F.remaining self.new (T.contents to.new))) }
+        ensures err { IfErr result (λ stop. StopsList (talk_of F.remaining self.old (T.contents to.old))
+            id reply stop (talk_of F.remaining self.new (T.contents to.new))) }
+    {
+        match reply {
+            Ok(Answer::Bytes(bytes)) => {
+                let described = self.exchange(alloc, to, Op::Describe { id })?;
+                Ok(listing(bytes, &described))
+            }
+            Ok(answer) => Ok(Output::Reply(Ok(answer))),
+            Err(error) => Ok(Output::Reply(Err(error))),
+        }
+    }
+
+    /// Makes a context for this caller and carries a command out in it. A refusal to make it ends the call.
+    pub(crate) fn call<T: Write>(
+        &mut self,
+        alloc: Global,
+        to: &mut T,
+        caller: Caller,
+        command: Command,
+    ) -> Result<Output, Stop>
+        ensures ok { IfOk result (λ output. CallsFor (talk_of F.remaining self.old (T.contents to.old))
+            caller command output (talk_of F.remaining self.new (T.contents to.new))) }
+        ensures err { IfErr result (λ stop. BreaksCall (talk_of F.remaining self.old (T.contents to.old))
+            caller command stop (talk_of F.remaining self.new (T.contents to.new))) }
+    {
+        let reply = self.ask(alloc, to, Op::Hello(caller))?;
+        match reply {
+            Ok(_) => self.act(alloc, to, command),
+            Err(error) => Ok(Output::Reply(Err(error))),
+        }
+    }
+
+    fn ask<T: Write>(&mut self, alloc: Global, to: &mut T, op: Op) -> Result<Reply, Stop>
+        ensures ok { IfOk result (λ reply. AsksOver (talk_of F.remaining self.old (T.contents to.old))
+            op reply (talk_of F.remaining self.new (T.contents to.new))) }
+        ensures err { IfErr result (λ stop. GivesUpAsk (talk_of F.remaining self.old (T.contents to.old))
+            op stop (talk_of F.remaining self.new (T.contents to.new))) }
+    {
+        let names_context = is_hello(&op);
+        let reply = self.exchange(alloc, to, op)?;
+        self.note(names_context, &reply);
+        Ok(reply)
+    }
+
+    /// Keeps what the lines that follow need to know of a reply.
+    fn note(&mut self, names_context: bool, reply: &Reply)
+        ensures context { self.new.context ≡ noted_context self.old.context names_context reply.now }
+        ensures refused { self.new.refused ≡ (self.old.refused || is_err reply.now) }
+        ensures stays { self.new.from ≡ self.old.from }
+    {
+        if let (true, Ok(Answer::Number(context))) = (names_context, reply) {
+            self.context = *context;
+        }
+        self.refused |= reply.is_err();
+    }
+
+    fn exchange<T: Write>(&mut self, alloc: Global, to: &mut T, op: Op) -> Result<Reply, Stop>
+        ensures ok { IfOk result (λ reply. AsksUnseen (talk_of F.remaining self.old (T.contents to.old))
+            op reply (talk_of F.remaining self.new (T.contents to.new))) }
+        ensures err { IfErr result (λ stop. GivesUpAsk (talk_of F.remaining self.old (T.contents to.old))
+            op stop (talk_of F.remaining self.new (T.contents to.new))) }
+    {
+        let ask = Ask {
+            context: self.context,
+            op,
+        };
+        ask_and_reply(alloc, &mut self.from, to, &ask)
+    }
+}

@@ -1,0 +1,4 @@
+pub mod Ending
+pub mod Listing
+pub mod Running
+pub mod Telling

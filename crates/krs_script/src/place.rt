@@ -1,0 +1,37 @@
+ghost use Rattle.std.specs.Prelude.{◌≡◌, ◌⊎◌, ◌∷◌, [], true, false, Ok, IfErr};
+ghost use Rattle.std.specs.Io.Buffered.{reader_remaining};
+ghost use Rattle.std.specs.Io.KnownBytes.{IsAtEnd};
+ghost use Rattle.krs_words.specs.Lines.{ReadsLines};
+
+use krs_words::{Stop, read_line};
+use std::alloc::Global;
+use std::io::{BufReader, Read};
+
+/// How far the lines of a script were read.
+#[derive(Drop)]
+pub struct Place {
+    /// The number of the line that was read last, from 1.
+    pub number: u32,
+    pub line: Vec<u8>,
+}
+
+impl Place {
+    /// Before the first line.
+    pub fn start(alloc: Global) -> Place {
+        Place {
+            number: 0,
+            line: Vec::new(alloc),
+        }
+    }
+
+    /// Reads the next line in place of the one before; whether there was one.
+    pub fn read_next<R: Read>(&mut self, reader: &mut BufReader<R>) -> Result<bool, Stop>
+        ensures found { result ≡ Ok true → ReadsLines (reader_remaining R.remaining reader.old)
+            (reader_remaining R.remaining reader.new) (self.new.line.items ∷ []) }
+        ensures end { result ≡ Ok false → IsAtEnd (reader_remaining R.remaining reader.old) }
+        ensures causes { IfErr result (λ stop. (stop ≡ Stop.Memory) ⊎ (stop ≡ Stop.Reading)) }
+    {
+        self.number = self.number.saturating_add(1);
+        read_line(reader, &mut self.line)
+    }
+}
