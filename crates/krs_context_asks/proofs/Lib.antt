@@ -1,3 +1,3 @@
-pub mod Ending
-pub mod Entered
-pub mod Joined
+pub mod EndedHolders
+pub mod EnteredHolders
+pub mod JoinedHolders

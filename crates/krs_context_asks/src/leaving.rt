@@ -81,7 +81,7 @@ fn let_go_uid(holders: &mut Holders, contexts: &Contexts, uid: u32, rings: Optio
 }
 
 /// Whether another client has a context of that process.
-#[tactic(auto, using(crate::proofs::Ending::others_in_process))]
+#[tactic(auto, using(crate::proofs::EndedHolders::others_in_process))]
 fn others_have_process(contexts: &BTreeMap<u32, Context>, client: u32, process: u32) -> bool
     ensures { result ≡ has_process (contexts_without client contexts.now.entries) process }
 {
@@ -98,7 +98,7 @@ fn any_other_in(contexts: &BTreeMap<u32, Context>, client: u32, process: u32) ->
 }
 
 /// Whether another client has a context of that uid.
-#[tactic(auto, using(crate::proofs::Ending::others_of_uid))]
+#[tactic(auto, using(crate::proofs::EndedHolders::others_of_uid))]
 fn others_have_uid(contexts: &BTreeMap<u32, Context>, client: u32, uid: u32) -> bool
     ensures { result ≡ has_uid (contexts_without client contexts.now.entries) uid }
 {

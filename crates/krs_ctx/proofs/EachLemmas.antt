@@ -8,7 +8,7 @@ use Rattle.std.specs.Ordering.{match_ordering, nat_cmp}
 use Rattle.std.specs.declared.cmp.Ordering.TheVariants.{Less, Equal, Greater}
 use Rattle.std.specs.BTreeMap.{is_at}
 use Rattle.krs_model.specs.Table.{Table, at, put, without, alter, map_values, IsBelow}
-use Rattle.krs_model.proofs.Tables.{is_at_same, same_at}
+use Rattle.krs_model.proofs.Tables.Changes.{is_at_same, same_at}
 use Rattle.krs_ctx.specs.Anchors.{Each}
 
 pub each_on : {X : Type 0} (P Q : X → Type 0) (xs : List X) → ((x : X) → P x → Q x) → Each P xs → Each Q xs

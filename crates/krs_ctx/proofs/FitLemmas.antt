@@ -12,11 +12,11 @@ use Rattle.std.specs.BTreeMap.{is_at}
 use Rattle.krs_types.specs.declared.context.Context.{Context}
 use Rattle.krs_model.specs.Table.{Table, at, put, without, alter, map_values, IsBelow}
 use Rattle.krs_model.specs.Asks.Leaving.{has_process}
-use Rattle.krs_model.proofs.Levels.{or_true, same_is}
-use Rattle.krs_model.proofs.Tables.{at_map, at_put_same, at_put_other, at_alter_same, at_alter_other, at_alter_none}
-use Rattle.krs_model.proofs.Tables.{at_or_apart, at_without_none, at_without_other, at_kept, below_put, below_filter}
+use Rattle.krs_model.proofs.Reach.Levels.{or_true, same_is}
+use Rattle.krs_model.proofs.Tables.Changes.{at_map, at_put_same, at_put_other, at_alter_same, at_alter_other, at_alter_none}
+use Rattle.krs_model.proofs.Tables.Changes.{at_or_apart, at_without_none, at_without_other, at_kept, below_put, below_filter}
 use Rattle.krs_ctx.specs.Anchors.{Anchors, Each, IsEntered, IsFit}
-use Rattle.krs_model.proofs.Standing.{there_map}
+use Rattle.krs_model.proofs.Sound.Changes.{there_map}
 use Rattle.krs_ctx.proofs.EachLemmas.{each_on, each_both, each_filter, each_put, each_without, each_alter, each_at}
 use Rattle.krs_ctx.proofs.EachLemmas.{each_below}
 

@@ -16,7 +16,7 @@ use Rattle.krs_model.specs.Table.{Table, at, put, without, alter}
 use Rattle.krs_model.specs.State.{State, starting_at}
 use Rattle.std.specs.Ordering.{nat_cmp}
 use Rattle.std.specs.BTreeMap.{is_at}
-use Rattle.krs_model.proofs.Tables.{without_put}
+use Rattle.krs_model.proofs.Tables.Changes.{without_put}
 use Rattle.krs_model.specs.Lookup.{context_of, if_own}
 use Rattle.krs_model.specs.Asks.Hello.{has_context_left, with_context}
 use Rattle.krs_model.specs.Asks.Entering.{thread, fork, exec, if_context_number, without_thread}
@@ -76,7 +76,7 @@ refused old new (Ok n) e meant is stays same = absurd is
 refused old new (Err f) e meant is stays same =
     subst (λ (g : Fault). Enters old (Err g) new meant) (sym is) (stays, same)
 
--- want of memory that `?` hands on
+-- ENOMEM that `?` hands on
 pub wants : (old new : Anchors) (r : Result ℕ Fault) (meant : State → Outcome) → IsErrAnd r (λ f. f ≡ Memory)
     → ((s : State) → IsOk (meant (anchored s old))) → new ≡ old → Enters old r new meant
 wants old new (Ok n) meant is accepted same = absurd is

@@ -18,7 +18,7 @@ use Rattle.krs_model.specs.Asks.Entering.{if_context_number}
 use Rattle.krs_model.specs.Asks.Invalidating.{detached, context_without, rings_without}
 use Rattle.krs_ctx.specs.Anchors.{Anchors, anchored}
 
--- The new anchors and the number that is answered are what is meant. Want of memory stands only for what would have
+-- The new anchors and the number that is answered are what is meant. ENOMEM stands only for what would have
 -- been accepted; a fault leaves all as it was.
 abbrev pub Enters : Anchors → Result ℕ Fault → Anchors → (State → Outcome) → Type 0
 Enters old (Ok number) new meant = (s : State) → meant (anchored s old) ≡ Ok (anchored s new, Number number)

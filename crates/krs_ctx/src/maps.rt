@@ -71,7 +71,7 @@ pub(crate) fn own_context(
 }
 
 /// A context and its process. A refusal leaves neither.
-#[tactic(auto, using(krs_model::proofs::Tables::without_put))]
+#[tactic(auto, using(krs_model::proofs::Tables::Changes::without_put))]
 pub(crate) fn enter(
     contexts: &mut BTreeMap<u32, Context>,
     processes: &mut BTreeMap<u32, Option<Serial>>,
@@ -93,7 +93,7 @@ pub(crate) fn enter(
 }
 
 /// A context and its process, and the keyrings of its uid. A refusal leaves nothing of them.
-#[tactic(auto, using(krs_model::proofs::Tables::without_put))]
+#[tactic(auto, using(krs_model::proofs::Tables::Changes::without_put))]
 pub(crate) fn enter_first(
     contexts: &mut BTreeMap<u32, Context>,
     processes: &mut BTreeMap<u32, Option<Serial>>,

@@ -11,7 +11,7 @@ use Rattle.krs_model.specs.State.{State}
 use Rattle.krs_model.specs.Sound.{IsSound}
 use Rattle.krs_model.specs.Step.{Step}
 use Rattle.krs_model.specs.History.{IsLegal, event_of}
-use Rattle.krs_model.proofs.Legal.{legal_none, legal_more}
+use Rattle.krs_model.proofs.History.Legal.{legal_none, legal_more}
 use Rattle.krs_world.specs.Knowing.{one, fresh, taken, missed, put_own, loaded}
 use Rattle.krs_world.proofs.Keeping.{own_event}
 use Rattle.krs_desk.specs.Told.{Found}

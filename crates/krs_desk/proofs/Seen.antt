@@ -6,8 +6,8 @@ use Rattle.krs_model.specs.Sound.{IsSound}
 use Rattle.krs_model.specs.Step.{Step}
 use Rattle.krs_model.specs.History.{IsLegal}
 use Rattle.krs_model.specs.Revocation.{StaysUnread}
-use Rattle.krs_model.proofs.Determined.{one_history, legal_moves}
-use Rattle.krs_model.proofs.Histories.{gives_streams}
+use Rattle.krs_model.proofs.History.Determined.{one_history, legal_moves}
+use Rattle.krs_model.proofs.History.Streams.{gives_streams}
 use Rattle.krs_desk.specs.Seen.{IsNotReadRevoked, GivesItsStreams}
 
 -- a legal history, cut in two

@@ -15,14 +15,14 @@ use Rattle.std.specs.BTreeMap.{is_at}
 use Rattle.std.specs.Map.{keys_of}
 use Rattle.krs_model.specs.Table.{Table, at, without}
 use Rattle.krs_model.specs.State as model
-use Rattle.krs_model.specs.Possession.{links_of}
+use Rattle.krs_model.specs.Possession.{links_of_content}
 use Rattle.krs_model.specs.Levels.{is_in}
-use Rattle.krs_model.specs.Sweep.{linked_by}
-use Rattle.krs_model.specs.Reach.{IsAcyclic, links_in}
+use Rattle.krs_model.specs.Sweep.{links_of_key}
+use Rattle.krs_model.specs.Reach.{IsAcyclic, links_of_key_at}
 use Rattle.krs_model.specs.Anchored.{IsAnchored}
-use Rattle.krs_model.proofs.Tables.{same_at, is_at_same, at_kept, filter_map_keys}
-use Rattle.krs_model.proofs.Levels.{same_is}
-use Rattle.krs_model.proofs.Choosing.{closed_held}
+use Rattle.krs_model.proofs.Tables.Changes.{same_at, is_at_same, at_kept, filter_map_keys}
+use Rattle.krs_model.proofs.Reach.Levels.{same_is}
+use Rattle.krs_model.proofs.Sweep.HeldKeys.{closed_held}
 use Rattle.krs_keys.specs.declared.key.Key.{Key}
 use Rattle.krs_keys.specs.Keys.{seen, shown}
 use Rattle.krs_keys.specs.Kept.{KeepsAnchored, Sweeps}
@@ -118,7 +118,7 @@ anchored_less :
     → IsAnchored keys attached p k
 anchored_less keys attached p q k h = ⊎_elim
     (λ (i : is_in k attached ≡ true). inl i)
-    (λ (l : (j : ℕ) × ((p j && q j) ≡ true) × (is_in k (links_in keys j) ≡ true)).
+    (λ (l : (j : ℕ) × ((p j && q j) ≡ true) × (is_in k (links_of_key_at keys j) ≡ true)).
     inr (l.0, first_true (p l.0) (q l.0) l.1, l.2)) h
 
 -- one after the other
@@ -133,13 +133,13 @@ spares_on attached old mid new a b = record {
       let same : at (shown mid) k ≡ at (shown old) k = there_kept a.kept old mid a.keys k keep in
       let on : IsAnchored (shown mid) attached b.kept k = ⊎_elim
       (λ (i : is_in k attached ≡ true). inl i)
-      (λ (l : (j : ℕ) × ((a.kept j && b.kept j) ≡ true) × (is_in k (links_in (shown old) j) ≡ true)).
+      (λ (l : (j : ℕ) × ((a.kept j && b.kept j) ≡ true) × (is_in k (links_of_key_at (shown old) j) ≡ true)).
       let link : at (shown mid) l.0 ≡ at (shown old) l.0 =
       there_kept a.kept old mid a.keys l.0 (first_true (a.kept l.0) (b.kept l.0) l.1) in
       inr (
         l.0,
         second_true (a.kept l.0) (b.kept l.0) l.1,
-        subst (λ (o : Option model.Key). is_in k (linked_by o) ≡ true) (sym link) l.2,
+        subst (λ (o : Option model.Key). is_in k (links_of_key o) ≡ true) (sym link) l.2,
       )) anchor in
       both_true (a.kept k) (b.kept k) keep (b.each k (subst IsSome (sym same) there) on);
   keys = b.keys ∙ (ap (filter (λ e. b.kept e.0)) a.keys ∙ filter_filter a.kept b.kept old);
@@ -147,13 +147,13 @@ spares_on attached old mid new a b = record {
 
 -- ---- what a count says
 link_counts :
-    (es : Table model.Key) (j k : ℕ) → is_in k (links_in es j) ≡ true → 0 < times k (all_links es)
+    (es : Table model.Key) (j k : ℕ) → is_in k (links_of_key_at es j) ≡ true → 0 < times k (all_links es)
 link_counts [] j k h = absurd (true≢false (sym h))
 link_counts (e ∷ es) j k h =
-    let both = times-append k (links_of e.1.content) (all_links es) in
-    elim (is_at (nat_cmp j) e.0) as (λ b. is_in k (linked_by (cond b (Some e.1) (at es j))) ≡ true
-    → 0 < times k (links_of e.1.content ++ all_links es)) [
-      | true ↦ λ g. let r = in-times k (links_of e.1.content) g in omega (arith, both, r)
+    let both = times-append k (links_of_content e.1.content) (all_links es) in
+    elim (is_at (nat_cmp j) e.0) as (λ b. is_in k (links_of_key (cond b (Some e.1) (at es j))) ≡ true
+    → 0 < times k (links_of_content e.1.content ++ all_links es)) [
+      | true ↦ λ g. let r = in-times k (links_of_content e.1.content) g in omega (arith, both, r)
       | false ↦ λ g. let r = link_counts es j k g in omega (arith, both, r)
     ] h
 
@@ -165,7 +165,7 @@ not_anchored keys attached es kept k h empty anchor =
     let sum : holders_at (at es k) ≡ 0 + (times k attached + times k (all_links keys)) = h.exact k in
     ⊎_elim
     (λ (i : is_in k attached ≡ true). let r = in-times k attached i in absurd (omega (arith, sum, empty, r)))
-    (λ (l : (j : ℕ) × (kept j ≡ true) × (is_in k (links_in keys j) ≡ true)).
+    (λ (l : (j : ℕ) × (kept j ≡ true) × (is_in k (links_of_key_at keys j) ≡ true)).
     let r = link_counts keys l.0 k l.2 in absurd (omega (arith, sum, empty, r))) anchor
 
 other_than : (k q : ℕ) → (q ≡ k → ⊥) → not (q == k) ≡ true
@@ -214,16 +214,16 @@ more_times k xs n out h = elim n as (λ m. 0 < times k xs + m → 0 < m) [
 
 count_links :
     (all es : Table model.Key) (k : ℕ) → Own all es → 0 < times k (all_links es)
-    → (j : ℕ) × (is_in k (links_in all j) ≡ true)
+    → (j : ℕ) × (is_in k (links_of_key_at all j) ≡ true)
 count_links all [] k o h = absurd (omega (arith, h))
 count_links all (e ∷ es) k o h =
-    let both = times-append k (links_of e.1.content) (all_links es) in
-    elim (is_in k (links_of e.1.content)) as (λ b. is_in k (links_of e.1.content) ≡ b
-    → (j : ℕ) × (is_in k (links_in all j) ≡ true)) [
+    let both = times-append k (links_of_content e.1.content) (all_links es) in
+    elim (is_in k (links_of_content e.1.content)) as (λ b. is_in k (links_of_content e.1.content) ≡ b
+    → (j : ℕ) × (is_in k (links_of_key_at all j) ≡ true)) [
       | true ↦ λ t. (e.0, rw o.0 t)
       | false ↦ λ t.
           count_links all es k o.1
-          (more_times k (links_of e.1.content) (times k (all_links es)) t (omega (arith, both, h)))
+          (more_times k (links_of_content e.1.content) (times k (all_links es)) t (omega (arith, both, h)))
     ] refl
 
 chain_empty : (es : Table Count) (ks : List ℕ) (k : ℕ) → IsChain es None ks → is_in k ks ≡ true → ⊥
@@ -245,7 +245,7 @@ keeping_there : (b : Bool) (o : Option model.Key) → IsSome (cond b o None) →
 keeping_there true o h = refl
 keeping_there false o h = absurd (true≢false (sym h))
 
-linking_is_there : (k : ℕ) (o : Option model.Key) → is_in k (linked_by o) ≡ true → IsSome o
+linking_is_there : (k : ℕ) (o : Option model.Key) → is_in k (links_of_key o) ≡ true → IsSome o
 linking_is_there k None h = absurd (true≢false (sym h))
 linking_is_there k (Some key) h = refl
 
@@ -268,7 +268,7 @@ anchored_by attached old new es kept k e sorted h some =
           inr (
             l.0,
             keep,
-            subst (λ (o : Option model.Key). is_in k (linked_by o) ≡ true)
+            subst (λ (o : Option model.Key). is_in k (links_of_key o) ≡ true)
                 (there_kept kept old new e l.0 keep) l.1,
           )
     ] refl
@@ -293,7 +293,7 @@ keeps_anchored attached old new es sorted chained h spared = record {
 
 -- in an acyclic table just the held keys stay
 pub anchored_sweeps :
-    (attached : List ℕ) (old new : Table Key) → IsAcyclic (links_in (shown old)) → KeepsAnchored attached old new
+    (attached : List ℕ) (old new : Table Key) → IsAcyclic (links_of_key_at (shown old)) → KeepsAnchored attached old new
     → Sweeps attached old new
 anchored_sweeps attached old new acyclic k = record {
   kept = k.kept;

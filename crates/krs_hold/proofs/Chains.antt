@@ -12,7 +12,7 @@ use Rattle.krs_model.specs.Table.{Table, at, alter, put, without}
 use Rattle.krs_model.specs.Levels.{is_in}
 use Rattle.krs_hold.specs.Chain.{holders_at, is_waiting, next_at, IsChain, IsChained, falls, falls_at, lowered}
 use Rattle.krs_hold.specs.Chain.{raised, rested, Chained, gone, gone_all, weight, total_weight}
-use Rattle.krs_model.proofs.Tables.{alter_none, at_put_same, at_alter_same}
+use Rattle.krs_model.proofs.Tables.Changes.{alter_none, at_put_same, at_alter_same}
 use Rattle.krs_hold.proofs.Places.{alter_other, put_other, without_other, at_some}
 use Rattle.krs_hold.proofs.Times.{in_head, in_tail, in_rest}
 

@@ -9,12 +9,12 @@ use Rattle.krs_types.specs.declared.context.Context.{Context}
 use Rattle.krs_types.specs.declared.context.UidRings.{UidRings}
 use Rattle.krs_model.specs.Table.{Table, at, map_values}
 use Rattle.krs_model.specs.State.{State, Key, Content, Payload, Links}
-use Rattle.krs_model.specs.Possession.{links_of}
+use Rattle.krs_model.specs.Possession.{links_of_content}
 use Rattle.krs_model.specs.Sweep.{roots, context_roots, process_roots, uid_roots}
 use Rattle.krs_model.specs.Asks.Linked.{without_link, unlinked_content}
 use Rattle.krs_model.specs.Asks.Invalidating.{detached, context_without, rings_without, invalidated}
-use Rattle.krs_model.proofs.Levels.{same_is}
-use Rattle.krs_model.proofs.Tables.{at_map}
+use Rattle.krs_model.proofs.Reach.Levels.{same_is}
+use Rattle.krs_model.proofs.Tables.Changes.{at_map}
 use Rattle.krs_hold.specs.Tally.{times, all_links, number_at, all_less, IsTallied}
 use Rattle.krs_hold.proofs.Times.{times-cons, times-append, times-same, times-other, other_is}
 use Rattle.krs_hold.proofs.Gathered.{gathered}
@@ -121,7 +121,7 @@ times-roots s serial q =
 
 times-content :
     (serial q : ℕ) (content : Content)
-    → times q (links_of (unlinked_content serial content)) ≡ left serial q (times q (links_of content))
+    → times q (links_of_content (unlinked_content serial content)) ≡ left serial q (times q (links_of_content content))
 times-content serial q (Payload bytes) = left-none serial q
 times-content serial q (Links ks) = times-others serial q ks
 
@@ -130,7 +130,7 @@ times-links :
     (keys : Table Key) (serial q : ℕ)
     → times q (all_links (map_values (without_link serial) keys)) ≡ left serial q (times q (all_links keys))
 times-links keys serial q =
-    times-map (λ (key : Key). links_of key.content) (without_link serial) serial q keys
+    times-map (λ (key : Key). links_of_content key.content) (without_link serial) serial q keys
     (λ key. times-content serial q key.content)
 
 -- a serial stands as often in a list of itself as the list is long, and no other does

@@ -5,9 +5,9 @@ use Rattle.std.proofs.lemmas.Bool.{true≢false, cases_eq}
 use Rattle.std.specs.Option.{option_map, unwrap_or, IsSome, is_some}
 use Rattle.krs_model.specs.Table.{Table, at, alter, without}
 use Rattle.krs_model.specs.State.{Key}
-use Rattle.krs_model.specs.Possession.{links_of}
-use Rattle.krs_model.specs.Sweep.{linked_by}
-use Rattle.krs_model.proofs.Tables.{at_map, at_alter_same}
+use Rattle.krs_model.specs.Possession.{links_of_content}
+use Rattle.krs_model.specs.Sweep.{links_of_key}
+use Rattle.krs_model.proofs.Tables.Changes.{at_map, at_alter_same}
 use Rattle.krs_hold.specs.declared.counts.Count.{Count}
 use Rattle.krs_hold.specs.Tally.{times, all_links, number_at, IsTallied}
 use Rattle.krs_hold.specs.Chain.{numbers_of, holders_at, falls, lowered, rested, Chained, gone, gone_all}
@@ -112,23 +112,23 @@ rested_counted keys attached owed es k h = record {
   exact = λ q. rested_same es k q ∙ h.exact q;
 }
 
-given-links : (o : Option Key) → given_by (λ key. links_of key.content) o ≡ linked_by o
+given-links : (o : Option Key) → given_by (λ key. links_of_content key.content) o ≡ links_of_key o
 given-links None = refl
 given-links (Some key) = refl
 
 -- the links of a key that goes
 pub links-without :
     (keys : Table Key) (k q : ℕ)
-    → times q (linked_by (at keys k)) + times q (all_links (without keys k)) ≡ times q (all_links keys)
+    → times q (links_of_key (at keys k)) + times q (all_links (without keys k)) ≡ times q (all_links keys)
 links-without keys k q =
     ap (λ xs. times q xs + times q (all_links (without keys k))) (sym (given-links (at keys k)))
-    ∙ times-without (λ key. links_of key.content) keys k q
+    ∙ times-without (λ key. links_of_content key.content) keys k q
 
 -- a key goes that nothing holds, and what it linked is owed
 pub dropped_counted :
     (keys : Table Key) (attached : List ℕ) (es : Table Count) (k : ℕ) → holders_at (at es k) ≡ 0
     → at (without keys k) k ≡ None → at (without es k) k ≡ None → IsCounted keys attached [] es
-    → IsCounted (without keys k) attached (linked_by (at keys k)) (without es k)
+    → IsCounted (without keys k) attached (links_of_key (at keys k)) (without es k)
 dropped_counted keys attached es k zero no_key no_count h =
     let ks = without keys k in
     let fs = without es k in

@@ -7,22 +7,22 @@ use Rattle.std.proofs.lemmas.Bool.{true≢false, eqb-true}
 use Rattle.std.proofs.lemmas.Option.{same_Some}
 use Rattle.krs_types.specs.declared.name.Name.{Name}
 use Rattle.krs_types.specs.Name.{same_name}
-use Rattle.krs_links.specs.Links.{LinkList, linked, unlinked_key, linked_as, serials}
+use Rattle.krs_links.specs.Links.{LinkList, link_put, unlinked_key, serial_named, serials}
 use Rattle.krs_links.proofs.KeyLinks.{serials-unlinked_key}
 use Rattle.krs_model.specs.Levels.{is_in}
 use Rattle.krs_model.specs.Table.{Table, at, put, alter}
 use Rattle.krs_model.specs.State as model
-use Rattle.krs_model.specs.Possession.{links_of}
-use Rattle.krs_model.proofs.Tables.{at_map, put_map, alter_map}
+use Rattle.krs_model.specs.Possession.{links_of_content}
+use Rattle.krs_model.proofs.Tables.Changes.{at_map, put_map, alter_map}
 use Rattle.krs_keys.specs.declared.key.Key.{Key}
 use Rattle.krs_keys.specs.declared.key.Content.{Content}
 use Rattle.krs_keys.specs.declared.key.Content.TheVariants.{Payload, Links}
 use Rattle.krs_keys.specs.declared.key.Change.{Change}
 use Rattle.krs_keys.specs.declared.key.Change.TheVariants as change
-use Rattle.krs_keys.specs.Keys.{seen, shown, content_links, AreNamed, displaced_at, displaced_by}
+use Rattle.krs_keys.specs.Keys.{seen, shown, named_links_of_content, AreNamed, displaced_at, displaced_by}
 use Rattle.krs_keys.specs.Keys.{with_entry, entered, without_key}
 use Rattle.krs_keys.specs.Changes.{changed, paid_with, emptied, cleared_content}
-use Rattle.krs_keys.proofs.Fitting.{none_left}
+use Rattle.krs_keys.proofs.LinkNames.{none_left}
 use Rattle.krs_keys.proofs.KeysLemmas.{serials-content}
 use Rattle.krs_keys.proofs.Unlinking.{links-keyless}
 use Rattle.krs_hold.specs.Tally.{times, IsTallied, one_more, one_less, all_less}
@@ -33,13 +33,13 @@ use Rattle.krs_hold.proofs.Tallies.{tallied_hold, tallied_let_go, tallied_let_go
 -- a link more: of its own serial one more, and of what it displaces one less
 times-linked :
     (links : LinkList) (name : Name) (serial q : ℕ)
-    → times q (serials (linked links name serial)) + times q (option_to_list (linked_as links name))
+    → times q (serials (link_put links name serial)) + times q (option_to_list (serial_named links name))
     ≡ times q (serial ∷ []) + times q (serials links)
 times-linked [] name serial q = refl
 times-linked (link ∷ links) name serial q =
     let was = times-cons q link.1 (serials links) in
     elim (same_name name link.0) as (λ b.
-    times q (serials (cond b ((name, serial) ∷ links) (link ∷ linked links name serial)))
+    times q (serials (cond b ((name, serial) ∷ links) (link ∷ link_put links name serial)))
     + times q (option_to_list (option_map (λ (l : Name × ℕ). l.1)
     (cond b (Some link) (find (λ (l : Name × ℕ). same_name name l.0) links))))
     ≡ times q (serial ∷ []) + times q (link.1 ∷ serials links)) [
@@ -49,7 +49,7 @@ times-linked (link ∷ links) name serial q =
           let gone = times-cons q link.1 [] in
           omega (arith, was, now, one, gone)
       | false ↦
-          let now = times-cons q link.1 (serials (linked links name serial)) in
+          let now = times-cons q link.1 (serials (link_put links name serial)) in
           let later = times-linked links name serial q in
           omega (arith, was, now, later)
     ]
@@ -91,8 +91,8 @@ shown_alter keys k f v there =
 pub tallied_alter :
     (keys : Table Key) (attached due owed : List ℕ) (numbers : Table ℕ) (k : ℕ) (f : Key → Key) (v : Key)
     → at keys k ≡ Some v
-    → ((q : ℕ) → times q due + times q (serials (content_links v.content))
-    ≡ times q owed + times q (serials (content_links (f v).content)))
+    → ((q : ℕ) → times q due + times q (serials (named_links_of_content v.content))
+    ≡ times q owed + times q (serials (named_links_of_content (f v).content)))
     → IsTallied (shown keys) attached due numbers → IsTallied (shown (alter keys k f)) attached owed numbers
 tallied_alter keys attached due owed numbers k f v there same h =
     let found : at (shown keys) k ≡ Some (seen v) = at_map seen keys k ∙ ap (option_map seen) there in
@@ -100,9 +100,9 @@ tallied_alter keys attached due owed numbers k f v there same h =
     (tallied_relinked (shown keys) attached due owed numbers k (λ x. seen (f v)) (seen v) found
     (λ q.
     let both = same q in
-    let before : times q (serials (content_links v.content)) ≡ times q (links_of (seen v).content) =
+    let before : times q (serials (named_links_of_content v.content)) ≡ times q (links_of_content (seen v).content) =
     ap (times q) (serials-content v.content) in
-    let after : times q (serials (content_links (f v).content)) ≡ times q (links_of (seen (f v)).content) =
+    let after : times q (serials (named_links_of_content (f v).content)) ≡ times q (links_of_content (seen (f v)).content) =
     ap (times q) (serials-content (f v).content) in
     omega (arith, both, before, after)) h)
 
@@ -115,9 +115,9 @@ pub tallied_link :
     (all_less (option_to_list (displaced_at keys ring name)) (one_more serial numbers))
 tallied_link keys attached numbers ring name serial v links there is counted h =
     let displaced = option_to_list (displaced_at keys ring name) in
-    let same : displaced ≡ option_to_list (linked_as links name) =
+    let same : displaced ≡ option_to_list (serial_named links name) =
     ap (λ o. option_to_list (displaced_by name o)) there
-    ∙ ap (λ c. option_to_list (linked_as (content_links c) name)) is in
+    ∙ ap (λ c. option_to_list (serial_named (named_links_of_content c) name)) is in
     let after = alter keys ring (with_entry name serial) in
     let held = tallied_hold (shown keys) attached [] numbers serial counted h in
     tallied_let_go_all (shown after) attached displaced [] (one_more serial numbers)
@@ -126,47 +126,47 @@ tallied_link keys attached numbers ring name serial v links there is counted h =
     there
     (λ q.
     let counts = times-linked links name serial q in
-    let gone : times q (displaced ++ []) ≡ times q (option_to_list (linked_as links name)) + 0 =
+    let gone : times q (displaced ++ []) ≡ times q (option_to_list (serial_named links name)) + 0 =
     times-append q displaced [] ∙ ap (λ xs. times q xs + 0) same in
-    let before : times q (serials (content_links v.content)) ≡ times q (serials links) =
-    ap (λ c. times q (serials (content_links c))) is in
-    let new : times q (serials (content_links (with_entry name serial v).content))
-    ≡ times q (serials (linked links name serial)) =
-    ap (λ c. times q (serials (content_links (entered name serial c)))) is in
+    let before : times q (serials (named_links_of_content v.content)) ≡ times q (serials links) =
+    ap (λ c. times q (serials (named_links_of_content c))) is in
+    let new : times q (serials (named_links_of_content (with_entry name serial v).content))
+    ≡ times q (serials (link_put links name serial)) =
+    ap (λ c. times q (serials (named_links_of_content (entered name serial c)))) is in
     omega (arith, counts, gone, before, new)) held)
 
 -- `unlink`, and `let_go` of the key that was linked
 pub tallied_unlink :
     (keys : Table Key) (attached : List ℕ) (numbers : Table ℕ) (names : ℕ → Option Name) (ring serial : ℕ) (v : Key)
-    → at keys ring ≡ Some v → AreNamed names (content_links v.content)
-    → is_in serial (serials (content_links v.content)) ≡ true → IsTallied (shown keys) attached [] numbers
+    → at keys ring ≡ Some v → AreNamed names (named_links_of_content v.content)
+    → is_in serial (serials (named_links_of_content v.content)) ≡ true → IsTallied (shown keys) attached [] numbers
     → IsTallied (shown (alter keys ring (without_key serial))) attached [] (one_less serial numbers)
-tallied_unlink keys attached numbers names ring serial v there named linked h =
+tallied_unlink keys attached numbers names ring serial v there named link_put h =
     let after = alter keys ring (without_key serial) in
     tallied_let_go (shown after) attached [] numbers serial
     (tallied_alter keys attached [] (serial ∷ []) numbers ring (without_key serial) v there
     (λ q.
-    let counts = times-keyless names serial q (content_links v.content) named linked in
+    let counts = times-keyless names serial q (named_links_of_content v.content) named link_put in
     let left = ap (λ (links : LinkList). times q (serials links)) (links-keyless serial v.content) in
     omega (arith, counts, left)) h)
 
 paid_links :
-    (payload : List ℕ) (content : Content) → content_links (paid_with payload content) ≡ content_links content
+    (payload : List ℕ) (content : Content) → named_links_of_content (paid_with payload content) ≡ named_links_of_content content
 paid_links payload (Payload old) = refl
 paid_links payload (Links links) = refl
 
-emptied_links : (content : Content) → content_links (emptied content) ≡ []
+emptied_links : (content : Content) → named_links_of_content (emptied content) ≡ []
 emptied_links (Payload old) = refl
 emptied_links (Links links) = refl
 
-cleared_links : (content : Content) → content_links (cleared_content content) ≡ []
+cleared_links : (content : Content) → named_links_of_content (cleared_content content) ≡ []
 cleared_links (Payload old) = refl
 cleared_links (Links links) = refl
 
 times-changed :
     (c : Change) (v : Key) (q : ℕ)
-    → times q (serials (content_links v.content))
-    ≡ times q (taken_by c v.content) + times q (serials (content_links (changed c v).content))
+    → times q (serials (named_links_of_content v.content))
+    ≡ times q (taken_by c v.content) + times q (serials (named_links_of_content (changed c v).content))
 times-changed (change.Payload payload) v q =
     let same = ap (λ (ls : LinkList). times q (serials ls)) (paid_links payload v.content) in omega (arith, same)
 times-changed (change.Mask mask) v q = omega arith
@@ -196,7 +196,7 @@ tallied_change keys attached numbers k c v there h =
 pub tallied_insert :
     (keys : Table Key) (attached due owed : List ℕ) (numbers : Table ℕ) (k : ℕ) (key : Key) → at keys k ≡ None
     → IsSome (at numbers k)
-    → ((q : ℕ) → times q due ≡ times q owed + times q (serials (content_links key.content)))
+    → ((q : ℕ) → times q due ≡ times q owed + times q (serials (named_links_of_content key.content)))
     → IsTallied (shown keys) attached due numbers → IsTallied (shown (put keys k key)) attached owed numbers
 tallied_insert keys attached due owed numbers k key absent there same h =
     subst (λ (zs : Table model.Key). IsTallied zs attached owed numbers) (sym (put_map seen keys k key))
@@ -204,6 +204,6 @@ tallied_insert keys attached due owed numbers k key absent there same h =
     (at_map seen keys k ∙ ap (option_map seen) absent) there
     (λ q.
     let both = same q in
-    let links : times q (serials (content_links key.content)) ≡ times q (links_of (seen key).content) =
+    let links : times q (serials (named_links_of_content key.content)) ≡ times q (links_of_content (seen key).content) =
     ap (times q) (serials-content key.content) in
     omega (arith, both, links)) h)

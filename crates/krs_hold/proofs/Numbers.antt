@@ -4,7 +4,7 @@ use Rattle.std.proofs.Common.{refl, ap, ◌∙◌, sym, subst}
 use Rattle.std.proofs.lemmas.Bool.{true≢false}
 use Rattle.std.specs.Option.{is_some}
 use Rattle.krs_model.specs.Table.{Table, at, alter, put}
-use Rattle.krs_model.proofs.Tables.{put_map, alter_map}
+use Rattle.krs_model.proofs.Tables.Changes.{put_map, alter_map}
 use Rattle.krs_hold.specs.declared.counts.Count.{Count}
 use Rattle.krs_hold.specs.Tally.{number_at, with_number, one_more, one_less, all_less}
 use Rattle.krs_hold.specs.Chain.{numbers_of, holders_at, falls_at, lowered, raised, IsChained, Chained, gone}

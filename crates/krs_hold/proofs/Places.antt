@@ -7,7 +7,7 @@ use Rattle.std.specs.Ordering.{nat_cmp}
 use Rattle.std.specs.BTreeMap.{is_at}
 use Rattle.std.specs.Map.{set_value}
 use Rattle.krs_model.specs.Table.{Table, at, alter, put, without}
-use Rattle.krs_model.proofs.Tables.{same_at, alter_some, at_alter_same, at_alter_other, at_put_other}
+use Rattle.krs_model.proofs.Tables.Changes.{same_at, alter_some, at_alter_same, at_alter_other, at_put_other}
 
 -- a number is not at another
 pub other_at : (q k : ℕ) → (q ≡ k → ⊥) → is_at (nat_cmp q) k ≡ false

@@ -3,8 +3,8 @@ use Rattle.std.proofs.Common.{◌≡◌, ℕ, ◌<◌, ◌≤◌, List, [], Opti
 use Rattle.std.specs.Option.{option_map}
 use Rattle.krs_model.specs.Table.{Table, at, alter, without}
 use Rattle.krs_model.specs.State as model
-use Rattle.krs_model.specs.Sweep.{linked_by}
-use Rattle.krs_model.proofs.Tables.{at_map, without_map}
+use Rattle.krs_model.specs.Sweep.{links_of_key}
+use Rattle.krs_model.proofs.Tables.Changes.{at_map, without_map}
 use Rattle.krs_keys.specs.declared.key.Key.{Key}
 use Rattle.krs_keys.specs.Keys.{seen, shown}
 use Rattle.krs_hold.specs.declared.counts.Count.{Count}
@@ -52,7 +52,7 @@ kept_exact keys attached es k fs next r h =
 -- what `drop_key` leaves of the counts
 pub record IsLess (keys : Table Key) (k : ℕ) (fs : Table Count) (next : Option ℕ) (u : Chained) : Type 0 where
   pub no_count : at (without fs k) k ≡ None
-  pub counts : gone_all (record { counts = without fs k; first = next }) (linked_by (at (shown keys) k)) ≡ u
+  pub counts : gone_all (record { counts = without fs k; first = next }) (links_of_key (at (shown keys) k)) ≡ u
 
 pub dropped_chain :
     (keys : Table Key) (es : Table Count) (k : ℕ) (fs : Table Count) (next : Option ℕ) (u : Chained)
@@ -64,7 +64,7 @@ dropped_chain keys es k fs next u r l =
     (dropped_chained (alter es k rested) (next_at (at es k)) k (rest_popped es k r.chained)
     (ap (λ (zs : Table Count). at (without zs k) k) (sym r.counts) ∙ l.no_count))) in
     subst (λ (v : Chained). IsChained v.counts v.first) l.counts
-    (gone_all_chained (linked_by (at (shown keys) k)) (record { counts = without fs k; first = next }) start)
+    (gone_all_chained (links_of_key (at (shown keys) k)) (record { counts = without fs k; first = next }) start)
 
 pub dropped_weighs :
     (keys : Table Key) (es : Table Count) (k : ℕ) (fs : Table Count) (next : Option ℕ) (u : Chained)
@@ -72,7 +72,7 @@ pub dropped_weighs :
 dropped_weighs keys es k fs next u r l =
     let links : total_weight u.counts ≤ total_weight (without fs k) =
     subst (λ (v : Chained). total_weight v.counts ≤ total_weight (without fs k)) l.counts
-    (weight_gone_all (linked_by (at (shown keys) k)) (record { counts = without fs k; first = next })) in
+    (weight_gone_all (links_of_key (at (shown keys) k)) (record { counts = without fs k; first = next })) in
     omega (arith, links, weight_without fs k, rest_weighs es k fs next r)
 
 shown_gone : (old new : Table Key) (k : ℕ) → new ≡ without old k → shown new ≡ without (shown old) k
@@ -89,11 +89,11 @@ dropped_exact old new attached k fs next u e gone l empty h =
     let same = shown_gone old new k e in
     let no_key : at (without (shown old) k) k ≡ None =
     ap (λ (zs : Table model.Key). at zs k) (sym same) ∙ none_shown new k gone in
-    let start : IsCounted (without (shown old) k) attached (linked_by (at (shown old) k)) (without fs k) =
+    let start : IsCounted (without (shown old) k) attached (links_of_key (at (shown old) k)) (without fs k) =
     dropped_counted (shown old) attached fs k empty no_key l.no_count (counted_from (shown old) attached [] fs h) in
     let rest : IsCounted (without (shown old) k) attached [] u.counts =
     subst (λ (v : Chained). IsCounted (without (shown old) k) attached [] v.counts) l.counts
-    (gone_all_counted (without (shown old) k) attached (linked_by (at (shown old) k))
+    (gone_all_counted (without (shown old) k) attached (links_of_key (at (shown old) k))
     (record { counts = without fs k; first = next }) start) in
     tallied_from (shown new) attached [] u.counts
     (subst (λ (zs : Table model.Key). IsCounted zs attached [] u.counts) (sym same) rest)

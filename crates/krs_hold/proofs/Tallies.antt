@@ -5,8 +5,8 @@ use Rattle.std.proofs.lemmas.Bool.{true≢false, cases_eq}
 use Rattle.std.specs.Option.{option_map, unwrap_or, IsSome, is_some}
 use Rattle.krs_model.specs.Table.{Table, at, alter, put}
 use Rattle.krs_model.specs.State.{Key}
-use Rattle.krs_model.specs.Possession.{links_of}
-use Rattle.krs_model.proofs.Tables.{at_alter_same, at_put_same}
+use Rattle.krs_model.specs.Possession.{links_of_content}
+use Rattle.krs_model.proofs.Tables.Changes.{at_alter_same, at_put_same}
 use Rattle.krs_hold.specs.Tally.{times, all_links, number_at, IsTallied, with_number, one_more, one_less, all_less}
 use Rattle.krs_hold.proofs.Places.{alter_other, put_other, is_some_alter}
 use Rattle.krs_hold.proofs.Times.{times-same, times-other}
@@ -112,7 +112,7 @@ tallied_with keys attached owed numbers k h = record {
 -- a new key, for which there is room: what it links was owed
 pub tallied_put :
     (keys : Table Key) (attached due owed : List ℕ) (numbers : Table ℕ) (k : ℕ) (key : Key) → at keys k ≡ None
-    → IsSome (at numbers k) → ((q : ℕ) → times q due ≡ times q owed + times q (links_of key.content))
+    → IsSome (at numbers k) → ((q : ℕ) → times q due ≡ times q owed + times q (links_of_content key.content))
     → IsTallied keys attached due numbers → IsTallied (put keys k key) attached owed numbers
 tallied_put keys attached due owed numbers k key absent there same h = record {
   counted = λ q s. ⊎_elim
@@ -122,7 +122,7 @@ tallied_put keys attached due owed numbers k key absent there same h = record {
   exact = λ q.
       let was = h.exact q in
       let both = same q in
-      let split = times-put (λ (v : Key). links_of v.content) keys k key q absent in
+      let split = times-put (λ (v : Key). links_of_content v.content) keys k key q absent in
       omega (arith, was, both, split);
 }
 
@@ -140,14 +140,14 @@ tallied_attached keys before after due owed numbers same h = record {
 pub tallied_relinked :
     (keys : Table Key) (attached due owed : List ℕ) (numbers : Table ℕ) (j : ℕ) (f : Key → Key) (v : Key)
     → at keys j ≡ Some v
-    → ((q : ℕ) → times q due + times q (links_of v.content) ≡ times q owed + times q (links_of (f v).content))
+    → ((q : ℕ) → times q due + times q (links_of_content v.content) ≡ times q owed + times q (links_of_content (f v).content))
     → IsTallied keys attached due numbers → IsTallied (alter keys j f) attached owed numbers
 tallied_relinked keys attached due owed numbers j f v found same h = record {
   counted = λ q s. h.counted q (sym (is_some_alter keys j q f) ∙ s);
   exact = λ q.
       let was = h.exact q in
       let both = same q in
-      let split = times-alter (λ (x : Key). links_of x.content) keys j f q v found in
+      let split = times-alter (λ (x : Key). links_of_content x.content) keys j f q v found in
       omega (arith, was, both, split);
 }
 

@@ -5,7 +5,7 @@ use Rattle.std.proofs.lemmas.Bool.{true≢false}
 use Rattle.std.proofs.lemmas.Bool.Decides.{nat_tests}
 use Rattle.std.proofs.lemmas.List.Sums.{sum_by-cons, sum_by-append}
 use Rattle.krs_model.specs.Levels.{is_in}
-use Rattle.krs_model.proofs.Levels.{or_true, same_is}
+use Rattle.krs_model.proofs.Reach.Levels.{or_true, same_is}
 use Rattle.krs_hold.specs.Tally.{times}
 
 pub other_is : (x k : ℕ) → (x ≡ k → ⊥) → (x == k) ≡ false

@@ -5,7 +5,7 @@ use Rattle.krs_keys.specs.declared.key.Key.{Key}
 use Rattle.krs_keys.specs.declared.key.Content.{Content}
 use Rattle.krs_keys.specs.declared.key.Change.{Change}
 use Rattle.krs_keys.specs.declared.key.Change.TheVariants as change
-use Rattle.krs_keys.specs.Keys.{content_links}
+use Rattle.krs_keys.specs.Keys.{named_links_of_content}
 
 -- what a change takes out of a keyring: all its links, or none
 abbrev pub taken_by : Change → Content → List ℕ
@@ -13,8 +13,8 @@ taken_by (change.Payload payload) content = []
 taken_by (change.Mask mask) content = []
 taken_by (change.Owner uid gid) content = []
 taken_by (change.Expiry expiry) content = []
-taken_by change.Revoked content = serials (content_links content)
-taken_by change.Cleared content = serials (content_links content)
+taken_by change.Revoked content = serials (named_links_of_content content)
+taken_by change.Cleared content = serials (named_links_of_content content)
 
 abbrev pub taken_at : Change → Option Key → List ℕ
 taken_at c None = []

@@ -4,7 +4,7 @@ use Rattle.std.specs.Prelude.{if◌then◌else◌}
 use Rattle.std.specs.Option.{unwrap_or}
 use Rattle.krs_model.specs.Table.{Table, at, put, alter}
 use Rattle.krs_model.specs.State.{Key}
-use Rattle.krs_model.specs.Possession.{links_of}
+use Rattle.krs_model.specs.Possession.{links_of_content}
 use Rattle.krs_keys.specs.declared.key.Key as kept
 use Rattle.krs_keys.specs.Keys.{shown}
 
@@ -14,7 +14,7 @@ times k serials = count_by (λ q. q == k) serials
 
 -- what the keys of a table link, keyring by keyring
 abbrev pub all_links : Table Key → List ℕ
-all_links keys = flat_map (λ e. links_of e.1.content) keys
+all_links keys = flat_map (λ e. links_of_content e.1.content) keys
 
 -- the number of a serial, 0 where it has none
 abbrev pub number_at : Table ℕ → ℕ → ℕ

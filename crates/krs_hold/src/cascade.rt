@@ -1,7 +1,7 @@
 //! What goes once nothing holds it, key after key: without a list, without recursion.
 ghost use Rattle.std.specs.Prelude.{◌≡◌, ◌<◌, ℕ, List, Some, None};
 ghost use Rattle.krs_model.specs.Table.{at, without};
-ghost use Rattle.krs_model.specs.Sweep.{linked_by};
+ghost use Rattle.krs_model.specs.Sweep.{links_of_key};
 ghost use Rattle.krs_keys.specs.Keys.{shown};
 ghost use Rattle.krs_keys.specs.Kept.{KeepsAnchored};
 ghost use Rattle.krs_keys.specs.Hashed.{by_serial};
@@ -14,7 +14,7 @@ use krs_types::Serial;
 use std::collections::HashMap;
 
 /// Drops a key and its count, and lets go of what it linked. The first of the chain is answered.
-#[tactic(auto, using(krs_model::proofs::Tables::at_map))]
+#[tactic(auto, using(krs_model::proofs::Tables::Changes::at_map))]
 fn drop_key(
     keys: &mut KeyTable,
     counts: &mut HashMap<u32, Count>,
@@ -25,7 +25,7 @@ fn drop_key(
     ensures gone { at keys.new.keys serial ≡ None }
     ensures no_count { at (without (by_serial counts.old.entries) serial) serial ≡ None }
     ensures counts { gone_all (record { counts = without (by_serial counts.old.entries) serial; first = first })
-        (linked_by (at (shown keys.old.keys) serial))
+        (links_of_key (at (shown keys.old.keys) serial))
         ≡ record { counts = by_serial counts.new.entries; first = result } }
 {
     forget(counts, serial);

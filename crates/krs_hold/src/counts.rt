@@ -4,7 +4,7 @@ ghost use Rattle.std.specs.Prelude.{replicate};
 ghost use Rattle.krs_model.specs.Table.{at, alter, without};
 ghost use Rattle.krs_links.specs.Links.{serials};
 ghost use Rattle.krs_keys.specs.Hashed.{by_serial};
-ghost use Rattle.krs_keys.specs.Keys.{content_links};
+ghost use Rattle.krs_keys.specs.Keys.{named_links_of_content};
 ghost use Rattle.krs_hold.specs.Chain.{holders_at, next_at, falls_at, lowered, raised, rested};
 ghost use Rattle.krs_hold.specs.Chain.{gone, gone_all};
 
@@ -142,7 +142,7 @@ pub(crate) fn let_go_links(
     content: &Content,
 ) -> Option<u32>
     ensures { gone_all (record { counts = by_serial counts.old.entries; first = first })
-        (serials (content_links content.now)) ≡ record { counts = by_serial counts.new.entries; first = result } }
+        (serials (named_links_of_content content.now)) ≡ record { counts = by_serial counts.new.entries; first = result } }
 {
     match content {
         Content::Payload(_) => first,

@@ -3,9 +3,9 @@ ghost use Rattle.std.specs.Prelude.{OnOk, OnErr, IfErr, IsOk, IsSome, nat_le, re
 ghost use Rattle.std.specs.Option.{option_to_list};
 ghost use Rattle.krs_types.specs.declared.errno.Errno.TheVariants.{ENOMEM};
 ghost use Rattle.krs_model.specs.Table.{at};
-ghost use Rattle.krs_model.specs.Reach.{IsAcyclic, links_in};
+ghost use Rattle.krs_model.specs.Reach.{IsAcyclic, links_of_key_at};
 ghost use Rattle.krs_links.specs.Links.{serials};
-ghost use Rattle.krs_keys.specs.Keys.{content_links, shown};
+ghost use Rattle.krs_keys.specs.Keys.{named_links_of_content, shown};
 ghost use Rattle.krs_keys.specs.Kept.{KeepsAnchored, Sweeps};
 ghost use Rattle.krs_hold.specs.Tally.{number_at, with_number, one_more, one_less, all_less};
 ghost use Rattle.krs_hold.specs.Tally.{IsTallied, AreExact};
@@ -121,7 +121,7 @@ impl Holders {
 
     /// Lets go of all that a key links.
     fn let_go_links(&mut self, content: &Content)
-        ensures { self.new ≡ all_less (serials (content_links content.now)) self.old }
+        ensures { self.new ≡ all_less (serials (named_links_of_content content.now)) self.old }
     {
         self.first = let_go_links(&mut self.counts, self.first, content);
     }
@@ -144,7 +144,7 @@ impl Holders {
         ensures anchored { (attached : List ℕ) → AreExact keys.old.keys self.old attached
             → KeepsAnchored attached keys.old.keys keys.new.keys }
         ensures swept { (attached : List ℕ) → AreExact keys.old.keys self.old attached
-            → IsAcyclic (links_in (shown keys.old.keys))
+            → IsAcyclic (links_of_key_at (shown keys.old.keys))
             → Sweeps attached keys.old.keys keys.new.keys }
         ensures next { keys.new.next ≡ keys.old.next }
     {
@@ -162,7 +162,7 @@ impl Holders {
             → KeepsAnchored attached keys.old.keys keys.new.keys }
         ensures swept { (attached : List ℕ)
             → IsTallied (shown keys.old.keys) attached (serial ∷ []) self.old
-            → IsAcyclic (links_in (shown keys.old.keys))
+            → IsAcyclic (links_of_key_at (shown keys.old.keys))
             → Sweeps attached keys.old.keys keys.new.keys }
         ensures next { keys.new.next ≡ keys.old.next }
     {

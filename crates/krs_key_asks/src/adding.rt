@@ -1,7 +1,7 @@
 ghost use Rattle.std.specs.Prelude.{◌≡◌, ◌≤◌, ◌||◌, length, IfOk, OnOk, OnErr};
 ghost use Rattle.krs_model.specs.Outcome.{Leads, Gives, Is};
 ghost use Rattle.krs_model.specs.Asks.Adding.{admitted, if_room, by_match, place_of, new_key, made};
-ghost use Rattle.krs_model.specs.Asks.Adding.{IsRing, add};
+ghost use Rattle.krs_model.specs.Asks.Adding.{IsKeyringAt, add};
 ghost use Rattle.krs_model.specs.Asks.Changing.{is_updatable};
 ghost use Rattle.krs_key_asks.specs.Places.{meant, HasSerial};
 ghost use Rattle.krs_links.specs.Links.{serials};
@@ -107,7 +107,7 @@ fn make(
     gid: u32,
 ) -> Result<Serial, AllocError>
     requires serial { tables.old.next_serial ≤ 2147483647 }
-    requires ring { IsRing tables.old ring }
+    requires ring { IsKeyringAt tables.old ring }
     ensures serial { IfOk result (λ n. n ≡ tables.old.next_serial) }
     ensures ok { OnOk result (tables.new ≡ made tables.old ring name (new_key name payload uid gid)) }
     ensures err { OnErr result (tables.new ≡ tables.old) }

@@ -7,9 +7,9 @@ use Rattle.krs_keys.specs.declared.key.Content.{Content}
 use Rattle.krs_keys.specs.declared.key.Content.TheVariants.{Payload, Links}
 use Rattle.krs_keys.specs.declared.key.Change.{Change}
 use Rattle.krs_keys.specs.declared.key.Change.TheVariants as change
-use Rattle.krs_keys.specs.Keys.{content_links, name_at, AreNamed, AreFit, seen}
+use Rattle.krs_keys.specs.Keys.{named_links_of_content, name_at, AreNamed, AreFit, seen}
 use Rattle.krs_keys.specs.Changes.{changed, meant_change, paid_with, emptied, cleared_content}
-use Rattle.krs_keys.proofs.Fitting.{fit_alter}
+use Rattle.krs_keys.proofs.LinkNames.{fit_alter}
 
 paid_seen : (payload : List ℕ) (key : Key) (content : Content)
     → seen (changed (change.Payload payload) (record key { content = content }))
@@ -45,22 +45,22 @@ name-changed (change.Expiry expiry) key = refl
 name-changed change.Revoked key = refl
 name-changed change.Cleared key = refl
 
-paid_named : (names : ℕ → Option Name) (payload : List ℕ) (content : Content) → AreNamed names (content_links content)
-    → AreNamed names (content_links (paid_with payload content))
+paid_named : (names : ℕ → Option Name) (payload : List ℕ) (content : Content) → AreNamed names (named_links_of_content content)
+    → AreNamed names (named_links_of_content (paid_with payload content))
 paid_named names payload (Payload old) named = named
 paid_named names payload (Links links) named = named
 
-emptied_named : (names : ℕ → Option Name) (content : Content) → AreNamed names (content_links (emptied content))
+emptied_named : (names : ℕ → Option Name) (content : Content) → AreNamed names (named_links_of_content (emptied content))
 emptied_named names (Payload old) = tt
 emptied_named names (Links links) = tt
 
-cleared_named : (names : ℕ → Option Name) (content : Content) → AreNamed names (content_links content)
-    → AreNamed names (content_links (cleared_content content))
+cleared_named : (names : ℕ → Option Name) (content : Content) → AreNamed names (named_links_of_content content)
+    → AreNamed names (named_links_of_content (cleared_content content))
 cleared_named names (Payload old) named = named
 cleared_named names (Links links) named = tt
 
-changed_named : (names : ℕ → Option Name) (c : Change) (key : Key) → AreNamed names (content_links key.content)
-    → AreNamed names (content_links (changed c key).content)
+changed_named : (names : ℕ → Option Name) (c : Change) (key : Key) → AreNamed names (named_links_of_content key.content)
+    → AreNamed names (named_links_of_content (changed c key).content)
 changed_named names (change.Payload payload) key named = paid_named names payload key.content named
 changed_named names (change.Mask mask) key named = named
 changed_named names (change.Owner uid gid) key named = named

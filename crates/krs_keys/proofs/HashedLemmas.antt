@@ -14,8 +14,8 @@ use Rattle.std.specs.declared.cmp.Ordering.TheVariants.{Less, Equal, Greater}
 use Rattle.std.specs.BTreeMap.{is_at}
 use Rattle.std.specs.Map.{keys_of, lookup, set_value}
 use Rattle.krs_model.specs.Table.{Table, at, put, without, alter, map_values}
-use Rattle.krs_model.proofs.Tables.{same_at, is_at_same, at_put_same, at_put_other, at_alter_same, at_alter_other}
-use Rattle.krs_model.proofs.Tables.{alter_none, put_map}
+use Rattle.krs_model.proofs.Tables.Changes.{same_at, is_at_same, at_put_same, at_put_other, at_alter_same, at_alter_other}
+use Rattle.krs_model.proofs.Tables.Changes.{alter_none, put_map}
 use Rattle.krs_keys.specs.Hashed.{by_serial}
 
 -- the numbers of a table rise

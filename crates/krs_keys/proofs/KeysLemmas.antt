@@ -7,18 +7,18 @@ use Rattle.krs_types.specs.declared.name.Name.{Name}
 use Rattle.krs_types.specs.Name.{same_name}
 use Rattle.krs_model.specs.Table.{Table, at}
 use Rattle.krs_model.specs.State as model
-use Rattle.krs_model.specs.Possession.{links_of}
+use Rattle.krs_model.specs.Possession.{links_of_content}
 use Rattle.krs_model.specs.Linking.{is_named, link_named, with_link, linking}
-use Rattle.krs_model.proofs.Tables.{at_map}
+use Rattle.krs_model.proofs.Tables.Changes.{at_map}
 use Rattle.krs_keys.specs.declared.key.Key.{Key}
 use Rattle.krs_keys.specs.declared.key.Content.{Content}
 use Rattle.krs_keys.specs.declared.key.Content.TheVariants.{Payload, Links}
-use Rattle.krs_links.specs.Links.{LinkList, linked_as, linked, serials}
-use Rattle.krs_keys.specs.Keys.{content_links, seen, seen_content, shown, name_at, AreNamed, AreFit, with_entry}
+use Rattle.krs_links.specs.Links.{LinkList, serial_named, link_put, serials}
+use Rattle.krs_keys.specs.Keys.{named_links_of_content, seen, seen_content, shown, name_at, AreNamed, AreFit, with_entry}
 use Rattle.krs_keys.specs.Keys.{entered, FindsByName}
 
 -- the serials that a key links
-pub serials-content : (content : Content) → serials (content_links content) ≡ links_of (seen_content content)
+pub serials-content : (content : Content) → serials (named_links_of_content content) ≡ links_of_content (seen_content content)
 serials-content (Payload bytes) = refl
 serials-content (Links links) = refl
 
@@ -35,7 +35,7 @@ named_at keys name link serial h =
 
 -- so links are found by name
 pub found_named : (keys : Table Key) (name : Name) (links : LinkList) → AreNamed (name_at keys) links
-    → link_named (shown keys) name (serials links) ≡ linked_as links name
+    → link_named (shown keys) name (serials links) ≡ serial_named links name
 found_named keys name [] named = refl
 found_named keys name (link ∷ links) named =
     rw (named_at keys name link.0 link.1 named.0)
@@ -48,12 +48,12 @@ found_named keys name (link ∷ links) named =
 
 -- and put in by name
 pub linked_named : (keys : Table Key) (name : Name) (serial : ℕ) (links : LinkList) → AreNamed (name_at keys) links
-    → serials (linked links name serial) ≡ with_link (λ k. is_named name (at (shown keys) k)) (serials links) serial
+    → serials (link_put links name serial) ≡ with_link (λ k. is_named name (at (shown keys) k)) (serials links) serial
 linked_named keys name serial [] named = refl
 linked_named keys name serial (link ∷ links) named =
     rw (named_at keys name link.0 link.1 named.0)
     (elim (same_name name link.0) as (λ b. serials
-    (cond b ((name, serial) ∷ links) (link ∷ linked links name serial))
+    (cond b ((name, serial) ∷ links) (link ∷ link_put links name serial))
     ≡ cond b (serial ∷ serials links)
     (link.1 ∷ with_link (λ k. is_named name (at (shown keys) k)) (serials links) serial)) [
       | true ↦ refl
@@ -61,7 +61,7 @@ linked_named keys name serial (link ∷ links) named =
     ])
 
 linked_content : (keys : Table Key) (name : Name) (serial : ℕ) (key : Key) (content : Content)
-    → AreNamed (name_at keys) (content_links content)
+    → AreNamed (name_at keys) (named_links_of_content content)
     → seen (record key { content = entered name serial content })
     ≡ linking (shown keys) name serial (seen (record key { content = content }))
 linked_content keys name serial key (Payload bytes) named = refl
@@ -70,11 +70,11 @@ linked_content keys name serial key (Links links) named =
 
 -- the keyring with its link, as the definitions see it
 pub seen-with_entry : (keys : Table Key) (name : Name) (serial : ℕ) (key : Key)
-    → AreNamed (name_at keys) (content_links key.content)
+    → AreNamed (name_at keys) (named_links_of_content key.content)
     → seen (with_entry name serial key) ≡ linking (shown keys) name serial (seen key)
 seen-with_entry keys name serial key named = linked_content keys name serial key key.content named
 
 pub finds_by_name : (keys : Table Key) (serial : ℕ) (key : Key) → AreFit keys → at keys serial ≡ Some key
     → FindsByName (shown keys) key
 finds_by_name keys serial key fit there =
-    λ name. found_named keys name (content_links key.content) (fit serial key there)
+    λ name. found_named keys name (named_links_of_content key.content) (fit serial key there)

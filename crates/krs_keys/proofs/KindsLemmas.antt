@@ -7,14 +7,14 @@ use Rattle.krs_types.specs.declared.kind.Kind.TheVariants.{Keyring}
 use Rattle.krs_types.specs.Kind.{same_kind}
 use Rattle.krs_model.specs.State as model
 use Rattle.krs_model.specs.Levels.{is_in}
-use Rattle.krs_model.specs.Possession.{links_of}
+use Rattle.krs_model.specs.Possession.{links_of_content}
 use Rattle.krs_model.specs.Reach.{is_ring}
-use Rattle.krs_model.specs.Sweep.{linked_by}
+use Rattle.krs_model.specs.Sweep.{links_of_key}
 use Rattle.krs_types.specs.declared.kind.Kind.{Kind}
 use Rattle.krs_types.specs.declared.name.Name.{Name}
 use Rattle.krs_model.specs.Table.{Table, at, put, alter, without}
-use Rattle.krs_model.proofs.Tables.{at_put_same, at_put_other, at_or_apart, at_alter_same, at_alter_other, at_kept}
-use Rattle.krs_model.proofs.Tables.{at_map, at_without_other}
+use Rattle.krs_model.proofs.Tables.Changes.{at_put_same, at_put_other, at_or_apart, at_alter_same, at_alter_other, at_kept}
+use Rattle.krs_model.proofs.Tables.Changes.{at_map, at_without_other}
 use Rattle.krs_keys.specs.declared.key.Key.{Key}
 use Rattle.krs_keys.specs.declared.key.Content.{Content}
 use Rattle.krs_keys.specs.declared.key.Content.TheVariants.{Payload, Links}
@@ -94,12 +94,12 @@ kinds_without keys rest k is gone kinds q key h =
     ∙ (ap (λ (es : Table Key). at es q) (sym is) ∙ h))) (at_or_apart q k)
 
 ring_content : (kind : Kind) (k : ℕ) (content : Content) → IsOfKind kind content
-    → is_in k (links_of (seen_content content)) ≡ true → same_kind kind Keyring ≡ true
+    → is_in k (links_of_content (seen_content content)) ≡ true → same_kind kind Keyring ≡ true
 ring_content kind k (Payload bytes) is h = absurd (true≢false (sym h))
 ring_content kind k (Links links) is h = is
 
 ring_of : (k : ℕ) (o : Option Key) → ((key : Key) → o ≡ Some key → IsOfKind key.name.kind key.content)
-    → is_in k (linked_by (option_map seen o)) ≡ true → is_ring (option_map seen o) ≡ true
+    → is_in k (links_of_key (option_map seen o)) ≡ true → is_ring (option_map seen o) ≡ true
 ring_of k None is h = absurd (true≢false (sym h))
 ring_of k (Some key) is h = ring_content key.name.kind k key.content (is key refl) h
 
@@ -107,5 +107,5 @@ ring_of k (Some key) is h = ring_content key.name.kind k key.content (is key ref
 pub only_rings : (es : Table Key) → AreOfKind es → OnlyRingsLink (shown es)
 only_rings es kinds j k h =
     subst (λ (o : Option model.Key). is_ring o ≡ true) (sym (at_map seen es j))
-    (ring_of k (at es j) (λ key there. kinds j key there) (subst (λ (o : Option model.Key). is_in k (linked_by o)
+    (ring_of k (at es j) (λ key there. kinds j key there) (subst (λ (o : Option model.Key). is_in k (links_of_key o)
     ≡ true) (at_map seen es j) h))

@@ -1,8 +1,8 @@
 pub mod KeysLemmas
 pub mod TableLemmas
-pub mod Fitting
+pub mod LinkNames
 pub mod ChangesLemmas
 pub mod KindsLemmas
 pub mod Unlinking
 pub mod HashedLemmas
-pub mod Joining
+pub mod LeastJoinable

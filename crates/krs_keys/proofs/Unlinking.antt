@@ -4,17 +4,17 @@ use Rattle.std.proofs.Common.{refl, ap, ◌∙◌, sym, subst}
 use Rattle.std.specs.Option.{option_map}
 use Rattle.krs_types.specs.declared.name.Name.{Name}
 use Rattle.krs_links.specs.Links.{LinkList, unlinked_key}
-use Rattle.krs_links.proofs.KeyLinks.{serials-unlinked_key, linked_as-unlinked_key}
+use Rattle.krs_links.proofs.KeyLinks.{serials-unlinked_key, serial_named-unlinked_key}
 use Rattle.krs_model.specs.Table.{Table, at, alter, map_values}
 use Rattle.krs_model.specs.State as model
 use Rattle.krs_model.specs.Asks.Linked.{without_link}
-use Rattle.krs_model.proofs.Tables.{at_map, alter_map}
+use Rattle.krs_model.proofs.Tables.Changes.{at_map, alter_map}
 use Rattle.krs_keys.specs.declared.key.Key.{Key}
 use Rattle.krs_keys.specs.declared.key.Content.{Content}
 use Rattle.krs_keys.specs.declared.key.Content.TheVariants.{Payload, Links}
-use Rattle.krs_keys.specs.Keys.{seen, shown, content_links, keyless_content, without_key}
+use Rattle.krs_keys.specs.Keys.{seen, shown, named_links_of_content, keyless_content, without_key}
 use Rattle.krs_keys.specs.Keys.{name_at, AreNamed, AreFit, IsOfKind, AreOfKind}
-use Rattle.krs_keys.proofs.Fitting.{named_on, fit_alter}
+use Rattle.krs_keys.proofs.LinkNames.{named_on, fit_alter}
 use Rattle.krs_keys.proofs.KindsLemmas.{keyless_kind}
 use Rattle.krs_keys.proofs.TableLemmas.{mapped_some}
 
@@ -55,12 +55,12 @@ named-unlinked_key names serial (link ∷ links) named =
     elim (link.1 == serial) as (λ b.
     AreNamed names (cond (not b) (link ∷ unlinked_key links serial) (unlinked_key links serial))) [
       | true ↦ rest
-      | false ↦ (named.0, rest, linked_as-unlinked_key serial link.0 links named.2)
+      | false ↦ (named.0, rest, serial_named-unlinked_key serial link.0 links named.2)
     ]
 
 named_keyless :
-    (names : ℕ → Option Name) (serial : ℕ) (content : Content) → AreNamed names (content_links content)
-    → AreNamed names (content_links (keyless_content serial content))
+    (names : ℕ → Option Name) (serial : ℕ) (content : Content) → AreNamed names (named_links_of_content content)
+    → AreNamed names (named_links_of_content (keyless_content serial content))
 named_keyless names serial (Payload bytes) named = named
 named_keyless names serial (Links links) named = named-unlinked_key names serial links named
 
@@ -97,10 +97,10 @@ pub fit-without_key :
 fit-without_key serial keys fit q key h =
     let was = came_from serial keys q key h in
     let names = name_at keys in
-    subst (λ (v : Key). AreNamed (name_at (map_values (without_key serial) keys)) (content_links v.content)) was.2
+    subst (λ (v : Key). AreNamed (name_at (map_values (without_key serial) keys)) (named_links_of_content v.content)) was.2
     (named_on names (name_at (map_values (without_key serial) keys))
     (λ k name there. name-without_key serial keys k ∙ there)
-    (content_links (keyless_content serial was.0.content))
+    (named_links_of_content (keyless_content serial was.0.content))
     (named_keyless names serial was.0.content (fit q was.0 was.1)))
 
 -- each key holds what keys of its type hold
@@ -114,6 +114,6 @@ kinds-without_key serial keys kinds q key h =
 -- the links that are left
 pub links-keyless :
     (serial : ℕ) (content : Content)
-    → content_links (keyless_content serial content) ≡ unlinked_key (content_links content) serial
+    → named_links_of_content (keyless_content serial content) ≡ unlinked_key (named_links_of_content content) serial
 links-keyless serial (Payload bytes) = refl
 links-keyless serial (Links links) = refl

@@ -8,19 +8,19 @@ use Rattle.krs_types.specs.declared.name.Name.{Name}
 use Rattle.krs_model.specs.Table.{Table, at, map_values}
 use Rattle.krs_model.specs.State as model
 use Rattle.krs_model.specs.Levels.{is_in}
-use Rattle.krs_model.specs.Reach.{links_in, is_ring}
+use Rattle.krs_model.specs.Reach.{links_of_key_at, is_ring}
 use Rattle.krs_model.specs.Linking.{link_named}
 use Rattle.krs_model.specs.Asks.Joining.{is_joinable}
 use Rattle.krs_types.specs.declared.caller.Caller.{Caller}
 use Rattle.krs_keys.specs.declared.key.Key.{Key}
 use Rattle.krs_keys.specs.declared.key.Content.{Content}
 use Rattle.krs_keys.specs.declared.key.Content.TheVariants.{Payload, Links}
-use Rattle.krs_links.specs.Links.{LinkList, linked, unlinked_key, linked_as, serials}
+use Rattle.krs_links.specs.Links.{LinkList, link_put, unlinked_key, serial_named, serials}
 
 -- the named links of a keyring
-abbrev pub content_links : Content → LinkList
-content_links (Payload bytes) = []
-content_links (Links links) = links
+abbrev pub named_links_of_content : Content → LinkList
+named_links_of_content (Payload bytes) = []
+named_links_of_content (Links links) = links
 
 abbrev pub seen_content : Content → model.Content
 seen_content (Payload bytes) = model.Payload bytes
@@ -47,7 +47,7 @@ shown es = map_values seen es
 -- what a keyring links, with one link more
 abbrev pub entered : Name → ℕ → Content → Content
 entered name serial (Payload bytes) = Payload bytes
-entered name serial (Links links) = Links (linked links name serial)
+entered name serial (Links links) = Links (link_put links name serial)
 
 -- one more link
 abbrev pub with_entry : Name → ℕ → Key → Key
@@ -69,20 +69,20 @@ name_at keys serial = option_map (λ key. key.name) (at keys serial)
 -- each link names a key, under that key's own name, and no two links have one name: keyrings(7), "Keyrings"
 abbrev pub AreNamed : (ℕ → Option Name) → LinkList → Type 0
 AreNamed names [] = Unit {0}
-AreNamed names (link ∷ links) = (names link.1 ≡ Some link.0) × AreNamed names links × (linked_as links link.0 ≡ None)
+AreNamed names (link ∷ links) = (names link.1 ≡ Some link.0) × AreNamed names links × (serial_named links link.0 ≡ None)
 
 -- every link of every key does
 abbrev pub AreFit : Table Key → Type 0
 AreFit keys =
-    (serial : ℕ) (key : Key) → at keys serial ≡ Some key → AreNamed (name_at keys) (content_links key.content)
+    (serial : ℕ) (key : Key) → at keys serial ≡ Some key → AreNamed (name_at keys) (named_links_of_content key.content)
 
-abbrev pub links_by : Option Key → LinkList
-links_by None = []
-links_by (Some key) = content_links key.content
+abbrev pub named_links_of_key : Option Key → LinkList
+named_links_of_key None = []
+named_links_of_key (Some key) = named_links_of_content key.content
 
 -- the named links of the key at a serial
-abbrev pub links_at : Table Key → ℕ → LinkList
-links_at keys serial = links_by (at keys serial)
+abbrev pub named_links_of_key_at : Table Key → ℕ → LinkList
+named_links_of_key_at keys serial = named_links_of_key (at keys serial)
 
 -- only a keyring has links
 abbrev pub IsOfKind : Kind → Content → Type 0
@@ -95,12 +95,12 @@ AreOfKind keys = (serial : ℕ) (key : Key) → at keys serial ≡ Some key → 
 
 -- only keyrings link keys: keyrings(7), "Keyrings"
 abbrev pub OnlyRingsLink : Table model.Key → Type 0
-OnlyRingsLink keys = (j k : ℕ) → is_in k (links_in keys j) ≡ true → is_ring (at keys j) ≡ true
+OnlyRingsLink keys = (j k : ℕ) → is_in k (links_of_key_at keys j) ≡ true → is_ring (at keys j) ≡ true
 
 -- the serial that a link of that name in a keyring displaces
 abbrev pub displaced_by : Name → Option Key → Option ℕ
 displaced_by name None = None
-displaced_by name (Some key) = linked_as (content_links key.content) name
+displaced_by name (Some key) = serial_named (named_links_of_content key.content) name
 
 abbrev pub displaced_at : Table Key → ℕ → Name → Option ℕ
 displaced_at keys ring name = displaced_by name (at keys ring)
@@ -109,7 +109,7 @@ displaced_at keys ring name = displaced_by name (at keys ring)
 abbrev pub FindsByName : Table model.Key → Key → Type 0
 FindsByName keys key =
     (name : Name)
-    → link_named keys name (serials (content_links key.content)) ≡ linked_as (content_links key.content) name
+    → link_named keys name (serials (named_links_of_content key.content)) ≡ serial_named (named_links_of_content key.content) name
 
 -- the least serial of a keyring that a caller may join by this description: profile, joining by name
 abbrev pub joinable_in : ℕ → Caller → List ℕ → Table Key → Option ℕ

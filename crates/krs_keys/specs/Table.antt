@@ -2,7 +2,7 @@
 use Rattle.std.specs.Prelude.{◌≡◌, ◌⊎◌, ℕ, ◌+◌, ◌≤◌, nat_lt, cond, if◌then◌else◌}
 use Rattle.krs_types.specs.declared.name.Name.{Name}
 use Rattle.krs_links.specs.Links.{link_error}
-use Rattle.krs_keys.specs.Keys.{links_at, with_entry, AreOfKind}
+use Rattle.krs_keys.specs.Keys.{named_links_of_key_at, with_entry, AreOfKind}
 use Rattle.krs_types.specs.declared.errno.Errno.{Errno}
 use Rattle.krs_types.specs.declared.errno.Errno.TheVariants.{ENOSPC, ENOMEM}
 use Rattle.krs_model.specs.Table.{Table, put, alter, IsBelow}
@@ -38,10 +38,10 @@ AreLeft next count = next + count ≤ 2147483648
 abbrev pub insert_error : ℕ → ℕ → Errno
 insert_error next count = if nat_lt 2147483648 (next + count) then ENOSPC else ENOMEM
 
--- why a new key that a keyring is to link is refused, where a serial is left: want of memory, for it or for the link,
+-- why a new key that a keyring is to link is refused, where a serial is left: ENOMEM, for it or for the link,
 -- or the keyring is full
 abbrev pub IsLinkError : Table Key → ℕ → Name → Errno → Type 0
-IsLinkError keys ring name error = (error ≡ ENOMEM) ⊎ (error ≡ link_error (links_at keys ring) name)
+IsLinkError keys ring name error = (error ≡ ENOMEM) ⊎ (error ≡ link_error (named_links_of_key_at keys ring) name)
 
 -- no serial is left; else as above
 abbrev pub IsLinkedError : Table Key → ℕ → ℕ → Name → Errno → Type 0

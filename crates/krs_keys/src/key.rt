@@ -1,6 +1,6 @@
 ghost use Rattle.std.specs.Prelude.{◌≡◌, false, IfOk, IfErr, OnOk, OnErr};
-ghost use Rattle.krs_links.specs.Links.{linked_as, has_link, is_refused, link_error};
-ghost use Rattle.krs_keys.specs.Keys.{with_entry, without_key, content_links, seen};
+ghost use Rattle.krs_links.specs.Links.{serial_named, has_link, is_refused, link_error};
+ghost use Rattle.krs_keys.specs.Keys.{with_entry, without_key, named_links_of_content, seen};
 ghost use Rattle.krs_keys.specs.Changes.{changed};
 ghost use Rattle.krs_model.specs.Asks.Changing.{or_left};
 ghost use Rattle.krs_model.specs.Access.{is_over, is_alive, rights_on};
@@ -86,7 +86,7 @@ impl Key {
 
     /// Whether it links a key.
     pub fn links_to(&self, serial: Serial) -> bool
-        ensures { result ≡ has_link serial (content_links self.now.content) }
+        ensures { result ≡ has_link serial (named_links_of_content self.now.content) }
     {
         match &self.content {
             Content::Payload(_) => false,
@@ -96,7 +96,7 @@ impl Key {
 
     /// Whether it would refuse a link under this name: it is a full keyring, and no link is displaced.
     pub fn would_refuse(&self, name: &Name) -> bool
-        ensures { result ≡ is_refused (content_links self.now.content) name.now }
+        ensures { result ≡ is_refused (named_links_of_content self.now.content) name.now }
     {
         match &self.content {
             Content::Payload(_) => false,
@@ -137,9 +137,9 @@ impl Key {
     /// One more link, where it is a keyring, and the serial that it displaces: ENFILE, ENOMEM.
     pub fn link(&mut self, name: Name, serial: Serial) -> Result<Option<Serial>, Errno>
         ensures ok { OnOk result (self.new ≡ with_entry name serial self.old) }
-        ensures displaced { IfOk result (λ old. old ≡ linked_as (content_links self.old.content) name) }
-        ensures room { OnOk result (is_refused (content_links self.old.content) name ≡ false) }
-        ensures error { IfErr result (λ e. e ≡ link_error (content_links self.old.content) name) }
+        ensures displaced { IfOk result (λ old. old ≡ serial_named (named_links_of_content self.old.content) name) }
+        ensures room { OnOk result (is_refused (named_links_of_content self.old.content) name ≡ false) }
+        ensures error { IfErr result (λ e. e ≡ link_error (named_links_of_content self.old.content) name) }
         ensures err { OnErr result (self.new ≡ self.old) }
     {
         match &mut self.content {

@@ -4,7 +4,7 @@ ghost use Rattle.std.specs.List.Sorted.{IsStrictlySortedBy};
 ghost use Rattle.std.specs.Map.{keys_of};
 ghost use Rattle.std.specs.Ordering.{nat_cmp};
 ghost use Rattle.krs_model.specs.Table.{at, put, without, alter, map_values, IsBelow};
-ghost use Rattle.krs_keys.specs.Keys.{with_entry, without_key, displaced_at, links_at};
+ghost use Rattle.krs_keys.specs.Keys.{with_entry, without_key, displaced_at, named_links_of_key_at};
 ghost use Rattle.krs_keys.specs.Keys.{shown, IsOfKind, AreOfKind, OnlyRingsLink};
 ghost use Rattle.krs_links.specs.Links.{has_link, is_refused, link_error};
 ghost use Rattle.krs_keys.specs.Changes.{changed};
@@ -86,7 +86,7 @@ impl KeyTable {
 
     /// Whether a keyring links a key.
     pub fn has_link(&self, ring: Serial, serial: Serial) -> bool
-        ensures { result ≡ has_link serial (links_at self.now.keys ring) }
+        ensures { result ≡ has_link serial (named_links_of_key_at self.now.keys ring) }
     {
         match self.get(ring) {
             Some(key) => key.links_to(serial),
@@ -96,7 +96,7 @@ impl KeyTable {
 
     /// Whether a keyring would refuse a link under this name: it is full, and no link is displaced.
     pub fn would_refuse(&self, ring: Serial, name: &Name) -> bool
-        ensures { result ≡ is_refused (links_at self.now.keys ring) name.now }
+        ensures { result ≡ is_refused (named_links_of_key_at self.now.keys ring) name.now }
     {
         let Some(key) = self.get(ring) else {
             return false;
@@ -169,7 +169,7 @@ impl KeyTable {
         ensures displaced { IfOk result (λ old. old ≡ displaced_at (put self.old.keys self.old.next key) ring name) }
         ensures ok { OnOk result (self.new ≡ with_linked_key self.old ring name key) }
         ensures left { OnOk result (AreLeft self.old.next 1) }
-        ensures room { OnOk result (is_refused (links_at (put self.old.keys self.old.next key) ring) name ≡ false) }
+        ensures room { OnOk result (is_refused (named_links_of_key_at (put self.old.keys self.old.next key) ring) name ≡ false) }
         ensures error { IfErr result (IsLinkedError (put self.old.keys self.old.next key) self.old.next ring name) }
         ensures err { OnErr result (self.new ≡ self.old) }
     {
@@ -192,8 +192,8 @@ impl KeyTable {
         ensures displaced { IfOk result (λ old. old ≡ displaced_at self.old.keys ring name) }
         ensures ok { OnOk result (self.new
             ≡ record self.old { keys = alter self.old.keys ring (with_entry name serial) }) }
-        ensures room { OnOk result (is_refused (links_at self.old.keys ring) name ≡ false) }
-        ensures error { IfErr result (λ e. e ≡ link_error (links_at self.old.keys ring) name) }
+        ensures room { OnOk result (is_refused (named_links_of_key_at self.old.keys ring) name ≡ false) }
+        ensures error { IfErr result (λ e. e ≡ link_error (named_links_of_key_at self.old.keys ring) name) }
         ensures err { OnErr result (self.new ≡ self.old) }
     {
         let displaced = link_in(&mut self.keys, ring.number(), name, serial)?;
@@ -276,7 +276,7 @@ fn take_out(keys: &mut HashMap<u32, Key>, serial: u32) -> Option<Key>
 }
 
 /// Two keys under consecutive serials. A refusal leaves neither.
-#[tactic(auto, using(krs_model::proofs::Tables::without_put))]
+#[tactic(auto, using(krs_model::proofs::Tables::Changes::without_put))]
 fn put_two(
     keys: &mut HashMap<u32, Key>,
     serial: u32,
@@ -298,7 +298,7 @@ fn put_two(
 }
 
 /// A key that a keyring links, and the serial that this displaces. A refusal leaves neither.
-#[tactic(auto, using(krs_model::proofs::Tables::without_put))]
+#[tactic(auto, using(krs_model::proofs::Tables::Changes::without_put))]
 fn put_linked(
     keys: &mut HashMap<u32, Key>,
     serial: u32,
@@ -312,7 +312,7 @@ fn put_linked(
     ensures ok { OnOk result (by_serial keys.new.entries
         ≡ alter (put (by_serial keys.old.entries) serial key) ring (with_entry name serial)) }
     ensures room { OnOk result
-        (is_refused (links_at (put (by_serial keys.old.entries) serial key) ring) name ≡ false) }
+        (is_refused (named_links_of_key_at (put (by_serial keys.old.entries) serial key) ring) name ≡ false) }
     ensures error { IfErr result (IsLinkError (put (by_serial keys.old.entries) serial key) ring name) }
     ensures err { OnErr result (by_serial keys.new.entries ≡ by_serial keys.old.entries) }
 {
@@ -368,8 +368,8 @@ fn link_in(
     ensures displaced { IfOk result (λ old. old ≡ displaced_at (by_serial keys.old.entries) ring name) }
     ensures ok { OnOk result (by_serial keys.new.entries
         ≡ alter (by_serial keys.old.entries) ring (with_entry name serial)) }
-    ensures room { OnOk result (is_refused (links_at (by_serial keys.old.entries) ring) name ≡ false) }
-    ensures error { IfErr result (λ e. e ≡ link_error (links_at (by_serial keys.old.entries) ring) name) }
+    ensures room { OnOk result (is_refused (named_links_of_key_at (by_serial keys.old.entries) ring) name ≡ false) }
+    ensures error { IfErr result (λ e. e ≡ link_error (named_links_of_key_at (by_serial keys.old.entries) ring) name) }
     ensures err { OnErr result (by_serial keys.new.entries ≡ by_serial keys.old.entries) }
 {
     match keys.get_mut(&ring) {

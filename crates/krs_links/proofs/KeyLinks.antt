@@ -7,7 +7,7 @@ use Rattle.std.proofs.lemmas.Option.{none-some}
 use Rattle.std.proofs.lemmas.Map.Keys.{IsDistinct-head, IsDistinct-tail, IsDistinct-cons}
 use Rattle.krs_types.specs.declared.name.Name.{Name}
 use Rattle.krs_types.specs.Name.{same_name}
-use Rattle.krs_links.specs.Links.{LinkList, names, serials, IsUnique, linked_as, unlinked_key, nested, is_ring}
+use Rattle.krs_links.specs.Links.{LinkList, names, serials, IsUnique, serial_named, unlinked_key, nested, is_ring}
 use Rattle.krs_links.specs.Lists.{AreLists}
 
 -- the other serials
@@ -93,19 +93,19 @@ AreLists-unlinked_key serial xs rings after lists e = record {
 }
 
 -- under a name that linked nothing, nothing is linked
-pub linked_as-unlinked_key :
-    (serial : ℕ) (name : Name) (xs : LinkList) → linked_as xs name ≡ None
-    → linked_as (unlinked_key xs serial) name ≡ None
-linked_as-unlinked_key serial name [] none = refl
-linked_as-unlinked_key serial name (x ∷ xs) none =
+pub serial_named-unlinked_key :
+    (serial : ℕ) (name : Name) (xs : LinkList) → serial_named xs name ≡ None
+    → serial_named (unlinked_key xs serial) name ≡ None
+serial_named-unlinked_key serial name [] none = refl
+serial_named-unlinked_key serial name (x ∷ xs) none =
     elim (same_name name x.0) as (λ b. same_name name x.0 ≡ b
     → option_map (λ (link : Name × ℕ). link.1) (cond b (Some x) (find (λ link. same_name name link.0) xs)) ≡ None
-    → linked_as (unlinked_key (x ∷ xs) serial) name ≡ None) [
+    → serial_named (unlinked_key (x ∷ xs) serial) name ≡ None) [
       | true ↦ λ same h. absurd (none-some x.1 (sym h))
       | false ↦ λ other h.
-          let rest = linked_as-unlinked_key serial name xs h in
+          let rest = serial_named-unlinked_key serial name xs h in
           elim (x.1 == serial) as (λ d.
-          linked_as (cond (not d) (x ∷ unlinked_key xs serial) (unlinked_key xs serial)) name ≡ None) [
+          serial_named (cond (not d) (x ∷ unlinked_key xs serial) (unlinked_key xs serial)) name ≡ None) [
             | true ↦ rest
             | false ↦ rw other rest
           ]

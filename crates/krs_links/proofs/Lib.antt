@@ -1,4 +1,3 @@
-pub mod NamesLemmas
 pub mod LinksLemmas
 pub mod PlacesLemmas
 pub mod KeyLinks

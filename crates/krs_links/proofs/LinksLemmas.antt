@@ -6,59 +6,59 @@ use Rattle.std.proofs.lemmas.Option.{none-some}
 use Rattle.std.proofs.lemmas.Map.Keys.{IsDistinct-head, IsDistinct-tail, IsDistinct-cons}
 use Rattle.krs_types.specs.declared.name.Name.{Name}
 use Rattle.krs_types.specs.Name.{same_name}
-use Rattle.krs_links.specs.Links.{LinkList, names, IsUnique, linked_as, linked, unlinked}
-use Rattle.krs_links.proofs.NamesLemmas.{equal_names, other_way}
+use Rattle.krs_links.specs.Links.{LinkList, names, IsUnique, serial_named, link_put, unlinked}
+use Rattle.krs_types.proofs.Names.{equal_names, other_way}
 
 -- what is linked as nothing is linked last
-pub linked_last : (name : Name) (serial : ℕ) (xs : LinkList) → linked_as xs name ≡ None →
-    linked xs name serial ≡ xs ++ (name, serial) ∷ []
+pub linked_last : (name : Name) (serial : ℕ) (xs : LinkList) → serial_named xs name ≡ None →
+    link_put xs name serial ≡ xs ++ (name, serial) ∷ []
 linked_last name serial [] h = refl
 linked_last name serial (x ∷ xs) h =
     elim (same_name name x.0) as (λ b. option_map (λ (link : Name × ℕ). link.1) (cond b (Some x) (find
-    (λ link. same_name name link.0) xs)) ≡ None → cond b ((name, serial) ∷ xs) (x ∷ linked xs name serial) ≡ x ∷ (xs
+    (λ link. same_name name link.0) xs)) ≡ None → cond b ((name, serial) ∷ xs) (x ∷ link_put xs name serial) ≡ x ∷ (xs
     ++ (name, serial) ∷ [])) [
       | true ↦ λ q. absurd (none-some x.1 (sym q))
       | false ↦ λ q. ap (λ zs. x ∷ zs) (linked_last name serial xs q)
     ] h
 
 -- under another name the same is linked as before
-pub linked_as-linked_other : (name other : Name) (serial : ℕ) (xs : LinkList) → same_name other name ≡ false →
-    linked_as (linked xs name serial) other ≡ linked_as xs other
-linked_as-linked_other name other serial [] h = rw h refl
-linked_as-linked_other name other serial (x ∷ xs) h =
-    elim (same_name name x.0) as (λ b. same_name name x.0 ≡ b → linked_as (cond b ((name, serial) ∷ xs)
-    (x ∷ linked xs name serial)) other ≡ linked_as (x ∷ xs) other) [
+pub serial_named-linked_other : (name other : Name) (serial : ℕ) (xs : LinkList) → same_name other name ≡ false →
+    serial_named (link_put xs name serial) other ≡ serial_named xs other
+serial_named-linked_other name other serial [] h = rw h refl
+serial_named-linked_other name other serial (x ∷ xs) h =
+    elim (same_name name x.0) as (λ b. same_name name x.0 ≡ b → serial_named (cond b ((name, serial) ∷ xs)
+    (x ∷ link_put xs name serial)) other ≡ serial_named (x ∷ xs) other) [
       | true ↦ λ t.
           let none : same_name other x.0 ≡ false = subst (λ (n : Name). same_name other n ≡ false)
           (equal_names name x.0 t) h in
           rw (h, none) refl
       | false ↦ λ t. elim (same_name other x.0) as (λ b. option_map (λ (link : Name × ℕ). link.1) (cond b (Some x)
-          (find (λ link. same_name other link.0) (linked xs name serial))) ≡ option_map (λ
+          (find (λ link. same_name other link.0) (link_put xs name serial))) ≡ option_map (λ
           (link : Name × ℕ). link.1) (cond b (Some x) (find (λ link. same_name other link.0) xs))) [
             | true ↦ refl
-            | false ↦ linked_as-linked_other name other serial xs h
+            | false ↦ serial_named-linked_other name other serial xs h
           ]
     ] refl
 
 apart_linked : (name other : Name) (serial : ℕ) (xs : LinkList) → same_name other name ≡ false →
     AllByRecursion (λ n. same_name other n ≡ false) (names xs) →
-    AllByRecursion (λ n. same_name other n ≡ false) (names (linked xs name serial))
+    AllByRecursion (λ n. same_name other n ≡ false) (names (link_put xs name serial))
 apart_linked name other serial [] h all = (h, tt)
 apart_linked name other serial (x ∷ xs) h all =
     elim (same_name name x.0) as (λ b. AllByRecursion (λ n. same_name other n ≡ false) (names (cond b
-    ((name, serial) ∷ xs) (x ∷ linked xs name serial)))) [
+    ((name, serial) ∷ xs) (x ∷ link_put xs name serial)))) [
       | true ↦ (h, all.1)
       | false ↦ (all.0, apart_linked name other serial xs h all.1)
     ]
 
 -- names stay unique
-pub IsUnique-linked : (name : Name) (serial : ℕ) (xs : LinkList) → IsUnique xs → IsUnique (linked xs name serial)
+pub IsUnique-linked : (name : Name) (serial : ℕ) (xs : LinkList) → IsUnique xs → IsUnique (link_put xs name serial)
 IsUnique-linked name serial [] u = IsDistinct-cons same_name name [] tt u
 IsUnique-linked name serial (x ∷ xs) u =
     elim (same_name name x.0) as (λ b. same_name name x.0 ≡ b → IsUnique (cond b ((name, serial) ∷ xs)
-    (x ∷ linked xs name serial))) [
+    (x ∷ link_put xs name serial))) [
       | true ↦ λ t. subst (λ (n : Name). IsDistinct same_name (n ∷ names xs)) (sym (equal_names name x.0 t)) u
-      | false ↦ λ t. IsDistinct-cons same_name x.0 (names (linked xs name serial))
+      | false ↦ λ t. IsDistinct-cons same_name x.0 (names (link_put xs name serial))
           (apart_linked name x.0 serial xs (other_way name x.0 t) (IsDistinct-head same_name x.0 (names xs) u))
           (IsUnique-linked name serial xs (IsDistinct-tail same_name x.0 (names xs) u))
     ] refl
@@ -85,7 +85,7 @@ IsUnique-unlinked name (x ∷ xs) u =
     ]
 
 -- a name that is linked as nothing takes nothing out
-pub unlinked_none : (name : Name) (xs : LinkList) → linked_as xs name ≡ None → unlinked xs name ≡ xs
+pub unlinked_none : (name : Name) (xs : LinkList) → serial_named xs name ≡ None → unlinked xs name ≡ xs
 unlinked_none name [] h = refl
 unlinked_none name (x ∷ xs) h =
     elim (same_name name x.0) as (λ b. option_map (λ (link : Name × ℕ). link.1) (cond b (Some x) (find

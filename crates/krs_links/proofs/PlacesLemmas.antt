@@ -13,9 +13,9 @@ use Rattle.std.proofs.Math.ListN.{length-set}
 use Rattle.std.proofs.lemmas.Map.Keys.{IsDistinct-head, IsDistinct-tail, IsDistinct-from_apart}
 use Rattle.krs_types.specs.declared.name.Name.{Name}
 use Rattle.krs_types.specs.Name.{same_name}
-use Rattle.krs_links.specs.Links.{LinkList, names, serials, IsUnique, linked_as, linked, unlinked, nested, is_ring}
+use Rattle.krs_links.specs.Links.{LinkList, names, serials, IsUnique, serial_named, link_put, unlinked, nested, is_ring}
 use Rattle.krs_links.specs.Lists.{AreLists, place_of}
-use Rattle.krs_links.proofs.NamesLemmas.{equal_names}
+use Rattle.krs_types.proofs.Names.{equal_names}
 use Rattle.krs_links.proofs.LinksLemmas.{linked_last, IsUnique-linked, IsUnique-unlinked}
 
 find_at : {X : Type 0} (p : X → Bool) (xs : List X) (i : ℕ) (d : X) → i < length xs → p (get_or xs i d) ≡ true →
@@ -28,7 +28,7 @@ find_at p (x ∷ xs) (suc i) d lt here before =
 
 set_at : (name : Name) (serial : ℕ) (xs : LinkList) (i : ℕ) (d : Name × ℕ) → i < length xs →
     same_name name (get_or xs i d).0 ≡ true → ((k : ℕ) → k < i → same_name name (get_or xs k d).0 ≡ false) →
-    set xs i (name, serial) ≡ linked xs name serial
+    set xs i (name, serial) ≡ link_put xs name serial
 set_at name serial [] i d lt here before = absurd (omega arith)
 set_at name serial (x ∷ xs) zero d lt here before = rw here refl
 set_at name serial (x ∷ xs) (suc i) d lt here before =
@@ -58,7 +58,7 @@ place_within name xs i d h = (position-Some (λ (link : Name × ℕ). same_name 
 
 -- the link at the place of a name is the one that is linked under it
 pub linked_as_at : (name : Name) (xs : LinkList) (i : ℕ) (d : Name × ℕ) → place_of name xs ≡ Some i →
-    linked_as xs name ≡ Some (get_or xs i d).1
+    serial_named xs name ≡ Some (get_or xs i d).1
 linked_as_at name xs i d h =
     let at_place = position-Some (λ (link : Name × ℕ). same_name name link.0) xs i d h in
     ap (option_map (λ (link : Name × ℕ). link.1)) (find_at
@@ -66,7 +66,7 @@ linked_as_at name xs i d h =
 
 -- a write there links
 pub linked_at : (name : Name) (serial : ℕ) (xs : LinkList) (i : ℕ) (d : Name × ℕ) → place_of name xs ≡ Some i →
-    set xs i (name, serial) ≡ linked xs name serial
+    set xs i (name, serial) ≡ link_put xs name serial
 linked_at name serial xs i d h =
     let at_place = position-Some (λ (link : Name × ℕ). same_name name link.0) xs i d h in
     set_at name serial xs i d at_place.0 at_place.1 at_place.2
@@ -86,7 +86,7 @@ ring_at name xs i d h =
     ap is_ring (sym (equal_names name (get_or xs i d).0 at_place.1))
 
 none_from : (name : Name) (n : ℕ) (xs : LinkList) → position_from (λ link. same_name name link.0) n xs ≡ None →
-    linked_as xs name ≡ None
+    serial_named xs name ≡ None
 none_from name n [] h = refl
 none_from name n (x ∷ xs) h =
     elim (same_name name x.0) as (λ b. cond b (Some n) (position_from (λ link. same_name name link.0) (n + 1) xs)
@@ -98,11 +98,11 @@ none_from name n (x ∷ xs) h =
 
 -- no link has the name
 pub none_at : (name : Name) (xs : LinkList) → position (λ link. same_name name link.0) xs ≡ None →
-    linked_as xs name ≡ None
+    serial_named xs name ≡ None
 none_at name xs h = none_from name 0 xs (sym (position_from-zero (λ (link : Name × ℕ). same_name name link.0) xs) ∙ h)
 
 pub none_given : (name : Name) (xs : LinkList) (found : Option ℕ) → found ≡ place_of name xs →
-    IfNone found (linked_as xs name ≡ None)
+    IfNone found (serial_named xs name ≡ None)
 none_given name xs None h = none_at name xs (sym h)
 none_given name xs (Some i) h = tt
 
@@ -170,14 +170,14 @@ ring_within name xs i h ring = within_at xs i (name, 0) (place_within name xs i 
 -- a write among the nested keyrings, where the name is a keyring's, and else none
 pub rings_displaced : (name : Name) (serial : ℕ) (xs : LinkList) (i : ℕ) → place_of name xs ≡ Some i →
     is_ring name ≡ true → set (serials (nested xs)) (rings_before xs i) serial ≡ serials (nested
-    (linked xs name serial))
+    (link_put xs name serial))
 rings_displaced name serial xs i h ring =
     let d : Name × ℕ = (name, serial) in
     set_rings xs i d d (place_within name xs i d h) (ring_at name xs i d h ∙ ring) ring
     ∙ ap (λ (links : LinkList). serials (nested links)) (linked_at name serial xs i d h)
 
 pub rings_stay_displaced : (name : Name) (serial : ℕ) (xs : LinkList) (i : ℕ) → place_of name xs ≡ Some i →
-    is_ring name ≡ false → serials (nested xs) ≡ serials (nested (linked xs name serial))
+    is_ring name ≡ false → serials (nested xs) ≡ serials (nested (link_put xs name serial))
 rings_stay_displaced name serial xs i h other =
     let d : Name × ℕ = (name, serial) in
     ap serials (set_no_ring xs i d d (place_within name xs i d h) (ring_at name xs i d h ∙ other) other)
@@ -211,11 +211,11 @@ rings_last (x ∷ xs) link =
 
 -- a link in the place of another keeps the two lists
 pub AreLists-displaced : (name : Name) (serial : ℕ) (xs : LinkList) (rings after : List ℕ) (i : ℕ) →
-    AreLists xs rings → place_of name xs ≡ Some i → after ≡ serials (nested (linked xs name serial)) →
-    AreLists (linked xs name serial) after
+    AreLists xs rings → place_of name xs ≡ Some i → after ≡ serials (nested (link_put xs name serial)) →
+    AreLists (link_put xs name serial) after
 AreLists-displaced name serial xs rings after i lists h e =
     let d : Name × ℕ = (name, serial) in
-    let long : length (linked xs name serial) ≡ length xs = ap length (sym (linked_at name serial xs i d h))
+    let long : length (link_put xs name serial) ≡ length xs = ap length (sym (linked_at name serial xs i d h))
     ∙ length-set xs i d in
     record {
       bound = let bound = lists.bound in
@@ -226,7 +226,7 @@ AreLists-displaced name serial xs rings after i lists h e =
 
 -- so does one under a new name
 AreLists-last : (name : Name) (serial : ℕ) (xs : LinkList) (rings : List ℕ) → AreLists xs rings →
-    length xs < 65535 → linked_as xs name ≡ None → AreLists (xs ++ (name, serial) ∷ []) (rings ++ cond
+    length xs < 65535 → serial_named xs name ≡ None → AreLists (xs ++ (name, serial) ∷ []) (rings ++ cond
     (is_ring name) (serial ∷ []) [])
 AreLists-last name serial xs rings lists room none =
     record {
@@ -238,7 +238,7 @@ AreLists-last name serial xs rings lists room none =
     }
 
 pub AreLists-last_ring : (name : Name) (serial : ℕ) (xs : LinkList) (rings : List ℕ) (links : LinkList)
-    (after : List ℕ) → AreLists xs rings → length xs < 65535 → linked_as xs name ≡ None → is_ring name ≡ true →
+    (after : List ℕ) → AreLists xs rings → length xs < 65535 → serial_named xs name ≡ None → is_ring name ≡ true →
     links ≡ xs ++ (name, serial) ∷ [] → after ≡ rings ++ serial ∷ [] → AreLists links after
 AreLists-last_ring name serial xs rings links after lists room none ring e f =
     let made : AreLists (xs ++ (name, serial) ∷ []) (rings ++ serial ∷ []) =
@@ -247,7 +247,7 @@ AreLists-last_ring name serial xs rings links after lists room none ring e f =
     rw (e, f) made
 
 pub AreLists-last_other : (name : Name) (serial : ℕ) (xs : LinkList) (rings : List ℕ) (links : LinkList) →
-    AreLists xs rings → length xs < 65535 → linked_as xs name ≡ None → is_ring name ≡ false →
+    AreLists xs rings → length xs < 65535 → serial_named xs name ≡ None → is_ring name ≡ false →
     links ≡ xs ++ (name, serial) ∷ [] → AreLists links rings
 AreLists-last_other name serial xs rings links lists room none other e =
     let made : AreLists (xs ++ (name, serial) ∷ []) (rings ++ []) =

@@ -27,18 +27,18 @@ abbrev pub IsUnique : LinkList → Type 0
 IsUnique links = IsDistinct same_name (names links)
 
 -- the serial that is linked under a name
-abbrev pub linked_as : LinkList → Name → Option ℕ
-linked_as links name = option_map (λ link. link.1) (find (λ link. same_name name link.0) links)
+abbrev pub serial_named : LinkList → Name → Option ℕ
+serial_named links name = option_map (λ link. link.1) (find (λ link. same_name name link.0) links)
 
 -- a key is linked
 abbrev pub has_link : ℕ → LinkList → Bool
 has_link serial links = list_any (λ link. link.1 == serial) links
 
 -- with this link: in the place of the link of that name, else last. Profile, place of a link
-abbrev pub linked : LinkList → Name → ℕ → LinkList
-linked [] name serial = (name, serial) ∷ []
-linked (link ∷ links) name serial = cond (same_name name link.0) ((name, serial) ∷ links)
-    (link ∷ linked links name serial)
+abbrev pub link_put : LinkList → Name → ℕ → LinkList
+link_put [] name serial = (name, serial) ∷ []
+link_put (link ∷ links) name serial = cond (same_name name link.0) ((name, serial) ∷ links)
+    (link ∷ link_put links name serial)
 
 -- the links of other names, in their order
 abbrev pub unlinked : LinkList → Name → LinkList
@@ -62,8 +62,8 @@ is_full links = nat_le 65535 (length links)
 
 -- a full keyring takes no new name: profile, full keyrings
 abbrev pub is_refused : LinkList → Name → Bool
-is_refused links name = is_full links && is_none (linked_as links name)
+is_refused links name = is_full links && is_none (serial_named links name)
 
--- why a link is refused: keyctl(2), KEYCTL_LINK, "ENFILE"; else for want of memory
+-- why a link is refused: keyctl(2), KEYCTL_LINK, "ENFILE"; else ENOMEM
 abbrev pub link_error : LinkList → Name → Errno
 link_error links name = if is_refused links name then ENFILE else ENOMEM

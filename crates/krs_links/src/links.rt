@@ -1,6 +1,6 @@
 ghost use Rattle.std.specs.Prelude.{◌≡◌, ◌≤◌, [], length, slice_get, false, IfOk, OnOk, IfErr, OnErr, IsOk, IsSome};
 ghost use Rattle.std.specs.Option.{ok_or, option_copied};
-ghost use Rattle.krs_links.specs.Links.{linked_as, linked, unlinked, unlinked_key, nested, names, serials, has_link};
+ghost use Rattle.krs_links.specs.Links.{serial_named, link_put, unlinked, unlinked_key, nested, names, serials, has_link};
 ghost use Rattle.krs_links.specs.Links.{is_full, is_refused, link_error, IsUnique};
 
 use crate::lists;
@@ -87,7 +87,7 @@ impl Links {
 
     /// The serial that is linked under a name. Names of different types are different: keyrings(7), "Keyrings".
     pub fn find(&self, name: &Name) -> Option<Serial>
-        ensures { result ≡ linked_as self.now name.now }
+        ensures { result ≡ serial_named self.now name.now }
     {
         lists::find(self.entries.as_slice(), name)
     }
@@ -110,10 +110,10 @@ impl Links {
     /// Links a serial under a name: in the place of the link of that name, whose serial is answered, else last.
     /// keyctl(2), KEYCTL_LINK: ENFILE, then ENOMEM. Profile, place of a link.
     pub fn put(&mut self, name: Name, serial: Serial) -> Result<Option<Serial>, Errno>
-        ensures displaced { IfOk result (λ old. old ≡ linked_as self.old name) }
-        ensures links { OnOk result (self.new ≡ linked self.old name serial) }
+        ensures displaced { IfOk result (λ old. old ≡ serial_named self.old name) }
+        ensures links { OnOk result (self.new ≡ link_put self.old name serial) }
         ensures room { OnOk result (is_refused self.old name ≡ false) }
-        ensures in_place { IsSome (linked_as self.old name) → IsOk result }
+        ensures in_place { IsSome (serial_named self.old name) → IsOk result }
         ensures error { IfErr result (λ error. error ≡ link_error self.old name) }
         ensures err { OnErr result (self.new ≡ self.old) }
     {
@@ -126,7 +126,7 @@ impl Links {
 
     /// Takes out the link of a name, and answers its serial. keyctl(2), KEYCTL_UNLINK: ENOENT.
     pub fn remove(&mut self, name: &Name) -> Result<Serial, Errno>
-        ensures value { result ≡ ok_or (linked_as self.old name.now) Errno.ENOENT }
+        ensures value { result ≡ ok_or (serial_named self.old name.now) Errno.ENOENT }
         ensures links { self.new ≡ unlinked self.old name.now }
         ensures err { OnErr result (self.new ≡ self.old) }
     {
@@ -156,9 +156,9 @@ impl Links {
 
     /// A link under a new name, which stands last.
     fn append(&mut self, name: Name, serial: Serial) -> Result<Option<Serial>, Errno>
-        requires { linked_as self.old name ≡ None }
+        requires { serial_named self.old name ≡ None }
         ensures displaced { IfOk result (λ old. old ≡ None) }
-        ensures links { OnOk result (self.new ≡ linked self.old name serial) }
+        ensures links { OnOk result (self.new ≡ link_put self.old name serial) }
         ensures room { OnOk result (is_full self.old ≡ false) }
         ensures error { IfErr result (λ error. error ≡ link_error self.old name) }
         ensures err { OnErr result (self.new ≡ self.old) }

@@ -1,6 +1,6 @@
 //! The two lists that a `Links` keeps, and what each change does to both.
 ghost use Rattle.std.specs.Prelude.{◌≡◌, ◌<◌, ◌≤◌, length, take, IfNone, OnOk, OnErr};
-ghost use Rattle.krs_links.specs.Links.{linked_as, linked, unlinked, unlinked_key, nested, serials};
+ghost use Rattle.krs_links.specs.Links.{serial_named, link_put, unlinked, unlinked_key, nested, serials};
 ghost use Rattle.krs_links.specs.Lists.{place_of, AreLists};
 
 use krs_types::{Kind, Name, Serial};
@@ -8,7 +8,7 @@ use std::alloc::AllocError;
 
 /// The serial that is linked under a name.
 pub(crate) fn find(entries: &[(Name, Serial)], name: &Name) -> Option<Serial>
-    ensures { result ≡ linked_as entries.now name.now }
+    ensures { result ≡ serial_named entries.now name.now }
 {
     match entries.iter().find(|entry| *name == entry.0) {
         Some(entry) => Some(entry.1),
@@ -19,7 +19,7 @@ pub(crate) fn find(entries: &[(Name, Serial)], name: &Name) -> Option<Serial>
 /// Where the link of a name stands.
 pub(crate) fn place_of(entries: &Vec<(Name, Serial)>, name: &Name) -> Option<usize>
     ensures place { result ≡ place_of name.now entries.now.items }
-    ensures none { IfNone result (linked_as entries.now.items name.now ≡ None) }
+    ensures none { IfNone result (serial_named entries.now.items name.now ≡ None) }
 {
     entries.iter().position(|entry| *name == entry.0)
 }
@@ -48,7 +48,7 @@ fn displace_ring(
 )
     requires rings { rings.old.items ≡ serials (nested entries.now.items) }
     requires place { place_of name.now entries.now.items ≡ Some place }
-    ensures { rings.new.items ≡ serials (nested (linked entries.now.items name.now serial)) }
+    ensures { rings.new.items ≡ serials (nested (link_put entries.now.items name.now serial)) }
 {
     if name.kind.is(Kind::Keyring) {
         let ring = rings_before(entries, place);
@@ -78,8 +78,8 @@ pub(crate) fn displace(
 ) -> Serial
     requires lists { AreLists entries.old.items rings.old.items }
     requires place { place_of name entries.old.items ≡ Some place }
-    ensures displaced { Some result ≡ linked_as entries.old.items name }
-    ensures links { entries.new.items ≡ linked entries.old.items name serial }
+    ensures displaced { Some result ≡ serial_named entries.old.items name }
+    ensures links { entries.new.items ≡ link_put entries.old.items name serial }
     ensures lists { AreLists entries.new.items rings.new.items }
 {
     displace_ring(entries, rings, place, &name, serial);
@@ -97,8 +97,8 @@ pub(crate) fn append(
 ) -> Result<(), AllocError>
     requires lists { AreLists entries.old.items rings.old.items }
     requires room { length entries.old.items < 65535 }
-    requires none { linked_as entries.old.items name ≡ None }
-    ensures links { OnOk result (entries.new.items ≡ linked entries.old.items name serial) }
+    requires none { serial_named entries.old.items name ≡ None }
+    ensures links { OnOk result (entries.new.items ≡ link_put entries.old.items name serial) }
     ensures err { OnErr result (entries.new.items ≡ entries.old.items) }
     ensures lists { AreLists entries.new.items rings.new.items }
 {
@@ -121,7 +121,7 @@ pub(crate) fn remove(
 ) -> Serial
     requires lists { AreLists entries.old.items rings.old.items }
     requires place { place_of name.now entries.old.items ≡ Some place }
-    ensures removed { Some result ≡ linked_as entries.old.items name.now }
+    ensures removed { Some result ≡ serial_named entries.old.items name.now }
     ensures links { entries.new.items ≡ unlinked entries.old.items name.now }
     ensures lists { AreLists entries.new.items rings.new.items }
 {

@@ -3,12 +3,12 @@ use Rattle.std.specs.Prelude.{◌≡◌, ◌⊎◌, ℕ, List, Bool, true, IsSom
 use Rattle.krs_model.specs.Table.{Table, at}
 use Rattle.krs_model.specs.State.{Key}
 use Rattle.krs_model.specs.Levels.{is_in}
-use Rattle.krs_model.specs.Reach.{links_in}
+use Rattle.krs_model.specs.Reach.{links_of_key_at}
 
 -- attached, or linked by a key that stays
 abbrev pub IsAnchored : Table Key → List ℕ → (ℕ → Bool) → ℕ → Type 0
 IsAnchored keys attached kept k =
-    (is_in k attached ≡ true) ⊎ ((j : ℕ) × (kept j ≡ true) × (is_in k (links_in keys j) ≡ true))
+    (is_in k attached ≡ true) ⊎ ((j : ℕ) × (kept j ≡ true) × (is_in k (links_of_key_at keys j) ≡ true))
 
 -- a closed choice of the keys that are there: each key that stays is anchored, and none that goes
 pub record IsClosedChoice (keys : Table Key) (attached : List ℕ) (kept : ℕ → Bool) : Type 0 where

@@ -23,9 +23,9 @@ abbrev pub attached : State → Context → List ℕ
 attached s c = attached_with c (process_ring s c.process)
 
 -- the serials that a key links
-abbrev pub links_of : Content → List ℕ
-links_of (Payload bytes) = []
-links_of (Links serials) = serials
+abbrev pub links_of_content : Content → List ℕ
+links_of_content (Payload bytes) = []
+links_of_content (Links serials) = serials
 
 -- a key whose links its possessor follows: it is alive, and grants SEARCH with the possessor's byte counted. Profile,
 -- possessor byte; profile, expired keyrings are not followed
@@ -35,7 +35,7 @@ is_followed clock caller key = is_alive clock key && has_all (rights_on key call
 -- the links that the possessor of a keyring follows: keyrings(7), "Possession", (4)
 abbrev pub followed : ℕ → Caller → Option Key → List ℕ
 followed clock caller None = []
-followed clock caller (Some key) = if is_followed clock caller key then links_of key.content else []
+followed clock caller (Some key) = if is_followed clock caller key then links_of_content key.content else []
 
 -- the links that are followed from the key at a serial
 abbrev pub followed_at : Table Key → ℕ → Caller → ℕ → List ℕ

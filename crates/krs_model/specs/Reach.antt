@@ -5,7 +5,7 @@ use Rattle.krs_types.specs.Kind.{same_kind}
 use Rattle.krs_model.specs.Table.{Table, at}
 use Rattle.krs_model.specs.State.{Key}
 use Rattle.krs_model.specs.Levels.{level, levels, is_in}
-use Rattle.krs_model.specs.Sweep.{linked_by}
+use Rattle.krs_model.specs.Sweep.{links_of_key}
 
 -- a link, and one link more
 pub data Reaches (links : ℕ → List ℕ) : ℕ → ℕ → Type 0 where
@@ -17,13 +17,13 @@ abbrev pub IsAcyclic : (ℕ → List ℕ) → Type 0
 IsAcyclic links = (k : ℕ) → Reaches links k k → ⊥
 
 -- the links of the keys of a table
-abbrev pub links_in : Table Key → ℕ → List ℕ
-links_in keys serial = linked_by (at keys serial)
+abbrev pub links_of_key_at : Table Key → ℕ → List ℕ
+links_of_key_at keys serial = links_of_key (at keys serial)
 
 -- a link from the keyring to the key would close a cycle: they are one, or the keyring is reached from the key, along
 -- fewer links than there are keys
 unfoldable pub closes : Table Key → ℕ → ℕ → Bool
-closes keys key ring = is_in ring (levels (links_in keys) (key ∷ []) (length keys))
+closes keys key ring = is_in ring (levels (links_of_key_at keys) (key ∷ []) (length keys))
 
 -- a key is there, and it is a keyring
 abbrev pub is_ring : Option Key → Bool
@@ -32,7 +32,7 @@ is_ring (Some key) = same_kind key.kind Keyring
 
 -- the keyrings that a key links
 abbrev pub nested_in : Table Key → ℕ → List ℕ
-nested_in keys serial = filter (λ k. is_ring (at keys k)) (links_in keys serial)
+nested_in keys serial = filter (λ k. is_ring (at keys k)) (links_of_key_at keys serial)
 
 -- there is a serial among these
 abbrev pub is_some_in : List ℕ → Bool

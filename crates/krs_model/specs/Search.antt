@@ -14,7 +14,7 @@ use Rattle.krs_model.specs.State.{State, Key}
 use Rattle.krs_model.specs.Access.{is_alive, is_over, rights_on}
 use Rattle.krs_model.specs.Levels.{levels}
 use Rattle.krs_model.specs.Linking.{is_named}
-use Rattle.krs_model.specs.Possession.{attached_with, links_of, possessed, possessed_with, process_ring}
+use Rattle.krs_model.specs.Possession.{attached_with, links_of_content, possessed, possessed_with, process_ring}
 
 -- who searches, and where: the keys and the clock of a store, a caller, and which keys its context possesses
 pub record Searcher : Type 0 where
@@ -47,7 +47,7 @@ is_open by serial key = is_alive by.clock key && grants_search by serial key
 -- the links of a key that is there and may be entered
 abbrev pub open_links : Searcher → ℕ → Option Key → List ℕ
 open_links by serial None = []
-open_links by serial (Some key) = if is_open by serial key then links_of key.content else []
+open_links by serial (Some key) = if is_open by serial key then links_of_content key.content else []
 
 -- the links of a keyring that is entered: request_key(2); profile, expired keyrings are not followed
 abbrev pub entered : Searcher → ℕ → List ℕ

@@ -11,12 +11,12 @@ use Rattle.krs_model.specs.Levels.{is_in}
 use Rattle.krs_model.specs.Queues.{queues_of}
 use Rattle.krs_model.specs.Orderly.{AreOrderly}
 use Rattle.krs_model.specs.Linking.{is_named}
-use Rattle.krs_model.specs.Reach.{IsAcyclic, links_in}
+use Rattle.krs_model.specs.Reach.{IsAcyclic, links_of_key_at}
 use Rattle.krs_model.specs.Sweep.{IsSwept, roots}
 
 -- every link is to a key that is there
 abbrev pub AllLinked : Table Key → Type 0
-AllLinked keys = (j k : ℕ) → is_in k (links_in keys j) ≡ true → IsSome (at keys k)
+AllLinked keys = (j k : ℕ) → is_in k (links_of_key_at keys j) ≡ true → IsSome (at keys k)
 
 -- every attachment is of a key that is there
 abbrev pub AllAttached : State → Type 0
@@ -69,12 +69,12 @@ AllFitting keys = (serial : ℕ) (key : Key) → at keys serial ≡ Some key →
 
 -- a keyring links at most one key of a name
 abbrev pub HasOneOfEach : Table Key → Type 0
-HasOneOfEach keys = (ring : ℕ) (name : Name) → count_by (λ k. is_named name (at keys k)) (links_in keys ring) ≤ 1
+HasOneOfEach keys = (ring : ℕ) (name : Name) → count_by (λ k. is_named name (at keys k)) (links_of_key_at keys ring) ≤ 1
 
 -- a store between asks
 pub record IsSound (s : State) : Type 0 where
   -- no keyring reaches itself: keyctl(2), KEYCTL_LINK, "EDEADLK"
-  pub acyclic : IsAcyclic (links_in s.keys)
+  pub acyclic : IsAcyclic (links_of_key_at s.keys)
   -- a link anchors its key: keyrings(7), "Anchoring keys"
   pub linked : AllLinked s.keys
   -- and so does an attachment: keyrings(7), "Anchoring keys"

@@ -7,7 +7,7 @@ use Rattle.krs_types.specs.declared.context.Context.{Context}
 use Rattle.krs_types.specs.declared.context.UidRings.{UidRings}
 use Rattle.krs_model.specs.Table.{Table, at}
 use Rattle.krs_model.specs.State.{State, Key}
-use Rattle.krs_model.specs.Possession.{links_of}
+use Rattle.krs_model.specs.Possession.{links_of_content}
 use Rattle.krs_model.specs.Levels.{is_in}
 
 -- the thread and session keyrings of contexts: thread-keyring(7), session-keyring(7)
@@ -27,14 +27,14 @@ abbrev pub roots : State → List ℕ
 roots s = context_roots s.contexts ++ (process_roots s.processes ++ uid_roots s.uids)
 
 -- what is linked by the key at a serial
-abbrev pub linked_by : Option Key → List ℕ
-linked_by None = []
-linked_by (Some key) = links_of key.content
+abbrev pub links_of_key : Option Key → List ℕ
+links_of_key None = []
+links_of_key (Some key) = links_of_content key.content
 
 -- attached, or linked by a held key
 pub data IsHeld (keys : Table Key) (attached : List ℕ) : ℕ → Type 0 where
   Attached : (k : ℕ) → is_in k attached ≡ true → IsHeld keys attached k
-  Linked : (j k : ℕ) → IsHeld keys attached j → is_in k (linked_by (at keys j)) ≡ true → IsHeld keys attached k
+  Linked : (j k : ℕ) → IsHeld keys attached j → is_in k (links_of_key (at keys j)) ≡ true → IsHeld keys attached k
 
 -- a test of serials that picks just the held ones of the keys that are there
 pub record PicksHeld (keys : Table Key) (attached : List ℕ) (kept : ℕ → Bool) : Type 0 where

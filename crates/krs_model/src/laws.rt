@@ -19,7 +19,7 @@ ghost use Rattle.krs_model.specs.Possession.{attached, possessed};
 ghost use Rattle.krs_model.specs.Lookup.{context_of, look_up};
 ghost use Rattle.krs_model.specs.Usable.{IsUsable};
 ghost use Rattle.krs_model.specs.Sweep.{IsSweep, IsSwept, PicksHeld};
-ghost use Rattle.krs_model.specs.Reach.{closes, links_in, IsAcyclic};
+ghost use Rattle.krs_model.specs.Reach.{closes, links_of_key_at, IsAcyclic};
 ghost use Rattle.krs_model.specs.Search.{searcher_of, found, requested};
 ghost use Rattle.krs_model.specs.Anchored.{IsClosedChoice};
 ghost use Rattle.krs_model.specs.Orderly.{AreOrderly, AreRising};
@@ -81,7 +81,7 @@ pub fn a_sweep_sweeps()
 /// Where no keyring reaches itself, the closed choice is that of the held keys: what is left by counts of holders is
 /// what attachments reach. keyrings(7), "Anchoring keys".
 pub fn a_closed_choice_is_the_held_keys()
-    ensures { (keys : Table Key) (attached : List ℕ) (kept : ℕ → Bool) → IsAcyclic (links_in keys)
+    ensures { (keys : Table Key) (attached : List ℕ) (kept : ℕ → Bool) → IsAcyclic (links_of_key_at keys)
         → (IsClosedChoice keys attached kept) ↔ (PicksHeld keys attached kept) }
 {}
 
@@ -100,7 +100,7 @@ pub fn revoked_keys_stay_unread()
 /// The test of LINK for cycles says what is reached: keyctl(2), KEYCTL_LINK, "EDEADLK".
 pub fn cycles_are_reach()
     ensures { (keys : Table Key) (key ring : ℕ) → AllLinked keys → IsSome (at keys key)
-        → (closes keys key ring ≡ true) ↔ (ClosesCycle (links_in keys) key ring) }
+        → (closes keys key ring ≡ true) ↔ (ClosesCycle (links_of_key_at keys) key ring) }
 {}
 
 /// A search finds the match that is alive and grants SEARCH at the least level, and in that level at the first place;

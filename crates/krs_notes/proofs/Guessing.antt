@@ -11,7 +11,7 @@ use Rattle.krs_types.specs.declared.note.KeyEvent.TheVariants.{Instantiated, Upd
 use Rattle.krs_types.specs.declared.note.KeyEvent.TheVariants.{Revoked, Invalidated, Setattr}
 use Rattle.krs_model.specs.Lists.{Begins}
 use Rattle.krs_model.specs.Notes.Bytes.{event_number, bytes_of, Fits}
-use Rattle.krs_model.proofs.Spelling.{bytes_of-Key, bytes_of-Removal}
+use Rattle.krs_model.proofs.Notes.Bytes.{bytes_of-Key, bytes_of-Removal}
 use Rattle.krs_notes.specs.Guess.{guess, event_numbered, four, eight}
 
 event_numbered-event_number : (e : KeyEvent) → event_numbered (event_number e) ≡ Some e

@@ -10,7 +10,7 @@ use Rattle.krs_types.specs.declared.note.Record.{Record}
 use Rattle.krs_types.specs.declared.note.Record.TheVariants.{Key, Removal, Loss}
 use Rattle.krs_model.specs.Notes.Bytes.{type_of, subtype_of, size_of, watch_of, kind_word, info_of, tail_of, bytes_of}
 use Rattle.krs_model.specs.Notes.Bytes.{Fits}
-use Rattle.krs_model.proofs.Spelling.{event_small}
+use Rattle.krs_model.proofs.Notes.Bytes.{event_small}
 use Rattle.krs_notes.proofs.Guessing.{guess-begins}
 use Rattle.krs_notes.specs.Laws.{word_at, EachIsSpelled, HasOneSpelling, NoneBeginsAnother}
 

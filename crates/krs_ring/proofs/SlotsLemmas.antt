@@ -15,7 +15,7 @@ use Rattle.krs_ring.specs.Ring.{Ring}
 use Rattle.krs_ring.specs.Slots.{notes_of, marked, HasNoLoss}
 use Rattle.krs_ring.specs.View.{ring_of}
 use Rattle.krs_ring.specs.declared.ring.Slot.{Slot}
-use Rattle.krs_model.proofs.Streams.{total_room-append, ends_lost, ends_lost-append, marked_list, with_loss-is}
+use Rattle.krs_model.proofs.Notes.Streams.{total_room-append, ends_lost, ends_lost-append, marked_list, with_loss-is}
 
 notes_of-append : (a b : List Slot) → notes_of (a ++ b) ≡ notes_of a ++ notes_of b
 notes_of-append [] b = refl

@@ -11,7 +11,7 @@ abbrev pub ring_of : Inside → Ring
 ring_of r = record { capacity = r.slots.capacity; waiting = loss_if r.owed ++ notes_of r.slots.items }
 
 -- it has room for some records, at most as many as a queue may hold, and keeps no loss in a slot
-pub record IsRing (r : Inside) : Type 0 where
+pub record IsNoteRing (r : Inside) : Type 0 where
   pub room : 1 ≤ r.slots.capacity
   pub bound : r.slots.capacity ≤ greatest_capacity
   pub kept : HasNoLoss r.slots.items

@@ -34,11 +34,11 @@ impl Model for NoteRing {
 
     ghost Value = { Ring };
 
-    ghost use Rattle.krs_ring.specs.View.{ring_of, IsRing};
+    ghost use Rattle.krs_ring.specs.View.{ring_of, IsNoteRing};
 
     ghost view = { ring_of };
 
-    ghost invariant = { IsRing };
+    ghost invariant = { IsNoteRing };
 }
 
 impl NoteRing {

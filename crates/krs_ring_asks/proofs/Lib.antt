@@ -1,4 +1,4 @@
-pub mod Served
-pub mod Sought
-pub mod SoughtNew
-mod Invalidated
+pub mod LinkAndUnlink
+pub mod SearchAndRequest
+pub mod SearchWithMade
+mod KeyDetached

@@ -1,7 +1,7 @@
 ghost use Rattle.std.specs.Prelude.{IfOk};
 ghost use Rattle.krs_model.specs.Outcome.{Leads, Gives, Is};
 ghost use Rattle.krs_model.specs.Search.{found, requested};
-ghost use Rattle.krs_model.specs.Asks.Adding.{IsRing};
+ghost use Rattle.krs_model.specs.Asks.Adding.{IsKeyringAt};
 ghost use Rattle.krs_model.specs.Lookup.{context_of};
 ghost use Rattle.krs_model.specs.Sound.{IsSound};
 ghost use Rattle.krs_model.specs.Asks.Finding.{search_from, request, sought_name, sought_from, found_alone};
@@ -158,7 +158,7 @@ fn link_found(
     into: u32,
     serial: Serial,
 ) -> Result<Answer, Fault>
-    requires ring { IsRing tables.old into }
+    requires ring { IsKeyringAt tables.old into }
     ensures { Leads tables.old result tables.new (link_found tables.old client number into serial) }
 {
     let context = tables.context_of(client, number)?;

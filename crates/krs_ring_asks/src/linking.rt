@@ -4,7 +4,7 @@ ghost use Rattle.krs_model.specs.Table.{at};
 ghost use Rattle.krs_model.specs.Linking.{ring_links, linking};
 ghost use Rattle.krs_model.specs.Lookup.{context_of};
 ghost use Rattle.krs_model.specs.Sound.{IsSound};
-ghost use Rattle.krs_model.specs.Asks.Adding.{IsRing};
+ghost use Rattle.krs_model.specs.Asks.Adding.{IsKeyringAt};
 ghost use Rattle.krs_model.specs.Asks.Changing.{changed};
 ghost use Rattle.krs_model.specs.Asks.Linked.{link, unlink, clear, nestable};
 ghost use Rattle.krs_keys.specs.Keys.{seen};
@@ -137,7 +137,7 @@ fn is_coming(tables: &Tables, special: Special, id: i32) -> bool
 /// Whether a link from the keyring to the key closes a cycle, or nests a keyring too deep: EDEADLK, ELOOP.
 #[tactic(auto, unfolding(krs_model::specs::Asks::Linked::nestable))]
 pub(crate) fn check_nesting(tables: &Tables, ring: Serial, key: Serial) -> Result<(), Fault>
-    requires ring { IsRing tables.now ring }
+    requires ring { IsKeyringAt tables.now ring }
     requires key { IsSome (at tables.now.keys key) }
     ensures { Gives (λ done. done) result (nestable tables.now.keys ring key) }
 {
@@ -153,7 +153,7 @@ pub(crate) fn check_nesting(tables: &Tables, ring: Serial, key: Serial) -> Resul
 /// asks for memory only where the keyring has room.
 pub(crate) fn put_link(tables: &mut Tables, ring: Serial, serial: Serial) -> Result<(), Fault>
     requires there { IsSome (at tables.old.keys serial) }
-    requires ring { IsRing tables.old ring }
+    requires ring { IsKeyringAt tables.old ring }
     ensures { IfSome (name_in tables.old serial) (λ name. Puts tables.old result tables.new ring name serial) }
 {
     let Some(key) = tables.key(serial) else {
@@ -183,7 +183,7 @@ fn put_named(
     serial: Serial,
 ) -> Result<(), AllocError>
     requires named { name_in tables.old serial ≡ Some name }
-    requires ring { IsRing tables.old ring }
+    requires ring { IsKeyringAt tables.old ring }
     requires room { room_in tables.old.keys ring name ≡ Ok tt }
     ensures ok { OnOk result (tables.new ≡ changed tables.old ring (linking tables.old.keys name serial)) }
     ensures err { OnErr result (tables.new ≡ tables.old) }

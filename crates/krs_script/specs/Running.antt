@@ -49,7 +49,7 @@ abbrev pub BeginsWith : Option (List ℕ) → List (List ℕ) → Type 0
 BeginsWith input lines = IfSome input (λ bytes. (rest : List (List ℕ)) × (lines_of bytes ≡ lines ++ rest))
 
 -- Where a script stopped: at the end of its lines; at a line that is no command, or whose command broke off; behind as
--- many lines as are read at most; or, for want of memory and where reading or printing failed, anywhere.
+-- many lines as are read at most; or, out of memory and where reading or printing failed, anywhere.
 abbrev pub StopsBehind : {S : Type 0} → (S → Command → Stop → S → Type 0) → Option (List ℕ) → List (List ℕ) → S → S
     → Result (Unit {0}) Stop → Type 0
 StopsBehind breaks input lines last new (Ok _) = (new ≡ last) × IfSome input (λ bytes. lines_of bytes ≡ lines)

@@ -26,10 +26,10 @@ use Rattle.krs_types.specs.declared.note.Record.{Record}
 use Rattle.krs_model.specs.Notes.Posting.{Note, Post, posts_of, posted_in, note_for, watches_at, passes_at}
 use Rattle.krs_model.specs.Notes.Posting.{after_note, after_notes, post_all, records_for}
 use Rattle.krs_model.specs.Notes.Filter.{passes_if_any}
-use Rattle.krs_model.proofs.Posting.{at_post_all, post_all-append}
+use Rattle.krs_model.proofs.Notes.Posts.{at_post_all, post_all-append}
 use Rattle.krs_model.specs.Notes.Telling.{named, about, about_link, about_added, notes_of, ended_by}
-use Rattle.krs_model.proofs.NotedKeys.{add_serial, added_before}
-use Rattle.krs_tables.proofs.Serving.{tells_after, posted_nothing}
+use Rattle.krs_model.proofs.Asks.NotedKeys.{add_serial, added_before}
+use Rattle.krs_tables.proofs.PostsAndSweep.{tells_after, posted_nothing}
 use Rattle.krs_store.specs.declared.telling.Tellings.{Tellings}
 use Rattle.krs_store.specs.declared.telling.Telling.TheVariants.{OfAdded}
 use Rattle.krs_store.specs.Telling.{only, told_by, added_note, new_note, updated_note, posts_told, Foretells, Runs}

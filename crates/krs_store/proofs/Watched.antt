@@ -14,11 +14,11 @@ use Rattle.krs_tables.specs.Serving.{Tells}
 use Rattle.krs_model.specs.Notes.Posting.{posted, removal_for}
 use Rattle.krs_model.specs.Notes.Telling.{named, ended_by}
 use Rattle.krs_model.specs.Asks.Watching.{Change, watch, watched, unwatched, watch_id_of}
-use Rattle.krs_model.proofs.Coming.{bind_ok, same_ok}
-use Rattle.krs_model.proofs.Naming.{found_serial}
-use Rattle.krs_model.proofs.Effects.{unwatched_is}
-use Rattle.krs_model.proofs.Keeping.{ended_set}
-use Rattle.krs_tables.proofs.Serving.{tells_nothing, tells_ended}
+use Rattle.krs_model.proofs.Asks.Later.{bind_ok, same_ok}
+use Rattle.krs_model.proofs.Lookups.Serials.{found_serial}
+use Rattle.krs_model.proofs.Asks.Effects.{unwatched_is}
+use Rattle.krs_model.proofs.Sound.Queues.{ended_set}
+use Rattle.krs_tables.proofs.PostsAndSweep.{tells_nothing, tells_ended}
 use Rattle.krs_watch.specs.Changes.{watch_ended}
 
 -- what WATCH has looked up

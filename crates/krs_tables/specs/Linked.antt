@@ -9,7 +9,7 @@ use Rattle.krs_types.specs.declared.name.Name.{Name}
 use Rattle.krs_model.specs.Table.{Table, at}
 use Rattle.krs_model.specs.State.{State, Key}
 use Rattle.krs_model.specs.Levels.{is_in}
-use Rattle.krs_model.specs.Reach.{links_in}
+use Rattle.krs_model.specs.Reach.{links_of_key_at}
 use Rattle.krs_model.specs.Linking.{linking, link_named, has_room}
 use Rattle.krs_model.specs.Asks.Changing.{changed}
 use Rattle.krs_model.specs.Asks.Linked.{name_of, without_link}
@@ -20,7 +20,7 @@ name_in s serial = option_map name_of (at s.keys serial)
 
 -- the keyring has room for a link of that name
 abbrev pub room_in : Table Key → ℕ → Name → Result (Unit {0}) Errno
-room_in keys ring name = has_room (links_in keys ring) (link_named keys name (links_in keys ring))
+room_in keys ring name = has_room (links_of_key_at keys ring) (link_named keys name (links_of_key_at keys ring))
 
 -- refused as is meant; or memory is wanting, which is found out last, behind each refusal
 abbrev pub FailsLast : {Y : Type 0} → Fault → Result Y Errno → Type 0
@@ -36,5 +36,5 @@ Puts old (Err e) new ring name serial = FailsLast e (room_in old.keys ring name)
 -- the keyring does not link the key any more, where it did; else nothing has changed
 abbrev pub Takes : State → Result (Unit {0}) Errno → State → ℕ → ℕ → Type 0
 Takes old (Ok done) new ring serial =
-    (is_in serial (links_in old.keys ring) ≡ true) × (new ≡ changed old ring (without_link serial))
-Takes old (Err e) new ring serial = (is_in serial (links_in old.keys ring) ≡ false) × ((e ≡ ENOENT) × (new ≡ old))
+    (is_in serial (links_of_key_at old.keys ring) ≡ true) × (new ≡ changed old ring (without_link serial))
+Takes old (Err e) new ring serial = (is_in serial (links_of_key_at old.keys ring) ≡ false) × ((e ≡ ENOENT) × (new ≡ old))

@@ -237,7 +237,7 @@ impl Tables {
         Ok(Answer::Number(serial.number()))
     }
 
-    /// The keyring made, and a new key that it links, whose serial is answered. Want of memory leaves neither.
+    /// The keyring made, and a new key that it links, whose serial is answered. ENOMEM leaves neither.
     fn make_two(
         &mut self,
         special: Special,

@@ -7,7 +7,7 @@ ghost use Rattle.krs_model.specs.Lookup.{context_of, serial_of, look_up};
 ghost use Rattle.krs_model.specs.Outcome.{Gives, Is};
 ghost use Rattle.krs_tables.specs.Serving.{SweepsOut};
 ghost use Rattle.krs_model.specs.Sweep.{live_watches};
-ghost use Rattle.krs_model.specs.Reach.{IsAcyclic, links_in};
+ghost use Rattle.krs_model.specs.Reach.{IsAcyclic, links_of_key_at};
 ghost use Rattle.krs_model.specs.Asks.Changing.{changed};
 ghost use Rattle.krs_keys.specs.Keys.{seen, FindsByName};
 ghost use Rattle.krs_keys.specs.Changes.{meant_change};
@@ -107,7 +107,7 @@ impl Tables {
     }
 
     /// The key at a serial.
-    #[tactic(auto, using(krs_model::proofs::Tables::at_map))]
+    #[tactic(auto, using(krs_model::proofs::Tables::Changes::at_map))]
     pub fn key(&self, serial: Serial) -> Option<&Key>
         ensures value { option_map (λ k. seen k.now) result ≡ at self.now.keys serial }
         ensures named { IfSome result (λ k. FindsByName self.now.keys k.now) }
@@ -174,7 +174,7 @@ impl Tables {
     /// Just the keys stay that are attached, or linked by what stays. The watches of the others end with removal
     /// records.
     pub fn sweep(&mut self)
-        requires acyclic { IsAcyclic (links_in self.old.keys) }
+        requires acyclic { IsAcyclic (links_of_key_at self.old.keys) }
         requires live { live_watches self.old.keys self.old.watches ≡ self.old.watches }
         ensures { SweepsOut self.old self.new }
     {

@@ -14,7 +14,7 @@ pub enum Errno {
     EBADF,
     /// No record waits in the queue.
     EAGAIN,
-    /// A growth was refused for want of memory.
+    /// A growth was refused: out of memory.
     ENOMEM,
     /// The right that is needed is not granted.
     EACCES,

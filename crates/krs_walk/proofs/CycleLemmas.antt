@@ -13,9 +13,9 @@ use Rattle.std.specs.List.{IsDistinct}
 use Rattle.krs_model.specs.Table.{Table, at}
 use Rattle.krs_model.specs.State.{Key}
 use Rattle.krs_model.specs.Levels.{level, levels, is_in}
-use Rattle.krs_model.specs.Reach.{Reaches, Directly, Further, links_in, nested_in, is_ring, closes}
-use Rattle.krs_model.proofs.Levels.{levels_on}
-use Rattle.krs_model.proofs.Tables.{same_at}
+use Rattle.krs_model.specs.Reach.{Reaches, Directly, Further, links_of_key_at, nested_in, is_ring, closes}
+use Rattle.krs_model.proofs.Reach.Levels.{levels_on}
+use Rattle.krs_model.proofs.Tables.Changes.{same_at}
 use Rattle.krs_walk.specs.Lists.{join}
 use Rattle.krs_model.specs.Laws.{ClosesCycle}
 use Rattle.krs_keys.specs.Keys.{OnlyRingsLink}
@@ -204,19 +204,19 @@ found_closes keys key goal place all there w once lt e =
     let up : place + 1 ≤ length keys = omega arith in
     let here : is_in goal (levels (nested_in keys) (key ∷ []) (place + 1)) ≡ true =
     subst (λ (z : ℕ). is_in z (levels (nested_in keys) (key ∷ []) (place + 1)) ≡ true) e (w.placed place lt) in
-    levels_up (links_in keys) (key ∷ []) goal (place + 1) (length keys) up
-    (levels_fewer (nested_in keys) (links_in keys) (key ∷ []) (place + 1) goal (nested_fewer keys) here)
+    levels_up (links_of_key_at keys) (key ∷ []) goal (place + 1) (length keys) up
+    (levels_fewer (nested_in keys) (links_of_key_at keys) (key ∷ []) (place + 1) goal (nested_fewer keys) here)
 
 pub found_reached : (keys : Table Key) (key goal place : ℕ) (all : List ℕ)
     → IsWalk (nested_in keys) key goal place all → place < length all → get_or all place 0 ≡ goal
-    → ClosesCycle (links_in keys) key goal
+    → ClosesCycle (links_of_key_at keys) key goal
 found_reached keys key goal place all w lt e =
     closes_links keys key goal (walk_finds (nested_in keys) key goal place all w lt e)
 
 -- what it misses closes none
 pub missed_reached : (keys : Table Key) (key goal place : ℕ) (all : List ℕ) → OnlyRingsLink keys
     → is_ring (at keys goal) ≡ true → IsWalk (nested_in keys) key goal place all → length all ≤ place
-    → ClosesCycle (links_in keys) key goal → ⊥
+    → ClosesCycle (links_of_key_at keys) key goal → ⊥
 missed_reached keys key goal place all only ring w le closing =
     walk_misses (nested_in keys) key goal place all w le (closes_nested keys key goal only ring closing)
 
@@ -229,9 +229,9 @@ pub missed_closes : (keys : Table Key) (key goal place : ℕ) (all : List ℕ) �
     → closes keys key goal ≡ false
 unfolding closes
 missed_closes keys key goal place all only ring w le =
-    not_true (is_in goal (levels (links_in keys) (key ∷ []) (length keys)))
+    not_true (is_in goal (levels (links_of_key_at keys) (key ∷ []) (length keys)))
     (λ m. missed_reached keys key goal place all only ring w le
-    (from_levels (links_in keys) key (length keys) goal m))
+    (from_levels (links_of_key_at keys) key (length keys) goal m))
 
 -- a test of two serials that fails tells them apart
 pub apart_of : (found goal here : ℕ) (test : Bool) → test ≡ (found == goal) → test ≡ false → found ≡ here

@@ -17,13 +17,13 @@ use Rattle.krs_model.specs.Table.{at}
 use Rattle.krs_model.specs.State.{Key, State}
 use Rattle.krs_model.specs.Levels.{level, levels, is_in}
 use Rattle.krs_model.specs.Search.{found_with, requested_with}
-use Rattle.krs_model.specs.Possession.{links_of, possessed, process_ring}
+use Rattle.krs_model.specs.Possession.{links_of_content, possessed, process_ring}
 use Rattle.krs_model.specs.Reach.{is_ring}
 use Rattle.krs_model.specs.Search.{Searcher, entered, open_links, is_open, is_answer, is_revoked, is_expired}
 use Rattle.krs_model.specs.Search.{is_denied, searched, sought, found, found_by, requested, or_next}
-use Rattle.krs_model.specs.Sweep.{linked_by}
-use Rattle.krs_model.proofs.Levels.{levels_more}
-use Rattle.krs_model.proofs.Searching.{sought_append}
+use Rattle.krs_model.specs.Sweep.{links_of_key}
+use Rattle.krs_model.proofs.Reach.Levels.{levels_more}
+use Rattle.krs_model.proofs.Reach.Searches.{sought_append}
 use Rattle.krs_walk.specs.Lists.{join}
 use Rattle.krs_keys.specs.Keys.{OnlyRingsLink}
 use Rattle.krs_walk.specs.Searching.{entered_rings}
@@ -154,11 +154,11 @@ empty_of [] none = refl
 empty_of (x ∷ xs) none = absurd (none x (in_head x xs))
 
 entered_linked : (by : Searcher) (serial k : ℕ) (o : Option Key) → is_in k (open_links by serial o) ≡ true
-    → is_in k (linked_by o) ≡ true
+    → is_in k (links_of_key o) ≡ true
 entered_linked by serial k None m = m
 entered_linked by serial k (Some key) m =
-    elim (is_open by serial key) as (λ b. is_in k (cond b (links_of key.content) []) ≡ true
-    → is_in k (links_of key.content) ≡ true) [
+    elim (is_open by serial key) as (λ b. is_in k (cond b (links_of_content key.content) []) ≡ true
+    → is_in k (links_of_content key.content) ≡ true) [
       | true ↦ λ n. n
       | false ↦ λ n. absurd (in_none k n)
     ] m

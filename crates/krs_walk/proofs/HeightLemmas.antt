@@ -10,7 +10,7 @@ use Rattle.krs_model.specs.Table.{Table}
 use Rattle.krs_model.specs.State.{Key}
 use Rattle.krs_model.specs.Levels.{level}
 use Rattle.krs_model.specs.Reach.{nested_in, is_some_in, has_chain}
-use Rattle.krs_model.proofs.Levels.{level_more}
+use Rattle.krs_model.proofs.Reach.Levels.{level_more}
 use Rattle.krs_walk.specs.Lists.{join}
 use Rattle.krs_walk.specs.Walks.{IsHeight}
 use Rattle.krs_walk.proofs.ListsLemmas.{join_append, join_fresh, in_none}

@@ -8,7 +8,7 @@ use Rattle.krs_model.specs.State.{Key}
 use Rattle.krs_model.specs.Levels.{level, levels, is_in}
 use Rattle.krs_model.specs.Possession.{attached_with, followed_at, possessed_with}
 use Rattle.krs_model.specs.Reach.{is_ring}
-use Rattle.krs_model.proofs.Levels.{levels_more}
+use Rattle.krs_model.proofs.Reach.Levels.{levels_more}
 use Rattle.krs_keys.specs.Keys.{shown}
 use Rattle.krs_walk.specs.declared.search.Search.{Search}
 use Rattle.krs_walk.specs.declared.held.HeldRings.{HeldRings}

@@ -7,12 +7,12 @@ use Rattle.krs_types.specs.Kind.{same_kind}
 use Rattle.krs_types.specs.declared.kind.Kind.TheVariants.{Keyring}
 use Rattle.krs_model.specs.Table.{Table, at}
 use Rattle.krs_model.specs.Reach.{is_ring, nested_in}
-use Rattle.krs_model.specs.Sweep.{linked_by}
-use Rattle.krs_model.proofs.Tables.{at_map}
+use Rattle.krs_model.specs.Sweep.{links_of_key}
+use Rattle.krs_model.proofs.Tables.Changes.{at_map}
 use Rattle.krs_links.specs.Links.{LinkList, serials, nested}
 use Rattle.krs_links.specs.Links as names
 use Rattle.krs_keys.specs.declared.key.Key.{Key}
-use Rattle.krs_keys.specs.Keys.{content_links, seen, shown, name_at, AreNamed, AreFit}
+use Rattle.krs_keys.specs.Keys.{named_links_of_content, seen, shown, name_at, AreNamed, AreFit}
 use Rattle.krs_keys.proofs.KeysLemmas.{serials-content}
 
 ring_named : (link : Name) (o : Option Key) → option_map (λ key. key.name) o ≡ Some link
@@ -39,14 +39,14 @@ nested_serials keys (link ∷ links) named =
 
 -- the nested keyrings of a key that is there
 pub rings_there : (keys : Table Key) (serial : ℕ) (key : Key) → AreFit keys → at keys serial ≡ Some key
-    → serials (nested (content_links key.content)) ≡ nested_in (shown keys) serial
+    → serials (nested (named_links_of_content key.content)) ≡ nested_in (shown keys) serial
 rings_there keys serial key fit there =
-    nested_serials keys (content_links key.content) (fit serial key there)
+    nested_serials keys (named_links_of_content key.content) (fit serial key there)
     ∙ ap (filter (λ k. is_ring (at (shown keys) k))) (serials-content key.content
-    ∙ sym (ap linked_by (at_map seen keys serial ∙ ap (option_map seen) there)))
+    ∙ sym (ap links_of_key (at_map seen keys serial ∙ ap (option_map seen) there)))
 
 -- and of one that is not
 pub no_rings_there : (keys : Table Key) (serial : ℕ) → at keys serial ≡ None → nested_in (shown keys) serial ≡ []
 no_rings_there keys serial none =
-    ap (λ o. filter (λ k. is_ring (at (shown keys) k)) (linked_by o))
+    ap (λ o. filter (λ k. is_ring (at (shown keys) k)) (links_of_key o))
     (at_map seen keys serial ∙ ap (option_map seen) none)

@@ -4,7 +4,7 @@ use Rattle.std.proofs.Common.{refl, ap, ◌∙◌, sym, subst, ◌⊎◌, inl, i
 use Rattle.std.proofs.lemmas.List.{take_at, take-append-drop, append_cancel_left}
 use Rattle.std.specs.List.{flat_map}
 use Rattle.krs_model.specs.Levels.{level, levels, is_in}
-use Rattle.krs_model.proofs.Levels.{level_more, levels_more, in_flat}
+use Rattle.krs_model.proofs.Reach.Levels.{level_more, levels_more, in_flat}
 use Rattle.krs_walk.specs.Lists.{join}
 use Rattle.krs_walk.proofs.ListsLemmas.{Within, fresh, join_fresh, join_append, join_within, in_join_left}
 use Rattle.krs_walk.proofs.ListsLemmas.{in_join_right, in_join, in_right, in_left, in_one, in_single, in_cons}

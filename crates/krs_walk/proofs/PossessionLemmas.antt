@@ -12,15 +12,15 @@ use Rattle.krs_types.specs.Name.{same_name}
 use Rattle.krs_model.specs.Table.{Table, at}
 use Rattle.krs_model.specs.State as model
 use Rattle.krs_model.specs.Levels.{level, levels, is_in}
-use Rattle.krs_model.specs.Possession.{attached_with, followed_at, is_followed, possessed_with, followed, links_of}
+use Rattle.krs_model.specs.Possession.{attached_with, followed_at, is_followed, possessed_with, followed, links_of_content}
 use Rattle.krs_model.specs.Reach.{is_ring}
-use Rattle.krs_model.specs.Sweep.{linked_by}
-use Rattle.krs_model.proofs.Levels.{in_flat}
-use Rattle.krs_model.proofs.Tables.{at_map}
-use Rattle.krs_links.specs.Links.{LinkList, serials, nested, linked_as}
-use Rattle.krs_links.proofs.NamesLemmas.{equal_names, same_name_equiv}
+use Rattle.krs_model.specs.Sweep.{links_of_key}
+use Rattle.krs_model.proofs.Reach.Levels.{in_flat}
+use Rattle.krs_model.proofs.Tables.Changes.{at_map}
+use Rattle.krs_links.specs.Links.{LinkList, serials, nested, serial_named}
+use Rattle.krs_types.proofs.Names.{equal_names, same_name_equiv}
 use Rattle.krs_keys.specs.declared.key.Key.{Key}
-use Rattle.krs_keys.specs.Keys.{content_links, seen, shown, name_at, AreNamed, AreFit}
+use Rattle.krs_keys.specs.Keys.{named_links_of_content, seen, shown, name_at, AreNamed, AreFit}
 use Rattle.krs_keys.proofs.KeysLemmas.{serials-content}
 use Rattle.krs_keys.specs.Keys.{OnlyRingsLink}
 use Rattle.krs_walk.specs.Walks.{followed_rings}
@@ -108,11 +108,11 @@ levels_split ring links heads n k alone =
     (or_one (is_in k heads) linked m))
 
 pub followed_linked : (clock : ℕ) (caller : Caller) (o : Option model.Key) (k : ℕ)
-    → is_in k (followed clock caller o) ≡ true → is_in k (linked_by o) ≡ true
+    → is_in k (followed clock caller o) ≡ true → is_in k (links_of_key o) ≡ true
 followed_linked clock caller None k m = m
 followed_linked clock caller (Some key) k m =
-    elim (is_followed clock caller key) as (λ b. is_in k (cond b (links_of key.content) []) ≡ true
-    → is_in k (links_of key.content) ≡ true) [
+    elim (is_followed clock caller key) as (λ b. is_in k (cond b (links_of_content key.content) []) ≡ true
+    → is_in k (links_of_content key.content) ≡ true) [
       | true ↦ λ n. n
       | false ↦ λ n. absurd (in_none k n)
     ] m
@@ -129,10 +129,10 @@ possession_splits keys clock c ring serial only =
 -- a key whose links are followed
 pub followed_there : (keys : Table Key) (clock : ℕ) (caller : Caller) (serial : ℕ) (key : Key) (b : Bool)
     → at keys serial ≡ Some key → is_followed clock caller (seen key) ≡ b →
-    followed_at (shown keys) clock caller serial ≡ cond b (serials (content_links key.content)) []
+    followed_at (shown keys) clock caller serial ≡ cond b (serials (named_links_of_content key.content)) []
 followed_there keys clock caller serial key b there is =
     ap (followed clock caller) (at_map seen keys serial ∙ ap (option_map seen) there) ∙
-    (ap (λ (d : Bool). cond d (links_of (seen key).content) []) is
+    (ap (λ (d : Bool). cond d (links_of_content (seen key).content) []) is
     ∙ ap (λ (zs : List ℕ). cond b zs []) (sym (serials-content key.content)))
 
 pub followed_absent : (keys : Table Key) (clock : ℕ) (caller : Caller) (serial : ℕ) → at keys serial ≡ None
@@ -143,9 +143,9 @@ followed_absent keys clock caller serial none =
 -- its nested keyrings
 pub followed_nested : (keys : Table Key) (clock : ℕ) (caller : Caller) (serial : ℕ) (key : Key) → AreFit keys
     → at keys serial ≡ Some key → is_followed clock caller (seen key) ≡ true →
-    serials (nested (content_links key.content)) ≡ followed_rings (shown keys) clock caller serial
+    serials (nested (named_links_of_content key.content)) ≡ followed_rings (shown keys) clock caller serial
 followed_nested keys clock caller serial key fit there is =
-    nested_serials keys (content_links key.content) (fit serial key there)
+    nested_serials keys (named_links_of_content key.content) (fit serial key there)
     ∙ ap (filter (λ k. is_ring (at (shown keys) k))) (sym (followed_there keys clock caller serial key true there is))
 
 -- a name finds the serial of its key, where that is linked
@@ -164,7 +164,7 @@ not_here names link name k serial linked named apart =
     ] refl
 
 pub found_linked : (names : ℕ → Option Name) (links : LinkList) (name : Name) (serial : ℕ) → AreNamed names links
-    → names serial ≡ Some name → is_found serial (linked_as links name) ≡ is_in serial (serials links)
+    → names serial ≡ Some name → is_found serial (serial_named links name) ≡ is_in serial (serials links)
 found_linked names [] name serial fit named = refl
 found_linked names (link ∷ links) name serial fit named =
     elim (same_name name link.0) as (λ b. same_name name link.0 ≡ b
@@ -173,7 +173,7 @@ found_linked names (link ∷ links) name serial fit named =
     || is_in serial (serials links))) [
       | true ↦ λ t. found_first link.1 serial (is_in serial (serials links))
           (sym (found_linked names links name serial fit.1 named)
-          ∙ ap (is_found serial) (ap (linked_as links) (equal_names name link.0 t) ∙ fit.2))
+          ∙ ap (is_found serial) (ap (serial_named links) (equal_names name link.0 t) ∙ fit.2))
       | false ↦ λ t. found_linked names links name serial fit.1 named
           ∙ ap (λ b. b || is_in serial (serials links)) (sym (not_here names link.0 name link.1 serial fit.0 named t))
     ] refl
@@ -195,8 +195,8 @@ absent_followed keys clock caller j serial None there fit none =
 absent_followed keys clock caller j serial (Some key) there fit none =
     ap (is_in serial) (followed_there keys clock caller j key (is_followed clock caller (seen key)) there refl) ∙
     (elim (is_followed clock caller (seen key)) as (λ b. is_in serial
-    (cond b (serials (content_links key.content)) []) ≡ false) [
-      | true ↦ absent_unlinked (name_at keys) (content_links key.content) serial (fit j key there)
+    (cond b (serials (named_links_of_content key.content)) []) ≡ false) [
+      | true ↦ absent_unlinked (name_at keys) (named_links_of_content key.content) serial (fit j key there)
           (ap (option_map (λ (v : Key). v.name)) none)
       | false ↦ refl
     ])
@@ -212,10 +212,10 @@ absent_linked keys clock c ring serial fit none =
 pub followed_links : (keys : Table Key) (clock : ℕ) (caller : Caller) (ring serial : ℕ) (key : Key) (name : Name)
     → AreFit keys → at keys ring ≡ Some key → is_followed clock caller (seen key) ≡ true
     → name_at keys serial ≡ Some name →
-    is_found serial (linked_as (content_links key.content) name)
+    is_found serial (serial_named (named_links_of_content key.content) name)
     ≡ is_in serial (followed_at (shown keys) clock caller ring)
 followed_links keys clock caller ring serial key name fit there is named =
-    found_linked (name_at keys) (content_links key.content) name serial (fit ring key there) named
+    found_linked (name_at keys) (named_links_of_content key.content) name serial (fit ring key there) named
     ∙ ap (is_in serial) (sym (followed_there keys clock caller ring key true there is))
 
 pub unfollowed : (keys : Table Key) (clock : ℕ) (caller : Caller) (serial : ℕ) (key : Key) → at keys serial ≡ Some key

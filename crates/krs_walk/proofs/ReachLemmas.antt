@@ -4,8 +4,8 @@ use Rattle.std.proofs.Common.{sym, subst, refl, ap, ◌∙◌}
 use Rattle.krs_model.specs.Table.{Table, at}
 use Rattle.krs_model.specs.State.{Key}
 use Rattle.krs_model.specs.Levels.{level, levels, is_in}
-use Rattle.krs_model.specs.Reach.{Reaches, Directly, Further, links_in, nested_in, is_ring}
-use Rattle.krs_model.proofs.Levels.{in_flat}
+use Rattle.krs_model.specs.Reach.{Reaches, Directly, Further, links_of_key_at, nested_in, is_ring}
+use Rattle.krs_model.proofs.Reach.Levels.{in_flat}
 use Rattle.krs_model.specs.Laws.{ClosesCycle}
 use Rattle.krs_keys.specs.Keys.{OnlyRingsLink}
 use Rattle.krs_walk.proofs.ListsLemmas.{in_head, in_tail, in_cons, in_none, in_one, in_single}
@@ -39,11 +39,11 @@ from_filter p (x ∷ xs) k m =
       | false ↦ λ t n. let s = from_filter p xs k n in (s.0, in_tail k x xs s.1)
     ] refl m
 
-pub nested_fewer : (keys : Table Key) → Fewer (nested_in keys) (links_in keys)
-nested_fewer keys j k m = (from_filter (λ q. is_ring (at keys q)) (links_in keys j) k m).1
+pub nested_fewer : (keys : Table Key) → Fewer (nested_in keys) (links_of_key_at keys)
+nested_fewer keys j k m = (from_filter (λ q. is_ring (at keys q)) (links_of_key_at keys j) k m).1
 
 pub nested_ring : (keys : Table Key) (j k : ℕ) → is_in k (nested_in keys j) ≡ true → is_ring (at keys k) ≡ true
-nested_ring keys j k m = (from_filter (λ q. is_ring (at keys q)) (links_in keys j) k m).0
+nested_ring keys j k m = (from_filter (λ q. is_ring (at keys q)) (links_of_key_at keys j) k m).0
 
 pub one_more : (links : ℕ → List ℕ) (a j b : ℕ) → ClosesCycle links a j → is_in b (links j) ≡ true → Reaches links a b
 one_more links a j b (inl e) h = Directly a b (subst (λ (z : ℕ). is_in b (links z) ≡ true) (sym e) h)
@@ -56,19 +56,19 @@ reaches_fewer some links _ _ fewer (Further a j b p h) =
 
 -- where only keyrings link, a keyring is reached along nested keyrings
 reaches_nested : (keys : Table Key) (a b : ℕ) → OnlyRingsLink keys → is_ring (at keys b) ≡ true
-    → Reaches (links_in keys) a b → Reaches (nested_in keys) a b
+    → Reaches (links_of_key_at keys) a b → Reaches (nested_in keys) a b
 reaches_nested keys _ _ only ring (Directly a b h) =
-    Directly a b (in_filter (λ q. is_ring (at keys q)) (links_in keys a) b h ring)
+    Directly a b (in_filter (λ q. is_ring (at keys q)) (links_of_key_at keys a) b h ring)
 reaches_nested keys _ _ only ring (Further a j b p h) =
     Further a j b (reaches_nested keys a j only (only j b h) p)
-    (in_filter (λ q. is_ring (at keys q)) (links_in keys j) b h ring)
+    (in_filter (λ q. is_ring (at keys q)) (links_of_key_at keys j) b h ring)
 
-pub closes_links : (keys : Table Key) (a b : ℕ) → ClosesCycle (nested_in keys) a b → ClosesCycle (links_in keys) a b
+pub closes_links : (keys : Table Key) (a b : ℕ) → ClosesCycle (nested_in keys) a b → ClosesCycle (links_of_key_at keys) a b
 closes_links keys a b (inl e) = inl e
-closes_links keys a b (inr p) = inr (reaches_fewer (nested_in keys) (links_in keys) a b (nested_fewer keys) p)
+closes_links keys a b (inr p) = inr (reaches_fewer (nested_in keys) (links_of_key_at keys) a b (nested_fewer keys) p)
 
 pub closes_nested : (keys : Table Key) (a b : ℕ) → OnlyRingsLink keys → is_ring (at keys b) ≡ true
-    → ClosesCycle (links_in keys) a b → ClosesCycle (nested_in keys) a b
+    → ClosesCycle (links_of_key_at keys) a b → ClosesCycle (nested_in keys) a b
 closes_nested keys a b only ring (inl e) = inl e
 closes_nested keys a b only ring (inr p) = inr (reaches_nested keys a b only ring p)
 

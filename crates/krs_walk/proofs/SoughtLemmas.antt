@@ -15,10 +15,10 @@ use Rattle.krs_model.specs.Access.{is_over}
 use Rattle.krs_model.specs.Linking.{is_named}
 use Rattle.krs_model.specs.Search.{Searcher, grants_search, is_open, is_match, fault, sought, weight, weightier}
 use Rattle.krs_model.specs.Search.{or_next}
-use Rattle.krs_model.proofs.Tables.{at_map}
-use Rattle.krs_model.proofs.Searching.{sought_append}
-use Rattle.krs_links.specs.Links.{LinkList, serials, linked_as}
-use Rattle.krs_links.proofs.NamesLemmas.{equal_names}
+use Rattle.krs_model.proofs.Tables.Changes.{at_map}
+use Rattle.krs_model.proofs.Reach.Searches.{sought_append}
+use Rattle.krs_links.specs.Links.{LinkList, serials, serial_named}
+use Rattle.krs_types.proofs.Names.{equal_names}
 use Rattle.krs_keys.specs.declared.key.Key.{Key}
 use Rattle.krs_keys.specs.Keys.{seen, shown, name_at, AreNamed}
 use Rattle.krs_keys.proofs.KeysLemmas.{named_at}
@@ -112,7 +112,7 @@ sought_link by name (Some serial) = sought by name (serial ∷ [])
 
 -- among the links of a keyring no other than that of the name counts
 pub links_come_to : (keys : Table Key) (by : Searcher) (name : Name) (links : LinkList) → by.keys ≡ shown keys
-    → AreNamed (name_at keys) links → sought by name (serials links) ≡ sought_link by name (linked_as links name)
+    → AreNamed (name_at keys) links → sought by name (serials links) ≡ sought_link by name (serial_named links name)
 links_come_to keys by name [] same named = refl
 links_come_to keys by name (link ∷ links) same named =
     sought_append by name (link.1 ∷ []) (serials links)
@@ -122,7 +122,7 @@ links_come_to keys by name (link ∷ links) same named =
     (cond b (Some link) (find (λ (l : Name × ℕ). same_name name l.0) links)))) [
       | true ↦ λ t. ap (or_next (sought by name (link.1 ∷ [])))
           (links_come_to keys by name links same named.1 ∙ ap (sought_link by name)
-          (ap (linked_as links) (equal_names name link.0 t) ∙ named.2))
+          (ap (serial_named links) (equal_names name link.0 t) ∙ named.2))
           ∙ next_none (sought by name (link.1 ∷ []))
       | false ↦ λ t. ap (λ r. or_next r (sought by name (serials links)))
           (unnamed_comes_to by name link.1 (ap (λ (ks : Table model.Key). is_named name (at ks link.1)) same

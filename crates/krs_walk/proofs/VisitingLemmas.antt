@@ -5,7 +5,7 @@ use Rattle.std.proofs.lemmas.List.{drop_more, get_or_append_left}
 use Rattle.krs_types.specs.declared.errno.Errno.{Errno}
 use Rattle.krs_types.specs.declared.name.Name.{Name}
 use Rattle.krs_model.specs.Search.{Searcher, entered, sought, or_next}
-use Rattle.krs_model.proofs.Searching.{sought_append}
+use Rattle.krs_model.proofs.Reach.Searches.{sought_append}
 use Rattle.krs_walk.specs.Lists.{join}
 use Rattle.krs_walk.specs.Searching.{entered_rings}
 use Rattle.krs_walk.proofs.RoundsLemmas.{IsRound, Grown, round_more, longer}

@@ -30,11 +30,11 @@ abbrev pub sought_behind : Search → Errno → List ℕ → Result ℕ Errno
 sought_behind s e serials = or_next (Err e) (sought_in s serials)
 
 -- the links of a keyring that is entered, and of some
-abbrev pub links_by : Search → ℕ → List ℕ
-links_by s ring = entered (searcher_for s) ring
+abbrev pub entered_links : Search → ℕ → List ℕ
+entered_links s ring = entered (searcher_for s) ring
 
-abbrev pub links_from : Search → List ℕ → List ℕ
-links_from s rings = flat_map (entered (searcher_for s)) rings
+abbrev pub entered_links_of : Search → List ℕ → List ℕ
+entered_links_of s rings = flat_map (entered (searcher_for s)) rings
 
 -- those to keyrings
 abbrev pub entered_rings : Searcher → ℕ → List ℕ

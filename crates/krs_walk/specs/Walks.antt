@@ -19,7 +19,7 @@ pub record IsHeight (keys : Table Key) (key height : ℕ) : Type 0 where
   pub chain : has_chain keys key height ≡ true
   pub longest : has_chain keys key (height + 1) ≡ false
 
--- why a height is not told: want of memory; or the chain has 6 links or more. keyctl(2), KEYCTL_LINK, "ELOOP"
+-- why a height is not told: out of memory; or the chain has 6 links or more. keyctl(2), KEYCTL_LINK, "ELOOP"
 abbrev pub IsTooDeep : Table Key → ℕ → Fault → Type 0
 IsTooDeep keys key Memory = Unit {0}
 IsTooDeep keys key (Refused errno) = (errno ≡ ELOOP) × (has_chain keys key 6 ≡ true)
@@ -29,8 +29,8 @@ abbrev pub followed_rings : Table Key → ℕ → Caller → ℕ → List ℕ
 followed_rings keys clock caller serial = filter (λ k. is_ring (at keys k)) (followed_at keys clock caller serial)
 
 -- a keyring whose possessor follows a link to this key
-abbrev pub links_it : Table Key → ℕ → Caller → ℕ → ℕ → Bool
-links_it keys clock caller serial k = is_in serial (followed_at keys clock caller k)
+abbrev pub follows_link_to : Table Key → ℕ → Caller → ℕ → ℕ → Bool
+follows_link_to keys clock caller serial k = is_in serial (followed_at keys clock caller k)
 
 -- what a walk has come to, with the keyrings that are followed from those from a place on
 abbrev pub with_next : Table Key → ℕ → Caller → ℕ → List ℕ → List ℕ
@@ -38,7 +38,7 @@ with_next keys clock caller start seen = join seen (flat_map (followed_rings key
 
 -- a followed keyring of the first seven levels links it
 abbrev pub is_linked : Table Key → ℕ → Context → Option ℕ → ℕ → Bool
-is_linked keys clock c ring serial = list_any (links_it keys clock c.caller serial)
+is_linked keys clock c ring serial = list_any (follows_link_to keys clock c.caller serial)
     (levels (followed_rings keys clock c.caller) (attached_with c ring) 7)
 
 -- this serial was found

@@ -1,6 +1,6 @@
 ghost use Rattle.std.specs.Prelude.{◌≡◌, [], true, IfOk, IsOk, IsTrue, IsSome, ◌↔◌};
 ghost use Rattle.krs_model.specs.Table.{at};
-ghost use Rattle.krs_model.specs.Reach.{is_ring, links_in, nested_in, closes};
+ghost use Rattle.krs_model.specs.Reach.{is_ring, links_of_key_at, nested_in, closes};
 ghost use Rattle.krs_keys.specs.Keys.{shown, AreFit};
 ghost use Rattle.krs_model.specs.Laws.{ClosesCycle};
 ghost use Rattle.krs_keys.specs.Keys.{OnlyRingsLink};
@@ -23,7 +23,7 @@ impl Walker {
         requires key { IsSome (at (shown keys.now.keys) key) }
         requires ring { is_ring (at (shown keys.now.keys) ring) ≡ true }
         ensures closes { IfOk result (λ b. b ≡ closes (shown keys.now.keys) key ring) }
-        ensures reached { IfOk result (λ b. IsTrue b ↔ ClosesCycle (links_in (shown keys.now.keys)) key ring) }
+        ensures reached { IfOk result (λ b. IsTrue b ↔ ClosesCycle (links_of_key_at (shown keys.now.keys)) key ring) }
         ensures leaf { nested_in (shown keys.now.keys) key ≡ [] → IsOk result }
     {
         keys.only_keyrings_link();
@@ -43,7 +43,7 @@ impl Walker {
         requires key { IsSome (at (shown keys.now.keys) key) }
         requires ring { is_ring (at (shown keys.now.keys) ring) ≡ true }
         ensures closes { IfOk result (λ b. b ≡ closes (shown keys.now.keys) key ring) }
-        ensures reached { IfOk result (λ b. IsTrue b ↔ ClosesCycle (links_in (shown keys.now.keys)) key ring) }
+        ensures reached { IfOk result (λ b. IsTrue b ↔ ClosesCycle (links_of_key_at (shown keys.now.keys)) key ring) }
     {
         let mut seen = Visits::new(self.alloc);
         seen.join(&[key])?;

@@ -1,7 +1,7 @@
 ghost use Rattle.std.specs.Prelude.{◌≡◌};
 ghost use Rattle.krs_model.specs.Reach.{nested_in};
 ghost use Rattle.krs_links.specs.Links.{nested, serials};
-ghost use Rattle.krs_keys.specs.Keys.{content_links, shown, AreFit};
+ghost use Rattle.krs_keys.specs.Keys.{named_links_of_content, shown, AreFit};
 
 use krs_keys::{Content, KeyTable};
 use krs_types::Serial;
@@ -19,7 +19,7 @@ pub(crate) fn rings_of(keys: &KeyTable, serial: Serial) -> &[Serial]
 
 /// The nested keyrings among these links.
 pub(crate) fn rings_in(content: &Content) -> &[Serial]
-    ensures { result.now ≡ serials (nested (content_links content.now)) }
+    ensures { result.now ≡ serials (nested (named_links_of_content content.now)) }
 {
     match content {
         Content::Payload(_) => &[],

@@ -4,11 +4,11 @@ ghost use Rattle.std.specs.Option.{option_to_list};
 ghost use Rattle.krs_model.specs.Levels.{is_in};
 ghost use Rattle.krs_model.specs.Table.{at};
 ghost use Rattle.krs_model.specs.Possession.{attached_with, is_followed, possessed_with};
-ghost use Rattle.krs_links.specs.Links.{linked_as};
-ghost use Rattle.krs_keys.specs.Keys.{content_links, seen, shown, AreFit};
+ghost use Rattle.krs_links.specs.Links.{serial_named};
+ghost use Rattle.krs_keys.specs.Keys.{named_links_of_content, seen, shown, AreFit};
 ghost use Rattle.krs_walk.specs.Lists.{join};
 ghost use Rattle.krs_walk.specs.Walks.{followed_rings, is_found, is_linked};
-ghost use Rattle.krs_walk.specs.Walks.{links_it, with_next};
+ghost use Rattle.krs_walk.specs.Walks.{follows_link_to, with_next};
 
 use crate::keyrings::rings_in;
 use crate::{Visits, Walker};
@@ -63,7 +63,7 @@ impl Walker {
     ) -> Result<bool, AllocError>
         requires fit { AreFit keys.now.keys }
         requires key { at keys.now.keys serial ≡ Some key.now }
-        requires attached { list_any (links_it (shown keys.now.keys) clock context.now.caller serial)
+        requires attached { list_any (follows_link_to (shown keys.now.keys) clock context.now.caller serial)
             (attached_with context.now process_ring) ≡ false }
         ensures { IfOk result (λ b. b ≡ is_linked (shown keys.now.keys) clock context.now process_ring serial) }
     {
@@ -116,7 +116,7 @@ fn attached_link(
     requires fit { AreFit keys.now.keys }
     requires key { at keys.now.keys serial ≡ Some key.now }
     ensures { result ≡
-        list_any (links_it (shown keys.now.keys) clock context.now.caller serial)
+        list_any (follows_link_to (shown keys.now.keys) clock context.now.caller serial)
         (attached_with context.now process_ring) }
 {
     let caller = &context.caller;
@@ -137,7 +137,7 @@ fn one_links(
     requires fit { AreFit keys.now.keys }
     requires key { at keys.now.keys serial ≡ Some key.now }
     ensures { result ≡
-        list_any (links_it (shown keys.now.keys) clock caller.now serial) (option_to_list ring) }
+        list_any (follows_link_to (shown keys.now.keys) clock caller.now serial) (option_to_list ring) }
 {
     match ring {
         Some(ring) => links_key(keys, caller, clock, ring, key, serial),
@@ -167,7 +167,7 @@ fn level_links(
     requires fit { AreFit keys.now.keys }
     requires key { at keys.now.keys serial ≡ Some key.now }
     requires start { start ≤ length seen.now }
-    ensures { result ≡ list_any (links_it (shown keys.now.keys) clock caller.now serial) (drop start seen.now) }
+    ensures { result ≡ list_any (follows_link_to (shown keys.now.keys) clock caller.now serial) (drop start seen.now) }
 {
     for place in start..seen.len() {
         if links_key(keys, caller, clock, seen.at(place), key, serial) {
@@ -232,7 +232,7 @@ fn links_key(
 ) -> bool
     requires fit { AreFit keys.now.keys }
     requires key { at keys.now.keys serial ≡ Some key.now }
-    ensures { result ≡ links_it (shown keys.now.keys) clock caller.now serial ring }
+    ensures { result ≡ follows_link_to (shown keys.now.keys) clock caller.now serial ring }
 {
     match keys.get(ring) {
         Some(holder) if is_followed(holder, caller, clock) => {
@@ -244,7 +244,7 @@ fn links_key(
 
 /// The serial that is linked under a name.
 pub(crate) fn find_in(content: &Content, name: &Name) -> Option<Serial>
-    ensures { result ≡ linked_as (content_links content.now) name.now }
+    ensures { result ≡ serial_named (named_links_of_content content.now) name.now }
 {
     match content {
         Content::Payload(_) => None,

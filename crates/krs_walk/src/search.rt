@@ -9,11 +9,11 @@ ghost use Rattle.krs_model.specs.Outcome.{Gives};
 ghost use Rattle.krs_types.specs.Name.{same_name};
 ghost use Rattle.krs_types.specs.Rights.{has_all, SEARCH};
 ghost use Rattle.krs_links.specs.Links.{nested, serials};
-ghost use Rattle.krs_keys.specs.Keys.{content_links, name_at, seen, shown, AreNamed, AreFit};
+ghost use Rattle.krs_keys.specs.Keys.{named_links_of_content, name_at, seen, shown, AreNamed, AreFit};
 ghost use Rattle.krs_keys.specs.Changes.{links_some};
 ghost use Rattle.krs_keys.specs.Keys.{OnlyRingsLink};
 ghost use Rattle.krs_walk.specs.Searching.{is_held};
-ghost use Rattle.krs_walk.specs.Searching.{links_by, links_from, rings_by, rings_from};
+ghost use Rattle.krs_walk.specs.Searching.{entered_links, entered_links_of, rings_by, rings_from};
 ghost use Rattle.krs_walk.specs.Searching.{searched_from, searcher_for, sought_behind, sought_in};
 ghost use Rattle.krs_walk.specs.Searching.{AreHeld, Joins};
 
@@ -172,7 +172,7 @@ impl Search<'_> {
         requires start { start ≤ length seen.old }
         ensures held { OnOk result (AreHeld self.now held.new) }
         ensures sought { IfOk result (λ r. r ≡
-            sought_behind self.now fault (links_from self.now (drop start seen.old))) }
+            sought_behind self.now fault (entered_links_of self.now (drop start seen.old))) }
         ensures joined { IfOk result (λ r.
             Joins r seen.old (rings_from self.now (drop start seen.old)) seen.new) }
     {
@@ -202,7 +202,7 @@ impl Search<'_> {
         requires held { AreHeld self.now held.old }
         ensures held { OnOk result (AreHeld self.now held.new) }
         ensures sought { IfOk result (λ r. r ≡
-            sought_behind self.now fault (links_by self.now ring)) }
+            sought_behind self.now fault (entered_links self.now ring)) }
         ensures joined { IfOk result (λ r. Joins r seen.old (rings_by self.now ring) seen.new) }
     {
         let Some(key) = self.keys.get(ring) else {
@@ -243,11 +243,11 @@ impl Search<'_> {
         fault: Errno,
     ) -> Result<Result<Serial, Errno>, AllocError>
         requires fit { AreFit self.now.keys.now.keys }
-        requires named { AreNamed (name_at self.now.keys.now.keys) (content_links content.now) }
+        requires named { AreNamed (name_at self.now.keys.now.keys) (named_links_of_content content.now) }
         ensures sought { IfOk result (λ r. r ≡
-            sought_behind self.now fault (serials (content_links content.now))) }
+            sought_behind self.now fault (serials (named_links_of_content content.now))) }
         ensures joined { IfOk result (λ r.
-            Joins r seen.old (serials (nested (content_links content.now))) seen.new) }
+            Joins r seen.old (serials (nested (named_links_of_content content.now))) seen.new) }
     {
         match self.judge_link(content)? {
             Ok(serial) => Ok(Ok(serial)),
@@ -261,8 +261,8 @@ impl Search<'_> {
     /// What the links of a keyring come to: no other than that of the name.
     fn judge_link(&self, content: &Content) -> Result<Result<Serial, Errno>, AllocError>
         requires fit { AreFit self.now.keys.now.keys }
-        requires named { AreNamed (name_at self.now.keys.now.keys) (content_links content.now) }
-        ensures { IfOk result (λ r. r ≡ sought_in self.now (serials (content_links content.now))) }
+        requires named { AreNamed (name_at self.now.keys.now.keys) (named_links_of_content content.now) }
+        ensures { IfOk result (λ r. r ≡ sought_in self.now (serials (named_links_of_content content.now))) }
     {
         match find_in(content, self.name) {
             Some(serial) => self.judge(serial),

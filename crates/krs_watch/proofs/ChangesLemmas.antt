@@ -14,7 +14,7 @@ use Rattle.krs_model.specs.State.{Queue}
 use Rattle.krs_model.specs.Queues.{Queues, queue_of, watch_at, without_watch}
 use Rattle.krs_model.specs.Notes.Posting.{posted}
 use Rattle.krs_model.specs.Asks.Watching.{after_read, unwatched}
-use Rattle.krs_model.proofs.Tables.{alter_some}
+use Rattle.krs_model.proofs.Tables.Changes.{alter_some}
 use Rattle.krs_watch.specs.Changes.{watch_ended}
 use Rattle.krs_watch.specs.Reads.{ReadsQueue, ReadsAt}
 

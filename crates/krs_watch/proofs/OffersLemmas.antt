@@ -4,8 +4,8 @@ use Rattle.std.specs.Option.{option_map}
 use Rattle.std.specs.Ordering.{nat_cmp}
 use Rattle.std.specs.BTreeMap.{is_at}
 use Rattle.krs_model.specs.Table.{Table, at, alter}
-use Rattle.krs_model.proofs.Tables.{alter_none}
-use Rattle.krs_model.proofs.Entries.{at_alter}
+use Rattle.krs_model.proofs.Tables.Changes.{alter_none}
+use Rattle.krs_model.proofs.Tables.Distinct.{at_alter}
 use Rattle.krs_types.specs.declared.note.Record.{Record}
 use Rattle.krs_model.specs.State.{Queue}
 use Rattle.krs_model.specs.Notes.Filter.{passes_if_any}

@@ -11,7 +11,7 @@ use Rattle.krs_model.specs.Queues.{Queues, queue_of}
 use Rattle.krs_model.specs.Notes.Posting.{removal_for, posted}
 use Rattle.krs_model.specs.Asks.Watching.{Change, unwatched}
 
--- a fault is the refusal that is meant, or want of memory for what is accepted
+-- a fault is the refusal that is meant, or ENOMEM for what is accepted
 abbrev pub EndsIn : {A : Type 0} → Fault → Result A Errno → Type 0
 EndsIn Memory meant = IsOk meant
 EndsIn (Refused e) meant = meant ≡ Err e

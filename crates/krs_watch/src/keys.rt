@@ -17,7 +17,7 @@ pub trait KeySet {
 impl KeySet for KeyTable {
     ghost has = { λ table k. is_some (at (shown table.keys) k) };
 
-    #[tactic(auto, using(krs_model::proofs::Tables::at_map))]
+    #[tactic(auto, using(krs_model::proofs::Tables::Changes::at_map))]
     fn has(&self, key: Serial) -> bool {
         self.get(key).is_some()
     }

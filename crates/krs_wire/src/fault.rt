@@ -14,7 +14,7 @@ pub enum WireFault {
     BadOp,
     /// The body is not exactly the operation's fields.
     BadBody,
-    /// A growth was refused for want of memory.
+    /// A growth was refused: out of memory.
     Memory,
 }
 

@@ -15,7 +15,7 @@ None >>= f = None
 abbrev pub each_of : {A : Type 0} → (List ℕ → Option A) → List (List ℕ) → Option (List A)
 each_of f words = if list_all (λ word. is_some (f word)) words then Some (filter_map f words) else None
 
--- the answer is the value that is wanted, or usage where none is; want of memory may stand for either
+-- the answer is the value that is wanted, or usage where none is; out of memory may stand for either
 abbrev pub Reads : {A : Type 0} → Result A NoCommand → Option A → Type 0
 Reads (Ok x) wanted = wanted ≡ Some x
 Reads (Err Usage) wanted = wanted ≡ None

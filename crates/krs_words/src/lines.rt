@@ -10,7 +10,7 @@ use crate::stop::Stop;
 use std::io::{BufRead, BufReader, Error, ErrorKind, Read};
 
 /// Reads the next line, of any length and any bytes, in place of what `line` held, without its newline; whether there
-/// was one. An error of the reader that means want of memory counts as the client's own.
+/// was one. An error of the reader that means out of memory counts as the client's own.
 pub fn read_line<R: Read>(reader: &mut BufReader<R>, line: &mut Vec<u8>) -> Result<bool, Stop>
     ensures found { result ≡ Ok true → ReadsLines (reader_remaining R.remaining reader.old)
         (reader_remaining R.remaining reader.new) (line.new.items ∷ []) }

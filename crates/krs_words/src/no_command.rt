@@ -8,7 +8,7 @@ use std::alloc::{AllocError, AllocFailed};
 pub enum NoCommand {
     /// They are no command, or not the words that it takes.
     Usage,
-    /// A growth was refused for want of memory.
+    /// A growth was refused: out of memory.
     Memory,
 }
 

@@ -10,7 +10,7 @@ use std::alloc::{AllocError, AllocFailed};
 pub enum Stop {
     /// A line is no command, or has not the words that its command takes.
     Usage,
-    /// A growth was refused for want of memory.
+    /// A growth was refused: out of memory.
     Memory,
     /// No line could be read.
     Reading,

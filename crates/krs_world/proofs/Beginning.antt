@@ -15,7 +15,7 @@ use Rattle.krs_world.specs.World.{Free, World, fresh_lanes, empty_cells, new_wor
 use Rattle.krs_world.specs.World.{StaysOne}
 use Rattle.krs_world.specs.Kept.{part_by, world_of, fresh_lane, AreFreshLanes}
 use Rattle.krs_world.specs.Kept.{IsKept}
-use Rattle.krs_model.proofs.Legal.{legal_none}
+use Rattle.krs_model.proofs.History.Legal.{legal_none}
 use Rattle.krs_world.proofs.Lanes.{at_snoc}
 use Rattle.krs_world.proofs.Worlds.{get_map, of_map, prefix_none, runs_keep}
 

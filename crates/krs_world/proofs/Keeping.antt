@@ -9,7 +9,7 @@ use Rattle.krs_types.specs.declared.event.Event.{Event}
 use Rattle.krs_model.specs.State.{State}
 use Rattle.krs_model.specs.Step.{Step}
 use Rattle.krs_model.specs.History.{IsLegal}
-use Rattle.krs_model.proofs.Legal.{legal_more}
+use Rattle.krs_model.proofs.History.Legal.{legal_more}
 use Rattle.krs_world.specs.declared.view.Cell.{Cell}
 use Rattle.krs_world.specs.declared.view.Cell.TheVariants.{Empty}
 use Rattle.krs_world.specs.declared.view.Part.{Part}

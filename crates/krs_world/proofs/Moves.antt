@@ -15,7 +15,7 @@ use Rattle.krs_types.specs.declared.event.Event.{Event}
 use Rattle.krs_model.specs.State.{State, starting_at}
 use Rattle.krs_model.specs.Step.{Step}
 use Rattle.krs_model.specs.History.{event_of, IsLegal}
-use Rattle.krs_model.proofs.Legal.{legal_more}
+use Rattle.krs_model.proofs.History.Legal.{legal_more}
 use Rattle.krs_world.specs.declared.view.Part.{Part}
 use Rattle.krs_world.specs.declared.step.Kind.{Kind}
 use Rattle.krs_world.specs.declared.step.Kind.TheVariants.{Take, TakeFound, Put, Load}

@@ -16,8 +16,8 @@ use Rattle.krs_model.specs.State.{State, raised}
 use Rattle.krs_model.specs.Outcome.{Outcome}
 use Rattle.krs_model.specs.Step.{Step, Ends, LacksMemory, outcome_of}
 use Rattle.krs_model.specs.History.{event_of}
-use Rattle.krs_model.proofs.Steps.{refusal_stays}
-use Rattle.krs_model.proofs.Determined.{one_step}
+use Rattle.krs_model.proofs.History.Steps.{refusal_stays}
+use Rattle.krs_model.proofs.History.Determined.{one_step}
 use Rattle.krs_world.specs.Replay.{FoundNoMemory, Replayed, ReplaysTo, Replays}
 
 -- what is true isn't false

@@ -5,7 +5,7 @@ use Rattle.std.proofs.Common.{arith, length-set}
 use mathlib.Core.Option.{some, some-injective, some-ne-none}
 use lib.ListN.{get_elem?}
 use Rattle.krs_model.specs.State.{State}
-use Rattle.krs_model.proofs.Legal.{legal_none}
+use Rattle.krs_model.proofs.History.Legal.{legal_none}
 use Rattle.krs_world.specs.declared.view.Cell.{Cell}
 use Rattle.krs_world.specs.declared.view.Cell.TheVariants.{Empty}
 use Rattle.krs_world.specs.declared.view.Standing.TheVariants.{Spent, Opening}

@@ -96,8 +96,8 @@ made s ring name key = record s {
 }
 
 -- the key at a serial is a keyring
-abbrev pub IsRing : State → ℕ → Type 0
-IsRing s serial = (key : Key) × (at s.keys serial ≡ Some key) × (links : List ℕ) × (key.content ≡ Links links)
+abbrev pub IsKeyringAt : State → ℕ → Type 0
+IsKeyringAt s serial = (key : Key) × (at s.keys serial ≡ Some key) × (links : List ℕ) × (key.content ≡ Links links)
 
 -- the match with the new payload, or a new key of the caller in the keyring: add_key(2)
 abbrev pub added : State → Context → Name → List ℕ → Place → State

@@ -2,7 +2,7 @@ ghost use Rattle.std.specs.Prelude.{◌≡◌, [], true, IfOk};
 ghost use Rattle.krs_types.specs.declared.kind.Kind.TheVariants.{Keyring};
 ghost use Rattle.krs_model.specs.Table.{at};
 ghost use Rattle.krs_model.specs.Reach.{is_ring};
-ghost use Rattle.krs_keys.specs.Keys.{content_links, shown, AreFit, IsOfKind};
+ghost use Rattle.krs_keys.specs.Keys.{named_links_of_content, shown, AreFit, IsOfKind};
 
 use krs_keys::{Content, Key, KeyTable};
 use krs_links::Links;
@@ -28,7 +28,7 @@ fn name(alloc: Global, desc: &[u8]) -> Result<Name, AllocError>
 
 /// A keyring that links nothing.
 fn ring(alloc: Global, desc: &[u8], expiry: Option<u64>, revoked: bool) -> Result<Key, AllocError>
-    ensures empty { IfOk result (λ key. content_links key.content ≡ []) }
+    ensures empty { IfOk result (λ key. named_links_of_content key.content ≡ []) }
     ensures kind { IfOk result (λ key. IsOfKind key.name.kind key.content) }
     ensures keyring { IfOk result (λ key. key.name.kind ≡ Keyring) }
 {

@@ -10,7 +10,7 @@ use Rattle.krs_keys.specs.Keys.{shown}
 use Rattle.krs_hold.specs.Tally.{AreExact, all_less}
 use Rattle.krs_ctx.specs.Anchors.{anchored}
 use Rattle.krs_tables.specs.View.{state_of}
-use Rattle.krs_context_asks.proofs.Entered.{exec_tallied, exec_accepted}
+use Rattle.krs_context_asks.proofs.EnteredHolders.{exec_tallied, exec_accepted}
 use Rattle.krs_context_asks.proofs.entering.exec.Goals as goal
 
 pub invariant_of-tables : goal.invariant_of-tables

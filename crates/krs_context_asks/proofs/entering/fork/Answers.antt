@@ -9,7 +9,7 @@ use Rattle.krs_ctx.specs.Anchors.{anchored}
 use Rattle.krs_ctx.specs.Told.{enterable}
 use Rattle.krs_ctx.proofs.ToldLemmas.{fork_refused}
 use Rattle.krs_tables.specs.View.{state_of}
-use Rattle.krs_context_asks.proofs.Entered.{fork_tallied, refused_as}
+use Rattle.krs_context_asks.proofs.EnteredHolders.{fork_tallied, refused_as}
 use Rattle.krs_context_asks.proofs.entering.fork.Goals as goal
 
 pub returns-in_err-can_enter : goal.returns-in_err-can_enter

@@ -9,7 +9,7 @@ use Rattle.krs_ctx.specs.Anchors.{anchored}
 use Rattle.krs_ctx.specs.Told.{enterable}
 use Rattle.krs_ctx.proofs.ToldLemmas.{thread_refused}
 use Rattle.krs_tables.specs.View.{state_of}
-use Rattle.krs_context_asks.proofs.Entered.{thread_tallied, refused_as}
+use Rattle.krs_context_asks.proofs.EnteredHolders.{thread_tallied, refused_as}
 use Rattle.krs_context_asks.proofs.entering.thread.Goals as goal
 
 pub returns-in_err-can_enter : goal.returns-in_err-can_enter

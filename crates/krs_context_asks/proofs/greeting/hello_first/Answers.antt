@@ -4,7 +4,7 @@ use Rattle.krs_model.specs.State.{State}
 use Rattle.krs_ctx.specs.Told.{enterable}
 use Rattle.krs_ctx.proofs.HelloLemmas.{hello_full, hello_serials}
 use Rattle.krs_tables.specs.View.{state_of}
-use Rattle.krs_context_asks.proofs.Entered.{refused_as}
+use Rattle.krs_context_asks.proofs.EnteredHolders.{refused_as}
 use Rattle.krs_context_asks.proofs.greeting.hello_first.Goals as goal
 
 pub returns-in_err-can_enter : goal.returns-in_err-can_enter

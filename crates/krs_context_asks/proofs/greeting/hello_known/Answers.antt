@@ -8,7 +8,7 @@ use Rattle.krs_ctx.specs.Anchors.{anchored}
 use Rattle.krs_ctx.specs.Told.{enterable}
 use Rattle.krs_ctx.proofs.HelloLemmas.{hello_full, hello_known, hello_fails}
 use Rattle.krs_tables.specs.View.{state_of}
-use Rattle.krs_context_asks.proofs.Entered.{known_tallied, refused_as}
+use Rattle.krs_context_asks.proofs.EnteredHolders.{known_tallied, refused_as}
 use Rattle.krs_context_asks.proofs.greeting.hello_known.Goals as goal
 
 pub returns-in_err-can_enter : goal.returns-in_err-can_enter

@@ -5,10 +5,10 @@ use Rattle.krs_types.specs.declared.context.UidRings.{UidRings}
 use Rattle.krs_model.specs.Table.{at, put, IsBelow}
 use Rattle.krs_model.specs.State.{State}
 use Rattle.krs_model.specs.Sweep.{roots}
-use Rattle.krs_model.proofs.Tables.{below_put}
+use Rattle.krs_model.proofs.Tables.Changes.{below_put}
 use Rattle.krs_links.specs.Links.{serials}
 use Rattle.krs_keys.specs.declared.key.Key.{Key}
-use Rattle.krs_keys.specs.Keys.{shown, content_links}
+use Rattle.krs_keys.specs.Keys.{shown, named_links_of_content}
 use Rattle.krs_keys.specs.Table.{Keys}
 use Rattle.krs_hold.specs.Tally.{times, AreExact}
 use Rattle.krs_ctx.specs.Anchors.{anchored}
@@ -16,8 +16,8 @@ use Rattle.krs_ctx.specs.Told.{greeted}
 use Rattle.krs_ctx.proofs.HelloLemmas.{hello_fails, hello_done, greeted_opens}
 use Rattle.krs_tables.specs.Making.{uid_key}
 use Rattle.krs_tables.specs.View.{state_of}
-use Rattle.krs_tables.proofs.Counting.{first_tallied, first_times, first_counted, room_on}
-use Rattle.krs_tables.proofs.Telling.{first_told}
+use Rattle.krs_tables.proofs.OwedHolders.{first_tallied, first_times, first_counted, room_on}
+use Rattle.krs_tables.proofs.Definitions.{first_told}
 use Rattle.krs_keys.specs.Keys.{IsOfKind}
 use Rattle.krs_context_asks.proofs.greeting.open_first.Goals as goal
 
@@ -81,8 +81,8 @@ invariant_of-tables-in-Ok c =
           c.new-two.result one two c.in_ok-make_room.ensures.ok c.in_ok-make_room-2.ensures.ok c.hold_twice.ensures
           c.hold_twice-in-Ok.ensures
           (first_tallied es (roots base) after s.holders n (n + 1) a b none (below (n + 1) (omega arith))
-          (ap (λ (k : Key). content_links k.content) c.requires.user)
-          (ap (λ (k : Key). serials (content_links k.content)) made) attach c.tables.invariant.tallied));
+          (ap (λ (k : Key). named_links_of_content k.content) c.requires.user)
+          (ap (λ (k : Key). serials (named_links_of_content k.content)) made) attach c.tables.invariant.tallied));
     }
 
 pub returns-in-Ok : goal.returns-in-Ok

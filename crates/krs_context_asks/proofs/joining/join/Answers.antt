@@ -6,7 +6,7 @@ use Rattle.krs_model.specs.Asks.Joining.{joinable, session_named}
 use Rattle.krs_keys.specs.declared.key.Key as kept
 use Rattle.krs_keys.specs.Keys.{seen}
 use Rattle.krs_context_asks.specs.Joined.{joined_anew}
-use Rattle.krs_context_asks.proofs.Joined.{join_finds, join_makes, session_own}
+use Rattle.krs_context_asks.proofs.JoinedHolders.{join_finds, join_makes, session_own}
 use Rattle.krs_context_asks.proofs.joining.join.Goals as goal
 
 pub join_found-requires-clause-own : goal.join_found-requires-clause-own

@@ -9,7 +9,7 @@ use Rattle.krs_hold.specs.Tally.{AreExact, one_more, all_less}
 use Rattle.krs_ctx.specs.Anchors.{Anchors, anchored}
 use Rattle.krs_context_asks.specs.Joined.{session_in}
 use Rattle.krs_tables.specs.View.{state_of}
-use Rattle.krs_context_asks.proofs.Joined.{joined_tallied}
+use Rattle.krs_context_asks.proofs.JoinedHolders.{joined_tallied}
 use Rattle.krs_context_asks.proofs.joining.join_found.Goals as goal
 
 pub invariant_of-tables : goal.invariant_of-tables

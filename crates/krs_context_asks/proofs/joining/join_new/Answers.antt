@@ -4,7 +4,7 @@ use Rattle.krs_model.specs.Table.{Table, at, put}
 use Rattle.krs_model.specs.State.{State}
 use Rattle.krs_model.specs.Sweep.{roots}
 use Rattle.krs_model.specs.Asks.Joining.{joined_to, session_to}
-use Rattle.krs_model.proofs.Tables.{put_map}
+use Rattle.krs_model.proofs.Tables.Changes.{put_map}
 use Rattle.krs_keys.specs.Keys.{seen}
 use Rattle.krs_keys.specs.Table.{Keys}
 use Rattle.krs_hold.specs.Tally.{AreExact, with_number, one_more, all_less}
@@ -12,8 +12,8 @@ use Rattle.krs_ctx.specs.Anchors.{Anchors, anchored}
 use Rattle.krs_ctx.specs.Told.{changed}
 use Rattle.krs_context_asks.specs.Joined.{session_in}
 use Rattle.krs_tables.specs.View.{state_of, IsConsistent}
-use Rattle.krs_context_asks.proofs.Joined.{made_joined_tallied, empty_fit, empty_kinds, joined_anew_is}
-use Rattle.krs_context_asks.proofs.Joined.{empty_kind}
+use Rattle.krs_context_asks.proofs.JoinedHolders.{made_joined_tallied, empty_fit, empty_kinds, joined_anew_is}
+use Rattle.krs_context_asks.proofs.JoinedHolders.{empty_kind}
 use Rattle.krs_context_asks.proofs.joining.join_new.Goals as goal
 
 pub invariant_of-tables-in-Ok : goal.invariant_of-tables-in-Ok

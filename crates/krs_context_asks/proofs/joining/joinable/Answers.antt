@@ -3,7 +3,7 @@ use Rattle.std.specs.Option.{IfSome, IsSome}
 use Rattle.krs_model.specs.Table.{at}
 use Rattle.krs_model.specs.Asks.Joining.{is_joinable}
 use Rattle.krs_keys.specs.Keys.{shown}
-use Rattle.krs_context_asks.proofs.Joined.{find_there}
+use Rattle.krs_context_asks.proofs.JoinedHolders.{find_there}
 use Rattle.krs_context_asks.proofs.joining.joinable.Goals as goal
 
 pub returns-clause-there : goal.returns-clause-there

@@ -12,7 +12,7 @@ use Rattle.krs_hold.specs.Tally.{AreExact, all_less}
 use Rattle.krs_ctx.specs.Anchors.{anchored}
 use Rattle.krs_tables.specs.Holding.{rings_of}
 use Rattle.krs_tables.specs.View.{state_of}
-use Rattle.krs_context_asks.proofs.Ending.{exit_tallied, ended_ring}
+use Rattle.krs_context_asks.proofs.EndedHolders.{exit_tallied, ended_ring}
 use Rattle.krs_context_asks.proofs.leaving.exit.Goals as goal
 
 pub invariant_of-tables-2 : goal.invariant_of-tables-2

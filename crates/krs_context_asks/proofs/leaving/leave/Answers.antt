@@ -8,7 +8,7 @@ use Rattle.krs_hold.specs.Tally.{AreExact, all_less}
 use Rattle.krs_ctx.specs.Anchors.{Anchors, anchored}
 use Rattle.krs_ctx.proofs.LeadsLemmas.{left_whole}
 use Rattle.krs_tables.specs.View.{state_of}
-use Rattle.krs_tables.proofs.Counting.{left_told}
+use Rattle.krs_tables.proofs.OwedHolders.{left_told}
 use Rattle.krs_context_asks.proofs.leaving.leave.Goals as goal
 
 pub invariant_of-tables : goal.invariant_of-tables

@@ -1,5 +1,5 @@
 use Rattle.std.proofs.Common.{◌-◌, Bool, true, Option, ℕ, cond, ap, sym, ◌∙◌}
-use Rattle.krs_model.proofs.Tables.{alter_none}
+use Rattle.krs_model.proofs.Tables.Changes.{alter_none}
 use Rattle.krs_hold.proofs.Places.{alter_to}
 use Rattle.krs_hold.specs.declared.counts.Count.{Count}
 use Rattle.krs_hold.specs.Chain.{lowered}

@@ -1,5 +1,5 @@
 use Rattle.std.proofs.Common.{sym, ◌∙◌, refl}
-use Rattle.krs_model.proofs.Tables.{alter_none}
+use Rattle.krs_model.proofs.Tables.Changes.{alter_none}
 use Rattle.krs_hold.proofs.Places.{alter_to}
 use Rattle.krs_hold.specs.Chain.{rested}
 use Rattle.krs_keys.specs.Hashed.{by_serial}

@@ -5,7 +5,7 @@ use Rattle.krs_types.specs.declared.name.Name.{Name}
 use Rattle.krs_model.specs.Outcome.{Leads}
 use Rattle.krs_model.specs.Asks.Adding.{admitted}
 use Rattle.krs_tables.specs.Specials.{Makes, adding_made}
-use Rattle.krs_tables.proofs.NewRings.{is_new, add_made}
+use Rattle.krs_tables.proofs.MadeFor.{is_new, add_made}
 use Rattle.krs_key_asks.proofs.adding.add.Goals as goal
 
 pub returns-in-Some : goal.returns-in-Some

@@ -2,21 +2,21 @@ use Rattle.std.proofs.Common.{◌≡◌, ◌≤◌, ◌+◌, [], Option, arith, 
 use Rattle.krs_types.specs.declared.name.Name.{Name}
 use Rattle.krs_model.specs.Table.{Table, put, alter}
 use Rattle.krs_model.specs.State.{State}
-use Rattle.krs_model.specs.Asks.Adding.{made, IsRing}
+use Rattle.krs_model.specs.Asks.Adding.{made, IsKeyringAt}
 use Rattle.krs_keys.specs.Keys.{with_entry, seen, shown, displaced_at}
 use Rattle.krs_keys.specs.declared.key.Key.{Key}
 use Rattle.krs_keys.specs.Table.{Keys}
 use Rattle.krs_tables.specs.Making.{maker_key}
 use Rattle.krs_tables.specs.View.{state_of, IsConsistent}
-use Rattle.krs_tables.proofs.Telling.{made_told, seen-maker_key}
+use Rattle.krs_tables.proofs.Definitions.{made_told, seen-maker_key}
 use Rattle.krs_model.specs.Sweep.{roots}
 use Rattle.std.specs.Option.{option_to_list}
 use Rattle.krs_hold.specs.Tally.{AreExact, with_number, one_more, all_less}
 use Rattle.krs_hold.proofs.Tallies.{tallied_with}
-use Rattle.krs_tables.proofs.Counting.{made_tallied, first_links}
+use Rattle.krs_tables.proofs.OwedHolders.{made_tallied, first_links}
 use Rattle.krs_tables.specs.declared.tables.Tables.TheInside.{Inside}
 use Rattle.krs_keys.specs.Keys.{IsOfKind}
-use Rattle.krs_tables.proofs.Telling.{first_kind}
+use Rattle.krs_tables.proofs.Definitions.{first_kind}
 use Rattle.krs_key_asks.proofs.adding.make.Goals as goal
 
 room_sound : (s : Inside) (numbers : Table ℕ) (k : ℕ) → IsConsistent s → numbers ≡ with_number k s.holders
@@ -53,8 +53,8 @@ invariant_of-tables-in-Ok-insert_linked c =
     c.in-Ok-insert_linked.ensures.displaced
     ∙ (ap (λ (k : Key). displaced_at (put es n k) c.args.ring c.in_ok-link.link) c.new_key-key.ensures
     ∙ ap (displaced_at (put es n key) c.args.ring) c.in_ok-link.ensures) in
-    let ring : IsRing (state_of s) c.args.ring =
-    subst (λ (t : State). IsRing t c.args.ring) (sym c.tables.view_is) c.requires.ring in
+    let ring : IsKeyringAt (state_of s) c.args.ring =
+    subst (λ (t : State). IsKeyringAt t c.args.ring) (sym c.tables.view_is) c.requires.ring in
     let told =
     made_told s c.insert_linked.new.self c.args.ring c.args.name c.args.payload c.args.uid c.args.gid
     c.tables.invariant c.next.ensures.unused ring here in
@@ -89,8 +89,8 @@ returns-in-Ok-insert_linked-clause-ok c =
     let here : c.insert_linked.new.self ≡ after key c.args.name =
     c.in-Ok-insert_linked.ensures.ok
     ∙ (ap (λ k. after k c.in_ok-link.link) c.new_key-key.ensures ∙ ap (after key) c.in_ok-link.ensures) in
-    let ring : IsRing (state_of s) c.args.ring =
-    subst (λ (t : State). IsRing t c.args.ring) (sym c.tables.view_is) c.requires.ring in
+    let ring : IsKeyringAt (state_of s) c.args.ring =
+    subst (λ (t : State). IsKeyringAt t c.args.ring) (sym c.tables.view_is) c.requires.ring in
     let told =
     made_told s c.insert_linked.new.self c.args.ring c.args.name c.args.payload c.args.uid c.args.gid
     c.tables.invariant c.next.ensures.unused ring here in

@@ -6,10 +6,10 @@ use Rattle.krs_types.specs.Rights.{WRITE}
 use Rattle.krs_model.specs.Lookup.{look_up}
 use Rattle.krs_model.specs.Outcome.{Gives}
 use Rattle.krs_model.specs.Asks.Adding as model
-use Rattle.krs_links.specs.Links.{serials, linked_as}
+use Rattle.krs_links.specs.Links.{serials, serial_named}
 use Rattle.krs_keys.specs.Keys.{seen}
 use Rattle.krs_key_asks.specs.Places.{meant}
-use Rattle.krs_tables.proofs.Telling.{place_told}
+use Rattle.krs_tables.proofs.Definitions.{place_told}
 use Rattle.krs_key_asks.proofs.adding.place_of.Goals as goal
 
 pub returns-in-Links-clause-place : goal.returns-in-Links-clause-place
@@ -24,7 +24,7 @@ returns-in-Links-clause-place c =
     place_told s x c.args.name.now c.args.ring c.in_ok-ring.ring c.in_ok-ring.key.now links found c.in-Links.is
     c.in_ok-ring.ensures.named in
     let asked : model.by_match s x c.new.result (serials links) c.find.result
-    ≡ model.by_match s x c.in_ok-ring.ring (serials links) (linked_as links c.args.name.now) =
+    ≡ model.by_match s x c.in_ok-ring.ring (serials links) (serial_named links c.args.name.now) =
     ap (λ r. model.by_match s x r (serials links) c.find.result) c.new.ensures
     ∙ ap (model.by_match s x c.in_ok-ring.ring (serials links)) c.find.ensures in
     subst (Gives meant c.by_match.result) (asked ∙ sym told) c.by_match.ensures.place

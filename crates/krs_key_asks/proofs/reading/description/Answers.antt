@@ -2,7 +2,7 @@ use Rattle.std.proofs.Common.{◌≤◌, ◌≡◌, length, length-append, arith
 use Rattle.std.specs.Fmt.{decimal}
 use Rattle.std.specs.String.{string_bytes}
 use Rattle.std.proofs.lemmas.Fmt.{length-decimal-le}
-use Rattle.krs_tables.proofs.Telling.{kind_short}
+use Rattle.krs_tables.proofs.Definitions.{kind_short}
 use Rattle.krs_key_asks.proofs.reading.description.Goals as goal
 
 pub new-requires : goal.new-requires

@@ -8,7 +8,7 @@ use Rattle.std.proofs.lemmas.Option.{slice_get_within, none-some, slice_get-get_
 use Rattle.std.proofs.Math.Seq.{take-suc}
 use Rattle.krs_links.specs.Links.{serials}
 use Rattle.krs_model.specs.Asks.Reading.{serial_bytes}
-use Rattle.krs_tables.proofs.Linking.{length-serial_bytes}
+use Rattle.krs_tables.proofs.Links.{length-serial_bytes}
 use Rattle.krs_key_asks.proofs.reading.serial_bytes.Goals as goal
 use Rattle.krs_key_asks.proofs.reading.serial_bytes.Goals.{in-Some+in_ok-extend_from_slice, in_default}
 

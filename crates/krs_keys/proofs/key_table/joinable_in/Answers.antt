@@ -1,5 +1,5 @@
 use Rattle.std.proofs.Common.{sym, ◌∙◌, inl, inr}
-use Rattle.krs_keys.proofs.Joining.{found_none, found_sooner, found_stays}
+use Rattle.krs_keys.proofs.LeastJoinable.{found_none, found_sooner, found_stays}
 use Rattle.krs_keys.proofs.key_table.joinable_in.Goals.{else-is_sooner-via-then-is_sooner+else-is_joinable}
 use Rattle.krs_keys.proofs.key_table.joinable_in.Goals.{else-is_sooner-via-else-is_sooner}
 use Rattle.krs_keys.proofs.key_table.joinable_in.Goals as goal

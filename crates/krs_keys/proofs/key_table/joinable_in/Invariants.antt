@@ -1,6 +1,6 @@
 use Rattle.krs_keys.specs.Hashed.{by_serial}
 use Rattle.krs_keys.specs.Keys.{joinable_in}
-use Rattle.krs_keys.proofs.Joining.{IsFound}
+use Rattle.krs_keys.proofs.LeastJoinable.{IsFound}
 use Rattle.krs_keys.proofs.key_table.joinable_in.Given as goal
 
 -- the least serial so far, or a lesser one of the keys that are left, is the least of all

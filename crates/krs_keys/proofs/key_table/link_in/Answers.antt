@@ -1,5 +1,5 @@
 use Rattle.std.proofs.Common.{ap, sym, ◌∙◌}
-use Rattle.krs_keys.specs.Keys.{with_entry, displaced_by, links_by}
+use Rattle.krs_keys.specs.Keys.{with_entry, displaced_by, named_links_of_key}
 use Rattle.krs_links.specs.Links.{is_refused, link_error}
 use Rattle.krs_keys.proofs.HashedLemmas.{at_by_serial, by_serial_written, by_serial_unwritten, by_serial_absent}
 use Rattle.krs_keys.proofs.TableLemmas.{on_ok, on_err, if_ok, if_err}
@@ -19,12 +19,12 @@ returns-in-Some-clause-ok c =
 pub returns-in-Some-clause-room : goal.returns-in-Some-clause-room
 returns-in-Some-clause-room c =
     let here = c.in-Some.ensures.value ∙ sym (at_by_serial c.args.keys.now.entries c.args.ring) in
-    on_ok c.link.result (λ h. ap (λ o. is_refused (links_by o) c.args.name) (sym here) ∙ h) c.link.ensures.room
+    on_ok c.link.result (λ h. ap (λ o. is_refused (named_links_of_key o) c.args.name) (sym here) ∙ h) c.link.ensures.room
 
 pub returns-in-Some-clause-error : goal.returns-in-Some-clause-error
 returns-in-Some-clause-error c =
     let here = c.in-Some.ensures.value ∙ sym (at_by_serial c.args.keys.now.entries c.args.ring) in
-    if_err c.link.result (λ e h. h ∙ ap (λ o. link_error (links_by o) c.args.name) here) c.link.ensures.error
+    if_err c.link.result (λ e h. h ∙ ap (λ o. link_error (named_links_of_key o) c.args.name) here) c.link.ensures.error
 
 pub returns-in-Some-clause-err : goal.returns-in-Some-clause-err
 returns-in-Some-clause-err c =
@@ -45,4 +45,4 @@ returns-in-None-clause-ok c =
 pub returns-in-None-clause-room : goal.returns-in-None-clause-room
 returns-in-None-clause-room c =
     let none = c.in-None.ensures.value ∙ sym (at_by_serial c.args.keys.now.entries c.args.ring) in
-    ap (λ o. is_refused (links_by o) c.args.name) (sym none)
+    ap (λ o. is_refused (named_links_of_key o) c.args.name) (sym none)

@@ -1,4 +1,4 @@
-use Rattle.krs_model.proofs.Sweeps.{sweep_swept}
+use Rattle.krs_model.proofs.Sweep.Laws.{sweep_swept}
 use Rattle.krs_model.proofs.laws.a_sweep_sweeps.Goals as goal
 
 pub returns : goal.returns

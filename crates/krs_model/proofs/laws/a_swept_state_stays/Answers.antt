@@ -1,4 +1,4 @@
-use Rattle.krs_model.proofs.Sweeps.{one_sweep, swept_sweep}
+use Rattle.krs_model.proofs.Sweep.Laws.{one_sweep, swept_sweep}
 use Rattle.krs_model.proofs.laws.a_swept_state_stays.Goals as goal
 
 pub returns : goal.returns

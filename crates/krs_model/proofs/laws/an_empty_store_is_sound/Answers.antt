@@ -1,4 +1,4 @@
-use Rattle.krs_model.proofs.Soundness.{start_sound}
+use Rattle.krs_model.proofs.Sound.Steps.{start_sound}
 use Rattle.krs_model.proofs.laws.an_empty_store_is_sound.Goals as goal
 
 pub returns : goal.returns

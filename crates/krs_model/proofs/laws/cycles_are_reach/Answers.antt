@@ -1,4 +1,4 @@
-use Rattle.krs_model.proofs.Closing.{closes_from, from_closes}
+use Rattle.krs_model.proofs.Reach.Cycles.{closes_from, from_closes}
 use Rattle.krs_model.proofs.laws.cycles_are_reach.Goals as goal
 
 pub returns : goal.returns

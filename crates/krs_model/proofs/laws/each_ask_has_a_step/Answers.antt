@@ -1,4 +1,4 @@
-use Rattle.krs_model.proofs.Total.{has_step}
+use Rattle.krs_model.proofs.Asks.Total.{has_step}
 use Rattle.krs_model.proofs.laws.each_ask_has_a_step.Goals as goal
 
 pub returns : goal.returns

@@ -1,4 +1,4 @@
-use Rattle.krs_model.proofs.Joins.{join_least}
+use Rattle.krs_model.proofs.Asks.Joins.{join_least}
 use Rattle.krs_model.proofs.laws.joins_take_the_least_serial.Goals as goal
 
 pub returns : goal.returns

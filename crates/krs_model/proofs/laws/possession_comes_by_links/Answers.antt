@@ -1,5 +1,5 @@
 use Rattle.krs_model.specs.Possession.{followed_in, attached, possessed}
-use Rattle.krs_model.proofs.Levels.{levels_linked}
+use Rattle.krs_model.proofs.Reach.Levels.{levels_linked}
 use Rattle.krs_model.proofs.laws.possession_comes_by_links.Goals as goal
 
 pub returns : goal.returns

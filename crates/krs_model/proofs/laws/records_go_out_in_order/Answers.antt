@@ -1,5 +1,5 @@
-use Rattle.krs_model.proofs.Effects.{effect_of}
-use Rattle.krs_model.proofs.Ordering.{notes_by_queue, ended_rising}
+use Rattle.krs_model.proofs.Asks.Effects.{effect_of}
+use Rattle.krs_model.proofs.Notes.Order.{notes_by_queue, ended_rising}
 use Rattle.krs_model.proofs.laws.records_go_out_in_order.Goals as goal
 
 pub returns-clause-notes : goal.returns-clause-notes

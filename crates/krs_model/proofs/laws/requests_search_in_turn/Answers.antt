@@ -1,4 +1,4 @@
-use Rattle.krs_model.proofs.Searching.{request_in_turn}
+use Rattle.krs_model.proofs.Reach.Searches.{request_in_turn}
 use Rattle.krs_model.proofs.laws.requests_search_in_turn.Goals as goal
 
 pub returns : goal.returns

@@ -1,4 +1,4 @@
-use Rattle.krs_model.proofs.Revocations.{revoked_unread}
+use Rattle.krs_model.proofs.History.Revocations.{revoked_unread}
 use Rattle.krs_model.proofs.laws.revoked_keys_stay_unread.Goals as goal
 
 pub returns : goal.returns

@@ -1,5 +1,5 @@
 use Rattle.std.proofs.Common.{refl, arith}
-use Rattle.krs_model.proofs.Spelling.{bytes_of-Key}
+use Rattle.krs_model.proofs.Notes.Bytes.{bytes_of-Key}
 use Rattle.krs_notes.proofs.codec.key_bytes.Goals as goal
 
 pub returns : goal.returns

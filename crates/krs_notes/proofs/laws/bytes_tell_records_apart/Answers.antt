@@ -1,4 +1,4 @@
-use Rattle.krs_model.proofs.Spelling.{spelled_once}
+use Rattle.krs_model.proofs.Notes.Bytes.{spelled_once}
 use Rattle.krs_notes.proofs.SpellingLemmas.{each_is_spelled, one_spelling, none_begins_another}
 use Rattle.krs_notes.proofs.laws.bytes_tell_records_apart.Goals as goal
 

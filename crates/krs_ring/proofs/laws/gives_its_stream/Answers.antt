@@ -1,4 +1,4 @@
-use Rattle.krs_model.proofs.Streams.{gives_its_stream}
+use Rattle.krs_model.proofs.Notes.Streams.{gives_its_stream}
 use Rattle.krs_ring.proofs.laws.gives_its_stream.Goals as goal
 
 pub returns : goal.returns

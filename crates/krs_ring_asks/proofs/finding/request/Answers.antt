@@ -8,9 +8,9 @@ use Rattle.krs_model.specs.Outcome.{Leads}
 use Rattle.krs_types.specs.declared.rights.Want.TheVariants.{Granted}
 use Rattle.krs_types.specs.Rights.{WRITE}
 use Rattle.krs_keys.specs.Keys.{seen}
-use Rattle.krs_ring_asks.proofs.Served.{found_ring, found_is_ring}
-use Rattle.krs_ring_asks.proofs.Sought.{requests, request_links, request_no_ring}
-use Rattle.krs_ring_asks.proofs.SoughtNew.{requests_new, request_new_refused, request_new_links}
+use Rattle.krs_ring_asks.proofs.LinkAndUnlink.{found_ring, found_is_ring}
+use Rattle.krs_ring_asks.proofs.SearchAndRequest.{requests, request_links, request_no_ring}
+use Rattle.krs_ring_asks.proofs.SearchWithMade.{requests_new, request_new_refused, request_new_links}
 use Rattle.krs_ring_asks.proofs.finding.request.Goals as goal
 
 pub returns-in_err-links_of : goal.returns-in_err-links_of

@@ -8,9 +8,9 @@ use Rattle.krs_model.specs.Outcome.{Leads, Fails}
 use Rattle.krs_types.specs.declared.rights.Want.TheVariants.{Granted}
 use Rattle.krs_types.specs.Rights.{WRITE}
 use Rattle.krs_keys.specs.Keys.{seen}
-use Rattle.krs_ring_asks.proofs.Served.{found_ring, found_is_ring}
-use Rattle.krs_ring_asks.proofs.Sought.{seeks, search_links, search_unlooked, search_no_ring}
-use Rattle.krs_ring_asks.proofs.SoughtNew.{seeks_new, search_new_refused, search_new_links}
+use Rattle.krs_ring_asks.proofs.LinkAndUnlink.{found_ring, found_is_ring}
+use Rattle.krs_ring_asks.proofs.SearchAndRequest.{seeks, search_links, search_unlooked, search_no_ring}
+use Rattle.krs_ring_asks.proofs.SearchWithMade.{seeks_new, search_new_refused, search_new_links}
 use Rattle.krs_ring_asks.proofs.finding.search.Goals as goal
 
 pub link_found-requires : goal.link_found-requires

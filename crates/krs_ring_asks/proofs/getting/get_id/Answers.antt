@@ -4,7 +4,7 @@ use Rattle.std.proofs.lemmas.Int.{to_z-of_z}
 use Rattle.krs_model.specs.Outcome.{Leads}
 use Rattle.krs_model.specs.Asks.Finding.{get_id}
 use Rattle.krs_tables.specs.Specials.{Makes}
-use Rattle.krs_tables.proofs.NewRings.{is_new, got_made}
+use Rattle.krs_tables.proofs.MadeFor.{is_new, got_made}
 use Rattle.krs_ring_asks.proofs.getting.get_id.Goals as goal
 
 pub returns-in-Some : goal.returns-in-Some

@@ -2,7 +2,7 @@ use Rattle.std.proofs.Common.{◌≡◌, ap, sym, ◌∙◌, subst, Ok, Err, Boo
 use Rattle.krs_types.specs.declared.errno.Errno.TheVariants.{ENFILE}
 use Rattle.krs_model.specs.State.{State}
 use Rattle.krs_tables.specs.Linked.{room_in}
-use Rattle.krs_tables.proofs.Linking.{room_told}
+use Rattle.krs_tables.proofs.Links.{room_told}
 use Rattle.krs_ring_asks.proofs.linking.check_full.Goals as goal
 
 pub returns-then-would_refuse : goal.returns-then-would_refuse

@@ -2,15 +2,15 @@ use Rattle.std.proofs.Common.{◌≡◌, sym, ◌∙◌, subst, refl, false, Ok}
 use Rattle.krs_model.specs.Reach.{closes}
 use Rattle.krs_keys.specs.Keys.{shown}
 use Rattle.krs_model.specs.State.{State}
-use Rattle.krs_model.specs.Asks.Adding.{IsRing}
+use Rattle.krs_model.specs.Asks.Adding.{IsKeyringAt}
 use Rattle.krs_model.specs.Asks.Linked.{nestable}
-use Rattle.krs_tables.proofs.Linking.{is_keyring}
+use Rattle.krs_tables.proofs.Links.{is_keyring}
 use Rattle.krs_ring_asks.proofs.linking.check_nesting.Goals as goal
 
 pub would_cycle-requires-clause-ring : goal.would_cycle-requires-clause-ring
 would_cycle-requires-clause-ring c =
     is_keyring c.tables.inside c.args.ring c.tables.invariant.kinds
-    (subst (λ (t : State). IsRing t c.args.ring) (sym c.tables.view_is) c.requires.ring)
+    (subst (λ (t : State). IsKeyringAt t c.args.ring) (sym c.tables.view_is) c.requires.ring)
 
 pub returns : goal.returns
 unfolding nestable

@@ -4,8 +4,8 @@ use Rattle.krs_model.specs.State.{Key}
 use Rattle.krs_model.specs.Asks.Linked.{name_of, nestable}
 use Rattle.krs_keys.specs.Keys.{seen}
 use Rattle.krs_tables.specs.Linked.{Puts}
-use Rattle.krs_ring_asks.proofs.Served.{looks_up, ring_looked_up, key_looked_up, put_under, link_done, link_failed}
-use Rattle.krs_tables.proofs.NewRings.{makes_own}
+use Rattle.krs_ring_asks.proofs.LinkAndUnlink.{looks_up, ring_looked_up, key_looked_up, put_under, link_done, link_failed}
+use Rattle.krs_tables.proofs.MadeFor.{makes_own}
 use Rattle.krs_ring_asks.proofs.linking.link_to.Goals as goal
 
 pub check_nesting-requires-clause-ring : goal.check_nesting-requires-clause-ring

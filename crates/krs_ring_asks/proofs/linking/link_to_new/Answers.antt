@@ -10,7 +10,7 @@ use Rattle.krs_model.specs.Lookup.{look_up}
 use Rattle.krs_model.specs.Outcome.{Leads, Fails}
 use Rattle.krs_keys.specs.Keys.{seen}
 use Rattle.krs_tables.specs.Specials.{is_coming, linking_made}
-use Rattle.krs_tables.proofs.NewRings.{makes_own, is_new, link_to_itself, link_unlooked, link_linking}
+use Rattle.krs_tables.proofs.MadeFor.{makes_own, is_new, link_to_itself, link_unlooked, link_linking}
 use Rattle.krs_ring_asks.proofs.linking.link_to_new.Goals as goal
 
 pub returns-then-is_coming : goal.returns-then-is_coming

@@ -9,10 +9,10 @@ use Rattle.krs_tables.specs.Linked.{name_in}
 use Rattle.std.specs.Option.{option_to_list}
 use Rattle.krs_model.specs.Table.{Table}
 use Rattle.krs_model.specs.Sweep.{roots}
-use Rattle.krs_model.specs.Asks.Adding.{IsRing}
+use Rattle.krs_model.specs.Asks.Adding.{IsKeyringAt}
 use Rattle.krs_hold.specs.Tally.{AreExact, all_less}
-use Rattle.krs_tables.proofs.Counting.{linked_tallied}
-use Rattle.krs_tables.proofs.Linking.{name_kept, fit_linked, shown_linked}
+use Rattle.krs_tables.proofs.OwedHolders.{linked_tallied}
+use Rattle.krs_tables.proofs.Links.{name_kept, fit_linked, shown_linked}
 use Rattle.krs_ring_asks.proofs.linking.put_named.Goals as goal
 
 pub invariant_of-tables : goal.invariant_of-tables
@@ -22,7 +22,7 @@ invariant_of-tables c =
     let there =
     name_kept s c.args.serial c.args.name (subst (λ (t : State). name_in t c.args.serial ≡ Some c.args.name)
     (sym c.tables.view_is) c.requires.named) in
-    let ring = subst (λ (t : State). IsRing t c.args.ring) (sym c.tables.view_is) c.requires.ring in
+    let ring = subst (λ (t : State). IsKeyringAt t c.args.ring) (sym c.tables.view_is) c.requires.ring in
     record {
       fit = rw c.in-Ok.ensures.ok (fit_linked es c.args.ring c.args.serial c.args.name c.tables.invariant.fit there);
       kinds = rw c.in-Ok.ensures.ok (kinds_alter es c.args.ring _ (linked_kind c.args.name c.args.serial)

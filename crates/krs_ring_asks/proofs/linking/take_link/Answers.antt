@@ -2,7 +2,7 @@ use Rattle.std.proofs.Common.{◌≡◌, ℕ, ap, sym, ◌∙◌, subst, refl, t
 use Rattle.krs_model.specs.Table.{Table}
 use Rattle.krs_model.specs.State.{State}
 use Rattle.krs_model.specs.Levels.{is_in}
-use Rattle.krs_model.specs.Reach.{links_in}
+use Rattle.krs_model.specs.Reach.{links_of_key_at}
 use Rattle.krs_model.specs.Sweep.{roots}
 use Rattle.krs_model.specs.Asks.Changing.{changed}
 use Rattle.krs_model.specs.Asks.Linked.{without_link}
@@ -11,13 +11,13 @@ use Rattle.krs_keys.proofs.KindsLemmas.{kinds_alter, keyless_kind}
 use Rattle.krs_keys.proofs.Unlinking.{fit-keyless, shown-keyless}
 use Rattle.krs_hold.specs.Tally.{AreExact}
 use Rattle.krs_tables.specs.View.{state_of}
-use Rattle.krs_tables.proofs.Counting.{unlinked_tallied}
-use Rattle.krs_tables.proofs.Linking.{linked_told}
+use Rattle.krs_tables.proofs.OwedHolders.{unlinked_tallied}
+use Rattle.krs_tables.proofs.Links.{linked_told}
 use Rattle.krs_ring_asks.proofs.linking.take_link.Goals as goal
 
 pub returns-then-not-has_link : goal.returns-then-not-has_link
 returns-then-not-has_link c = (
-  subst (λ (t : State). is_in c.args.serial (links_in t.keys c.args.ring) ≡ false) c.tables.view_is
+  subst (λ (t : State). is_in c.args.serial (links_of_key_at t.keys c.args.ring) ≡ false) c.tables.view_is
       (sym (linked_told c.tables.inside.keys.keys c.args.ring c.args.serial)
       ∙ (sym c.has_link.ensures ∙ c.if-not-has_link.true)),
   (refl, refl),
@@ -45,7 +45,7 @@ returns c =
     let s = c.tables.inside in
     let ring = c.args.ring in
     let serial = c.args.serial in (
-      subst (λ (t : State). is_in serial (links_in t.keys ring) ≡ true) c.tables.view_is
+      subst (λ (t : State). is_in serial (links_of_key_at t.keys ring) ≡ true) c.tables.view_is
           (sym (linked_told s.keys.keys ring serial) ∙ (sym c.has_link.ensures ∙ c.if-not-has_link.false)),
       ap (λ zs. record (state_of s) { keys = shown zs.keys; next_serial = zs.next }) c.unlink.ensures
           ∙ (ap (λ zs. record (state_of s) { keys = zs }) (shown-keyless serial s.keys.keys ring)

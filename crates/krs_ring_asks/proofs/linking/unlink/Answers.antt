@@ -5,7 +5,7 @@ use Rattle.krs_model.specs.Table.{at}
 use Rattle.krs_model.specs.State.{Key}
 use Rattle.krs_keys.specs.Keys.{seen}
 use Rattle.krs_tables.specs.Linked.{Takes}
-use Rattle.krs_ring_asks.proofs.Served.{looks_for, unlink_done, unlink_failed}
+use Rattle.krs_ring_asks.proofs.LinkAndUnlink.{looks_for, unlink_done, unlink_failed}
 use Rattle.krs_ring_asks.proofs.linking.unlink.Goals as goal
 
 pub returns-in_err-take_link : goal.returns-in_err-take_link

@@ -5,7 +5,7 @@ use Rattle.krs_types.specs.declared.note.Record.{Record}
 use Rattle.krs_model.specs.Notes.Bytes.{bytes_of, bytes_of_all}
 use Rattle.krs_model.specs.Notes.Front.{front, behind}
 use Rattle.krs_ring.specs.Ring.{Ring}
-use Rattle.krs_model.proofs.Fronts.{front_size}
+use Rattle.krs_model.proofs.Notes.Fronts.{front_size}
 use Rattle.krs_watch.proofs.FrontLemmas.{Stops, stops_empty, stops_full, first_within, front_less}
 use Rattle.krs_watch.proofs.queue.take_front.Goals.{in-Some+then-not-fits, in_default}
 use Rattle.krs_watch.proofs.queue.take_front.Goals as goal

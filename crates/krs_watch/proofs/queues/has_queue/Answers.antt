@@ -1,5 +1,5 @@
 use Rattle.std.proofs.Common.{◌∙◌}
-use Rattle.krs_model.proofs.Entries.{has_entry}
+use Rattle.krs_model.proofs.Tables.Distinct.{has_entry}
 use Rattle.krs_watch.proofs.queues.has_queue.Goals as goal
 
 pub returns : goal.returns

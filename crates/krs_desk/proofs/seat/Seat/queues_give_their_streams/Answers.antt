@@ -1,6 +1,6 @@
 use Rattle.std.proofs.Common.{subst}
 use Rattle.krs_model.specs.Receiving.{GivesStreams}
-use Rattle.krs_model.proofs.Histories.{gives_streams}
+use Rattle.krs_model.proofs.History.Streams.{gives_streams}
 use Rattle.krs_desk.specs.Sitting.{Sitting}
 use Rattle.krs_desk.specs.Seen.{GivesItsStreams}
 use Rattle.krs_desk.proofs.Seen.{gives_its_streams}

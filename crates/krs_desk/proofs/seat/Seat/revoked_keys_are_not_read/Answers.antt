@@ -1,6 +1,6 @@
 use Rattle.std.proofs.Common.{subst}
 use Rattle.krs_model.specs.Revocation.{StaysUnread}
-use Rattle.krs_model.proofs.Revocations.{revoked_unread}
+use Rattle.krs_model.proofs.History.Revocations.{revoked_unread}
 use Rattle.krs_desk.specs.Sitting.{Sitting}
 use Rattle.krs_desk.specs.Seen.{IsNotReadRevoked}
 use Rattle.krs_desk.proofs.Seen.{not_read_revoked}

@@ -1,5 +1,5 @@
 use Rattle.krs_links.specs.Links.{serials}
-use Rattle.krs_keys.specs.Keys.{content_links}
+use Rattle.krs_keys.specs.Keys.{named_links_of_content}
 use Rattle.krs_hold.specs.Chain.{Chained}
 use Rattle.krs_hold.proofs.Numbers.{gone_all_numbers, gone_all_chain}
 use Rattle.krs_keys.specs.Hashed.{by_serial}
@@ -10,11 +10,11 @@ invariant_of-self c =
     let t : Chained = record { counts = by_serial c.self.inside.counts.entries; first = c.self.inside.first } in
     let done = c.let_go_links-self-inside in
     let u : Chained = record { counts = by_serial done.new.counts.entries; first = done.result } in
-    gone_all_chain (serials (content_links c.args.content.now)) t u done.ensures c.self.invariant
+    gone_all_chain (serials (named_links_of_content c.args.content.now)) t u done.ensures c.self.invariant
 
 pub returns : goal.returns
 returns c =
     let t : Chained = record { counts = by_serial c.self.inside.counts.entries; first = c.self.inside.first } in
     let done = c.let_go_links-self-inside in
     let u : Chained = record { counts = by_serial done.new.counts.entries; first = done.result } in
-    gone_all_numbers (serials (content_links c.args.content.now)) t u _ c.self.view_is done.ensures
+    gone_all_numbers (serials (named_links_of_content c.args.content.now)) t u _ c.self.view_is done.ensures

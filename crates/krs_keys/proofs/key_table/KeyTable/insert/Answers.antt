@@ -1,5 +1,5 @@
 use Rattle.std.proofs.Common.{sym, subst}
-use Rattle.krs_model.proofs.Tables.{below_put}
+use Rattle.krs_model.proofs.Tables.Changes.{below_put}
 use Rattle.krs_keys.specs.Hashed.{by_serial}
 use Rattle.krs_keys.specs.Keys.{AreOfKind}
 use Rattle.krs_keys.proofs.KindsLemmas.{kinds_put}

@@ -1,6 +1,6 @@
 use Rattle.std.proofs.Common.{refl, ap, ◌∙◌, sym, subst}
 use Rattle.krs_model.specs.Table.{at, put}
-use Rattle.krs_model.proofs.Tables.{below_put, at_alter_none}
+use Rattle.krs_model.proofs.Tables.Changes.{below_put, at_alter_none}
 use Rattle.krs_keys.specs.Hashed.{by_serial}
 use Rattle.krs_keys.specs.Keys.{AreOfKind, with_entry}
 use Rattle.krs_keys.proofs.KindsLemmas.{kinds_put, kinds_alter, linked_kind}

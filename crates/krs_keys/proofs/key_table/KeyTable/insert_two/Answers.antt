@@ -1,6 +1,6 @@
 use Rattle.std.proofs.Common.{◌+◌, refl, sym, subst, arith}
 use Rattle.krs_model.specs.Table.{put}
-use Rattle.krs_model.proofs.Tables.{below_put}
+use Rattle.krs_model.proofs.Tables.Changes.{below_put}
 use Rattle.krs_keys.specs.Hashed.{by_serial}
 use Rattle.krs_keys.specs.Keys.{AreOfKind}
 use Rattle.krs_keys.proofs.KindsLemmas.{kinds_put}

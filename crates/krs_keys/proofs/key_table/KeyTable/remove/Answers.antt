@@ -1,6 +1,6 @@
 use Rattle.std.proofs.Common.{ap, ◌∙◌}
 use Rattle.krs_model.specs.Table.{at}
-use Rattle.krs_model.proofs.Tables.{at_without_none}
+use Rattle.krs_model.proofs.Tables.Changes.{at_without_none}
 use Rattle.krs_keys.specs.Hashed.{by_serial}
 use Rattle.krs_keys.proofs.KindsLemmas.{kinds_without}
 use Rattle.krs_keys.proofs.key_table.KeyTable.remove.Goals as goal

@@ -1,6 +1,6 @@
 use Rattle.std.proofs.Common.{ap, ◌∙◌, sym, subst}
 use Rattle.krs_model.specs.Table.{at}
-use Rattle.krs_model.proofs.Tables.{at_alter_none}
+use Rattle.krs_model.proofs.Tables.Changes.{at_alter_none}
 use Rattle.krs_keys.specs.Hashed.{by_serial}
 use Rattle.krs_keys.specs.Keys.{AreOfKind}
 use Rattle.krs_keys.specs.Changes.{changed}

@@ -1,7 +1,7 @@
 use Rattle.std.proofs.Common.{ap, ◌∙◌, sym, subst}
 use Rattle.std.specs.Option.{option_map}
 use Rattle.krs_model.specs.Table.{at}
-use Rattle.krs_model.proofs.Tables.{at_map}
+use Rattle.krs_model.proofs.Tables.Changes.{at_map}
 use Rattle.krs_keys.specs.Keys.{AreOfKind, without_key}
 use Rattle.krs_keys.specs.Hashed.{by_serial}
 use Rattle.krs_keys.proofs.Unlinking.{kinds-without_key}

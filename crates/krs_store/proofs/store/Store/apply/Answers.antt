@@ -4,10 +4,10 @@ use Rattle.krs_model.specs.State.{State}
 use Rattle.krs_model.specs.Sound.{IsSound}
 use Rattle.krs_model.specs.Outcome.{Fails}
 use Rattle.krs_model.specs.Step.{Step, Serves, outcome_of}
-use Rattle.krs_model.proofs.Soundness.{raised_sound}
-use Rattle.krs_tables.proofs.Serving.{serves_in_turn, applied_sound, told_acyclic}
-use Rattle.krs_tables.proofs.Staying.{told_live}
-use Rattle.krs_model.proofs.Refusals.{refusal_is_no_memory}
+use Rattle.krs_model.proofs.Sound.Steps.{raised_sound}
+use Rattle.krs_tables.proofs.PostsAndSweep.{serves_in_turn, applied_sound, told_acyclic}
+use Rattle.krs_tables.proofs.WatchedKeys.{told_live}
+use Rattle.krs_model.proofs.Asks.Refusals.{refusal_is_no_memory}
 use Rattle.krs_store.proofs.store.Store.apply.Goals as goal
 
 pub invariant_of-self : goal.invariant_of-self

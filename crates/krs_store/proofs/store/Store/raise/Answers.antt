@@ -1,6 +1,6 @@
 use Rattle.std.proofs.Common.{sym, subst}
 use Rattle.krs_model.specs.Sound.{IsSound}
-use Rattle.krs_model.proofs.Soundness.{raised_sound}
+use Rattle.krs_model.proofs.Sound.Steps.{raised_sound}
 use Rattle.krs_store.proofs.store.Store.raise.Goals as goal
 
 pub invariant_of-self : goal.invariant_of-self

@@ -2,7 +2,7 @@ use Rattle.std.proofs.Common.{◌≡◌, ℕ, ap, sym, ◌∙◌, subst}
 use Rattle.krs_model.specs.Table.{Table, alter}
 use Rattle.krs_model.specs.State.{State}
 use Rattle.krs_model.specs.Asks.Changing.{changed}
-use Rattle.krs_model.proofs.Tables.{alter_map}
+use Rattle.krs_model.proofs.Tables.Changes.{alter_map}
 use Rattle.krs_keys.specs.Keys.{seen, shown}
 use Rattle.krs_keys.specs.Changes as keys
 use Rattle.krs_keys.proofs.KindsLemmas.{kinds_alter, changed_kind}
@@ -10,7 +10,7 @@ use Rattle.krs_keys.proofs.ChangesLemmas.{fit_changed, seen-changed}
 use Rattle.krs_tables.specs.View.{state_of}
 use Rattle.krs_model.specs.Sweep.{roots}
 use Rattle.krs_hold.specs.Tally.{AreExact}
-use Rattle.krs_tables.proofs.Counting.{changed_tallied}
+use Rattle.krs_tables.proofs.OwedHolders.{changed_tallied}
 use Rattle.krs_tables.proofs.tables.Tables.change.Goals as goal
 
 pub invariant_of-self : goal.invariant_of-self

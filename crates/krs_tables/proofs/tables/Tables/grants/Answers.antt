@@ -4,7 +4,7 @@ use Rattle.krs_types.specs.Rights.{allows}
 use Rattle.krs_model.specs.Access.{rights_on}
 use Rattle.krs_model.specs.Possession.{possessed}
 use Rattle.krs_keys.specs.Keys.{seen}
-use Rattle.krs_tables.proofs.Granting.{allows_more}
+use Rattle.krs_tables.proofs.Grants.{allows_more}
 use Rattle.krs_tables.proofs.tables.Tables.grants.Goals as goal
 
 pub returns-then-allows : goal.returns-then-allows

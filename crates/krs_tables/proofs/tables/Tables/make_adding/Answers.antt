@@ -1,8 +1,8 @@
 use Rattle.std.proofs.Common.{◌≡◌, ◌≤◌, ◌∙◌, ap, sym, arith}
 use Rattle.std.proofs.lemmas.Bool.Decides.{nat_tests}
 use Rattle.krs_model.specs.State.{State}
-use Rattle.krs_tables.proofs.Attaching.{has_place}
-use Rattle.krs_tables.proofs.TwoMade.{adding_told}
+use Rattle.krs_tables.proofs.MadeKeyrings.{has_place}
+use Rattle.krs_tables.proofs.MadeTwo.{adding_told}
 use Rattle.krs_tables.proofs.tables.Tables.make_adding.Goals as goal
 
 pub make_two-requires-clause-place : goal.make_two-requires-clause-place

@@ -1,5 +1,5 @@
 use Rattle.std.proofs.Common.{◌∙◌}
-use Rattle.krs_tables.proofs.Attaching.{has_place, alone_done}
+use Rattle.krs_tables.proofs.MadeKeyrings.{has_place, alone_done}
 use Rattle.krs_tables.proofs.tables.Tables.make_alone.Goals as goal
 
 pub make_ring-requires-clause-place : goal.make_ring-requires-clause-place

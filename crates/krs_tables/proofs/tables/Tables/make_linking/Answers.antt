@@ -5,7 +5,7 @@ use Rattle.krs_model.specs.Reach.{has_chain}
 use Rattle.krs_model.specs.Table.{at}
 use Rattle.krs_keys.specs.declared.key.Key.{Key}
 use Rattle.krs_keys.specs.Keys.{seen}
-use Rattle.krs_tables.proofs.Attaching.{has_place, linking_done}
+use Rattle.krs_tables.proofs.MadeKeyrings.{has_place, linking_done}
 use Rattle.krs_tables.proofs.tables.Tables.make_linking.Goals as goal
 
 pub make_ring-requires-clause-place : goal.make_ring-requires-clause-place

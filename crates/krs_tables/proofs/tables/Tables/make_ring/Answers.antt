@@ -5,10 +5,10 @@ use Rattle.krs_keys.specs.Table.{with_key}
 use Rattle.krs_hold.specs.Tally.{with_number, one_more}
 use Rattle.krs_tables.specs.Holding.{more_of}
 use Rattle.krs_tables.specs.Specials.{ring_key, HasPlace, AreLinksTo, attached_as, ring_at}
-use Rattle.krs_tables.proofs.Attaching.{room_beside, ring_sound, ring_told}
+use Rattle.krs_tables.proofs.MadeKeyrings.{room_beside, ring_sound, ring_told}
 use Rattle.krs_keys.specs.declared.key.Key.{Key}
 use Rattle.krs_keys.specs.Keys.{IsOfKind}
-use Rattle.krs_tables.proofs.Attaching.{ring_kind}
+use Rattle.krs_tables.proofs.MadeKeyrings.{ring_kind}
 use Rattle.krs_tables.proofs.tables.Tables.make_ring.Goals as goal
 
 pub hold_of-requires : goal.hold_of-requires

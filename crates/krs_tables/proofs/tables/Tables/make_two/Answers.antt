@@ -5,11 +5,11 @@ use Rattle.krs_model.specs.Asks.Adding.{made, new_key}
 use Rattle.krs_keys.specs.Table.{Keys}
 use Rattle.krs_tables.specs.Specials.{ring_at}
 use Rattle.krs_tables.specs.View.{state_of, IsConsistent}
-use Rattle.krs_tables.proofs.TwoMade.{two_made, room_left}
+use Rattle.krs_tables.proofs.MadeTwo.{two_made, room_left}
 use Rattle.krs_keys.specs.declared.key.Key.{Key}
 use Rattle.krs_keys.specs.Keys.{IsOfKind}
-use Rattle.krs_tables.proofs.Attaching.{ring_kind}
-use Rattle.krs_tables.proofs.Telling.{first_kind}
+use Rattle.krs_tables.proofs.MadeKeyrings.{ring_kind}
+use Rattle.krs_tables.proofs.Definitions.{first_kind}
 use Rattle.krs_tables.proofs.tables.Tables.make_two.Goals as goal
 
 pub hold-requires-in-Ok : goal.hold-requires-in-Ok

@@ -1,16 +1,16 @@
 use Rattle.std.proofs.Common.{◌≡◌, ◌≤◌, length, sym, subst, arith}
 use Rattle.krs_model.specs.State.{State}
-use Rattle.krs_model.specs.Reach.{IsAcyclic, links_in}
+use Rattle.krs_model.specs.Reach.{IsAcyclic, links_of_key_at}
 use Rattle.krs_model.specs.Sweep.{live_watches, roots}
 use Rattle.krs_tables.specs.View.{state_of}
-use Rattle.krs_tables.proofs.Telling.{sweep_told}
-use Rattle.krs_tables.proofs.Dropping.{sweeps_dropped, sweeps_none}
+use Rattle.krs_tables.proofs.Definitions.{sweep_told}
+use Rattle.krs_tables.proofs.Removals.{sweeps_dropped, sweeps_none}
 use Rattle.krs_tables.proofs.tables.Tables.sweep.Goals as goal
 
 pub invariant_of-self : goal.invariant_of-self
 invariant_of-self c =
     let s = c.self.inside in
-    let acyclic = subst (λ (t : State). IsAcyclic (links_in t.keys)) (sym c.self.view_is) c.requires.acyclic in
+    let acyclic = subst (λ (t : State). IsAcyclic (links_of_key_at t.keys)) (sym c.self.view_is) c.requires.acyclic in
     let told = sweep_told s c.sweep.new.keys.keys c.self.invariant
     (c.sweep.ensures.swept (roots (state_of s)) c.self.invariant.tallied acyclic) in
     record {
@@ -22,7 +22,7 @@ invariant_of-self c =
 pub invariant_of-self-else-len-before : goal.invariant_of-self-else-len-before
 invariant_of-self-else-len-before c =
     let s = c.self.inside in
-    let acyclic = subst (λ (t : State). IsAcyclic (links_in t.keys)) (sym c.self.view_is) c.requires.acyclic in
+    let acyclic = subst (λ (t : State). IsAcyclic (links_of_key_at t.keys)) (sym c.self.view_is) c.requires.acyclic in
     let told = sweep_told s c.sweep.new.keys.keys c.self.invariant
     (c.sweep.ensures.swept (roots (state_of s)) c.self.invariant.tallied acyclic) in
     record {
@@ -34,7 +34,7 @@ invariant_of-self-else-len-before c =
 pub returns-then-len-before : goal.returns-then-len-before
 returns-then-len-before c =
     let s = c.self.inside in
-    let acyclic = subst (λ (t : State). IsAcyclic (links_in t.keys)) (sym c.self.view_is) c.requires.acyclic in
+    let acyclic = subst (λ (t : State). IsAcyclic (links_of_key_at t.keys)) (sym c.self.view_is) c.requires.acyclic in
     let told = sweep_told s c.sweep.new.keys.keys c.self.invariant
     (c.sweep.ensures.swept (roots (state_of s)) c.self.invariant.tallied acyclic) in
     rw (← c.self.view_is, c.sweep.ensures.next)
@@ -43,7 +43,7 @@ returns-then-len-before c =
 pub returns-else-len-before : goal.returns-else-len-before
 returns-else-len-before c =
     let s = c.self.inside in
-    let acyclic = subst (λ (t : State). IsAcyclic (links_in t.keys)) (sym c.self.view_is) c.requires.acyclic in
+    let acyclic = subst (λ (t : State). IsAcyclic (links_of_key_at t.keys)) (sym c.self.view_is) c.requires.acyclic in
     let live =
     subst (λ (t : State). live_watches t.keys t.watches ≡ t.watches) (sym c.self.view_is) c.requires.live in
     let sweeps = c.sweep.ensures.swept (roots (state_of s)) c.self.invariant.tallied acyclic in

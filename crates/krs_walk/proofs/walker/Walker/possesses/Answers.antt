@@ -2,7 +2,7 @@ use Rattle.std.proofs.Common.{◌≤◌, arith, ◌≡◌, Bool, ap, sym, subst,
 use Rattle.std.specs.Option.{option_copied}
 use Rattle.krs_model.specs.Possession.{attached_with}
 use Rattle.krs_keys.specs.Keys.{shown}
-use Rattle.krs_walk.specs.Walks.{followed_rings, links_it}
+use Rattle.krs_walk.specs.Walks.{followed_rings, follows_link_to}
 use Rattle.krs_walk.proofs.RoundsLemmas.{head_passes}
 use Rattle.krs_walk.proofs.PossessionLemmas.{absent_linked, head_possessed, linked_possessed}
 use Rattle.krs_walk.proofs.walker.Walker.possesses.Goals as goal
@@ -19,7 +19,7 @@ returns-then-attached_link c =
     let one : 1 ≤ 7 = omega arith in
     sym (linked_possessed keys c.args.clock c.args.context.now c.args.process_ring c.args.serial
     c.only_keyrings_link.ensures.only (sym c.is_attached.ensures ∙ c.if-is_attached.false)
-    ∙ head_passes (links_it keys c.args.clock caller c.args.serial) (followed_rings keys c.args.clock caller)
+    ∙ head_passes (follows_link_to keys c.args.clock caller c.args.serial) (followed_rings keys c.args.clock caller)
     (attached_with c.args.context.now c.args.process_ring) 7 one
     (sym c.attached_link.ensures ∙ c.if-attached_link.true))
 

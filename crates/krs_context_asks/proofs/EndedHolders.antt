@@ -1,0 +1,146 @@
+-- What the ends of contexts owe the numbers of holders.
+use Rattle.std.proofs.Common.{◌≡◌, ℕ, ◌+◌, ◌==◌, ◌&&◌, ◌||◌, ◌++◌, List, [], ◌∷◌, Bool, true, false, not, filter}
+use Rattle.std.proofs.Common.{cond, refl, ap, sym, ◌∙◌, subst, arith}
+use Rattle.std.proofs.Common.{Option, None, Some, Result, Ok}
+use Rattle.std.specs.Option.{option_to_list, unwrap_or}
+use Rattle.std.specs.List.{list_any}
+use Rattle.std.specs.Map.{values_of}
+use Rattle.krs_types.specs.declared.context.Context.{Context}
+use Rattle.krs_types.specs.declared.context.UidRings.{UidRings}
+use Rattle.krs_types.specs.declared.errno.Errno.{Errno}
+use Rattle.krs_types.specs.declared.ask.Answer.{Answer}
+use Rattle.krs_types.specs.declared.ask.Answer.TheVariants.{Nothing}
+use Rattle.krs_types.specs.Refusing.{◌>>=◌}
+use Rattle.krs_model.specs.Table.{Table, at, without}
+use Rattle.krs_model.specs.State.{State, Key}
+use Rattle.krs_model.specs.Possession.{process_ring}
+use Rattle.krs_model.specs.Lookup.{context_of}
+use Rattle.krs_model.specs.Sweep.{roots, context_roots, process_roots, uid_roots}
+use Rattle.krs_model.specs.Asks.Leaving.{contexts_without, has_process, has_uid, exit, exited}
+use Rattle.krs_model.proofs.Sound.Attached.{context_keys}
+use Rattle.krs_hold.specs.Tally.{times, IsTallied, all_less}
+use Rattle.krs_hold.proofs.Times.{times-append}
+use Rattle.krs_hold.proofs.Gathered.{gathered, given_by, times-without}
+use Rattle.krs_tables.specs.Holding.{rings_of}
+use Rattle.krs_tables.proofs.OwedHolders.{less_then, then_less}
+use Rattle.krs_context_asks.proofs.EnteredHolders.{held_less, same_accepted}
+use Rattle.krs_tables.proofs.Owners.{own_there}
+
+-- a test of the entries that stay
+any_kept :
+    (p r : Context → Bool) (es : Table Context)
+    → list_any (λ c. r c && p c) (values_of es) ≡ list_any p (values_of (filter (λ e. r e.1) es))
+any_kept p r [] = refl
+any_kept p r (e ∷ es) =
+    elim (r e.1) as (λ b. ((b && p e.1) || list_any (λ c. r c && p c) (values_of es))
+    ≡ list_any p (values_of (cond b (e ∷ filter (λ d. r d.1) es) (filter (λ d. r d.1) es)))) [
+      | true ↦ ap (λ rest. p e.1 || rest) (any_kept p r es)
+      | false ↦ any_kept p r es
+    ]
+
+-- another client's context of a process, or of a uid
+pub others_in_process :
+    (es : Table Context) (client process : ℕ)
+    → list_any (λ c. not (c.client == client) && (c.process == process)) (values_of es)
+    ≡ has_process (contexts_without client es) process
+others_in_process es client process = any_kept (λ c. c.process == process) (λ c. not (c.client == client)) es
+
+pub others_of_uid :
+    (es : Table Context) (client uid : ℕ)
+    → list_any (λ c. not (c.client == client) && (c.caller.uid == uid)) (values_of es)
+    ≡ has_uid (contexts_without client es) uid
+others_of_uid es client uid = any_kept (λ c. c.caller.uid == uid) (λ c. not (c.client == client)) es
+
+-- an entry goes where a test fails
+cut_times :
+    {X : Type 0} (g : X → List ℕ) (stays : Bool) (es : Table X) (k q : ℕ)
+    → times q (gathered g es)
+    ≡ times q (cond stays [] (given_by g (at es k))) + times q (gathered g (cond stays es (without es k)))
+cut_times g true es k q = omega arith
+cut_times g false es k q = sym (times-without g es k q)
+
+ring_given : (o : Option (Option ℕ)) → given_by (λ (x : Option ℕ). option_to_list x) o
+    ≡ option_to_list (unwrap_or o None)
+ring_given None = refl
+ring_given (Some ring) = refl
+
+rings_given :
+    (o : Option UidRings)
+    → given_by (λ (x : UidRings). option_to_list x.user ++ option_to_list x.session) o ≡ rings_of o
+rings_given None = refl
+rings_given (Some rings) = refl
+
+-- what EXIT lets go of: attachments of the process, and of the uid
+abbrev pub ended_ring : State → State → Context → List ℕ
+ended_ring s t c = cond (has_process t.contexts c.process) [] (option_to_list (process_ring s c.process))
+
+abbrev pub ended_rings : State → State → Context → List ℕ
+ended_rings s t c = cond (has_uid t.contexts c.caller.uid) [] (rings_of (at s.uids c.caller.uid))
+
+exited_times :
+    (s : State) (number q : ℕ) (c : Context) → at s.contexts number ≡ Some c
+    → times q (roots s)
+    ≡ times q (((option_to_list c.thread ++ option_to_list c.session) ++ ended_ring s (exited s number c) c)
+    ++ ended_rings s (exited s number c) c) + times q (roots (exited s number c))
+exited_times s number q c there =
+    let t = exited s number c in
+    let own = option_to_list c.thread ++ option_to_list c.session in
+    let ring = ended_ring s t c in
+    let rings = ended_rings s t c in
+    let in_process = has_process t.contexts c.process in
+    let in_uid = has_uid t.contexts c.caller.uid in
+    let a = times-append q (context_roots s.contexts) (process_roots s.processes ++ uid_roots s.uids) in
+    let b = times-append q (process_roots s.processes) (uid_roots s.uids) in
+    let d = times-append q (context_roots t.contexts) (process_roots t.processes ++ uid_roots t.uids) in
+    let e = times-append q (process_roots t.processes) (uid_roots t.uids) in
+    let f = times-append q (own ++ ring) rings in
+    let g = times-append q own ring in
+    let i = times-without context_keys s.contexts number q in
+    let j : times q (given_by context_keys (at s.contexts number)) ≡ times q own =
+    ap (λ (o : Option Context). times q (given_by context_keys o)) there in
+    let k = cut_times (λ (x : Option ℕ). option_to_list x) in_process s.processes c.process q in
+    let l : times q (cond in_process [] (given_by (λ (x : Option ℕ). option_to_list x) (at s.processes c.process)))
+    ≡ times q ring =
+    ap (λ (zs : List ℕ). times q (cond in_process [] zs)) (ring_given (at s.processes c.process)) in
+    let m =
+    cut_times (λ (x : UidRings). option_to_list x.user ++ option_to_list x.session) in_uid s.uids
+    c.caller.uid q in
+    let n : times q (cond in_uid [] (given_by (λ (x : UidRings). option_to_list x.user ++ option_to_list x.session)
+    (at s.uids c.caller.uid))) ≡ times q rings =
+    ap (λ (zs : List ℕ). times q (cond in_uid [] zs)) (rings_given (at s.uids c.caller.uid)) in
+    omega (arith, a, b, d, e, f, g, i, j, k, l, m, n)
+
+abbrev exit_done : State → ℕ → Context → Result (State × Answer) Errno
+exit_done s number c = Ok (exited s number c, Nothing)
+
+exit_is :
+    (s t : State) (client number : ℕ) (c : Context) → context_of s client number ≡ Ok c
+    → exit s client number ≡ Ok (t, Nothing) → exited s number c ≡ t
+unfolding exit
+exit_is s t client number c own h =
+    ap (λ (x : State × Answer). x.0)
+    (same_accepted (exited s number c, Nothing) (t, Nothing)
+    (subst (λ (r : Result Context Errno). (r >>= (λ x. exit_done s number x)) ≡ Ok (t, Nothing)) own h))
+
+-- EXIT of a context
+pub exit_tallied :
+    (keys : Table Key) (s t : State) (client number : ℕ) (c : Context) (numbers : Table ℕ)
+    → context_of s client number ≡ Ok c → exit s client number ≡ Ok (t, Nothing)
+    → IsTallied keys (roots s) [] numbers → IsTallied keys (roots t) []
+    (all_less (ended_rings s t c) (all_less (ended_ring s t c)
+    (all_less (option_to_list c.session) (all_less (option_to_list c.thread) numbers))))
+exit_tallied keys s t client number c numbers own h tallied =
+    subst (λ (z : State). IsTallied keys (roots z) [] (all_less (ended_rings s z c) (all_less (ended_ring s z c)
+    (all_less (option_to_list c.session) (all_less (option_to_list c.thread) numbers)))))
+    (exit_is s t client number c own h)
+    (let z = exited s number c in
+    let own_keys = option_to_list c.thread ++ option_to_list c.session in
+    let four : all_less (ended_rings s z c) (all_less (ended_ring s z c)
+    (all_less (option_to_list c.session) (all_less (option_to_list c.thread) numbers)))
+    ≡ all_less ((own_keys ++ ended_ring s z c) ++ ended_rings s z c) numbers =
+    ap (all_less (ended_rings s z c))
+    (less_then (option_to_list c.thread) (option_to_list c.session) (ended_ring s z c) numbers)
+    ∙ then_less (own_keys ++ ended_ring s z c) (ended_rings s z c) numbers in
+    subst (λ (zs : Table ℕ). IsTallied keys (roots z) [] zs) (sym four)
+    (held_less keys s z ((own_keys ++ ended_ring s z c) ++ ended_rings s z c) numbers
+    (λ q. exited_times s number q c (own_there s client number c own)) tallied))

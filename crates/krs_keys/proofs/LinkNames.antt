@@ -1,0 +1,152 @@
+-- Links keep the names of their keys.
+use Rattle.std.proofs.Common.{◌≡◌, ℕ, ◌==◌, ◌||◌, [], ◌∷◌, Option, Some, None, Bool, true, false, not, cond, filter}
+use Rattle.std.proofs.Common.{refl, ap, ◌∙◌, sym, subst, ⊎_elim}
+use Rattle.std.specs.Option.{option_map}
+use Rattle.std.specs.List.{find}
+use Rattle.std.proofs.lemmas.Bool.{true≢false, eqb-true}
+use Rattle.std.proofs.lemmas.Option.{none-some, same_Some}
+use Rattle.krs_types.specs.declared.name.Name.{Name}
+use Rattle.krs_types.specs.Name.{same_name}
+use Rattle.krs_model.specs.Table.{Table, at, put, alter}
+use Rattle.krs_model.proofs.Tables.Changes.{at_put_same, at_put_other, at_or_apart, at_alter_same, at_alter_other, at_kept}
+use Rattle.krs_keys.specs.declared.key.Key.{Key}
+use Rattle.krs_links.specs.Links.{LinkList, link_put, serial_named, serials}
+use Rattle.krs_types.proofs.Names.{equal_names, other_way, same_name_equiv}
+use Rattle.krs_links.proofs.LinksLemmas.{serial_named-linked_other}
+use Rattle.krs_model.specs.Levels.{is_in}
+use Rattle.krs_model.proofs.Reach.Levels.{same_is, or_true}
+use Rattle.krs_keys.specs.Keys.{named_links_of_content, name_at, AreNamed, AreFit}
+use Rattle.krs_keys.proofs.TableLemmas.{mapped_some, was_there}
+
+-- names that are there before are there after
+abbrev pub NamesStay : (ℕ → Option Name) → (ℕ → Option Name) → Type 0
+NamesStay before after = (k : ℕ) (name : Name) → before k ≡ Some name → after k ≡ Some name
+
+pub named_on : (before after : ℕ → Option Name) → NamesStay before after → (links : LinkList) → AreNamed before links
+    → AreNamed after links
+named_on before after stay [] named = tt
+named_on before after stay (link ∷ links) named =
+    (stay link.1 link.0 named.0, named_on before after stay links named.1, named.2)
+
+pub named_linked : (names : ℕ → Option Name) (name : Name) (serial : ℕ) (links : LinkList) → names serial ≡ Some name
+    → AreNamed names links → AreNamed names (link_put links name serial)
+named_linked names name serial [] there named = (there, tt, refl)
+named_linked names name serial (link ∷ links) there named =
+    elim (same_name name link.0) as (λ b. same_name name link.0 ≡ b
+    → AreNamed names (cond b ((name, serial) ∷ links) (link ∷ link_put links name serial))) [
+      | true ↦ λ same. (there, named.1, ap (serial_named links) (equal_names name link.0 same) ∙ named.2)
+      | false ↦ λ apart. (
+        named.0,
+        named_linked names name serial links there named.1,
+        serial_named-linked_other name link.0 serial links (other_way name link.0 apart) ∙ named.2,
+      )
+    ] refl
+
+-- two keys of different names are two
+other_serial : (names : ℕ → Option Name) (name : Name) (serial : ℕ) (link : Name × ℕ) → names serial ≡ Some name
+    → names link.1 ≡ Some link.0 → same_name name link.0 ≡ false → (link.1 == serial) ≡ false
+other_serial names name serial link there named other =
+    elim (link.1 == serial) as (λ b. (link.1 == serial) ≡ b → b ≡ false) [
+      | true ↦ λ t.
+          let one : link.1 ≡ serial = eqb-true link.1 serial t in
+          let same : name ≡ link.0 = same_Some name link.0 (sym there ∙ (ap names (sym one) ∙ named)) in
+          absurd (true≢false (sym (same_name_equiv.refl name) ∙ (ap (same_name name) same ∙ other)))
+      | false ↦ λ t. refl
+    ] refl
+
+not_first : (name : Name) (link : Name × ℕ) (links : LinkList) → serial_named (link ∷ links) name ≡ None
+    → same_name name link.0 ≡ false
+not_first name link links none =
+    elim (same_name name link.0) as (λ b. option_map (λ (l : Name × ℕ). l.1)
+    (cond b (Some link) (find (λ (l : Name × ℕ). same_name name l.0) links)) ≡ None → b ≡ false) [
+      | true ↦ λ h. absurd (none-some link.1 (sym h))
+      | false ↦ λ h. refl
+    ] none
+
+-- a key whose name is not linked is not linked
+pub none_left : (names : ℕ → Option Name) (name : Name) (serial : ℕ) (links : LinkList) → names serial ≡ Some name
+    → serial_named links name ≡ None → AreNamed names links
+    → filter (λ k. not (k == serial)) (serials links) ≡ serials links
+none_left names name serial [] there none named = refl
+none_left names name serial (link ∷ links) there none named =
+    let other : same_name name link.0 ≡ false = not_first name link links none in
+    let rest : serial_named links name ≡ None = rw other at none in
+    let apart : (link.1 == serial) ≡ false = other_serial names name serial link there named.0 other in
+    rw apart (ap (λ zs. link.1 ∷ zs) (none_left names name serial links there rest named.1))
+
+-- what is found by name is linked
+pub found_in : (name : Name) (serial : ℕ) (links : LinkList) → serial_named links name ≡ Some serial
+    → is_in serial (serials links) ≡ true
+found_in name serial [] h = absurd (none-some serial h)
+found_in name serial (link ∷ links) h =
+    elim (same_name name link.0) as (λ b. option_map (λ (l : Name × ℕ). l.1)
+    (cond b (Some link) (find (λ (l : Name × ℕ). same_name name l.0) links)) ≡ Some serial
+    → ((link.1 == serial) || is_in serial (serials links)) ≡ true) [
+      | true ↦ λ here. rw (same_is link.1 serial (same_Some link.1 serial here)) refl
+      | false ↦ λ there. or_true (link.1 == serial) (is_in serial (serials links)) (found_in name serial links there)
+    ] h
+
+map_name : (f : Key → Key) → ((v : Key) → (f v).name ≡ v.name) → (o : Option Key) (name : Name)
+    → option_map (λ key. key.name) o ≡ Some name → option_map (λ key. key.name) (option_map f o) ≡ Some name
+map_name f same None name h = h
+map_name f same (Some key) name h = ap (λ n. Some n) (same key) ∙ h
+
+pub names_alter : (keys : Table Key) (k : ℕ) (f : Key → Key) → ((v : Key) → (f v).name ≡ v.name)
+    → NamesStay (name_at keys) (name_at (alter keys k f))
+names_alter keys k f same q name h =
+    ⊎_elim (λ (e : q ≡ k). subst (λ (z : ℕ). name_at (alter keys k f) z ≡ Some name) (sym e)
+    (ap (option_map (λ key. key.name)) (at_alter_same keys k f)
+    ∙ map_name f same (at keys k) name (subst (λ (z : ℕ). name_at keys z ≡ Some name) e h)))
+    (λ apart. ap (option_map (λ key. key.name)) (at_alter_other keys k q f apart) ∙ h) (at_or_apart q k)
+
+pub names_put : (keys : Table Key) (k : ℕ) (new : Key) → at keys k ≡ None
+    → NamesStay (name_at keys) (name_at (put keys k new))
+names_put keys k new none q name h =
+    ⊎_elim (λ (e : q ≡ k). absurd
+    (none-some name (sym (ap (option_map (λ key. key.name)) none)
+    ∙ subst (λ (z : ℕ). name_at keys z ≡ Some name) e h)))
+    (λ apart. ap (option_map (λ key. key.name)) (at_put_other keys k q new apart) ∙ h) (at_or_apart q k)
+
+-- a change of one key that keeps its name and names its links
+pub fit_alter : (keys : Table Key) (k : ℕ) (f : Key → Key) → ((v : Key) → (f v).name ≡ v.name)
+    → ((v : Key) → at keys k ≡ Some v → AreNamed (name_at keys) (named_links_of_content (f v).content)) → AreFit keys
+    → AreFit (alter keys k f)
+fit_alter keys k f same new fit q key h =
+    named_on (name_at keys) (name_at (alter keys k f)) (names_alter keys k f same) (named_links_of_content key.content)
+    (⊎_elim (λ (e : q ≡ k). let is = mapped_some f (at keys k) key
+    (sym (at_alter_same keys k f) ∙ subst (λ (z : ℕ). at (alter keys k f) z ≡ Some key) e h) in
+    subst (λ (v : Key). AreNamed (name_at keys) (named_links_of_content v.content)) is.2 (new is.0 is.1))
+    (λ apart. fit q key (sym (at_alter_other keys k q f apart) ∙ h)) (at_or_apart q k))
+
+-- a new key that names its links
+pub fit_put : (keys : Table Key) (k : ℕ) (new : Key) → at keys k ≡ None
+    → AreNamed (name_at (put keys k new)) (named_links_of_content new.content) → AreFit keys → AreFit (put keys k new)
+fit_put keys k new none is_fit fit q key h =
+    ⊎_elim (λ (e : q ≡ k). subst (λ (v : Key). AreNamed (name_at (put keys k new)) (named_links_of_content v.content))
+    (same_Some new key (sym (at_put_same keys k new) ∙ subst (λ (z : ℕ). at (put keys k new) z ≡ Some key) e h))
+    is_fit)
+    (λ apart. named_on (name_at keys) (name_at (put keys k new)) (names_put keys k new none)
+    (named_links_of_content key.content) (fit q key (sym (at_put_other keys k q new apart) ∙ h))) (at_or_apart q k)
+
+-- what the links of a list name is kept
+abbrev pub LinksKept : (ℕ → Bool) → LinkList → Type 0
+LinksKept kept [] = Unit {0}
+LinksKept kept (link ∷ links) = (kept link.1 ≡ true) × LinksKept kept links
+
+named_kept : (keys : Table Key) (kept : ℕ → Bool) (links : LinkList) → LinksKept kept links
+    → AreNamed (name_at keys) links → AreNamed (name_at (filter (λ e. kept e.0) keys)) links
+named_kept keys kept [] stay named = tt
+named_kept keys kept (link ∷ links) stay named = (
+  ap (option_map (λ key. key.name)) (at_kept kept keys link.1 ∙ ap (λ b. cond b (at keys link.1) None) stay.0)
+      ∙ named.0,
+  named_kept keys kept links stay.1 named.1,
+  named.2,
+)
+
+-- the kept keys, whose links are kept
+pub fit_kept : (keys : Table Key) (kept : ℕ → Bool)
+    → ((j : ℕ) (key : Key) → at keys j ≡ Some key → kept j ≡ true → LinksKept kept (named_links_of_content key.content))
+    → AreFit keys → AreFit (filter (λ e. kept e.0) keys)
+fit_kept keys kept closed fit q key h =
+    let was = was_there (kept q) (at keys q) key (sym (at_kept kept keys q) ∙ h) in
+    named_kept keys kept (named_links_of_content key.content) (closed q key was.1 was.0) (fit q key was.1)

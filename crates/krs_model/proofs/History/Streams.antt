@@ -1,0 +1,176 @@
+-- What a queue gives to its reader over a history is its stream.
+use Rattle.std.proofs.Common.{◌≡◌, ℕ, ◌<◌, ◌≤◌, List, [], ◌++◌, Some, None, true, map, nat_le}
+use Rattle.std.proofs.Common.{refl, ap, ◌∙◌, sym, subst, arith, ⊎_elim, append_assoc}
+use Rattle.std.proofs.lemmas.Bool.{leb-true, cases_lt}
+use Rattle.std.proofs.lemmas.Option.{none-some, same_Some}
+use Rattle.krs_types.specs.declared.event.Event.{Event}
+use Rattle.krs_types.specs.declared.note.Record.{Record}
+use Rattle.krs_model.specs.Table.{at}
+use Rattle.krs_model.specs.State.{State, Queue}
+use Rattle.krs_model.specs.Sound.{IsSound}
+use Rattle.krs_model.specs.Lists.{Begins}
+use Rattle.krs_model.specs.Receiving.{called_for, HasMoves, NoMoves, FurtherMoves, IsOpening, IsOpened, GivesStreams}
+use Rattle.krs_model.specs.Notes.Stream.{Move, Posted, Took, taken, stream}
+use Rattle.krs_model.specs.Notes.Waiting.{greatest_capacity, is_capacity, MovesTo}
+use Rattle.krs_model.specs.Asks.Watching.{new_queue}
+use Rattle.krs_types.proofs.Names.{and_left}
+use Rattle.krs_model.proofs.Sound.Steps.{step_sound}
+use Rattle.krs_model.proofs.Notes.Streams.{gives_its_stream}
+use Rattle.krs_model.proofs.Notes.Taken.{Stays, moves_append, step_after, step_nothing}
+use Rattle.krs_model.proofs.Notes.QueueNumbers.{step_gone, step_next, step_opened}
+
+-- nothing was called for and nothing taken
+no_moves :
+    (rs took : List Record) (moves : List Move) → rs ≡ [] → took ≡ []
+    → map Posted rs ++ (map Took took ++ moves) ≡ moves
+no_moves rs took moves none nothing = rw (none, nothing) refl
+
+given_before : (s : State) (q : ℕ) (queue : Queue) → IsSound s → at s.queues q ≡ Some queue → q < s.next_queue
+given_before s q queue sound there =
+    ⊎_elim (λ (lt : q < s.next_queue). lt)
+    (λ (le : s.next_queue ≤ q). absurd (none-some queue (sym (sound.orderly.unused q le) ∙ there)))
+    (cases_lt q s.next_queue)
+
+-- a queue that was closed
+closed_moves :
+    (q : ℕ) (s : State) (events : List Event) (moves : List Move) (end : State) → HasMoves q s events moves end
+    → IsSound s
+    → q < s.next_queue → at s.queues q ≡ None → (moves ≡ []) × (at end.queues q ≡ None)
+closed_moves q _ _ _ _ (NoMoves s) sound lt none = (refl, none)
+closed_moves q _ _ _ _ (FurtherMoves s next end event events took moves step takes rest) sound lt none =
+    let nothing = step_nothing s next event q took sound step takes none in
+    let more : s.next_queue ≤ next.next_queue = step_next s next event step in
+    let later = closed_moves q next events moves end rest (step_sound s next event sound step) (omega arith)
+    (step_gone s next event q step lt none) in
+    (no_moves (called_for q s event next) took moves nothing.0 nothing.1 ∙ later.0, later.1)
+
+-- from a queue on: these moves lead to what waits in it, where it is still there
+record MovesReach (old : Queue) (moves : List Move) (q : ℕ) (end : State) : Type 0 where
+  after : List Record
+  moves_to : MovesTo old.capacity old.waiting moves after
+  waits : (queue : Queue) → at end.queues q ≡ Some queue → queue.waiting ≡ after
+
+still_leads :
+    (q : ℕ) (queue now : Queue) (end : State) (rs took : List Record) (moves : List Move)
+    → Stays queue (map Posted rs ++ map Took took) now → MovesReach now moves q end
+    → MovesReach queue (map Posted rs ++ (map Took took ++ moves)) q end
+still_leads q queue now end rs took moves stays leads =
+    let first = map Posted rs ++ map Took took in
+    let later : MovesTo queue.capacity now.waiting moves leads.after =
+    subst (λ (n : ℕ). MovesTo n now.waiting moves leads.after) stays.capacity leads.moves_to in
+    record {
+      after = leads.after;
+      moves_to = subst (λ (all : List Move). MovesTo queue.capacity queue.waiting all leads.after)
+          (append_assoc (map Posted rs) (map Took took) moves)
+          (moves_append queue.capacity first moves queue.waiting now.waiting leads.after stays.moves later);
+      waits = leads.waits;
+    }
+
+gone_leads :
+    (q : ℕ) (queue : Queue) (end : State) (all : List Move) → all ≡ [] → at end.queues q ≡ None
+    → MovesReach queue all q end
+gone_leads q queue end all none gone = record {
+  after = queue.waiting;
+  moves_to = subst (λ (ms : List Move). MovesTo queue.capacity queue.waiting ms queue.waiting) (sym none) refl;
+  waits = λ other there. absurd (none-some other (sym gone ∙ there));
+}
+
+open_moves :
+    (q : ℕ) (s : State) (events : List Event) (moves : List Move) (end : State) (queue : Queue)
+    → HasMoves q s events moves end → IsSound s → at s.queues q ≡ Some queue → MovesReach queue moves q end
+open_moves q _ _ _ _ queue (NoMoves s) sound there = record {
+  after = queue.waiting;
+  moves_to = refl;
+  waits = λ other is. ap (λ (x : Queue). x.waiting) (same_Some other queue (sym is ∙ there));
+}
+open_moves q _ _ _ _ queue (FurtherMoves s next end event events took moves step takes rest) sound there =
+    let rs = called_for q s event next in
+    let further = step_sound s next event sound step in
+    let lt = given_before s q queue sound there in
+    let more : s.next_queue ≤ next.next_queue = step_next s next event step in
+    ⊎_elim (λ (gone : (at next.queues q ≡ None) × (rs ≡ []) × (took ≡ [])).
+    let later = closed_moves q next events moves end rest further (omega arith) gone.0 in
+    gone_leads q queue end (map Posted rs ++ (map Took took ++ moves)) (no_moves rs took moves gone.1 gone.2 ∙ later.0)
+    later.1)
+    (λ (now : (n : Queue) × (at next.queues q ≡ Some n) × Stays queue (map Posted rs ++ map Took took) n).
+    still_leads q queue now.0 end rs took moves now.2 (open_moves q next events moves end now.0 rest further now.1))
+    (step_after s next event q queue took sound step takes there)
+
+-- a queue that is opened later has no number yet
+opened_later :
+    (q capacity : ℕ) (s : State) (events : List Event) (moves : List Move) (end : State)
+    → HasMoves q s events moves end → IsSound s → IsOpened q capacity events → s.next_queue ≤ q
+opened_later q capacity _ _ _ _ (NoMoves s) sound opened = absurd opened
+opened_later q capacity _ _ _ _ (FurtherMoves s next end event events took moves step takes rest) sound opened =
+    let more : s.next_queue ≤ next.next_queue = step_next s next event step in
+    ⊎_elim (λ (opening : IsOpening q capacity event).
+    let is : q ≡ s.next_queue = (step_opened s next event q capacity sound step opening).0 in
+    omega arith)
+    (λ (later : IsOpened q capacity events).
+    let above : next.next_queue ≤ q = opened_later q capacity next events moves end rest
+    (step_sound s next event sound step) later in
+    omega arith) opened
+
+-- from where it is opened on
+record BegunBy (capacity : ℕ) (moves : List Move) (q : ℕ) (end : State) : Type 0 where
+  some : 1 ≤ capacity
+  leads : MovesReach (new_queue 0 capacity) moves q end
+
+some_capacity : (capacity : ℕ) → is_capacity capacity ≡ true → 1 ≤ capacity
+some_capacity capacity h = leb-true 1 capacity (and_left (nat_le 1 capacity) (nat_le capacity greatest_capacity) h)
+
+same_leads :
+    (client capacity q : ℕ) (moves : List Move) (end : State) → MovesReach (new_queue client capacity) moves q end
+    → MovesReach (new_queue 0 capacity) moves q end
+same_leads client capacity q moves end leads =
+    record { after = leads.after; moves_to = leads.moves_to; waits = leads.waits }
+
+opened_moves :
+    (q capacity : ℕ) (s : State) (events : List Event) (moves : List Move) (end : State)
+    → HasMoves q s events moves end → IsSound s → IsOpened q capacity events → BegunBy capacity moves q end
+opened_moves q capacity _ _ _ _ (NoMoves s) sound opened = absurd opened
+opened_moves q capacity _ _ _ _ (FurtherMoves s next end event events took moves step takes rest) sound opened =
+    let rs = called_for q s event next in
+    let further = step_sound s next event sound step in
+    let more : s.next_queue ≤ next.next_queue = step_next s next event step in
+    let quiet : s.next_queue ≤ q → map Posted rs ++ (map Took took ++ moves) ≡ moves = λ le.
+    let nothing = step_nothing s next event q took sound step takes (sound.orderly.unused q le) in
+    no_moves rs took moves nothing.0 nothing.1 in
+    ⊎_elim (λ (opening : IsOpening q capacity event).
+    let is = step_opened s next event q capacity sound step opening in
+    let number : q ≡ s.next_queue = is.0 in
+    let queue = new_queue event.lane capacity in
+    let good : is_capacity capacity ≡ true = (further.orderly.queues q queue is.1).capacity in
+    let leads = same_leads event.lane capacity q moves end
+    (open_moves q next events moves end queue rest further is.1) in
+    subst (λ (all : List Move). BegunBy capacity all q end) (sym (quiet (omega arith)))
+    (record { some = some_capacity capacity good; leads = leads }))
+    (λ (later : IsOpened q capacity events).
+    let above : next.next_queue ≤ q = opened_later q capacity next events moves end rest further later in
+    subst (λ (all : List Move). BegunBy capacity all q end) (sym (quiet (omega arith)))
+    (opened_moves q capacity next events moves end rest further later)) opened
+
+-- of a queue that is open, what was taken and what waits is the stream
+pub open_streams :
+    (start end : State) (events : List Event) (moves : List Move) (q capacity : ℕ) (queue : Queue) → IsSound start
+    → HasMoves q start events moves end → IsOpened q capacity events → at end.queues q ≡ Some queue
+    → taken moves ++ queue.waiting ≡ stream capacity moves
+open_streams start end events moves q capacity queue sound has opened there =
+    let begun = opened_moves q capacity start events moves end has sound opened in
+    ap (λ (waiting : List Record). taken moves ++ waiting) (begun.leads.waits queue there)
+    ∙ gives_its_stream capacity moves begun.leads.after begun.some begun.leads.moves_to
+
+-- of each queue, what was taken begins the stream
+pub begun_streams :
+    (start end : State) (events : List Event) (moves : List Move) (q capacity : ℕ) → IsSound start
+    → HasMoves q start events moves end → IsOpened q capacity events
+    → Begins (taken moves) (stream capacity moves)
+begun_streams start end events moves q capacity sound has opened =
+    let begun = opened_moves q capacity start events moves end has sound opened in
+    (begun.leads.after, (gives_its_stream capacity moves begun.leads.after begun.some begun.leads.moves_to))
+
+pub gives_streams : (start : State) → IsSound start → GivesStreams start
+gives_streams start sound = record {
+  still_open = λ end events moves q capacity queue. open_streams start end events moves q capacity queue sound;
+  begun = λ end events moves q capacity. begun_streams start end events moves q capacity sound;
+}

@@ -1,0 +1,223 @@
+-- What is possessed and what a look-up meets where a thread or process keyring is made.
+use Rattle.std.proofs.Common.{◌≡◌, ◌≢◌, ℕ, ℤ, zero, suc, ◌==◌, ◌&&◌, ◌||◌, List, [], ◌∷◌, ◌++◌, Option, Some}
+use Rattle.std.proofs.Common.{None, Bool, true, false, cond, flat_map, Result, Ok, Err, refl, ap}
+use Rattle.std.proofs.Common.{◌∙◌, sym, arith, ◌⊎◌, inl, inr, ⊎_elim}
+use Rattle.std.proofs.lemmas.Bool.Decides.{nat_tests}
+use Rattle.std.proofs.lemmas.List.Folds.{list_any-append}
+use Rattle.std.proofs.lemmas.Grind.{flat_map-append}
+use Rattle.krs_types.specs.declared.errno.Errno.{Errno}
+use Rattle.krs_types.specs.declared.errno.Errno.TheVariants.{ENOKEY, EKEYREVOKED, EKEYEXPIRED, EACCES}
+use Rattle.krs_types.specs.declared.caller.Caller.{Caller}
+use Rattle.krs_types.specs.declared.context.Context.{Context}
+use Rattle.krs_types.specs.declared.key_id.KeyId.{KeyId}
+use Rattle.krs_types.specs.declared.rights.Rights.{Rights}
+use Rattle.krs_types.specs.declared.rights.Want.{Want}
+use Rattle.krs_types.specs.declared.rights.Want.TheVariants.{Granted}
+use Rattle.krs_types.specs.KeyId.{key_id_of}
+use Rattle.std.specs.Int.RustNames.{bit_or}
+use Rattle.krs_types.specs.Caller.{is_of_group}
+use Rattle.krs_types.specs.Perm.{group_byte, other_byte}
+use Rattle.krs_types.specs.Rights.{has_all, allows, SEARCH}
+use Rattle.krs_types.specs.Refusing.{◌>>=◌, or_refuse}
+use Rattle.krs_model.specs.Table.{Table, at, put}
+use Rattle.krs_model.specs.State.{State, Key}
+use Rattle.krs_model.specs.Access.{is_alive, is_over, rights_on}
+use Rattle.krs_model.specs.Levels.{level, levels, is_in}
+use Rattle.krs_model.specs.Possession.{attached, links_of_content, followed, followed_in, possessed}
+use Rattle.krs_model.specs.Lookup.{attachment, serial_of, if_usable, look_up}
+use Rattle.krs_model.specs.Making.{special_ring}
+use Rattle.krs_model.proofs.Tables.Changes.{at_put_same}
+use Rattle.krs_model.proofs.Reach.Levels.{in_right, same_is}
+use Rattle.krs_model.proofs.Reach.Acyclic.{heads_first}
+use Rattle.krs_model.proofs.MadeKeyring.State.{HasMade, StandsFor, either_at, at_other}
+
+pub none_followed : (b : Bool) (links : List ℕ) → links ≡ [] → cond b links [] ≡ []
+none_followed true links empty = empty
+none_followed false links empty = refl
+
+-- an empty keyring has no links to follow
+followed_put :
+    (clock : ℕ) (caller : Caller) (es : Table Key) (n k : ℕ) (v : Key) → at es n ≡ None → links_of_content v.content ≡ []
+    → followed clock caller (at (put es n v) k) ≡ followed clock caller (at es k)
+followed_put clock caller es n k v none empty =
+    let entered = is_alive clock v && has_all (rights_on v caller true) SEARCH in
+    either_at (λ (o was : Option Key). followed clock caller o ≡ followed clock caller was) es n k v none
+    (λ e. none_followed entered (links_of_content v.content) empty) (λ o. refl)
+
+-- the same links are followed
+pub same_followed :
+    (s t : State) (c d : Context) (desc before after : List ℕ) → HasMade s c t d desc before after
+    → at s.keys s.next_serial ≡ None → followed_in t d ≡ followed_in s c
+same_followed s t c d desc before after made none =
+    let ring = special_ring desc c.caller in
+    let each : (k : ℕ) → followed_in t d k ≡ followed_in s c k = λ k.
+    ap (λ (clock : ℕ). followed clock d.caller (at t.keys k)) made.clock
+    ∙ (ap (λ (caller : Caller). followed s.clock caller (at t.keys k)) made.caller
+    ∙ (ap (λ (es : Table Key). followed s.clock c.caller (at es k)) made.keys
+    ∙ followed_put s.clock c.caller s.keys s.next_serial k ring none refl)) in
+    λ i k. each k i
+
+-- a further head that links nothing is in the first level alone
+level_further :
+    (links : ℕ → List ℕ) (before after : List ℕ) (n m : ℕ) → links n ≡ []
+    → level links (before ++ (n ∷ after)) (suc m) ≡ level links (before ++ after) (suc m)
+unfolding level
+level_further links before after n zero empty =
+    flat_map-append links before (n ∷ after)
+    ∙ (ap (λ (xs : List ℕ). flat_map links before ++ (xs ++ flat_map links after)) empty
+    ∙ sym (flat_map-append links before after))
+level_further links before after n (suc m) empty = ap (flat_map links) (level_further links before after n m empty)
+
+in_further :
+    (before after : List ℕ) (n k : ℕ) → (n == k) ≡ false → is_in k (before ++ (n ∷ after)) ≡ is_in k (before ++ after)
+in_further before after n k apart =
+    list_any-append (λ q. q == k) before (n ∷ after)
+    ∙ (ap (λ (b : Bool). is_in k before || (b || is_in k after)) apart
+    ∙ sym (list_any-append (λ q. q == k) before after))
+
+levels_further :
+    (links : ℕ → List ℕ) (before after : List ℕ) (n k m : ℕ) → links n ≡ [] → (n == k) ≡ false
+    → is_in k (levels links (before ++ (n ∷ after)) m) ≡ is_in k (levels links (before ++ after) m)
+unfolding level levels
+levels_further links before after n k zero empty apart = refl
+levels_further links before after n k (suc zero) empty apart = in_further before after n k apart
+levels_further links before after n k (suc (suc m)) empty apart =
+    let heads = before ++ (n ∷ after) in
+    let was = before ++ after in
+    list_any-append (λ q. q == k) (levels links heads (suc m)) (level links heads (suc m))
+    ∙ (ap (λ (b : Bool). b || is_in k (level links heads (suc m)))
+    (levels_further links before after n k (suc m) empty apart)
+    ∙ (ap (λ (xs : List ℕ). is_in k (levels links was (suc m)) || is_in k xs)
+    (level_further links before after n m empty)
+    ∙ sym (list_any-append (λ q. q == k) (levels links was (suc m)) (level links was (suc m)))))
+
+not_equal : (n k : ℕ) → k ≢ n → (n == k) ≡ false
+not_equal n k other = let turned : n ≢ k = λ e. other (sym e) in grind (arith, nat_tests)
+
+-- other keys are possessed as they were
+pub possessed_other :
+    (s t : State) (c d : Context) (desc before after : List ℕ) (k : ℕ) → HasMade s c t d desc before after
+    → at s.keys s.next_serial ≡ None → k ≢ s.next_serial → possessed t d k ≡ possessed s c k
+unfolding possessed
+possessed_other s t c d desc before after k made none other =
+    let n = s.next_serial in
+    let empty : followed_in s c n ≡ [] = ap (followed s.clock c.caller) none in
+    ap (λ (links : ℕ → List ℕ). is_in k (levels links (attached t d) 8))
+    (same_followed s t c d desc before after made none)
+    ∙ (ap (λ (heads : List ℕ). is_in k (levels (followed_in s c) heads 8)) made.is
+    ∙ (levels_further (followed_in s c) before after n k 8 empty (not_equal n k other)
+    ∙ ap (λ (heads : List ℕ). is_in k (levels (followed_in s c) heads 8)) (sym made.was)))
+
+-- the new keyring is possessed
+pub possessed_new :
+    (s t : State) (c d : Context) (desc before after : List ℕ) → HasMade s c t d desc before after
+    → possessed t d s.next_serial ≡ true
+unfolding possessed
+possessed_new s t c d desc before after made =
+    let n = s.next_serial in
+    let new : is_in n (n ∷ after) ≡ true = rw (same_is n n refl) refl in
+    let head : is_in n (attached t d) ≡ true =
+    ap (is_in n) made.is ∙ in_right n before (n ∷ after) new in
+    heads_first (followed_in t d) (attached t d) 7 n head
+
+serial_by :
+    (s t : State) (c d : Context) (named : Result KeyId Errno) → ((id : KeyId) → StandsFor s c t d id)
+    → ((named >>= (λ x. or_refuse ENOKEY (attachment t d x))) ≡ Ok s.next_serial) ⊎
+    ((named >>= (λ x. or_refuse ENOKEY (attachment t d x))) ≡ (named >>= (λ x. or_refuse ENOKEY (attachment s c x))))
+serial_by s t c d (Err e) stands_for = inr refl
+serial_by s t c d (Ok id) stands_for =
+    ⊎_elim (λ e. inl (ap (or_refuse ENOKEY) e)) (λ e. inr (ap (or_refuse ENOKEY) e)) (stands_for id)
+
+-- an id stands for the new keyring, or for what it stood for
+pub serial_either :
+    (s t : State) (c d : Context) (desc before after : List ℕ) (id : ℤ) → HasMade s c t d desc before after
+    → (serial_of t d id ≡ Ok s.next_serial) ⊎ (serial_of t d id ≡ serial_of s c id)
+unfolding serial_of
+serial_either s t c d desc before after id made = serial_by s t c d (key_id_of id) made.stands_for
+
+abbrev usable_by : Want → ℕ → Key → ℕ → Caller → Bool → Result (ℕ × Key) Errno
+usable_by want serial key clock caller mine =
+    cond key.revoked (Err EKEYREVOKED)
+    (cond (is_over clock key.expiry) (Err EKEYEXPIRED)
+    (cond (allows want (rights_on key caller mine) mine) (Ok (serial, key)) (Err EACCES)))
+
+abbrev looked_at : State → Context → Want → ℕ → Result (ℕ × Key) Errno
+looked_at s c want serial = or_refuse ENOKEY (at s.keys serial) >>= (λ key. if_usable s c want serial key)
+
+looked_at_other :
+    (s t : State) (c d : Context) (desc before after : List ℕ) (want : Want) (k : ℕ)
+    → HasMade s c t d desc before after → at s.keys s.next_serial ≡ None → k ≢ s.next_serial
+    → looked_at t d want k ≡ looked_at s c want k
+looked_at_other s t c d desc before after want k made none other =
+    let ring = special_ring desc c.caller in
+    let mine = possessed_other s t c d desc before after k made none other in
+    let usable : (key : Key) → if_usable t d want k key ≡ if_usable s c want k key = λ key.
+    ap (λ (clock : ℕ). usable_by want k key clock d.caller (possessed t d k)) made.clock
+    ∙ (ap (λ (caller : Caller). usable_by want k key s.clock caller (possessed t d k)) made.caller
+    ∙ ap (usable_by want k key s.clock c.caller) mine) in
+    let there : at t.keys k ≡ at s.keys k =
+    ap (λ (es : Table Key). at es k) made.keys ∙ at_other s.keys s.next_serial k ring other in
+    ap (λ (o : Option Key). or_refuse ENOKEY o >>= (λ key. if_usable t d want k key)) there
+    ∙ ap (λ (f : Key → Result (ℕ × Key) Errno). or_refuse ENOKEY (at s.keys k) >>= f) (λ i key. usable key i)
+
+look_up_by :
+    (s t : State) (c d : Context) (want : Want) (n : ℕ) (serial : Result ℕ Errno)
+    → ((k : ℕ) → k ≢ n → looked_at t d want k ≡ looked_at s c want k) → (serial ≡ Ok n → ⊥)
+    → (serial >>= looked_at t d want) ≡ (serial >>= looked_at s c want)
+look_up_by s t c d want n (Err e) same other = refl
+look_up_by s t c d want n (Ok k) same other = same k (λ e. other (ap Ok e))
+
+-- another key is looked up as it was
+pub look_up_other :
+    (s t : State) (c d : Context) (desc before after : List ℕ) (id : ℤ) (want : Want)
+    → HasMade s c t d desc before after → at s.keys s.next_serial ≡ None
+    → (serial_of t d id ≡ Ok s.next_serial → ⊥) → look_up t d id want ≡ look_up s c id want
+unfolding look_up
+look_up_other s t c d desc before after id want made none other =
+    let n = s.next_serial in
+    let same : (k : ℕ) → k ≢ n → looked_at t d want k ≡ looked_at s c want k = λ k apart.
+    looked_at_other s t c d desc before after want k made none apart in
+    ⊎_elim (λ (e : serial_of t d id ≡ Ok n). absurd (other e))
+    (λ (e : serial_of t d id ≡ serial_of s c id).
+    ap (λ (serial : Result ℕ Errno). serial >>= looked_at t d want) e
+    ∙ look_up_by s t c d want n (serial_of s c id) same (λ (h : serial_of s c id ≡ Ok n). other (e ∙ h)))
+    (serial_either s t c d desc before after id made)
+
+-- its maker possesses a thread or process keyring with all rights
+pub own_rights : (desc : List ℕ) (c : Caller) → rights_on (special_ring desc c) c true ≡ 63
+own_rights desc c =
+    let own : (c.uid == c.uid) ≡ true = same_is c.uid c.uid refl in
+    let others = cond (is_of_group c c.gid) (group_byte 1057030144) (other_byte 1057030144) in
+    ap (λ (b : Bool). bit_or 63 (cond b 1 others)) own
+
+-- the new keyring is there, and its maker has all rights on it
+pub there_new :
+    (s t : State) (c d : Context) (desc before after : List ℕ) → HasMade s c t d desc before after
+    → at t.keys s.next_serial ≡ Some (special_ring desc c.caller)
+there_new s t c d desc before after made =
+    let n = s.next_serial in
+    ap (λ (es : Table Key). at es n) made.keys ∙ at_put_same s.keys n (special_ring desc c.caller)
+
+pub rights_new :
+    (s t : State) (c d : Context) (desc before after : List ℕ) → HasMade s c t d desc before after
+    → rights_on (special_ring desc c.caller) d.caller (possessed t d s.next_serial) ≡ 63
+rights_new s t c d desc before after made =
+    let ring = special_ring desc c.caller in
+    ap (rights_on ring d.caller) (possessed_new s t c d desc before after made)
+    ∙ (ap (λ (caller : Caller). rights_on ring caller true) made.caller ∙ own_rights desc c.caller)
+
+-- the new keyring is looked up for any right
+pub look_up_new :
+    (s t : State) (c d : Context) (desc before after : List ℕ) (id : ℤ) (wanted : Rights)
+    → HasMade s c t d desc before after → serial_of t d id ≡ Ok s.next_serial → has_all 63 wanted ≡ true
+    → look_up t d id (Granted wanted) ≡ Ok (s.next_serial, special_ring desc c.caller)
+unfolding look_up
+look_up_new s t c d desc before after id wanted made named all =
+    let n = s.next_serial in
+    let ring = special_ring desc c.caller in
+    let there = there_new s t c d desc before after made in
+    let rights = rights_new s t c d desc before after made in
+    ap (λ (serial : Result ℕ Errno). serial >>= looked_at t d (Granted wanted)) named
+    ∙ (ap (λ (o : Option Key). or_refuse ENOKEY o >>= (λ key. if_usable t d (Granted wanted) n key)) there
+    ∙ (ap (λ (r : ℕ). cond (has_all r wanted) (Ok (n, ring)) (Err EACCES)) rights
+    ∙ ap (λ (b : Bool). cond b (Ok (n, ring)) (Err EACCES)) all))

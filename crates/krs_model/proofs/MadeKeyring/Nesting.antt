@@ -1,0 +1,117 @@
+-- Which keyrings nest and which links close a cycle where a thread or process keyring is made.
+use Rattle.std.proofs.Common.{◌≡◌, ◌≢◌, ℕ, suc, List, [], ◌∷◌, Option}
+use Rattle.std.proofs.Common.{None, Bool, true, false, filter, length, Result, Err, refl, ap}
+use Rattle.std.proofs.Common.{◌∙◌, sym, subst, ⊎_elim}
+use Rattle.std.specs.Ordering.{nat_cmp, match_ordering}
+use Rattle.std.specs.declared.cmp.Ordering.TheVariants.{Less, Equal, Greater}
+use Rattle.krs_types.specs.declared.errno.Errno.{Errno}
+use Rattle.krs_types.specs.declared.errno.Errno.TheVariants.{EDEADLK}
+use Rattle.krs_types.specs.declared.errno.Errno.TheVariants.{ELOOP}
+use Rattle.krs_types.specs.Refusing.{◌>>=◌}
+use Rattle.krs_model.specs.Table.{Table, at, put}
+use Rattle.krs_model.specs.State.{Key}
+use Rattle.krs_model.specs.Levels.{level, levels, is_in}
+use Rattle.krs_model.specs.Possession.{links_of_content}
+use Rattle.krs_model.specs.Sweep.{links_of_key}
+use Rattle.krs_model.specs.Reach.{links_of_key_at, closes, is_ring, nested_in, is_some_in, has_chain}
+use Rattle.krs_model.specs.Sound.{AllLinked}
+use Rattle.krs_model.specs.Asks.Linked.{unless, nestable, linked}
+use Rattle.krs_model.proofs.Reach.Levels.{same_is, levels_linked}
+use Rattle.krs_model.proofs.Tables.Tests.{AgreeOn, filter_agree}
+use Rattle.krs_model.proofs.Reach.Levels.{only_in}
+use Rattle.krs_model.proofs.Reach.Acyclic.{heads_first}
+use Rattle.krs_model.proofs.Sound.Changes.{not_there}
+use Rattle.krs_model.proofs.MadeKeyring.State.{either_at, at_other}
+
+-- what is linked is not the new keyring
+pub linked_other :
+    (es : Table Key) (n j k : ℕ) → AllLinked es → at es n ≡ None → is_in k (links_of_key_at es j) ≡ true → k ≢ n
+linked_other es n j k linked none i e =
+    not_there (at es k) (linked j k i) (ap (λ (z : ℕ). at es z) e ∙ none)
+
+-- an empty keyring adds no link
+pub same_links :
+    (es : Table Key) (n : ℕ) (v : Key) → at es n ≡ None → links_of_content v.content ≡ []
+    → links_of_key_at (put es n v) ≡ links_of_key_at es
+same_links es n v none empty =
+    let each : (k : ℕ) → links_of_key_at (put es n v) k ≡ links_of_key_at es k = λ k.
+    either_at (λ (o was : Option Key). links_of_key o ≡ links_of_key was) es n k v none (λ e. empty) (λ o. refl) in
+    λ i k. each k i
+
+-- and no nested keyring
+pub same_nested :
+    (es : Table Key) (n : ℕ) (v : Key) → AllLinked es → at es n ≡ None → links_of_content v.content ≡ []
+    → nested_in (put es n v) ≡ nested_in es
+same_nested es n v linked none empty =
+    let ring : ℕ → Bool = λ k. is_ring (at (put es n v) k) in
+    let was : ℕ → Bool = λ k. is_ring (at es k) in
+    let agree : (j : ℕ) → AgreeOn (links_of_key_at es j) ring was = λ j k i.
+    ap is_ring (at_other es n k v (linked_other es n j k linked none i)) in
+    let each : (j : ℕ) → nested_in (put es n v) j ≡ nested_in es j = λ j.
+    ap (λ (links : ℕ → List ℕ). filter ring (links j)) (same_links es n v none empty)
+    ∙ filter_agree ring was (links_of_key_at es j) (agree j) in
+    λ i j. each j i
+
+-- a chain of nested keyrings hangs down where one did
+pub same_chain :
+    (es : Table Key) (n k count : ℕ) (v : Key) → AllLinked es → at es n ≡ None → links_of_content v.content ≡ []
+    → has_chain (put es n v) k count ≡ has_chain es k count
+unfolding has_chain
+same_chain es n k count v linked none empty =
+    ap (λ (nested : ℕ → List ℕ). is_some_in (level nested (k ∷ []) count)) (same_nested es n v linked none empty)
+
+-- a link from the new keyring to another key closes no cycle
+pub closes_other :
+    (es : Table Key) (n k : ℕ) (v : Key) → AllLinked es → at es n ≡ None → links_of_content v.content ≡ [] → k ≢ n
+    → closes (put es n v) k n ≡ false
+unfolding closes
+closes_other es n k v linked none empty other =
+    let keys = put es n v in
+    let all = levels (links_of_key_at keys) (k ∷ []) (length keys) in
+    let never : is_in n all ≡ true → ⊥ = λ h.
+    ⊎_elim (λ (i : is_in n (k ∷ []) ≡ true). other (sym (only_in n k i)))
+    (λ (r : (j : ℕ) × (is_in j all ≡ true) × (is_in n (links_of_key_at keys j) ≡ true)).
+    let was : is_in n (links_of_key_at es r.0) ≡ true =
+    subst (λ (links : ℕ → List ℕ). is_in n (links r.0) ≡ true) (same_links es n v none empty) r.2 in
+    linked_other es n r.0 n linked none was refl)
+    (levels_linked (links_of_key_at keys) (k ∷ []) (length keys) n h) in
+    elim (is_in n all) as (λ b. (b ≡ true → ⊥) → b ≡ false) [
+      | true ↦ λ no. absurd (no refl)
+      | false ↦ λ no. refl
+    ] never
+
+put_more : (es : Table Key) (n : ℕ) (v : Key) → (m : ℕ) × (length (put es n v) ≡ suc m)
+put_more [] n v = (0, refl)
+put_more (e ∷ es) n v =
+    elim (nat_cmp n e.0) as (λ r. (m : ℕ)
+    × (length (match_ordering r ((n, v) ∷ e ∷ es) ((e.0, v) ∷ es) (e ∷ put es n v)) ≡ suc m)) [
+      | Less ↦ (length (e ∷ es), refl)
+      | Equal ↦ (length es, refl)
+      | Greater ↦ (length (put es n v), refl)
+    ]
+
+-- a link from the new keyring to itself does
+pub closes_self : (es : Table Key) (n : ℕ) (v : Key) → closes (put es n v) n n ≡ true
+unfolding closes
+closes_self es n v =
+    let keys = put es n v in
+    let more = put_more es n v in
+    ap (λ (m : ℕ). is_in n (levels (links_of_key_at keys) (n ∷ []) m)) more.1
+    ∙ heads_first (links_of_key_at keys) (n ∷ []) more.0 n (rw (same_is n n refl) refl)
+
+-- another key is nested in the new keyring where no chain is too long
+pub nestable_other :
+    (es : Table Key) (n k : ℕ) (v : Key) → AllLinked es → at es n ≡ None → links_of_content v.content ≡ [] → k ≢ n
+    → nestable (put es n v) n k ≡ unless (has_chain es k 6) ELOOP
+unfolding nestable
+nestable_other es n k v linked none empty other =
+    let chain : Result (Unit {0}) Errno = unless (has_chain (put es n v) k 6) ELOOP in
+    ap (λ (b : Bool). unless b EDEADLK >>= (λ acyclic. chain)) (closes_other es n k v linked none empty other)
+    ∙ ap (λ (b : Bool). unless b ELOOP) (same_chain es n k 6 v linked none empty)
+
+-- the new keyring is not nested in itself
+pub nestable_self : (es : Table Key) (n : ℕ) (v : Key) → nestable (put es n v) n n ≡ Err EDEADLK
+unfolding nestable
+nestable_self es n v =
+    let chain : Result (Unit {0}) Errno = unless (has_chain (put es n v) n 6) ELOOP in
+    ap (λ (b : Bool). unless b EDEADLK >>= (λ acyclic. chain)) (closes_self es n v)

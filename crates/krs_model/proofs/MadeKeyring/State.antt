@@ -1,0 +1,153 @@
+-- A thread or process keyring that is made: what its store is, told by the state before.
+use Rattle.std.proofs.Common.{◌≡◌, ◌≢◌, ℕ, ℤ, ◌+◌, List, [], ◌∷◌, ◌++◌, Option, Some}
+use Rattle.std.proofs.Common.{None, Result, Ok, refl, ap}
+use Rattle.std.proofs.Common.{◌∙◌, sym, subst, ◌⊎◌, inl, inr, ⊎_elim}
+use Rattle.std.specs.Prelude.{codes}
+use Rattle.std.specs.Option.{IsSome, option_to_list, option_map, unwrap_or}
+use Rattle.std.proofs.lemmas.Bool.{true≢false}
+use Rattle.krs_types.specs.declared.errno.Errno.{Errno}
+use Rattle.krs_types.specs.declared.errno.Errno.TheVariants.{ENOKEY}
+use Rattle.krs_types.specs.declared.context.Context.{Context}
+use Rattle.krs_types.specs.declared.key_id.KeyId.{KeyId}
+use Rattle.krs_types.specs.declared.key_id.KeyId.TheVariants.{Serial, Thread, Process, Session, User, UserSession}
+use Rattle.krs_types.specs.KeyId.{key_id_of}
+use Rattle.krs_types.specs.Refusing.{◌>>=◌, or_refuse}
+use Rattle.krs_model.specs.Table.{Table, at, put}
+use Rattle.krs_model.specs.State.{State, Key}
+use Rattle.krs_model.specs.Possession.{attached, process_ring}
+use Rattle.krs_model.specs.Lookup.{attachment, serial_of}
+use Rattle.krs_model.specs.Making.{special_ring, thread_to, with_thread, with_process, made_for}
+use Rattle.krs_model.proofs.Tables.Changes.{at_alter_same}
+use Rattle.krs_model.proofs.Sound.Changes.{IsPut, at_put}
+use Rattle.krs_model.proofs.MadeKeyring.Which.{IsMade, NoneMade, ThreadMade, ProcessMade, made_for_is}
+
+-- t and d are s and c with an empty keyring of that description made under the next serial, which is attached behind
+-- some keyrings and before others, and which a special id stands for
+pub record HasMade (s : State) (c : Context) (t : State) (d : Context) (desc before after : List ℕ) : Type 0 where
+  pub keys : t.keys ≡ put s.keys s.next_serial (special_ring desc c.caller)
+  pub next : t.next_serial ≡ s.next_serial + 1
+  pub clock : t.clock ≡ s.clock
+  pub caller : d.caller ≡ c.caller
+  pub was : attached s c ≡ before ++ after
+  pub is : attached t d ≡ before ++ (s.next_serial ∷ after)
+  pub stands_for : (id : KeyId) → (attachment t d id ≡ Some s.next_serial) ⊎ (attachment t d id ≡ attachment s c id)
+
+-- an id stands for the new keyring, or for what it stood for
+abbrev pub StandsFor : State → Context → State → Context → KeyId → Type 0
+StandsFor s c t d id = (attachment t d id ≡ Some s.next_serial) ⊎ (attachment t d id ≡ attachment s c id)
+
+thread_for :
+    (s : State) (number : ℕ) (c : Context) (id : KeyId)
+    → StandsFor s c (with_thread s number c) (thread_to s.next_serial c) id
+thread_for s number c (Serial k) = inr refl
+thread_for s number c Thread = inl refl
+thread_for s number c Process = inr refl
+thread_for s number c Session = inr refl
+thread_for s number c User = inr refl
+thread_for s number c UserSession = inr refl
+
+-- a new thread keyring is the first that is attached
+pub thread_has :
+    (s : State) (number : ℕ) (c : Context) → c.thread ≡ None
+    → HasMade s c (with_thread s number c) (thread_to s.next_serial c) (codes "_tid") [] (attached s c)
+thread_has s number c none =
+    let n = s.next_serial in
+    let others = option_to_list (process_ring s c.process) ++ option_to_list c.session in
+    record {
+      keys = refl;
+      next = refl;
+      clock = refl;
+      caller = refl;
+      was = refl;
+      is = ap (λ (o : Option ℕ). n ∷ (option_to_list o ++ others)) (sym none);
+      stands_for = thread_for s number c;
+    }
+
+renewed : (n : ℕ) (o : Option (Option ℕ)) → IsSome o → unwrap_or (option_map (λ ring. Some n) o) None ≡ Some n
+renewed n None there = absurd (true≢false (sym there))
+renewed n (Some ring) there = refl
+
+-- the new keyring of a process that is there
+process_is_new :
+    (s : State) (c : Context) → IsSome (at s.processes c.process)
+    → process_ring (with_process s c) c.process ≡ Some s.next_serial
+process_is_new s c there =
+    let n = s.next_serial in
+    ap (λ (o : Option (Option ℕ)). unwrap_or o None) (at_alter_same s.processes c.process (λ none. Some n))
+    ∙ renewed n (at s.processes c.process) there
+
+process_for :
+    (s : State) (c : Context) (id : KeyId) → IsSome (at s.processes c.process) → StandsFor s c (with_process s c) c id
+process_for s c (Serial k) there = inr refl
+process_for s c Thread there = inr refl
+process_for s c Process there = inl (process_is_new s c there)
+process_for s c Session there = inr refl
+process_for s c User there = inr refl
+process_for s c UserSession there = inr refl
+
+-- a new process keyring is attached behind the thread keyring
+pub process_has :
+    (s : State) (c : Context) → process_ring s c.process ≡ None → IsSome (at s.processes c.process)
+    → HasMade s c (with_process s c) c (codes "_pid") (option_to_list c.thread) (option_to_list c.session)
+process_has s c none there =
+    let attaches : Option ℕ → List ℕ = λ o.
+    option_to_list c.thread ++ (option_to_list o ++ option_to_list c.session) in
+    record {
+      keys = refl;
+      next = refl;
+      clock = refl;
+      caller = refl;
+      was = ap attaches none;
+      is = ap attaches (process_is_new s c there);
+      stands_for = λ id. process_for s c id there;
+    }
+
+-- nothing was made, or a keyring that the id stands for
+pub data HasMadeFor (s : State) (c : Context) (id : ℤ) : State × Context → Type 0 where
+  MadeNone : HasMadeFor s c id (s, c)
+  MadeOne :
+      (t : State) (d : Context) (desc before after : List ℕ) → HasMade s c t d desc before after
+      → serial_of t d id ≡ Ok s.next_serial → HasMadeFor s c id (t, d)
+
+named_new :
+    (t : State) (d : Context) (id : ℤ) (named : KeyId) (n : ℕ) → key_id_of id ≡ Ok named
+    → attachment t d named ≡ Some n → serial_of t d id ≡ Ok n
+unfolding serial_of
+named_new t d id named n is stands =
+    ap (λ (r : Result KeyId Errno). r >>= (λ (x : KeyId). or_refuse ENOKEY (attachment t d x))) is
+    ∙ ap (or_refuse ENOKEY) stands
+
+is_made_has :
+    (s : State) (number : ℕ) (c : Context) (id : ℤ) (named : Result KeyId Errno) (made : State × Context)
+    → key_id_of id ≡ named → IsSome (at s.processes c.process) → IsMade s number c named made → HasMadeFor s c id made
+is_made_has s number c id named _ e there NoneMade = MadeNone
+is_made_has s number c id named _ e there (ThreadMade is none) =
+    MadeOne (with_thread s number c) (thread_to s.next_serial c) (codes "_tid") [] (attached s c)
+    (thread_has s number c none)
+    (named_new (with_thread s number c) (thread_to s.next_serial c) id Thread s.next_serial (e ∙ is) refl)
+is_made_has s number c id named _ e there (ProcessMade is none) =
+    MadeOne (with_process s c) c (codes "_pid") (option_to_list c.thread) (option_to_list c.session)
+    (process_has s c none there)
+    (named_new (with_process s c) c id Process s.next_serial (e ∙ is) (process_is_new s c there))
+
+-- what is made for an id, in a context whose process is there
+pub made_for_has :
+    (s : State) (number : ℕ) (c : Context) (id : ℤ) → IsSome (at s.processes c.process)
+    → HasMadeFor s c id (made_for s number c id)
+made_for_has s number c id there =
+    is_made_has s number c id (key_id_of id) (made_for s number c id) refl there (made_for_is s number c id)
+
+-- what is at a number is the new key at its number, or was there
+pub either_at :
+    (P : Option Key → Option Key → Type 0) (es : Table Key) (n k : ℕ) (v : Key) → at es n ≡ None
+    → (k ≡ n → P (Some v) None) → ((o : Option Key) → P o o) → P (at (put es n v) k) (at es k)
+either_at P es n k v none new old =
+    ⊎_elim (λ (r : IsPut es n v k).
+    let was : at es k ≡ None = ap (λ (z : ℕ). at es z) r.0 ∙ none in
+    subst (λ (o : Option Key). P o (at es k)) (sym r.1)
+    (subst (λ (o : Option Key). P (Some v) o) (sym was) (new r.0)))
+    (λ e. subst (λ (o : Option Key). P o (at es k)) (sym e) (old (at es k))) (at_put es n k v)
+
+-- what is at another number
+pub at_other : (es : Table Key) (n k : ℕ) (v : Key) → k ≢ n → at (put es n v) k ≡ at es k
+at_other es n k v other = ⊎_elim (λ (r : IsPut es n v k). absurd (other r.0)) (λ e. e) (at_put es n k v)

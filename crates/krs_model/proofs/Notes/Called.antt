@@ -1,0 +1,210 @@
+-- What a step calls for of a queue.
+use Rattle.std.proofs.Common.{◌≡◌, ℕ, ◌==◌, List, [], ◌∷◌, ◌++◌, Option, None, Bool, true, false}
+use Rattle.std.proofs.Common.{not, cond, filter, map}
+use Rattle.std.proofs.Common.{flat_map, length, Result, Ok, refl, ap, ◌∙◌, sym, subst, arith}
+use Rattle.std.specs.Option.{IsSome, is_some, option_map}
+use Rattle.std.proofs.lemmas.Bool.{true≢false, eqb-true}
+use Rattle.std.proofs.lemmas.List.Filters.{length-filter_both}
+use Rattle.krs_types.specs.declared.errno.Errno.{Errno}
+use Rattle.krs_types.specs.declared.ask.Answer.{Answer}
+use Rattle.krs_types.specs.declared.ask.Op.{Op}
+use Rattle.krs_types.specs.declared.note.Record.{Record}
+use Rattle.krs_model.specs.Table.{Table, at}
+use Rattle.krs_model.specs.State.{State, Key, Queue}
+use Rattle.krs_model.specs.Queues.{Queues, Watch, queues_of}
+use Rattle.krs_model.specs.Orderly.{Each, IsWatch, AreOrderly}
+use Rattle.krs_model.specs.Sound.{IsSound}
+use Rattle.krs_model.specs.Sweep.{IsSweep, IsSwept}
+use Rattle.krs_model.specs.Step.{Serves, outcome_of, posts_by, watches_left}
+use Rattle.krs_model.specs.Notes.Posting.{Note, Post, note_for, removal_for, passes_at, posts_of, watches_at}
+use Rattle.krs_model.specs.Notes.Posting.{dropped_watches, after_notes, post_all, records_for}
+use Rattle.krs_model.specs.Notes.Telling.{notes_of, ended_by}
+use Rattle.krs_model.specs.Asks.Leaving.{left}
+use Rattle.krs_model.proofs.Sweep.Laws.{one_sweep, swept_sweep}
+use Rattle.krs_model.proofs.Notes.Posts.{at_post_all, records_for-append}
+use Rattle.krs_model.proofs.Notes.Fitting.{each_filter, each_on}
+use Rattle.krs_model.proofs.Sound.Watches.{each_without, each_with}
+use Rattle.krs_model.proofs.Asks.Effects.{Effect, OfKeys, Opens, Filters, Reads, Closes, Watches, Unwatches, Leaves}
+use Rattle.krs_model.proofs.Asks.Effects.{effect_of}
+use Rattle.krs_model.proofs.Sound.Queues.{ended_watch}
+
+-- nothing is posted to a queue that is not there
+none_of_note :
+    (queues : Table Queue) (q : ℕ) (ps : List Post) → at queues q ≡ None
+    → records_for q (filter (λ p. passes_at (at queues p.0) p.1) ps) ≡ []
+none_of_note queues q [] none = refl
+none_of_note queues q (p ∷ ps) none =
+    let more = none_of_note queues q ps none in
+    let rest = filter (λ d. passes_at (at queues d.0) d.1) ps in
+    elim (p.0 == q) as (λ b. (p.0 == q) ≡ b
+    → records_for q (cond (passes_at (at queues p.0) p.1) (p ∷ rest) rest) ≡ []) [
+      | true ↦ λ t.
+          let here : at queues p.0 ≡ None = ap (λ (n : ℕ). at queues n) (eqb-true p.0 q t) ∙ none in
+          ap (λ (o : Option Queue). records_for q (cond (passes_at o p.1) (p ∷ rest) rest)) here ∙ more
+      | false ↦ λ t.
+          elim (passes_at (at queues p.0) p.1) as (λ b. records_for q (cond b (p ∷ rest) rest) ≡ []) [
+            | true ↦ rw t more
+            | false ↦ more
+          ]
+    ] refl
+
+none_of_notes :
+    (s : Queues) (q : ℕ) (notes : List Note) → at s.queues q ≡ None
+    → records_for q (flat_map (posts_of s) notes) ≡ []
+none_of_notes s q [] none = refl
+none_of_notes s q (note ∷ notes) none =
+    records_for-append q (posts_of s note) (flat_map (posts_of s) notes)
+    ∙ (ap (λ (rs : List Record). rs ++ records_for q (flat_map (posts_of s) notes))
+    (none_of_note s.queues q (map (note_for note) (watches_at note.key s.watches)) none)
+    ∙ none_of_notes s q notes none)
+
+-- a watch of a queue that is there
+abbrev pub IsKnown : Table Queue → Watch → Type 0
+IsKnown queues w = IsSome (at queues w.0.1)
+
+none_of_ended :
+    (queues : Table Queue) (q : ℕ) (ws : List Watch) → Each (IsKnown queues) ws → at queues q ≡ None
+    → records_for q (map removal_for ws) ≡ []
+none_of_ended queues q [] h none = refl
+none_of_ended queues q (w ∷ ws) h none =
+    let more = none_of_ended queues q ws h.1 none in
+    elim (w.0.1 == q) as (λ b. (w.0.1 == q) ≡ b
+    → map (λ d. d.1) (cond b (removal_for w ∷ filter (λ d. d.0 == q) (map removal_for ws))
+    (filter (λ d. d.0 == q) (map removal_for ws))) ≡ []) [
+      | true ↦ λ t. absurd (true≢false (sym (sym (ap is_some
+          (ap (λ (n : ℕ). at queues n) (eqb-true w.0.1 q t) ∙ none)) ∙ h.0)))
+      | false ↦ λ t. more
+    ] refl
+
+known_append :
+    (queues : Table Queue) (vs ws : List Watch) → Each (IsKnown queues) vs → Each (IsKnown queues) ws
+    → Each (IsKnown queues) (vs ++ ws)
+known_append queues [] ws f g = g
+known_append queues (v ∷ vs) ws f g = (f.0, known_append queues vs ws f.1 g)
+
+known_watches : (q : Queues) → AreOrderly q → Each (IsKnown q.queues) q.watches
+known_watches q orderly = each_on (IsWatch q.queues) (IsKnown q.queues) q.watches (λ w is. is.queue) orderly.watches
+
+-- the watches that an ask leaves, before the sweep, are of queues that were there before it
+left_known :
+    (s : State) (client context : ℕ) (op : Op) (mid : State) (answer : Answer)
+    → Effect s client context op mid answer → AreOrderly (queues_of s) → Each (IsKnown s.queues) mid.watches
+unfolding left
+left_known s client context _ _ _ (OfKeys op new answer other comes none) orderly =
+    subst (λ (q : Queues). Each (IsKnown s.queues) q.watches) (sym comes.queues) (known_watches (queues_of s) orderly)
+left_known s client context _ _ _ (Opens capacity fits) orderly = known_watches (queues_of s) orderly
+left_known s client context _ _ _ (Filters number entries queue there) orderly = known_watches (queues_of s) orderly
+left_known s client context _ _ _ (Reads number room queue there) orderly = known_watches (queues_of s) orderly
+left_known s client context _ _ _ (Closes number queue there) orderly =
+    each_filter (IsKnown s.queues) _ s.watches (known_watches (queues_of s) orderly)
+left_known s client context _ _ _ (Watches id watch_id number key n queue here there asked small) orderly =
+    each_with (IsKnown s.queues) s.watches key number n (rw there refl) (λ w known. known)
+    (known_watches (queues_of s) orderly)
+left_known s client context _ _ _ (Unwatches id watch_id number key n queue here names there asked is) orderly =
+    each_without (IsKnown s.queues) s.watches key number (known_watches (queues_of s) orderly)
+left_known s client context _ _ _ Leaves orderly =
+    each_filter (IsKnown s.queues) _ s.watches (known_watches (queues_of s) orderly)
+
+-- the watches that an ask leaves, told of what it comes to
+dropped_is :
+    (meant : Result (State × Answer) Errno) (mid : State) (answer : Answer) (keys : Table Key)
+    → meant ≡ Ok (mid, answer)
+    → dropped_watches keys (watches_left meant) ≡ dropped_watches keys mid.watches
+dropped_is meant mid answer keys is =
+    ap (λ (m : Result (State × Answer) Errno). dropped_watches keys (watches_left m)) is
+
+-- an accepted ask calls for nothing of a queue that was not there
+pub none_called :
+    (s mid : State) (client context : ℕ) (op : Op) (answer : Answer) (keys : Table Key) (q : ℕ) → IsSound s
+    → outcome_of s client context op ≡ Ok (mid, answer) → at s.queues q ≡ None
+    → records_for q (posts_by s client context op answer keys) ≡ []
+none_called s mid client context op answer keys q sound meant none =
+    let notes = notes_of s client context op answer in
+    let effect = effect_of s client context op mid answer meant in
+    let ended = ended_by s client context op in
+    let dropped = dropped_watches keys (watches_left (outcome_of s client context op)) in
+    let ended_known : Each (IsKnown s.queues) ended = each_on (IsWatch s.queues) (IsKnown s.queues) ended
+    (λ w is. is.queue) (ended_watch s client context op mid answer effect sound.few sound.orderly) in
+    let left : Each (IsKnown s.queues) (dropped_watches keys mid.watches) =
+    each_filter (IsKnown s.queues) _ mid.watches
+    (left_known s client context op mid answer effect sound.orderly) in
+    let dropped_known : Each (IsKnown s.queues) dropped = subst (Each (IsKnown s.queues))
+    (sym (dropped_is (outcome_of s client context op) mid answer keys meant)) left in
+    records_for-append q (flat_map (posts_of (queues_of s)) notes) (map removal_for (ended ++ dropped))
+    ∙ (ap (λ (rs : List Record). rs ++ records_for q (map removal_for (ended ++ dropped)))
+    (none_of_notes (queues_of s) q notes none)
+    ∙ none_of_ended s.queues q (ended ++ dropped) (known_append s.queues ended dropped ended_known dropped_known) none)
+
+-- what a queue is after a step, by what it was before the sweep
+served_queues :
+    {s new : State} {client context : ℕ} {op : Op} {answer : Answer} (serves : Serves s client context op answer new)
+    → new.queues ≡ post_all (posts_by s client context op answer new.keys) serves.mid.queues
+served_queues {s} {new} {client} {context} {op} {answer} serves =
+    let swept = serves.swept in
+    let keys : swept.keys ≡ new.keys = sym (ap (λ (t : State). t.keys) serves.posted) in
+    ap (λ (t : State). t.queues) serves.posted
+    ∙ (ap (post_all (posts_by s client context op answer swept.keys)) (ap (λ (t : State). t.queues) serves.sweep.rest)
+    ∙ ap (λ (ks : Table Key). post_all (posts_by s client context op answer ks) serves.mid.queues) keys)
+
+pub served_at :
+    {s new : State} {client context : ℕ} {op : Op} {answer : Answer} (serves : Serves s client context op answer new)
+    (q : ℕ)
+    → at new.queues q
+    ≡ option_map (after_notes (records_for q (posts_by s client context op answer new.keys))) (at serves.mid.queues q)
+served_at {s} {new} {client} {context} {op} {answer} serves q =
+    let ps = posts_by s client context op answer new.keys in
+    ap (λ (queues : Table Queue). at queues q) (served_queues serves) ∙ at_post_all ps serves.mid.queues q
+
+pub served_next :
+    {s new : State} {client context : ℕ} {op : Op} {answer : Answer} (serves : Serves s client context op answer new)
+    → new.next_queue ≡ serves.mid.next_queue
+served_next serves =
+    ap (λ (t : State). t.next_queue) serves.posted ∙ ap (λ (t : State). t.next_queue) serves.sweep.rest
+
+none_long : (ws : List Watch) → length ws ≡ 0 → ws ≡ []
+none_long [] h = refl
+none_long (w ∷ ws) h = absurd (omega arith)
+
+-- where a filter leaves all, what it takes away is nothing
+dropped_none : (p : Watch → Bool) (ws : List Watch) → filter p ws ≡ ws → filter (λ w. not (p w)) ws ≡ []
+dropped_none p ws h =
+    let both = length-filter_both p (λ w. not (p w)) (λ w. refl) ws in
+    let all : length (filter p ws) ≡ length ws = ap length h in
+    none_long (filter (λ w. not (p w)) ws) (omega arith)
+
+-- the sweep of what is swept takes no watch away
+pub swept_drops_none :
+    (mid swept : State) → IsSwept mid → IsSweep mid swept → dropped_watches swept.keys mid.watches ≡ []
+swept_drops_none mid swept is sweep =
+    let same : swept ≡ mid = one_sweep mid swept mid sweep (swept_sweep mid is) in
+    ap (λ (t : State). dropped_watches t.keys mid.watches) same
+    ∙ dropped_none (λ w. is_some (at mid.keys w.0.0)) mid.watches is.watches
+
+-- what an accepted ask posts that has no notes, ends no watch and leaves a swept state
+pub posts_none :
+    {s new : State} {client context : ℕ} {op : Op} {answer : Answer} (serves : Serves s client context op answer new)
+    → notes_of s client context op answer ≡ [] → ended_by s client context op ≡ [] → IsSwept serves.mid
+    → posts_by s client context op answer new.keys ≡ []
+posts_none {s} {new} {client} {context} {op} {answer} serves no_notes none_ended is =
+    let meant = outcome_of s client context op in
+    let keys : new.keys ≡ serves.swept.keys = ap (λ (t : State). t.keys) serves.posted in
+    let dropped : dropped_watches new.keys (watches_left meant) ≡ [] =
+    dropped_is meant serves.mid answer new.keys serves.meant
+    ∙ (ap (λ (ks : Table Key). dropped_watches ks serves.mid.watches) keys
+    ∙ swept_drops_none serves.mid serves.swept is serves.sweep) in
+    rw (no_notes, none_ended, dropped) refl
+
+-- of a queue that the sweep leaves none, where the ask has no notes and ends no watch
+pub gone_called :
+    {s new : State} {client context : ℕ} {op : Op} {answer : Answer} (serves : Serves s client context op answer new)
+    (q : ℕ) → notes_of s client context op answer ≡ [] → ended_by s client context op ≡ []
+    → AreOrderly (queues_of serves.mid) → at serves.mid.queues q ≡ None
+    → records_for q (posts_by s client context op answer new.keys) ≡ []
+gone_called {s} {new} {client} {context} {op} {answer} serves q no_notes none_ended orderly none =
+    let mid = serves.mid in
+    let meant = outcome_of s client context op in
+    let dropped = dropped_watches new.keys mid.watches in
+    let known : Each (IsKnown mid.queues) dropped =
+    each_filter (IsKnown mid.queues) _ mid.watches (known_watches (queues_of mid) orderly) in
+    rw (no_notes, none_ended) (ap (λ (ws : List Watch). records_for q (map removal_for ws))
+    (dropped_is meant mid answer new.keys serves.meant) ∙ none_of_ended mid.queues q dropped known none)

@@ -1,0 +1,98 @@
+-- Records go out by rising queue, and the removal records of an ask by rising key, then queue.
+use Rattle.std.proofs.Common.{◌≡◌, ℕ, ◌<◌, ◌==◌, List, [], ◌∷◌, ◌++◌, Bool, true, false, cond, filter, map}
+use Rattle.std.proofs.Common.{refl, ap, ◌∙◌, sym, subst, ⊎_elim}
+use Rattle.std.specs.Ordering.{nat_cmp, ordering_then}
+use Rattle.std.specs.declared.cmp.Ordering.TheVariants.{Less, Equal}
+use Rattle.std.specs.Cmp.{ranked, nat_cmp_is}
+use Rattle.std.proofs.lemmas.Bool.{eqb-true}
+use Rattle.krs_types.specs.declared.ask.Answer.{Answer}
+use Rattle.krs_types.specs.declared.ask.Op.{Op}
+use Rattle.krs_model.specs.Table.{at}
+use Rattle.krs_model.specs.State.{State}
+use Rattle.krs_model.specs.Queues.{Queues, Watch, place_cmp}
+use Rattle.krs_model.specs.Orderly.{Each, AreRising, AreOrderly}
+use Rattle.krs_model.specs.Ordering.{AreAbove, GoByQueue}
+use Rattle.krs_model.specs.Notes.Posting.{Note, Post, watches_at, note_for, posts_of, passes_at}
+use Rattle.krs_model.specs.Sound.{IsSound}
+use Rattle.krs_model.specs.Sweep.{IsSweep}
+use Rattle.krs_model.specs.Notes.Posting.{dropped_watches}
+use Rattle.krs_model.specs.Notes.Telling.{ended_by}
+use Rattle.krs_model.proofs.Sound.Watches.{filter_rising}
+use Rattle.krs_model.proofs.Asks.Effects.{Effect}
+use Rattle.krs_model.proofs.Sound.Queues.{effect_orderly}
+use Rattle.krs_model.proofs.Notes.Called.{swept_drops_none}
+use Rattle.krs_model.proofs.Sweep.QueueAsks.{EndsOne, effect_ends}
+
+-- posts of watches of a key behind one of that key
+abbrev IsOf : ℕ → ℕ → Watch → Type 0
+IsOf key number w = place_cmp (key, number) w.0 ≡ Less
+
+equal_is : (a b : ℕ) → a ≡ b → nat_cmp a b ≡ Equal
+equal_is a b same = sym (nat_cmp_is a b Equal same)
+
+less_of : (m n : ℕ) → nat_cmp m n ≡ Less → m < n
+less_of m n h = ranked m n Less (sym h)
+
+second_of : (a b m n : ℕ) → a ≡ b → ordering_then (nat_cmp a b) (nat_cmp m n) ≡ Less → m < n
+second_of a b m n same h = less_of m n (sym (ap (λ o. ordering_then o (nat_cmp m n)) (equal_is a b same)) ∙ h)
+
+above_watch :
+    (note : Note) (number : ℕ) (ws : List Watch) → Each (IsOf note.key number) ws
+    → AreAbove number (map (note_for note) (watches_at note.key ws))
+above_watch note number [] h = tt
+above_watch note number (w ∷ ws) h =
+    let more = above_watch note number ws h.1 in
+    elim (w.0.0 == note.key) as (λ b. (w.0.0 == note.key) ≡ b
+    → AreAbove number (map (note_for note) (cond b (w ∷ watches_at note.key ws) (watches_at note.key ws)))) [
+      | true ↦ λ t. (second_of note.key w.0.0 number w.0.1 (sym (eqb-true w.0.0 note.key t)) h.0, more)
+      | false ↦ λ t. more
+    ] refl
+
+told_by_queue :
+    (note : Note) (ws : List Watch) → AreRising ws → GoByQueue (map (note_for note) (watches_at note.key ws))
+told_by_queue note [] h = tt
+told_by_queue note (w ∷ ws) h =
+    let more = told_by_queue note ws h.1 in
+    elim (w.0.0 == note.key) as (λ b. (w.0.0 == note.key) ≡ b
+    → GoByQueue (map (note_for note) (cond b (w ∷ watches_at note.key ws) (watches_at note.key ws)))) [
+      | true ↦ λ t.
+          let behind : Each (IsOf note.key w.0.1) ws =
+          subst (λ (k : ℕ). Each (IsOf k w.0.1) ws) (eqb-true w.0.0 note.key t) h.0 in
+          (above_watch note w.0.1 ws behind, more)
+      | false ↦ λ t. more
+    ] refl
+
+above_filter : (number : ℕ) (p : Post → Bool) (ps : List Post) → AreAbove number ps → AreAbove number (filter p ps)
+above_filter number p [] h = tt
+above_filter number p (x ∷ ps) h =
+    elim (p x) as (λ b. AreAbove number (cond b (x ∷ filter p ps) (filter p ps))) [
+      | true ↦ (h.0, above_filter number p ps h.1)
+      | false ↦ above_filter number p ps h.1
+    ]
+
+filter_by_queue : (p : Post → Bool) (ps : List Post) → GoByQueue ps → GoByQueue (filter p ps)
+filter_by_queue p [] h = tt
+filter_by_queue p (x ∷ ps) h =
+    elim (p x) as (λ b. GoByQueue (cond b (x ∷ filter p ps) (filter p ps))) [
+      | true ↦ (above_filter x.0 p ps h.0, filter_by_queue p ps h.1)
+      | false ↦ filter_by_queue p ps h.1
+    ]
+
+-- one note goes to its queues by rising number
+pub notes_by_queue : (q : Queues) (note : Note) → AreOrderly q → GoByQueue (posts_of q note)
+notes_by_queue q note orderly =
+    filter_by_queue (λ p. passes_at (at q.queues p.0) p.1) (map (note_for note) (watches_at note.key q.watches))
+    (told_by_queue note q.watches orderly.rising)
+
+-- the removal records of an accepted ask go out by rising key, then queue
+pub ended_rising :
+    (s : State) (client context : ℕ) (op : Op) (mid : State) (answer : Answer) (swept : State) → IsSound s
+    → Effect s client context op mid answer → IsSweep mid swept
+    → AreRising (ended_by s client context op ++ dropped_watches swept.keys mid.watches)
+ended_rising s client context op mid answer swept sound effect sweep =
+    let orderly = effect_orderly s client context op mid answer effect sound.few sound.orderly in
+    let dropped = dropped_watches swept.keys mid.watches in
+    let rising : AreRising dropped = filter_rising _ mid.watches orderly.rising in
+    ⊎_elim (λ (none : ended_by s client context op ≡ []). rw none rising)
+    (λ (one : EndsOne s client context op mid). rw (one.is, swept_drops_none mid swept one.swept sweep) (tt, tt))
+    (effect_ends s client context op mid answer sound effect)

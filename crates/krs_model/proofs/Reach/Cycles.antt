@@ -1,0 +1,59 @@
+-- The test of LINK for cycles says what is reached.
+use Rattle.std.proofs.Common.{◌≡◌, ℕ, ◌==◌, ◌||◌, [], ◌∷◌, Some, Bool, true, false, cond}
+use Rattle.std.proofs.Common.{length, Result, Ok, refl, sym, subst}
+use Rattle.std.specs.Option.{IsSome}
+use Rattle.std.specs.Ordering.{nat_cmp}
+use Rattle.std.specs.BTreeMap.{is_at}
+use Rattle.std.specs.Map.{keys_of}
+use Rattle.std.proofs.lemmas.Bool.{true≢false}
+use Rattle.std.proofs.lemmas.List.{length-map}
+use Rattle.krs_types.specs.declared.errno.Errno.{Errno}
+use Rattle.krs_types.specs.declared.errno.Errno.TheVariants.{EDEADLK, ELOOP}
+use Rattle.krs_types.specs.Refusing.{◌>>=◌}
+use Rattle.krs_model.specs.Table.{Table, at}
+use Rattle.krs_model.specs.State.{Key}
+use Rattle.krs_model.specs.Levels.{levels, is_in}
+use Rattle.krs_model.specs.Reach.{links_of_key_at, closes, has_chain}
+use Rattle.krs_model.specs.Sound.{AllLinked}
+use Rattle.krs_model.specs.Asks.Linked.{nestable, unless}
+use Rattle.krs_model.proofs.Tables.Changes.{same_at}
+use Rattle.krs_model.proofs.Reach.Levels.{or_true, same_is}
+use Rattle.krs_model.proofs.Reach.Acyclic.{From, closed_levels, levels_reached, IsClosed}
+
+-- a key that is there is in the list of serials
+pub there_in : (keys : Table Key) (k : ℕ) → IsSome (at keys k) → is_in k (keys_of keys) ≡ true
+there_in [] k h = absurd (true≢false (sym h))
+there_in (e ∷ keys) k h =
+    elim (is_at (nat_cmp k) e.0) as (λ b. is_at (nat_cmp k) e.0 ≡ b → IsSome (cond b (Some e.1) (at keys k))
+    → ((e.0 == k) || is_in k (keys_of keys)) ≡ true) [
+      | true ↦ λ t i. rw (same_is e.0 k (sym (same_at k e.0 t))) refl
+      | false ↦ λ t i. or_true (e.0 == k) (is_in k (keys_of keys)) (there_in keys k i)
+    ] refl h
+
+-- where the test of cycles refuses, the keyring is the key, or reached from it
+pub closes_from : (keys : Table Key) (key ring : ℕ) → closes keys key ring ≡ true → From (links_of_key_at keys) key ring
+unfolding closes
+closes_from keys key ring h = levels_reached (links_of_key_at keys) key ring (length keys) h
+
+-- and it refuses wherever it is
+pub from_closes :
+    (keys : Table Key) (key ring : ℕ) → AllLinked keys → IsSome (at keys key) → From (links_of_key_at keys) key ring
+    → closes keys key ring ≡ true
+unfolding closes
+from_closes keys key ring linked there reached =
+    let closed : IsClosed (links_of_key_at keys) (keys_of keys) = λ j k i h. there_in keys k (linked j k h) in
+    let found = closed_levels (links_of_key_at keys) (keys_of keys) key ring (there_in keys key there) closed reached in
+    subst (λ (n : ℕ). is_in ring (levels (links_of_key_at keys) (key ∷ []) n) ≡ true) (length-map keys (λ e. e.0)) found
+
+-- a link that may be nested closes no cycle
+opens :
+    (bad : Bool) (next : Result (Unit {0}) Errno) (x : Unit {0}) → (unless bad EDEADLK >>= (λ y. next)) ≡ Ok x
+    → bad ≡ false
+opens true next x h = cc
+opens false next x h = refl
+
+pub nests_opens :
+    (keys : Table Key) (ring serial : ℕ) (x : Unit {0}) → nestable keys ring serial ≡ Ok x
+    → closes keys serial ring ≡ false
+unfolding nestable
+nests_opens keys ring serial x h = opens (closes keys serial ring) (unless (has_chain keys serial 6) ELOOP) x h

@@ -1,0 +1,11 @@
+-- That each step leaves a store sound, part by part.
+pub mod Steps
+pub mod Changes
+pub mod KeyAsks
+pub mod LinkAsks
+pub mod NewContexts
+pub mod Contexts
+pub mod Contents
+pub mod Attached
+pub mod Queues
+pub mod Watches

@@ -1,0 +1,146 @@
+-- What the entries of contexts, processes and uids attach.
+use Rattle.std.proofs.Common.{◌≡◌, ℕ, List, [], ◌∷◌, ◌++◌, Some, Bool, true, false}
+use Rattle.std.proofs.lemmas.List.Concat.{flat_map_single}
+use Rattle.std.proofs.Common.{cond, filter, flat_map, ap, sym, subst, ◌⊎◌, inl, inr, ⊎_elim}
+use Rattle.std.specs.Option.{option_to_list}
+use Rattle.std.specs.Ordering.{nat_cmp, match_ordering}
+use Rattle.std.specs.declared.cmp.Ordering.TheVariants.{Less, Equal, Greater}
+use Rattle.std.specs.BTreeMap.{is_at}
+use Rattle.std.proofs.lemmas.Option.{none-some, same_Some}
+use Rattle.krs_types.specs.declared.context.Context.{Context}
+use Rattle.krs_types.specs.declared.context.UidRings.{UidRings}
+use Rattle.krs_model.specs.Table.{Table, at, put, without, alter, map_values}
+use Rattle.krs_model.specs.State.{State}
+use Rattle.krs_model.specs.Levels.{is_in}
+use Rattle.krs_model.specs.Sound.{processes_of}
+use Rattle.krs_model.specs.Sweep.{roots, context_roots, process_roots, uid_roots}
+use Rattle.krs_model.proofs.Reach.Levels.{in_left, in_right, in_one}
+
+-- the keys that a context, a uid, and the entries of a table attach
+abbrev pub context_keys : Context → List ℕ
+context_keys c = option_to_list c.thread ++ option_to_list c.session
+
+abbrev pub uid_keys : UidRings → List ℕ
+uid_keys rings = option_to_list rings.user ++ option_to_list rings.session
+
+abbrev pub attachments : {X : Type 0} → (X → List ℕ) → Table X → List ℕ
+attachments g es = flat_map (λ e. g e.1) es
+
+-- the process of a context, as if it attached it
+abbrev pub own_process : Context → List ℕ
+own_process c = c.process ∷ []
+
+pub in_processes :
+    (es : Table Context) (process : ℕ)
+    → is_in process (processes_of es) ≡ is_in process (attachments own_process es)
+in_processes es process = ap (is_in process) (sym (flat_map_single (λ (e : ℕ × Context). e.1.process) es))
+
+-- what a further entry attaches, or was attached
+pub attached_either :
+    {X : Type 0} (g : X → List ℕ) (es : Table X) (k : ℕ) (v : X) (q : ℕ)
+    → is_in q (attachments g (put es k v)) ≡ true → (is_in q (g v) ≡ true) ⊎ (is_in q (attachments g es) ≡ true)
+attached_either {X = X} g [] k v q h = in_one q (g v) [] h
+attached_either {X = X} g (e ∷ es) k v q h =
+    elim (nat_cmp k e.0) as (λ r.
+    is_in q (attachments g (match_ordering r ((k, v) ∷ e ∷ es) ((e.0, v) ∷ es) (e ∷ put es k v))) ≡ true
+    → (is_in q (g v) ≡ true) ⊎ (is_in q (g e.1 ++ attachments g es) ≡ true)) [
+      | Less ↦ λ i. in_one q (g v) (g e.1 ++ attachments g es) i
+      | Equal ↦ λ i. ⊎_elim (λ here. inl here) (λ later. inr (in_right q (g e.1) (attachments g es) later))
+          (in_one q (g v) (attachments g es) i)
+      | Greater ↦ λ i. ⊎_elim (λ here. inr (in_left q (g e.1) (attachments g es) here))
+          (λ later. ⊎_elim (λ new. inl new) (λ old. inr (in_right q (g e.1) (attachments g es) old))
+          (attached_either g es k v q later))
+          (in_one q (g e.1) (attachments g (put es k v)) i)
+    ] h
+
+-- what a changed entry attaches was attached, or is what the change attaches
+pub attached_alter :
+    {X P : Type 0} (g : X → List ℕ) (es : Table X) (k : ℕ) (f : X → X) (q : ℕ)
+    → ((v : X) → is_in q (g (f v)) ≡ true → (is_in q (g v) ≡ true) ⊎ P)
+    → is_in q (attachments g (alter es k f)) ≡ true → (is_in q (attachments g es) ≡ true) ⊎ P
+attached_alter {X = X} {P = P} g [] k f q attaches h = inl h
+attached_alter {X = X} {P = P} g (e ∷ es) k f q attaches h =
+    elim (is_at (nat_cmp k) e.0) as (λ b.
+    is_in q (attachments g (cond b ((e.0, f e.1) ∷ es) (e ∷ alter es k f))) ≡ true
+    → (is_in q (g e.1 ++ attachments g es) ≡ true) ⊎ P) [
+      | true ↦ λ i. ⊎_elim (λ here.
+          ⊎_elim (λ was. inl (in_left q (g e.1) (attachments g es) was)) (λ p. inr p) (attaches e.1 here))
+          (λ later. inl (in_right q (g e.1) (attachments g es) later))
+          (in_one q (g (f e.1)) (attachments g es) i)
+      | false ↦ λ i. ⊎_elim (λ here. inl (in_left q (g e.1) (attachments g es) here))
+          (λ later. ⊎_elim (λ was. inl (in_right q (g e.1) (attachments g es) was)) (λ p. inr p)
+          (attached_alter g es k f q attaches later))
+          (in_one q (g e.1) (attachments g (alter es k f)) i)
+    ] h
+
+-- what fewer entries attach was attached
+pub attached_fewer :
+    {X : Type 0} (g : X → List ℕ) (p : ℕ × X → Bool) (es : Table X) (q : ℕ)
+    → is_in q (attachments g (filter p es)) ≡ true → is_in q (attachments g es) ≡ true
+attached_fewer {X = X} g p [] q h = h
+attached_fewer {X = X} g p (e ∷ es) q h =
+    elim (p e) as (λ b. is_in q (attachments g (cond b (e ∷ filter p es) (filter p es))) ≡ true
+    → is_in q (g e.1 ++ attachments g es) ≡ true) [
+      | true ↦ λ i. ⊎_elim (λ here. in_left q (g e.1) (attachments g es) here)
+          (λ later. in_right q (g e.1) (attachments g es) (attached_fewer g p es q later))
+          (in_one q (g e.1) (attachments g (filter p es)) i)
+      | false ↦ λ i. in_right q (g e.1) (attachments g es) (attached_fewer g p es q i)
+    ] h
+
+-- what is left where one entry was taken out was attached
+pub attached_without :
+    {X : Type 0} (g : X → List ℕ) (es : Table X) (k q : ℕ) → is_in q (attachments g (without es k)) ≡ true
+    → is_in q (attachments g es) ≡ true
+attached_without {X = X} g [] k q h = h
+attached_without {X = X} g (e ∷ es) k q h =
+    elim (is_at (nat_cmp k) e.0) as (λ b. is_in q (attachments g (cond b es (e ∷ without es k))) ≡ true
+    → is_in q (g e.1 ++ attachments g es) ≡ true) [
+      | true ↦ λ i. in_right q (g e.1) (attachments g es) i
+      | false ↦ λ i. ⊎_elim (λ here. in_left q (g e.1) (attachments g es) here)
+          (λ later. in_right q (g e.1) (attachments g es) (attached_without g es k q later))
+          (in_one q (g e.1) (attachments g (without es k)) i)
+    ] h
+
+-- what changed entries attach was attached
+pub attached_mapped :
+    {X : Type 0} (g : X → List ℕ) (f : X → X) (es : Table X) (q : ℕ)
+    → ((v : X) → is_in q (g (f v)) ≡ true → is_in q (g v) ≡ true)
+    → is_in q (attachments g (map_values f es)) ≡ true → is_in q (attachments g es) ≡ true
+attached_mapped {X = X} g f [] q fewer h = h
+attached_mapped {X = X} g f (e ∷ es) q fewer h =
+    ⊎_elim (λ here. in_left q (g e.1) (attachments g es) (fewer e.1 here))
+    (λ later. in_right q (g e.1) (attachments g es) (attached_mapped g f es q fewer later))
+    (in_one q (g (f e.1)) (attachments g (map_values f es)) h)
+
+-- what the value at a number attaches is attached
+pub attached_at :
+    {X : Type 0} (g : X → List ℕ) (es : Table X) (k : ℕ) (v : X) (q : ℕ) → at es k ≡ Some v → is_in q (g v) ≡ true
+    → is_in q (attachments g es) ≡ true
+attached_at {X = X} g [] k v q h i = absurd (none-some v h)
+attached_at {X = X} g (e ∷ es) k v q h i =
+    elim (is_at (nat_cmp k) e.0) as (λ b. cond b (Some e.1) (at es k) ≡ Some v
+    → is_in q (g e.1 ++ attachments g es) ≡ true) [
+      | true ↦ λ t. in_left q (g e.1) (attachments g es)
+          (subst (λ (x : X). is_in q (g x) ≡ true) (sym (same_Some e.1 v t)) i)
+      | false ↦ λ t. in_right q (g e.1) (attachments g es) (attached_at g es k v q t i)
+    ] h
+
+-- an attachment is of a context, a process or a uid
+pub attached_by :
+    {P : Type 0} (a b c : List ℕ) (k : ℕ) → (is_in k a ≡ true → P) → (is_in k b ≡ true → P) → (is_in k c ≡ true → P)
+    → is_in k (a ++ (b ++ c)) ≡ true → P
+attached_by a b c k p q r h =
+    ⊎_elim p (λ i. ⊎_elim q r (in_one k b c i)) (in_one k a (b ++ c) h)
+
+pub in_context : (s : State) (k : ℕ) → is_in k (context_roots s.contexts) ≡ true → is_in k (roots s) ≡ true
+in_context s k h = in_left k (context_roots s.contexts) (process_roots s.processes ++ uid_roots s.uids) h
+
+pub in_process : (s : State) (k : ℕ) → is_in k (process_roots s.processes) ≡ true → is_in k (roots s) ≡ true
+in_process s k h =
+    in_right k (context_roots s.contexts) (process_roots s.processes ++ uid_roots s.uids)
+    (in_left k (process_roots s.processes) (uid_roots s.uids) h)
+
+pub in_uid : (s : State) (k : ℕ) → is_in k (uid_roots s.uids) ≡ true → is_in k (roots s) ≡ true
+in_uid s k h =
+    in_right k (context_roots s.contexts) (process_roots s.processes ++ uid_roots s.uids)
+    (in_right k (process_roots s.processes) (uid_roots s.uids) h)

@@ -1,0 +1,101 @@
+-- Watches by rising key, then queue.
+use Rattle.std.proofs.Common.{◌≡◌, ℕ, List, [], ◌∷◌, Bool, true, false, cond, filter, refl, ap, ◌∙◌, sym}
+use Rattle.std.specs.Ordering.{nat_cmp, ordering_then, match_ordering, ordering_reverse, is_eq}
+use Rattle.std.specs.declared.cmp.Ordering.TheVariants.{Less, Equal, Greater}
+use Rattle.std.specs.BTreeMap.{is_at}
+use Rattle.std.specs.Cmp.{then_flip}
+use Rattle.std.proofs.lemmas.Cmp.{nat_cmp_total}
+use Rattle.krs_model.specs.Queues.{Watch, place_cmp, with_watch, without_watch}
+use Rattle.krs_model.specs.Orderly.{Each, AreRising}
+use Rattle.krs_model.proofs.Tables.Changes.{same_at}
+use Rattle.krs_model.proofs.Notes.Fitting.{each_filter, each_on}
+
+abbrev IsAfter : Watch → Watch → Type 0
+IsAfter w v = place_cmp w.0 v.0 ≡ Less
+
+pub filter_rising : (p : Watch → Bool) (ws : List Watch) → AreRising ws → AreRising (filter p ws)
+filter_rising p [] h = tt
+filter_rising p (w ∷ ws) h =
+    elim (p w) as (λ b. AreRising (cond b (w ∷ filter p ws) (filter p ws))) [
+      | true ↦ (each_filter (IsAfter w) p ws h.0, filter_rising p ws h.1)
+      | false ↦ filter_rising p ws h.1
+    ]
+
+pub each_without :
+    (P : Watch → Type 0) (ws : List Watch) (key number : ℕ) → Each P ws → Each P (without_watch ws key number)
+each_without P [] key number h = tt
+each_without P (w ∷ ws) key number h =
+    elim (is_at (place_cmp (key, number)) w.0) as (λ b. Each P (cond b ws (w ∷ without_watch ws key number))) [
+      | true ↦ h.1
+      | false ↦ (h.0, each_without P ws key number h.1)
+    ]
+
+pub without_rising : (ws : List Watch) (key number : ℕ) → AreRising ws → AreRising (without_watch ws key number)
+without_rising [] key number h = tt
+without_rising (w ∷ ws) key number h =
+    elim (is_at (place_cmp (key, number)) w.0) as (λ b. AreRising (cond b ws (w ∷ without_watch ws key number))) [
+      | true ↦ h.1
+      | false ↦ (each_without (IsAfter w) ws key number h.0, without_rising ws key number h.1)
+    ]
+
+-- a statement of the places and of the ids of watches
+pub each_with :
+    (P : Watch → Type 0) (ws : List Watch) (key number n : ℕ) → P ((key, number), n)
+    → ((w : Watch) → P w → P (w.0, n)) → Each P ws → Each P (with_watch ws key number n)
+each_with P [] key number n new again h = (new, tt)
+each_with P (w ∷ ws) key number n new again h =
+    elim (place_cmp (key, number) w.0) as
+    (λ r. Each P (match_ordering r (((key, number), n) ∷ w ∷ ws) ((w.0, n) ∷ ws) (w ∷ with_watch ws key number n))) [
+      | Less ↦ (new, h)
+      | Equal ↦ (again w h.0, h.1)
+      | Greater ↦ (h.0, each_with P ws key number n new again h.1)
+    ]
+
+same_number : (a b : ℕ) → nat_cmp a b ≡ Equal → a ≡ b
+same_number a b h = same_at a b (ap is_eq h)
+
+-- the order of places is one
+place_trans : (x y z : ℕ × ℕ) → place_cmp x y ≡ Less → place_cmp y z ≡ Less → place_cmp x z ≡ Less
+place_trans x y z h k =
+    let by : nat_cmp x.0 z.0 ≡ Less → place_cmp x z ≡ Less = λ e. ap (λ o. ordering_then o (nat_cmp x.1 z.1)) e in
+    elim (nat_cmp x.0 y.0) as
+    (λ a. nat_cmp x.0 y.0 ≡ a → ordering_then a (nat_cmp x.1 y.1) ≡ Less → place_cmp x z ≡ Less) [
+      | Less ↦ λ first low. elim (nat_cmp y.0 z.0) as
+          (λ b. nat_cmp y.0 z.0 ≡ b → ordering_then b (nat_cmp y.1 z.1) ≡ Less → place_cmp x z ≡ Less) [
+            | Less ↦ λ second high. by (nat_cmp_total.trans x.0 y.0 z.0 first second)
+            | Equal ↦ λ second high. by (ap (nat_cmp x.0) (sym (same_number y.0 z.0 second)) ∙ first)
+            | Greater ↦ λ second no. cc
+          ] refl k
+      | Equal ↦ λ first low. elim (nat_cmp y.0 z.0) as
+          (λ b. nat_cmp y.0 z.0 ≡ b → ordering_then b (nat_cmp y.1 z.1) ≡ Less → place_cmp x z ≡ Less) [
+            | Less ↦ λ second high. by (nat_cmp_total.congr x.0 y.0 z.0 first ∙ second)
+            | Equal ↦ λ second high.
+                ap (λ o. ordering_then o (nat_cmp x.1 z.1)) (nat_cmp_total.congr x.0 y.0 z.0 first ∙ second)
+                ∙ nat_cmp_total.trans x.1 y.1 z.1 low high
+            | Greater ↦ λ second no. cc
+          ] refl k
+      | Greater ↦ λ first no. cc
+    ] refl h
+
+place_flip : (x y : ℕ × ℕ) → place_cmp x y ≡ Greater → place_cmp y x ≡ Less
+place_flip x y h =
+    ap (λ o. ordering_then o (nat_cmp y.1 x.1)) (nat_cmp_total.antisymm y.0 x.0)
+    ∙ (ap (ordering_then (ordering_reverse (nat_cmp x.0 y.0))) (nat_cmp_total.antisymm y.1 x.1)
+    ∙ (then_flip (nat_cmp x.0 y.0) (nat_cmp x.1 y.1) ∙ ap ordering_reverse h))
+
+pub with_rising : (ws : List Watch) (key number n : ℕ) → AreRising ws → AreRising (with_watch ws key number n)
+with_rising [] key number n h = (tt, tt)
+with_rising (w ∷ ws) key number n h =
+    let new : Watch = ((key, number), n) in
+    elim (place_cmp (key, number) w.0) as (λ r. place_cmp (key, number) w.0 ≡ r
+    → AreRising (match_ordering r (new ∷ w ∷ ws) ((w.0, n) ∷ ws) (w ∷ with_watch ws key number n))) [
+      | Less ↦ λ t.
+          let later = each_on (IsAfter w) (IsAfter new) ws
+          (λ v after. place_trans (key, number) w.0 v.0 t after) h.0 in
+          ((t, later), h)
+      | Equal ↦ λ t. h
+      | Greater ↦ λ t. (
+        each_with (IsAfter w) ws key number n (place_flip (key, number) w.0 t) (λ v after. after) h.0,
+        with_rising ws key number n h.1,
+      )
+    ] refl

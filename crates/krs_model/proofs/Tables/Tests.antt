@@ -1,0 +1,34 @@
+-- Laws of tests that agree on a list.
+use Rattle.std.proofs.Common.{◌≡◌, ℕ, ◌==◌, ◌||◌, List, [], ◌∷◌, Option, Some, Bool, true, cond, filter}
+use Rattle.std.proofs.Common.{refl, ap, ◌∙◌}
+use Rattle.std.specs.List.{find, list_any}
+use Rattle.krs_model.specs.Levels.{is_in}
+use Rattle.krs_model.proofs.Reach.Levels.{or_true, same_is}
+
+-- two tests agree on what is in a list
+abbrev pub AgreeOn : List ℕ → (ℕ → Bool) → (ℕ → Bool) → Type 0
+AgreeOn xs p q = (k : ℕ) → is_in k xs ≡ true → p k ≡ q k
+
+agree_first : (x : ℕ) (xs : List ℕ) (p q : ℕ → Bool) → AgreeOn (x ∷ xs) p q → p x ≡ q x
+agree_first x xs p q agree = agree x (rw (same_is x x refl) refl)
+
+agree_rest : (x : ℕ) (xs : List ℕ) (p q : ℕ → Bool) → AgreeOn (x ∷ xs) p q → AgreeOn xs p q
+agree_rest x xs p q agree = λ k i. agree k (or_true (x == k) (is_in k xs) i)
+
+pub filter_agree : (p q : ℕ → Bool) (xs : List ℕ) → AgreeOn xs p q → filter p xs ≡ filter q xs
+filter_agree p q [] agree = refl
+filter_agree p q (x ∷ xs) agree =
+    ap (λ (b : Bool). cond b (x ∷ filter p xs) (filter p xs)) (agree_first x xs p q agree)
+    ∙ ap (λ (ys : List ℕ). cond (q x) (x ∷ ys) ys) (filter_agree p q xs (agree_rest x xs p q agree))
+
+pub find_agree : (p q : ℕ → Bool) (xs : List ℕ) → AgreeOn xs p q → find p xs ≡ find q xs
+find_agree p q [] agree = refl
+find_agree p q (x ∷ xs) agree =
+    ap (λ (b : Bool). cond b (Some x) (find p xs)) (agree_first x xs p q agree)
+    ∙ ap (λ (o : Option ℕ). cond (q x) (Some x) o) (find_agree p q xs (agree_rest x xs p q agree))
+
+pub any_agree : (p q : ℕ → Bool) (xs : List ℕ) → AgreeOn xs p q → list_any p xs ≡ list_any q xs
+any_agree p q [] agree = refl
+any_agree p q (x ∷ xs) agree =
+    ap (λ (b : Bool). b || list_any p xs) (agree_first x xs p q agree)
+    ∙ ap (λ (b : Bool). q x || b) (any_agree p q xs (agree_rest x xs p q agree))

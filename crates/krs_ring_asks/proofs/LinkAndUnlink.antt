@@ -1,0 +1,203 @@
+-- LINK and UNLINK, from what the store has looked up to what they come to.
+use Rattle.std.proofs.Common.{◌≡◌, ℕ, ℤ, List, Option, None, Some, FitsSigned, to_z, of_z, Result, Ok, Err, refl, ap}
+use Rattle.std.proofs.Common.{◌∙◌, sym, subst, nat_lt, false, arith}
+use Rattle.std.specs.Option.{IsSome, IfSome, option_map}
+use Rattle.std.specs.Int.{w32}
+use Rattle.std.proofs.lemmas.Int.{to_z-of_z}
+use Rattle.std.proofs.lemmas.Bool.{true≢false}
+use Rattle.std.proofs.lemmas.Bool.Decides.{nat_tests}
+use Rattle.krs_types.specs.declared.errno.Errno.{Errno}
+use Rattle.krs_types.specs.declared.errno.Errno.TheVariants.{ENOKEY}
+use Rattle.krs_types.specs.declared.ask.Answer.{Answer}
+use Rattle.krs_types.specs.declared.ask.Answer.TheVariants.{Nothing}
+use Rattle.krs_model.specs.Making.{made_for, within_serials}
+use Rattle.krs_types.specs.declared.context.Context.{Context}
+use Rattle.krs_types.specs.declared.fault.Fault.{Fault}
+use Rattle.krs_types.specs.declared.fault.Fault.TheVariants.{Memory, Refused}
+use Rattle.krs_types.specs.declared.rights.Want.{Want}
+use Rattle.krs_types.specs.declared.rights.Want.TheVariants.{Granted}
+use Rattle.krs_types.specs.Rights.{WRITE, LINK}
+use Rattle.krs_types.specs.Refusing.{◌>>=◌, or_refuse}
+use Rattle.krs_model.specs.Table.{at}
+use Rattle.krs_model.specs.State.{State, Key, Content, Payload, Links}
+use Rattle.krs_model.specs.Possession.{links_of_content}
+use Rattle.krs_model.specs.Sweep.{links_of_key}
+use Rattle.krs_model.specs.Reach.{links_of_key_at}
+use Rattle.krs_model.specs.Linking.{ring_links, linking}
+use Rattle.krs_model.specs.Lookup.{context_of, serial_of, look_up}
+use Rattle.krs_model.specs.Outcome.{Fails}
+use Rattle.krs_model.specs.Asks.Adding.{IsKeyringAt}
+use Rattle.krs_model.specs.Asks.Changing.{changed}
+use Rattle.krs_model.specs.Asks.Linked.{name_of, nestable, link, unlink, if_linked, without_link}
+use Rattle.krs_model.proofs.Lookups.Laws.{look_up_usable}
+use Rattle.krs_tables.specs.Linked.{name_in, room_in, FailsLast, Puts, Takes}
+
+-- a keyring that was looked up
+pub record IsFoundRing (s : State) (ring : ℕ × Key) : Type 0 where
+  pub there : at s.keys ring.0 ≡ Some ring.1
+  pub links : ring_links ring.1.content ≡ Ok (links_of_key_at s.keys ring.0)
+
+links_are : (content : Content) (links : List ℕ) → ring_links content ≡ Ok links
+    → ring_links content ≡ Ok (links_of_content content)
+links_are (Payload bytes) links h = absurd cc
+links_are (Links serials) links h = refl
+
+pub found_ring : (s : State) (c : Context) (id : ℤ) (ring : ℕ × Key) (links : List ℕ)
+    → look_up s c id (Granted WRITE) ≡ Ok ring → ring_links ring.1.content ≡ Ok links → IsFoundRing s ring
+found_ring s c id ring links found is =
+    let usable = look_up_usable s c id (Granted WRITE) ring found in
+    record {
+      there = usable.there;
+      links = links_are ring.1.content links is ∙ ap (λ (o : Option Key). Ok (links_of_key o)) (sym usable.there);
+    }
+
+ring_content : (content : Content) (links : List ℕ) → ring_links content ≡ Ok links
+    → (serials : List ℕ) × (content ≡ Links serials)
+ring_content (Payload bytes) links h = absurd cc
+ring_content (Links serials) links h = (serials, refl)
+
+pub found_is_ring : (s : State) (ring : ℕ × Key) → IsFoundRing s ring → IsKeyringAt s ring.0
+found_is_ring s ring is =
+    let content = ring_content ring.1.content (links_of_key_at s.keys ring.0) is.links in
+    (ring.1, is.there, content.0, content.1)
+
+-- what LINK has looked up
+pub record LooksUp (s : State) (client context : ℕ) (key ring : ℤ) (c : Context) (into found : ℕ × Key) : Type 0 where
+  pub own : context_of s client context ≡ Ok c
+  pub made : made_for s context c ring ≡ (s, c)
+  pub ring_found : look_up s c ring (Granted WRITE) ≡ Ok into
+  pub key_found : look_up s c key (Granted LINK) ≡ Ok found
+  pub is_ring : IsFoundRing s into
+  pub nests : nestable s.keys into.0 found.0 ≡ Ok (tt {0})
+
+-- ids come as numbers of 32 bits, and are read as signed ones
+pub looks_up : (s : State) (client context : ℕ) (key ring : ℤ) (c : Context) (into found : ℕ × Key) (links : List ℕ)
+    → FitsSigned w32 key → FitsSigned w32 ring → context_of s client context ≡ Ok c
+    → made_for s context c ring ≡ (s, c) → look_up s c (to_z w32 (of_z w32 ring)) (Granted WRITE) ≡ Ok into
+    → look_up s c (to_z w32 (of_z w32 key)) (Granted LINK) ≡ Ok found → ring_links into.1.content ≡ Ok links
+    → nestable s.keys into.0 found.0 ≡ Ok (tt {0}) → LooksUp s client context key ring c into found
+looks_up s client context key ring c into found links key_fits ring_fits own made ring_found key_found is nests =
+    let ring_there : look_up s c ring (Granted WRITE) ≡ Ok into =
+    ap (λ id. look_up s c id (Granted WRITE)) (sym (to_z-of_z w32 ring ring_fits)) ∙ ring_found in
+    record {
+      own = own;
+      made = made;
+      ring_found = ring_there;
+      key_found = ap (λ id. look_up s c id (Granted LINK)) (sym (to_z-of_z w32 key key_fits)) ∙ key_found;
+      is_ring = found_ring s c ring into links ring_there is;
+      nests = nests;
+    }
+
+-- the keyring that LINK has looked up
+pub ring_looked_up : (s : State) (ring : ℤ) (c : Context) (into : ℕ × Key) (links : List ℕ) → FitsSigned w32 ring
+    → look_up s c (to_z w32 (of_z w32 ring)) (Granted WRITE) ≡ Ok into → ring_links into.1.content ≡ Ok links
+    → IsKeyringAt s into.0
+ring_looked_up s ring c into links ring_fits ring_found is =
+    found_is_ring s into (found_ring s c (to_z w32 (of_z w32 ring)) into links ring_found is)
+
+pub key_looked_up : (s : State) (id : ℤ) (c : Context) (want : Want) (found : ℕ × Key)
+    → look_up s c id want ≡ Ok found → at s.keys found.0 ≡ Some found.1
+key_looked_up s id c want found is = (look_up_usable s c id want found is).there
+
+-- an ask that takes no serials is within them
+pub within_as :
+    (s t : State) (a : Answer) → t.next_serial ≡ s.next_serial → within_serials s (Ok (t, a)) ≡ Ok (t, a)
+within_as s t a same =
+    let not_less : nat_lt s.next_serial t.next_serial ≡ false = rw same (grind (arith, nat_tests)) in
+    rw not_less refl
+
+answered :
+    (room : Result (Unit {0}) Errno) (x : State)
+    → ◌>>=◌ {B = State × Answer} (room >>= (λ there. Ok x)) (λ new. Ok (new, Nothing))
+    ≡ ◌>>=◌ {B = State × Answer} room (λ there. Ok (x, Nothing))
+answered (Ok there) x = refl
+answered (Err e) x = refl
+
+-- LINK comes to what the room of the keyring says
+link_met : (s : State) (client context : ℕ) (key ring : ℤ) (c : Context) (into found : ℕ × Key)
+    → LooksUp s client context key ring c into found → link s client context key ring
+    ≡ within_serials s (room_in s.keys into.0 (name_of found.1)
+    >>= (λ room. Ok (changed s into.0 (linking s.keys (name_of found.1) found.0), Nothing)))
+unfolding link
+link_met s client context key ring c into found l =
+    rw (l.own, l.made, l.ring_found, l.key_found, l.is_ring.links, l.nests)
+    (ap (within_serials s) (answered (room_in s.keys into.0 (name_of found.1))
+    (changed s into.0 (linking s.keys (name_of found.1) found.0))))
+
+-- the link of a key that is there has the key's name
+pub put_under : (s new : State) (r : Result (Unit {0}) Fault) (ring serial : ℕ) (key : Key)
+    → at s.keys serial ≡ Some key → IfSome (name_in s serial) (λ name. Puts s r new ring name serial)
+    → Puts s r new ring (name_of key) serial
+put_under s new r ring serial key there h =
+    subst (λ (o : Option Key). IfSome (option_map name_of o) (λ name. Puts s r new ring name serial)) there h
+
+pub link_done : (s new : State) (client context : ℕ) (key ring : ℤ) (c : Context) (into found : ℕ × Key)
+    → LooksUp s client context key ring c into found → Puts s (Ok (tt {0})) new into.0 (name_of found.1) found.0
+    → link s client context key ring ≡ Ok (new, Nothing)
+link_done s new client context key ring c into found l puts =
+    let changes = changed s into.0 (linking s.keys (name_of found.1) found.0) in
+    link_met s client context key ring c into found l
+    ∙ (rw (puts.0, puts.1) (within_as s changes Nothing refl))
+
+refused_room : (s : State) (room : Result (Unit {0}) Errno) (done : State × Answer) (e : Fault) → FailsLast e room
+    → Fails e (within_serials s (room >>= (λ there. Ok done)))
+refused_room s room done Memory h = tt
+refused_room s room done (Refused x) h = rw h refl
+
+pub link_failed : (s new : State) (client context : ℕ) (key ring : ℤ) (c : Context) (into found : ℕ × Key) (e : Fault)
+    → LooksUp s client context key ring c into found → Puts s (Err e) new into.0 (name_of found.1) found.0
+    → Fails e (link s client context key ring) × (new ≡ s)
+link_failed s new client context key ring c into found e l puts = (
+  subst (Fails e) (sym (link_met s client context key ring c into found l))
+      (refused_room s (room_in s.keys into.0 (name_of found.1))
+      (changed s into.0 (linking s.keys (name_of found.1) found.0), Nothing) e puts.0),
+  puts.1,
+)
+
+-- what UNLINK has looked up
+pub record LooksFor (s : State) (client context : ℕ) (key ring : ℤ) (c : Context) (from : ℕ × Key)
+    (serial : ℕ) : Type 0 where
+  pub own : context_of s client context ≡ Ok c
+  pub ring_found : look_up s c ring (Granted WRITE) ≡ Ok from
+  pub named : serial_of s c key ≡ Ok serial
+  pub there : IsSome (at s.keys serial)
+  pub is_ring : IsFoundRing s from
+
+pub looks_for : (s : State) (client context : ℕ) (key ring : ℤ) (c : Context) (from : ℕ × Key) (serial : ℕ)
+    (links : List ℕ) → FitsSigned w32 key → FitsSigned w32 ring → context_of s client context ≡ Ok c
+    → look_up s c (to_z w32 (of_z w32 ring)) (Granted WRITE) ≡ Ok from
+    → serial_of s c (to_z w32 (of_z w32 key)) ≡ Ok serial → IsSome (at s.keys serial)
+    → ring_links from.1.content ≡ Ok links → LooksFor s client context key ring c from serial
+looks_for s client context key ring c from serial links key_fits ring_fits own ring_found named there is =
+    let ring_there : look_up s c ring (Granted WRITE) ≡ Ok from =
+    ap (λ id. look_up s c id (Granted WRITE)) (sym (to_z-of_z w32 ring ring_fits)) ∙ ring_found in
+    record {
+      own = own;
+      ring_found = ring_there;
+      named = ap (serial_of s c) (sym (to_z-of_z w32 key key_fits)) ∙ named;
+      there = there;
+      is_ring = found_ring s c ring from links ring_there is;
+    }
+
+some_or : (o : Option Key) → IsSome o → (k : Key) × (or_refuse ENOKEY o ≡ Ok k)
+some_or None h = absurd (true≢false (sym h))
+some_or (Some k) h = (k, refl)
+
+unlink_met : (s : State) (client context : ℕ) (key ring : ℤ) (c : Context) (from : ℕ × Key) (serial : ℕ)
+    → LooksFor s client context key ring c from serial → unlink s client context key ring
+    ≡ (if_linked serial (links_of_key_at s.keys from.0) >>= (λ linked. Ok (changed s from.0 (without_link serial), Nothing)))
+unfolding unlink
+unlink_met s client context key ring c from serial l =
+    rw (l.own, l.ring_found, l.named, (some_or (at s.keys serial) l.there).1, l.is_ring.links) refl
+
+pub unlink_done : (s new : State) (client context : ℕ) (key ring : ℤ) (c : Context) (from : ℕ × Key) (serial : ℕ)
+    → LooksFor s client context key ring c from serial → Takes s (Ok (tt {0})) new from.0 serial
+    → unlink s client context key ring ≡ Ok (new, Nothing)
+unlink_done s new client context key ring c from serial l takes =
+    unlink_met s client context key ring c from serial l ∙ rw (takes.0, takes.1) refl
+
+pub unlink_failed : (s new : State) (client context : ℕ) (key ring : ℤ) (c : Context) (from : ℕ × Key) (serial : ℕ)
+    (e : Errno) → LooksFor s client context key ring c from serial → Takes s (Err e) new from.0 serial
+    → (unlink s client context key ring ≡ Err e) × (new ≡ s)
+unlink_failed s new client context key ring c from serial e l takes =
+    (unlink_met s client context key ring c from serial l ∙ rw (takes.0, takes.1.0) refl, takes.1.1)

@@ -1,0 +1,207 @@
+-- SEARCH and REQUEST with a destination, from what the store has looked up to what they come to.
+use Rattle.std.proofs.Common.{◌≡◌, ℕ, ℤ, pos, negsuc, zero, suc, to_z, of_z, FitsSigned, List, Option, None, Some}
+use Rattle.std.proofs.Common.{true, false, Result, Ok, Err, refl, ap, ◌∙◌, sym, subst, cond}
+use Rattle.std.specs.Int.{w32}
+use Rattle.std.proofs.lemmas.Int.{to_z-of_z}
+use Rattle.krs_types.specs.declared.errno.Errno.{Errno}
+use Rattle.krs_types.specs.declared.errno.Errno.TheVariants.{ENOKEY, EACCES}
+use Rattle.krs_types.specs.declared.ask.Answer.{Answer}
+use Rattle.krs_types.specs.declared.ask.Answer.TheVariants.{Number}
+use Rattle.krs_types.specs.declared.context.Context.{Context}
+use Rattle.krs_types.specs.declared.name.Name.{Name}
+use Rattle.krs_types.specs.declared.fault.Fault.{Fault}
+use Rattle.krs_types.specs.declared.fault.Fault.TheVariants.{Memory, Refused}
+use Rattle.krs_types.specs.declared.rights.Want.TheVariants.{Granted}
+use Rattle.krs_types.specs.Rights.{has_all, SEARCH, WRITE, LINK}
+use Rattle.krs_types.specs.Refusing.{◌>>=◌, or_refuse}
+use Rattle.krs_model.specs.Table.{at}
+use Rattle.krs_model.specs.State.{State, Key}
+use Rattle.krs_model.specs.Access.{rights_on}
+use Rattle.krs_model.specs.Possession.{possessed}
+use Rattle.krs_model.specs.Linking.{ring_links, linking}
+use Rattle.krs_model.specs.Lookup.{context_of, look_up}
+use Rattle.krs_model.specs.Making.{made_for, within_serials}
+use Rattle.krs_model.specs.Search.{found, requested}
+use Rattle.krs_model.specs.Outcome.{Outcome, Fails}
+use Rattle.krs_model.specs.Asks.Changing.{changed}
+use Rattle.krs_model.specs.Asks.Linked.{name_of, nestable, linked_into}
+use Rattle.krs_model.specs.Asks.Finding.{search_from, request, sought_name, sought_into, requested_into, found_into}
+use Rattle.krs_model.specs.Asks.Finding.{if_linkable}
+use Rattle.krs_types.specs.Growth.{has_destination}
+use Rattle.krs_tables.specs.Linked.{room_in}
+use Rattle.krs_ring_asks.specs.Found.{if_granted, link_found}
+use Rattle.krs_ring_asks.proofs.LinkAndUnlink.{IsFoundRing, within_as}
+
+-- a link whose tests are these
+by_tests :
+    (s t : State) (answer : Answer) (nests room : Result (Unit {0}) Errno) → t.next_serial ≡ s.next_serial
+    → within_serials s (◌>>=◌ {B = State × Answer} (◌>>=◌ {B = State} (nests >>= (λ x. room)) (λ y. Ok t))
+    (λ new. Ok (new, answer)))
+    ≡ ◌>>=◌ {B = State × Answer} nests (λ x. room >>= (λ y. Ok (t, answer)))
+by_tests s t answer (Ok x) (Ok y) same = within_as s t answer same
+by_tests s t answer (Ok x) (Err e) same = refl
+by_tests s t answer (Err e) room same = refl
+
+-- the link of a key that was found
+abbrev linked_tests : State → ℕ → ℕ → Key → Outcome
+linked_tests s into serial key =
+    nestable s.keys into serial >>= (λ nests. room_in s.keys into (name_of key) >>= (λ room.
+    Ok (changed s into (linking s.keys (name_of key) serial), Number serial)))
+
+into_is :
+    (s : State) (into : ℕ × Key) (serial : ℕ) (key : Key) → IsFoundRing s into
+    → within_serials s (◌>>=◌ {B = State × Answer} (linked_into s into (serial, key))
+    (λ new. Ok (new, Number serial)))
+    ≡ linked_tests s into.0 serial key
+into_is s into serial key is =
+    rw is.links (by_tests s (changed s into.0 (linking s.keys (name_of key) serial)) (Number serial)
+    (nestable s.keys into.0 serial) (room_in s.keys into.0 (name_of key)) refl)
+
+by_key :
+    (s : State) (c : Context) (into : ℕ × Key) (serial : ℕ) (o : Option Key) → IsFoundRing s into
+    → within_serials s (or_refuse ENOKEY o >>= (λ key. if_linkable s c serial key
+    >>= (λ l. linked_into s into l >>= (λ new. Ok (new, Number serial)))))
+    ≡ ((or_refuse ENOKEY o >>= (λ key. if_granted s c serial key)) >>= (λ key. linked_tests s into.0 serial key))
+by_key s c into serial None is = refl
+by_key s c into serial (Some key) is =
+    let goes : ℕ × Key → Outcome = λ l. linked_into s into l >>= (λ new. Ok (new, Number serial)) in
+    elim (has_all (rights_on key c.caller (possessed s c serial)) LINK)
+    as (λ b. within_serials s (cond b (Ok (serial, key)) (Err EACCES) >>= goes)
+    ≡ (cond b (Ok key) (Err EACCES) >>= (λ k. linked_tests s into.0 serial k))) [
+      | true ↦ into_is s into serial key is
+      | false ↦ refl
+    ]
+
+-- a found key is linked where it grants LINK and the tests of a link let it through
+pub found_is :
+    (s : State) (client number : ℕ) (c : Context) (into : ℕ × Key) (serial : ℕ) → context_of s client number ≡ Ok c
+    → IsFoundRing s into → within_serials s (found_into s c into (Ok serial))
+    ≡ link_found s client number into.0 serial
+found_is s client number c into serial own is = by_key s c into serial (at s.keys serial) is ∙ sym (rw own refl)
+
+-- what SEARCH has looked up, with a destination that is there
+pub record Seeks (s : State) (client number : ℕ) (head : ℤ) (type_name desc : List ℕ) (dest : ℤ) (c : Context)
+    (name : Name) (from : ℕ × Key) : Type 0 where
+  pub own : context_of s client number ≡ Ok c
+  pub named : sought_name type_name desc ≡ Ok name
+  pub from_found : look_up s c head (Granted SEARCH) ≡ Ok from
+  pub made : made_for s number c dest ≡ (s, c)
+  pub wanted : has_destination dest ≡ true
+
+pub search_is :
+    (s : State) (client number : ℕ) (head : ℤ) (type_name desc : List ℕ) (dest : ℤ) (c : Context) (name : Name)
+    (from : ℕ × Key)
+    → Seeks s client number head type_name desc dest c name from
+    → search_from s client number head type_name desc dest ≡ within_serials s (sought_into s c from name dest)
+unfolding search_from
+search_is s client number head type_name desc dest c name from seeks =
+    rw (seeks.own, seeks.named, seeks.from_found, seeks.wanted, seeks.made) refl
+
+-- a number that is not 0 is a destination
+pub wanted_of : (z : ℤ) → (of_z w32 z ≡ 0 → ⊥) → has_destination z ≡ true
+wanted_of (pos zero) h = absurd (h refl)
+wanted_of (pos (suc n)) h = refl
+wanted_of (negsuc n) h = refl
+
+pub seeks :
+    (s : State) (client number : ℕ) (head : ℤ) (type_name desc : List ℕ) (dest : ℤ) (c : Context) (name : Name)
+    (from : ℕ × Key)
+    → FitsSigned w32 head → FitsSigned w32 dest → context_of s client number ≡ Ok c
+    → sought_name type_name desc ≡ Ok name
+    → look_up s c (to_z w32 (of_z w32 head)) (Granted SEARCH) ≡ Ok from → (of_z w32 dest ≡ 0 → ⊥)
+    → made_for s number c (to_z w32 (of_z w32 dest)) ≡ (s, c)
+    → Seeks s client number head type_name desc dest c name from
+seeks s client number head type_name desc dest c name from head_fits dest_fits own named from_found wanted made =
+    record {
+      own = own;
+      named = named;
+      from_found = ap (λ id. look_up s c id (Granted SEARCH)) (sym (to_z-of_z w32 head head_fits)) ∙ from_found;
+      made = ap (made_for s number c) (sym (to_z-of_z w32 dest dest_fits)) ∙ made;
+      wanted = wanted_of dest wanted;
+    }
+
+-- a search whose destination and key were found comes to the link of the key
+pub search_links :
+    (s : State) (client number : ℕ) (head : ℤ) (type_name desc : List ℕ) (dest : ℤ) (c : Context) (name : Name)
+    (from into : ℕ × Key) (links : List ℕ) (serial : ℕ)
+    → Seeks s client number head type_name desc dest c name from → look_up s c dest (Granted WRITE) ≡ Ok into
+    → ring_links from.1.content ≡ Ok links → IsFoundRing s into → found s c from.0 name ≡ Ok serial
+    → search_from s client number head type_name desc dest ≡ link_found s client number into.0 serial
+search_links s client number head type_name desc dest c name from into links serial l into_found heads is key_found =
+    search_is s client number head type_name desc dest c name from l
+    ∙ (rw (into_found, heads, is.links, key_found) refl ∙ found_is s client number c into serial l.own is)
+
+unlooked :
+    (s : State) (c : Context) (from : ℕ × Key) (name : Name) (dest : ℤ) (e : Fault)
+    → Fails e (look_up s c dest (Granted WRITE)) → Fails e (within_serials s (sought_into s c from name dest))
+unlooked s c from name dest Memory h = tt
+unlooked s c from name dest (Refused x) h = rw h refl
+
+-- a search whose destination is refused
+pub search_unlooked :
+    (s : State) (client number : ℕ) (head : ℤ) (type_name desc : List ℕ) (dest : ℤ) (c : Context) (name : Name)
+    (from : ℕ × Key) (e : Fault)
+    → Seeks s client number head type_name desc dest c name from → Fails e (look_up s c dest (Granted WRITE))
+    → Fails e (search_from s client number head type_name desc dest) × (s ≡ s)
+search_unlooked s client number head type_name desc dest c name from e l h = (
+  subst (Fails e) (sym (search_is s client number head type_name desc dest c name from l))
+      (unlooked s c from name dest e h),
+  refl,
+)
+
+-- a search whose destination is no keyring
+pub search_no_ring :
+    (s : State) (client number : ℕ) (head : ℤ) (type_name desc : List ℕ) (dest : ℤ) (c : Context) (name : Name)
+    (from into : ℕ × Key) (links : List ℕ) (e : Errno)
+    → Seeks s client number head type_name desc dest c name from → look_up s c dest (Granted WRITE) ≡ Ok into
+    → ring_links from.1.content ≡ Ok links → ring_links into.1.content ≡ Err e
+    → (search_from s client number head type_name desc dest ≡ Err e) × (s ≡ s)
+search_no_ring s client number head type_name desc dest c name from into links e l into_found heads h =
+    (search_is s client number head type_name desc dest c name from l ∙ rw (into_found, heads, h) refl, refl)
+
+-- what REQUEST has looked up, with a destination that is there
+pub record Requests (s : State) (client number : ℕ) (type_name desc : List ℕ) (dest : ℤ) (c : Context)
+    (name : Name) : Type 0 where
+  pub own : context_of s client number ≡ Ok c
+  pub named : sought_name type_name desc ≡ Ok name
+  pub made : made_for s number c dest ≡ (s, c)
+  pub wanted : has_destination dest ≡ true
+
+pub requests :
+    (s : State) (client number : ℕ) (type_name desc : List ℕ) (dest : ℤ) (c : Context) (name : Name)
+    → FitsSigned w32 dest → context_of s client number ≡ Ok c → sought_name type_name desc ≡ Ok name
+    → (of_z w32 dest ≡ 0 → ⊥)
+    → made_for s number c (to_z w32 (of_z w32 dest)) ≡ (s, c) → Requests s client number type_name desc dest c name
+requests s client number type_name desc dest c name dest_fits own named wanted made = record {
+  own = own;
+  named = named;
+  made = ap (made_for s number c) (sym (to_z-of_z w32 dest dest_fits)) ∙ made;
+  wanted = wanted_of dest wanted;
+}
+
+request_is :
+    (s : State) (client number : ℕ) (type_name desc : List ℕ) (dest : ℤ) (c : Context) (name : Name)
+    → Requests s client number type_name desc dest c name
+    → request s client number type_name desc dest ≡ within_serials s (requested_into s c name dest)
+unfolding request
+request_is s client number type_name desc dest c name l = rw (l.own, l.named, l.wanted, l.made) refl
+
+-- a request whose destination and key were found comes to the link of the key
+pub request_links :
+    (s : State) (client number : ℕ) (type_name desc : List ℕ) (dest : ℤ) (c : Context) (name : Name) (into : ℕ × Key)
+    (serial : ℕ)
+    → Requests s client number type_name desc dest c name → look_up s c dest (Granted WRITE) ≡ Ok into
+    → IsFoundRing s into → requested s c name ≡ Ok serial
+    → request s client number type_name desc dest ≡ link_found s client number into.0 serial
+request_links s client number type_name desc dest c name into serial l into_found is key_found =
+    request_is s client number type_name desc dest c name l
+    ∙ (rw (into_found, is.links, key_found) refl ∙ found_is s client number c into serial l.own is)
+
+-- a request whose destination is no keyring
+pub request_no_ring :
+    (s : State) (client number : ℕ) (type_name desc : List ℕ) (dest : ℤ) (c : Context) (name : Name) (into : ℕ × Key)
+    (e : Errno)
+    → Requests s client number type_name desc dest c name → look_up s c dest (Granted WRITE) ≡ Ok into
+    → ring_links into.1.content ≡ Err e → (request s client number type_name desc dest ≡ Err e) × (s ≡ s)
+request_no_ring s client number type_name desc dest c name into e l into_found h =
+    (request_is s client number type_name desc dest c name l ∙ rw (into_found, h) refl, refl)

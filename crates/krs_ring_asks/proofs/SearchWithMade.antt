@@ -1,0 +1,373 @@
+-- SEARCH and REQUEST where a thread or process keyring is made for the destination, from what the store has looked up
+-- to what they come to.
+use Rattle.std.proofs.Common.{◌≡◌, ◌≢◌, ℕ, ℤ, to_z, of_z, FitsSigned, List, [], ◌∷◌, Option, None, Some, Bool}
+use Rattle.std.proofs.Common.{true, false, Result, Ok, Err, refl, ap, ◌∙◌, sym, subst, cond}
+use Rattle.std.specs.Int.{w32}
+use Rattle.std.specs.List.{flat_map, find}
+use Rattle.std.specs.Option.{IsSome, option_to_list}
+use Rattle.std.proofs.lemmas.Int.{to_z-of_z}
+use Rattle.std.proofs.lemmas.Option.{none-some, same_Some}
+use Rattle.krs_types.specs.declared.errno.Errno.{Errno}
+use Rattle.krs_types.specs.declared.errno.Errno.TheVariants.{ENOKEY, EACCES, ELOOP}
+use Rattle.krs_types.specs.declared.ask.Answer.TheVariants.{Number}
+use Rattle.krs_types.specs.declared.context.Context.{Context}
+use Rattle.krs_types.specs.declared.fault.Fault.{Fault}
+use Rattle.krs_types.specs.declared.fault.Fault.TheVariants.{Memory, Refused}
+use Rattle.krs_types.specs.declared.name.Name.{Name}
+use Rattle.krs_types.specs.declared.rights.Want.TheVariants.{Granted}
+use Rattle.krs_types.specs.Rights.{has_all, SEARCH, LINK}
+use Rattle.krs_types.specs.Refusing.{◌>>=◌, or_refuse}
+use Rattle.krs_model.specs.Table.{at}
+use Rattle.krs_model.specs.State.{State, Key}
+use Rattle.krs_model.specs.Access.{rights_on}
+use Rattle.krs_model.specs.Possession.{possessed, attached}
+use Rattle.krs_model.specs.Reach.{has_chain}
+use Rattle.krs_model.specs.Laws.{in_turn}
+use Rattle.krs_model.specs.Linking.{ring_links, linking}
+use Rattle.krs_model.specs.Lookup.{context_of, look_up}
+use Rattle.krs_model.specs.Making.{special_ring, within_serials}
+use Rattle.krs_model.specs.Search.{searcher_of, searched, is_match, is_open, is_answer, found, requested, or_next}
+use Rattle.krs_model.specs.Sound.{IsSound}
+use Rattle.krs_model.specs.Outcome.{Outcome, Fails}
+use Rattle.krs_model.specs.Asks.Changing.{changed}
+use Rattle.krs_model.specs.Asks.Linked.{unless, name_of, linked_into}
+use Rattle.krs_model.specs.Asks.Finding.{search_from, request, sought_name, sought_into, requested_into, found_into}
+use Rattle.krs_model.specs.Asks.Finding.{if_linkable}
+use Rattle.krs_types.specs.Growth.{has_destination}
+use Rattle.krs_model.proofs.Lookups.Laws.{look_up_usable}
+use Rattle.krs_model.proofs.Reach.Searches.{found_is_first}
+use Rattle.krs_model.proofs.Sound.Changes.{not_there}
+use Rattle.krs_model.proofs.MadeKeyring.Searches.{requested_with}
+use Rattle.krs_model.proofs.MadeKeyring.Links.{found_into_new, found_into_self, linked_into_new, sought_into_new}
+use Rattle.krs_model.proofs.MadeKeyring.Links.{requested_into_new}
+use Rattle.krs_tables.specs.declared.making.Special.{Special}
+use Rattle.krs_tables.specs.declared.making.Special.TheVariants.{Thread, Process}
+use Rattle.krs_ring_asks.specs.Found.{if_granted, found_below}
+use Rattle.krs_tables.specs.Specials.{special_name, with_ring, Makes}
+use Rattle.krs_ring_asks.specs.Beside.{is_of_name, found_made}
+use Rattle.krs_ring_asks.specs.Beside.{found_in, found_before, or_itself, beside}
+use Rattle.krs_tables.proofs.MadeFor.{IsNew, is_new, context_with, before, behind}
+use Rattle.krs_ring_asks.proofs.SearchAndRequest.{wanted_of}
+
+-- an answer is a key that is there
+match_there : (name : Name) (holds : Key → Bool) (o : Option Key) → is_match name holds o ≡ true → IsSome o
+match_there name holds None h = h
+match_there name holds (Some key) h = refl
+
+found_there :
+    (s : State) (c : Context) (head : ℕ) (name : Name) (k : ℕ) → found s c head name ≡ Ok k → IsSome (at s.keys k)
+found_there s c head name k h =
+    match_there name (is_open (searcher_of s c) k) (at s.keys k) (found_is_first s c head name k h).answer
+
+first_found : (e : Errno) (o : Option ℕ) (k : ℕ) → or_refuse e o ≡ Ok k → o ≡ Some k
+first_found e None k h = cc
+first_found e (Some x) k h = cc
+
+-- what is found passes the test
+find_passes : (p : ℕ → Bool) (xs : List ℕ) (k : ℕ) → find p xs ≡ Some k → p k ≡ true
+find_passes p [] k h = absurd (none-some k h)
+find_passes p (x ∷ xs) k h =
+    elim (p x) as (λ b. p x ≡ b → cond b (Some x) (find p xs) ≡ Some k → p k ≡ true) [
+      | true ↦ λ t m. subst (λ (z : ℕ). p z ≡ true) (same_Some x k m) t
+      | false ↦ λ t m. find_passes p xs k m
+    ] refl h
+
+requested_there :
+    (s : State) (c : Context) (name : Name) (k : ℕ) → requested s c name ≡ Ok k → IsSome (at s.keys k)
+unfolding requested possessed
+requested_there s c name k h =
+    let by = searcher_of s c in
+    let serials = flat_map (searched by) (attached s c) in
+    let first = first_found _ (find (is_answer by name) serials) k h in
+    match_there name (is_open by k) (at s.keys k) (find_passes (is_answer by name) serials k first)
+
+before_there :
+    (special : Special) (s : State) (c : Context) (name : Name) (k : ℕ) → found_before special s c name ≡ Ok k
+    → IsSome (at s.keys k)
+before_there Thread s c name k h = cc
+before_there Process s c name k h =
+    elim c.thread as (λ o. found_in s c name o ≡ Ok k → IsSome (at s.keys k)) [
+      | None ↦ λ e. cc
+      | Some ring ↦ λ e. found_there s c ring name k e
+    ] h
+
+-- and so it is not the keyring that is made
+other : (s : State) (k : ℕ) → at s.keys s.next_serial ≡ None → IsSome (at s.keys k) → k ≢ s.next_serial
+other s k none there e = not_there (at s.keys k) there (ap (λ (z : ℕ). at s.keys z) e ∙ none)
+
+or_later : (answer : Result ℕ Errno) (n : ℕ) → or_next (or_next answer (Err ENOKEY)) (Ok n) ≡ or_next answer (Ok n)
+or_later (Ok k) n = refl
+or_later (Err e) n = refl
+
+behind_thread :
+    (s : State) (c : Context) (name : Name) (thread : Option ℕ) (n : ℕ)
+    → or_next (in_turn (λ head. found s c head name) (option_to_list thread)) (Ok n)
+    ≡ or_next (found_in s c name thread) (Ok n)
+behind_thread s c name None n = refl
+behind_thread s c name (Some ring) n = or_later (found s c ring name) n
+
+-- what is found before the keyring that is made, else that keyring
+first_is :
+    (special : Special) (s : State) (c : Context) (name : Name) (n : ℕ)
+    → or_next (in_turn (λ head. found s c head name) (before special c)) (Ok n)
+    ≡ or_next (found_before special s c name) (Ok n)
+first_is Thread s c name n = refl
+first_is Process s c name n = behind_thread s c name c.thread n
+
+-- what a request finds where the keyring is made
+asked :
+    (special : Special) (s : State) (number : ℕ) (c : Context) (dest : ℤ) (name : Name)
+    → IsNew special s number c dest
+    → requested (with_ring special s number c) (context_with special s c) name
+    ≡ cond (is_of_name special c name) (or_next (found_before special s c name) (Ok s.next_serial))
+    (requested s c name)
+asked special s number c dest name new =
+    requested_with s (with_ring special s number c) c (context_with special s c) (special_name special).desc
+    (before special c) (behind special s c) name new.made new.fit.linked new.fit.none new.fit.heads
+    ∙ ap (λ (r : Result ℕ Errno). cond (is_of_name special c name) r (requested s c name))
+    (first_is special s c name s.next_serial)
+
+-- the link of a key in the keyring that is made
+abbrev new_link : State → State → ℕ → Key → Outcome
+new_link s t serial key =
+    unless (has_chain s.keys serial 6) ELOOP >>= (λ nests.
+    within_serials s (Ok (changed t s.next_serial (linking t.keys (name_of key) serial), Number serial)))
+
+by_chain :
+    (s t : State) (serial : ℕ) (key : Key) (chain : Bool)
+    → within_serials s (◌>>=◌ {B = State × _} (unless chain ELOOP >>= (λ nests.
+    Ok (changed t s.next_serial (linking t.keys (name_of key) serial)))) (λ new. Ok (new, Number serial)))
+    ≡ (unless chain ELOOP >>= (λ nests.
+    within_serials s (Ok (changed t s.next_serial (linking t.keys (name_of key) serial), Number serial))))
+by_chain s t serial key true = refl
+by_chain s t serial key false = refl
+
+by_key :
+    (s t : State) (c : Context) (ring : ℕ × Key) (serial : ℕ) (o : Option Key)
+    → ((key : Key) → linked_into t ring (serial, key) ≡ (unless (has_chain s.keys serial 6) ELOOP >>= (λ nests.
+    Ok (changed t s.next_serial (linking t.keys (name_of key) serial)))))
+    → within_serials s (or_refuse ENOKEY o >>= (λ key. if_linkable s c serial key >>= (λ l.
+    linked_into t ring l >>= (λ new. Ok (new, Number serial)))))
+    ≡ ((or_refuse ENOKEY o >>= (λ key. if_granted s c serial key)) >>= (λ key.
+    or_refuse ENOKEY o >>= (λ linked. new_link s t serial linked)))
+by_key s t c ring serial None into = refl
+by_key s t c ring serial (Some key) into =
+    let goes : ℕ × Key → Outcome = λ l. linked_into t ring l >>= (λ new. Ok (new, Number serial)) in
+    elim (has_all (rights_on key c.caller (possessed s c serial)) LINK)
+    as (λ b. within_serials s (cond b (Ok (serial, key)) (Err EACCES) >>= goes)
+    ≡ (cond b (Ok key) (Err EACCES) >>= (λ (k : Key). new_link s t serial key))) [
+      | true ↦ ap (λ (r : Result State Errno). within_serials s (r >>= (λ new. Ok (new, Number serial)))) (into key)
+          ∙ by_chain s t serial key (has_chain s.keys serial 6)
+      | false ↦ refl
+    ]
+
+-- what was found, linked in the keyring that is made
+abbrev into_new : Special → State → ℕ → Context → Result ℕ Errno → Outcome
+into_new special s number c answer =
+    found_into (with_ring special s number c) (context_with special s c)
+    (s.next_serial, special_ring (special_name special).desc c.caller) answer
+
+-- a key that was found is linked there
+found_new :
+    (special : Special) (s : State) (client number : ℕ) (c : Context) (dest : ℤ) (k : ℕ)
+    → context_of s client number ≡ Ok c → IsNew special s number c dest → IsSome (at s.keys k)
+    → within_serials s (into_new special s number c (Ok k)) ≡ found_made special s client number k
+found_new special s client number c dest k own new there =
+    let t = with_ring special s number c in
+    let d = context_with special s c in
+    let desc = (special_name special).desc in
+    let ring : ℕ × Key = (s.next_serial, special_ring desc c.caller) in
+    let first = before special c in
+    let last = behind special s c in
+    let apart : k ≢ s.next_serial = other s k new.fit.none there in
+    ap (within_serials s) (found_into_new s t c d desc first last k new.made new.fit.none apart)
+    ∙ (by_key s t c ring k (at s.keys k)
+    (λ key. linked_into_new s t c d desc first last (k, key) new.made new.fit.linked new.fit.none apart)
+    ∙ sym (rw own refl))
+
+by_answer :
+    (special : Special) (s : State) (client number : ℕ) (c : Context) (dest : ℤ) (answer : Result ℕ Errno)
+    → context_of s client number ≡ Ok c → IsNew special s number c dest
+    → ((k : ℕ) → answer ≡ Ok k → IsSome (at s.keys k))
+    → within_serials s (into_new special s number c answer)
+    ≡ (answer >>= (λ k. found_made special s client number k))
+by_answer special s client number c dest (Ok k) own new there =
+    found_new special s client number c dest k own new (there k refl)
+by_answer special s client number c dest (Err e) own new there = refl
+
+-- the keyring that was found itself is not
+by_itself :
+    (special : Special) (s : State) (client number : ℕ) (c : Context) (dest : ℤ) (answer : Result ℕ Errno)
+    → context_of s client number ≡ Ok c → IsNew special s number c dest
+    → ((k : ℕ) → answer ≡ Ok k → IsSome (at s.keys k))
+    → within_serials s (into_new special s number c (or_next answer (Ok s.next_serial)))
+    ≡ (or_itself answer >>= (λ k. found_made special s client number k))
+by_itself special s client number c dest (Ok k) own new there =
+    found_new special s client number c dest k own new (there k refl)
+by_itself special s client number c dest (Err e) own new there =
+    ap (within_serials s) (found_into_self s (with_ring special s number c) c (context_with special s c)
+    (special_name special).desc (before special c) (behind special s c) new.made)
+
+by_name :
+    (special : Special) (s : State) (client number : ℕ) (c : Context) (dest : ℤ) (name : Name) (named : Bool)
+    → context_of s client number ≡ Ok c → IsNew special s number c dest
+    → within_serials s (into_new special s number c
+    (cond named (or_next (found_before special s c name) (Ok s.next_serial)) (requested s c name)))
+    ≡ (cond named (or_itself (found_before special s c name)) (requested s c name)
+    >>= (λ k. found_made special s client number k))
+by_name special s client number c dest name true own new =
+    by_itself special s client number c dest (found_before special s c name) own new (before_there special s c name)
+by_name special s client number c dest name false own new =
+    by_answer special s client number c dest (requested s c name) own new (requested_there s c name)
+
+by_links :
+    (special : Special) (s : State) (client number : ℕ) (c : Context) (dest : ℤ) (name : Name) (head : ℕ)
+    (links : Result (List ℕ) Errno) → context_of s client number ≡ Ok c → IsNew special s number c dest
+    → within_serials s (links >>= (λ heads. into_new special s number c (found s c head name)))
+    ≡ ((links >>= (λ heads. found s c head name)) >>= (λ k. found_made special s client number k))
+by_links special s client number c dest name head (Ok links) own new =
+    by_answer special s client number c dest (found s c head name) own new (found_there s c head name)
+by_links special s client number c dest name head (Err e) own new = refl
+
+-- what fails first is the answer
+fails_first :
+    {A : Type 0} (e : Fault) (first : Result A Errno) (next : A → Outcome) → Fails e first → Fails e (first >>= next)
+fails_first Memory first next h = tt
+fails_first (Refused x) first next h = rw h refl
+
+-- what SEARCH has looked up, with a destination that is made
+pub record SeeksNew (special : Special) (s : State) (client number : ℕ) (head : ℤ)
+    (type_name desc : List ℕ) (dest : ℤ)
+    (c : Context) (name : Name) (from : ℕ × Key) : Type 0 where
+  pub own : context_of s client number ≡ Ok c
+  pub named : sought_name type_name desc ≡ Ok name
+  pub from_found : look_up s c head (Granted SEARCH) ≡ Ok from
+  pub wanted : has_destination dest ≡ true
+  pub new : IsNew special s number c dest
+
+pub seeks_new :
+    (special : Special) (s : State) (client number : ℕ) (head : ℤ) (type_name desc : List ℕ) (dest : ℤ) (c : Context)
+    (name : Name) (from : ℕ × Key) → IsSound s → FitsSigned w32 head → FitsSigned w32 dest
+    → context_of s client number ≡ Ok c → sought_name type_name desc ≡ Ok name
+    → look_up s c (to_z w32 (of_z w32 head)) (Granted SEARCH) ≡ Ok from → (of_z w32 dest ≡ 0 → ⊥)
+    → Makes (Some special) s number c (to_z w32 (of_z w32 dest))
+    → SeeksNew special s client number head type_name desc dest c name from
+seeks_new special s client number head type_name desc dest c name from sound head_fits dest_fits own named from_found
+    wanted makes =
+    let makes_it = subst (Makes (Some special) s number c) (to_z-of_z w32 dest dest_fits) makes in
+    record {
+      own = own;
+      named = named;
+      from_found = ap (λ id. look_up s c id (Granted SEARCH)) (sym (to_z-of_z w32 head head_fits)) ∙ from_found;
+      wanted = wanted_of dest wanted;
+      new = is_new special s client number c dest makes_it sound own;
+    }
+
+search_is_new :
+    (special : Special) (s : State) (client number : ℕ) (head : ℤ) (type_name desc : List ℕ) (dest : ℤ) (c : Context)
+    (name : Name) (from : ℕ × Key) → SeeksNew special s client number head type_name desc dest c name from
+    → search_from s client number head type_name desc dest
+    ≡ within_serials s (sought_into (with_ring special s number c) (context_with special s c) from name dest)
+unfolding search_from
+search_is_new special s client number head type_name desc dest c name from l =
+    rw (l.own, l.named, l.from_found, l.wanted, l.new.is) refl
+
+-- a search whose destination is made comes to the link of what it finds
+search_new :
+    (special : Special) (s : State) (client number : ℕ) (head : ℤ) (type_name desc : List ℕ) (dest : ℤ) (c : Context)
+    (name : Name) (from : ℕ × Key) → SeeksNew special s client number head type_name desc dest c name from
+    → search_from s client number head type_name desc dest
+    ≡ (found_below s c from name >>= (λ k. found_made special s client number k))
+search_new special s client number head type_name desc dest c name from l =
+    let there : at s.keys from.0 ≡ Some from.1 = (look_up_usable s c head (Granted SEARCH) from l.from_found).there in
+    let apart : from.0 ≢ s.next_serial = other s from.0 l.new.fit.none (rw there refl) in
+    let into = sought_into_new s (with_ring special s number c) c (context_with special s c)
+    (special_name special).desc (before special c) (behind special s c) from name dest l.new.made l.new.fit.linked
+    l.new.fit.none l.new.named apart in
+    search_is_new special s client number head type_name desc dest c name from l
+    ∙ (ap (within_serials s) into
+    ∙ by_links special s client number c dest name from.0 (ring_links from.1.content) l.own l.new)
+
+-- a search that finds nothing
+pub search_new_refused :
+    (special : Special) (s : State) (client number : ℕ) (head : ℤ) (type_name desc : List ℕ) (dest : ℤ) (c : Context)
+    (name : Name) (from : ℕ × Key) (e : Fault) → SeeksNew special s client number head type_name desc dest c name from
+    → Fails e (found_below s c from name)
+    → Fails e (search_from s client number head type_name desc dest) × (s ≡ s)
+search_new_refused special s client number head type_name desc dest c name from e l h =
+    let fails = fails_first e (found_below s c from name) (λ k. found_made special s client number k) h in
+    (subst (Fails e) (sym (search_new special s client number head type_name desc dest c name from l)) fails, refl)
+
+-- a search that finds a key
+pub search_new_links :
+    (special : Special) (s : State) (client number : ℕ) (head : ℤ) (type_name desc : List ℕ) (dest : ℤ) (c : Context)
+    (name : Name) (from : ℕ × Key) (serial : ℕ)
+    → SeeksNew special s client number head type_name desc dest c name from
+    → found_below s c from name ≡ Ok serial
+    → search_from s client number head type_name desc dest ≡ found_made special s client number serial
+search_new_links special s client number head type_name desc dest c name from serial l found_it =
+    search_new special s client number head type_name desc dest c name from l ∙ rw found_it refl
+
+-- what REQUEST has looked up, with a destination that is made
+pub record RequestsNew (special : Special) (s : State) (client number : ℕ) (type_name desc : List ℕ) (dest : ℤ)
+    (c : Context) (name : Name) : Type 0 where
+  pub own : context_of s client number ≡ Ok c
+  pub named : sought_name type_name desc ≡ Ok name
+  pub wanted : has_destination dest ≡ true
+  pub new : IsNew special s number c dest
+
+pub requests_new :
+    (special : Special) (s : State) (client number : ℕ) (type_name desc : List ℕ) (dest : ℤ) (c : Context)
+    (name : Name) → IsSound s → FitsSigned w32 dest → context_of s client number ≡ Ok c
+    → sought_name type_name desc ≡ Ok name
+    → (of_z w32 dest ≡ 0 → ⊥) → Makes (Some special) s number c (to_z w32 (of_z w32 dest))
+    → RequestsNew special s client number type_name desc dest c name
+requests_new special s client number type_name desc dest c name sound dest_fits own named wanted makes =
+    let makes_it = subst (Makes (Some special) s number c) (to_z-of_z w32 dest dest_fits) makes in
+    record {
+      own = own;
+      named = named;
+      wanted = wanted_of dest wanted;
+      new = is_new special s client number c dest makes_it sound own;
+    }
+
+request_is_new :
+    (special : Special) (s : State) (client number : ℕ) (type_name desc : List ℕ) (dest : ℤ) (c : Context)
+    (name : Name) → RequestsNew special s client number type_name desc dest c name
+    → request s client number type_name desc dest
+    ≡ within_serials s (requested_into (with_ring special s number c) (context_with special s c) name dest)
+unfolding request
+request_is_new special s client number type_name desc dest c name l =
+    rw (l.own, l.named, l.wanted, l.new.is) refl
+
+-- a request whose destination is made comes to the link of what it finds beside it
+request_new :
+    (special : Special) (s : State) (client number : ℕ) (type_name desc : List ℕ) (dest : ℤ) (c : Context)
+    (name : Name) → RequestsNew special s client number type_name desc dest c name
+    → request s client number type_name desc dest
+    ≡ (beside special s c name >>= (λ k. found_made special s client number k))
+request_new special s client number type_name desc dest c name l =
+    let into = requested_into_new s (with_ring special s number c) c (context_with special s c)
+    (special_name special).desc (before special c) (behind special s c) name dest l.new.made l.new.named in
+    request_is_new special s client number type_name desc dest c name l
+    ∙ (ap (within_serials s) (into ∙ ap (into_new special s number c) (asked special s number c dest name l.new))
+    ∙ by_name special s client number c dest name (is_of_name special c name) l.own l.new)
+
+-- a request that finds nothing beside it
+pub request_new_refused :
+    (special : Special) (s : State) (client number : ℕ) (type_name desc : List ℕ) (dest : ℤ) (c : Context)
+    (name : Name) (e : Fault) → RequestsNew special s client number type_name desc dest c name
+    → Fails e (beside special s c name)
+    → Fails e (request s client number type_name desc dest) × (s ≡ s)
+request_new_refused special s client number type_name desc dest c name e l h =
+    let fails = fails_first e (beside special s c name) (λ k. found_made special s client number k) h in
+    (subst (Fails e) (sym (request_new special s client number type_name desc dest c name l)) fails, refl)
+
+-- a request that finds a key
+pub request_new_links :
+    (special : Special) (s : State) (client number : ℕ) (type_name desc : List ℕ) (dest : ℤ) (c : Context)
+    (name : Name) (serial : ℕ) → RequestsNew special s client number type_name desc dest c name
+    → beside special s c name ≡ Ok serial
+    → request s client number type_name desc dest ≡ found_made special s client number serial
+request_new_links special s client number type_name desc dest c name serial l found_it =
+    request_new special s client number type_name desc dest c name l ∙ rw found_it refl

@@ -1,0 +1,59 @@
+-- Between an ask and its sweep each watch is at a key that is there: an ask takes no key away.
+use Rattle.std.proofs.Common.{◌≡◌, ℕ, List, [], ◌∷◌}
+use Rattle.std.proofs.Common.{refl, ap, sym, subst}
+use Rattle.krs_types.specs.declared.ask.Answer.{Answer}
+use Rattle.krs_types.specs.declared.ask.Op.{Op}
+use Rattle.krs_model.specs.Table.{Table}
+use Rattle.krs_model.specs.State.{State, Key, raised}
+use Rattle.krs_model.specs.Queues.{Queues, Watch}
+use Rattle.krs_model.specs.Orderly.{Each}
+use Rattle.krs_model.specs.Sound.{IsSound}
+use Rattle.krs_model.specs.Sweep.{live_watches}
+use Rattle.krs_tables.specs.Serving.{Tells}
+use Rattle.krs_model.specs.Notes.Posting.{dropped_watches}
+use Rattle.krs_model.specs.Asks.Leaving.{left}
+use Rattle.krs_model.proofs.Notes.Fitting.{each_filter, each_on}
+use Rattle.krs_model.proofs.Sound.Watches.{each_with, each_without}
+use Rattle.krs_model.proofs.Asks.Effects.{Effect, OfKeys, Opens, Filters, Reads, Closes, Watches, Unwatches, Leaves}
+use Rattle.krs_model.proofs.Asks.Effects.{effect_of}
+use Rattle.krs_model.proofs.Sound.Steps.{raised_sound}
+use Rattle.krs_model.proofs.Sweep.QueueAsks.{IsLive, live_each, each_live}
+
+no_dead : (keys : Table Key) (ws : List Watch) → Each (IsLive keys) ws → dropped_watches keys ws ≡ []
+no_dead keys [] h = refl
+no_dead keys (w ∷ ws) h = rw h.0 (no_dead keys ws h.1)
+
+-- where each watch is at a key that is there, none is dropped
+pub none_dropped : (keys : Table Key) (ws : List Watch) → live_watches keys ws ≡ ws → dropped_watches keys ws ≡ []
+none_dropped keys ws h = no_dead keys ws (live_each keys ws h)
+
+-- what an accepted ask does leaves each watch at a key that is there
+effect_live :
+    (s : State) (client context : ℕ) (op : Op) (mid : State) (answer : Answer)
+    → Effect s client context op mid answer → Each (IsLive s.keys) s.watches → Each (IsLive mid.keys) mid.watches
+unfolding left
+effect_live s client context _ _ _ (OfKeys op new answer other comes none) live =
+    subst (Each (IsLive new.keys)) (sym (ap (λ (q : Queues). q.watches) comes.queues))
+    (each_on (IsLive s.keys) (IsLive new.keys) s.watches (λ w here. comes.there w.0.0 here) live)
+effect_live s client context _ _ _ (Opens capacity fits) live = live
+effect_live s client context _ _ _ (Filters number entries queue there) live = live
+effect_live s client context _ _ _ (Reads number room queue there) live = live
+effect_live s client context _ _ _ (Closes number queue there) live = each_filter (IsLive s.keys) _ s.watches live
+effect_live s client context _ _ _ (Watches id watch_id number key n queue here there asked small) live =
+    each_with (IsLive s.keys) s.watches key number n here (λ w is. is) live
+effect_live s client context _ _ _ (Unwatches id watch_id number key n queue here names there asked is) live =
+    each_without (IsLive s.keys) s.watches key number live
+effect_live s client context _ _ _ Leaves live = each_filter (IsLive s.keys) _ s.watches live
+
+-- for a store whose clock was raised first: an accepted ask that was told of leaves each watch at a key that is there
+pub told_live :
+    {old up told : State} {client context : ℕ} {op : Op} {answer : Answer} (moment : ℕ) → IsSound old
+    → up ≡ raised old moment → Tells up client context op answer told
+    → live_watches told.keys told.watches ≡ told.watches
+told_live {old} {up} {told} {client} {context} {op} {answer} moment sound raise tells =
+    let above : IsSound up = subst IsSound (sym raise) (raised_sound old moment sound) in
+    let mid = tells.mid in
+    let live = effect_live up client context op mid answer (effect_of up client context op mid answer tells.meant)
+    (live_each up.keys up.watches above.swept.watches) in
+    subst (λ (t : State). live_watches t.keys t.watches ≡ t.watches) (sym tells.posted)
+    (each_live mid.keys mid.watches live)

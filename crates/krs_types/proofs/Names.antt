@@ -1,0 +1,48 @@
+-- Names that are the same are equal.
+use Rattle.std.proofs.Common.{◌≡◌, ℕ, List, Bool, true, false, ◌&&◌, nat_eq, refl, sym, ap, ◌∙◌, arith, rules}
+use Rattle.std.specs.Cmp.{IsEquivalence}
+use Rattle.std.specs.Cmp.Lexicographic.{pointwise, same_text}
+use Rattle.std.specs.Cmp.Rules.{comparing}
+use Rattle.std.proofs.lemmas.Bool.{eqb-true}
+use Rattle.krs_types.specs.declared.kind.Kind.{Kind}
+use Rattle.krs_types.specs.declared.kind.Kind.TheVariants.{User, Logon, Keyring}
+use Rattle.krs_types.specs.declared.name.Name.{Name}
+use Rattle.krs_types.specs.Name.{same_name, kind_number}
+
+pub and_left : (a b : Bool) → (a && b) ≡ true → a ≡ true
+and_left true b h = refl
+and_left false b h = h
+
+pub and_right : (a b : Bool) → (a && b) ≡ true → b ≡ true
+and_right true b h = h
+and_right false b h = absurd cc
+
+kind_from_number : (a b : Kind) → kind_number a ≡ kind_number b → a ≡ b
+kind_from_number User User h = refl
+kind_from_number Logon Logon h = refl
+kind_from_number Keyring Keyring h = refl
+kind_from_number User Logon h = absurd (omega arith)
+kind_from_number User Keyring h = absurd (omega arith)
+kind_from_number Logon User h = absurd (omega arith)
+kind_from_number Logon Keyring h = absurd (omega arith)
+kind_from_number Keyring User h = absurd (omega arith)
+kind_from_number Keyring Logon h = absurd (omega arith)
+
+-- names that are the same are equal
+pub equal_names : (a b : Name) → same_name a b ≡ true → a ≡ b
+equal_names a b h =
+    let kinds : nat_eq (kind_number a.kind) (kind_number b.kind) ≡ true =
+    and_left _ (pointwise nat_eq a.desc b.desc) h in
+    let texts : pointwise nat_eq a.desc b.desc ≡ true = and_right (nat_eq (kind_number a.kind)
+    (kind_number b.kind)) _ h in
+    let kind : a.kind ≡ b.kind = kind_from_number a.kind b.kind (eqb-true _ _ kinds) in
+    let desc : a.desc ≡ b.desc = same_text a.desc b.desc (sym texts) in
+    let made : Kind → List ℕ → Name = λ k t. record { kind = k; desc = t } in
+    ap (λ (k : Kind). made k a.desc) kind ∙ ap (λ (t : List ℕ). made b.kind t) desc
+
+pub same_name_equiv : IsEquivalence same_name
+same_name_equiv = search (comparing, rules)
+
+-- a name is not that of another
+pub other_way : (a b : Name) → same_name a b ≡ false → same_name b a ≡ false
+other_way a b h = sym (same_name_equiv.symm a b) ∙ h
