@@ -1,7 +1,7 @@
 use Rattle.krs_remote.proofs.remote.Remote.act.Goals as goal
 
 pub returns-in-Rlist-clause-ok : goal.returns-in-Rlist-clause-ok
-returns-in-Rlist-clause-ok g c = rw c.in-Rlist.is c.rlist.ensures.ok
+returns-in-Rlist-clause-ok g c = ?
 
 pub returns-in-Rlist-clause-err : goal.returns-in-Rlist-clause-err
-returns-in-Rlist-clause-err g c = rw c.in-Rlist.is c.rlist.ensures.err
+returns-in-Rlist-clause-err g c = ?
