@@ -7,6 +7,6 @@ returns-clause-ok g c = record {
   exchanged = rw c.note.ensures.stays c.in_ok-reply.ensures.ok.exchanged;
   context =
       rw (c.note.ensures.context, c.is_hello-names_context.ensures, c.in_ok-reply.ensures.ok.context)
-      (noted_context-after _ _ _);
+      (noted_context-after c.args.self.now.context c.args.op c.in_ok-reply.reply);
   refused = rw (c.note.ensures.refused, c.in_ok-reply.ensures.ok.refused) refl;
 }

@@ -1,9 +1,12 @@
+use Rattle.std.proofs.Common.{ℤ, ◌≡◌, arith, to_z, of_z, w32}
+use Rattle.std.proofs.Math.Facts.{to_z-of_z}
 use Rattle.krs_remote.proofs.remote.Remote.list.Goals as goal
 
 pub returns-in_ok-described-in-Ok-Bytes-clause-ok : goal.returns-in_ok-described-in-Ok-Bytes-clause-ok
 returns-in_ok-described-in-Ok-Bytes-clause-ok g c =
+    let back : to_z w32 (of_z w32 c.args.id) ≡ c.args.id = to_z-of_z c.ranges.id in
     rw (c.in-Ok-Bytes.is, c.in-Ok-Bytes.field-0-is) (
       c.in_ok-described-in-Ok-Bytes.described,
-      c.in_ok-described-in-Ok-Bytes.ensures.ok,
-      grind (c.listing.ensures, c.in-Ok-Bytes.bytes-is),
+      rw back at c.in_ok-described-in-Ok-Bytes.ensures.ok,
+      grind (arith, c.listing.ensures, c.in-Ok-Bytes.bytes-is),
     )
