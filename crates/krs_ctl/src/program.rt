@@ -1,5 +1,7 @@
-ghost use Rattle.std.specs.Prelude.{IfErr};
+ghost use Rattle.std.specs.Prelude.{IfErr, codes};
 ghost use Rattle.std.specs.IoError.{error_kind};
+ghost use Rattle.krs_words.specs.Writing.{WritesFront};
+ghost use Rattle.krs_script.specs.Ending.{Says};
 ghost use Rattle.krs_ctl.specs.declared.choice.Choice.{Choice as ChoiceIs};
 ghost use Rattle.krs_ctl.specs.Choice.{IsUnread};
 ghost use Rattle.krs_ctl.specs.Program.{Answers};
@@ -60,15 +62,29 @@ fn answer<N: Net, R: Read + Drop, W: Write, E: Write>(
         }
         Choice::Remote(path) => script_at(net, alloc, path.as_str(), input, output, errors),
         Choice::Call(call) => call_at(net, alloc, call, output),
-        Choice::Usage => {
-            let _ = write_text(errors, HINT.as_bytes());
-            say(output, USAGE, 2)
-        }
-        Choice::Memory => say(output, OUT_OF_MEMORY, 1),
+        Choice::Usage => say_usage(output, errors),
+        Choice::Memory => say_out_of_memory(output),
         Choice::Shown(text) => say(output, text.as_str(), 0),
         Choice::Refused(text) => {
             let _ = write_text(errors, text.as_bytes());
             2
         }
     }
+}
+
+/// Says that the words are none, and tells where help is to be had.
+fn say_usage<W: Write, E: Write>(output: &mut W, errors: &mut E) -> u8
+    ensures said { Says (W.contents output.old) (W.contents output.new) (codes "usage\n") 2 result }
+    ensures told { WritesFront (E.contents errors.old) (E.contents errors.new)
+        (codes "keyretain: see keyretain --help\n") }
+{
+    let _ = write_text(errors, HINT.as_bytes());
+    say(output, USAGE, 2)
+}
+
+/// Says that memory was wanting for the words.
+fn say_out_of_memory<W: Write>(output: &mut W) -> u8
+    ensures { Says (W.contents output.old) (W.contents output.new) (codes "error 12 ENOMEM\n") 1 result }
+{
+    say(output, OUT_OF_MEMORY, 1)
 }
