@@ -1,0 +1,3 @@
+pub mod Clock
+pub mod Choice
+pub mod Daemon
