@@ -10,6 +10,7 @@ mod gate;
 mod listening;
 mod options;
 mod saying;
+mod sessions;
 mod sitting;
 
 pub use clock::SystemClock;
@@ -18,4 +19,5 @@ pub use daemon::{listen, run_daemon};
 pub use free::FreeSeats;
 pub use gate::OpenGate;
 pub use options::Options;
+pub use sessions::{Entry, run_sessions};
 pub use sitting::{Sitting, seated};
