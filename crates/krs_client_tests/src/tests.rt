@@ -1,5 +1,6 @@
 mod desk;
 mod script;
 mod seats;
+mod serve;
 mod session;
 mod wire;
