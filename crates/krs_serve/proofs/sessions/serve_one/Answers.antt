@@ -1,0 +1,10 @@
+use Rattle.krs_serve.proofs.sessions.serve_one.Goals as goal
+
+pub returns : goal.returns
+returns g c = record {
+  last_reader = c.run.new.reader;
+  last_seat = c.run.new.seat;
+  last_clock = c.run.new.clock;
+  last_writer = c.run.new.writer;
+  session = c.run.ensures.session;
+}

@@ -1,0 +1,22 @@
+-- What the daemon does, by its words: docs/FORMAT.md, "The daemon, keyretaind".
+use Rattle.std.specs.Prelude.{◌≡◌, ◌≢◌, ◌⊎◌, ⊤}
+use Rattle.std.specs.declared.io.ErrorKind as io
+use Rattle.std.specs.declared.io.ErrorKind.TheVariants as io_kind
+use Rattle.clap.specs.declared.error.kind.ErrorKind.{ErrorKind}
+use Rattle.clap.specs.declared.error.kind.ErrorKind.TheVariants.{DisplayHelp, DisplayVersion, OutOfMemory}
+use Rattle.krs_serve.specs.declared.choice.Choice.{Choice}
+use Rattle.krs_serve.specs.declared.choice.Choice.TheVariants.{Serve, Usage, Memory, Shown, Refused}
+
+-- what is told for a kind of error of the reader of options: help and version are shown, all others refused; memory may
+-- be wanting for any
+abbrev pub Tells : ErrorKind → Choice → Type 0
+Tells kind (Serve options) = ⊥
+Tells kind Usage = ⊥
+Tells kind Memory = ⊤
+Tells kind (Shown text) = (kind ≡ DisplayHelp) ⊎ (kind ≡ DisplayVersion)
+Tells kind (Refused text) = (kind ≢ DisplayHelp) × (kind ≢ DisplayVersion) × (kind ≢ OutOfMemory)
+
+-- words that cannot be had: memory was wanting for them, or they are no text, which is usage
+abbrev pub IsUnread : io.ErrorKind → Choice → Type 0
+IsUnread kind choice =
+    (kind ≡ io_kind.OutOfMemory → choice ≡ Memory) × (kind ≢ io_kind.OutOfMemory → choice ≡ Usage)

@@ -1,0 +1,4 @@
+pub mod Clock
+pub mod Choice
+pub mod Daemon
+pub mod Sessions

@@ -1,0 +1,18 @@
+-- What many sessions at once did, each on a seat of its own.
+use Rattle.std.specs.Prelude.{ℕ, List, ◌-◌}
+use Rattle.krs_types.specs.declared.event.Event.{Event}
+use Rattle.krs_session.specs.declared.ended.Ended.{Ended}
+use Rattle.krs_session.specs.Session.{Session}
+
+-- From this reader, seat, clock and writer a session ended so, whatever it left of them. Its events are what its frames
+-- ask, in order, and then LEAVE.
+pub record EndsSession {R S C W : Type 0} (gave : R → List ℕ → R → Type 0) (leads : S → List Event → S → Type 0)
+    (ticked : C → List ℕ → C → Type 0) (took : W → List ℕ → W → Type 0) (lane_of : S → ℕ) (reads : R → ℕ)
+    (reader : R) (seat : S) (clock : C) (writer : W) (ended : Ended) : Type 0 where
+  pub last_reader : R
+  pub last_seat : S
+  pub last_clock : C
+  pub last_writer : W
+  pub session : Session (λ bytes. gave reader bytes last_reader) (λ events. leads seat events last_seat)
+      (λ moments. ticked clock moments last_clock) (λ text. took writer text last_writer)
+      (lane_of seat) (reads last_reader - reads reader) ended

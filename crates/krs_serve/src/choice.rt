@@ -1,0 +1,129 @@
+ghost use Rattle.std.specs.Prelude.{IfErr};
+ghost use Rattle.std.specs.IoError.{error_kind};
+ghost use Rattle.clap.specs.Words.{kind_of};
+ghost use Rattle.krs_serve.specs.Choice.{IsUnread, Tells};
+
+use crate::options::Options;
+use clap::error::ErrorKind;
+use clap::{Arg, Command, Error, value_parser};
+use std::alloc::{AllocError, Global};
+use std::env::Args;
+use std::io;
+
+const SOCKET: &str = "socket";
+
+const LANES: &str = "lanes";
+
+const ACCEPT: &str = "accept";
+
+const ABOUT: &str =
+    "A key store on a Unix socket that works as Linux's key retention service does: keyrings(7), keyctl(2).";
+
+const SOCKET_HELP: &str = "where clients connect: a path at which nothing stands yet";
+
+const LANES_HELP: &str = "how many connections are served at the same time, 1 to 256";
+
+const ACCEPT_HELP: &str = "how many connections are served before it ends; without it, it goes on";
+
+const STATUSES: &str = "\
+Prints `listening PATH` once clients can connect, and `served N` after its last connection. The uid, gid and groups
+that a client names are believed: whoever may open the path may use every key.
+
+Exit status: 0; 1 if memory was wanting before it listened; 2 for usage; 3 if the path could not be bound, which is
+`error: socket`, or a connection not be accepted, which is `error: accept`.";
+
+/// What the program does, by its words.
+#[derive(Drop)]
+pub enum Choice {
+    /// It serves connections.
+    Serve(Options),
+    /// The words are none that the program takes.
+    Usage,
+    /// Memory was wanting for the words.
+    Memory,
+    /// The text of `--help` or `--version`.
+    Shown(String),
+    /// What is refused of the words, as the reader of options tells it.
+    Refused(String),
+}
+
+/// What the words lead to, the first of which is the program's name. Words that are no text are usage.
+pub fn choose(alloc: Global, words: io::Result<Args>) -> Choice
+    ensures { IfErr words (λ error. IsUnread (error_kind error) result) }
+{
+    match words {
+        Ok(words) => choice_of_all(alloc, words),
+        Err(error) if error.kind() == io::ErrorKind::OutOfMemory => Choice::Memory,
+        Err(_) => Choice::Usage,
+    }
+}
+
+fn choice_of_all(alloc: Global, words: Args) -> Choice {
+    let words: Result<Vec<String>, AllocError> = words.collect(alloc);
+    match words {
+        Ok(words) => choice_of(alloc, words.as_slice()),
+        Err(_) => Choice::Memory,
+    }
+}
+
+fn choice_of(alloc: Global, words: &[String]) -> Choice {
+    match options_in(alloc, words) {
+        Ok(Some(options)) => Choice::Serve(options),
+        Ok(None) => Choice::Usage,
+        Err(error) => told(alloc, &error),
+    }
+}
+
+/// What the reader of options tells in place of reading the words.
+fn told(alloc: Global, error: &Error) -> Choice
+    ensures { Tells (kind_of error.now) result }
+{
+    if error.kind() == ErrorKind::OutOfMemory {
+        return Choice::Memory;
+    }
+    match format!(in alloc; "{error}") {
+        Ok(text) if error.use_stderr() => Choice::Refused(text),
+        Ok(text) => Choice::Shown(text),
+        Err(_) => Choice::Memory,
+    }
+}
+
+/// The options that the words, behind the program's name, spell. An error is `clap`'s refusal of them, or the text of
+/// `--help` or `--version`.
+fn options_in(alloc: Global, words: &[String]) -> Result<Option<Options>, Error> {
+    let matches = command_line(alloc)?.try_get_matches_from(words)?;
+    let Some(path) = matches.get_str(SOCKET) else {
+        return Ok(None);
+    };
+    let Some(lanes) = matches.get_one::<u32>(LANES) else {
+        return Ok(None);
+    };
+    let accept = matches.get_one::<u32>(ACCEPT);
+    Ok(Options::new(path.to_string(alloc)?, lanes, accept))
+}
+
+fn command_line<'a>(alloc: Global) -> Result<Command<'a>, AllocError> {
+    let socket = Arg::new(alloc, SOCKET)
+        .long(SOCKET)
+        .value_name("PATH")
+        .required(true)
+        .help(SOCKET_HELP);
+    let lanes = Arg::new(alloc, LANES)
+        .long(LANES)
+        .value_name("L")
+        .value_parser(value_parser!(u32).range(1..=256))
+        .default_value("16")
+        .help(LANES_HELP);
+    let accept = Arg::new(alloc, ACCEPT)
+        .long(ACCEPT)
+        .value_name("N")
+        .value_parser(value_parser!(u32))
+        .help(ACCEPT_HELP);
+    Command::new(alloc, "keyretaind")
+        .version("0.1.0")
+        .about(ABOUT)
+        .after_help(STATUSES)
+        .arg(socket)?
+        .arg(lanes)?
+        .arg(accept)
+}

@@ -1,0 +1,109 @@
+ghost use Rattle.std.specs.Prelude.{IfErr};
+ghost use Rattle.std.specs.IoError.{error_kind};
+ghost use Rattle.krs_serve.specs.declared.choice.Choice.{Choice as ChoiceIs};
+ghost use Rattle.krs_serve.specs.Choice.{IsUnread};
+ghost use Rattle.krs_serve.specs.Daemon.{Answers, Serves};
+
+use crate::choice::{Choice, choose};
+use crate::listening::{Accepted, accept_all};
+use crate::saying::{Lines, NOT_BOUND, OUT_OF_MEMORY, USAGE, say};
+use crate::{FreeSeats, Options, seated};
+use krs_desk::Desk;
+use krs_store::Store;
+use std::alloc::Global;
+use std::env::Args;
+use std::fs::Files;
+use std::io::Write;
+use std::net::Net;
+use std::os::unix::net::UnixListener;
+use std::sync::Wait;
+use std::thread::Threads;
+use std::time::Clock;
+use std::{fs, io};
+
+/// The daemon: from its words, the first of which is its name, and its two ends to its exit status.
+pub fn run_daemon<R: Clock + Files + Net + Threads + Wait + Sync, W: Write, E: Write>(
+    rt: &R,
+    alloc: Global,
+    words: io::Result<Args>,
+    output: &mut W,
+    errors: &mut E,
+) -> u8
+    ensures { (choice : ChoiceIs)
+        × IfErr words (λ error. IsUnread (error_kind error) choice)
+        × Answers choice (W.contents output.old) (W.contents output.new)
+        (E.contents errors.old) (E.contents errors.new) result }
+{
+    let choice = choose(alloc, words);
+    answer(rt, alloc, choice, output, errors)
+}
+
+/// What each choice prints, and the status.
+fn answer<R: Clock + Files + Net + Threads + Wait + Sync, W: Write, E: Write>(
+    rt: &R,
+    alloc: Global,
+    choice: Choice,
+    output: &mut W,
+    errors: &mut E,
+) -> u8
+    ensures { Answers choice (W.contents output.old) (W.contents output.new)
+        (E.contents errors.old) (E.contents errors.new) result }
+{
+    match choice {
+        Choice::Serve(options) => listen(rt, alloc, &options, output),
+        Choice::Usage => {
+            say(output, USAGE);
+            2
+        }
+        Choice::Memory => {
+            say(output, OUT_OF_MEMORY);
+            1
+        }
+        Choice::Shown(text) => {
+            say(output, text.as_str());
+            0
+        }
+        Choice::Refused(text) => {
+            say(errors, text.as_str());
+            2
+        }
+    }
+}
+
+/// Serves connections on a new store as the options say, and answers the status: docs/FORMAT.md, "The daemon,
+/// keyretaind". The memory for its seats and its lines is had before the path is bound.
+pub fn listen<R: Clock + Files + Net + Threads + Wait + Sync, W: Write>(
+    rt: &R,
+    alloc: Global,
+    options: &Options,
+    output: &mut W,
+) -> u8
+    ensures { Serves options.now (W.contents output.old) (W.contents output.new) result }
+{
+    let Ok((desk, seats)) = Desk::open(alloc, options.lanes, Store::new(alloc)) else {
+        say(output, OUT_OF_MEMORY);
+        return 1;
+    };
+    let path = options.path.as_str();
+    let connections = options.accept.map_or(u64::MAX, u64::from);
+    let made = seated(alloc, &desk, seats);
+    let (Ok(sittings), Ok(lines)) = (made, Lines::new(alloc, path, connections)) else {
+        say(output, OUT_OF_MEMORY);
+        return 1;
+    };
+    let Ok(listener) = UnixListener::bind(rt, path) else {
+        say(output, NOT_BOUND);
+        return 3;
+    };
+    let free = FreeSeats::new(sittings);
+    say(output, lines.listening.as_str());
+    let accepted = accept_all(rt, alloc, &listener, &free, connections, output);
+    let _ = fs::remove_file(rt, path);
+    match accepted {
+        Accepted::All => {
+            say(output, lines.served.as_str());
+            0
+        }
+        Accepted::Failed => 3,
+    }
+}

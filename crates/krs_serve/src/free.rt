@@ -1,0 +1,54 @@
+ghost use Rattle.std.specs.Prelude.{◌≡◌, ◌<◌, ◌++◌, ◌∷◌, [], ◌↔◌, IfErr, OnOk, OnErr, IsErr, vec_len, vec_capacity};
+
+use crate::Sitting;
+use std::sync::{Condvar, Mutex, Wait};
+
+/// The seats on which no worker sits.
+#[derive(Drop)]
+pub struct FreeSeats<'d> {
+    seats: Mutex<Vec<Sitting<'d>>>,
+    returned: Condvar,
+}
+
+impl<'d> FreeSeats<'d> {
+    /// All of these are free. The list keeps room for each of them.
+    pub fn new(seats: Vec<Sitting<'d>>) -> FreeSeats<'d> {
+        FreeSeats {
+            seats: Mutex::new(seats),
+            returned: Condvar::new(),
+        }
+    }
+
+    /// A free seat, waited for where there is none.
+    pub fn take<R: Wait>(&self, rt: &R) -> Sitting<'d> {
+        for _ in rt.forever() {
+            let seats = self.seats.lock(rt);
+            let mut free = self.returned.wait_while(rt, seats, |free| free.is_empty());
+            if let Some(sitting) = free.pop() {
+                return sitting;
+            }
+        }
+        unreachable!()
+    }
+
+    /// Gives a seat back that was taken, and wakes a thread that waits for one.
+    pub fn give<R: Wait>(&self, rt: &R, sitting: Sitting<'d>) {
+        let _ = put_back(&mut self.seats.lock(rt), sitting);
+        self.returned.notify_one();
+    }
+}
+
+/// Puts a seat into a list that keeps its room, which needs no memory. It comes back where there is no room.
+fn put_back<'d>(free: &mut Vec<Sitting<'d>>, sitting: Sitting<'d>) -> Result<(), Sitting<'d>>
+    ensures ok { OnOk result (free.new.items ≡ free.old.items ++ sitting.entry ∷ []) }
+    ensures back { IfErr result (λ back. back ≡ sitting.entry) }
+    ensures kept { OnErr result (free.new ≡ free.old) }
+    ensures full { IsErr result ↔ (¬ (vec_len free.old < vec_capacity free.old)) }
+    ensures room { vec_capacity free.new ≡ vec_capacity free.old }
+{
+    if free.len() < free.capacity() {
+        free.push_reserved(sitting);
+        return Ok(());
+    }
+    Err(sitting)
+}

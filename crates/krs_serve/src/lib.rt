@@ -1,0 +1,23 @@
+//! The daemon: connections of a socket, each in a worker of its own, on the seats of one desk.
+#![tactic(auto)]
+
+mod choice;
+mod clock;
+mod connection;
+mod daemon;
+mod free;
+mod gate;
+mod listening;
+mod options;
+mod saying;
+mod sessions;
+mod sitting;
+
+pub use clock::SystemClock;
+pub use connection::serve_connection;
+pub use daemon::{listen, run_daemon};
+pub use free::FreeSeats;
+pub use gate::OpenGate;
+pub use options::Options;
+pub use sessions::{Entry, run_sessions};
+pub use sitting::{Sitting, seated};

@@ -1,0 +1,150 @@
+ghost use Rattle.std.specs.Prelude.{◌≡◌, ◌<◌, ◌+◌, ◌^◌, ℕ, All, IfOk, IfErr, vec_len, slice_index_or};
+ghost use Rattle.std.specs.List.{AllZip, zip};
+ghost use Rattle.krs_types.specs.declared.errno.Errno.TheVariants.{ENOMEM};
+ghost use Rattle.krs_serve.specs.Sessions.{EndsSession};
+
+use krs_session::{Clock, Ended, Gate, Keeper, Sink, Source, run};
+use krs_types::Errno;
+use std::alloc::{AllocError, Global};
+use std::thread;
+use std::thread::Threads;
+
+/// One connection: its two ends, and the clock of its asks.
+#[derive(Drop)]
+pub struct Entry<R: Drop, W: Drop, C: Drop> {
+    pub reader: R,
+    pub writer: W,
+    pub clock: C,
+}
+
+/// Serves many connections at once, each in a worker of its own and on the seat of its place, and answers how they
+/// ended, in the order of the list. Where no thread can be made for a connection it is served after another one. Where
+/// memory is refused, every session that began has ended, with its LEAVE asked.
+pub fn run_sessions<
+    H: Threads + Sync,
+    R: Source + Send + Drop,
+    W: Sink + Send + Drop,
+    C: Clock + Send + Drop,
+    S: Send + Drop,
+    D: Keeper<S, H> + Sync,
+    G: Gate + Sync,
+>(
+    rt: &H,
+    alloc: Global,
+    list: Vec<Entry<R, W, C>>,
+    desk: &D,
+    seats: Vec<S>,
+    gate: &G,
+    turns: u64,
+) -> Result<Vec<Ended>, Errno>
+    requires places { vec_len seats ≡ vec_len list }
+    requires ready { All (λ seat. D.ready desk.now seat) seats.items }
+    requires reads { All (λ entry. R.reads entry.reader + turns < 2 ^ 64) list.items }
+    requires empties { All (λ entry. R.empties entry.reader < u64.MAX) list.items }
+    requires read_failures { All (λ entry. R.failures entry.reader < u64.MAX) list.items }
+    requires failures { All (λ entry. W.failures entry.writer < u64.MAX) list.items }
+    ensures one_each { IfOk result (λ ends. vec_len ends ≡ vec_len list) }
+    ensures in_order { IfOk result (λ ends. AllZip
+        (λ job ended. EndsSession R.gave D.leads C.ticked W.took D.lane_of R.reads
+        job.0.reader job.1 job.0.clock job.0.writer ended)
+        (zip list.items seats.items) ends.items) }
+    ensures memory { IfErr result (λ error. error ≡ ENOMEM) }
+{
+    let Ok(jobs) = jobs_of(alloc, list, seats) else {
+        return Err(Errno::ENOMEM);
+    };
+    match serve_jobs(rt, alloc, jobs, desk, gate, turns) {
+        Ok(ends) => Ok(ends),
+        Err(_) => Err(Errno::ENOMEM),
+    }
+}
+
+/// Each entry beside the seat of its place. They are taken from the back, as that moves no other.
+fn jobs_of<E: Drop, S: Drop>(
+    alloc: Global,
+    list: Vec<E>,
+    seats: Vec<S>,
+) -> Result<Vec<(E, S)>, AllocError>
+    requires { vec_len seats ≡ vec_len list }
+    ensures { IfOk result (λ jobs. jobs.items ≡ zip list.items seats.items) }
+{
+    let count = list.len();
+    let (mut entries, mut free) = (list, seats);
+    let mut jobs = Vec::with_capacity(alloc, count)?;
+    'places: for _place in 0..count {
+        let (Some(entry), Some(seat)) = (entries.pop(), free.pop()) else {
+            unreachable!()
+        };
+        jobs.push_reserved((entry, seat));
+    }
+    jobs.reverse();
+    Ok(jobs)
+}
+
+/// Serves each of these in a worker of its own.
+fn serve_jobs<
+    H: Threads + Sync,
+    R: Source + Send + Drop,
+    W: Sink + Send + Drop,
+    C: Clock + Send + Drop,
+    S: Send + Drop,
+    D: Keeper<S, H> + Sync,
+    G: Gate + Sync,
+>(
+    rt: &H,
+    alloc: Global,
+    jobs: Vec<(Entry<R, W, C>, S)>,
+    desk: &D,
+    gate: &G,
+    turns: u64,
+) -> Result<Vec<Ended>, AllocError>
+    requires { All (λ job. D.ready desk.now job.1 × (R.reads job.0.reader + turns < 2 ^ 64)
+        × (R.empties job.0.reader < u64.MAX) × (R.failures job.0.reader < u64.MAX)
+        × (W.failures job.0.writer < u64.MAX)) jobs.items }
+    ensures len { IfOk result (λ ends. vec_len ends ≡ vec_len jobs) }
+    ensures each { IfOk result (λ ends. (i : ℕ) (d : _) (e : _) → i < vec_len jobs
+        → EndsSession R.gave D.leads C.ticked W.took D.lane_of R.reads
+        (slice_index_or jobs.items i d).0.reader (slice_index_or jobs.items i d).1
+        (slice_index_or jobs.items i d).0.clock (slice_index_or jobs.items i d).0.writer
+        (slice_index_or ends.items i e)) }
+{
+    let work = |job: (Entry<R, W, C>, S)| serve_one(rt, alloc, job, desk, gate, turns);
+    thread::map_vec(rt, jobs, &work)
+}
+
+/// Serves one connection on its seat.
+fn serve_one<
+    H,
+    R: Source + Drop,
+    W: Sink + Drop,
+    C: Clock + Drop,
+    S: Drop,
+    D: Keeper<S, H>,
+    G: Gate,
+>(rt: &H, alloc: Global, job: (Entry<R, W, C>, S), desk: &D, gate: &G, turns: u64) -> Ended
+    requires ready { D.ready desk.now job.1 }
+    requires reads { R.reads job.0.reader + turns < 2 ^ 64 }
+    requires empties { R.empties job.0.reader < u64.MAX }
+    requires read_failures { R.failures job.0.reader < u64.MAX }
+    requires failures { W.failures job.0.writer < u64.MAX }
+    ensures { EndsSession R.gave D.leads C.ticked W.took D.lane_of R.reads
+        job.0.reader job.1 job.0.clock job.0.writer result }
+{
+    let (entry, mut seat) = job;
+    let Entry {
+        mut reader,
+        mut writer,
+        mut clock,
+    } = entry;
+    run(
+        rt,
+        alloc,
+        &mut reader,
+        &mut writer,
+        desk,
+        &mut seat,
+        &mut clock,
+        gate,
+        turns,
+    )
+}
