@@ -52,11 +52,14 @@ class Ask:
         return values if at == len(body) else None
 
     def of_length(self, length):
-        """A body of this length: its first run takes what is left, and all else is zeros. None where none can be."""
+        """A body of this length: ids are -4, the first run takes what is left, and all else is zeros. None where none
+        can be."""
         left = length - sum(WIDTHS[field] if field in WIDTHS else RUNS[field][0] for field in self.fields)
         body = b""
         for field in self.fields:
-            if field in WIDTHS:
+            if field == "id":
+                body += struct.pack("<i", -4)
+            elif field in WIDTHS:
                 body += bytes(WIDTHS[field])
             else:
                 width, each = RUNS[field]

@@ -83,8 +83,8 @@ def first_context():
 
 
 def cut_short():
-    """One after the other: HELLO and a beginning of ADD, then the end. Every second one ends its side alone, and reads
-    to the end; the others are gone once they have their reply."""
+    """One after the other: HELLO and a beginning of ADD, then the end. Every second one ends its side alone, and
+    reads to the end; the others are gone once they have their reply."""
     context = first_context()
     add = frame(262, 1, text(b"user") + text(b"alpha") + struct.pack("<I2si", 2, b"s3", -4))
     for i in range(number):
@@ -227,8 +227,8 @@ def queue_up():
 
 
 def lanes():
-    """As many connections as there are lanes, each of which has its reply while all stay, and one more, which has none
-    until another one ends."""
+    """As many connections as there are lanes, each of which has its reply while all stay, and one more, which has
+    none until another one ends."""
     ends = [connect() for _ in range(number)]
     for end in ends:
         answers.see(refused(3), ask(end, frame(257, 0), 8), "a lane")
