@@ -44,21 +44,34 @@ is_left() {
   [[ $(timeout "$patience" "$keyretain" --socket "$path" --uid 1000 print 8 2>/dev/null </dev/null) == *ENOKEY ]]
 }
 
-# One lane: a second client waits until the first has ended.
-try_one_lane() {
+# one_by_one NAME: a second client waits until the first has ended
+one_by_one() {
   local waiting
-  start --lanes 1 --accept 2
   open_client first
   answers first 'hello 1000 1000' 1
   apart "$keyretain" --socket "$path" --uid 1000 --gid 1000 rdescribe @u >"$dir/waits" 2>/dev/null </dev/null &
   waiting=$!
   sleep 0.5
-  is 'one lane: the second client waits' '' "$(<"$dir/waits")"
+  is "$1: the second client waits" '' "$(<"$dir/waits")"
   answers first 'id @u' 3
   close_client first 0
   finish "$waiting"
-  is 'one lane: the second client is served' $'0 keyring;1000;1000;1f3f0000;_uid.1000' "$status $(<"$dir/waits")"
-  is_served 'one lane' 2
+  is "$1: the second client is served" $'0 keyring;1000;1000;1f3f0000;_uid.1000' "$status $(<"$dir/waits")"
+  is_served "$1" 2
+}
+
+try_one_lane() {
+  start --lanes 1 --accept 2
+  one_by_one 'one lane'
+}
+
+# A daemon with room for no thread's stack serves a connection itself, before it accepts the next.
+try_no_threads() {
+  local program=$keyretaind keyretaind=$dir/without-threads
+  printf '#!%s\nulimit -Ss 8192 && ulimit -Sv 10000 && exec %q "$@"\n' "$BASH" "$program" >"$keyretaind"
+  chmod +x "$keyretaind"
+  start --lanes 4 --accept 2
+  one_by_one 'no threads'
 }
 
 # A client that is killed: what it had ends, and its lane serves the next.
