@@ -7,6 +7,7 @@ use crate::ops::{
 use crate::round::Round;
 use krs_types::{Ask, Op, UNCHANGED};
 use std::alloc::{AllocError, Global};
+
 /// What is timed: rounds of one ask, or of two that belong together.
 #[derive(Clone, Copy)]
 pub enum Operation {
@@ -123,6 +124,11 @@ impl Operation {
             Operation::Describe => Ok(Op::Describe { id }),
             Operation::GetId => Ok(Op::GetId { id, create: false }),
             Operation::Update => update(alloc, id),
+            Operation::Chown => Ok(Op::Chown {
+                id,
+                uid: UNCHANGED,
+                gid: UNCHANGED,
+            }),
             Operation::SetPerm => Ok(Op::SetPerm { id, mask: MASK }),
             Operation::SetTimeout => Ok(Op::SetTimeout { id, seconds: 1 }),
             Operation::Match => add(alloc, round.place(), USER),
@@ -145,11 +151,6 @@ impl Operation {
             Operation::Clear | Operation::Revoke | Operation::Invalidate => {
                 add(alloc, links, small(links))
             }
-            Operation::Chown => Ok(Op::Chown {
-                id: spare(links),
-                uid: UNCHANGED,
-                gid: UNCHANGED,
-            }),
             Operation::Watch => Ok(watch(links, 1)),
             Operation::Watched => update(alloc, watched(links)),
             Operation::SetFilter => filter(alloc, 2),
