@@ -11,7 +11,7 @@ COMPLETIONDIR = $(PREFIX)/share/bash-completion/completions
 
 PROGRAMS = keyretain keyretaind
 
-.PHONY: build run test check-man install uninstall bench measure
+.PHONY: build run test check-man install uninstall bench bench-instructions measure
 
 # Proves and builds the programs.
 build:
@@ -63,6 +63,12 @@ bench:
 	cd crates/krs_bench && rt run >/dev/null
 	cd crates/krs_bench && $$(command -v taskset >/dev/null && echo taskset -c 0) out/krs_bench all
 	cd crates/krs_bench && out/krs_bench desk
+
+# Instructions of each ask, with 10 and with 1,000 links. Wants valgrind.
+bench-instructions:
+	@command -v valgrind >/dev/null || { echo 'make bench-instructions wants valgrind, which is not there' >&2; exit 1; }
+	cd crates/krs_bench && rt run >/dev/null
+	bench/instructions
 
 # Asks a second of the daemon over its socket, beside an echo server and a plain server in C. Wants a C compiler.
 measure:

@@ -3,60 +3,96 @@
 #![tactic(auto)]
 
 mod desk;
+mod growth;
 mod operation;
 mod ops;
+mod round;
 mod session;
 mod stock;
 mod timing;
 
 use anyhow::Result;
 use desk::print_desk;
+use growth::{count_rounds, print_fill, print_growth};
 use operation::{OPERATIONS, Operation};
 use std::env;
 use std::io::Print;
 use std::rt::Clock;
 use std::sync::Wait;
-use timing::{Way, nanoseconds};
+use stock::Scene;
+use timing::{Plan, in_session, in_store, stock};
 
 /// How many keys are linked in the keyring.
 const COUNTS: [u32; 3] = [10, 1_000, 10_000];
 
+/// How many rounds a run has.
+const ROUNDS: u32 = 1_000;
+
 const USAGE: &str = "\
-usage: krs_bench OPERATION [COUNT]
-OPERATION is all, or one of these:
-  desk      READ at a desk: one thread by try_call, and 1, 2, 4, 8 and 16 threads that call for a second
-  read      READ of a key
-  update    UPDATE of a key
-  match     ADD of a key that is there
-  add       ADD of a new key, and UNLINK of it
-  search    SEARCH of a key in the user keyring
-  describe  DESCRIBE of a key
-  link      LINK and UNLINK of one key
-  watched   UPDATE of a watched key, and READ_QUEUE of its record
-  apart     LINK and UNLINK of one key in a small keyring, where another uid has the links
+usage: krs_bench all | OPERATION [COUNT] | fill [COUNT] | growth [COUNT] | desk | count OPERATION COUNT
+OPERATION is one of these:
+  read, describe, id, update, chown, setperm, timeout        READ, .. of a key
+  list                   READ of the user keyring
+  match                  ADD of a key that is there
+  add                    ADD of a new key, and UNLINK of it
+  search, request        SEARCH of a key in the user keyring; REQUEST of it
+  link                   LINK and UNLINK of one key
+  apart                  LINK and UNLINK of one key in a small keyring, where another uid has the links
+  clear, revoke, invalidate      ADD of a new key in a small keyring, and CLEAR of that, or REVOKE or INVALIDATE of it
+  watch                  WATCH of a key, and the end of that
+  watched                UPDATE of a watched key, and READ_QUEUE of its record
+  filter, queue          SET_FILTER; OPEN_QUEUE and CLOSE_QUEUE
+  hello, thread, fork    HELLO of a new uid, .. and EXIT of the context
+  exec                   THREAD, and EXEC, which ends the context
+  join, session          JOIN of a keyring by its name; JOIN without a name
+  leave                  HELLO of another client, and its LEAVE
 COUNT is how many keys the user keyring links: 10, 1000 and 10000 in turn if it is left out. Prints the nanoseconds
 of an ask, or of two, in the store, and through a session over memory: the median of ten runs. Payloads have 32 bytes.
+  fill      ADD of keys one after the other, and LEAVE with all of them
+  growth    a table of all operations in stores with little and with much; or where the keyring has COUNT links
+  desk      READ at a desk: one thread by try_call, and 1, 2, 4, 8 and 16 threads that call for a second
+  count     makes an operation a hundred times, for bench/instructions
 ";
 
 fn main(rt: HostRuntime) -> Result<()> {
     let words: Vec<String> = env::args(&rt)?.collect(rt.alloc())?;
     let name = words.get(1).map_or("", |word| word.as_str());
-    let count = words.get(2).map_or("", |word| word.as_str());
-    let mut is_usage = true;
-    if name == "desk" || name == "all" {
+    let second = words.get(2).map_or("", |word| word.as_str());
+    let third = words.get(3).map_or("", |word| word.as_str());
+    if name == "count" {
+        return count_rounds(&rt, second, third.parse().unwrap_or(10));
+    }
+    let is_all = name == "all";
+    let is_operation = print_operations(&rt, name, second.parse().ok())?;
+    if name == "fill" || is_all {
+        print_fills(&rt, second.parse().ok())?;
+    }
+    if name == "growth" || is_all {
+        print_growth(&rt, second.parse().ok())?;
+    }
+    if name == "desk" || is_all {
         print_desk(&rt)?;
-        is_usage = false;
     }
-    for (word, operation) in OPERATIONS {
-        if name == word || name == "all" {
-            print_rows(&rt, word, operation, count)?;
-            is_usage = false;
-        }
-    }
-    if is_usage {
+    if !is_operation && name != "fill" && name != "growth" && name != "desk" {
         rt.print(USAGE)?;
     }
     Ok(())
+}
+
+/// The rows of the operation of that word, or of all. Whether there is one.
+fn print_operations<R: AllocGlobal + Clock + Print + Wait>(
+    rt: &R,
+    name: &str,
+    links: Option<u32>,
+) -> Result<bool> {
+    let mut is_there = false;
+    for (word, operation) in OPERATIONS {
+        if name == word || name == "all" {
+            print_rows(rt, word, operation, links)?;
+            is_there = true;
+        }
+    }
+    Ok(is_there)
 }
 
 /// The row of a count, or those of all.
@@ -64,13 +100,13 @@ fn print_rows<R: AllocGlobal + Clock + Print + Wait>(
     rt: &R,
     name: &str,
     operation: Operation,
-    count: &str,
+    links: Option<u32>,
 ) -> Result<()> {
-    if let Ok(count) = count.parse() {
-        return print_row(rt, name, operation, count);
+    if let Some(links) = links {
+        return print_row(rt, name, operation, links);
     }
-    for count in COUNTS {
-        print_row(rt, name, operation, count)?;
+    for links in COUNTS {
+        print_row(rt, name, operation, links)?;
     }
     Ok(())
 }
@@ -79,10 +115,31 @@ fn print_row<R: AllocGlobal + Clock + Print + Wait>(
     rt: &R,
     name: &str,
     operation: Operation,
-    count: u32,
+    links: u32,
 ) -> Result<()> {
-    let in_store = nanoseconds(rt, operation, count, Way::Store)?;
-    let in_session = nanoseconds(rt, operation, count, Way::Session)?;
-    println!(rt; "{name} with {count} links: {in_store} ns, through a session {in_session} ns")?;
+    let plan = Plan {
+        operation,
+        links,
+        rounds: ROUNDS,
+    };
+    let mut store = stock(rt, Scene::linking(links))?;
+    let took = in_store(rt, &mut store, plan)?;
+    print!(rt; "{name} with {links} links: {took} ns")?;
+    // A session is one client's.
+    if operation.client() == 0 {
+        let took = in_session(rt, plan)?;
+        print!(rt; ", through a session {took} ns")?;
+    }
+    Ok(rt.print("\n")?)
+}
+
+/// The row of a count, or those of all.
+fn print_fills<R: AllocGlobal + Clock + Print>(rt: &R, links: Option<u32>) -> Result<()> {
+    if let Some(links) = links {
+        return print_fill(rt, links);
+    }
+    for links in COUNTS {
+        print_fill(rt, links)?;
+    }
     Ok(())
 }

@@ -1,5 +1,6 @@
 ghost use Rattle.std.specs.Prelude.{◌≡◌, ℕ, List};
 
+use crate::round::Turn;
 use anyhow::{Result, bail};
 use krs_desk::{Desk, Seat};
 use krs_session::{Clock, Ended, Gate, Over, Point, run};
@@ -41,10 +42,10 @@ impl Gate for Open {
 pub fn time_session<R: AllocGlobal + std::rt::Clock + Wait>(
     rt: &R,
     store: Store,
-    asks: Vec<Ask>,
+    turns: Vec<Turn>,
 ) -> Result<Duration> {
     let alloc = rt.alloc();
-    let stream = frames(alloc, asks)?;
+    let stream = frames(alloc, turns)?;
     let Ok((desk, mut seats)) = Desk::open(alloc, 1, store) else {
         bail!("no desk");
     };
@@ -82,13 +83,20 @@ fn serve<R: Wait>(rt: &R, alloc: Global, stream: &[u8], desk: &Desk, seat: &mut 
 }
 
 /// The frames of asks.
-fn frames(alloc: Global, asks: Vec<Ask>) -> Result<Vec<u8>> {
+fn frames(alloc: Global, turns: Vec<Turn>) -> Result<Vec<u8>> {
     let mut stream = Vec::new(alloc);
-    for ask in asks {
-        let Ok(frame) = encode_ask(alloc, &ask) else {
-            bail!("an ask fits no frame");
-        };
-        stream.extend_from_slice(&frame)?;
+    for turn in turns {
+        append(alloc, &mut stream, &turn.first)?;
+        if let Some(ask) = &turn.second {
+            append(alloc, &mut stream, ask)?;
+        }
     }
     Ok(stream)
+}
+
+fn append(alloc: Global, stream: &mut Vec<u8>, ask: &Ask) -> Result<()> {
+    let Ok(frame) = encode_ask(alloc, ask) else {
+        bail!("an ask fits no frame");
+    };
+    Ok(stream.extend_from_slice(&frame)?)
 }

@@ -1,93 +1,98 @@
 use crate::operation::Operation;
+use crate::round::{Turn, next_numbers, turns};
 use crate::session::time_session;
-use crate::stock::{accept, stocked};
+use crate::stock::{Scene, stocked};
 use anyhow::{Result, bail};
 use krs_store::Store;
 use krs_types::{Ask, Errno, Fault};
-use std::alloc::{AllocError, Global};
+use std::rt::Clock;
 use std::sync::Wait;
 use std::time::{Duration, Instant};
 
 /// How many runs are made.
 const RUNS: usize = 10;
 
-/// How many rounds a run has.
-const ROUNDS: u32 = 1_000;
-
-/// From round to round the place moves on by so many, so that near and far ones are asked about.
-const STRIDE: u32 = 7_919;
-
-/// What asks go through.
+/// So many rounds of an operation, in a store whose user keyring has so many links.
 #[derive(Clone, Copy)]
-pub enum Way {
-    Store,
-    /// A session over memory: its frames are cut, its replies written.
-    Session,
+pub struct Plan {
+    pub operation: Operation,
+    pub links: u32,
+    pub rounds: u32,
 }
 
-/// How many nanoseconds a round takes with so many links, at least one: the median of the runs.
-pub fn nanoseconds<R: AllocGlobal + std::rt::Clock + Wait>(
-    rt: &R,
-    operation: Operation,
-    count: u32,
-    way: Way,
-) -> Result<u64> {
+/// How many nanoseconds a round takes in a store: the median of the runs.
+pub fn in_store<R: AllocGlobal + Clock>(rt: &R, store: &mut Store, plan: Plan) -> Result<u64> {
     let mut times = [Duration::ZERO; RUNS];
     for time in &mut times {
-        *time = time_run(rt, operation, count.max(1), way)?;
+        let turns = planned(rt, store, plan)?;
+        let start = Instant::now(rt)?;
+        run(store, plan.operation, turns)?;
+        *time = start.elapsed(rt)?;
     }
+    Ok(median(times, plan.rounds))
+}
+
+/// How many nanoseconds a round takes through a session over memory, whose frames are cut and replies written: the
+/// median of the runs, each on a store of its own.
+pub fn in_session<R: AllocGlobal + Clock + Wait>(rt: &R, plan: Plan) -> Result<u64> {
+    let mut times = [Duration::ZERO; RUNS];
+    for time in &mut times {
+        let mut store = stock(rt, Scene::linking(plan.links))?;
+        let turns = planned(rt, &mut store, plan)?;
+        *time = time_session(rt, store, turns)?;
+    }
+    Ok(median(times, plan.rounds))
+}
+
+fn median(mut times: [Duration; RUNS], rounds: u32) -> u64 {
     times.sort_unstable();
-    let whole = times[RUNS / 2].as_nanos() / u128::from(ROUNDS);
-    Ok(u64::try_from(whole).unwrap_or(u64::MAX))
+    let whole = times[RUNS / 2].as_nanos().checked_div(u128::from(rounds));
+    whole.map_or(0, |share| u64::try_from(share).unwrap_or(u64::MAX))
 }
 
-/// Times one run, on a store of its own.
-fn time_run<R: AllocGlobal + std::rt::Clock + Wait>(
-    rt: &R,
-    operation: Operation,
-    count: u32,
-    way: Way,
-) -> Result<Duration> {
+/// A store as the scene says.
+pub fn stock<R: AllocGlobal>(rt: &R, scene: Scene) -> Result<Store> {
+    accepted(stocked(rt.alloc(), scene))
+}
+
+/// The asks of a plan in a store.
+pub fn planned<R: AllocGlobal>(rt: &R, store: &mut Store, plan: Plan) -> Result<Vec<Turn>> {
     let alloc = rt.alloc();
-    let asks = asks(alloc, operation, count)?;
-    let mut store = accepted(stocked(alloc, operation, count))?;
-    match way {
-        Way::Store => time_store(rt, &mut store, asks),
-        Way::Session => time_session(rt, store, asks),
-    }
+    let next = accepted(next_numbers(store, alloc, plan.links))?;
+    Ok(turns(alloc, plan.operation, plan.links, next, plan.rounds)?)
 }
 
-/// The asks of a run.
-fn asks(alloc: Global, operation: Operation, count: u32) -> Result<Vec<Ask>, AllocError> {
-    let context = operation.context();
-    let mut asks = Vec::new(alloc);
-    for round in 0..ROUNDS {
-        let place = round.saturating_mul(STRIDE).checked_rem(count).unwrap_or(0);
-        let op = operation.first(alloc, count, place)?;
-        asks.push(Ask { context, op })?;
-        if let Some(op) = operation.second(count, round) {
-            asks.push(Ask { context, op })?;
+/// Asks a store, and is accepted.
+pub fn run(store: &mut Store, operation: Operation, turns: Vec<Turn>) -> Result<()> {
+    accepted(accept_all(store, operation.client(), turns))
+}
+
+fn accept_all(store: &mut Store, client: u32, turns: Vec<Turn>) -> Result<(), Fault> {
+    for turn in turns {
+        ask_first(store, client, turn.first)?;
+        if let Some(ask) = turn.second {
+            ask_second(store, client, ask)?;
         }
-    }
-    Ok(asks)
-}
-
-/// Times asks that a store accepts.
-fn time_store<R: std::rt::Clock>(rt: &R, store: &mut Store, asks: Vec<Ask>) -> Result<Duration> {
-    let start = Instant::now(rt)?;
-    accepted(accept_all(store, asks))?;
-    Ok(start.elapsed(rt)?)
-}
-
-fn accept_all(store: &mut Store, asks: Vec<Ask>) -> Result<(), Fault> {
-    for ask in asks {
-        accept(store, ask)?;
     }
     Ok(())
 }
 
+/// The first ask of a round. It has a function of its own for `bench/instructions`, which counts what is run in it.
+#[inline(never)]
+fn ask_first(store: &mut Store, client: u32, ask: Ask) -> Result<(), Errno> {
+    let _ = store.apply(client, 0, ask)?;
+    Ok(())
+}
+
+/// The second ask of a round. Its refusal is of another type, so that a build doesn't make one function of the two.
+#[inline(never)]
+fn ask_second(store: &mut Store, client: u32, ask: Ask) -> Result<(), Fault> {
+    let _ = store.apply(client, 0, ask)?;
+    Ok(())
+}
+
 /// What was done, if no ask was refused.
-fn accepted<T>(done: Result<T, Fault>) -> Result<T> {
+pub fn accepted<T>(done: Result<T, Fault>) -> Result<T> {
     match done {
         Ok(value) => Ok(value),
         Err(fault) => bail!("refused: {fault:?}"),
