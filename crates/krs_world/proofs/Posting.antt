@@ -1,4 +1,5 @@
--- A call that is posted keeps the one history.
+-- A call that is posted, and a reply that is collected, keep the one history: two cases of steps that no machine
+-- makes so far.
 use Rattle.std.proofs.Common.{◌≡◌, ℕ, ◌<◌, List, set, Option, Some, None, refl, sym, ap, ◌∙◌}
 use Rattle.std.proofs.Common.{[], ◌∷◌, ◌++◌, subst, arith, Result}
 use mathlib.Core.Option.{some}
@@ -105,7 +106,8 @@ pub collects : (a : State) (views : List View) (id : ℕ) (p : Part) → get_ele
     → (turn : ℕ) (home : Option State) (cell : ℕ → Cell) (o : OneHistory a turn home cell views)
     → (m : ℕ) (ask : Ask) (r : Result Answer Errno) (l : List Event) → cell p.lane ≡ Answered m ask r
     → Begins p.seen l → Begins l o.log → Begins (p.mine ++ event_of p.lane m ask r ∷ []) (events_of p.lane l)
-    → OneHistory a turn home (celled cell p.lane Empty) (set views id (one a (collected p l (event_of p.lane m ask r))))
+    → OneHistory a turn home (celled cell p.lane Empty)
+    (set views id (one a (collected p l (event_of p.lane m ask r))))
 collects a views id p at turn home cell o m ask r l is_answered more begins has =
     let k = own a views id p at turn home cell o in
     let e : Event = event_of p.lane m ask r in let q : Part = collected p l e in
@@ -166,7 +168,8 @@ collects a views id p at turn home cell o m ask r l is_answered more begins has 
             base = h.base;
             calls = h.calls;
             fits = subst (Fits o.log w)
-                (sym (celled_else cell p.lane w.lane Empty (λ same. not (sym h.at ∙ (ap o.seat same ∙ k.at))))) h.fits;
+                (sym (celled_else cell p.lane w.lane Empty
+                (λ same. not (sym h.at ∙ (ap o.seat same ∙ k.at))))) h.fits;
             holding = λ x is. let u = h.holding x is in record {
               out = u.out;
               here = u.here;
