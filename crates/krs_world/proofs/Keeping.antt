@@ -33,14 +33,14 @@ module _ (a : State) (views : List View) (id : ℕ) (p : Part) (at : get_elem? v
       → Known (shares a turn home cell views o) id p
   own turn home cell o = o.each id (one a p) at
 
-  views_open : (turn : ℕ) (home : Option State) (cell : ℕ → Cell) → OneHistory a turn home cell views
+  pub views_open : (turn : ℕ) (home : Option State) (cell : ℕ → Cell) → OneHistory a turn home cell views
       → (st : Standing) → (j : ℕ) (v : View) → get_elem? (set views id (view a st)) j ≡ some v → (v.stands ≡ Spent)
       ⊎ (v.opening ≡ a)
   views_open turn home cell o st = each_set (λ j v. (v.stands ≡ Spent) ⊎ (v.opening ≡ a)) views id (view a st)
       (inr refl) (λ j v _ e. o.openings j v e)
 
   -- each lane has its seat as before, where this one is its lane's still
-  seats_stay : (turn : ℕ) (home : Option State) (cell : ℕ → Cell) (o : OneHistory a turn home cell views) (q : Part)
+  pub seats_stay : (turn : ℕ) (home : Option State) (cell : ℕ → Cell) (o : OneHistory a turn home cell views) (q : Part)
       → q.lane ≡ p.lane → (lane : ℕ) → lane < o.dealt → IsSeated lane (o.seat lane) (set views id (one a q))
   seats_stay turn home cell o q same lane lt = seated_set lane (o.seat lane) views id (one a p) (one a q) at
       (λ is. same ∙ is) (o.seated lane lt)

@@ -1,0 +1,182 @@
+-- A call that is posted, and a reply that is collected, keep the one history: two cases of steps that no machine
+-- makes so far.
+use Rattle.std.proofs.Common.{◌≡◌, ℕ, ◌<◌, List, set, Option, Some, None, refl, sym, ap, ◌∙◌}
+use Rattle.std.proofs.Common.{[], ◌∷◌, ◌++◌, subst, arith, Result}
+use mathlib.Core.Option.{some}
+use mathlib.Core.Logic.{dite}
+use native.Mathlib.Decide.{ℕ_discrete}
+use lib.ListN.{get_elem?}
+use Rattle.krs_types.specs.declared.ask.Ask.{Ask}
+use Rattle.krs_types.specs.declared.ask.Answer.{Answer}
+use Rattle.krs_types.specs.declared.errno.Errno.{Errno}
+use Rattle.krs_types.specs.declared.event.Event.{Event}
+use Rattle.krs_model.specs.Lists.{Begins}
+use Rattle.krs_model.specs.History.{event_of}
+use Rattle.krs_model.specs.State.{State}
+use Rattle.krs_world.specs.declared.view.Cell.{Cell}
+use Rattle.krs_world.specs.declared.view.Cell.TheVariants.{Empty, Posted, Serving, Answered}
+use Rattle.krs_world.specs.declared.view.Part.{Part}
+use Rattle.krs_world.specs.declared.view.Standing.TheVariants.{One}
+use Rattle.krs_world.specs.declared.view.View.{View}
+use Rattle.krs_world.specs.Knowing.{events_of, one, posted, collected, celled}
+use Rattle.krs_world.specs.History.{Shared, Fits, Stands, OneHistory}
+use Rattle.krs_world.proofs.Lanes.{held_set, seen_set, each_set, shares, others_stand, celled_here, celled_else}
+use Rattle.krs_world.proofs.Lanes.{empty_if_idle, idle_mine, prefix_both}
+use Rattle.krs_world.proofs.Places.{dealing_set}
+use Rattle.krs_world.proofs.Keeping.{own, views_open, seats_stay}
+
+-- an idle lane's seat writes its call into its empty cell; the history is as before
+pub posts : (a : State) (views : List View) (id : ℕ) (p : Part) → get_elem? views id ≡ some (one a p)
+    → (turn : ℕ) (home : Option State) (cell : ℕ → Cell) (o : OneHistory a turn home cell views)
+    → (m : ℕ) (ask : Ask) → p.flight ≡ None
+    → OneHistory a turn home (celled cell p.lane (Posted m ask)) (set views id (one a (posted p m ask)))
+posts a views id p at turn home cell o m ask idle = let k = own a views id p at turn home cell o in
+    let c : Cell = Posted m ask in let q : Part = posted p m ask in
+    let s : Shared = shares a turn home cell views o in
+    let s' : Shared = record s { cell = celled cell p.lane c } in
+    let empty : cell p.lane ≡ Empty = empty_if_idle p o.log (cell p.lane) idle k.fits in record {
+      log = o.log;
+      last = o.last;
+      holder = o.holder;
+      dealt = o.dealt;
+      seat = o.seat;
+      serving = o.serving;
+      word = o.word;
+      held = λ n. held_set o.log o.holder views id (one a p) (one a q) at (λ h. h) (o.held n);
+      longest = λ n. seen_set o.log views id (one a p) (one a q) at (λ h. h) (o.longest n);
+      legal = o.legal;
+      at_home = o.at_home;
+      away = o.away;
+      opener = λ n. dealing_set o.dealt o.holder views id (one a p) (one a q) at (λ is. absurd cc) (o.opener n);
+      young = o.young;
+      unserved = o.unserved;
+      seated = seats_stay a views id p at turn home cell o q refl;
+      undealt = λ l le. let u = o.undealt l le in let g : p.lane < o.dealt = k.given in (
+        celled_else cell p.lane l c (λ same. omega arith) ∙ u.0,
+        u.1,
+      );
+      serves = λ l x y is. dite (ℕ_discrete l p.lane)
+          (λ same. absurd (let no : Posted m ask ≡ Serving x y = sym (celled_here cell p.lane c)
+          ∙ subst (λ (z : ℕ). celled cell p.lane c z ≡ Serving x y) same is in cc))
+          (λ not. o.serves l x y (sym (celled_else cell p.lane l c not) ∙ is));
+      served = λ v is. dite (ℕ_discrete v.lane p.lane)
+          (λ same. absurd (let no : Empty ≡ Serving v.moment v.ask = sym empty
+          ∙ subst (λ (z : ℕ). cell z ≡ Serving v.moment v.ask) same (o.served v is) in cc))
+          (λ not. celled_else cell p.lane v.lane c not ∙ o.served v is);
+      openings = views_open a views id p at turn home cell o (One q);
+      each = each_set (λ j v. Stands s' j v.stands) views id (one a q)
+          record {
+            at = k.at;
+            given = k.given;
+            seen = k.seen;
+            base = k.base;
+            calls = k.calls;
+            fits = subst (Fits o.log q) (sym (celled_here cell p.lane c))
+                (p.seen, refl, idle_mine p o.log (cell p.lane) idle k.fits, refl, k.seen);
+            holding = λ l is. let h = k.holding l is in record {
+              out = h.out;
+              here = h.here;
+              whole = h.whole;
+              same_service = h.same_service;
+            };
+            unheld = k.unheld;
+          }
+          (λ j v not e. others_stand s s' j
+          (λ r h. record {
+            at = h.at;
+            given = h.given;
+            seen = h.seen;
+            base = h.base;
+            calls = h.calls;
+            fits = subst (Fits o.log r)
+                (sym (celled_else cell p.lane r.lane c (λ same. not (sym h.at ∙ (ap o.seat same ∙ k.at))))) h.fits;
+            holding = λ l is. let u = h.holding l is in record {
+              out = u.out;
+              here = u.here;
+              whole = u.whole;
+              same_service = u.same_service;
+            };
+            unheld = h.unheld;
+          })
+          (λ two here. (two, here, refl)) v.stands (o.each j v e));
+    }
+
+-- a lane's seat takes its reply out of its cell, and has seen a beginning of the history that has its event
+pub collects : (a : State) (views : List View) (id : ℕ) (p : Part) → get_elem? views id ≡ some (one a p)
+    → (turn : ℕ) (home : Option State) (cell : ℕ → Cell) (o : OneHistory a turn home cell views)
+    → (m : ℕ) (ask : Ask) (r : Result Answer Errno) (l : List Event) → cell p.lane ≡ Answered m ask r
+    → Begins p.seen l → Begins l o.log → Begins (p.mine ++ event_of p.lane m ask r ∷ []) (events_of p.lane l)
+    → OneHistory a turn home (celled cell p.lane Empty)
+    (set views id (one a (collected p l (event_of p.lane m ask r))))
+collects a views id p at turn home cell o m ask r l is_answered more begins has =
+    let k = own a views id p at turn home cell o in
+    let e : Event = event_of p.lane m ask r in let q : Part = collected p l e in
+    let s : Shared = shares a turn home cell views o in
+    let s' : Shared = record s { cell = celled cell p.lane Empty } in
+    let fit : Fits o.log p (Answered m ask r) = subst (Fits o.log p) is_answered k.fits in record {
+      log = o.log;
+      last = o.last;
+      holder = o.holder;
+      dealt = o.dealt;
+      seat = o.seat;
+      serving = o.serving;
+      word = o.word;
+      held = λ n. held_set o.log o.holder views id (one a p) (one a q) at (λ h. h) (o.held n);
+      longest = λ n. seen_set o.log views id (one a p) (one a q) at
+          (λ h. prefix_both l o.log begins (subst (λ (x : List Event). Begins x l) h more)) (o.longest n);
+      legal = o.legal;
+      at_home = o.at_home;
+      away = o.away;
+      opener = λ n. dealing_set o.dealt o.holder views id (one a p) (one a q) at (λ is. absurd cc) (o.opener n);
+      young = o.young;
+      unserved = o.unserved;
+      seated = seats_stay a views id p at turn home cell o q refl;
+      undealt = λ j le. let u = o.undealt j le in let g : p.lane < o.dealt = k.given in (
+        celled_else cell p.lane j Empty (λ same. omega arith) ∙ u.0,
+        u.1,
+      );
+      serves = λ j x y is. dite (ℕ_discrete j p.lane)
+          (λ same. absurd (let no : Empty ≡ Serving x y = sym (celled_here cell p.lane Empty)
+          ∙ subst (λ (z : ℕ). celled cell p.lane Empty z ≡ Serving x y) same is in cc))
+          (λ not. o.serves j x y (sym (celled_else cell p.lane j Empty not) ∙ is));
+      served = λ v is. dite (ℕ_discrete v.lane p.lane)
+          (λ same. absurd (let no : Answered m ask r ≡ Serving v.moment v.ask = sym is_answered
+          ∙ subst (λ (z : ℕ). cell z ≡ Serving v.moment v.ask) same (o.served v is) in cc))
+          (λ not. celled_else cell p.lane v.lane Empty not ∙ o.served v is);
+      openings = views_open a views id p at turn home cell o (One q);
+      each = each_set (λ j v. Stands s' j v.stands) views id (one a q)
+          record {
+            at = k.at;
+            given = k.given;
+            seen = begins;
+            base = k.base;
+            calls = has;
+            fits = subst (Fits o.log q) (sym (celled_here cell p.lane Empty)) (refl, fit.2, refl);
+            holding = λ x is. let h = k.holding x is in record {
+              out = h.out;
+              here = h.here;
+              whole = h.whole;
+              same_service = h.same_service;
+            };
+            unheld = k.unheld;
+          }
+          (λ j v not at'. others_stand s s' j
+          (λ w h. record {
+            at = h.at;
+            given = h.given;
+            seen = h.seen;
+            base = h.base;
+            calls = h.calls;
+            fits = subst (Fits o.log w)
+                (sym (celled_else cell p.lane w.lane Empty
+                (λ same. not (sym h.at ∙ (ap o.seat same ∙ k.at))))) h.fits;
+            holding = λ x is. let u = h.holding x is in record {
+              out = u.out;
+              here = u.here;
+              whole = u.whole;
+              same_service = u.same_service;
+            };
+            unheld = h.unheld;
+          })
+          (λ two here. (two, here, refl)) v.stands (o.each j v at'));
+    }
