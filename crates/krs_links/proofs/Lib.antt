@@ -1,3 +1,4 @@
 pub mod LinksLemmas
 pub mod PlacesLemmas
 pub mod KeyLinks
+pub mod IndexLemmas

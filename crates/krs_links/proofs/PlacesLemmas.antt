@@ -35,7 +35,7 @@ set_at name serial (x ∷ xs) (suc i) d lt here before =
     let first : same_name name x.0 ≡ false = before 0 (omega arith) in
     rw first (ap (λ zs. x ∷ zs) (set_at name serial xs i d (omega arith) here (λ k h. before (suc k) (omega arith))))
 
-others_stay : (name : Name) (xs : LinkList) → AllByRecursion (λ n. same_name name n ≡ false) (names xs) →
+pub others_stay : (name : Name) (xs : LinkList) → AllByRecursion (λ n. same_name name n ≡ false) (names xs) →
     unlinked xs name ≡ xs
 others_stay name [] all = refl
 others_stay name (x ∷ xs) all = rw all.0 (ap (λ zs. x ∷ zs) (others_stay name xs all.1))

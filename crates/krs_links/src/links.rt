@@ -4,6 +4,7 @@ ghost use Rattle.krs_links.specs.Links.{serial_named, link_put, unlinked, unlink
 ghost use Rattle.krs_links.specs.Links.{is_full, is_refused, link_error, IsUnique};
 
 use crate::lists;
+use indexmap::IndexMap;
 use krs_types::{Errno, Name, Serial};
 use std::alloc::Global;
 use std::marker::Model;
@@ -11,10 +12,10 @@ use std::marker::Model;
 /// How many links a keyring has at most: profile, full keyrings.
 const MAX_LINKS: usize = 65535;
 
-/// The links of a keyring, in link order.
+/// The links of a keyring, in link order, with an index from their names.
 #[derive(Drop)]
 pub struct Links {
-    entries: Vec<(Name, Serial)>,
+    entries: IndexMap<Name, Serial>,
     /// The serials of the nested keyrings again, so that a walk goes over them alone.
     rings: Vec<Serial>,
 }
@@ -25,9 +26,9 @@ impl Model for Links {
 
     ghost Value = { LinkList };
 
-    ghost view = { λ l. l.entries.items };
+    ghost view = { λ l. l.entries.entries };
 
-    ghost invariant = { λ l. AreLists l.entries.items l.rings.items };
+    ghost invariant = { λ l. AreLists l.entries.entries l.rings.items };
 }
 
 impl Links {
@@ -36,7 +37,7 @@ impl Links {
         ensures { result ≡ [] }
     {
         Links {
-            entries: Vec::new(alloc),
+            entries: IndexMap::new(alloc),
             rings: Vec::new(alloc),
         }
     }
@@ -60,8 +61,8 @@ impl Links {
     pub fn name_at(&self, place: usize) -> Option<&Name>
         ensures { option_copied result ≡ slice_get (names self.now) place }
     {
-        match self.entries.get(place) {
-            Some(link) => Some(&link.0),
+        match self.entries.get_index(place) {
+            Some(link) => Some(link.0),
             None => None,
         }
     }
@@ -70,8 +71,8 @@ impl Links {
     pub fn serial_at(&self, place: usize) -> Option<Serial>
         ensures { result ≡ slice_get (serials self.now) place }
     {
-        match self.entries.get(place) {
-            Some(link) => Some(link.1),
+        match self.entries.get_index(place) {
+            Some(link) => Some(*link.1),
             None => None,
         }
     }
@@ -89,7 +90,7 @@ impl Links {
     pub fn find(&self, name: &Name) -> Option<Serial>
         ensures { result ≡ serial_named self.now name.now }
     {
-        lists::find(self.entries.as_slice(), name)
+        lists::find(&self.entries, name)
     }
 
     /// Whether a link under this name would be refused: there are as many as there may be, and none is displaced.
@@ -121,7 +122,7 @@ impl Links {
             return self.append(name, serial);
         };
         let displaced = lists::displace(&mut self.entries, &mut self.rings, place, name, serial);
-        Ok(Some(displaced))
+        Ok(displaced)
     }
 
     /// Takes out the link of a name, and answers its serial. keyctl(2), KEYCTL_UNLINK: ENOENT.
@@ -133,7 +134,10 @@ impl Links {
         let Some(place) = lists::place_of(&self.entries, name) else {
             return Err(Errno::ENOENT);
         };
-        Ok(lists::remove(&mut self.entries, &mut self.rings, place, name))
+        match lists::remove(&mut self.entries, &mut self.rings, place, name) {
+            Some(serial) => Ok(serial),
+            None => Err(Errno::ENOENT),
+        }
     }
 
     /// Takes out the link to a key, where there is one. It takes no memory. keyctl(2), KEYCTL_INVALIDATE.

@@ -1,37 +1,53 @@
 //! The two lists that a `Links` keeps, and what each change does to both.
-ghost use Rattle.std.specs.Prelude.{◌≡◌, ◌<◌, ◌≤◌, length, take, IfNone, OnOk, OnErr};
+ghost use Rattle.std.specs.Prelude.{◌≡◌, ◌<◌, ◌≤◌, length, take, None, IfNone, IfOk, OnOk, OnErr};
+ghost use Rattle.std.specs.Prelude.{◌+◌, false, if◌then◌else◌};
 ghost use Rattle.krs_links.specs.Links.{serial_named, link_put, unlinked, unlinked_key, nested, serials};
+ghost use Rattle.krs_links.specs.Links.{is_refused};
 ghost use Rattle.krs_links.specs.Lists.{place_of, AreLists};
 
+use indexmap::IndexMap;
 use krs_types::{Kind, Name, Serial};
 use std::alloc::AllocError;
 
 /// The serial that is linked under a name.
-pub(crate) fn find(entries: &[(Name, Serial)], name: &Name) -> Option<Serial>
-    ensures { result ≡ serial_named entries.now name.now }
+pub(crate) fn find(entries: &IndexMap<Name, Serial>, name: &Name) -> Option<Serial>
+    ensures { result ≡ serial_named entries.now.entries name.now }
 {
-    match entries.iter().find(|entry| *name == entry.0) {
-        Some(entry) => Some(entry.1),
+    match entries.get(name) {
+        Some(serial) => Some(*serial),
         None => None,
     }
 }
 
 /// Where the link of a name stands.
-pub(crate) fn place_of(entries: &Vec<(Name, Serial)>, name: &Name) -> Option<usize>
-    ensures place { result ≡ place_of name.now entries.now.items }
-    ensures none { IfNone result (serial_named entries.now.items name.now ≡ None) }
+pub(crate) fn place_of(entries: &IndexMap<Name, Serial>, name: &Name) -> Option<usize>
+    ensures place { result ≡ place_of name.now entries.now.entries }
+    ensures none { IfNone result (serial_named entries.now.entries name.now ≡ None) }
 {
-    entries.iter().position(|entry| *name == entry.0)
+    entries.get_index_of(name)
+}
+
+/// Whether the link at a place is one to a keyring: then one nested keyring more stands before the next place.
+fn is_ring_at(entries: &IndexMap<Name, Serial>, place: usize) -> bool
+    requires { place < length entries.now.entries }
+    ensures { length (nested (take (place + 1) entries.now.entries))
+        ≡ (if result then length (nested (take place entries.now.entries)) + 1
+        else length (nested (take place entries.now.entries))) }
+{
+    match entries.get_index(place) {
+        Some(link) => link.0.kind.is(Kind::Keyring),
+        None => false,
+    }
 }
 
 /// How many nested keyrings stand before a place.
-fn rings_before(entries: &Vec<(Name, Serial)>, place: usize) -> usize
-    requires { place ≤ length entries.now.items }
-    ensures { result ≡ length (nested (take place entries.now.items)) }
+fn rings_before(entries: &IndexMap<Name, Serial>, place: usize) -> usize
+    requires { place ≤ length entries.now.entries }
+    ensures { result ≡ length (nested (take place entries.now.entries)) }
 {
     let mut count = 0;
-    for entry in &entries[..place] {
-        if entry.0.kind.is(Kind::Keyring) {
+    for before in 0..place {
+        if is_ring_at(entries, before) {
             count += 1;
         }
     }
@@ -40,15 +56,15 @@ fn rings_before(entries: &Vec<(Name, Serial)>, place: usize) -> usize
 
 /// The nested keyrings with a link in the place of that of its name.
 fn displace_ring(
-    entries: &Vec<(Name, Serial)>,
+    entries: &IndexMap<Name, Serial>,
     rings: &mut Vec<Serial>,
     place: usize,
     name: &Name,
     serial: Serial,
 )
-    requires rings { rings.old.items ≡ serials (nested entries.now.items) }
-    requires place { place_of name.now entries.now.items ≡ Some place }
-    ensures { rings.new.items ≡ serials (nested (link_put entries.now.items name.now serial)) }
+    requires rings { rings.old.items ≡ serials (nested entries.now.entries) }
+    requires place { place_of name.now entries.now.entries ≡ Some place }
+    ensures { rings.new.items ≡ serials (nested (link_put entries.now.entries name.now serial)) }
 {
     if name.kind.is(Kind::Keyring) {
         let ring = rings_before(entries, place);
@@ -57,10 +73,10 @@ fn displace_ring(
 }
 
 /// The nested keyrings without the link of a name.
-fn remove_ring(entries: &Vec<(Name, Serial)>, rings: &mut Vec<Serial>, place: usize, name: &Name)
-    requires lists { AreLists entries.now.items rings.old.items }
-    requires place { place_of name.now entries.now.items ≡ Some place }
-    ensures { rings.new.items ≡ serials (nested (unlinked entries.now.items name.now)) }
+fn remove_ring(entries: &IndexMap<Name, Serial>, rings: &mut Vec<Serial>, place: usize, name: &Name)
+    requires lists { AreLists entries.now.entries rings.old.items }
+    requires place { place_of name.now entries.now.entries ≡ Some place }
+    ensures { rings.new.items ≡ serials (nested (unlinked entries.now.entries name.now)) }
 {
     if name.kind.is(Kind::Keyring) {
         let ring = rings_before(entries, place);
@@ -70,71 +86,94 @@ fn remove_ring(entries: &Vec<(Name, Serial)>, rings: &mut Vec<Serial>, place: us
 
 /// A link in the place of that of its name. The displaced serial is answered.
 pub(crate) fn displace(
-    entries: &mut Vec<(Name, Serial)>,
+    entries: &mut IndexMap<Name, Serial>,
     rings: &mut Vec<Serial>,
     place: usize,
     name: Name,
     serial: Serial,
-) -> Serial
-    requires lists { AreLists entries.old.items rings.old.items }
-    requires place { place_of name entries.old.items ≡ Some place }
-    ensures displaced { Some result ≡ serial_named entries.old.items name }
-    ensures links { entries.new.items ≡ link_put entries.old.items name serial }
-    ensures lists { AreLists entries.new.items rings.new.items }
+) -> Option<Serial>
+    requires lists { AreLists entries.old.entries rings.old.items }
+    requires place { place_of name entries.old.entries ≡ Some place }
+    ensures displaced { result ≡ serial_named entries.old.entries name }
+    ensures room { is_refused entries.old.entries name ≡ false }
+    ensures links { entries.new.entries ≡ link_put entries.old.entries name serial }
+    ensures lists { AreLists entries.new.entries rings.new.items }
 {
     displace_ring(entries, rings, place, &name, serial);
-    let displaced = entries[place].1;
-    entries[place] = (name, serial);
-    displaced
+    match insert(entries, name, serial) {
+        Ok(displaced) => displaced,
+        Err(_) => unreachable!(),
+    }
+}
+
+/// A link under a name, and the serial that it displaces. A refusal leaves the links as they are.
+#[tactic(auto, using(crate::proofs::IndexLemmas::insert_entry_puts, crate::proofs::IndexLemmas::lookup_named))]
+fn insert(
+    entries: &mut IndexMap<Name, Serial>,
+    name: Name,
+    serial: Serial,
+) -> Result<Option<Serial>, AllocError>
+    ensures displaced { IfOk result (λ old. old ≡ serial_named entries.old.entries name) }
+    ensures links { OnOk result (entries.new.entries ≡ link_put entries.old.entries name serial) }
+    ensures absent { OnErr result (serial_named entries.old.entries name ≡ None) }
+    ensures err { OnErr result (entries.new.entries ≡ entries.old.entries) }
+{
+    let displaced = entries.insert(name, serial)?;
+    Ok(displaced)
 }
 
 /// A link under a new name, last.
 pub(crate) fn append(
-    entries: &mut Vec<(Name, Serial)>,
+    entries: &mut IndexMap<Name, Serial>,
     rings: &mut Vec<Serial>,
     name: Name,
     serial: Serial,
 ) -> Result<(), AllocError>
-    requires lists { AreLists entries.old.items rings.old.items }
-    requires room { length entries.old.items < 65535 }
-    requires none { serial_named entries.old.items name ≡ None }
-    ensures links { OnOk result (entries.new.items ≡ link_put entries.old.items name serial) }
-    ensures err { OnErr result (entries.new.items ≡ entries.old.items) }
-    ensures lists { AreLists entries.new.items rings.new.items }
+    requires lists { AreLists entries.old.entries rings.old.items }
+    requires room { length entries.old.entries < 65535 }
+    requires none { serial_named entries.old.entries name ≡ None }
+    ensures links { OnOk result (entries.new.entries ≡ link_put entries.old.entries name serial) }
+    ensures err { OnErr result (entries.new.entries ≡ entries.old.entries) }
+    ensures lists { AreLists entries.new.entries rings.new.items }
 {
     if !name.kind.is(Kind::Keyring) {
-        entries.push((name, serial))?;
+        insert(entries, name, serial)?;
         return Ok(());
     }
     rings.reserve(1)?;
-    entries.push((name, serial))?;
+    insert(entries, name, serial)?;
     let _ = rings.push(serial);
     Ok(())
 }
 
 /// Without the link of a name. Its serial is answered.
 pub(crate) fn remove(
-    entries: &mut Vec<(Name, Serial)>,
+    entries: &mut IndexMap<Name, Serial>,
     rings: &mut Vec<Serial>,
     place: usize,
     name: &Name,
-) -> Serial
-    requires lists { AreLists entries.old.items rings.old.items }
-    requires place { place_of name.now entries.old.items ≡ Some place }
-    ensures removed { Some result ≡ serial_named entries.old.items name.now }
-    ensures links { entries.new.items ≡ unlinked entries.old.items name.now }
-    ensures lists { AreLists entries.new.items rings.new.items }
+) -> Option<Serial>
+    requires lists { AreLists entries.old.entries rings.old.items }
+    requires place { place_of name.now entries.old.entries ≡ Some place }
+    ensures removed { result ≡ serial_named entries.old.entries name.now }
+    ensures none { IfNone result (entries.new.entries ≡ entries.old.entries) }
+    ensures links { entries.new.entries ≡ unlinked entries.old.entries name.now }
+    ensures lists { AreLists entries.new.entries rings.new.items }
 {
     remove_ring(entries, rings, place, name);
-    entries.remove(place).1
+    entries.shift_remove(name)
 }
 
 /// Without the links to a key.
-pub(crate) fn remove_key(entries: &mut Vec<(Name, Serial)>, rings: &mut Vec<Serial>, serial: Serial)
-    requires lists { AreLists entries.old.items rings.old.items }
-    ensures links { entries.new.items ≡ unlinked_key entries.old.items serial }
-    ensures lists { AreLists entries.new.items rings.new.items }
+pub(crate) fn remove_key(
+    entries: &mut IndexMap<Name, Serial>,
+    rings: &mut Vec<Serial>,
+    serial: Serial,
+)
+    requires lists { AreLists entries.old.entries rings.old.items }
+    ensures links { entries.new.entries ≡ unlinked_key entries.old.entries serial }
+    ensures lists { AreLists entries.new.entries rings.new.items }
 {
-    entries.retain(|entry| entry.1.number() != serial.number());
+    entries.retain(|_name, linked| linked.number() != serial.number());
     rings.retain(|ring| ring.number() != serial.number());
 }

@@ -11,11 +11,12 @@ use Rattle.krs_keys.specs.declared.key.Key.{Key}
 use Rattle.krs_keys.specs.Keys.{shown, named_links_of_content}
 use Rattle.krs_keys.specs.Table.{Keys}
 use Rattle.krs_hold.specs.Tally.{times, AreExact}
-use Rattle.krs_ctx.specs.Anchors.{anchored}
+use Rattle.krs_ctx.specs.Anchors.{Anchors, anchored}
 use Rattle.krs_ctx.specs.Told.{greeted}
+use Rattle.krs_context_asks.proofs.EnteredHolders.{refused_stays}
 use Rattle.krs_ctx.proofs.HelloLemmas.{hello_fails, hello_done, greeted_opens}
 use Rattle.krs_tables.specs.Making.{uid_key}
-use Rattle.krs_tables.specs.View.{state_of}
+use Rattle.krs_tables.specs.View.{state_of, IsConsistent}
 use Rattle.krs_tables.proofs.OwedHolders.{first_tallied, first_times, first_counted, room_on}
 use Rattle.krs_tables.proofs.Definitions.{first_told}
 use Rattle.krs_keys.specs.Keys.{IsOfKind}
@@ -123,3 +124,32 @@ insert_two-requires-clause-first c = subst (λ (k : Key). IsOfKind k.name.kind k
 pub insert_two-requires-clause-second : goal.insert_two-requires-clause-second
 insert_two-requires-clause-second c =
     subst (λ (k : Key). IsOfKind k.name.kind k.content) (sym c.requires.session) refl
+
+pub invariant_of-tables-in_err-number : goal.invariant_of-tables-in_err-number
+invariant_of-tables-in_err-number c =
+    let s = c.tables.inside in
+    let exact = c.in_ok-make_room.ensures.exact s.keys.keys (roots (state_of s)) c.tables.invariant.tallied in
+    subst (λ (t : Anchors). IsConsistent (record s { contexts = t; holders = c.make_room-2.new.holders }))
+    (sym (refused_stays s.contexts c.hello.new.self c.in_err-number.field-0.0 _ c.in_err-number.ensures.done))
+    (record {
+      fit = c.tables.invariant.fit;
+      kinds = c.tables.invariant.kinds;
+      tallied = c.in_ok-make_room-2.ensures.exact s.keys.keys (roots (state_of s)) exact;
+    })
+
+pub invariant_of-tables-in-Err : goal.invariant_of-tables-in-Err
+invariant_of-tables-in-Err c =
+    let s = c.tables.inside in
+    let exact = c.in_ok-make_room.ensures.exact s.keys.keys (roots (state_of s)) c.tables.invariant.tallied in
+    let no_uid : at (state_of s).uids c.args.caller.uid ≡ None =
+    subst (λ (t : State). at t.uids c.args.caller.uid ≡ None) (sym c.tables.view_is) c.requires.absent in
+    let back : c.take_back.new.self ≡ s.contexts = c.take_back.ensures ∙ c.in_ok-number.ensures.back no_uid in
+    subst
+    (λ (t : Keys × Anchors).
+    IsConsistent (record s { keys = t.0; contexts = t.1; holders = c.make_room-2.new.holders }))
+    (λ i. (sym c.in-Err.ensures.err i, sym back i))
+    (record {
+      fit = c.tables.invariant.fit;
+      kinds = c.tables.invariant.kinds;
+      tallied = c.in_ok-make_room-2.ensures.exact s.keys.keys (roots (state_of s)) exact;
+    })

@@ -4,21 +4,21 @@ use Rattle.krs_links.proofs.lists.displace_ring.Goals as goal
 
 pub index_mut-requires : goal.index_mut-requires
 index_mut-requires c =
-    let links = c.args.entries.now.items in
+    let links = c.args.entries.now.entries in
     let within = ring_within c.args.name.now links c.args.place c.requires.place (sym c.is.ensures ∙ c.if-is.true) in
     let long = ap length c.requires.rings in
     omega (arith, c.args.rings.now.ok)
 
 pub returns-then-is : goal.returns-then-is
 returns-then-is c =
-    let links = c.args.entries.now.items in
+    let links = c.args.entries.now.entries in
     let ring = sym c.is.ensures ∙ c.if-is.true in
     rw (c.requires.rings, c.rings_before-ring.ensures)
     (rings_displaced c.args.name.now c.args.serial links c.args.place c.requires.place ring)
 
 pub returns-else-is : goal.returns-else-is
 returns-else-is c =
-    let links = c.args.entries.now.items in
+    let links = c.args.entries.now.entries in
     let other = sym c.is.ensures ∙ c.if-is.false in
     c.requires.rings
     ∙ rings_stay_displaced c.args.name.now c.args.serial links c.args.place c.requires.place other

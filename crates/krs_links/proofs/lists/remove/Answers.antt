@@ -1,24 +1,20 @@
-use Rattle.std.proofs.Common.{ℕ, sym, ◌∙◌}
-use Rattle.krs_types.specs.declared.name.Name.{Name}
-use Rattle.krs_links.proofs.PlacesLemmas.{linked_as_at, unlinked_at, AreLists-unlinked}
+use Rattle.std.proofs.Common.{◌∙◌}
+use Rattle.krs_links.proofs.PlacesLemmas.{AreLists-unlinked}
+use Rattle.krs_links.proofs.IndexLemmas.{lookup_named, remove_entry_unlinks}
 use Rattle.krs_links.proofs.lists.remove.Goals as goal
 
 pub returns-clause-removed : goal.returns-clause-removed
 returns-clause-removed c =
-    let links = c.args.entries.now.items in
-    rw c.remove.ensures.value
-    (sym (linked_as_at c.args.name.now links c.args.place c.remove.result c.requires.place))
+    c.shift_remove.ensures.value ∙ lookup_named c.args.entries.now.entries c.args.name.now
 
 pub returns-clause-links : goal.returns-clause-links
 returns-clause-links c =
-    let links = c.args.entries.now.items in
-    let link : Name × ℕ = (c.args.name.now, 0) in
-    c.remove.ensures.items
-    ∙ unlinked_at c.args.name.now links c.args.place link c.requires.lists.unique c.requires.place
+    c.shift_remove.ensures.entries
+    ∙ remove_entry_unlinks c.args.entries.now.entries c.args.name.now c.requires.lists.unique
 
 pub returns-clause-lists : goal.returns-clause-lists
 returns-clause-lists c =
-    let links = c.args.entries.now.items in
+    let links = c.args.entries.now.entries in
     let after = c.remove_ring.new.rings.items in
     rw (returns-clause-links c)
     (AreLists-unlinked c.args.name.now links c.args.rings.now.items after c.args.place

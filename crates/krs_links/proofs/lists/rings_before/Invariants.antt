@@ -3,6 +3,6 @@ use Rattle.krs_links.specs.Links.{nested}
 use Rattle.krs_links.proofs.lists.rings_before.Given as goal
 
 -- the keyrings so far are counted, and they are no more than the links so far
-abbrev pub invariant-loop-entry : goal.invariant-loop-entry
-invariant-loop-entry l =
-    (l.count ≡ length (nested (take l.entry-index l.entries.items))) × (l.count ≤ l.entry-index)
+abbrev pub invariant-loop-before : goal.invariant-loop-before
+invariant-loop-before l =
+    (l.count ≡ length (nested (take l.before l.entries.entries))) × (l.count ≤ l.before)

@@ -1,7 +1,9 @@
 use Rattle.std.proofs.Common.{◌≡◌, ◌∙◌, ap, sym, subst}
 use Rattle.std.specs.Option.{option_to_list}
 use Rattle.krs_model.specs.State.{State}
-use Rattle.krs_keys.specs.Table.{with_key}
+use Rattle.krs_model.specs.Sweep.{roots}
+use Rattle.krs_keys.specs.Table.{Keys, with_key}
+use Rattle.krs_tables.specs.View.{state_of, IsConsistent}
 use Rattle.krs_hold.specs.Tally.{with_number, one_more}
 use Rattle.krs_tables.specs.Holding.{more_of}
 use Rattle.krs_tables.specs.Specials.{ring_key, HasPlace, AreLinksTo, attached_as, ring_at}
@@ -54,3 +56,14 @@ returns-in-Ok-clause-ok c =
 pub insert-requires : goal.insert-requires
 insert-requires c =
     subst (λ (k : Key). IsOfKind k.name.kind k.content) (sym c.in_ok-key.ensures) (ring_kind c.args.special)
+
+pub invariant_of-self-in-Err : goal.invariant_of-self-in-Err
+invariant_of-self-in-Err c =
+    let s = c.self.inside in
+    subst (λ (k : Keys). IsConsistent (record s { keys = k; holders = c.make_room.new.holders }))
+    (sym c.in-Err.ensures.err)
+    (record {
+      fit = c.self.invariant.fit;
+      kinds = c.self.invariant.kinds;
+      tallied = c.in_ok-make_room.ensures.exact s.keys.keys (roots (state_of s)) c.self.invariant.tallied;
+    })
