@@ -29,7 +29,7 @@ each_snoc S views n w len last others j v e = ⊎_elim (others j v)
     (at_snoc views w v j e)
 
 -- another seat for a lane
-reseat : (s : Shared) (seat : ℕ → ℕ) (j j' : ℕ) (p : Part) → Known s j p → seat p.lane ≡ j'
+pub reseat : (s : Shared) (seat : ℕ → ℕ) (j j' : ℕ) (p : Part) → Known s j p → seat p.lane ≡ j'
     → ((l : List Event) → p.holding ≡ Some l → Holds s j' p l) → Known (record s { seat = seat }) j' p
 reseat s seat j j' p k at holds = record {
   at = at;
