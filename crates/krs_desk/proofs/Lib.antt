@@ -1,6 +1,11 @@
 pub mod Steps
+pub mod Cells
 pub mod Joining
 pub mod Dealing
-pub mod Ending
-pub mod Seats
 pub mod Seen
+pub mod Seats
+pub mod Posts
+pub mod Serves
+pub mod Helps
+pub mod Calls
+pub mod Ending

@@ -11,7 +11,7 @@ use Rattle.krs_model.proofs.History.Streams.{gives_streams}
 use Rattle.krs_desk.specs.Seen.{IsNotReadRevoked, GivesItsStreams}
 
 -- a legal history, cut in two
-legal_cut :
+pub legal_cut :
     (a c : State) (xs ys : List Event) → IsLegal a (xs ++ ys) c
     → (b : State) × IsLegal a xs b × IsLegal b ys c
 unfolding IsLegal

@@ -1,8 +1,8 @@
 -- The steps of a call keep the rule of the table: taking the turn, finding it out, and giving it back.
-use Rattle.std.proofs.Common.{◌≡◌, ℕ, ◌+◌, ◌<◌, eqb, List, [], ◌∷◌, length, get_or, set, Option}
-use Rattle.std.proofs.Common.{Some, None, ⊎_elim, refl, sym, ap, ◌∙◌, subst, arith, eq-eqb, ne_eqb, length-set}
+use Rattle.std.proofs.Common.{◌≡◌, ◌≢◌, ℕ, zero, suc, ◌+◌, ◌<◌, eqb, true, false, List, [], ◌∷◌, get_or, set}
+use Rattle.std.proofs.Common.{Option, Some, None, ⊎_elim, refl, sym, ap, ◌∙◌, subst, arith, eq-eqb, ne_eqb, length-set}
 use Rattle.std.proofs.Common.{get_or-set_same, get_or-set_other}
-use mathlib.Core.Option.{none, some}
+use mathlib.Core.Option.{none, some, some-injective, some-ne-none}
 use mathlib.Core.Option as maybe
 use mathlib.Core.Logic.{dite}
 use native.Mathlib.Decide.{ℕ_discrete}
@@ -11,7 +11,7 @@ use lib.ListN.{get_elem?}
 use lib.Seq.{set-get_or}
 use Rattle.atomic_table.specs.Table as table
 use Rattle.atomic_table.specs.Table.{step, stepped, keeps, takes, gives, rest, Allows}
-use Rattle.atomic_table.proofs.Lists.{set_here}
+use Rattle.atomic_table.proofs.Lists.{set_here, set_else}
 use Rattle.krs_types.specs.declared.event.Event.{Event}
 use Rattle.krs_model.specs.State.{State}
 use Rattle.krs_model.specs.Step.{Step}
@@ -23,84 +23,156 @@ use Rattle.krs_world.specs.declared.view.Standing.TheVariants.{Spent}
 use Rattle.krs_world.specs.Knowing.{one, taken, missed, put_own}
 use Rattle.krs_world.specs.History.{OneHistory}
 use Rattle.krs_world.proofs.Keeping as law
-use Rattle.krs_desk.specs.Rule.{IsAtHome, word_of, InOneOrder}
+use Rattle.krs_desk.specs.declared.place.Place.{Place}
+use Rattle.krs_desk.specs.declared.place.Place.TheVariants.{Home}
+use Rattle.krs_desk.specs.declared.sight.Sight.{Sight}
+use Rattle.krs_desk.specs.Parts.{sat, views_of, IsLaid, hand_of}
+use Rattle.krs_desk.specs.Rule.{IsAtHome, CellIs, IsVacant, InOneOrder}
 use Rattle.krs_desk.specs.Told.{takes_told, puts_told}
 use Rattle.krs_desk.specs.Seated.{Me, opening, part, HoldsBefore}
 
 abbrev pub Table : Type 0
-Table = table.State State View
+Table = table.State Place Sight
 
 abbrev pub turn : Table → ℕ
 turn s = get_or s.words 0 0
 
-abbrev Slot : Type 0
-Slot = maybe.Option State
+abbrev pub Slot : Type 0
+Slot = maybe.Option Place
 
--- a step that changes no word
+-- Views.
+
+pub views_set : (l : List Sight) (i : ℕ) (x : Sight) → views_of (set l i x) ≡ set (views_of l) i x.view
+views_set [] i x = refl
+views_set (y ∷ ys) zero x = refl
+views_set (y ∷ ys) (suc i) x = ap (λ l. y.view ∷ l) (views_set ys i x)
+
+pub view_at : (l : List Sight) (i : ℕ) (x : Sight) → get_elem? l i ≡ some x → get_elem? (views_of l) i ≡ some x.view
+view_at [] i x e = absurd (some-ne-none x (sym e))
+view_at (y ∷ ys) zero x e = ap (λ (s : Sight). some s.view) (some-injective y x e)
+view_at (y ∷ ys) (suc i) x e = view_at ys i x e
+
+-- what holds of the lanes that a step's token is laid, and of those of all others, holds of each
+pub laid_set :
+    (P : ℕ → Type 0) (views : List Sight) (id : ℕ) (w : Sight) → ((lane : ℕ) → IsLaid lane w → P lane)
+    → ((j lane : ℕ) (v : Sight) → j ≢ id → get_elem? views j ≡ some v → IsLaid lane v → P lane)
+    → (j lane : ℕ) (v : Sight) → get_elem? (set views id w) j ≡ some v → IsLaid lane v → P lane
+laid_set P views id w mine others j lane v e is =
+    ⊎_elim (λ (t : (j ≡ id) × (w ≡ v)). mine lane (subst (IsLaid lane) (sym t.1) is))
+    (λ (t : (j ≢ id) × (get_elem? views j ≡ some v)). others j lane v t.0 t.1 is) (law.at_set views id j w v e)
+
+-- no slot lies on the table for a token that is sat
+pub sat_lies : (P : ℕ → Type 0) (a : State) (p : Part) (lane : ℕ) → IsLaid lane (sat a p) → P lane
+sat_lies P a p lane is = absurd (let no : false ≡ true = is.0 in cc)
+
+-- Words and slots.
+
+-- a step that changes no word and no slot
 pub unmoved :
-    (a : State) (s : Table) (r : InOneOrder a s) (id : ℕ) (w : View) (c : List (ℕ × State))
-    → OneHistory a (turn s) r.home r.cell (set s.views id w) → InOneOrder a (stepped s 0 (turn s) id c w keeps)
-unmoved a s r id w c h =
+    (a : State) (s : Table) (r : InOneOrder a s) (i id : ℕ) (w : Sight) (c : List (ℕ × Place))
+    → ((lane : ℕ) → IsLaid lane w → IsVacant s.homes r.cell lane)
+    → OneHistory a (turn s) r.home r.cell (set (views_of s.views) id w.view)
+    → InOneOrder a (stepped s i (get_or s.words i 0) id c w keeps)
+unmoved a s r i id w c lies h =
     subst (λ (ws : List ℕ). InOneOrder a record { words = ws; homes = s.homes; views = set s.views id w })
-    (sym (set-get_or s.words 0 0))
-    record { wide = r.wide; home = r.home; slot = r.slot; cell = r.cell; cells = r.cells; history = h }
+    (sym (set-get_or s.words i 0))
+    record {
+      wide = r.wide;
+      any = r.any;
+      home = r.home;
+      slot = r.slot;
+      cell = r.cell;
+      cells = r.cells;
+      laid =
+          laid_set (IsVacant s.homes r.cell) s.views id w lies (λ j lane v not e is. r.laid j lane v e is);
+      history = subst (OneHistory a (turn s) r.home r.cell) (sym (views_set s.views id w)) h;
+    }
 
 -- a step on the turn leaves the cells
 cells_stay :
-    (words : List ℕ) (n : ℕ) (cell : ℕ → Cell) → ((l : ℕ) → get_or words (l + 1) 0 ≡ word_of (cell l))
-    → (l : ℕ) → get_or (set words 0 n) (l + 1) 0 ≡ word_of (cell l)
-cells_stay words n cell was l = get_or-set_other words 0 (l + 1) n 0 (λ e. omega arith) ∙ was l
+    (s : Table) (n : ℕ) (homes : List Slot) (cell : ℕ → Cell)
+    → ((l : ℕ) → CellIs (get_or s.words (l + 1) 0) (get_elem? s.homes (l + 1)) (cell l))
+    → ((l : ℕ) → get_elem? homes (l + 1) ≡ get_elem? s.homes (l + 1))
+    → (l : ℕ) → CellIs (get_or (set s.words 0 n) (l + 1) 0) (get_elem? homes (l + 1)) (cell l)
+cells_stay s n homes cell was same l =
+    subst (λ (z : ℕ × maybe.Option Slot). CellIs z.0 z.1 (cell l))
+    (λ i. (sym (get_or-set_other s.words 0 (l + 1) n 0 (λ e. omega arith)) i, sym (same l) i)) (was l)
 
--- a step on the turn that leaves the slot
+-- a step on the turn that leaves the slots
 pub moved :
-    (a : State) (s : Table) (r : InOneOrder a s) (n : ℕ) (views : List View) → OneHistory a n r.home r.cell views
-    → InOneOrder a record { words = set s.words 0 n; homes = s.homes; views = views }
-moved a s r n views h = record {
-  wide = subst (λ (k : ℕ). 0 < k) (sym (length-set s.words 0 n)) r.wide;
+    (a : State) (s : Table) (r : InOneOrder a s) (n id : ℕ) (w : Sight)
+    → ((lane : ℕ) → IsLaid lane w → IsVacant s.homes r.cell lane)
+    → OneHistory a n r.home r.cell (set (views_of s.views) id w.view)
+    → InOneOrder a record { words = set s.words 0 n; homes = s.homes; views = set s.views id w }
+moved a s r n id w lies h = record {
+  wide = length-set s.words 0 n ∙ r.wide;
+  any = subst (λ (k : ℕ). 0 < k) (sym (length-set s.words 0 n)) r.any;
   home = r.home;
   slot = r.slot;
   cell = r.cell;
-  cells = cells_stay s.words n r.cell r.cells;
-  history = subst (λ (k : ℕ). OneHistory a k r.home r.cell views) (sym (get_or-set_same s.words 0 n 0 r.wide)) h;
+  cells = cells_stay s n s.homes r.cell r.cells (λ l. refl);
+  laid = laid_set (IsVacant s.homes r.cell) s.views id w lies (λ j lane v not e is. r.laid j lane v e is);
+  history =
+      subst (λ (z : ℕ × List View). OneHistory a z.0 r.home r.cell z.1)
+      (λ i. (sym (get_or-set_same s.words 0 n 0 r.any) i, sym (views_set s.views id w) i)) h;
 }
 
--- a step on the turn, and on the slot
-moved_home :
-    (a : State) (s : Table) (r : InOneOrder a s) (n : ℕ) (x : Slot) (home : Option State) (views : List View)
-    → 0 < length s.homes → IsAtHome home (some x) → OneHistory a n home r.cell views
-    → InOneOrder a record { words = set s.words 0 n; homes = set s.homes 0 x; views = views }
-moved_home a s r n x home views some_slot at h = record {
-  wide = subst (λ (k : ℕ). 0 < k) (sym (length-set s.words 0 n)) r.wide;
+vacant_still :
+    (homes : List Slot) (cell : ℕ → Cell) (x : Slot) (lane : ℕ) → IsVacant homes cell lane
+    → IsVacant (set homes 0 x) cell lane
+vacant_still homes cell x lane v = (
+  v.0,
+  λ lt. set_else homes 0 (lane + 1) x (λ e. omega arith)
+      ∙ v.1 (subst (λ (k : ℕ). lane + 1 < k) (length-set homes 0 x) lt),
+)
+
+-- a step on the turn, and on the first slot
+pub moved_home :
+    (a : State) (s : Table) (r : InOneOrder a s) (n : ℕ) (x : Slot) (home : Option State) (id : ℕ) (b : State) (q : Part)
+    → IsAtHome home (some x) → OneHistory a n home r.cell (set (views_of s.views) id (one b q))
+    → InOneOrder a record { words = set s.words 0 n; homes = set s.homes 0 x; views = set s.views id (sat b q) }
+moved_home a s r n x home id b q at h = let wide = r.wide in let any = r.any in record {
+  wide = length-set s.words 0 n ∙ (r.wide ∙ sym (length-set s.homes 0 x));
+  any = subst (λ (k : ℕ). 0 < k) (sym (length-set s.words 0 n)) r.any;
   home = home;
-  slot = subst (IsAtHome home) (sym (set_here s.homes 0 x some_slot)) at;
+  slot = subst (IsAtHome home) (sym (set_here s.homes 0 x (omega arith))) at;
   cell = r.cell;
-  cells = cells_stay s.words n r.cell r.cells;
-  history = subst (λ (k : ℕ). OneHistory a k home r.cell views) (sym (get_or-set_same s.words 0 n 0 r.wide)) h;
+  cells = cells_stay s n (set s.homes 0 x) r.cell r.cells (λ l. set_else s.homes 0 (l + 1) x (λ e. omega arith));
+  laid =
+      laid_set (IsVacant (set s.homes 0 x) r.cell) s.views id (sat b q)
+      (λ lane is. sat_lies (IsVacant (set s.homes 0 x) r.cell) b q lane is)
+      (λ j lane v not e is. vacant_still s.homes r.cell x lane (r.laid j lane v e is));
+  history =
+      subst (λ (z : ℕ × List View). OneHistory a z.0 home r.cell z.1)
+      (λ i. (sym (get_or-set_same s.words 0 n 0 r.any) i, sym (views_set s.views id (sat b q)) i)) h;
 }
+
+-- Taking the turn, and giving it back.
 
 -- the turn was free, and is had; or it was out
 takes_allowed :
-    (a : State) (slots id : ℕ) (p : Part) → 0 < slots → p.holding ≡ None
-    → Allows (InOneOrder a) slots id (one a p, []) 0 (λ n. either (eqb n 0) 1 n)
-    (takes_told (step slots 0 0 1 none) (one a p, []))
-takes_allowed a slots id p some_slot empty s r len at small =
+    (a : State) (slots id : ℕ) (p : Part) (c : List (ℕ × Place)) → p.holding ≡ None
+    → Allows (InOneOrder a) slots id (sat a p, c) 0 (λ n. either (eqb n 0) 1 n)
+    (takes_told (step slots 0 0 1 none) (sat a p, c))
+takes_allowed a slots id p c empty s r len at small =
     let x : ℕ = turn s in
+    let views : List View = views_of s.views in
+    let is : get_elem? views id ≡ some (one a p) = view_at s.views id (sat a p) at in
     dite (ℕ_discrete x 0)
     (λ free.
-    let h : OneHistory a 0 r.home r.cell s.views =
-    subst (λ (n : ℕ). OneHistory a n r.home r.cell s.views) free r.history in
-    let k = law.own a s.views id p at 0 r.home r.cell h in
-    let slot : get_elem? s.homes 0 ≡ some (some h.last) =
+    let h : OneHistory a 0 r.home r.cell views =
+    subst (λ (n : ℕ). OneHistory a n r.home r.cell views) free r.history in
+    let k = law.own a views id p is 0 r.home r.cell h in
+    let slot : get_elem? s.homes 0 ≡ some (some (Home h.last)) =
     subst (λ b. IsAtHome b (get_elem? s.homes 0)) (h.at_home (λ e. omega arith)) r.slot in
-    let w : View = one a (taken p h.log) in (
+    let w : Sight = sat a (taken p h.log) in (
       w,
-      takes 0 h.last,
+      takes 0 (Home h.last),
       slot,
-      subst (λ b. InOneOrder a (stepped s 0 (either b 1 x) id [] w (takes 0 h.last)))
+      subst (λ b. InOneOrder a (stepped s 0 (either b 1 x) id c w (takes 0 (Home h.last))))
           (sym (eq-eqb x 0 free))
-          (moved_home a s r 1 none None (set s.views id w)
-          (subst (λ (k : ℕ). 0 < k) (sym len) some_slot) refl
-          (law.takes a s.views id p at r.home r.cell h empty)),
+          (moved_home a s r 1 none None id a (taken p h.log) refl
+          (law.takes a views id p is r.home r.cell h empty)),
       (
         (λ _. (
           h.log,
@@ -116,76 +188,83 @@ takes_allowed a slots id p some_slot empty s r len at small =
       ),
     ))
     (λ out.
-    let w : View = one a (missed p) in (
+    let w : Sight = sat a (missed p) in (
       w,
       keeps,
       tt,
-      subst (λ b. InOneOrder a (stepped s 0 (either b 1 x) id [] w keeps)) (sym (ne_eqb x 0 out))
-          (unmoved a s r id w [] (law.misses a s.views id p at x r.home r.cell r.history)),
+      subst (λ b. InOneOrder a (stepped s 0 (either b 1 x) id c w keeps)) (sym (ne_eqb x 0 out))
+          (unmoved a s r 0 id w c (λ lane is. sat_lies (IsVacant s.homes r.cell) a (missed p) lane is)
+          (law.misses a views id p is x r.home r.cell r.history)),
       ((λ free. absurd (out free)), λ _. refl),
     ))
 
 -- the turn is given back, with the list that was held and one event more
 puts_allowed :
-    (a : State) (slots id : ℕ) (p : Part) (store : State) (e : Event) (log : List Event) (last : State)
-    → 0 < slots → p.holding ≡ Some log → IsLegal a log last → p.serving ≡ None → p.flight ≡ None
+    (a : State) (slots id : ℕ) (p : Part) (store : State) (c : List (ℕ × Place)) (e : Event) (log : List Event)
+    (last : State) → p.holding ≡ Some log → IsLegal a log last → p.serving ≡ None → p.flight ≡ None
     → Step last e store → e.lane ≡ p.lane
-    → Allows (InOneOrder a) slots id (one a p, (0, store) ∷ []) 0 (λ n. either (eqb n 1) 0 n)
-    (puts_told (e ∷ []) (step slots 0 1 0 none) (one a p, (0, store) ∷ []))
-puts_allowed a slots id p store e log last some_slot held legal unserving idle does lane s r len at small =
+    → Allows (InOneOrder a) slots id (sat a p, (0, Home store) ∷ c) 0 (λ n. either (eqb n 1) 0 n)
+    (puts_told (e ∷ []) (step slots 0 1 0 none) (sat a p, (0, Home store) ∷ c))
+puts_allowed a slots id p store c e log last held legal unserving idle does lane s r len at small =
     let x : ℕ = turn s in
-    let t = law.puts a s.views id p at x r.home r.cell log e last store r.history held unserving idle legal does lane in
-    let w : View = one a (put_own p log e) in (
+    let views : List View = views_of s.views in
+    let is : get_elem? views id ≡ some (one a p) = view_at s.views id (sat a p) at in
+    let t = law.puts a views id p is x r.home r.cell log e last store r.history held unserving idle legal does lane in
+    let w : Sight = sat a (put_own p log e) in (
       w,
       gives,
       tt,
-      subst (λ b. InOneOrder a (stepped s 0 (either b 0 x) id ((0, store) ∷ []) w gives)) (sym (eq-eqb x 1 t.0))
-          (moved_home a s r 0 (some store) (Some store) (set s.views id w)
-          (subst (λ (k : ℕ). 0 < k) (sym len) some_slot) refl t.1),
+      subst (λ b. InOneOrder a (stepped s 0 (either b 0 x) id ((0, Home store) ∷ c) w gives)) (sym (eq-eqb x 1 t.0))
+          (moved_home a s r 0 (some (Home store)) (Some store) id a (put_own p log e) refl t.1),
       λ log' e' held' said'.
           let same_log : log ≡ log' = cc in
           let same_event : e ≡ e' = cc in
-          ap (λ (z : List Event × Event). (one a (put_own p z.0 z.1), [])) (λ i. (same_log i, same_event i)),
+          ap (λ (z : List Event × Event). (sat a (put_own p z.0 z.1), c)) (λ i. (same_log i, same_event i)),
     )
 
 -- the key is what every view has for the opening state
-any_key :
-    (key a : State) (slots id : ℕ) (p : Part) (c : List (ℕ × State)) (f : ℕ → ℕ) (then : ℕ → Me → Type 0)
-    → Allows (InOneOrder a) slots id (one a p, c) 0 f then → Allows (InOneOrder key) slots id (one a p, c) 0 f then
-any_key key a slots id p c f then allowed s r len at small =
+pub any_key :
+    (key a : State) (slots id word : ℕ) (p : Part) (c : List (ℕ × Place)) (f : ℕ → ℕ) (then : ℕ → Me → Type 0)
+    → Allows (InOneOrder a) slots id (sat a p, c) word f then
+    → Allows (InOneOrder key) slots id (sat a p, c) word f then
+any_key key a slots id word p c f then allowed s r len at small =
     let e : a ≡ key =
     ⊎_elim (λ (no : (one a p).stands ≡ Spent). absurd cc) (λ (is : a ≡ key). is)
-    (r.history.openings id (one a p) at) in
-    let t = allowed s (subst (λ (k : State). InOneOrder k s) (sym e) r) len at small in
-    (t.0, t.1, t.2, subst (λ (k : State). InOneOrder k (stepped s 0 (f (turn s)) id c t.0 t.1)) e t.3, t.4)
+    (r.history.openings id (one a p) (view_at s.views id (sat a p) at)) in
+    let t = allowed s (subst (λ (k : State). InOneOrder k s) (sym e) r) len at small in (
+      t.0,
+      t.1,
+      t.2,
+      subst (λ (k : State). InOneOrder k (stepped s word (f (get_or s.words word 0)) id c t.0 t.1)) e t.3,
+      t.4,
+    )
 
 pub takes_at :
-    (key : State) (slots id : ℕ) (m : Me) → m ≡ (one (opening m) (part m), []) → 0 < slots → (part m).holding ≡ None
+    (key : State) (slots id : ℕ) (m : Me) → m ≡ (sat (opening m) (part m), hand_of (part m).flight (part m).lane)
+    → (part m).holding ≡ None
     → Allows (InOneOrder key) slots id m 0 (λ n. either (eqb n 0) 1 n) (takes_told (step slots 0 0 1 none) m)
-takes_at key slots id m is some_slot empty =
+takes_at key slots id m is empty =
     let a : State = opening m in
     let p : Part = part m in
+    let c : List (ℕ × Place) = hand_of p.flight p.lane in
     subst
     (λ (z : Me).
     Allows (InOneOrder key) slots id z 0 (λ n. either (eqb n 0) 1 n) (takes_told (step slots 0 0 1 none) z))
     (sym is)
-    (any_key key a slots id p [] (λ n. either (eqb n 0) 1 n) (takes_told (step slots 0 0 1 none) (one a p, []))
-    (takes_allowed a slots id p some_slot empty))
-
-pub front : (c : List (ℕ × State)) (x : ℕ × State) (xs : List (ℕ × State)) → c ≡ x ∷ xs → c ≡ x ∷ rest c
-front c x xs e = e ∙ ap (λ l. x ∷ rest l) (sym e)
+    (any_key key a slots id 0 p c (λ n. either (eqb n 0) 1 n) (takes_told (step slots 0 0 1 none) (sat a p, c))
+    (takes_allowed a slots id p c empty))
 
 pub puts_at :
-    (key : State) (slots id : ℕ) (m : Me) (e : Event) (log : List Event) → HoldsBefore m log e → 0 < slots
+    (key : State) (slots id : ℕ) (m : Me) (e : Event) (log : List Event) → HoldsBefore m log e
     → e.lane ≡ (part m).lane
     → Allows (InOneOrder key) slots id m 0 (λ k. either (eqb k 1) 0 k) (puts_told (e ∷ []) (step slots 0 1 0 none) m)
-puts_at key slots id m e log h some_slot lane =
+puts_at key slots id m e log h lane =
     let a : State = opening m in
     let p : Part = part m in
-    let c : List (ℕ × State) = (0, h.after) ∷ [] in
+    let c : List (ℕ × Place) = (0, Home h.after) ∷ rest m.1 in
     subst
     (λ (z : Me).
     Allows (InOneOrder key) slots id z 0 (λ k. either (eqb k 1) 0 k) (puts_told (e ∷ []) (step slots 0 1 0 none) z))
     (sym h.has)
-    (any_key key a slots id p c (λ k. either (eqb k 1) 0 k) (puts_told (e ∷ []) (step slots 0 1 0 none) (one a p, c))
-    (puts_allowed a slots id p h.after e log h.last some_slot h.held h.legal h.unserving h.idle h.step lane))
+    (any_key key a slots id 0 p c (λ k. either (eqb k 1) 0 k) (puts_told (e ∷ []) (step slots 0 1 0 none) (sat a p, c))
+    (puts_allowed a slots id p h.after (rest m.1) e log h.last h.held h.legal h.unserving h.idle h.step lane))

@@ -3,4 +3,5 @@ pub mod Rule
 pub mod Told
 pub mod Sitting
 pub mod Seated
+pub mod Helping
 pub mod Seen

@@ -1,41 +1,53 @@
--- The rule of the table: the one history, read on its words, its slot and the views. The form is this project's own.
-use Rattle.std.specs.Prelude.{◌≡◌, ℕ, ◌+◌, ◌<◌, List, Option, Some, None, length, slice_index}
+-- The rule of the table: the one history, read on its words, its slots and the views. The form is this project's own.
+use Rattle.std.specs.Prelude.{◌≡◌, ℕ, ◌+◌, ◌<◌, false, List, Option, Some, None, length, slice_index}
 use mathlib.Core.Option.{none, some}
 use mathlib.Core.Option as maybe
 use lib.ListN.{get_elem?}
 use Rattle.atomic_table.specs.Table as table
 use Rattle.krs_model.specs.State.{State}
 use Rattle.krs_world.specs.declared.view.Cell.{Cell}
-use Rattle.krs_world.specs.declared.view.Cell.TheVariants.{Empty, Posted, Serving, Answered}
-use Rattle.krs_world.specs.declared.view.View.{View}
+use Rattle.krs_world.specs.declared.view.Cell.TheVariants as cells
 use Rattle.krs_world.specs.declared.view.Standing.TheVariants.{Opening}
 use Rattle.krs_world.specs.Knowing.{view}
 use Rattle.krs_world.specs.History.{OneHistory}
+use Rattle.krs_desk.specs.declared.place.Place.{Place}
+use Rattle.krs_desk.specs.declared.place.Place.TheVariants.{Empty, Home, Asked, Replied}
+use Rattle.krs_desk.specs.declared.sight.Sight.{Sight}
+use Rattle.krs_desk.specs.Parts.{sight, views_of, IsLaid}
 
--- the slot has the store that is at home, and is empty where none is
-abbrev pub IsAtHome : Option State → maybe.Option (maybe.Option State) → Type 0
+-- the first slot has the store that is at home, and is empty where none is
+abbrev pub IsAtHome : Option State → maybe.Option (maybe.Option Place) → Type 0
 IsAtHome None slot = slot ≡ some none
-IsAtHome (Some store) slot = slot ≡ some (some store)
+IsAtHome (Some store) slot = slot ≡ some (some (Home store))
 
--- the word of a lane, by its cell
-abbrev pub word_of : Cell → ℕ
-word_of Empty = 0
-word_of (Posted moment ask) = 1
-word_of (Serving moment ask) = 2
-word_of (Answered moment ask reply) = 3
+-- The word of a lane, and what lies in its slot, by its cell. The slot of an empty cell is its seat's, and that of a
+-- cell that is served is the holder's.
+abbrev pub CellIs : ℕ → maybe.Option (maybe.Option Place) → Cell → Type 0
+CellIs word slot cells.Empty = word ≡ 0
+CellIs word slot (cells.Posted moment ask) = (word ≡ 1) × (slot ≡ some (some (Asked moment ask)))
+CellIs word slot (cells.Serving moment ask) = word ≡ 2
+CellIs word slot (cells.Answered moment ask reply) = (word ≡ 3) × (slot ≡ some (some (Replied reply)))
+
+-- the lane's cell is empty, and its slot, where there is one, lies on the table, empty too
+abbrev pub IsVacant : List (maybe.Option Place) → (ℕ → Cell) → ℕ → Type 0
+IsVacant homes cell lane =
+    (cell lane ≡ cells.Empty) × (lane + 1 < length homes → get_elem? homes (lane + 1) ≡ some (some Empty))
 
 -- Word 0 is the turn: 0 free, 1 out, 2 while the seats are dealt. Word 1 + i is the cell of the lane i.
-pub record InOneOrder (opening : State) (s : table.State State View) : Type 0 where
-  pub wide : 0 < length s.words
+pub record InOneOrder (opening : State) (s : table.State Place Sight) : Type 0 where
+  pub wide : length s.words ≡ length s.homes
+  pub any : 0 < length s.words
   pub home : Option State
   pub slot : IsAtHome home (get_elem? s.homes 0)
   pub cell : ℕ → Cell
-  pub cells : (lane : ℕ) → slice_index s.words (lane + 1) ≡ word_of (cell lane)
-  pub history : OneHistory opening (slice_index s.words 0) home cell s.views
+  pub cells : (lane : ℕ) → CellIs (slice_index s.words (lane + 1)) (get_elem? s.homes (lane + 1)) (cell lane)
+  -- what a token is to pick up lies there
+  pub laid : (j lane : ℕ) (v : Sight) → get_elem? s.views j ≡ some v → IsLaid lane v → IsVacant s.homes cell lane
+  pub history : OneHistory opening (slice_index s.words 0) home cell (views_of s.views)
 
--- the view of the first seat, which deals the others
-abbrev pub first_view : State → View
-first_view opening = view opening (Opening 0)
+-- what is known of the first token, which deals the others
+abbrev pub first_sight : State → Sight
+first_sight opening = sight (view opening (Opening 0)) false
 
 -- all cells are empty
 abbrev pub AreZero : List ℕ → Type 0

@@ -1,43 +1,47 @@
 -- How a seat is kept: by what its token of the table knows and holds. The form is this project's own.
-use Rattle.std.specs.Prelude.{◌≡◌, ℕ, List, [], ◌∷◌, Some, None}
+use Rattle.std.specs.Prelude.{◌≡◌, ℕ, ◌+◌, ◌<◌, Bool, true, false, List, ◌∷◌, Option, Some, None}
 use Rattle.atomic_table.specs.Seated.{TableId}
-use Rattle.atomic_table.specs.Table as table
+use Rattle.atomic_table.specs.Table.{rest}
 use Rattle.krs_types.specs.declared.event.Event.{Event}
 use Rattle.krs_model.specs.State.{State}
 use Rattle.krs_model.specs.Sound.{IsSound}
 use Rattle.krs_model.specs.Step.{Step}
 use Rattle.krs_model.specs.History.{IsLegal}
-use Rattle.krs_world.specs.declared.view.Part.{Part}
-use Rattle.krs_world.specs.declared.view.View.{View}
-use Rattle.krs_world.specs.Knowing.{one, taken, loaded}
-use Rattle.krs_desk.specs.Parts.{part_of}
-use Rattle.krs_desk.specs.Told.{Found}
+use Rattle.krs_world.specs.declared.view.Flight.{Flight}
+use Rattle.krs_world.specs.Knowing.{taken, loaded}
+use Rattle.krs_desk.specs.declared.place.Place.TheVariants.{Home}
+use Rattle.krs_desk.specs.Parts.{sat, hand_of}
+use Rattle.krs_desk.specs.Told.{Known, Found}
+pub use Rattle.krs_desk.specs.Told.{part, opening}
 use Rattle.krs_desk.specs.Sitting.{Sitting}
 
--- what a token knows, and the slots that it holds
+-- what a token knows, and the slots that it has
 abbrev pub Me : Type 0
-Me = table.Me State View
-
--- the lane that a token stands for
-abbrev pub part : Me → Part
-part m = part_of m.0.stands
-
-abbrev pub opening : Me → State
-opening m = m.0.opening
+Me = Known
 
 -- what a caller knows of a seat
 abbrev pub sitting_of : TableId → Me → Sitting
 sitting_of table m = record { table = table; opening = opening m; part = part m }
 
--- it stands for one lane and has no slot, and no list is held
+-- it stands for one lane, has its slot unless a call is in flight, and no list is held
 abbrev pub IsResting : Me → Type 0
-IsResting m = (m ≡ (one (opening m) (part m), [])) × ((part m).holding ≡ None)
+IsResting m =
+    (m ≡ (sat (opening m) (part m), hand_of (part m).flight (part m).lane)) × ((part m).holding ≡ None)
+
+-- no call is in flight
+abbrev pub is_free : Option Flight → Bool
+is_free None = true
+is_free (Some call) = false
+
+-- the lane has a word and a slot
+abbrev pub HasSlot : ℕ → TableId → Type 0
+HasSlot lane table = lane + 1 < table.words
 
 -- what holds of a seat between two calls
-pub record IsSeated (lane : ℕ) (m : Me) : Type 0 where
+pub record IsSeated (lane : ℕ) (idle : Bool) (m : Me) : Type 0 where
   pub rests : IsResting m
   pub unserving : (part m).serving ≡ None
-  pub idle : (part m).flight ≡ None
+  pub tells : idle ≡ is_free (part m).flight
   pub numbered : lane ≡ (part m).lane
   pub sound : IsSound (opening m)
   pub last : State
@@ -47,26 +51,26 @@ pub record IsSeated (lane : ℕ) (m : Me) : Type 0 where
 pub record Holds (m n : Me) : Type 0 where
   pub log : List Event
   pub last : State
-  pub has : n ≡ (one (opening m) (taken (part m) log), (0, last) ∷ [])
+  pub has : n ≡ (sat (opening m) (taken (part m) log), (0, Home last) ∷ m.1)
   pub found : Found (opening m) (part m) log last
 
 -- the store that the token has
 abbrev pub Has : Me → State → Type 0
-Has m store = m.1 ≡ (0, store) ∷ []
+Has m store = m.1 ≡ (0, Home store) ∷ rest m.1
 
 -- a step was made on the store that the token has
 pub record Serves (m : Me) (event : Event) (n : Me) : Type 0 where
   pub before : State
   pub after : State
   pub had : Has m before
-  pub has : n ≡ (m.0, (0, after) ∷ [])
+  pub has : n ≡ (m.0, (0, Home after) ∷ rest m.1)
   pub step : Step before event after
 
 -- the token holds this list, and has the store as this event leaves it
 pub record HoldsBefore (m : Me) (log : List Event) (event : Event) : Type 0 where
   pub last : State
   pub after : State
-  pub has : m ≡ (one (opening m) (part m), (0, after) ∷ [])
+  pub has : m ≡ (sat (opening m) (part m), (0, Home after) ∷ rest m.1)
   pub held : (part m).holding ≡ Some log
   pub legal : IsLegal (opening m) log last
   pub step : Step last event after
@@ -77,6 +81,6 @@ pub record HoldsBefore (m : Me) (log : List Event) (event : Event) : Type 0 wher
 pub record SeeOneList (m n new_m new_n : Me) : Type 0 where
   pub log : List Event
   pub last : State
-  pub first : new_m ≡ (one (opening m) (loaded (part m) log), [])
-  pub second : new_n ≡ (one (opening m) (loaded (part n) log), [])
+  pub first : new_m ≡ (sat (opening m) (loaded (part m) log), m.1)
+  pub second : new_n ≡ (sat (opening m) (loaded (part n) log), n.1)
   pub founds : Found (opening m) (part m) log last × Found (opening m) (part n) log last

@@ -1,12 +1,16 @@
 -- What a caller knows of a seat, and how calls, meeting and closing change it. The form is this project's own.
-use Rattle.std.specs.Prelude.{◌≡◌, ℕ, zero, suc, List, [], ◌∷◌, ◌++◌, None}
+use Rattle.std.specs.Prelude.{◌≡◌, ℕ, zero, suc, false, List, [], ◌∷◌, ◌++◌, Some, None, Result}
 use Rattle.atomic_table.specs.Seated.{TableId}
+use Rattle.krs_types.specs.declared.ask.Ask.{Ask}
+use Rattle.krs_types.specs.declared.ask.Answer.{Answer}
+use Rattle.krs_types.specs.declared.errno.Errno.{Errno}
 use Rattle.krs_types.specs.declared.event.Event.{Event}
 use Rattle.krs_model.specs.State.{State}
 use Rattle.krs_model.specs.Lists.{Begins}
-use Rattle.krs_model.specs.History.{IsLegal}
+use Rattle.krs_model.specs.History.{IsLegal, event_of}
 use Rattle.krs_world.specs.declared.view.Part.{Part}
-use Rattle.krs_world.specs.Knowing.{events_of, fresh, missed}
+use Rattle.krs_world.specs.Knowing.{events_of, flight, fresh, missed, posted}
+use Rattle.krs_world.specs.History.{StandsAfter}
 
 -- A seat: of which desk it is, the state of the store that the desk was opened with, and what the seat knows: its lane,
 -- the events that it has `seen`, its own calls `mine`, and how often it `found` the turn taken.
@@ -23,6 +27,10 @@ fresh_seat table opening lane = record { table = table; opening = opening; part 
 abbrev pub fresh_seats : TableId → State → ℕ → List Sitting
 fresh_seats table opening zero = []
 fresh_seats table opening (suc lane) = fresh_seats table opening lane ++ fresh_seat table opening lane ∷ []
+
+-- it is of this desk, and no call of its own is in flight
+abbrev pub IsIdleAt : TableId → Sitting → Type 0
+IsIdleAt table s = (s.table ≡ table) × (s.part.flight ≡ None)
 
 -- the turn was found taken once more
 abbrev pub missed_by : Sitting → Sitting
@@ -43,6 +51,32 @@ pub record Adds (s : Sitting) (event : Event) (t : Sitting) : Type 0 where
   pub mine : t.part.mine ≡ s.part.mine ++ event ∷ []
   pub own : events_of t.part.lane t.part.seen ≡ t.part.mine
 
+-- a call is in flight, after all that was seen
+abbrev pub posted_by : Sitting → ℕ → Ask → Sitting
+posted_by s moment ask = record s { part = posted s.part moment ask }
+
+-- The call that was in flight has its reply. What is now seen is legal from the opening state, begins with all that had
+-- been seen, and has the call after all that had been seen as it was posted. The call is one more of the lane's, and
+-- what is now seen has just those. All else is as before.
+pub record Collects (s : Sitting) (reply : Result Answer Errno) (t : Sitting) : Type 0 where
+  pub table : t.table ≡ s.table
+  pub opening : t.opening ≡ s.opening
+  pub lane : t.part.lane ≡ s.part.lane
+  pub moment : ℕ
+  pub ask : Ask
+  pub before : List Event
+  pub posted : s.part.flight ≡ Some (flight moment ask before)
+  pub seen : Begins s.part.seen t.part.seen
+  pub last : State
+  pub legal : IsLegal s.opening t.part.seen last
+  pub stands : StandsAfter before (event_of s.part.lane moment ask reply) t.part.seen
+  pub mine : t.part.mine ≡ s.part.mine ++ event_of s.part.lane moment ask reply ∷ []
+  pub own : events_of t.part.lane t.part.seen ≡ t.part.mine
+  pub taken : t.part.taken ≡ s.part.taken
+  pub found : t.part.found ≡ s.part.found
+  pub checked : t.part.checked ≡ s.part.checked
+  pub idle : (t.part.flight ≡ None) × (t.part.done ≡ false)
+
 -- the list has just the calls of the lane that have their replies, where none is in flight
 abbrev pub HasItsCalls : Sitting → Type 0
 HasItsCalls s = s.part.flight ≡ None → events_of s.part.lane s.part.seen ≡ s.part.mine
@@ -59,17 +93,10 @@ pub record Meets (s t new_s new_t : Sitting) : Type 0 where
   pub second : Begins t.part.seen new_s.part.seen
   pub mine : (new_s.part.mine ≡ s.part.mine) × (new_t.part.mine ≡ t.part.mine)
   pub own : HasItsCalls new_s × HasItsCalls new_t
+  pub flights : (new_s.part.flight ≡ s.part.flight) × (new_t.part.flight ≡ t.part.flight)
 
 -- the store is the end of a legal list, which begins with what the seat had seen
 pub record EndsIn (s : Sitting) (store : State) : Type 0 where
   pub log : List Event
   pub legal : IsLegal s.opening log store
   pub seen : Begins s.part.seen log
-
--- nothing was called: all but how often the turn was found taken is as before
-pub record HasWaited (s t : Sitting) : Type 0 where
-  pub table : t.table ≡ s.table
-  pub opening : t.opening ≡ s.opening
-  pub lane : t.part.lane ≡ s.part.lane
-  pub seen : t.part.seen ≡ s.part.seen
-  pub mine : t.part.mine ≡ s.part.mine

@@ -1,20 +1,39 @@
 -- What each step on the table tells the token that makes it. The form is this project's own.
-use Rattle.std.specs.Prelude.{◌≡◌, ◌≢◌, ℕ, List, [], ◌∷◌, Some, None}
+use Rattle.std.specs.Prelude.{◌≡◌, ◌≢◌, ℕ, ◌+◌, ◌==◌, ◌&&◌, true, false, List, [], ◌∷◌, ◌++◌, Some, None, Result}
 use Rattle.atomic_table.specs.Table.{Me, Step, rest}
+use Rattle.krs_types.specs.declared.ask.Ask.{Ask}
+use Rattle.krs_types.specs.declared.ask.Answer.{Answer}
+use Rattle.krs_types.specs.declared.errno.Errno.{Errno}
 use Rattle.krs_types.specs.declared.event.Event.{Event}
 use Rattle.krs_model.specs.State.{State}
 use Rattle.krs_model.specs.Lists.{Begins}
 use Rattle.krs_model.specs.History.{IsLegal, event_of}
 use Rattle.krs_world.specs.declared.view.Part.{Part}
-use Rattle.krs_world.specs.declared.view.View.{View}
-use Rattle.krs_world.specs.declared.view.Standing.TheVariants.{Spent, Two}
-use Rattle.krs_world.specs.Knowing.{events_of, view, one, taken, missed, put_own, loaded}
+use Rattle.krs_world.specs.declared.view.Standing.TheVariants.{Two}
+use Rattle.krs_world.specs.Knowing.{events_of, service, flight, view, taken, missed, put_own, put_none, loaded}
+use Rattle.krs_world.specs.Knowing.{posted, grabbed, answered, collected, looked_at}
+use Rattle.krs_world.specs.History.{StandsAfter}
 use Rattle.krs_desk.specs.declared.note.Note.{Note}
-use Rattle.krs_desk.specs.Parts.{part_of, second_of}
+use Rattle.krs_desk.specs.declared.place.Place.{Place}
+use Rattle.krs_desk.specs.declared.place.Place.TheVariants.{Empty, Home, Asked, Replied}
+use Rattle.krs_desk.specs.declared.sight.Sight.{Sight}
+use Rattle.krs_desk.specs.Parts.{sight, sat, spent, part_of, second_of}
 
 -- the call that a note is of
 abbrev pub event_in : Note → Event
 event_in note = event_of note.lane note.moment note.ask.value note.reply.value
+
+-- what a token knows, and the slots that it has
+abbrev pub Known : Type 0
+Known = Me Place Sight
+
+-- the lane that a token stands for
+abbrev pub part : Known → Part
+part m = part_of m.0.view.stands
+
+-- the state of the store at the opening
+abbrev pub opening : Known → State
+opening m = m.0.view.opening
 
 -- the list that was found is legal, begins with what the lane had seen, and has its calls
 pub record Found (opening : State) (p : Part) (log : List Event) (last : State) : Type 0 where
@@ -23,25 +42,88 @@ pub record Found (opening : State) (p : Part) (log : List Event) (last : State) 
   pub mine : p.flight ≡ None → events_of p.lane log ≡ p.mine
 
 -- where the turn was free, the history and the store at its end; else nothing but that it was out
-abbrev pub takes_told : Step State → Me State View → ℕ → Me State View → Type 0
+abbrev pub takes_told : Step Place → Known → ℕ → Known → Type 0
 takes_told step m found n =
     (found ≡ 0 → (log : List Event) × (last : State)
-    × (n ≡ (one m.0.opening (taken (part_of m.0.stands) log), (0, last) ∷ m.1))
-    × Found m.0.opening (part_of m.0.stands) log last)
-    × (found ≢ 0 → n ≡ (one m.0.opening (missed (part_of m.0.stands)), m.1))
+    × (n ≡ (sat (opening m) (taken (part m) log), (0, Home last) ∷ m.1)) × Found (opening m) (part m) log last)
+    × (found ≢ 0 → n ≡ (sat (opening m) (missed (part m)), m.1))
 
 -- the list that was held has this event more
-abbrev pub puts_told : List Event → Step State → Me State View → ℕ → Me State View → Type 0
+abbrev pub puts_told : List Event → Step Place → Known → ℕ → Known → Type 0
 puts_told events step m found n =
-    (log : List Event) (event : Event) → (part_of m.0.stands).holding ≡ Some log → events ≡ event ∷ []
-    → n ≡ (one m.0.opening (put_own (part_of m.0.stands) log event), rest m.1)
+    (log : List Event) (event : Event) → (part m).holding ≡ Some log → events ≡ event ∷ []
+    → n ≡ (sat (opening m) (put_own (part m) log event), rest m.1)
+
+-- the list that was held is seen
+abbrev pub brings_told : Step Place → Known → ℕ → Known → Type 0
+brings_told step m found n =
+    (log : List Event) → (part m).holding ≡ Some log → n ≡ (sat (opening m) (put_none (part m) log), rest m.1)
+
+-- the call in the lane's slot is in flight
+abbrev pub posts_told : Step Place → Known → ℕ → Known → Type 0
+posts_told step m found n =
+    (moment : ℕ) (ask : Ask) → m.1 ≡ (step.word, Asked moment ask) ∷ []
+    → n ≡ (sat (opening m) (posted (part m) moment ask), [])
+
+-- The event of a lane's call that was in flight stands in the list, after all that the lane had seen as it posted it.
+-- The list is legal, begins with what the lane had seen, and has its calls and this one more.
+pub record Gathers (opening : State) (p : Part) (e : Event) (log : List Event) : Type 0 where
+  pub last : State
+  pub legal : IsLegal opening log last
+  pub seen : Begins p.seen log
+  pub before : List Event
+  pub posted : p.flight ≡ Some (flight e.moment e.ask before)
+  pub mine : events_of p.lane log ≡ p.mine ++ e ∷ []
+  pub after : StandsAfter before e log
+
+-- where the cell was answered, its reply, and the history; else nothing, and the holder hasn't seen it answered
+abbrev pub collects_told : Step Place → Known → ℕ → Known → Type 0
+collects_told step m found n =
+    (found ≡ 3 → (log : List Event) × (moment : ℕ) × (ask : Ask) × (reply : Result Answer Errno)
+    × (n ≡ (
+      sat (opening m) (collected (part m) log (event_of (part m).lane moment ask reply)),
+      (step.word, Replied reply) ∷ m.1,
+    ))
+    × Gathers (opening m) (part m) (event_of (part m).lane moment ask reply) log)
+    × (found ≢ 3 → (n ≡ m) × ((part m).done ≢ true))
+
+-- The holder looks at a lane's cell. Where no call is posted there, it was looked at; the holder's own, with a call in
+-- flight, is answered then.
+abbrev pub glances_told : Step Place → Known → ℕ → Known → Type 0
+glances_told step m found n =
+    (lane : ℕ) → step.word ≡ lane + 1
+    → (found ≡ 1 → n ≡ m)
+    × (found ≢ 1
+    → (n ≡ (sat (opening m) (looked_at (part m) lane ((found == 3) && (lane == (part m).lane))), m.1))
+    × (lane ≡ (part m).lane → (part m).flight ≢ None → found ≡ 3))
+
+-- the holder takes up the call that is posted in a lane's cell; where none is, it was looked at
+abbrev pub grabs_told : Step Place → Known → ℕ → Known → Type 0
+grabs_told step m found n =
+    (lane : ℕ) → step.word ≡ lane + 1
+    → (found ≡ 1 → (moment : ℕ) × (ask : Ask)
+    × (n ≡ (sat (opening m) (grabbed (part m) lane moment ask), (step.word, Asked moment ask) ∷ m.1)))
+    × (found ≢ 1
+    → (n ≡ (sat (opening m) (looked_at (part m) lane ((found == 3) && (lane == (part m).lane))), m.1))
+    × (lane ≡ (part m).lane → (part m).flight ≢ None → found ≡ 3))
+
+-- the list that is held has the event of the call that was served
+abbrev pub answers_told : Step Place → Known → ℕ → Known → Type 0
+answers_told step m found n =
+    (log : List Event) (lane moment : ℕ) (ask : Ask) (reply : Result Answer Errno) → (part m).holding ≡ Some log
+    → (part m).serving ≡ Some (service lane moment ask) → m.1 ≡ (step.word, Replied reply) ∷ rest m.1
+    → n ≡ (sat (opening m) (answered (part m) log (event_of lane moment ask reply)), rest m.1)
 
 -- both lanes see one legal list, which begins with what each had seen
-abbrev pub looks_told : Step State → Me State View → ℕ → Me State View → Type 0
+abbrev pub looks_told : Step Place → Known → ℕ → Known → Type 0
 looks_told step m found n =
     (log : List Event) × (last : State)
-    × (n ≡ (view m.0.opening (Two (loaded (part_of m.0.stands) log) (loaded (second_of m.0.stands) log)), m.1))
-    × Found m.0.opening (part_of m.0.stands) log last × Found m.0.opening (second_of m.0.stands) log last
+    × (n ≡ (sight (view (opening m) (Two (loaded (part m) log) (loaded (second_of m.0.view.stands) log))) false, m.1))
+    × Found (opening m) (part m) log last × Found (opening m) (second_of m.0.view.stands) log last
 
-abbrev pub opens_told : Step State → Me State View → ℕ → Me State View → Type 0
-opens_told step m found n = n ≡ (view m.0.opening Spent, m.1)
+-- the slot of a lane that was just dealt
+abbrev pub picks_told : Step Place → Known → ℕ → Known → Type 0
+picks_told step m found n = n ≡ (sight m.0.view false, (step.word, Empty) ∷ m.1)
+
+abbrev pub opens_told : Step Place → Known → ℕ → Known → Type 0
+opens_told step m found n = n ≡ (spent (opening m), m.1)

@@ -19,13 +19,10 @@ impl Desk {
         requires table { seat.table ≡ self }
         ensures { IfOk result (λ store. EndsIn seat store) }
     {
-        let mut closed = self.into_table().close_with(seat.into_token());
-        let turn = closed.word(0);
-        let store = closed.take(0);
-        closed.free();
-        if turn != 0 {
-            return Err(Stopped { turn });
+        let mut token = seat.into_token();
+        match self.fetch(&mut token) {
+            Ok(store) => Ok(store),
+            Err(turn) => Err(Stopped { turn }),
         }
-        Ok(store)
     }
 }

@@ -1,14 +1,18 @@
 //! The desk, and calls at it.
-ghost use Rattle.std.specs.Prelude.{◌≡◌, ◌<◌, true, false, List, [], ◌∷◌, IfOk, IfErr, Some};
+ghost use Rattle.std.specs.Prelude.{◌≡◌, ◌≢◌, ◌+◌, ◌<◌, List, [], ◌∷◌, IfOk, IfErr, Some, None};
+ghost use Rattle.atomic_table.specs.Table.{rest};
 ghost use Rattle.krs_types.specs.declared.event.Event.{Event};
 ghost use Rattle.krs_model.specs.State.{State};
 ghost use Rattle.krs_model.specs.History.{event_of};
-ghost use Rattle.krs_world.specs.Knowing.{one, missed, put_own};
+ghost use Rattle.krs_world.specs.Knowing.{missed, put_own};
+ghost use Rattle.krs_desk.specs.Parts.{sat};
 ghost use Rattle.krs_desk.specs.Told.{event_in};
 ghost use Rattle.krs_desk.specs.Sitting.{Adds, missed_by};
+ghost use Rattle.krs_desk.specs.Helping.{HasLooked};
 ghost use Rattle.krs_desk.specs.Seated.{IsResting, Holds, Has, Serves, HoldsBefore, part, opening};
 
 use crate::note::{Added, Note};
+use crate::place::Place;
 use crate::plays::{Board, Puts, Takes, Token};
 use crate::seat::Seat;
 use krs_types::{Ask, Reply};
@@ -34,11 +38,12 @@ impl Model for Desk {
 
     ghost coded = { table_id_coded };
 
-    ghost use Rattle.std.specs.Prelude.{◌≡◌, ◌<◌};
+    ghost use Rattle.std.specs.Prelude.{◌≡◌, ◌<◌, ◌≤◌};
 
     ghost view = { λ d. d.table.shared.table_id };
 
-    ghost invariant = { λ d. (0 < d.table.shared.table_id.words) × (d.table.shared.table_id.slots ≡ 1) };
+    ghost invariant = { λ d. (0 < d.table.shared.table_id.words) × (d.table.shared.table_id.words ≤ 257)
+        × (d.table.shared.table_id.slots ≡ d.table.shared.table_id.words) };
 }
 
 // By hand, so that a crate which lets a desk go needn't know what a store is made of.
@@ -57,25 +62,16 @@ const LOOKS: u32 = 16;
 const YIELDS: u32 = 1_000;
 
 impl Desk {
-    // The table of a desk that is given up.
-    pub(crate) fn into_table(self) -> Board
-        ensures table { result.shared.table_id ≡ self }
-        ensures sized { (0 < result.shared.table_id.words) × (result.shared.table_id.slots ≡ 1) }
-    {
-        let Self { table, sleepers: _ } = self;
-        table
-    }
-
-    // Whether the turn was free. The token has the store then.
-    fn take(&self, token: &mut Token) -> bool
+    // What was found of the turn. It is 0 where the turn was free: the token has the store then.
+    pub(crate) fn take(&self, token: &mut Token) -> u64
         requires table { token.old.table_id ≡ self.now }
         requires rests { IsResting token.old.me }
         ensures table { token.new.table_id ≡ token.old.table_id }
-        ensures had { result ≡ true → Holds token.old.me token.new.me }
-        ensures missed { result ≡ false
-            → token.new.me ≡ (one (opening token.old.me) (missed (part token.old.me)), []) }
+        ensures had { result ≡ 0 → Holds token.old.me token.new.me }
+        ensures missed { result ≢ 0
+            → token.new.me ≡ (sat (opening token.old.me) (missed (part token.old.me)), token.old.me.1) }
     {
-        self.table.shared.compare_exchange::<Takes>(token, 0, 0, 1) == 0
+        self.table.shared.compare_exchange::<Takes>(token, 0, 0, 1)
     }
 
     // Asks the store that the token has, which stays in its slot.
@@ -85,7 +81,9 @@ impl Desk {
         ensures table { token.new.table_id ≡ token.old.table_id }
         ensures served { Serves token.old.me (event_of lane moment ask result) token.new.me }
     {
-        let store = token.slot_mut(&self.table.shared, 0);
+        let Place::Home(store) = token.slot_mut(&self.table.shared, 0) else {
+            unreachable!()
+        };
         store.apply(lane, moment, ask)
     }
 
@@ -96,7 +94,8 @@ impl Desk {
         requires event { (E.events ≡ event_in note ∷ []) × (note.lane ≡ (part token.old.me).lane) }
         ensures table { token.new.table_id ≡ token.old.table_id }
         ensures put { (log : List Event) → (part token.old.me).holding ≡ Some log
-            → token.new.me ≡ (one (opening token.old.me) (put_own (part token.old.me) log (event_in note)), []) }
+            → token.new.me
+            ≡ (sat (opening token.old.me) (put_own (part token.old.me) log (event_in note)), rest token.old.me.1) }
     {
         let shared = &self.table.shared;
         shared.compare_exchange::<Puts<E>>(token, 0, 1, 0);
@@ -105,17 +104,34 @@ impl Desk {
         }
     }
 
-    // Waits until the turn was free, or for a while.
-    fn wait<R: Wait>(&self, rt: &R) {
+    // Wakes all that sleep on the turn: some of their calls may have been answered.
+    pub(crate) fn wake_all(&self) {
+        for _ in 0..self.sleepers.load(Ordering::SeqCst) {
+            self.table.shared.wake_one(0);
+        }
+    }
+
+    // Whether the turn was free, or the lane's call answered.
+    fn is_worth_a_try(&self, lane: u32) -> bool
+        requires { lane + 1 < self.now.words }
+    {
+        let shared = &self.table.shared;
+        shared.peek(0) == 0 || shared.peek(lane as usize + 1) == 3
+    }
+
+    // Waits until the turn was free or the lane's call answered, or for a while.
+    fn wait<R: Wait>(&self, rt: &R, lane: u32)
+        requires { lane + 1 < self.now.words }
+    {
         for _ in 0..LOOKS {
-            if self.table.shared.peek(0) == 0 {
+            if self.is_worth_a_try(lane) {
                 return;
             }
             hint::spin_loop();
         }
         for _ in 0..YIELDS {
             thread::yield_now();
-            if self.table.shared.peek(0) == 0 {
+            if self.is_worth_a_try(lane) {
                 return;
             }
         }
@@ -124,14 +140,17 @@ impl Desk {
         self.sleepers.fetch_sub(1, Ordering::SeqCst);
     }
 
-    /// Asks the store, where the turn is free. The ask comes back where it is found taken.
+    /// Asks the store, where the turn is free. The ask comes back where it is found taken. For a seat that has no call
+    /// in flight.
     pub fn try_call(&self, seat: &mut Seat, moment: u64, ask: Ask) -> Result<Reply, Ask>
         requires table { seat.old.table ≡ self.now }
+        requires idle { seat.old.part.flight ≡ None }
         ensures table { seat.new.table ≡ seat.old.table }
+        ensures idle { seat.new.part.flight ≡ None }
         ensures added { IfOk result (λ reply. Adds seat.old (event_of seat.old.part.lane moment ask reply) seat.new) }
         ensures missed { IfErr result (λ back. (back ≡ ask) × (seat.new ≡ missed_by seat.old)) }
     {
-        if !self.take(&mut seat.token) {
+        if self.take(&mut seat.token) != 0 {
             return Err(ask);
         }
         let asked = Snapshot::of(&ask);
@@ -146,19 +165,23 @@ impl Desk {
         Ok(reply)
     }
 
-    /// Asks the store, and waits for the turn until it is had.
+    /// Posts a call, and helps or waits until it is answered. Whoever has the turn answers all calls that are posted.
+    /// For a seat that has no call in flight.
     pub fn call<R: Wait>(&self, rt: &R, seat: &mut Seat, moment: u64, ask: Ask) -> Reply
         requires table { seat.old.table ≡ self.now }
+        requires idle { seat.old.part.flight ≡ None }
         ensures table { seat.new.table ≡ seat.old.table }
+        ensures idle { seat.new.part.flight ≡ None }
         ensures added { Adds seat.old (event_of seat.old.part.lane moment ask result) seat.new }
+        ensures looked { HasLooked self.now seat.old seat.new }
     {
-        let mut waiting = ask;
+        self.post(seat, moment, ask);
         for _ in rt.forever() {
-            match self.try_call(seat, moment, waiting) {
-                Ok(reply) => return reply,
-                Err(back) => waiting = back,
+            let _helped = self.help(seat);
+            if let Some(reply) = self.collect(seat) {
+                return reply;
             }
-            self.wait(rt);
+            self.wait(rt, seat.lane);
         }
         unreachable!()
     }

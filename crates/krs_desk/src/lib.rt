@@ -1,17 +1,23 @@
 //! A store that any number of threads share, each by a seat of its own. There is one history of all calls: each reply
-//! is the sequential store's at one point of it, and a contract sees a seat as what it knows of that history.
+//! is the sequential store's at one point of it, and a contract sees a seat as what it knows of that history. A call
+//! may be posted, and is then answered by whoever has the turn.
 #![tactic(auto)]
 
 mod closing;
 mod desk;
+mod helping;
 mod laws;
 mod meeting;
 mod note;
 mod opening;
+mod place;
 mod plays;
+mod posting;
 mod seat;
+mod sight;
 
 pub use closing::Stopped;
 pub use desk::Desk;
+pub use helping::Helped;
 pub use opening::{Refused, Why};
 pub use seat::Seat;

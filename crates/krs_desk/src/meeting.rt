@@ -4,9 +4,8 @@ ghost use Rattle.krs_desk.specs.Sitting.{Meets};
 ghost use Rattle.krs_desk.specs.Seated.{IsResting, SeeOneList};
 
 use crate::desk::Desk;
-use crate::plays::{Cut, Glue, Looks, Token};
+use crate::plays::{Cut, Glue, Looks, Settle, Token};
 use crate::seat::Seat;
-use std::mem;
 
 impl Desk {
     // A look for both lanes at once.
@@ -17,12 +16,11 @@ impl Desk {
         ensures seen { SeeOneList first.old.me second.old.me first.new.me second.new.me }
     {
         let shared = &self.table.shared;
-        let spare = shared.split_seat::<Cut>(first);
-        let other = mem::replace(second, spare);
+        let other = shared.split_seat::<Cut>(second);
         shared.join_seat::<Glue>(first, other);
         shared.load::<Looks>(first, 0);
         let back = shared.split_seat::<Cut>(first);
-        drop(mem::replace(second, back));
+        shared.join_seat::<Settle>(second, back);
     }
 
     /// Both seats have then seen one list, which begins with what each had seen.

@@ -1,18 +1,20 @@
 //! A desk is opened with a store, and gives a seat for each lane.
-ghost use Rattle.std.specs.Prelude.{◌≡◌, ◌<◌, ◌≤◌, ◌↔◌, [], ◌∷◌, All, length, IfOk, IfErr, vec_capacity, slice_index};
+ghost use Rattle.std.specs.Prelude.{◌≡◌, ◌<◌, ◌≤◌, ◌↔◌, ◌+◌, [], ◌∷◌, All, length};
+ghost use Rattle.std.specs.Prelude.{IfOk, IfErr, replicate, vec_capacity, slice_index};
 ghost use Rattle.krs_model.specs.Sound.{IsSound};
-ghost use Rattle.krs_world.specs.Knowing.{view};
-ghost use Rattle.krs_world.specs.declared.view.Standing.TheVariants.{Opening};
 ghost use Rattle.krs_desk.specs.declared.opening.Why.TheVariants.{Lanes, Memory};
-ghost use Rattle.krs_desk.specs.Rule.{AreZero};
-ghost use Rattle.krs_desk.specs.Sitting.{fresh_seats};
+ghost use Rattle.krs_desk.specs.declared.place.Place.TheVariants.{Empty, Home};
+ghost use Rattle.krs_desk.specs.Rule.{AreZero, first_sight};
+ghost use Rattle.krs_desk.specs.Sitting.{IsIdleAt, fresh_seats};
 
 use crate::desk::Desk;
-use crate::plays::{Board, Cut, Opens, Token};
+use crate::place::Place;
+use crate::plays::{Board, Cut, Opens, Picks, Token};
 use crate::seat::Seat;
 use atomic_table::Table;
 use krs_store::Store;
 use std::alloc::Global;
+use std::mem;
 use std::snapshot::Snapshot;
 use std::sync::atomic::AtomicU64;
 
@@ -34,15 +36,21 @@ impl Desk {
     // Deals a seat for each lane, and frees the turn.
     fn deal(&self, mut opener: Token, lanes: u32, seats: &mut Vec<Seat>, about: Snapshot<Store>)
         requires table { opener.table_id ≡ self.now }
-        requires opens { opener.me ≡ (view about.value (Opening 0), []) }
+        requires opens { opener.me ≡ (first_sight about.value, []) }
+        requires slots { lanes < opener.table_id.slots }
         requires sound { IsSound about.value }
         requires room { (seats.old.items ≡ []) × (lanes ≤ vec_capacity seats.old) }
         ensures { seats.new.items ≡ fresh_seats self.now about.value lanes }
     {
         let shared = &self.table.shared;
         for lane in 0..lanes {
-            let token = shared.split_seat::<Cut>(&mut opener);
-            seats.push_reserved(Seat { lane, token });
+            let mut token = shared.split_seat::<Cut>(&mut opener);
+            shared.load::<Picks>(&mut token, lane as usize + 1);
+            seats.push_reserved(Seat {
+                lane,
+                idle: true,
+                token,
+            });
         }
         shared.store::<Opens>(&mut opener, 0, 0);
     }
@@ -50,7 +58,8 @@ impl Desk {
     /// A desk of so many lanes, 1 to 256, with a seat for each.
     pub fn open(alloc: Global, lanes: u32, store: Store) -> Result<(Desk, Vec<Seat>), Refused>
         ensures seats { IfOk result (λ d. d.1.items ≡ fresh_seats d.0 store lanes) }
-        ensures table { IfOk result (λ d. All (λ seat. seat.table ≡ d.0) d.1.items) }
+        ensures fit { IfOk result (λ d. All (IsIdleAt d.0) d.1.items) }
+        ensures wide { IfOk result (λ d. d.0.words ≡ lanes + 1) }
         ensures lanes { IfOk result (λ d. (0 < lanes) × (lanes ≤ 256)) }
         ensures store { IfErr result (λ r. r.store ≡ store) }
         ensures why { IfErr result (λ r. (r.why ≡ Lanes) ↔ (¬ ((0 < lanes) × (lanes ≤ 256)))) }
@@ -72,7 +81,9 @@ impl Desk {
 
     // The store comes back where there is no memory.
     fn open_within(alloc: Global, lanes: u32, store: Store) -> Result<(Desk, Vec<Seat>), Store>
+        requires { lanes ≤ 256 }
         ensures seats { IfOk result (λ d. d.1.items ≡ fresh_seats d.0 store lanes) }
+        ensures wide { IfOk result (λ d. d.0.words ≡ lanes + 1) }
         ensures store { IfErr result (λ back. back ≡ store) }
     {
         let count = lanes as usize;
@@ -83,13 +94,16 @@ impl Desk {
         let Ok(mut seats) = Vec::with_capacity(alloc, count) else {
             return Err(store);
         };
-        let Ok(mut slots) = Vec::with_capacity(alloc, 1) else {
+        let Ok(mut slots) = Vec::with_capacity(alloc, count + 1) else {
             return Err(store);
         };
         store.is_sound();
         let about = Snapshot::of(&store);
-        slots.push_reserved(store);
-        let (desk, opener) = Desk::lay(alloc, words, slots, &about)?;
+        slots.push_reserved(Place::Home(store));
+        for _ in 0..count {
+            slots.push_reserved(Place::Empty);
+        }
+        let (desk, opener) = Desk::lay(alloc, lanes, words, slots, &about)?;
         desk.deal(opener, lanes, &mut seats, about);
         Ok((desk, seats))
     }
@@ -97,14 +111,17 @@ impl Desk {
     // The table, and its first token, which deals the seats.
     fn lay(
         alloc: Global,
+        lanes: u32,
         words: Vec<u64>,
-        slots: Vec<Store>,
+        slots: Vec<Place>,
         about: &Snapshot<Store>,
     ) -> Result<(Desk, Token), Store>
-        requires words { (0 < length words.items) × (slice_index words.items 0 ≡ 2) × AreZero words.items }
-        requires slots { slots.items ≡ about.now.value ∷ [] }
+        requires lanes { lanes ≤ 256 }
+        requires words { (length words.items ≡ lanes + 1) × (slice_index words.items 0 ≡ 2) × AreZero words.items }
+        requires slots { slots.items ≡ Home about.now.value ∷ replicate lanes Empty }
         ensures table { IfOk result (λ t. t.1.table_id ≡ t.0) }
-        ensures opens { IfOk result (λ t. t.1.me ≡ (view about.now.value (Opening 0), [])) }
+        ensures slots { IfOk result (λ t. (t.1.table_id.slots ≡ lanes + 1) × (t.0.words ≡ lanes + 1)) }
+        ensures opens { IfOk result (λ t. t.1.me ≡ (first_sight about.now.value, [])) }
         ensures store { IfErr result (λ back. back ≡ about.now.value) }
     {
         let made: Result<(Board, Token), _> = Table::new(alloc, words.as_slice(), slots, about);
@@ -118,7 +135,7 @@ impl Desk {
             )),
             Err(refused) => {
                 let mut back = refused.slots;
-                let Some(store) = back.pop() else {
+                let Place::Home(store) = mem::replace(&mut back[0], Place::Empty) else {
                     unreachable!()
                 };
                 Err(store)

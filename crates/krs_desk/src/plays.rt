@@ -1,11 +1,13 @@
 //! The rule of the table, and what each step on it tells.
-ghost use Rattle.krs_desk.specs.Told.{takes_told, puts_told, looks_told, opens_told};
-ghost use Rattle.krs_desk.specs.Parts.{kept_view, given_view};
+ghost use Rattle.krs_desk.specs.Told.{takes_told, puts_told, looks_told, opens_told, picks_told};
+ghost use Rattle.krs_desk.specs.Told.{posts_told, collects_told, glances_told, grabs_told, answers_told, brings_told};
+ghost use Rattle.krs_desk.specs.Parts.{kept_sight, given_sight};
 
 use crate::note::Added;
+use crate::place::Place;
+use crate::sight::Sight;
 use atomic_table::{Join, Play, Split, Table, TableRule};
 use krs_store::Store;
-use krs_world::View;
 use std::alloc::Global;
 use std::marker::PhantomData;
 use std::snapshot::Snapshot;
@@ -13,23 +15,23 @@ use std::snapshot::Snapshot;
 /// There is one history of all calls, from the state of the store that the desk was opened with.
 pub struct OneOrder;
 
-impl TableRule<Store, View, Snapshot<Store>> for OneOrder {
-    ghost use Rattle.krs_desk.specs.Rule.{InOneOrder, first_view};
+impl TableRule<Place, Sight, Snapshot<Store>> for OneOrder {
+    ghost use Rattle.krs_desk.specs.Rule.{InOneOrder, first_sight};
 
     ghost holds = { λ key. InOneOrder key.value };
 
-    ghost first = { λ key. first_view key.value };
+    ghost first = { λ key. first_sight key.value };
 }
 
-/// The words, and the store in the one slot.
-pub type Board = Table<Store, View, Snapshot<Store>, OneOrder, Global>;
+/// The words, the store in the first slot, and a slot for each lane.
+pub type Board = Table<Place, Sight, Snapshot<Store>, OneOrder, Global>;
 
-pub type Token = atomic_table::Seat<Store, View>;
+pub type Token = atomic_table::Seat<Place, Sight>;
 
 // The turn is had, or found taken.
 pub(crate) struct Takes;
 
-impl Play<Store, View> for Takes {
+impl Play<Place, Sight> for Takes {
     ghost then = { takes_told };
 }
 
@@ -38,43 +40,102 @@ pub(crate) struct Puts<E> {
     event: PhantomData<E>,
 }
 
-impl<E: Added> Play<Store, View> for Puts<E> {
+impl<E: Added> Play<Place, Sight> for Puts<E> {
     ghost then = { puts_told E.events };
+}
+
+// A lane's call is posted.
+pub(crate) struct Posts;
+
+impl Play<Place, Sight> for Posts {
+    ghost then = { posts_told };
+}
+
+// A lane's reply is taken out of its cell, or none is there.
+pub(crate) struct Collects;
+
+impl Play<Place, Sight> for Collects {
+    ghost then = { collects_told };
+}
+
+// The holder looks at a cell: a call is posted there, or none is.
+pub(crate) struct Glances;
+
+impl Play<Place, Sight> for Glances {
+    ghost then = { glances_told };
+}
+
+// The holder takes up a posted call.
+pub(crate) struct Grabs;
+
+impl Play<Place, Sight> for Grabs {
+    ghost then = { grabs_told };
+}
+
+// The holder answers the call that it serves.
+pub(crate) struct Answers;
+
+impl Play<Place, Sight> for Answers {
+    ghost then = { answers_told };
+}
+
+// The turn is given back, and the history is as it was held.
+pub(crate) struct Brings;
+
+impl Play<Place, Sight> for Brings {
+    ghost then = { brings_told };
 }
 
 // A token of two lanes sees the history so far.
 pub(crate) struct Looks;
 
-impl Play<Store, View> for Looks {
+impl Play<Place, Sight> for Looks {
     ghost then = { looks_told };
+}
+
+// A new seat gets its lane's slot.
+pub(crate) struct Picks;
+
+impl Play<Place, Sight> for Picks {
+    ghost then = { picks_told };
 }
 
 // All seats are dealt.
 pub(crate) struct Opens;
 
-impl Play<Store, View> for Opens {
+impl Play<Place, Sight> for Opens {
     ghost then = { opens_told };
 }
 
-// The opener deals a lane, and a token of two lanes is split.
+// The opener deals a lane, a token of two lanes is split, and one of one lane gives it away.
 pub(crate) struct Cut;
 
-impl Split<View> for Cut {
-    ghost left = { kept_view };
+impl Split<Sight> for Cut {
+    ghost left = { kept_sight };
 
-    ghost right = { given_view };
+    ghost right = { given_sight };
 }
 
 // Two tokens of one lane each become one of two lanes.
 pub(crate) struct Glue;
 
-impl Join<View> for Glue {
+impl Join<Sight> for Glue {
     ghost use Rattle.krs_model.specs.State.{starting_at};
-    ghost use Rattle.krs_world.specs.Knowing.{view};
-    ghost use Rattle.krs_desk.specs.Parts.{both_views};
-    ghost use Rattle.krs_world.specs.declared.view.Standing.TheVariants.{Spent};
+    ghost use Rattle.krs_desk.specs.Parts.{both_sights, spent};
 
-    ghost both = { both_views };
+    ghost both = { both_sights };
 
-    ghost spent = { view (starting_at 3) Spent };
+    ghost spent = { spent (starting_at 3) };
+}
+
+// A token that stands for no lane takes over that of another.
+pub(crate) struct Settle;
+
+impl Join<Sight> for Settle {
+    ghost use Rattle.krs_model.specs.State.{starting_at};
+    ghost use Rattle.krs_desk.specs.Parts.{settled_sight, spent};
+
+    ghost both = { settled_sight };
+
+    ghost spent = { spent (starting_at 3) };
 }

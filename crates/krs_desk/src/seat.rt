@@ -1,5 +1,5 @@
 //! What a thread knows of the one history.
-ghost use Rattle.std.specs.Prelude.{◌≡◌};
+ghost use Rattle.std.specs.Prelude.{◌≡◌, true, None};
 ghost use Rattle.krs_desk.specs.Seated.{IsResting, sitting_of};
 
 use crate::plays::Token;
@@ -7,9 +7,11 @@ use std::marker::Model;
 
 /// A client's place at the desk that made it. It may be sent to another thread. A contract sees which desk it is of,
 /// the state of the store that the desk was opened with, and what it knows of the history: the events that it has seen,
-/// its own calls, and how often it found the turn taken.
+/// its own calls, the one that is in flight, and how often it found the turn taken.
 pub struct Seat {
     pub(crate) lane: u32,
+    // Whether no call is in flight: then the lane's slot is this seat's.
+    pub(crate) idle: bool,
     pub(crate) token: Token,
 }
 
@@ -18,17 +20,21 @@ impl Model for Seat {
 
     ghost Value = { Sitting };
 
-    ghost use Rattle.krs_desk.specs.Seated.{sitting_of, IsSeated};
+    ghost use Rattle.krs_desk.specs.Seated.{sitting_of, IsSeated, HasSlot};
 
     ghost view = { λ s. sitting_of s.token.table_id s.token.me };
 
-    ghost invariant = { λ s. IsSeated s.lane s.token.me };
+    ghost invariant = { λ s. IsSeated s.lane s.idle s.token.me × HasSlot s.lane s.token.table_id };
 }
 
 // By hand, as the desk's.
 impl Drop for Seat {
     fn drop(self) {
-        let Self { lane: _, token: _ } = self;
+        let Self {
+            lane: _,
+            idle: _,
+            token: _,
+        } = self;
     }
 }
 
@@ -38,7 +44,11 @@ impl Seat {
         ensures sitting { sitting_of result.table_id result.me ≡ self }
         ensures rests { IsResting result.me }
     {
-        let Self { lane: _, token } = self;
+        let Self {
+            lane: _,
+            idle: _,
+            token,
+        } = self;
         token
     }
 
@@ -47,5 +57,13 @@ impl Seat {
         ensures { result ≡ self.now.part.lane }
     {
         self.lane
+    }
+
+    /// Whether no call of this seat is in flight: none was posted whose reply was not collected.
+    pub fn is_idle(&self) -> bool
+        ensures idle { result ≡ true → self.now.part.flight ≡ None }
+        ensures busy { self.now.part.flight ≡ None → result ≡ true }
+    {
+        self.idle
     }
 }

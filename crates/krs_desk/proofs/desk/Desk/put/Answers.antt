@@ -9,5 +9,5 @@ compare_exchange-requires g c =
       search rules,
       search rules,
       rw c.requires.event.0
-          (puts_at _ _ _ c.args.token.now.me (event_in c.args.note) held.0 held.1 (search rules) c.requires.event.1),
+          (puts_at _ _ _ c.args.token.now.me (event_in c.args.note) held.0 held.1 c.requires.event.1),
     )

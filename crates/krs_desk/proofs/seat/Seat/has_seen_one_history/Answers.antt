@@ -6,4 +6,4 @@ use Rattle.krs_desk.proofs.seat.Seat.has_seen_one_history.Goals as goal
 pub returns : goal.returns
 returns c =
     subst (λ (s : Sitting). IsOneHistory s.opening s.part.seen) c.self.view_is
-    (c.self.invariant.last, c.self.invariant.legal)
+    (c.self.invariant.0.last, c.self.invariant.0.legal)

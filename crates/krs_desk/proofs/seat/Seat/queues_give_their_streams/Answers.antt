@@ -8,10 +8,10 @@ use Rattle.krs_desk.proofs.seat.Seat.queues_give_their_streams.Goals as goal
 
 pub returns-clause-seen : goal.returns-clause-seen
 returns-clause-seen c =
-    let seated = c.self.invariant in
+    let seated = c.self.invariant.0 in
     subst (λ (s : Sitting). GivesItsStreams s.opening s.part.seen) c.self.view_is
     (gives_its_streams _ seated.last _ seated.sound seated.legal)
 
 pub returns-clause-always : goal.returns-clause-always
 returns-clause-always c =
-    subst (λ (s : Sitting). GivesStreams s.opening) c.self.view_is (gives_streams _ c.self.invariant.sound)
+    subst (λ (s : Sitting). GivesStreams s.opening) c.self.view_is (gives_streams _ c.self.invariant.0.sound)

@@ -8,11 +8,11 @@ use Rattle.krs_desk.proofs.seat.Seat.revoked_keys_are_not_read.Goals as goal
 
 pub returns-clause-seen : goal.returns-clause-seen
 returns-clause-seen c =
-    let seated = c.self.invariant in
+    let seated = c.self.invariant.0 in
     subst (λ (s : Sitting). IsNotReadRevoked s.opening s.part.seen) c.self.view_is
     (not_read_revoked _ seated.last _ (revoked_unread _ seated.sound.unused) seated.legal)
 
 pub returns-clause-always : goal.returns-clause-always
 returns-clause-always c =
     subst (λ (s : Sitting). StaysUnread s.opening) c.self.view_is
-    (revoked_unread _ c.self.invariant.sound.unused)
+    (revoked_unread _ c.self.invariant.0.sound.unused)

@@ -1,0 +1,116 @@
+-- A call that is posted, helped and collected, and what its caller is told.
+use Rattle.std.proofs.Common.{◌≡◌, ◌<◌, ℕ, List, [], ◌∷◌, ◌++◌, Some, Result, refl, sym, ap, ◌∙◌, subst, arith}
+use Rattle.std.proofs.Common.{append_assoc}
+use Rattle.atomic_table.specs.Seated.{TableId}
+use Rattle.krs_types.specs.declared.ask.Ask.{Ask}
+use Rattle.krs_types.specs.declared.ask.Answer.{Answer}
+use Rattle.krs_types.specs.declared.errno.Errno.{Errno}
+use Rattle.krs_types.specs.declared.event.Event.{Event}
+use Rattle.krs_model.specs.Lists.{Begins}
+use Rattle.krs_model.specs.State.{State}
+use Rattle.krs_model.specs.History.{IsLegal, event_of}
+use Rattle.krs_world.specs.Knowing.{flight}
+use Rattle.krs_world.proofs.Keeping.{prefix_self, prefix_trans, prefix_more}
+use Rattle.krs_desk.specs.declared.helping.Helped.{Helped}
+use Rattle.krs_desk.specs.declared.helping.Helped.TheVariants.{Took, Busy}
+use Rattle.krs_desk.specs.Sitting.{Sitting, posted_by, Collects, Adds}
+use Rattle.krs_desk.specs.Helping.{HasHelped, HasLooked, Waits}
+use Rattle.krs_desk.proofs.Seen.{legal_cut}
+
+pub waits_posted :
+    (desk : TableId) (s t : Sitting) (moment : ℕ) (ask : Ask) → t ≡ posted_by s moment ask → Waits desk s moment ask t
+waits_posted desk s t moment ask is =
+    subst (Waits desk s moment ask) (sym is)
+    record {
+      same_table = refl;
+      opening = refl;
+      lane = refl;
+      flight = refl;
+      mine = refl;
+      seen = prefix_self s.part.seen;
+      rises = λ lt. omega arith;
+      looked = λ lt. absurd (omega arith);
+    }
+
+helped_on :
+    (desk : TableId) (s t u : Sitting) (moment : ℕ) (ask : Ask) (how : Helped) → Waits desk s moment ask t
+    → HasHelped desk t how u → Waits desk s moment ask u
+helped_on desk s t u moment ask (Took count) w h =
+    let rises = w.rises in
+    let more = h.taken in
+    record {
+      same_table = h.same_table ∙ w.same_table;
+      opening = h.opening ∙ w.opening;
+      lane = h.lane ∙ w.lane;
+      flight = h.flight ∙ w.flight;
+      mine = h.mine ∙ w.mine;
+      seen =
+          prefix_trans s.part.seen t.part.seen u.part.seen w.seen
+          (subst (Begins t.part.seen) (sym h.seen) (prefix_more t.part.seen u.part.base h.answered h.before));
+      rises = λ lt. rises (omega arith);
+      looked = λ lt. h.checked;
+    }
+helped_on desk s t u moment ask Busy w h =
+    subst (Waits desk s moment ask) (sym h.1)
+    record {
+      same_table = w.same_table;
+      opening = w.opening;
+      lane = w.lane;
+      flight = w.flight;
+      mine = w.mine;
+      seen = w.seen;
+      rises = w.rises;
+      looked = w.looked;
+    }
+
+pub waits_helped :
+    (desk : TableId) (s t u : Sitting) (moment : ℕ) (ask : Ask) (how : Helped) → Waits desk s moment ask t
+    → HasHelped desk t how u → Waits desk s moment ask u
+waits_helped desk s t u moment ask how w h = helped_on desk s t u moment ask how w h
+
+same_flight :
+    (moment moment' : ℕ) (ask ask' : Ask) (before before' : List Event)
+    → Some (flight moment ask before) ≡ Some (flight moment' ask' before')
+    → (moment ≡ moment') × (ask ≡ ask') × (before ≡ before')
+same_flight moment moment' ask ask' before before' e =
+    let one_flight : flight moment ask before ≡ flight moment' ask' before' = cc in
+    (ap (λ f. f.moment) one_flight, ap (λ f. f.ask) one_flight, ap (λ f. f.after) one_flight)
+
+-- the reply of a call that was waited for
+pub adds_collected :
+    (desk : TableId) (s t u : Sitting) (moment : ℕ) (ask : Ask) (reply : Result Answer Errno)
+    → Waits desk s moment ask t → Collects t reply u → Adds s (event_of s.part.lane moment ask reply) u
+adds_collected desk s t u moment ask reply w c =
+    let same = same_flight moment c.moment ask c.ask s.part.seen c.before (sym w.flight ∙ c.posted) in
+    let e : Event = event_of s.part.lane moment ask reply in
+    let said : event_of t.part.lane c.moment c.ask reply ≡ e =
+    λ i. event_of (w.lane i) (sym same.0 i) (sym same.1 i) reply in
+    let between : List Event = c.stands.0 in
+    let after : List Event = c.stands.1 in
+    let upto : List Event = (s.part.seen ++ between) ++ e ∷ [] in
+    let whole : u.part.seen ≡ upto ++ after =
+    c.stands.2 ∙ ((λ i. (sym same.2 i ++ between) ++ said i ∷ after)
+    ∙ sym (append_assoc (s.part.seen ++ between) (e ∷ []) after)) in
+    let legal : IsLegal s.opening (upto ++ after) c.last =
+    subst (λ (z : State × List Event). IsLegal z.0 z.1 c.last) (λ i. (w.opening i, whole i)) c.legal in
+    let cut = legal_cut s.opening c.last upto after legal in
+    record {
+      table = c.table ∙ w.same_table;
+      opening = c.opening ∙ w.opening;
+      lane = c.lane ∙ w.lane;
+      upto = upto;
+      between = between;
+      last = cut.0;
+      begins = (after, sym whole);
+      legal = cut.1;
+      ends = refl;
+      mine = c.mine ∙ (λ i. w.mine i ++ said i ∷ []);
+      own = c.own;
+    }
+
+-- if the seat took the turn meanwhile, it looked at each lane's cell
+pub looked_collected :
+    (desk : TableId) (s t u : Sitting) (moment : ℕ) (ask : Ask) (reply : Result Answer Errno)
+    → Waits desk s moment ask t → Collects t reply u → HasLooked desk s u
+looked_collected desk s t u moment ask reply w c =
+    λ lt. c.checked ∙ w.looked (subst (λ (n : ℕ). s.part.taken < n) c.taken lt)

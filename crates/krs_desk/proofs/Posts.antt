@@ -1,0 +1,295 @@
+-- Posting a call and collecting its reply keep the rule of the table, and what their callers are told.
+use Rattle.std.proofs.Common.{◌≡◌, ℕ, ◌+◌, ◌<◌, eqb, Bool, true, false, List, [], ◌∷◌, ◌++◌, get_or}
+use Rattle.std.proofs.Common.{None, Result, refl, sym, ap, ◌∙◌, subst, arith, eq-eqb, ne_eqb}
+use mathlib.Core.Option.{none, some}
+use mathlib.Core.Option as maybe
+use mathlib.Core.Logic.{dite}
+use native.Mathlib.Decide.{ℕ_discrete}
+use prog.Atomic.{either}
+use lib.ListN.{get_elem?}
+use Rattle.atomic_table.specs.Seated.{TableId}
+use Rattle.atomic_table.specs.Table.{step, stepped, keeps, takes, gives, rest, Allows}
+use Rattle.krs_types.specs.declared.ask.Ask.{Ask}
+use Rattle.krs_types.specs.declared.ask.Answer.{Answer}
+use Rattle.krs_types.specs.declared.errno.Errno.{Errno}
+use Rattle.krs_types.specs.declared.event.Event.{Event}
+use Rattle.krs_model.specs.Lists.{Begins}
+use Rattle.krs_model.specs.History.{event_of}
+use Rattle.krs_model.specs.State.{State}
+use Rattle.krs_world.specs.declared.view.Cell.{Cell}
+use Rattle.krs_world.specs.declared.view.Cell.TheVariants as cells
+use Rattle.krs_world.specs.declared.view.Part.{Part}
+use Rattle.krs_world.specs.declared.view.View.{View}
+use Rattle.krs_world.specs.Knowing.{one, posted, collected}
+use Rattle.krs_world.specs.History.{Fits}
+use Rattle.krs_world.proofs.Keeping as law
+use Rattle.krs_world.proofs.Posting as posting
+use Rattle.krs_desk.specs.declared.place.Place.{Place}
+use Rattle.krs_desk.specs.declared.place.Place.TheVariants.{Empty, Asked, Replied}
+use Rattle.krs_desk.specs.declared.sight.Sight.{Sight}
+use Rattle.krs_desk.specs.Parts.{sat, views_of, hand_of}
+use Rattle.krs_desk.specs.Rule.{CellIs, IsVacant, InOneOrder}
+use Rattle.krs_desk.specs.Told.{posts_told, collects_told, Gathers}
+use Rattle.krs_desk.specs.Sitting.{Sitting, posted_by, Collects}
+use Rattle.krs_desk.specs.Seated.{Me, opening, part, sitting_of, IsSeated}
+use Rattle.krs_desk.proofs.Steps.{Slot, turn, unmoved, view_at, sat_lies, any_key}
+use Rattle.krs_desk.proofs.Cells.{lies_apart, moved_cell}
+use Rattle.krs_desk.proofs.Seats.{own_slot}
+
+-- Posting.
+
+posts_allowed :
+    (a : State) (slots id : ℕ) (p : Part) (m : ℕ) (ask : Ask) → p.flight ≡ None → p.lane + 1 < slots
+    → Allows (InOneOrder a) slots id (sat a p, (p.lane + 1, Asked m ask) ∷ []) (p.lane + 1) (λ _. 1)
+    (λ _. posts_told (step slots (p.lane + 1) 1 0 none) (sat a p, (p.lane + 1, Asked m ask) ∷ []) 1)
+posts_allowed a slots id p m ask idle room s r len at small =
+    let views : List View = views_of s.views in
+    let is : get_elem? views id ≡ some (one a p) = view_at s.views id (sat a p) at in (
+      sat a (posted p m ask),
+      gives,
+      tt,
+      moved_cell a s r p.lane 1 (some (Asked m ask)) (cells.Posted m ask) id a (posted p m ask) (omega arith)
+          (refl, refl) (λ j l v not e lies. lies_apart a s r id p is j l v not e lies)
+          (posting.posts a views id p is (turn s) r.home r.cell r.history m ask idle),
+      λ m' ask' same.
+          let head : ◌≡◌ {A = ℕ × Place} (p.lane + 1, Asked m ask) (p.lane + 1, Asked m' ask') = cc in
+          let said : Asked m ask ≡ Asked m' ask' = ap (λ (q : ℕ × Place). q.1) head in
+          let em : m ≡ m' = cc in
+          let ea : ask ≡ ask' = cc in
+          λ i. (sat a (posted p (em i) (ea i)), []),
+    )
+
+pub posts_at :
+    (key : State) (slots id lane : ℕ) (idle : Bool) (m n : Me) (moment : ℕ) (ask : Ask) → IsSeated lane idle m
+    → (part m).flight ≡ None → n ≡ (m.0, (lane + 1, Asked moment ask) ∷ rest m.1) → lane + 1 < slots
+    → Allows (InOneOrder key) slots id n (lane + 1) (λ _. 1) (λ _. posts_told (step slots (lane + 1) 1 0 none) n 1)
+posts_at key slots id lane idle m n moment ask seated quiet e room =
+    let a : State = opening m in
+    let p : Part = part m in
+    let is : lane ≡ p.lane = seated.numbered in
+    let slot : m.1 ≡ (lane + 1, Empty) ∷ [] = own_slot lane idle m seated quiet in
+    let now : n ≡ (sat a p, (p.lane + 1, Asked moment ask) ∷ []) =
+    e ∙ (λ i. (ap (λ (k : Me). k.0) seated.rests.0 i, (is i + 1, Asked moment ask) ∷ rest (slot i))) in
+    subst
+    (λ (z : ℕ × Me). Allows (InOneOrder key) slots id z.1 (z.0 + 1) (λ _. 1)
+    (λ _. posts_told (step slots (z.0 + 1) 1 0 none) z.1 1)) (λ i. (sym is i, sym now i))
+    (any_key key a slots id (p.lane + 1) p ((p.lane + 1, Asked moment ask) ∷ []) (λ _. 1)
+    (λ _. posts_told (step slots (p.lane + 1) 1 0 none) (sat a p, (p.lane + 1, Asked moment ask) ∷ []) 1)
+    (posts_allowed a slots id p moment ask quiet (subst (λ (l : ℕ). l + 1 < slots) is room)))
+
+-- the token of a seat after its call was posted
+pub posted_is :
+    (slots lane : ℕ) (idle : Bool) (m n w : Me) (moment : ℕ) (ask : Ask) → IsSeated lane idle m
+    → (part m).flight ≡ None → n ≡ (m.0, (lane + 1, Asked moment ask) ∷ rest m.1)
+    → posts_told (step slots (lane + 1) 1 0 none) n 1 w → w ≡ (sat (opening m) (posted (part m) moment ask), [])
+posted_is slots lane idle m n w moment ask seated quiet e told =
+    let slot : m.1 ≡ (lane + 1, Empty) ∷ [] = own_slot lane idle m seated quiet in
+    told moment ask
+    (ap (λ (k : Me). k.1) e ∙ ap (λ (c : List (ℕ × Place)). (lane + 1, Asked moment ask) ∷ rest c) slot)
+    ∙ ap (λ (k : Me). (sat (opening k) (posted (part k) moment ask), [])) e
+
+pub posted_seated :
+    (lane : ℕ) (idle : Bool) (m n : Me) (moment : ℕ) (ask : Ask) → IsSeated lane idle m
+    → n ≡ (sat (opening m) (posted (part m) moment ask), []) → IsSeated lane false n
+posted_seated lane idle m n moment ask seated is =
+    subst (λ (z : Me). IsSeated lane false z) (sym is)
+    record {
+      rests = (refl, seated.rests.1);
+      unserving = seated.unserving;
+      tells = refl;
+      numbered = seated.numbered;
+      sound = seated.sound;
+      last = seated.last;
+      legal = seated.legal;
+    }
+
+pub posts_is :
+    (k l : TableId) (m n : Me) (s : Sitting) (moment : ℕ) (ask : Ask) → sitting_of k m ≡ s → l ≡ k
+    → n ≡ (sat (opening m) (posted (part m) moment ask), []) → sitting_of l n ≡ posted_by s moment ask
+posts_is k l m n s moment ask view same is =
+    (λ i. sitting_of (same i) (is i)) ∙ ap (λ (z : Sitting). posted_by z moment ask) view
+
+-- Collecting.
+
+-- what a lane's cell is whose word is 3
+pub answered_of :
+    (x : ℕ) (slot : maybe.Option Slot) (c : Cell) → CellIs x slot c → x ≡ 3
+    → (m : ℕ) × (ask : Ask) × (r : Result Answer Errno) × (c ≡ cells.Answered m ask r) × (slot ≡ some (some (Replied r)))
+answered_of x slot cells.Empty is e = absurd (let zero_is : x ≡ 0 = is in omega arith)
+answered_of x slot (cells.Posted m ask) is e = absurd (let one_is : x ≡ 1 = is.0 in omega arith)
+answered_of x slot (cells.Serving m ask) is e = absurd (let two_is : x ≡ 2 = is in omega arith)
+answered_of x slot (cells.Answered m ask r) is e = (m, ask, r, refl, is.1)
+
+-- a lane that is done has its cell answered
+done_of :
+    (x : ℕ) (slot : maybe.Option Slot) (c : Cell) (log : List Event) (p : Part) → CellIs x slot c → Fits log p c
+    → p.done ≡ true → x ≡ 3
+done_of x slot cells.Empty log p is f d = absurd (let no : true ≡ false = sym d ∙ f.2 in cc)
+done_of x slot (cells.Posted m ask) log p is f d = absurd (let no : true ≡ false = sym d ∙ f.3 in cc)
+done_of x slot (cells.Serving m ask) log p is f d = absurd (let no : true ≡ false = sym d ∙ f.3 in cc)
+done_of x slot (cells.Answered m ask r) log p is f d = is.0
+
+collects_allowed :
+    (a : State) (slots id : ℕ) (p : Part) (c : List (ℕ × Place)) → p.lane + 1 < slots
+    → Allows (InOneOrder a) slots id (sat a p, c) (p.lane + 1) (λ n. either (eqb n 3) 0 n)
+    (collects_told (step slots (p.lane + 1) 3 0 none) (sat a p, c))
+collects_allowed a slots id p c room s r len at small =
+    let lane : ℕ = p.lane in
+    let x : ℕ = get_or s.words (lane + 1) 0 in
+    let views : List View = views_of s.views in
+    let is : get_elem? views id ≡ some (one a p) = view_at s.views id (sat a p) at in
+    let k = law.own a views id p is (turn s) r.home r.cell r.history in
+    dite (ℕ_discrete x 3)
+    (λ hit.
+    let t = answered_of x (get_elem? s.homes (lane + 1)) (r.cell lane) (r.cells lane) hit in
+    let e : Event = event_of lane t.0 t.1 t.2 in
+    let log : List Event = r.history.log in
+    let fit : Fits log p (cells.Answered t.0 t.1 t.2) = subst (Fits log p) t.3 k.fits in
+    let w : Sight = sat a (collected p log e) in (
+      w,
+      takes (lane + 1) (Replied t.2),
+      t.4,
+      subst (λ b. InOneOrder a (stepped s (lane + 1) (either b 0 x) id c w (takes (lane + 1) (Replied t.2))))
+          (sym (eq-eqb x 3 hit))
+          (moved_cell a s r lane 0 none cells.Empty id a (collected p log e) (omega arith) refl
+          (λ j l v not e lies. lies_apart a s r id p is j l v not e lies)
+          (posting.collects a views id p is (turn s) r.home r.cell r.history t.0 t.1 t.2 log t.3 k.seen
+          (law.prefix_self log) (subst (Begins (p.mine ++ e ∷ [])) (sym fit.2) (law.prefix_self (p.mine ++ e ∷ []))))),
+      (
+        (λ _. (
+          log,
+          t.0,
+          t.1,
+          t.2,
+          refl,
+          record {
+            last = r.history.last;
+            legal = r.history.legal;
+            seen = k.seen;
+            before = fit.0;
+            posted = fit.1;
+            mine = fit.2;
+            after = fit.3;
+          },
+        )),
+        λ not. absurd (not hit),
+      ),
+    ))
+    (λ miss. (
+      sat a p,
+      keeps,
+      tt,
+      subst (λ b. InOneOrder a (stepped s (lane + 1) (either b 0 x) id c (sat a p) keeps)) (sym (ne_eqb x 3 miss))
+          (unmoved a s r (lane + 1) id (sat a p) c (λ l lies. sat_lies (IsVacant s.homes r.cell) a p l lies)
+          (law.stays a views id p is (turn s) r.home r.cell r.history p refl refl (λ e. e) k)),
+      (
+        (λ hit. absurd (miss hit)),
+        λ _. (
+          refl,
+          λ d. miss
+              (done_of x (get_elem? s.homes (lane + 1)) (r.cell lane) r.history.log p (r.cells lane) k.fits d),
+        ),
+      ),
+    ))
+
+pub collects_at :
+    (key : State) (slots id lane : ℕ) (idle : Bool) (m : Me) → IsSeated lane idle m → lane + 1 < slots
+    → Allows (InOneOrder key) slots id m (lane + 1) (λ n. either (eqb n 3) 0 n)
+    (collects_told (step slots (lane + 1) 3 0 none) m)
+collects_at key slots id lane idle m seated room =
+    let a : State = opening m in
+    let p : Part = part m in
+    let is : lane ≡ p.lane = seated.numbered in
+    let c : List (ℕ × Place) = hand_of p.flight p.lane in
+    subst
+    (λ (z : ℕ × Me). Allows (InOneOrder key) slots id z.1 (z.0 + 1) (λ n. either (eqb n 3) 0 n)
+    (collects_told (step slots (z.0 + 1) 3 0 none) z.1)) (λ i. (sym is i, sym seated.rests.0 i))
+    (any_key key a slots id (p.lane + 1) p c (λ n. either (eqb n 3) 0 n)
+    (collects_told (step slots (p.lane + 1) 3 0 none) (sat a p, c))
+    (collects_allowed a slots id p c (subst (λ (l : ℕ). l + 1 < slots) is room)))
+
+-- the reply that was told is the one that was read
+same_reply : (i : ℕ) (told : Result Answer Errno) (x : Place) (reply : Result Answer Errno) (c d : List (ℕ × Place))
+    → (i, Replied told) ∷ c ≡ (i, x) ∷ d → x ≡ Replied reply → told ≡ reply
+same_reply i told x reply c d both read =
+    let head : ◌≡◌ {A = ℕ × Place} (i, Replied told) (i, x) = cc in
+    let one_place : Replied told ≡ Replied reply = ap (λ (q : ℕ × Place). q.1) head ∙ read in
+    cc
+
+-- the token of a seat after its reply was taken out of its slot
+pub collected_is :
+    (m n w : Me) (x : Place) (i : ℕ) (log : List Event) (moment : ℕ) (ask : Ask) (told reply : Result Answer Errno)
+    → n ≡ (sat (opening m) (collected (part m) log (event_of (part m).lane moment ask told)), (i, Replied told) ∷ m.1)
+    → n.1 ≡ (i, x) ∷ rest n.1 → x ≡ Replied reply → w ≡ (n.0, (i, Empty) ∷ rest n.1)
+    → w ≡ (sat (opening m) (collected (part m) log (event_of (part m).lane moment ask reply)), (i, Empty) ∷ m.1)
+collected_is m n w x i log moment ask told reply is slot read left =
+    let same : told ≡ reply =
+    same_reply i told x reply m.1 (rest n.1) (sym (ap (λ (k : Me). k.1) is) ∙ slot) read in
+    left ∙ (ap (λ (k : Me). (k.0, (i, Empty) ∷ rest k.1)) is
+    ∙ ap (λ (z : Result Answer Errno). (
+      sat (opening m) (collected (part m) log (event_of (part m).lane moment ask z)),
+      (i, Empty) ∷ m.1,
+    )) same)
+
+-- and what was gathered, with the reply that was read
+pub gathered :
+    (m n : Me) (x : Place) (i : ℕ) (log : List Event) (moment : ℕ) (ask : Ask) (told reply : Result Answer Errno)
+    → n ≡ (sat (opening m) (collected (part m) log (event_of (part m).lane moment ask told)), (i, Replied told) ∷ m.1)
+    → n.1 ≡ (i, x) ∷ rest n.1 → x ≡ Replied reply
+    → Gathers (opening m) (part m) (event_of (part m).lane moment ask told) log
+    → Gathers (opening m) (part m) (event_of (part m).lane moment ask reply) log
+gathered m n x i log moment ask told reply is slot read g =
+    subst (λ (z : Result Answer Errno). Gathers (opening m) (part m) (event_of (part m).lane moment ask z) log)
+    (same_reply i told x reply m.1 (rest n.1) (sym (ap (λ (k : Me). k.1) is) ∙ slot) read) g
+
+pub collected_seated :
+    (lane : ℕ) (idle : Bool) (m w : Me) (log : List Event) (e : Event) → IsSeated lane idle m
+    → Gathers (opening m) (part m) e log
+    → w ≡ (sat (opening m) (collected (part m) log e), (lane + 1, Empty) ∷ m.1) → IsSeated lane true w
+collected_seated lane idle m w log e seated g is =
+    let bare : m.1 ≡ [] = ap (λ (k : Me). k.1) seated.rests.0 ∙ ap (λ f. hand_of f (part m).lane) g.posted in
+    subst (λ (z : Me). IsSeated lane true z) (sym is)
+    record {
+      rests =
+          (λ i. (sat (opening m) (collected (part m) log e), (seated.numbered i + 1, Empty) ∷ bare i), seated.rests.1);
+      unserving = seated.unserving;
+      tells = refl;
+      numbered = seated.numbered;
+      sound = seated.sound;
+      last = g.last;
+      legal = g.legal;
+    }
+
+collects :
+    (k : TableId) (m : Me) (log : List Event) (moment : ℕ) (ask : Ask) (reply : Result Answer Errno)
+    (c : List (ℕ × Place)) → Gathers (opening m) (part m) (event_of (part m).lane moment ask reply) log
+    → Collects (sitting_of k m) reply
+    (sitting_of k (sat (opening m) (collected (part m) log (event_of (part m).lane moment ask reply)), c))
+collects k m log moment ask reply c g = record {
+  table = refl;
+  opening = refl;
+  lane = refl;
+  moment = moment;
+  ask = ask;
+  before = g.before;
+  posted = g.posted;
+  seen = g.seen;
+  last = g.last;
+  legal = g.legal;
+  stands = g.after;
+  mine = refl;
+  own = g.mine;
+  taken = refl;
+  found = refl;
+  checked = refl;
+  idle = (refl, refl);
+}
+
+pub collects_is :
+    (k l : TableId) (m w : Me) (s : Sitting) (log : List Event) (moment : ℕ) (ask : Ask) (reply : Result Answer Errno)
+    (c : List (ℕ × Place)) → sitting_of k m ≡ s → l ≡ k
+    → w ≡ (sat (opening m) (collected (part m) log (event_of (part m).lane moment ask reply)), c)
+    → Gathers (opening m) (part m) (event_of (part m).lane moment ask reply) log → Collects s reply (sitting_of l w)
+collects_is k l m w s log moment ask reply c view same is g =
+    subst (λ (z : Sitting × Sitting). Collects z.0 reply z.1) (λ i. (view i, sitting_of (sym same i) (sym is i)))
+    (collects k m log moment ask reply c g)

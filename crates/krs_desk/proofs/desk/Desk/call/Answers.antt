@@ -1,0 +1,9 @@
+use Rattle.krs_desk.proofs.Calls.{waits_helped, adds_collected}
+use Rattle.krs_desk.proofs.desk.Desk.call.Goals as goal
+
+pub returns-in-Some-collect-clause-added : goal.returns-in-Some-collect-clause-added
+returns-in-Some-collect-clause-added g c =
+    adds_collected c.args.self.now c.args.seat.now c.help-helped.new.seat c.collect.new.seat c.args.moment c.args.ask
+    c.in-Some-collect.reply
+    (waits_helped c.args.self.now c.args.seat.now c.loop.seat c.help-helped.new.seat c.args.moment c.args.ask
+    c.help-helped.result c.loop.invariant.waits c.help-helped.ensures.helped) c.in-Some-collect.ensures.some

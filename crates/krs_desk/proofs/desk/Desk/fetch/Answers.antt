@@ -1,0 +1,9 @@
+use Rattle.std.proofs.Common.{rules, ap}
+use Rattle.krs_desk.specs.declared.place.Place.TheVariants.{Home}
+use Rattle.krs_desk.proofs.Seats.{front}
+use Rattle.krs_desk.proofs.desk.Desk.fetch.Goals as goal
+
+pub exchange-requires : goal.exchange-requires
+exchange-requires c =
+    let had = c.take-turn.ensures.had c.if-turn-ne0.false in
+    (search rules, (Home had.last, front _ _ _ (ap (λ m. m.1) had.has)))

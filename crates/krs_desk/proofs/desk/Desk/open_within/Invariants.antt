@@ -1,0 +1,10 @@
+use Rattle.std.proofs.Common.{◌≡◌, ◌∷◌}
+use Rattle.std.specs.Prelude.{vec_capacity, replicate}
+use Rattle.krs_desk.specs.declared.place.Place.TheVariants.{Empty, Home}
+use Rattle.krs_desk.proofs.desk.Desk.open_within.Given as goal
+
+abbrev pub invariant-loop : goal.invariant-loop
+invariant-loop l = record {
+  room : vec_capacity l.slots ≡ vec_capacity l.initial.slots;
+  items : l.slots.items ≡ Home l.about.value ∷ replicate l.counter Empty;
+}

@@ -1,0 +1,118 @@
+//! Whoever has the turn answers all calls that are posted.
+ghost use Rattle.std.specs.Prelude.{◌≡◌, ◌≢◌, ◌+◌, ◌≤◌, ◌<◌, [], ◌∷◌, IfOk, IfErr};
+ghost use Rattle.atomic_table.specs.Table.{rest};
+ghost use Rattle.krs_world.specs.Knowing.{missed, put_none};
+ghost use Rattle.krs_desk.specs.declared.place.Place.TheVariants.{Empty};
+ghost use Rattle.krs_desk.specs.Parts.{sat};
+ghost use Rattle.krs_desk.specs.Seated.{IsResting, part, opening};
+ghost use Rattle.krs_desk.specs.Helping.{HasHelped, Had, HoldsAll, Goes, ServesLane, held_of, lanes_of};
+
+use crate::desk::Desk;
+use crate::place::Place;
+use crate::plays::{Answers, Brings, Glances, Grabs, Token};
+use crate::seat::Seat;
+use krs_store::Store;
+
+/// How a try to help ended: with the turn had and so many calls answered, or with the turn found taken.
+#[derive(Clone, Copy, Debug, PartialEq, Eq)]
+pub enum Helped {
+    Took(u32),
+    Busy,
+}
+
+impl Desk {
+    // The store, where the turn was free, or else what was found of the turn.
+    pub(crate) fn fetch(&self, token: &mut Token) -> Result<Store, u64>
+        requires table { token.old.table_id ≡ self.now }
+        requires rests { IsResting token.old.me }
+        ensures table { token.new.table_id ≡ token.old.table_id }
+        ensures had { IfOk result (λ store. Had token.old.me token.new.me store) }
+        ensures missed { IfErr result (λ turn. (turn ≢ 0)
+            × (token.new.me ≡ (sat (opening token.old.me) (missed (part token.old.me)), token.old.me.1))) }
+    {
+        let turn = self.take(token);
+        if turn != 0 {
+            return Err(turn);
+        }
+        let Place::Home(store) = self.table.shared.exchange(token, 0, Place::Empty) else {
+            unreachable!()
+        };
+        Ok(store)
+    }
+
+    // Looks at a lane's cell, and answers the call that is posted there, if one is. It tells how many.
+    fn serve_lane(&self, token: &mut Token, store: &mut Store, lane: u32) -> u32
+        requires table { token.old.table_id ≡ self.now }
+        requires room { lane + 1 < self.now.words }
+        requires held { HoldsAll token.old.me store.old }
+        ensures table { token.new.table_id ≡ token.old.table_id }
+        ensures few { result ≤ 1 }
+        ensures served { ServesLane token.old.me lane result token.new.me store.new }
+    {
+        let shared = &self.table.shared;
+        let cell = lane as usize + 1;
+        if shared.load::<Glances>(token, cell) != 1 {
+            return 0;
+        }
+        if shared.compare_exchange::<Grabs>(token, cell, 1, 2) != 1 {
+            return 0;
+        }
+        let Place::Asked(moment, ask) = shared.exchange(token, cell, Place::Empty) else {
+            unreachable!()
+        };
+        let reply = store.apply(lane, moment, ask);
+        drop(shared.exchange(token, cell, Place::Replied(reply)));
+        shared.store::<Answers>(token, cell, 3);
+        1
+    }
+
+    // Looks at each lane's cell in turn, and tells how many calls it answered.
+    fn serve_all(&self, token: &mut Token, store: &mut Store) -> u32
+        requires table { token.old.table_id ≡ self.now }
+        requires held { HoldsAll token.old.me store.old }
+        requires unlooked { (part token.old.me).checked ≡ [] }
+        ensures table { token.new.table_id ≡ token.old.table_id }
+        ensures gone { Goes token.old.me result (lanes_of self.now) token.new.me store.new }
+    {
+        let lanes = (self.table.word_count() - 1) as u32;
+        let mut answered = 0;
+        for lane in 0..lanes {
+            answered += self.serve_lane(token, store, lane);
+        }
+        answered
+    }
+
+    // Brings the store home, with the list as it is held, and wakes all that sleep on the turn.
+    fn bring(&self, token: &mut Token, store: Store)
+        requires table { token.old.table_id ≡ self.now }
+        requires held { HoldsAll token.old.me store }
+        requires slot { token.old.me.1 ≡ (0, Empty) ∷ rest token.old.me.1 }
+        ensures table { token.new.table_id ≡ token.old.table_id }
+        ensures brought { token.new.me ≡ (
+          sat (opening token.old.me)
+              (put_none (part token.old.me) (held_of (part token.old.me).holding)),
+          rest token.old.me.1,
+        ) }
+    {
+        let shared = &self.table.shared;
+        drop(shared.exchange(token, 0, Place::Home(store)));
+        shared.compare_exchange::<Brings>(token, 0, 1, 0);
+        self.wake_all();
+    }
+
+    /// Takes the turn, where it is free, and answers each call that is posted, lane by lane. If a call of this seat is
+    /// in flight, it is then answered.
+    pub fn help(&self, seat: &mut Seat) -> Helped
+        requires table { seat.old.table ≡ self.now }
+        ensures table { seat.new.table ≡ seat.old.table }
+        ensures flight { seat.new.part.flight ≡ seat.old.part.flight }
+        ensures helped { HasHelped self.now seat.old result seat.new }
+    {
+        let Ok(mut store) = self.fetch(&mut seat.token) else {
+            return Helped::Busy;
+        };
+        let answered = self.serve_all(&mut seat.token, &mut store);
+        self.bring(&mut seat.token, store);
+        Helped::Took(answered)
+    }
+}

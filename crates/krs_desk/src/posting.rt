@@ -1,0 +1,44 @@
+//! Calls that are posted, and collected once they are answered.
+ghost use Rattle.std.specs.Prelude.{◌≡◌, ◌≢◌, true, None, IfSome, IfNone};
+ghost use Rattle.krs_desk.specs.Sitting.{posted_by, Collects};
+
+use crate::desk::Desk;
+use crate::place::Place;
+use crate::plays::{self, Posts};
+use crate::seat::Seat;
+use krs_types::{Ask, Reply};
+
+impl Desk {
+    /// Leaves a call for whoever has the turn. For a seat that has no call in flight.
+    pub fn post(&self, seat: &mut Seat, moment: u64, ask: Ask)
+        requires table { seat.old.table ≡ self.now }
+        requires idle { seat.old.part.flight ≡ None }
+        ensures { seat.new ≡ posted_by seat.old moment ask }
+    {
+        let shared = &self.table.shared;
+        let cell = seat.lane as usize + 1;
+        drop(shared.exchange(&mut seat.token, cell, Place::Asked(moment, ask)));
+        shared.store::<Posts>(&mut seat.token, cell, 1);
+        seat.idle = false;
+    }
+
+    /// The reply to the call in flight, where it was answered. If there is none, the seat is as it was, and its own
+    /// help has not seen the call answered.
+    pub fn collect(&self, seat: &mut Seat) -> Option<Reply>
+        requires table { seat.old.table ≡ self.now }
+        ensures table { seat.new.table ≡ seat.old.table }
+        ensures some { IfSome result (λ reply. Collects seat.old reply seat.new) }
+        ensures none { IfNone result ((seat.new ≡ seat.old) × (seat.old.part.done ≢ true)) }
+    {
+        let shared = &self.table.shared;
+        let cell = seat.lane as usize + 1;
+        if shared.compare_exchange::<plays::Collects>(&mut seat.token, cell, 3, 0) != 3 {
+            return None;
+        }
+        let Place::Replied(reply) = shared.exchange(&mut seat.token, cell, Place::Empty) else {
+            unreachable!()
+        };
+        seat.idle = true;
+        Some(reply)
+    }
+}
