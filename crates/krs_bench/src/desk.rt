@@ -1,5 +1,5 @@
 //! Times calls of one thread and of many at one desk. Processor time is the shell's to tell, by `time`.
-ghost use Rattle.std.specs.Prelude.{◌≡◌};
+ghost use Rattle.krs_desk.specs.Sitting.{IsIdleAt};
 
 use crate::ops::hello;
 use anyhow::{Result, bail};
@@ -102,7 +102,7 @@ fn time_desk<R: Clock>(rt: &R, alloc: Global) -> Result<u64> {
 
 /// How many calls a thread made at its seat.
 fn count_calls<R: Clock + Wait>(rt: &R, alloc: Global, desk: &Desk, mut seat: Seat) -> u64
-    requires { seat.table ≡ desk.now }
+    requires { IsIdleAt desk.now seat }
 {
     let Ok(Answer::Number(context)) = desk.call(rt, &mut seat, 0, greeting(alloc)) else {
         return 0;
@@ -125,8 +125,8 @@ fn count_calls<R: Clock + Wait>(rt: &R, alloc: Global, desk: &Desk, mut seat: Se
 }
 
 fn call_round<R: Wait>(rt: &R, desk: &Desk, seat: &mut Seat, context: u32)
-    requires { seat.old.table ≡ desk.now }
-    ensures { seat.new.table ≡ desk.now }
+    requires { IsIdleAt desk.now seat.old }
+    ensures { IsIdleAt desk.now seat.new }
 {
     'calls: for _ in 0..ROUND {
         let _ = desk.call(rt, seat, 0, read(context));

@@ -1,4 +1,5 @@
-ghost use Rattle.std.specs.Prelude.{◌≡◌, ℕ, List};
+ghost use Rattle.std.specs.Prelude.{ℕ, List};
+ghost use Rattle.krs_desk.specs.Sitting.{IsIdleAt};
 
 use crate::round::Turn;
 use anyhow::{Result, bail};
@@ -63,7 +64,7 @@ pub fn time_session<R: AllocGlobal + std::rt::Clock + Wait>(
 
 /// One session over a stream. Whether it was served to its end.
 fn serve<R: Wait>(rt: &R, alloc: Global, stream: &[u8], desk: &Desk, seat: &mut Seat) -> bool
-    requires { seat.old.table ≡ desk.now }
+    requires { IsIdleAt desk.now seat.old }
 {
     let mut reader = Over::new(stream);
     let mut writer = Over::new(Vec::new(alloc));

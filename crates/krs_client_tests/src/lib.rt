@@ -1,6 +1,5 @@
-//! The tests of the frames, each ask and reply as docs/FORMAT.md spells it, and streams with a fault; of sessions,
-//! with every ask, and ends that fail; and of the client, by scripts and what they print. They stand in a crate of
-//! their own, so that none of the crates below is proved a second time with them.
+//! The tests of the client, by scripts and what they print, and by calls to a service. They stand in a crate of their
+//! own, so that none of the crates below is proved a second time with them.
 #![tactic(auto)]
 
 #[cfg(test)]

@@ -1,4 +1,5 @@
 ghost use Rattle.std.specs.Prelude.{◌≡◌, All, IfOk, vec_len};
+ghost use Rattle.krs_desk.specs.Sitting.{IsIdleAt};
 
 use krs_desk::{Desk, Seat};
 use std::alloc::{AllocError, Global};
@@ -8,7 +9,7 @@ use std::alloc::{AllocError, Global};
 pub struct Sitting<'d> {
     pub desk: &'d Desk,
     pub seat: Seat,
-    pub ghost own: { seat.table ≡ desk.now },
+    pub ghost own: { IsIdleAt desk.now seat },
 }
 
 /// Each seat beside its desk.
@@ -17,7 +18,7 @@ pub fn seated<'d>(
     desk: &'d Desk,
     seats: Vec<Seat>,
 ) -> Result<Vec<Sitting<'d>>, AllocError>
-    requires { All (λ seat. seat.table ≡ desk.now) seats.items }
+    requires { All (IsIdleAt desk.now) seats.items }
     ensures { IfOk result (λ sittings. vec_len sittings ≡ vec_len seats) }
 {
     let mut left = seats;

@@ -1,5 +1,5 @@
 //! The desk of many seats.
-ghost use Rattle.std.specs.Prelude.{◌≡◌};
+ghost use Rattle.krs_desk.specs.Sitting.{IsIdleAt};
 
 use crate::Keeper;
 use krs_desk::{Desk, Seat};
@@ -9,7 +9,7 @@ use std::sync::Wait;
 impl<R: Wait> Keeper<Seat, R> for Desk {
     ghost use Rattle.krs_session.specs.Leads.{Leads, leads_none, leads_both};
 
-    ghost ready = { λ d s. s.table ≡ d };
+    ghost ready = { IsIdleAt };
 
     ghost lane_of = { λ s. s.part.lane };
 

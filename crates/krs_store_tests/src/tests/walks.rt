@@ -1,6 +1,6 @@
 ghost use Rattle.std.specs.Prelude.{◌≡◌, [], true, IfOk};
 ghost use Rattle.krs_types.specs.declared.kind.Kind.TheVariants.{Keyring};
-ghost use Rattle.krs_model.specs.Table.{at};
+ghost use Rattle.krs_model.specs.Table.{at, put};
 ghost use Rattle.krs_model.specs.Reach.{is_ring};
 ghost use Rattle.krs_keys.specs.Keys.{named_links_of_content, shown, AreFit, IsOfKind};
 
@@ -44,6 +44,19 @@ fn ring(alloc: Global, desc: &[u8], expiry: Option<u64>, revoked: bool) -> Resul
     })
 }
 
+/// The keyrings 3 and 4, which link nothing.
+fn two_rings(alloc: Global, first: Key, second: Key) -> Result<KeyTable, Errno>
+    requires empty { (named_links_of_content first.content ≡ []) × (named_links_of_content second.content ≡ []) }
+    requires first { IsOfKind first.name.kind first.content }
+    requires second { IsOfKind second.name.kind second.content }
+    ensures keys { IfOk result (λ keys. keys.keys ≡ put (put [] 3 first) 4 second) }
+    ensures fit { IfOk result (λ keys. AreFit keys.keys) }
+{
+    let mut keys = KeyTable::starting_at(alloc, 3);
+    keys.insert_two(first, second)?;
+    Ok(keys)
+}
+
 /// A context that has no thread keyring.
 fn with_session(alloc: Global, session: Option<Serial>) -> Context {
     Context {
@@ -76,10 +89,9 @@ fn check_possession(rt: &impl Abort, alloc: Global, keys: &KeyTable) -> Result<(
 #[test]
 fn possession_of_two_keyrings(rt: HostRuntime) -> Result<(), Fail> {
     let alloc = rt.alloc();
-    let mut keys = KeyTable::starting_at(alloc, 3);
     let first = ring(alloc, b"a", None, false)?;
     let second = ring(alloc, b"b", None, false)?;
-    assert!(rt; keys.insert_two(first, second) == Ok(Serial::new(3)));
+    let keys = two_rings(alloc, first, second).map_err(|_| "no keys")?;
     check_possession(&rt, alloc, &keys)?;
     Ok(())
 }
@@ -100,10 +112,9 @@ fn check_cycles(rt: &impl Abort, alloc: Global, keys: &KeyTable) -> Result<(), A
 #[test]
 fn cycles_of_two_keyrings(rt: HostRuntime) -> Result<(), Fail> {
     let alloc = rt.alloc();
-    let mut keys = KeyTable::starting_at(alloc, 3);
     let first = ring(alloc, b"a", None, false)?;
     let second = ring(alloc, b"b", None, false)?;
-    assert!(rt; keys.insert_two(first, second) == Ok(Serial::new(3)));
+    let keys = two_rings(alloc, first, second).map_err(|_| "no keys")?;
     check_cycles(&rt, alloc, &keys)?;
     Ok(())
 }
@@ -139,10 +150,9 @@ fn check_searches(rt: &impl Abort, alloc: Global, keys: &KeyTable) -> Result<(),
 #[test]
 fn searches_of_two_keyrings(rt: HostRuntime) -> Result<(), Fail> {
     let alloc = rt.alloc();
-    let mut keys = KeyTable::starting_at(alloc, 3);
     let first = ring(alloc, b"a", Some(9), false)?;
     let second = ring(alloc, b"b", None, true)?;
-    assert!(rt; keys.insert_two(first, second) == Ok(Serial::new(3)));
+    let keys = two_rings(alloc, first, second).map_err(|_| "no keys")?;
     check_searches(&rt, alloc, &keys)?;
     Ok(())
 }

@@ -2,7 +2,8 @@ ghost use Rattle.std.specs.Prelude.{◌≡◌, ◌++◌, ◌∷◌, [], List};
 ghost use Rattle.krs_types.specs.declared.event.Event.{Event};
 ghost use Rattle.krs_wire.specs.declared.framed.Framed.{Framed};
 ghost use Rattle.krs_session.specs.Leads.{GainsSession};
-ghost use Rattle.krs_client_tests.specs.Conversing.{Conversed};
+ghost use Rattle.krs_session_tests.specs.Conversing.{Conversed};
+ghost use Rattle.krs_desk.specs.Sitting.{IsIdleAt};
 
 mod fakes;
 mod joined;
@@ -263,8 +264,8 @@ fn converse<R: Wait>(
     seat: &mut Seat,
     gate: &Watching,
 ) -> (Vec<u8>, Ended)
-    requires { seat.old.table ≡ desk.now }
-    ensures table { seat.new.table ≡ desk.now }
+    requires { IsIdleAt desk.now seat.old }
+    ensures table { IsIdleAt desk.now seat.new }
     ensures closed { result.1 ≡ Ended.Closed
         → (events : List Event) × (last : Event) × Conversed input.now result.0.items events last }
     ensures session { (frames : List Framed) × (calls : List Event) × GainsSession seat.old frames calls seat.new }

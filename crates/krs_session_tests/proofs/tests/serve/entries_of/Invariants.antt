@@ -1,6 +1,6 @@
 use Rattle.std.proofs.Common.{◌≡◌, All}
 use Rattle.krs_session.specs.Over.{over_reads, over_empties, over_failures}
-use Rattle.krs_client_tests.proofs.tests.serve.entries_of.Given as goal
+use Rattle.krs_session_tests.proofs.tests.serve.entries_of.Given as goal
 
 -- nothing was read or written yet
 abbrev pub invariant-texts : goal.invariant-texts

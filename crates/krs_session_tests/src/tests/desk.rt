@@ -1,6 +1,6 @@
 //! Seats of one desk: in turn on one thread, and side by side on two. Where a growth of `open` is refused, the store
 //! that came back opens the next desk, so that each of these also shows that it came back whole.
-ghost use Rattle.std.specs.Prelude.{◌≡◌};
+ghost use Rattle.krs_desk.specs.Sitting.{IsIdleAt};
 
 use super::seats::two_seats;
 use krs_desk::{Desk, Seat, Why};
@@ -13,7 +13,7 @@ use std::thread;
 use std::thread::Threads;
 
 /// HELLO 1000 1000 without other groups.
-fn hello(alloc: Global) -> Ask {
+pub(super) fn hello(alloc: Global) -> Ask {
     let groups = Groups::new(Vec::new(alloc));
     Ask {
         context: 0,
@@ -26,7 +26,12 @@ fn hello(alloc: Global) -> Ask {
 }
 
 /// ADD of a user key to the user keyring.
-fn add(alloc: Global, context: u32, desc: &[u8], payload: &[u8]) -> Result<Ask, AllocError> {
+pub(super) fn add(
+    alloc: Global,
+    context: u32,
+    desc: &[u8],
+    payload: &[u8],
+) -> Result<Ask, AllocError> {
     let op = Op::Add {
         type_name: Blob::from_slice(alloc, b"user")?,
         desc: Blob::from_slice(alloc, desc)?,
@@ -44,7 +49,7 @@ fn read(context: u32, id: i32) -> Ask {
 }
 
 /// The number that a reply gives, and 0 for any other reply.
-fn number_of(reply: &Reply) -> u32 {
+pub(super) fn number_of(reply: &Reply) -> u32 {
     match reply {
         Ok(Answer::Number(number)) => *number,
         _ => 0,
@@ -106,8 +111,8 @@ fn add_hundred<R: Wait>(
     seat: &mut Seat,
     letter: char,
 ) -> Result<Work, AllocError>
-    requires { seat.old.table ≡ desk.now }
-    ensures { seat.new.table ≡ desk.now }
+    requires { IsIdleAt desk.now seat.old }
+    ensures { IsIdleAt desk.now seat.new }
 {
     let context = number_of(&desk.call(rt, seat, 0, hello(alloc)));
     let mut serials = Vec::with_capacity(alloc, 100)?;
@@ -127,8 +132,8 @@ fn work_at<R: Wait>(
     mut seat: Seat,
     letter: char,
 ) -> (Seat, Result<Work, AllocError>)
-    requires { seat.table ≡ desk.now }
-    ensures { result.0.table ≡ desk.now }
+    requires { IsIdleAt desk.now seat }
+    ensures { IsIdleAt desk.now result.0 }
 {
     let done = add_hundred(rt, alloc, desk, &mut seat, letter);
     (seat, done)
@@ -145,8 +150,8 @@ fn work_side_by_side<R: Threads + Wait + Sync>(
     (Seat, Result<Work, AllocError>),
     (Seat, Result<Work, AllocError>),
 )
-    requires { (first.table ≡ desk.now) × (second.table ≡ desk.now) }
-    ensures { (result.0.0.table ≡ desk.now) × (result.1.0.table ≡ desk.now) }
+    requires { IsIdleAt desk.now first × IsIdleAt desk.now second }
+    ensures { IsIdleAt desk.now result.0.0 × IsIdleAt desk.now result.1.0 }
 {
     thread::join(
         rt,

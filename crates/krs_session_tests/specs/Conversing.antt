@@ -4,7 +4,7 @@ use Rattle.krs_types.specs.declared.event.Event.{Event}
 use Rattle.krs_wire.specs.declared.framed.Framed.{Framed}
 use Rattle.krs_session.specs.Events.{asks_of, asks_in, moments_of, replies_of, session_text}
 use Rattle.krs_session.specs.Session.{AreWhole}
-use Rattle.krs_client_tests.specs.Ticks.{Ticks}
+use Rattle.krs_session_tests.specs.Ticks.{Ticks}
 
 -- A session that was closed, from second 100 on: a front of the input is cut into frames, the events are what these
 -- ask and a last one, at one second each, and the output is the replies to the frames alone.

@@ -1,5 +1,5 @@
 //! Sessions on the seats of one desk.
-ghost use Rattle.std.specs.Prelude.{◌≡◌};
+ghost use Rattle.krs_desk.specs.Sitting.{IsIdleAt};
 
 use super::converse;
 use super::fakes::watches;
@@ -40,8 +40,8 @@ struct Greeted {
 
 // The seat goes to the thread that serves a session of HELLO on it, and comes back.
 fn greet<R: Wait>(rt: &R, alloc: Global, desk: &Desk, mut seat: Seat) -> (Seat, Greeted)
-    requires { seat.table ≡ desk.now }
-    ensures { result.0.table ≡ desk.now }
+    requires { IsIdleAt desk.now seat }
+    ensures { IsIdleAt desk.now result.0 }
 {
     let gate = watches(seat.lane());
     let (text, ended) = converse(rt, alloc, &HELLO, desk, &mut seat, &gate);
@@ -64,8 +64,8 @@ fn greet_side_by_side<R: Threads + Wait + Sync>(
     first: Seat,
     second: Seat,
 ) -> ((Seat, Greeted), (Seat, Greeted))
-    requires { (first.table ≡ desk.now) × (second.table ≡ desk.now) }
-    ensures { (result.0.0.table ≡ desk.now) × (result.1.0.table ≡ desk.now) }
+    requires { IsIdleAt desk.now first × IsIdleAt desk.now second }
+    ensures { IsIdleAt desk.now result.0.0 × IsIdleAt desk.now result.1.0 }
 {
     thread::join(
         rt,

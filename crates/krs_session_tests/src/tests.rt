@@ -1,0 +1,6 @@
+mod desk;
+mod posted;
+mod seats;
+mod serve;
+mod session;
+mod wire;
