@@ -29,9 +29,13 @@ seen_moved log a b views id other q x at apart there spent s = let left : List V
     let here : get_elem? (set left other (one a q)) other ≡ some (one a q) = set_at left other (one a q) x is_there in
     ⊎_elim inl (λ (t : (j : ℕ) × (v : View) × (get_elem? views j ≡ some v) × HasSeen log v.stands). inr
     (dite (ℕ_discrete t.0 id)
-    (λ same. (other, one a q, here,
+    (λ same. (
+      other,
+      one a q,
+      here,
       subst (λ (v : View). HasSeen log v.stands)
-          (some-injective t.1 (one a q) (sym t.2 ∙ (ap (get_elem? views) same ∙ at))) t.3))
+          (some-injective t.1 (one a q) (sym t.2 ∙ (ap (get_elem? views) same ∙ at))) t.3,
+    ))
     (λ not. dite (ℕ_discrete t.0 other)
     (λ same. let e : t.1 ≡ x = some-injective t.1 x (sym t.2 ∙ (ap (get_elem? views) same ∙ there)) in
     absurd (subst (HasSeen log) spent (subst (λ (v : View). HasSeen log v.stands) e t.3)))

@@ -144,8 +144,11 @@ module _ (a : State) (views : List View) (id : ℕ) (p : Part) (at : get_elem? v
         seat = o.seat;
         serving = None;
         word = o.word;
-        held = λ _. (one a q, ap (get_elem? (set views id (one a q))) (sym t.here) ∙ set_at views id (one a q) (one a p) at,
-          refl);
+        held = λ _. (
+          one a q,
+          ap (get_elem? (set views id (one a q))) (sym t.here) ∙ set_at views id (one a q) (one a p) at,
+          refl,
+        );
         longest = λ n. absurd (n out);
         legal = legal_more a last next log e legal does;
         at_home = λ n. absurd (n out);
@@ -157,9 +160,9 @@ module _ (a : State) (views : List View) (id : ℕ) (p : Part) (at : get_elem? v
         undealt = λ l le. let u = o.undealt l le in
             let apart : l ≢ lane = λ same. absurd (let no : Serving m ask ≡ Empty = sym was ∙ (ap cell (sym same) ∙ u.0) in
             cc) in (
-          celled_else cell lane l c apart ∙ u.0,
-          other_event l log e (λ is. apart (sym is)) ∙ (ap (events_of l) all ∙ u.1),
-        );
+              celled_else cell lane l c apart ∙ u.0,
+              other_event l log e (λ is. apart (sym is)) ∙ (ap (events_of l) all ∙ u.1),
+            );
         serves = λ l m' a' is. dite (ℕ_discrete l lane)
             (λ (same : l ≡ lane). let no : Answered m ask r ≡ Serving m' a' = sym (celled_here cell lane c)
             ∙ (ap c' (sym same) ∙ is) in absurd cc)
