@@ -6,6 +6,7 @@ mod adding;
 mod clients;
 mod contexts;
 mod filters;
+mod full;
 mod growth;
 mod holders;
 mod joining;
