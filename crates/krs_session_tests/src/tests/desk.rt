@@ -41,7 +41,8 @@ pub(super) fn add(
     Ok(Ask { context, op })
 }
 
-fn read(context: u32, id: i32) -> Ask {
+/// READ of a key.
+pub(super) fn read(context: u32, id: i32) -> Ask {
     Ask {
         context,
         op: Op::Read { id },
@@ -56,14 +57,16 @@ pub(super) fn number_of(reply: &Reply) -> u32 {
     }
 }
 
-fn gives_bytes(reply: &Reply, bytes: &[u8]) -> bool {
+/// Whether a reply gives these bytes.
+pub(super) fn gives_bytes(reply: &Reply, bytes: &[u8]) -> bool {
     match reply {
         Ok(Answer::Bytes(body)) => body.as_slice() == bytes,
         _ => false,
     }
 }
 
-fn is_refused(reply: &Reply, errno: Errno) -> bool {
+/// Whether a reply is this error.
+pub(super) fn is_refused(reply: &Reply, errno: Errno) -> bool {
     match reply {
         Ok(_) => false,
         Err(got) => got.number() == errno.number(),
@@ -75,25 +78,6 @@ fn gives_length(reply: &Reply, length: usize) -> bool {
         Ok(Answer::Bytes(body)) => body.as_slice().len() == length,
         _ => false,
     }
-}
-
-// Every call by `try_call` on one thread: no ask comes back.
-#[test]
-fn one_thread_is_never_handed_an_ask_back(rt: HostRuntime) -> Result<(), Fail> {
-    let alloc = rt.alloc();
-    let (desk, mut first, mut second) = two_seats(alloc, Store::new(alloc)).ok_or("no desk")?;
-    let reply = desk.try_call(&mut first, 0, hello(alloc));
-    assert!(rt; reply.is_ok_and(|reply| number_of(&reply) == 1));
-    let reply = desk.try_call(&mut first, 0, add(alloc, 1, b"alpha", b"s3")?);
-    assert!(rt; reply.is_ok_and(|reply| number_of(&reply) == 5));
-    desk.meet(&mut first, &mut second);
-    let reply = desk.try_call(&mut second, 0, hello(alloc));
-    assert!(rt; reply.is_ok_and(|reply| number_of(&reply) == 2));
-    let reply = desk.try_call(&mut second, 0, read(2, 5));
-    assert!(rt; reply.is_ok_and(|reply| gives_bytes(&reply, b"s3")));
-    let reply = desk.try_call(&mut second, 0, read(1, 5));
-    assert!(rt; reply.is_ok_and(|reply| is_refused(&reply, Errno::ESRCH)));
-    Ok(())
 }
 
 /// What a thread did at its seat: its context, and the serials of its keys.

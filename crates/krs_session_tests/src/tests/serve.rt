@@ -11,15 +11,32 @@ use std::alloc::{AllocError, Global};
 use std::io::ErrorKind;
 use std::net::Net;
 use std::os::unix::net::UnixStream;
+use std::sync::atomic::{AtomicU64, Ordering};
 use std::sync::{Mutex, Wait};
 use std::test::*;
 use std::thread::Threads;
-use std::{env, fs, process};
+use std::time::Duration;
+use std::{env, fs, process, thread, time};
 
 // HELLO 1000 1000 without groups.
 const HELLO: [u8; 24] = [
     0x14, 0, 0, 0, 1, 0, 0, 1, 0, 0, 0, 0, 0xe8, 3, 0, 0, 0xe8, 3, 0, 0, 0, 0, 0, 0,
 ];
+
+// The first half of it.
+const HALF_A_HELLO: [u8; 12] = [0x14, 0, 0, 0, 1, 0, 0, 1, 0, 0, 0, 0];
+
+// HELLO, and READ of 5 in context 1; the replies to a session that has context 1, and to one that has context 2.
+const HELLO_AND_READ: [u8; 40] = [
+    0x14, 0, 0, 0, 1, 0, 0, 1, 0, 0, 0, 0, 0xe8, 3, 0, 0, 0xe8, 3, 0, 0, 0, 0, 0, 0, //
+    0x0c, 0, 0, 0, 1, 0, 0x0b, 0, 1, 0, 0, 0, 5, 0, 0, 0,
+];
+
+const CONTEXT_1_AND_ENOKEY: [u8; 20] = [
+    8, 0, 0, 0, 0, 0, 0, 0, 1, 0, 0, 0, 4, 0, 0, 0, 0x7e, 0, 0, 0,
+];
+
+const CONTEXT_2_AND_ESRCH: [u8; 20] = [8, 0, 0, 0, 0, 0, 0, 0, 2, 0, 0, 0, 4, 0, 0, 0, 3, 0, 0, 0];
 
 /// A writer into a text that others read once it is through.
 #[derive(Drop)]
@@ -49,7 +66,7 @@ impl<'a, R: Wait> Sink for Noted<'a, R> {
 
 /// A clock that stands still.
 #[derive(Drop)]
-struct Still;
+pub(super) struct Still;
 
 impl Clock for Still {
     ghost ticked = { λ a moments b. Unit {0} };
@@ -64,7 +81,7 @@ impl Clock for Still {
 }
 
 /// A gate that holds nobody.
-struct Open;
+pub(super) struct Open;
 
 impl Gate for Open {
     fn pass(&self, _lane: u32, _at: Point) {}
@@ -78,21 +95,37 @@ fn number_in(text: &[u8]) -> u32 {
     }
 }
 
-/// Whether these are the numbers from 1 on, each once, in any order.
-fn are_each_once(numbers: &[u32]) -> bool {
-    let count = numbers.len() as u64;
-    (1..=count).all(|wanted| numbers.iter().any(|number| u64::from(*number) == wanted))
+/// Whether the numbers in these texts are those from 1 to the count, each once.
+fn are_each_once(alloc: Global, texts: &[Vec<u8>], count: u32) -> Result<bool, AllocError> {
+    let mut numbers = Vec::new(alloc);
+    for text in texts {
+        let number = number_in(text);
+        if number != 0 {
+            numbers.push(number)?;
+        }
+    }
+    numbers.sort_unstable();
+    let mut wanted = 1u32;
+    for number in numbers.iter() {
+        if *number != wanted {
+            return Ok(false);
+        }
+        wanted = wanted.saturating_add(1);
+    }
+    Ok(numbers.len() == count as usize)
 }
 
-/// An entry for each text, whose session asks HELLO.
+/// An entry for each text. The sessions at even places are sent the first of these inputs, the others the second.
 fn entries_of<'a, R: Wait>(
     rt: &'a R,
     alloc: Global,
     texts: &'a [Mutex<Vec<u8>>],
+    inputs: [&'static [u8]; 2],
 ) -> Result<Vec<Entry<Over<&'static [u8]>, Noted<'a, R>, Still>>, AllocError>
     ensures { IfOk result (λ list. All (λ entry. (over_reads entry.reader ≡ 0) × (over_empties entry.reader ≡ 0)
         × (over_failures entry.reader ≡ 0) × (entry.writer.failures ≡ 0)) list.items) }
 {
+    let [mut input, mut other] = inputs;
     let mut list = Vec::new(alloc);
     'texts: for text in texts {
         let writer = Noted {
@@ -101,47 +134,145 @@ fn entries_of<'a, R: Wait>(
             failures: 0,
         };
         list.push(Entry {
-            reader: Over::new(HELLO.as_slice()),
+            reader: Over::new(input),
             writer,
             clock: Still,
         })?;
+        (input, other) = (other, input);
     }
     Ok(list)
 }
 
-/// As many sessions of HELLO at one desk, each in a worker of its own: how they ended, and which contexts they have.
-fn greet_at_once<R: Threads + Wait + Sync>(
+/// As many sessions at one desk, each in a worker of its own: how they ended, and what each wrote.
+fn serve_at_once<R: Threads + Wait + Sync, G: Gate + Sync>(
     rt: &R,
     alloc: Global,
     count: u32,
-) -> Result<(Vec<Ended>, Vec<u32>), Fail> {
+    inputs: [&'static [u8]; 2],
+    gate: &G,
+) -> Result<(Vec<Ended>, Vec<Vec<u8>>), Fail> {
     let mut texts = Vec::new(alloc);
     for _ in 0..count {
         texts.push(Mutex::new(Vec::new(alloc)))?;
     }
-    let list = entries_of(rt, alloc, texts.as_slice())?;
+    let list = entries_of(rt, alloc, texts.as_slice(), inputs)?;
     let Ok((desk, seats)) = Desk::open(alloc, count, Store::new(alloc)) else {
         return Err(Fail::new("no desk"));
     };
     if seats.len() != list.len() {
         return Err(Fail::new("not a seat for each"));
     }
-    let ends = run_sessions(rt, alloc, list, &desk, seats, &Open, 99).map_err(|_| AllocError)?;
-    let mut contexts = Vec::new(alloc);
+    let ends = run_sessions(rt, alloc, list, &desk, seats, gate, 99).map_err(|_| AllocError)?;
+    let mut written = Vec::new(alloc);
     for text in &texts {
-        contexts.push(number_in(text.lock(rt).as_slice()))?;
+        written.push(Vec::from_slice(alloc, text.lock(rt).as_slice())?)?;
     }
-    Ok((ends, contexts))
+    Ok((ends, written))
 }
 
+// Each session of 256 has a context of its own.
 #[test]
 fn sessions_run_at_once(rt: HostRuntime) -> Result<(), Fail> {
-    for count in [1, 2, 16] {
-        let (ends, contexts) = greet_at_once(&rt, rt.alloc(), count)?;
+    for count in [1, 2, 256] {
+        let inputs = [HELLO.as_slice(), HELLO.as_slice()];
+        let (ends, texts) = serve_at_once(&rt, rt.alloc(), count, inputs, &Open)?;
         assert_eq!(rt; ends.len(), count as usize, "{count}");
         assert!(rt; ends.iter().all(|ended| *ended == Ended::Closed), "{count}");
-        assert!(rt; are_each_once(contexts.as_slice()), "{count}");
+        assert!(rt; are_each_once(rt.alloc(), &texts, count)?, "{count}");
     }
+    Ok(())
+}
+
+// Every second session of 256 is cut in the middle of its frame: it writes nothing, and takes no context from others.
+#[test]
+fn cut_sessions_write_nothing(rt: HostRuntime) -> Result<(), Fail> {
+    let inputs = [HELLO.as_slice(), HALF_A_HELLO.as_slice()];
+    let (ends, texts) = serve_at_once(&rt, rt.alloc(), 256, inputs, &Open)?;
+    assert!(rt; ends.iter().all(|ended| *ended == Ended::Closed));
+    assert!(rt; are_each_once(rt.alloc(), &texts, 128)?);
+    let mut is_cut = false;
+    for text in &texts {
+        assert!(rt; text.is_empty() == is_cut);
+        is_cut = !is_cut;
+    }
+    Ok(())
+}
+
+/// A gate that holds lane 0 at its first ask until lane 1 has a reply, and lane 1 at its second until lane 0 has one,
+/// each for ten seconds at most.
+#[derive(Drop)]
+struct Crossed<'a, R> {
+    rt: &'a R,
+    asked: [AtomicU64; 2],
+    answered: [AtomicU64; 2],
+    late: AtomicU64,
+}
+
+fn gate_of<'a, R>(rt: &'a R) -> Crossed<'a, R> {
+    Crossed {
+        rt,
+        asked: [AtomicU64::new(0), AtomicU64::new(0)],
+        answered: [AtomicU64::new(0), AtomicU64::new(0)],
+        late: AtomicU64::new(0),
+    }
+}
+
+impl<'a, R: time::Clock + Wait> Crossed<'a, R> {
+    /// Waits until the other lane has a reply.
+    fn wait_for(&self, replies: &AtomicU64) {
+        for _ in 0..100_000 {
+            if replies.load(Ordering::SeqCst) > 0 {
+                return;
+            }
+            thread::sleep(self.rt, Duration::from_micros(100));
+        }
+        self.late.store(1, Ordering::SeqCst);
+    }
+}
+
+impl<'a, R: time::Clock + Wait> Gate for Crossed<'a, R> {
+    fn pass(&self, lane: u32, at: Point) {
+        let ([asked_0, asked_1], [answered_0, answered_1]) = (&self.asked, &self.answered);
+        match (lane, at) {
+            (0, Point::Asked) => {
+                if asked_0.fetch_add(1, Ordering::SeqCst) == 0 {
+                    self.wait_for(answered_1);
+                }
+            }
+            (0, Point::Answered) => {
+                let _ = answered_0.fetch_add(1, Ordering::SeqCst);
+            }
+            (_, Point::Asked) => {
+                if asked_1.fetch_add(1, Ordering::SeqCst) == 1 {
+                    self.wait_for(answered_0);
+                }
+            }
+            (_, Point::Answered) => {
+                let _ = answered_1.fetch_add(1, Ordering::SeqCst);
+            }
+        }
+    }
+}
+
+// Two sessions that can't be served one after the other: each needs a reply of the other's. Lane 1 has the first
+// context, in which key 5 is none; it isn't lane 0's.
+#[test]
+fn sessions_are_served_side_by_side(rt: HostRuntime) -> Result<(), Fail> {
+    let gate = gate_of(&rt);
+    let inputs = [HELLO_AND_READ.as_slice(), HELLO_AND_READ.as_slice()];
+    let (ends, texts) = serve_at_once(&rt, rt.alloc(), 2, inputs, &gate)?;
+    assert!(rt; ends.iter().all(|ended| *ended == Ended::Closed));
+    assert_eq!(rt; gate.late.load(Ordering::SeqCst), 0);
+    assert!(rt;
+        texts
+            .first()
+            .is_some_and(|text| text.as_slice() == CONTEXT_2_AND_ESRCH.as_slice())
+    );
+    assert!(rt;
+        texts
+            .last()
+            .is_some_and(|text| text.as_slice() == CONTEXT_1_AND_ENOKEY.as_slice())
+    );
     Ok(())
 }
 

@@ -6,6 +6,7 @@ ghost use Rattle.krs_session_tests.specs.Conversing.{Conversed};
 ghost use Rattle.krs_desk.specs.Sitting.{IsIdleAt};
 
 mod fakes;
+mod growths;
 mod joined;
 mod shared;
 
@@ -238,6 +239,19 @@ fn each_end_is_told_and_leave_is_asked_last(rt: HostRuntime) {
             turns: 99, ended: bad, asked: 1, written: 0, calls: 0 },
         Case { name: "length 65537", stream: &[1, 0, 1, 0], reads: (1, 1, closed), writes: ALL,
             turns: 99, ended: bad, asked: 1, written: 0, calls: 0 },
+        Case { name: "length 65537 at once", stream: &[1, 0, 1, 0], reads: ALL, writes: ALL,
+            turns: 99, ended: bad, asked: 1, written: 0, calls: 0 },
+        Case { name: "version 2", stream: &[8, 0, 0, 0, 2, 0, 3, 1, 1, 0, 0, 0], reads: ALL, writes: ALL,
+            turns: 99, ended: Ended::Wire(WireFault::BadVersion), asked: 1, written: 0, calls: 0 },
+        Case { name: "operation 31", stream: &[8, 0, 0, 0, 1, 0, 31, 0, 0, 0, 0, 0], reads: ALL, writes: ALL,
+            turns: 99, ended: Ended::Wire(WireFault::BadOp), asked: 1, written: 0, calls: 0 },
+        Case { name: "EXEC with a body", stream: &[9, 0, 0, 0, 1, 0, 3, 1, 1, 0, 0, 0, 0], reads: ALL, writes: ALL,
+            turns: 99, ended: Ended::Wire(WireFault::BadBody), asked: 1, written: 0, calls: 0 },
+        Case { name: "GET_ID, create 2", stream: &[13, 0, 0, 0, 1, 0, 0, 0, 1, 0, 0, 0, 0xfc, 0xff, 0xff, 0xff, 2],
+            reads: ALL, writes: ALL,
+            turns: 99, ended: Ended::Wire(WireFault::BadBody), asked: 1, written: 0, calls: 0 },
+        Case { name: "five bytes of HELLO", stream: &ASKS, reads: (1, 1, closed), writes: ALL,
+            turns: 5, ended: Ended::Turns, asked: 1, written: 0, calls: 0 },
         Case { name: "a read fails", stream: &ASKS, reads: (24, 51, fails), writes: ALL,
             turns: 99, ended: Ended::Read, asked: 4, written: 34, calls: 2 },
         Case { name: "a write fails", stream: &ASKS, reads: ALL, writes: (4096, 20, fails),

@@ -72,8 +72,9 @@ fn any_write_may_fail(rt: HostRuntime) {
     }
 }
 
+// A stream that ends is closed, wherever it is cut: the whole frames are answered.
 #[test]
-fn any_read_may_fail(rt: HostRuntime) {
+fn any_read_may_fail_or_be_the_last(rt: HostRuntime) {
     for count in 0..=ASKS.len() {
         let (whole, written) = whole_in(count);
         let case = Case {
@@ -92,6 +93,13 @@ fn any_read_may_fail(rt: HostRuntime) {
             name: "at once",
             reads: (4096, 4096, Then::Fails),
             calls: whole.min(1),
+            ..case
+        };
+        check(&rt, rt.alloc(), &case);
+        let case = Case {
+            name: "the end",
+            reads: ALL,
+            ended: Ended::Closed,
             ..case
         };
         check(&rt, rt.alloc(), &case);

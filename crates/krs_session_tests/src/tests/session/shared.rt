@@ -1,8 +1,8 @@
 //! Sessions on the seats of one desk.
 ghost use Rattle.krs_desk.specs.Sitting.{IsIdleAt};
 
-use super::converse;
 use super::fakes::watches;
+use super::{ASKS, REPLIES, converse};
 use crate::tests::seats::{one_seat, two_seats};
 use krs_desk::{Desk, Seat};
 use krs_session::Ended;
@@ -21,12 +21,6 @@ const HELLO: [u8; 24] = [
 const CONTEXT_1: [u8; 12] = [8, 0, 0, 0, 0, 0, 0, 0, 1, 0, 0, 0];
 
 const CONTEXT_2: [u8; 12] = [8, 0, 0, 0, 0, 0, 0, 0, 2, 0, 0, 0];
-
-// HELLO, and READ of 5 in context 1: context 2, and ESRCH.
-const HELLO_AND_READ: [u8; 40] = [
-    0x14, 0, 0, 0, 1, 0, 0, 1, 0, 0, 0, 0, 0xe8, 3, 0, 0, 0xe8, 3, 0, 0, 0, 0, 0, 0, //
-    0x0c, 0, 0, 0, 1, 0, 0x0b, 0, 1, 0, 0, 0, 5, 0, 0, 0,
-];
 
 const CONTEXT_2_AND_ESRCH: [u8; 20] = [8, 0, 0, 0, 0, 0, 0, 0, 2, 0, 0, 0, 4, 0, 0, 0, 3, 0, 0, 0];
 
@@ -92,16 +86,17 @@ fn two_sessions_share_one_desk(rt: HostRuntime) -> Result<(), Fail> {
     Ok(())
 }
 
-// The second session has a new context, and that of the first is gone.
+// HELLO and ADD, and then a session of HELLO and READ in context 1: it has a new context, and the first one's is gone.
 #[test]
 fn one_seat_serves_two_sessions(rt: HostRuntime) -> Result<(), Fail> {
     let alloc = rt.alloc();
     let (desk, mut seat) = one_seat(alloc, Store::new(alloc)).ok_or("no desk")?;
-    let (text, ended) = converse(&rt, alloc, HELLO.as_slice(), &desk, &mut seat, &watches(0));
+    let (text, ended) = converse(&rt, alloc, &ASKS[..59], &desk, &mut seat, &watches(0));
     assert_eq!(rt; ended, Ended::Closed);
-    assert_eq!(rt; text.as_slice(), CONTEXT_1.as_slice());
-    let asks = HELLO_AND_READ.as_slice();
-    let (text, ended) = converse(&rt, alloc, asks, &desk, &mut seat, &watches(0));
+    assert_eq!(rt; text.as_slice(), &REPLIES[..24]);
+    let mut asks = Vec::from_slice(alloc, &ASKS[..24])?;
+    asks.extend_from_slice(&ASKS[59..])?;
+    let (text, ended) = converse(&rt, alloc, &asks, &desk, &mut seat, &watches(0));
     assert_eq!(rt; ended, Ended::Closed);
     assert_eq!(rt; text.as_slice(), CONTEXT_2_AND_ESRCH.as_slice());
     assert!(rt; desk.close(seat).is_ok());

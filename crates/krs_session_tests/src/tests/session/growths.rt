@@ -1,0 +1,207 @@
+//! What a desk and its sessions do where a growth is refused. A plain run refuses none; `tests/growths` runs each of
+//! these with its first growth refused, then with its second, and so on.
+ghost use Rattle.std.specs.Prelude.{◌≡◌, All, IfOk};
+ghost use Rattle.krs_desk.specs.Sitting.{IsIdleAt};
+ghost use Rattle.krs_session.specs.Over.{over_reads, over_empties, over_failures};
+
+use super::ASKS;
+use super::fakes::watches;
+use crate::tests::desk::{add, gives_bytes, hello, is_refused, number_of, read};
+use crate::tests::seats::{one_seat, two_seats};
+use crate::tests::serve::{Open, Still};
+use krs_desk::{Desk, Seat};
+use krs_serve::{Entry, run_sessions};
+use krs_session::{Ended, Keeper, Over, run};
+use krs_store::Store;
+use krs_types::{Answer, Ask, Errno, Op, Reply};
+use std::alloc::{AllocError, Global};
+use std::sync::atomic::{AtomicU64, Ordering};
+use std::test::*;
+
+// The replies to HELLO, ADD and READ: where each found its memory, and where one of them found none. Without a context
+// the others are ESRCH, and without a key READ is ENOKEY.
+const REPLIES: [&[u8]; 4] = [
+    &[
+        8, 0, 0, 0, 0, 0, 0, 0, 1, 0, 0, 0, 8, 0, 0, 0, 0, 0, 0, 0, 5, 0, 0, 0, 6, 0, 0, 0, 0, 0,
+        0, 0, 0x73, 0x33,
+    ],
+    &[
+        4, 0, 0, 0, 12, 0, 0, 0, 4, 0, 0, 0, 3, 0, 0, 0, 4, 0, 0, 0, 3, 0, 0, 0,
+    ],
+    &[
+        8, 0, 0, 0, 0, 0, 0, 0, 1, 0, 0, 0, 4, 0, 0, 0, 12, 0, 0, 0, 4, 0, 0, 0, 126, 0, 0, 0,
+    ],
+    &[
+        8, 0, 0, 0, 0, 0, 0, 0, 1, 0, 0, 0, 8, 0, 0, 0, 0, 0, 0, 0, 5, 0, 0, 0, 4, 0, 0, 0, 12, 0,
+        0, 0,
+    ],
+];
+
+/// An empty text with room for all replies.
+fn with_room(alloc: Global) -> Result<Vec<u8>, AllocError> {
+    match Vec::with_capacity(alloc, 64) {
+        Ok(text) => Ok(text),
+        Err(_) => Vec::with_capacity(alloc, 64),
+    }
+}
+
+/// Whether this is what a session writes that ended so.
+fn is_written(text: &[u8], ended: Ended) -> bool {
+    match ended {
+        Ended::Closed => REPLIES.iter().any(|replies| *replies == text),
+        Ended::Memory => REPLIES.iter().any(|replies| replies.starts_with(text)),
+        _ => false,
+    }
+}
+
+// ENOMEM stands in the place of a reply, and the later ones are those of a store on which that ask did nothing; or the
+// session ends for memory, and what it wrote begins the replies. LEAVE is asked last: the context is gone.
+#[test]
+fn a_session_tells_of_a_refused_growth_or_ends(rt: HostRuntime) -> Result<(), Fail> {
+    let alloc = rt.alloc();
+    let (desk, mut seat) = one_seat(alloc, Store::new(alloc)).ok_or("no desk")?;
+    let mut writer = Over::new(with_room(alloc)?);
+    let gate = watches(0);
+    let ended = run(
+        &rt,
+        alloc,
+        &mut Over::new(ASKS.as_slice()),
+        &mut writer,
+        &desk,
+        &mut seat,
+        &mut Still,
+        &gate,
+        99,
+    );
+    let text = writer.into_inner();
+    assert!(rt; is_written(&text, ended), "{text:?}");
+    assert_eq!(rt;
+        (gate.asked.get(), gate.wrong.get()),
+        (gate.answered.get(), 0)
+    );
+    let mut store = desk.close(seat).map_err(|_| "the turn is out")?;
+    assert!(rt; is_refused(&store.apply(0, 0, read(1, 5)), Errno::ESRCH));
+    Ok(())
+}
+
+/// The asks of two seats, by their place.
+fn ask_at(alloc: Global, place: u8) -> Result<Ask, AllocError> {
+    match place {
+        0 | 2 => Ok(hello(alloc)),
+        1 => add(alloc, 1, b"alpha", b"s3"),
+        3 => Ok(read(2, 5)),
+        _ => Ok(read(1, 5)),
+    }
+}
+
+/// The reply to the ask at a place, which is made again where it found no memory.
+fn reply_at(alloc: Global, desk: &Desk, seat: &mut Seat, place: u8) -> Result<Reply, Fail>
+    requires { IsIdleAt desk.now seat.old }
+    ensures { IsIdleAt desk.now seat.new }
+{
+    let ask = match ask_at(alloc, place) {
+        Ok(ask) => ask,
+        Err(_) => ask_at(alloc, place)?,
+    };
+    let reply = match desk.try_call(seat, 0, ask) {
+        Ok(Err(Errno::ENOMEM)) => desk.try_call(seat, 0, ask_at(alloc, place)?),
+        replied => replied,
+    };
+    reply.map_err(|_| Fail::new("an ask came back"))
+}
+
+// Every call by `try_call` on one thread: no ask comes back. What is done again after a refused growth, of `open` or of
+// an ask, goes on as if none had been refused.
+#[test]
+fn one_thread_is_never_handed_an_ask_back(rt: HostRuntime) -> Result<(), Fail> {
+    let alloc = rt.alloc();
+    let (desk, mut first, mut second) = two_seats(alloc, Store::new(alloc)).ok_or("no desk")?;
+    assert_eq!(rt; number_of(&reply_at(alloc, &desk, &mut first, 0)?), 1);
+    assert_eq!(rt; number_of(&reply_at(alloc, &desk, &mut first, 1)?), 5);
+    desk.meet(&mut first, &mut second);
+    assert_eq!(rt; number_of(&reply_at(alloc, &desk, &mut second, 2)?), 2);
+    assert!(rt; gives_bytes(&reply_at(alloc, &desk, &mut second, 3)?, b"s3"));
+    assert!(rt; is_refused(&reply_at(alloc, &desk, &mut second, 4)?, Errno::ESRCH));
+    Ok(())
+}
+
+/// A desk that counts the HELLOs and LEAVEs of each of two lanes. A seat is its lane.
+#[derive(Drop)]
+struct Counts {
+    hellos: [AtomicU64; 2],
+    leaves: [AtomicU64; 2],
+}
+
+/// Adds one to the count of a lane.
+fn count(counts: &[AtomicU64; 2], lane: u32) {
+    let [first, second] = counts;
+    let _ = if lane == 0 { first } else { second }.fetch_add(1, Ordering::SeqCst);
+}
+
+impl<R> Keeper<u32, R> for Counts {
+    ghost ready = { λ d s. Unit {0} };
+
+    ghost lane_of = { λ s. s };
+
+    ghost leads = { λ s events t. Unit {0} };
+
+    fn lane(&self, seat: &u32) -> u32 {
+        *seat
+    }
+
+    fn call(&self, _rt: &R, seat: &mut u32, _moment: u64, ask: Ask) -> Reply {
+        match ask.op {
+            Op::Hello(_) => count(&self.hellos, *seat),
+            Op::Leave => count(&self.leaves, *seat),
+            _ => {}
+        }
+        Ok(Answer::Nothing)
+    }
+
+    ghost starts = { λ s. tt };
+
+    ghost joins = { λ s t u xs ys p q. tt };
+}
+
+/// Two sessions of HELLO that write into room of their own.
+fn two_sessions(
+    alloc: Global,
+) -> Result<Vec<Entry<Over<&'static [u8]>, Over<Vec<u8>>, Still>>, AllocError>
+    ensures { IfOk result (λ list. All (λ entry. (over_reads entry.reader ≡ 0) × (over_empties entry.reader ≡ 0)
+        × (over_failures entry.reader ≡ 0) × (over_failures entry.writer ≡ 0)) list.items) }
+{
+    let mut list = Vec::with_capacity(alloc, 2)?;
+    'sessions: for _session in 0..2 {
+        list.push(Entry {
+            reader: Over::new(&ASKS[..24]),
+            writer: Over::new(with_room(alloc)?),
+            clock: Still,
+        })?;
+    }
+    Ok(list)
+}
+
+// Where `run_sessions` finds no memory, each session that began has ended, with its LEAVE asked.
+#[test]
+fn sessions_that_began_leave(rt: HostRuntime) -> Result<(), Fail> {
+    let alloc = rt.alloc();
+    let Ok(list) = two_sessions(alloc) else {
+        return Ok(());
+    };
+    let Ok(seats) = Vec::from_slice(alloc, &[0u32, 1]) else {
+        return Ok(());
+    };
+    let desk = Counts {
+        hellos: [AtomicU64::new(0), AtomicU64::new(0)],
+        leaves: [AtomicU64::new(0), AtomicU64::new(0)],
+    };
+    if seats.len() != list.len() {
+        return Err(Fail::new("not a seat for each"));
+    }
+    let ended = run_sessions(&rt, alloc, list, &desk, seats, &Open, 99);
+    for (hellos, leaves) in desk.hellos.iter().zip(desk.leaves.iter()) {
+        let (hellos, leaves) = (hellos.load(Ordering::SeqCst), leaves.load(Ordering::SeqCst));
+        assert!(rt; leaves == 1 || (ended.is_err() && hellos == 0));
+    }
+    Ok(())
+}
