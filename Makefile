@@ -25,11 +25,13 @@ build:
 run: build
 	contrib/first-run
 
-# Proves everything from nothing, runs the tests, and tries the programs that were built so over real sockets.
+# Proves everything from nothing, runs the tests, runs some again with each allocation refused in turn, and tries the
+# programs that were built so over real sockets.
 test:
 	rt ci
 	mkdir -p bin
 	for program in $(PROGRAMS); do install -m 755 crates/$$program/out/$$program bin/ || exit 1; done
+	tests/growths
 	tests/service
 
 # Whether the man pages render without a warning.
