@@ -26,13 +26,24 @@ const ROUND: u32 = 64;
 /// How many asks one thread makes, of the store and of a desk.
 const ASKS: u32 = 1_000_000;
 
-/// Prints what a call costs one thread beside the store's own time, and then how many asks a second many threads make.
+/// How a thread has its asks served.
+#[derive(Clone, Copy)]
+enum Way {
+    /// By `call`: it posts, and whoever has the turn serves.
+    Call,
+    /// By `try_call` until the turn is had: each serves its own, and lets others go first meanwhile.
+    Turns,
+}
+
+/// Prints what a call costs one thread beside the store's own time, and then how many asks a second many threads make,
+/// by `call` and in turns.
 pub fn print_desk<R: AllocGlobal + Clock + Print + Threads + Wait + Sync>(rt: &R) -> Result<()> {
     let in_store = time_store(rt, rt.alloc())?;
     let at_desk = time_desk(rt, rt.alloc())?;
     println!(rt; "read by one thread: {in_store} ns, by try_call {at_desk} ns")?;
     for threads in THREADS {
-        print_row(rt, threads)?;
+        print_row(rt, threads, Way::Call, "by call")?;
+        print_row(rt, threads, Way::Turns, "in turns")?;
     }
     Ok(())
 }
@@ -40,18 +51,26 @@ pub fn print_desk<R: AllocGlobal + Clock + Print + Threads + Wait + Sync>(rt: &R
 fn print_row<R: AllocGlobal + Clock + Print + Threads + Wait + Sync>(
     rt: &R,
     threads: u32,
+    way: Way,
+    name: &str,
 ) -> Result<()> {
     let alloc = rt.alloc();
     let Ok((desk, seats)) = Desk::open(alloc, threads, Store::new(alloc)) else {
         bail!("no desk");
     };
-    let counts = thread::map_vec(rt, seats, &|seat| count_calls(rt, alloc, &desk, seat))?;
+    let counts = thread::map_vec(
+        rt,
+        seats,
+        &|seat| { count_calls(rt, alloc, &desk, seat, way) },
+    )?;
     let total = counts
         .iter()
         .fold(0u64, |sum, count| sum.saturating_add(*count));
     let least = counts.iter().copied().min().unwrap_or(0);
     let greatest = counts.iter().copied().max().unwrap_or(0);
-    println!(rt; "{threads} threads: {total} asks a second, {least} to {greatest} by one thread")?;
+    println!(rt;
+        "{threads} threads {name}: {total} asks a second, {least} to {greatest} by one thread"
+    )?;
     Ok(())
 }
 
@@ -101,7 +120,7 @@ fn time_desk<R: Clock>(rt: &R, alloc: Global) -> Result<u64> {
 }
 
 /// How many calls a thread made at its seat.
-fn count_calls<R: Clock + Wait>(rt: &R, alloc: Global, desk: &Desk, mut seat: Seat) -> u64
+fn count_calls<R: Clock + Wait>(rt: &R, alloc: Global, desk: &Desk, mut seat: Seat, way: Way) -> u64
     requires { IsIdleAt desk.now seat }
 {
     let Ok(Answer::Number(context)) = desk.call(rt, &mut seat, 0, greeting(alloc)) else {
@@ -112,7 +131,10 @@ fn count_calls<R: Clock + Wait>(rt: &R, alloc: Global, desk: &Desk, mut seat: Se
     };
     let mut count = 0u64;
     'rounds: for _ in 0..u64::MAX {
-        call_round(rt, desk, &mut seat, context);
+        match way {
+            Way::Call => call_round(rt, desk, &mut seat, context),
+            Way::Turns => turn_round(rt, desk, &mut seat, context),
+        }
         count = count.saturating_add(u64::from(ROUND));
         if start
             .elapsed(rt)
@@ -130,5 +152,29 @@ fn call_round<R: Wait>(rt: &R, desk: &Desk, seat: &mut Seat, context: u32)
 {
     'calls: for _ in 0..ROUND {
         let _ = desk.call(rt, seat, 0, read(context));
+    }
+}
+
+fn turn_round<R: Wait>(rt: &R, desk: &Desk, seat: &mut Seat, context: u32)
+    requires { IsIdleAt desk.now seat.old }
+    ensures { IsIdleAt desk.now seat.new }
+{
+    'calls: for _ in 0..ROUND {
+        ask_in_turn(rt, desk, seat, read(context));
+    }
+}
+
+/// Tries until a try has the turn.
+fn ask_in_turn<R: Wait>(rt: &R, desk: &Desk, seat: &mut Seat, ask: Ask)
+    requires { IsIdleAt desk.now seat.old }
+    ensures { IsIdleAt desk.now seat.new }
+{
+    let mut ask = ask;
+    'tries: for _ in 0..u64::MAX {
+        match desk.try_call(seat, 0, ask) {
+            Ok(_reply) => return,
+            Err(back) => ask = back,
+        }
+        thread::yield_now();
     }
 }
