@@ -1,42 +1,36 @@
 -- What the answer of a posted call comes to on the machine as it is kept.
-use Rattle.std.proofs.Common.{◌≡◌, ◌≢◌, ℕ, ◌+◌, ◌<◌, ◌≤◌, ◌==◌, Bool, true, false, cond, List, [], ◌∷◌, ◌++◌, map}
-use Rattle.std.proofs.Common.{length, eq-eqb, ne_eqb}
-use Rattle.std.proofs.Common.{take, set, Option, Some, None, Result, refl, sym, ap, ◌∙◌, subst, inl, inr, ◌⊎◌}
+use Rattle.std.proofs.Common.{◌≡◌, ◌≢◌, ℕ, ◌+◌, ◌==◌, Bool, true, false, cond, List, [], ◌∷◌, ◌++◌, map}
+use Rattle.std.proofs.Common.{length}
+use Rattle.std.proofs.Common.{take, set, Option, Some, None, Result, refl, sym, ap, ◌∙◌, subst}
 use Rattle.std.proofs.Common.{⊎_elim, arith, length-set, length-append}
 use Rattle.std.proofs.lemmas.List.{take-append-le}
 use Rattle.std.specs.Prelude.{Vec}
 use Rattle.std.specs.declared.alloc.Global.{Global}
-use mathlib.Core.Option as maybe
 use mathlib.Core.Option.{some, some-injective}
-use mathlib.Core.Logic.{dite}
-use native.Mathlib.Decide.{ℕ_discrete}
 use lib.ListN.{get_elem?}
-use Rattle.krs_types.specs.declared.ask.Ask.{Ask}
 use Rattle.krs_types.specs.declared.ask.Answer as answer
 use Rattle.krs_types.specs.declared.errno.Errno.{Errno}
 use Rattle.krs_types.specs.declared.event.Event.{Event}
 use Rattle.krs_model.specs.State.{State, starting_at}
 use Rattle.krs_model.specs.Step.{Step}
 use Rattle.krs_model.proofs.History.Legal.{legal_more}
-use Rattle.krs_world.specs.declared.view.Cell.{Cell}
 use Rattle.krs_world.specs.declared.view.Cell.TheVariants as cells
 use Rattle.krs_world.specs.declared.view.Part.{Part}
 use Rattle.krs_world.specs.declared.view.Service.{Service}
-use Rattle.krs_world.specs.declared.step.Kind.{Kind}
-use Rattle.krs_world.specs.declared.step.Kind.TheVariants.{Grab, Answer, LookAt}
+use Rattle.krs_world.specs.declared.step.Kind.TheVariants.{Answer}
 use Rattle.krs_world.specs.declared.lane.Lane.{Lane}
 use Rattle.krs_world.specs.declared.lane.Slot.{Slot}
 use Rattle.krs_world.specs.declared.lane.Slot.TheVariants as slots
-use Rattle.krs_world.specs.Knowing.{events_of, service, grabbed, answered, looked_at}
-use Rattle.krs_world.specs.World.{World, Out, IsUnposted, is_answered, IsServer, StepsAs, event_by, recelled, reseated}
-use Rattle.krs_world.specs.Kept.{part_by, lane_cell, cell_by, known_by, flight_by, turn_by, world_of, IsSlotOf, IsLane}
-use Rattle.krs_world.specs.Kept.{served_cell, answered_cell, IsKept}
-use Rattle.krs_world.proofs.Lanes.{set_at, set_else, at_set, snoc_end}
-use Rattle.krs_world.proofs.Worlds.{get_map, of_map}
-use Rattle.krs_world.proofs.KeptHistory.{seats_by, cells_by, each_at, map_else, in_bounds, reseats}
-use Rattle.krs_world.proofs.Slots.{cond_none, slot_posted, slot_more, cell_more, known_more, known_then, cell_then}
+use Rattle.krs_world.specs.Knowing.{events_of, answered}
+use Rattle.krs_world.specs.World.{World, IsServer, StepsAs, event_by, recelled, reseated}
+use Rattle.krs_world.specs.Kept.{part_by, lane_cell, cell_by, known_by, flight_by, turn_by, world_of, IsLane}
+use Rattle.krs_world.specs.Kept.{served_cell, IsKept}
+use Rattle.krs_world.proofs.Lanes.{at_set, snoc_end}
+use Rattle.krs_world.proofs.KeptHistory.{seats_by, cells_by, each_at, map_else}
+use Rattle.krs_world.proofs.Slots.{cond_none, cell_more, known_more, known_then, cell_then}
 use Rattle.krs_world.proofs.ServedMoves.{cell_apart, slot_apart, apart_else, holds_true}
-use Rattle.krs_world.proofs.Moves.{after, still, still_served, seat_is, holding_is, holder, unheld, held_true, lane_more}
+use Rattle.krs_world.proofs.KeptLanes.{lane_more}
+use Rattle.krs_world.proofs.Moves.{after, holding_is, unheld}
 
 cond_own : (b : Bool) → cond b true false ≡ b
 cond_own true = refl

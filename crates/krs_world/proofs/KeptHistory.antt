@@ -14,9 +14,9 @@ use Rattle.krs_world.specs.declared.view.Part.{Part}
 use Rattle.krs_world.specs.declared.view.Cell.{Cell}
 use Rattle.krs_world.specs.declared.view.Service.{Service}
 use Rattle.krs_world.specs.declared.lane.Lane.{Lane}
-use Rattle.krs_world.specs.World.{Free, World, IsHistory, reseated, recelled, cell_of}
+use Rattle.krs_world.specs.World.{Free, IsHistory, reseated, recelled, cell_of}
 use Rattle.krs_world.specs.World.{IsOneHistory}
-use Rattle.krs_world.specs.Kept.{part_by, cell_by, lane_cell, turn_by, world_of, IsLane, IsKept}
+use Rattle.krs_world.specs.Kept.{part_by, cell_by, lane_cell, turn_by, world_of, IsKept}
 use Rattle.krs_world.proofs.Lanes.{at_set}
 use Rattle.krs_world.proofs.Worlds.{get_map, of_map, history_is}
 

@@ -27,67 +27,15 @@ use Rattle.krs_world.specs.declared.lane.Slot.{Slot}
 use Rattle.krs_world.specs.declared.lane.Slot.TheVariants as slots
 use Rattle.krs_world.specs.Knowing.{events_of, taken, missed, put_own, put_none, loaded}
 use Rattle.krs_world.specs.World.{Free, World, IsHistory, reseated, IsHolder, StepsAs, IsOneHistory}
-use Rattle.krs_world.specs.Kept.{part_by, lane_cell, cell_by, known_by, flight_by, turn_by, world_of, IsSlotOf, IsLane}
+use Rattle.krs_world.specs.Kept.{part_by, lane_cell, cell_by, known_by, flight_by, turn_by, world_of, IsLane}
 use Rattle.krs_world.specs.Kept.{IsKept}
-use Rattle.krs_world.proofs.Keeping.{at_set, set_at, set_else, own_event, other_event}
+use Rattle.krs_world.proofs.Keeping.{at_set, set_at, set_else, own_event}
 use Rattle.krs_world.proofs.Worlds.{get_map, step_as}
 use Rattle.krs_world.proofs.KeptHistory.{seats_by, cells_by, begins_take, begins_further, begins_short, map_else}
 use Rattle.krs_world.proofs.KeptHistory.{map_alike, each_at, not_true, history_kept, kept_history}
 use Rattle.krs_world.proofs.KeptHistory.{IsSeenWhole, whole_now, seen_whole, reseats}
-use Rattle.krs_world.proofs.Slots.{cond_none, slot_more, cell_more, known_more, slot_empty, cell_idle}
-
--- what is kept of a lane, where another lane is out or none is
-lane_out : (out out' : Option ℕ) (serving : Option Service) (log : List Event) (j : ℕ) (l : Lane)
-    → IsLane out serving log j l → (l.holding ≡ true → out' ≡ Some j) → IsLane out' serving log j l
-lane_out out out' serving log j l o holds = record {
-  number = o.number;
-  seen = o.seen;
-  base = o.base;
-  after = o.after;
-  holds = holds;
-  slot = o.slot;
-}
-
--- the same, where the list has an event more
-pub lane_more : (out out' : Option ℕ) (serving : Option Service) (log : List Event) (e : Event) (j : ℕ) (l : Lane)
-    → IsLane out serving log j l → (l.holding ≡ true → out' ≡ Some j) → IsLane out' serving (log ++ e ∷ []) j l
-lane_more out out' serving log e j l o holds =
-    let size : length (log ++ e ∷ []) ≡ length log + 1 = length-append log (e ∷ []) in
-    let seen = o.seen in let base = o.base in let after = o.after in record {
-      number = o.number;
-      seen = omega arith;
-      base = omega arith;
-      after = omega arith;
-      holds = holds;
-      slot = slot_more serving log e j l.slot o.slot;
-    }
-
--- what a lane's seat knows where the list has an event more, of another lane, and where the lane doesn't hold the list
-pub part_more : (out : Option ℕ) (serving : Option Service) (log : List Event) (e : Event) (j : ℕ) (l : Lane)
-    → IsLane out serving log j l → e.lane ≢ j → l.holding ≡ false
-    → part_by (log ++ e ∷ []) serving l ≡ part_by log serving l
-part_more out serving log e j l o other quiet =
-    let log' : List Event = log ++ e ∷ [] in
-    let seen : take l.seen log' ≡ take l.seen log = take-append-le l.seen log (e ∷ []) o.seen in
-    let based : take l.base log' ≡ take l.base log = take-append-le l.base log (e ∷ []) o.base in
-    let before : take l.after log' ≡ take l.after log = take-append-le l.after log (e ∷ []) o.after in
-    let cell : lane_cell log' serving l ≡ lane_cell log serving l = cell_more serving log e j l.slot o.slot in
-    let calls : events_of l.lane (known_by log' l.slot) ≡ events_of l.lane (known_by log l.slot) =
-    subst (λ (n : ℕ). events_of n (known_by log' l.slot) ≡ events_of n (known_by log l.slot)) (sym o.number)
-    (known_more serving log e j l.slot o.slot other) in
-    let held : cond l.holding (Some log') None ≡ cond l.holding (Some log) None =
-    ap (λ (b : Bool). cond b (Some log') None) quiet ∙ sym (ap (λ (b : Bool). cond b (Some log) None) quiet) in
-    λ m. record (part_by log serving l) {
-      seen = seen m;
-      mine = calls m;
-      holding = held m;
-      flight = flight_by (before m) (cell m);
-      base = based m;
-    }
-
-pub held_true : (b : Bool) (log l : List Event) → cond b (Some log) None ≡ Some l → b ≡ true
-held_true true log l e = refl
-held_true false log l e = absurd (let no : None ≡ Some l = e in cc)
+use Rattle.krs_world.proofs.Slots.{cond_none, slot_more, cell_more, slot_empty, cell_idle}
+use Rattle.krs_world.proofs.KeptLanes.{lane_out, lane_more, part_more, held_true}
 
 -- The steps, by the lane at its place.
 module _ (store : State) (out : Option ℕ) (serving : Option Service) (log : List Event) (lanes : List Lane) (i : ℕ)

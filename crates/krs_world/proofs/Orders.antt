@@ -1,6 +1,6 @@
 -- The history only grows, and so does what seats have seen, which begins it.
 use Rattle.std.proofs.Common.{◌≡◌, ℕ, List, [], ◌∷◌, ◌++◌, set, Some, None, Result, refl, sym, ap, ◌∙◌, subst}
-use Rattle.std.proofs.Common.{inl, inr, cond, ◌==◌, true, false}
+use Rattle.std.proofs.Common.{inl, inr, cond, ◌==◌, false}
 use Rattle.std.proofs.Common.{◌⊎◌, ⊎_elim, append_assoc}
 use mathlib.Core.Option.{some, some-injective}
 use mathlib.Core.Logic.{dite}

@@ -1,14 +1,10 @@
 -- What the steps of posted calls come to on the machine as it is kept.
-use Rattle.std.proofs.Common.{◌≡◌, ◌≢◌, ℕ, ◌+◌, ◌<◌, ◌≤◌, ◌==◌, Bool, true, false, cond, List, [], ◌∷◌, ◌++◌, map}
-use Rattle.std.proofs.Common.{length, zero, suc, eq-eqb, ne_eqb}
-use Rattle.std.proofs.Common.{take, set, Option, Some, None, Result, refl, sym, ap, ◌∙◌, subst, inl, inr, ◌⊎◌}
-use Rattle.std.proofs.Common.{⊎_elim, arith, length-set, length-append}
-use Rattle.std.proofs.lemmas.List.{length-take-le, take-append-le}
-use Rattle.std.specs.Prelude.{Vec}
-use Rattle.std.specs.declared.alloc.Global.{Global}
+use Rattle.std.proofs.Common.{◌≡◌, ◌≢◌, ℕ, ◌+◌, ◌<◌, ◌≤◌, false, List, [], ◌∷◌, ◌++◌}
+use Rattle.std.proofs.Common.{length, zero, suc}
+use Rattle.std.proofs.Common.{take, set, Option, Some, None, Result, refl, sym, ap, ◌∙◌, subst, ◌⊎◌}
+use Rattle.std.proofs.Common.{⊎_elim, arith, length-append}
+use Rattle.std.proofs.lemmas.List.{length-take-le}
 use mathlib.Core.Option.{some, some-injective, some-ne-none}
-use mathlib.Core.Logic.{dite}
-use native.Mathlib.Decide.{ℕ_discrete}
 use lib.ListN.{get_elem?}
 use Rattle.krs_types.specs.declared.ask.Ask.{Ask}
 use Rattle.krs_types.specs.declared.ask.Answer as answer
@@ -16,28 +12,27 @@ use Rattle.krs_types.specs.declared.errno.Errno.{Errno}
 use Rattle.krs_types.specs.declared.event.Event.{Event}
 use Rattle.krs_model.specs.Lists.{Begins}
 use Rattle.krs_model.specs.State.{State, starting_at}
-use Rattle.krs_model.specs.Step.{Step}
 use Rattle.krs_model.specs.History.{event_of}
 use Rattle.krs_world.specs.declared.view.Cell.{Cell}
 use Rattle.krs_world.specs.declared.view.Cell.TheVariants as cells
 use Rattle.krs_world.specs.declared.view.Part.{Part}
 use Rattle.krs_world.specs.declared.view.Service.{Service}
 use Rattle.krs_world.specs.declared.step.Kind.{Kind}
-use Rattle.krs_world.specs.declared.step.Kind.TheVariants.{Post, Grab, Answer, Collect, CollectFound, LookAt}
+use Rattle.krs_world.specs.declared.step.Kind.TheVariants.{Post, Collect, CollectFound}
 use Rattle.krs_world.specs.declared.lane.Lane.{Lane}
 use Rattle.krs_world.specs.declared.lane.Slot.{Slot}
 use Rattle.krs_world.specs.declared.lane.Slot.TheVariants as slots
-use Rattle.krs_world.specs.Knowing.{events_of, one, posted, collected, looked_at}
+use Rattle.krs_world.specs.Knowing.{events_of, one, posted, collected}
 use Rattle.krs_world.specs.History.{Fits}
-use Rattle.krs_world.specs.World.{World, Out, cell_of, IsUnposted, IsUnanswered, is_answered, IsReady, StepsAs}
-use Rattle.krs_world.specs.Kept.{part_by, lane_cell, cell_by, known_by, flight_by, turn_by, world_of, IsSlotOf, IsLane}
-use Rattle.krs_world.specs.Kept.{served_cell, answered_cell, IsKept}
-use Rattle.krs_world.proofs.Lanes.{prefix_both, events_prefix, own_event, set_at, set_else}
-use Rattle.krs_world.proofs.Worlds.{get_map, of_map, cell_at}
-use Rattle.krs_world.proofs.KeptHistory.{seats_by, cells_by, begins_take, begins_further, begins_short, each_at}
-use Rattle.krs_world.proofs.KeptHistory.{history_kept, kept_history, in_bounds, reseats, recells}
-use Rattle.krs_world.proofs.Slots.{place_in, slot_empty, slot_posted, slot_answered}
-use Rattle.krs_world.proofs.Moves.{after, still, still_served, seat_is, holding_is}
+use Rattle.krs_world.specs.World.{World, cell_of, IsUnanswered, IsReady, StepsAs}
+use Rattle.krs_world.specs.Kept.{part_by, lane_cell, cell_by, known_by, world_of, IsSlotOf, IsLane}
+use Rattle.krs_world.specs.Kept.{answered_cell, IsKept}
+use Rattle.krs_world.proofs.Lanes.{prefix_both, events_prefix, own_event, set_else}
+use Rattle.krs_world.proofs.Worlds.{get_map, cell_at}
+use Rattle.krs_world.proofs.KeptHistory.{begins_take, begins_further, begins_short, each_at}
+use Rattle.krs_world.proofs.KeptHistory.{history_kept, kept_history, recells}
+use Rattle.krs_world.proofs.Slots.{slot_empty, slot_answered}
+use Rattle.krs_world.proofs.Moves.{after, still, seat_is}
 
 take_next : {A : Type 0} (l : List A) (n : ℕ) (e : A) → get_elem? l n ≡ some e → take (suc n) l ≡ take n l ++ e ∷ []
 take_next [] n e is = absurd (some-ne-none e (sym is))

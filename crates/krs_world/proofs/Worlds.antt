@@ -23,7 +23,7 @@ use Rattle.krs_world.specs.declared.step.Kind.TheVariants.{Take, TakeFound, Put,
 use Rattle.krs_world.specs.declared.step.Kind.TheVariants.{CollectFound, LookAt}
 use Rattle.krs_world.specs.declared.step.WorldStep.{WorldStep}
 use Rattle.krs_world.specs.Knowing.{events_of, one, taken, missed, put_own, put_none, loaded, posted, grabbed, answered}
-use Rattle.krs_world.specs.Knowing.{collected, looked_at, celled, service}
+use Rattle.krs_world.specs.Knowing.{collected, looked_at, celled}
 use Rattle.krs_world.specs.History.{Fits, OneHistory, HasSeen}
 use Rattle.krs_world.specs.World.{Turn, Free, Out, World, IsLongest, IsHistoryBy, reseated, recelled, StepsAs, Steps, Runs}
 use Rattle.krs_world.specs.World.{is_answered, event_by}

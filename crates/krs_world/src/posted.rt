@@ -1,4 +1,4 @@
-//! The steps of calls that are posted: the machine's seats leave them, and the holder of the turn answers them.
+//! The steps of posted calls: a seat leaves its call in its cell, and the holder of the turn answers it.
 ghost use Rattle.std.specs.Prelude.{IfOk, IfErr};
 ghost use Rattle.krs_world.specs.declared.step.Kind.TheVariants.{Post, Grab, Answer, Collect, CollectFound, LookAt};
 ghost use Rattle.krs_world.specs.World.{MovesBy, RefusedBy};
@@ -73,7 +73,7 @@ impl World {
         let Some(holder) = self.out else {
             return false;
         };
-        if holder != lane {
+        if lane != holder {
             return false;
         }
         let None = self.serving else {

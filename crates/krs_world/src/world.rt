@@ -11,7 +11,7 @@ use std::alloc::{AllocError, Global};
 use std::marker::Model;
 
 /// Seats of lanes over one store, with the list of all calls. No store is copied, and no event: what a seat has seen
-/// is a length of the list.
+/// is a length of the list. An ask that is posted lies in its lane's slot, then in `serving`, then in the list.
 #[derive(Drop)]
 pub struct World {
     pub(crate) store: Store,
@@ -62,9 +62,10 @@ impl World {
         })
     }
 
-    /// One step: true where it was made, false where it isn't possible. A put serves its ask by the store at home, and
-    /// its reply is what that store answers, ENOMEM too. ENOSPC where the step would raise a number that is the
-    /// greatest already; ENOMEM where there is no memory for the event of a call.
+    /// One step: true where it was made, false where it isn't possible. A put serves its ask by the store, and so does
+    /// an answer; the reply is what the store answers, ENOMEM too. ENOSPC where the step would raise a number that is
+    /// the greatest already; ENOMEM where there is no memory for the event of a call, or to keep that a lane's cell was
+    /// looked at.
     pub fn step(&mut self, step: WorldStep) -> Result<bool, Errno>
         ensures moved { IfOk result (λ done. MovesBy self.old step.lane step.kind done self.new) }
         ensures refused { IfErr result (λ error. RefusedBy self.old step.lane step.kind error self.new) }

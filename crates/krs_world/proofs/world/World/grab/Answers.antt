@@ -1,20 +1,11 @@
-use Rattle.std.proofs.Common.{rules, arith, ◌≡◌, ◌+◌, ◌<◌, ◌≤◌, ℕ, List, [], ◌∷◌, ◌++◌, set, refl, ap, sym, ◌∙◌}
-use Rattle.std.proofs.Common.{subst, inl, inr, Some, None, Option, Bool, length, length-set}
-use Rattle.std.specs.Prelude.{vec_len}
+use Rattle.std.proofs.Common.{rules, ◌≡◌, ◌<◌, ◌≤◌, ℕ, List, ap, sym, ◌∙◌}
+use Rattle.std.proofs.Common.{subst, Some, length}
 use lib.ListN.{get_elem?}
 use mathlib.Core.Option.{some, some-injective}
-use Rattle.krs_model.specs.History.{event_of}
-use Rattle.krs_model.specs.Step.{Step}
-use Rattle.krs_types.specs.declared.event.Event.{Event}
-use Rattle.krs_types.specs.declared.errno.Errno.TheVariants.{ENOMEM}
-use Rattle.krs_world.specs.declared.view.Service.{Service}
 use Rattle.krs_world.specs.declared.lane.Lane.{Lane}
-use Rattle.krs_world.specs.declared.lane.Slot.{Slot}
 use Rattle.krs_world.specs.declared.lane.Slot.TheVariants as slots
-use Rattle.krs_world.specs.declared.step.Kind.TheVariants.{Grab, Answer, LookAt}
-use Rattle.krs_world.specs.World.{World, MovesBy, RefusedBy}
-use Rattle.krs_world.specs.Kept.{world_of, IsKept}
-use Rattle.krs_world.proofs.KeptHistory.{out_at, out_within, in_bounds}
+use Rattle.krs_world.specs.declared.step.Kind.TheVariants.{Grab}
+use Rattle.krs_world.proofs.KeptHistory.{out_at}
 use Rattle.krs_world.proofs.ServedMoves.{grabs_at, no_grab}
 use Rattle.krs_world.proofs.Answering.{lane_at, lanes_same, moves, moves_not, beyond_cell, busy}
 use Rattle.krs_world.proofs.world.World.grab.Goals as goal

@@ -1,20 +1,11 @@
-use Rattle.std.proofs.Common.{rules, arith, ◌≡◌, ◌+◌, ◌<◌, ◌≤◌, ℕ, List, [], ◌∷◌, ◌++◌, set, refl, ap, sym, ◌∙◌}
-use Rattle.std.proofs.Common.{subst, inl, inr, Some, None, Option, Bool, true, false, cond, ◌==◌, length, length-set}
+use Rattle.std.proofs.Common.{rules, arith, ◌≡◌, ◌<◌, ◌≤◌, ℕ, List, ap, ◌∙◌}
+use Rattle.std.proofs.Common.{subst, Some, Bool, true, false, cond, ◌==◌, length}
 use Rattle.std.specs.Prelude.{vec_len}
 use lib.ListN.{get_elem?}
-use mathlib.Core.Option.{some, some-injective}
-use Rattle.krs_model.specs.History.{event_of}
-use Rattle.krs_model.specs.Step.{Step}
-use Rattle.krs_types.specs.declared.event.Event.{Event}
-use Rattle.krs_types.specs.declared.errno.Errno.TheVariants.{ENOMEM}
-use Rattle.krs_world.specs.declared.view.Service.{Service}
+use mathlib.Core.Option.{some}
 use Rattle.krs_world.specs.declared.lane.Lane.{Lane}
-use Rattle.krs_world.specs.declared.lane.Slot.{Slot}
-use Rattle.krs_world.specs.declared.lane.Slot.TheVariants as slots
-use Rattle.krs_world.specs.declared.step.Kind.TheVariants.{Grab, Answer, LookAt}
-use Rattle.krs_world.specs.World.{World, MovesBy, RefusedBy}
-use Rattle.krs_world.specs.Kept.{world_of, IsKept}
-use Rattle.krs_world.proofs.KeptHistory.{out_at, out_within, in_bounds}
+use Rattle.krs_world.specs.declared.step.Kind.TheVariants.{LookAt}
+use Rattle.krs_world.proofs.KeptHistory.{out_at, out_within}
 use Rattle.krs_world.proofs.ServedMoves.{looks, no_look, room_refused}
 use Rattle.krs_world.proofs.Answering.{lane_at, lane_here, moves, moves_not, beyond_cell, look_refused}
 use Rattle.krs_world.proofs.world.World.look_at.Goals as goal

@@ -1,11 +1,10 @@
-use Rattle.std.proofs.Common.{rules, arith, ◌≡◌, ◌+◌, ◌<◌, ◌≤◌, ℕ, List, [], ◌∷◌, ◌++◌, refl, ap, sym, ◌∙◌}
-use Rattle.std.proofs.Common.{subst, inl, inr, Some, None, length}
+use Rattle.std.proofs.Common.{rules, ◌≡◌, ◌<◌, ◌≤◌, List, ap, sym, ◌∙◌}
+use Rattle.std.proofs.Common.{subst, length}
 use lib.ListN.{get_elem?}
-use mathlib.Core.Option.{some, some-injective}
-use Rattle.krs_model.specs.History.{event_of}
+use mathlib.Core.Option.{some}
 use Rattle.krs_world.specs.declared.lane.Lane.{Lane}
 use Rattle.krs_world.specs.declared.lane.Slot.TheVariants as slots
-use Rattle.krs_world.specs.declared.step.Kind.TheVariants.{Take, TakeFound, Put, Load, Post, Collect, CollectFound}
+use Rattle.krs_world.specs.declared.step.Kind.TheVariants.{Post}
 use Rattle.krs_world.proofs.PostedMoves.{posts, no_post}
 use Rattle.krs_world.proofs.Answering.{lane_at, lanes_same, moves, moves_not, none_there}
 use Rattle.krs_world.proofs.world.World.post.Goals as goal

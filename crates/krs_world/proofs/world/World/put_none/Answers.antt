@@ -1,12 +1,9 @@
-use Rattle.std.proofs.Common.{rules, arith, ◌≡◌, ◌+◌, ◌<◌, ◌≤◌, ℕ, List, [], ◌∷◌, ◌++◌, refl, ap, sym, ◌∙◌}
-use Rattle.std.proofs.Common.{subst, inl, inr, Some, None, length}
+use Rattle.std.proofs.Common.{rules, arith, ◌≡◌, ◌<◌, ℕ, ap, ◌∙◌}
+use Rattle.std.proofs.Common.{Some, None, length}
 use Rattle.std.specs.Prelude.{vec_len}
 use lib.ListN.{get_elem?}
-use mathlib.Core.Option.{some, some-injective}
-use Rattle.krs_model.specs.History.{event_of}
-use Rattle.krs_world.specs.declared.lane.Lane.{Lane}
-use Rattle.krs_world.specs.declared.lane.Slot.TheVariants as slots
-use Rattle.krs_world.specs.declared.step.Kind.TheVariants.{Take, TakeFound, Put, Load, Post, Collect, CollectFound}
+use mathlib.Core.Option.{some}
+use Rattle.krs_world.specs.declared.step.Kind.TheVariants.{Put}
 use Rattle.krs_world.proofs.KeptHistory.{out_within}
 use Rattle.krs_world.proofs.Moves.{puts_none}
 use Rattle.krs_world.proofs.Answering.{lane_here, moves, busy}
