@@ -105,10 +105,28 @@ fn a_posted_call_is_answered(rt: HostRuntime) -> Result<(), Fail> {
     expect_step(&rt, seats, step(0, Kind::Post(0, leave())), false, "twice");
     expect_step(&rt, seats, step(1, Kind::LookAt(0)), false, "a call waits");
     expect_step(&rt, seats, step(0, Kind::Grab(0)), false, "not the holder");
-    expect_step(&rt, seats, step(1, Kind::Answer), false, "nothing to answer");
+    expect_step(
+        &rt,
+        seats,
+        step(1, Kind::Answer),
+        false,
+        "nothing to answer",
+    );
     expect_step(&rt, seats, step(1, Kind::Grab(0)), true, "a grab");
-    expect_step(&rt, seats, step(1, Kind::Put(None)), false, "still to answer");
-    expect_step(&rt, seats, step(0, Kind::CollectFound), true, "no reply yet");
+    expect_step(
+        &rt,
+        seats,
+        step(1, Kind::Put(None)),
+        false,
+        "still to answer",
+    );
+    expect_step(
+        &rt,
+        seats,
+        step(0, Kind::CollectFound),
+        true,
+        "no reply yet",
+    );
     expect_step(&rt, seats, step(1, Kind::Answer), true, "an answer");
     expect_step(&rt, seats, step(0, Kind::CollectFound), false, "a reply");
     expect_step(&rt, seats, step(0, Kind::Collect(0)), false, "not seen");
