@@ -105,7 +105,8 @@ module _ (slots new : List (Option Key)) (es ns : List (ℕ × ℕ)) (k p : ℕ)
   kept q (Some o) h = others o (off q o h)
 
   pub in_slots_put : in_slots new ns ≡ put (in_slots slots es) k v
-  in_slots_put = is_shown new ns (put (in_slots slots es) k v) (rises_put (in_slots slots es) k v (rises_in_slots slots es))
+  in_slots_put =
+      is_shown new ns (put (in_slots slots es) k v) (rises_put (in_slots slots es) k v (rises_in_slots slots es))
       (λ q. ap (found new) (placed q)
       ∙ (elim (nat_eq k q) as (λ b. found new (cond b (Some p) (place_of es q))
       ≡ cond b (Some v) (at (in_slots slots es) q)) [
@@ -124,14 +125,16 @@ module _ (slots new : List (Option Key)) (es ns : List (ℕ × ℕ)) (k p : ℕ)
   apart_taken : (i j o : ℕ) → place_of ns i ≡ Some o → place_of ns j ≡ Some o → i ≡ j
   apart_taken i j o h g =
       elim (nat_eq k i) as (λ b. nat_eq k i ≡ b → cond b (Some p) (place_of es i) ≡ Some o → i ≡ j) [
-        | true ↦ λ t is. elim (nat_eq k j) as (λ b. nat_eq k j ≡ b → cond b (Some p) (place_of es j) ≡ Some o → i ≡ j) [
-          | true ↦ λ u also. sym (equal_numbers k i t) ∙ equal_numbers k j u
-          | false ↦ λ u was. absurd (off j o was (sym (same_Some p o is)))
-        ] refl (sym (placed j) ∙ g)
-        | false ↦ λ t was. elim (nat_eq k j) as (λ b. nat_eq k j ≡ b → cond b (Some p) (place_of es j) ≡ Some o → i ≡ j) [
-          | true ↦ λ u is. absurd (off i o was (sym (same_Some p o is)))
-          | false ↦ λ u also. have.apart i j o was also
-        ] refl (sym (placed j) ∙ g)
+        | true ↦ λ t is.
+            elim (nat_eq k j) as (λ b. nat_eq k j ≡ b → cond b (Some p) (place_of es j) ≡ Some o → i ≡ j) [
+              | true ↦ λ u also. sym (equal_numbers k i t) ∙ equal_numbers k j u
+              | false ↦ λ u was. absurd (off j o was (sym (same_Some p o is)))
+            ] refl (sym (placed j) ∙ g)
+        | false ↦ λ t was.
+            elim (nat_eq k j) as (λ b. nat_eq k j ≡ b → cond b (Some p) (place_of es j) ≡ Some o → i ≡ j) [
+              | true ↦ λ u is. absurd (off i o was (sym (same_Some p o is)))
+              | false ↦ λ u also. have.apart i j o was also
+            ] refl (sym (placed j) ∙ g)
       ] refl (sym (placed i) ∙ h)
 
   -- a serial that had a place has it still
@@ -165,7 +168,8 @@ module _ (slots new : List (Option Key)) (es ns : List (ℕ × ℕ)) (k p : ℕ)
   -- a serial with another place
   other : (q o : ℕ) → nat_eq k q ≡ false → place_of es q ≡ Some o → o ≢ p
   other q o t h same =
-      true≢false (sym (ap (nat_eq k) (sym (have.apart k q p at_place (h ∙ ap (λ z. Some z) same))) ∙ same_number k) ∙ t)
+      let one : k ≡ q = have.apart k q p at_place (h ∙ ap (λ z. Some z) same) in
+      true≢false (sym (ap (nat_eq k) (sym one) ∙ same_number k) ∙ t)
 
   left : (q : ℕ) (o : Option ℕ) → nat_eq k q ≡ false → place_of es q ≡ o → found new o ≡ found slots o
   left q None t h = refl

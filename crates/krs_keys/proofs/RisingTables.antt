@@ -1,5 +1,6 @@
 -- Laws of tables whose numbers rise: two that have the same at each number are one.
-use Rattle.std.proofs.Common.{◌≡◌, ℕ, suc, List, [], ◌∷◌, length, Some, None, true, false, cond, refl, ap, ◌∙◌, sym, subst}
+use Rattle.std.proofs.Common.{◌≡◌, ℕ, suc, List, [], ◌∷◌, length, Some, None, true, false, cond}
+use Rattle.std.proofs.Common.{refl, ap, ◌∙◌, sym, subst}
 use Rattle.std.proofs.lemmas.Option.{none-some, same_Some}
 use Rattle.std.proofs.lemmas.Map.{lookup-none, lookup-remove_entry}
 use Rattle.std.proofs.lemmas.Map.Entries.{none_past_head, none_below_head}
@@ -14,7 +15,8 @@ use Rattle.std.specs.BTreeMap.{is_at}
 use Rattle.std.specs.Map.{keys_of}
 use Rattle.krs_model.specs.Table.{Table, at, put, without, alter, map_values, Rises}
 use Rattle.krs_keys.proofs.TableLemmas.{keys_map}
-use Rattle.krs_model.proofs.Tables.Changes.{same_at, is_at_same, at_put_same, at_put_other, at_alter_same, at_alter_other}
+use Rattle.krs_model.proofs.Tables.Changes.{same_at, is_at_same, at_put_same, at_put_other}
+use Rattle.krs_model.proofs.Tables.Changes.{at_alter_same, at_alter_other}
 
 -- two numbers are one either way
 pub either_way : (k q : ℕ) → is_at (nat_cmp k) q ≡ is_at (nat_cmp q) k

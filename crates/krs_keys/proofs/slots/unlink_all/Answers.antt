@@ -12,8 +12,9 @@ loop-ring-preserved c =
     let places = c.args.places.now.entries in
     record {
       places = c.unlink_in.ensures.places;
-      unlinked = one_unlinked c.args.serial c.args.rings.now c.loop-ring.ring-index 0 (in_slots c.args.slots.now.slots places)
-          (in_slots c.loop-ring.slots.slots places) (in_slots c.unlink_in.new.slots.slots places) c.loop-ring-test.true
+      unlinked = one_unlinked c.args.serial c.args.rings.now c.loop-ring.ring-index 0
+          (in_slots c.args.slots.now.slots places) (in_slots c.loop-ring.slots.slots places)
+          (in_slots c.unlink_in.new.slots.slots places) c.loop-ring-test.true
           c.loop-ring.invariant.unlinked c.unlink_in.ensures.keys;
     }
 

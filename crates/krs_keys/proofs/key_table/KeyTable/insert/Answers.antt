@@ -12,6 +12,7 @@ invariant_of-self c =
       c.in-Ok.ensures.placed,
       record {
         below = below_put _ _ n c.args.key c.in-Ok.ensures.ok c.self.invariant.1.below;
-        kinds = subst AreOfKind (sym c.in-Ok.ensures.ok) (kinds_put es n c.args.key c.requires c.self.invariant.1.kinds);
+        kinds = subst AreOfKind (sym c.in-Ok.ensures.ok)
+            (kinds_put es n c.args.key c.requires c.self.invariant.1.kinds);
       },
     )

@@ -10,7 +10,8 @@ invariant_of-self c =
     let es = by_place c.self.inside.keys in (
       c.remove.ensures.placed,
       record {
-        below = λ q h. ap (λ zs. at zs q) c.remove.ensures.keys ∙ at_without_none es _ q (c.self.invariant.1.below q h);
+        below = λ q h.
+            ap (λ zs. at zs q) c.remove.ensures.keys ∙ at_without_none es _ q (c.self.invariant.1.below q h);
         kinds = kinds_without es _ _ c.remove.ensures.keys c.remove.ensures.gone c.self.invariant.1.kinds;
       },
     )

@@ -12,7 +12,8 @@ invariant_of-self c =
     let es = by_place c.self.inside.keys in (
       c.change.ensures.placed,
       record {
-        below = λ q h. ap (λ zs. at zs q) c.change.ensures.keys ∙ at_alter_none es _ q _ (c.self.invariant.1.below q h);
+        below = λ q h.
+            ap (λ zs. at zs q) c.change.ensures.keys ∙ at_alter_none es _ q _ (c.self.invariant.1.below q h);
         kinds = subst AreOfKind (sym c.change.ensures.keys) (kinds_alter es _ (changed c.args.change)
             (changed_kind c.args.change) c.self.invariant.1.kinds);
       },

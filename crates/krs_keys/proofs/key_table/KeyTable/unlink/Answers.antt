@@ -11,7 +11,8 @@ invariant_of-self c =
     let es = by_place c.self.inside.keys in (
       c.unlink.ensures.placed,
       record {
-        below = λ q h. ap (λ zs. at zs q) c.unlink.ensures.keys ∙ at_alter_none es _ q _ (c.self.invariant.1.below q h);
+        below = λ q h.
+            ap (λ zs. at zs q) c.unlink.ensures.keys ∙ at_alter_none es _ q _ (c.self.invariant.1.below q h);
         kinds = subst AreOfKind (sym c.unlink.ensures.keys) (kinds_alter es _ (without_key c.args.serial)
             (keyless_kind c.args.serial) c.self.invariant.1.kinds);
       },

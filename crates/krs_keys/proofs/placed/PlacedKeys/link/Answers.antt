@@ -11,7 +11,8 @@ use Rattle.krs_keys.proofs.TableLemmas.{on_ok, on_err, if_ok, if_err, by_result}
 use Rattle.krs_keys.proofs.placed.PlacedKeys.link.Goals as goal
 
 -- what is at the keyring's place
-here : (c : goal.After-link) → at (by_place c.args.self.now) c.args.ring ≡ held c.args.self.now.slots.slots c.in-Some.place
+here : (c : goal.After-link)
+    → at (by_place c.args.self.now) c.args.ring ≡ held c.args.self.now.slots.slots c.in-Some.place
 here c =
     let slots = c.args.self.now.slots.slots in
     at_in_slots slots c.args.self.now.places.entries c.args.ring ∙ ap (found slots) (sym c.in-Some.ensures)
@@ -55,7 +56,8 @@ returns-in-Some-clause-displaced c =
 
 pub returns-in-Some-clause-room : goal.returns-in-Some-clause-room
 returns-in-Some-clause-room c =
-    on_ok c.link.result (λ h. ap (λ o. is_refused (named_links_of_key o) c.args.name) (here c) ∙ h) c.link.ensures.room
+    on_ok c.link.result (λ h. ap (λ o. is_refused (named_links_of_key o) c.args.name) (here c) ∙ h)
+    c.link.ensures.room
 
 pub returns-in-Some-clause-error : goal.returns-in-Some-clause-error
 returns-in-Some-clause-error c =

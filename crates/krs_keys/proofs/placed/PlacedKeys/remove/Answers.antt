@@ -10,7 +10,8 @@ use Rattle.krs_keys.proofs.placed.PlacedKeys.remove.Goals as goal
 nothing : (c : goal.After-from_residual) → at (by_place c.args.self.now) c.args.serial ≡ None
 nothing c =
     let slots = c.args.self.now.slots.slots in
-    at_in_slots slots c.args.self.now.places.entries c.args.serial ∙ ap (found slots) (sym c.in_err-place.ensures.value)
+    at_in_slots slots c.args.self.now.places.entries c.args.serial
+    ∙ ap (found slots) (sym c.in_err-place.ensures.value)
 
 pub returns-in_err-place-clause-key : goal.returns-in_err-place-clause-key
 returns-in_err-place-clause-key c = c.from_residual.ensures ∙ sym (nothing c)
@@ -45,16 +46,17 @@ returns-clause-key c =
 pub returns-clause-keys : goal.returns-clause-keys
 returns-clause-keys c =
     in_slots_without c.args.self.now.slots.slots c.remove-key.new.self.slots c.args.self.now.places.entries
-    c.swap_remove.new.self.entries c.args.serial c.in_ok-place.place c.requires.places (sym c.in_ok-place.ensures.value)
-    c.remove-key.ensures.updates.changed c.remove-key.ensures.updates.others c.swap_remove.ensures.updates.0
+    c.swap_remove.new.self.entries c.args.serial c.in_ok-place.place c.requires.places
+    (sym c.in_ok-place.ensures.value) c.remove-key.ensures.updates.changed c.remove-key.ensures.updates.others
+    c.swap_remove.ensures.updates.0
 
 pub returns-clause-placed : goal.returns-clause-placed
 returns-clause-placed c =
     let slots = c.args.self.now.slots.slots in
     let places = c.args.self.now.places.entries in
     record {
-      places = HavePlaces-without slots c.remove-key.new.self.slots places c.swap_remove.new.self.entries c.args.serial
-          c.in_ok-place.place c.requires.places (sym c.in_ok-place.ensures.value)
+      places = HavePlaces-without slots c.remove-key.new.self.slots places c.swap_remove.new.self.entries
+          c.args.serial c.in_ok-place.place c.requires.places (sym c.in_ok-place.ensures.value)
           c.remove-key.ensures.updates.changed c.remove-key.ensures.updates.others c.swap_remove.ensures.updates.0;
       rings = subst (λ (t : Table Key). AreRings t c.unlist.new.rings.keys) (sym (returns-clause-keys c))
           (rings_without (by_place c.args.self.now) c.args.self.now.rings.keys c.unlist.new.rings.keys c.args.serial

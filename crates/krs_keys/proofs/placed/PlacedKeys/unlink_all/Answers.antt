@@ -7,7 +7,8 @@ use Rattle.krs_keys.proofs.RingsLemmas.{rings_map}
 use Rattle.krs_keys.proofs.placed.PlacedKeys.unlink_all.Goals as goal
 
 pub unlink_all-requires-clause-rings : goal.unlink_all-requires-clause-rings
-unlink_all-requires-clause-rings c q = ap (λ rings. is_among rings q) c.as_slice.ensures.keys ∙ c.requires.placed.rings q
+unlink_all-requires-clause-rings c q =
+    ap (λ rings. is_among rings q) c.as_slice.ensures.keys ∙ c.requires.placed.rings q
 
 pub returns-clause-placed : goal.returns-clause-placed
 returns-clause-placed c = record {
