@@ -9,3 +9,4 @@ pub mod Serves
 pub mod Helps
 pub mod Calls
 pub mod Ending
+pub mod Words
