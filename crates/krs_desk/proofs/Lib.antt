@@ -9,4 +9,3 @@ pub mod Serves
 pub mod Helps
 pub mod Calls
 pub mod Ending
-pub mod Words

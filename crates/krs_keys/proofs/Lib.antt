@@ -4,8 +4,5 @@ pub mod LinkNames
 pub mod ChangesLemmas
 pub mod KindsLemmas
 pub mod Unlinking
-pub mod RisingTables
 pub mod HashedLemmas
-pub mod PlacesLemmas
-pub mod RingsLemmas
 pub mod LeastJoinable

@@ -3,4 +3,3 @@ pub mod Changes
 pub mod Table
 pub mod Kept
 pub mod Hashed
-pub mod Places

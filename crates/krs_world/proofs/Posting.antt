@@ -1,4 +1,5 @@
--- A call that is posted, and a reply that is collected, keep the one history.
+-- A call that is posted, and a reply that is collected, keep the one history: two cases of steps that no machine
+-- makes so far.
 use Rattle.std.proofs.Common.{◌≡◌, ℕ, ◌<◌, List, set, Option, None, refl, sym, ap, ◌∙◌}
 use Rattle.std.proofs.Common.{[], ◌∷◌, ◌++◌, subst, arith, Result}
 use mathlib.Core.Option.{some}

@@ -3,22 +3,31 @@ ghost use Rattle.std.specs.Prelude.{◌≡◌, ◌≤◌, Some, None, IfOk, IfEr
 ghost use Rattle.krs_world.specs.declared.step.Kind.TheVariants.{Take, TakeFound, Put, Load};
 ghost use Rattle.krs_world.specs.World.{new_world, MovesBy, RefusedBy};
 
-use crate::lane::{Lane, Slot};
-use crate::{Kind, Service, WorldStep};
+use crate::{Kind, WorldStep};
 use krs_store::Store;
 use krs_types::{Ask, Errno, Event};
 use std::alloc::{AllocError, Global};
 use std::marker::Model;
 
+/// What a seat knows, by lengths of the history.
+#[derive(Clone, Copy)]
+pub(crate) struct Lane {
+    lane: u32,
+    seen: usize,
+    base: usize,
+    holding: bool,
+    taken: u64,
+    found: u64,
+}
+
 /// Seats of lanes over one store, with the list of all calls. No store is copied, and no event: what a seat has seen
-/// is a length of the list. An ask that is posted lies in its lane's slot, then in `serving`, then in the list.
+/// is a length of the list.
 #[derive(Drop)]
 pub struct World {
-    pub(crate) store: Store,
-    pub(crate) out: Option<u32>,
-    pub(crate) serving: Option<Service>,
-    pub(crate) log: Vec<Event>,
-    pub(crate) lanes: Vec<Lane>,
+    store: Store,
+    out: Option<u32>,
+    log: Vec<Event>,
+    lanes: Vec<Lane>,
 }
 
 impl Model for World {
@@ -27,9 +36,9 @@ impl Model for World {
 
     ghost Value = { world.World };
 
-    ghost view = { λ w. world_of w.store w.out w.serving w.log.items w.lanes.items };
+    ghost view = { λ w. world_of w.store w.out w.log.items w.lanes.items };
 
-    ghost invariant = { λ w. IsKept w.store w.out w.serving w.log.items w.lanes.items };
+    ghost invariant = { λ w. IsKept w.store w.out w.log.items w.lanes.items };
 }
 
 impl World {
@@ -47,25 +56,19 @@ impl World {
                 holding: false,
                 taken: 0,
                 found: 0,
-                after: 0,
-                slot: Slot::Empty,
-                checked: Vec::new(alloc),
-                done: false,
             });
         }
         Ok(World {
             store: Store::new(alloc),
             out: None,
-            serving: None,
             log: Vec::new(alloc),
             lanes: seats,
         })
     }
 
-    /// One step: true where it was made, false where it isn't possible. A put serves its ask by the store, and so does
-    /// an answer; the reply is what the store answers, ENOMEM too. ENOSPC where the step would raise a number that is
-    /// the greatest already; ENOMEM where there is no memory for the event of a call, or to keep that a lane's cell was
-    /// looked at.
+    /// One step: true where it was made, false where it isn't possible. A put serves its ask by the store at home, and
+    /// its reply is what that store answers, ENOMEM too. ENOSPC where the step would raise a number that is the
+    /// greatest already; ENOMEM where there is no memory for the event of a call.
     pub fn step(&mut self, step: WorldStep) -> Result<bool, Errno>
         ensures moved { IfOk result (λ done. MovesBy self.old step.lane step.kind done self.new) }
         ensures refused { IfErr result (λ error. RefusedBy self.old step.lane step.kind error self.new) }
@@ -77,12 +80,6 @@ impl World {
             Kind::Put(Some((moment, ask))) => self.put(lane, moment, ask),
             Kind::Put(None) => Ok(self.put_none(lane)),
             Kind::Load(seen) => Ok(self.load(lane, seen)),
-            Kind::Post(moment, ask) => Ok(self.post(lane, moment, ask)),
-            Kind::Grab(other) => Ok(self.grab(lane, other)),
-            Kind::Answer => self.answer(lane),
-            Kind::Collect(seen) => Ok(self.collect(lane, seen)),
-            Kind::CollectFound => Ok(self.collect_found(lane)),
-            Kind::LookAt(other) => self.look_at(lane, other),
         }
     }
 
@@ -101,11 +98,13 @@ impl World {
         let Some(taken) = seat.taken.checked_add(1) else {
             return Err(Errno::ENOSPC);
         };
-        let seat = &mut self.lanes[at];
-        seat.taken = taken;
-        seat.holding = true;
-        seat.base = self.log.len();
-        seat.checked.clear();
+        let seat = Lane {
+            taken,
+            holding: true,
+            base: self.log.len(),
+            ..*seat
+        };
+        self.lanes[at] = seat;
         self.out = Some(lane);
         Ok(true)
     }
@@ -128,7 +127,8 @@ impl World {
         let Some(found) = seat.found.checked_add(1) else {
             return Err(Errno::ENOSPC);
         };
-        self.lanes[at].found = found;
+        let seat = Lane { found, ..*seat };
+        self.lanes[at] = seat;
         Ok(true)
     }
 
@@ -142,12 +142,16 @@ impl World {
         if holder != lane {
             return false;
         }
-        let None = self.serving else {
+        let at = lane as usize;
+        let Some(seat) = self.lanes.get(at) else {
             return false;
         };
-        let seat = &mut self.lanes[lane as usize];
-        seat.seen = self.log.len();
-        seat.holding = false;
+        let seat = Lane {
+            seen: self.log.len(),
+            holding: false,
+            ..*seat
+        };
+        self.lanes[at] = seat;
         self.out = None;
         true
     }
@@ -163,13 +167,11 @@ impl World {
         if holder != lane {
             return Ok(false);
         }
-        let None = self.serving else {
-            return Ok(false);
-        };
         let at = lane as usize;
-        let Slot::Empty = self.lanes[at].slot else {
+        let Some(seat) = self.lanes.get(at) else {
             return Ok(false);
         };
+        let seat = *seat;
         let alloc = *self.log.allocator();
         let Ok(copy) = ask.copy(alloc) else {
             return Err(Errno::ENOMEM);
@@ -184,9 +186,11 @@ impl World {
             ask: copy,
             reply,
         });
-        let seat = &mut self.lanes[at];
-        seat.seen = self.log.len();
-        seat.holding = false;
+        self.lanes[at] = Lane {
+            seen: self.log.len(),
+            holding: false,
+            ..seat
+        };
         self.out = None;
         Ok(true)
     }
@@ -205,7 +209,8 @@ impl World {
         if self.log.len() < seen {
             return false;
         }
-        self.lanes[at].seen = seen;
+        let seat = Lane { seen, ..*seat };
+        self.lanes[at] = seat;
         true
     }
 }
