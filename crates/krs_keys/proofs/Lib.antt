@@ -4,5 +4,8 @@ pub mod LinkNames
 pub mod ChangesLemmas
 pub mod KindsLemmas
 pub mod Unlinking
+pub mod RisingTables
 pub mod HashedLemmas
+pub mod PlacesLemmas
+pub mod RingsLemmas
 pub mod LeastJoinable

@@ -3,3 +3,4 @@ pub mod Changes
 pub mod Table
 pub mod Kept
 pub mod Hashed
+pub mod Places

@@ -11,21 +11,20 @@ ghost use Rattle.krs_keys.specs.Changes.{changed};
 ghost use Rattle.krs_keys.specs.Table.{with_key, with_linked_key, AreLeft};
 ghost use Rattle.krs_keys.specs.Table.{insert_error, IsLinkError, IsLinkedError};
 ghost use Rattle.krs_keys.specs.Keys.{joinable_in};
-ghost use Rattle.krs_keys.specs.Hashed.{by_serial, is_sooner};
 
+use crate::placed::PlacedKeys;
 use crate::{Change, Key};
 use krs_types::{Caller, Errno, Name, Serial};
-use std::alloc::{AllocError, Global};
-use std::collections::HashMap;
+use std::alloc::Global;
 use std::marker::Model;
 
 /// The last serial that a key may get: profile, serials run out.
 pub const LAST_SERIAL: u32 = 2_147_483_647;
 
-/// The keys by serial, in no order. Serials rise by one, and none is given twice.
+/// The keys by serial. Serials rise by one, and none is given twice.
 #[derive(Drop)]
 pub struct KeyTable {
-    keys: HashMap<u32, Key>,
+    keys: PlacedKeys,
     next: u32,
 }
 
@@ -35,11 +34,11 @@ impl Model for KeyTable {
     ghost Value = { Keys };
 
     ghost use Rattle.krs_keys.specs.Table.{AreKept};
-    ghost use Rattle.krs_keys.specs.Hashed.{by_serial};
+    ghost use Rattle.krs_keys.specs.Places.{by_place, ArePlaced};
 
-    ghost view = { λ t. record { keys = by_serial t.keys.entries; next = t.next } };
+    ghost view = { λ t. record { keys = by_place t.keys; next = t.next } };
 
-    ghost invariant = { λ t. AreKept (by_serial t.keys.entries) t.next };
+    ghost invariant = { λ t. ArePlaced t.keys × AreKept (by_place t.keys) t.next };
 }
 
 impl KeyTable {
@@ -48,7 +47,7 @@ impl KeyTable {
         ensures { result ≡ record { keys = []; next = next } }
     {
         KeyTable {
-            keys: HashMap::new(alloc),
+            keys: PlacedKeys::new(alloc),
             next,
         }
     }
@@ -81,7 +80,7 @@ impl KeyTable {
     pub fn get(&self, serial: Serial) -> Option<&Key>
         ensures { option_copied result ≡ at self.now.keys serial }
     {
-        self.keys.get(&serial.number())
+        self.keys.get(serial.number())
     }
 
     /// Whether a keyring links a key.
@@ -108,7 +107,7 @@ impl KeyTable {
     pub fn joinable(&self, desc: &[u8], caller: &Caller, clock: u64) -> Option<Serial>
         ensures { result ≡ joinable_in clock caller.now desc.now self.now.keys }
     {
-        joinable_in(&self.keys, desc, caller, clock)
+        self.keys.joinable(desc, caller, clock)
     }
 
     /// One more key, under the next serial, which is answered: ENOSPC, ENOMEM.
@@ -123,7 +122,7 @@ impl KeyTable {
         if self.next > LAST_SERIAL {
             return Err(Errno::ENOSPC);
         }
-        match put_in(&mut self.keys, self.next, key) {
+        match self.keys.insert(self.next, key) {
             Ok(()) => {
                 let serial = Serial::new(self.next);
                 self.next += 1;
@@ -147,7 +146,7 @@ impl KeyTable {
         if self.next >= LAST_SERIAL {
             return Err(Errno::ENOSPC);
         }
-        match put_two(&mut self.keys, self.next, first, second) {
+        match self.keys.insert_two(self.next, first, second) {
             Ok(()) => {
                 let serial = Serial::new(self.next);
                 self.next += 2;
@@ -177,7 +176,7 @@ impl KeyTable {
         if serial > LAST_SERIAL {
             return Err(Errno::ENOSPC);
         }
-        let displaced = put_linked(&mut self.keys, serial, ring.number(), name, key)?;
+        let displaced = self.keys.insert_linked(serial, ring.number(), name, key)?;
         self.next += 1;
         Ok(displaced)
     }
@@ -196,7 +195,7 @@ impl KeyTable {
         ensures error { IfErr result (λ e. e ≡ link_error (named_links_of_key_at self.old.keys ring) name) }
         ensures err { OnErr result (self.new ≡ self.old) }
     {
-        let displaced = link_in(&mut self.keys, ring.number(), name, serial)?;
+        let displaced = self.keys.link(ring.number(), name, serial)?;
         Ok(displaced)
     }
 
@@ -204,21 +203,21 @@ impl KeyTable {
     pub fn unlink(&mut self, ring: Serial, serial: Serial)
         ensures { self.new ≡ record self.old { keys = alter self.old.keys ring (without_key serial) } }
     {
-        unlink_in(&mut self.keys, ring.number(), serial);
+        self.keys.unlink(ring.number(), serial);
     }
 
     /// Takes a key out of all keyrings. It takes no memory. keyctl(2), KEYCTL_INVALIDATE.
     pub fn unlink_all(&mut self, serial: Serial)
         ensures { self.new ≡ record self.old { keys = map_values (without_key serial) self.old.keys } }
     {
-        unlink_all_in(&mut self.keys, serial);
+        self.keys.unlink_all(serial);
     }
 
     /// Changes the key at a serial, where there is one.
     pub fn set(&mut self, serial: Serial, change: Change)
         ensures { self.new ≡ record self.old { keys = alter self.old.keys serial (changed change) } }
     {
-        change_in(&mut self.keys, serial.number(), change);
+        self.keys.change(serial.number(), change);
     }
 
     /// Takes out the key at a serial, which no key gets again, and answers it.
@@ -227,153 +226,6 @@ impl KeyTable {
         ensures keys { self.new ≡ record self.old { keys = without self.old.keys serial } }
         ensures gone { at self.new.keys serial ≡ None }
     {
-        take_out(&mut self.keys, serial.number())
-    }
-}
-
-/// The least serial of a keyring that a caller may join. The keys come in no order.
-fn joinable_in(keys: &HashMap<u32, Key>, desc: &[u8], caller: &Caller, clock: u64) -> Option<Serial>
-    ensures { result ≡ joinable_in clock caller.now desc.now (by_serial keys.now.entries) }
-{
-    let mut least = None;
-    for (serial, key) in keys {
-        if is_sooner(*serial, least) && key.is_joinable(desc, caller, clock) {
-            least = Some(*serial);
-        }
-    }
-    match least {
-        Some(serial) => Some(Serial::new(serial)),
-        None => None,
-    }
-}
-
-/// Whether a serial is less than the one that was found, if any was.
-fn is_sooner(serial: u32, found: Option<u32>) -> bool
-    ensures { result ≡ is_sooner serial found }
-{
-    match found {
-        Some(other) => serial < other,
-        None => true,
-    }
-}
-
-/// Puts a key at a serial. A refusal leaves what is there.
-fn put_in(keys: &mut HashMap<u32, Key>, serial: u32, key: Key) -> Result<(), AllocError>
-    ensures ok { OnOk result (by_serial keys.new.entries ≡ put (by_serial keys.old.entries) serial key) }
-    ensures err { OnErr result (by_serial keys.new.entries ≡ by_serial keys.old.entries) }
-{
-    keys.insert(serial, key)?;
-    Ok(())
-}
-
-/// Takes out the key at a serial, and answers it.
-fn take_out(keys: &mut HashMap<u32, Key>, serial: u32) -> Option<Key>
-    ensures key { result ≡ at (by_serial keys.old.entries) serial }
-    ensures keys { by_serial keys.new.entries ≡ without (by_serial keys.old.entries) serial }
-    ensures gone { at (by_serial keys.new.entries) serial ≡ None }
-{
-    keys.remove(&serial)
-}
-
-/// Two keys under consecutive serials. A refusal leaves neither.
-#[tactic(auto, using(krs_model::proofs::Tables::Changes::without_put))]
-fn put_two(
-    keys: &mut HashMap<u32, Key>,
-    serial: u32,
-    first: Key,
-    second: Key,
-) -> Result<(), AllocError>
-    requires fits { serial < 4294967295 }
-    requires absent { at (by_serial keys.old.entries) serial ≡ None }
-    ensures ok { OnOk result (by_serial keys.new.entries
-        ≡ put (put (by_serial keys.old.entries) serial first) (serial + 1) second) }
-    ensures err { OnErr result (by_serial keys.new.entries ≡ by_serial keys.old.entries) }
-{
-    put_in(keys, serial, first)?;
-    if put_in(keys, serial + 1, second).is_err() {
-        let _ = take_out(keys, serial);
-        return Err(AllocError);
-    }
-    Ok(())
-}
-
-/// A key that a keyring links, and the serial that this displaces. A refusal leaves neither.
-#[tactic(auto, using(krs_model::proofs::Tables::Changes::without_put))]
-fn put_linked(
-    keys: &mut HashMap<u32, Key>,
-    serial: u32,
-    ring: u32,
-    name: Name,
-    key: Key,
-) -> Result<Option<Serial>, Errno>
-    requires absent { at (by_serial keys.old.entries) serial ≡ None }
-    ensures displaced { IfOk result (λ old. old
-        ≡ displaced_at (put (by_serial keys.old.entries) serial key) ring name) }
-    ensures ok { OnOk result (by_serial keys.new.entries
-        ≡ alter (put (by_serial keys.old.entries) serial key) ring (with_entry name serial)) }
-    ensures room { OnOk result
-        (is_refused (named_links_of_key_at (put (by_serial keys.old.entries) serial key) ring) name ≡ false) }
-    ensures error { IfErr result (IsLinkError (put (by_serial keys.old.entries) serial key) ring name) }
-    ensures err { OnErr result (by_serial keys.new.entries ≡ by_serial keys.old.entries) }
-{
-    if put_in(keys, serial, key).is_err() {
-        return Err(Errno::ENOMEM);
-    }
-    match link_in(keys, ring, name, Serial::new(serial)) {
-        Ok(displaced) => Ok(displaced),
-        Err(error) => {
-            let _ = take_out(keys, serial);
-            Err(error)
-        }
-    }
-}
-
-/// Changes the key at a serial, where there is one.
-fn change_in(keys: &mut HashMap<u32, Key>, serial: u32, change: Change)
-    ensures { by_serial keys.new.entries ≡ alter (by_serial keys.old.entries) serial (changed change) }
-{
-    match keys.get_mut(&serial) {
-        Some(key) => key.change(change),
-        None => {}
-    }
-}
-
-/// Takes a key out of one keyring.
-fn unlink_in(keys: &mut HashMap<u32, Key>, ring: u32, serial: Serial)
-    ensures { by_serial keys.new.entries ≡ alter (by_serial keys.old.entries) ring (without_key serial) }
-{
-    match keys.get_mut(&ring) {
-        Some(key) => key.unlink_key(serial),
-        None => {}
-    }
-}
-
-/// Takes a key out of all keyrings.
-fn unlink_all_in(keys: &mut HashMap<u32, Key>, serial: Serial)
-    ensures { by_serial keys.new.entries ≡ map_values (without_key serial) (by_serial keys.old.entries) }
-{
-    keys.retain(|_ring, key| {
-        key.unlink_key(serial);
-        true
-    });
-}
-
-/// One more link in a keyring, and the serial that it displaces.
-fn link_in(
-    keys: &mut HashMap<u32, Key>,
-    ring: u32,
-    name: Name,
-    serial: Serial,
-) -> Result<Option<Serial>, Errno>
-    ensures displaced { IfOk result (λ old. old ≡ displaced_at (by_serial keys.old.entries) ring name) }
-    ensures ok { OnOk result (by_serial keys.new.entries
-        ≡ alter (by_serial keys.old.entries) ring (with_entry name serial)) }
-    ensures room { OnOk result (is_refused (named_links_of_key_at (by_serial keys.old.entries) ring) name ≡ false) }
-    ensures error { IfErr result (λ e. e ≡ link_error (named_links_of_key_at (by_serial keys.old.entries) ring) name) }
-    ensures err { OnErr result (by_serial keys.new.entries ≡ by_serial keys.old.entries) }
-{
-    match keys.get_mut(&ring) {
-        Some(key) => key.link(name, serial),
-        None => Ok(None),
+        self.keys.remove(serial.number())
     }
 }

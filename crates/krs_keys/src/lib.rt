@@ -3,6 +3,8 @@
 
 mod key;
 mod key_table;
+mod placed;
+mod slots;
 
 pub use key::{Change, Content, Key};
 pub use key_table::{KeyTable, LAST_SERIAL};

@@ -1,6 +1,5 @@
 -- Which asks may find no memory: docs/FORMAT.md, "The asks".
-use Rattle.std.specs.Prelude.{ℤ, pos, negsuc, zero, suc, Bool, true, false, not, Result}
-use Rattle.krs_types.specs.declared.errno.Errno.{Errno}
+use Rattle.std.specs.Prelude.{ℤ, pos, negsuc, zero, suc, Bool, true, false, not}
 use Rattle.krs_types.specs.declared.ask.Op.{Op}
 use Rattle.krs_types.specs.declared.ask.Op.TheVariants.{Hello, Thread, Fork, Exec, GetId, Join, Search, Request, Add}
 use Rattle.krs_types.specs.declared.ask.Op.TheVariants.{Update, Revoke, Invalidate, Chown, SetPerm, SetTimeout, Link}
@@ -48,39 +47,3 @@ grows (ReadQueue queue room) = true
 grows (CloseQueue queue) = false
 grows Exit = false
 grows Leave = false
-
--- For now every look-up takes memory for its walk, so that every ask which looks up a key may find none. This and the
--- next definition go when keys have places and a walk has its room beforehand.
-abbrev pub grows_meanwhile : Op → Bool
-grows_meanwhile (Hello caller) = true
-grows_meanwhile Thread = true
-grows_meanwhile Fork = true
-grows_meanwhile Exec = false
-grows_meanwhile (GetId id create) = true
-grows_meanwhile (Join name) = true
-grows_meanwhile (Search head type_name desc dest) = true
-grows_meanwhile (Request type_name desc dest) = true
-grows_meanwhile (Add type_name desc payload ring) = true
-grows_meanwhile (Update id payload) = true
-grows_meanwhile (Revoke id) = true
-grows_meanwhile (Invalidate id) = true
-grows_meanwhile (Chown id uid gid) = true
-grows_meanwhile (SetPerm id mask) = true
-grows_meanwhile (SetTimeout id seconds) = true
-grows_meanwhile (Link key ring) = true
-grows_meanwhile (Unlink key ring) = true
-grows_meanwhile (Clear id) = true
-grows_meanwhile (Read id) = true
-grows_meanwhile (Describe id) = true
-grows_meanwhile (Watch id queue watch_id) = true
-grows_meanwhile (OpenQueue capacity) = true
-grows_meanwhile (SetFilter queue entries) = true
-grows_meanwhile (ReadQueue queue room) = true
-grows_meanwhile (CloseQueue queue) = false
-grows_meanwhile Exit = false
-grows_meanwhile Leave = false
-
--- What ENOMEM may be answered in the place of. It is meant to be an accepted ask alone; for now it may stand for a
--- refusal too, as the walk that finds the refusal may find no memory.
-abbrev pub MayLackMemory : {Y : Type 0} → Result Y Errno → Type 0
-MayLackMemory meant = Unit {0}

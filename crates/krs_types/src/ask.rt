@@ -1,5 +1,5 @@
 ghost use Rattle.std.specs.Prelude.{◌≡◌, ◌↔◌, IfOk, IsTrue};
-ghost use Rattle.krs_types.specs.Growth.{grows, grows_meanwhile};
+ghost use Rattle.krs_types.specs.Growth.{grows};
 
 use crate::{Blob, Body, Caller, Errno, FilterEntries};
 use std::alloc::{AllocError, Global};
@@ -218,16 +218,6 @@ impl Op {
             | Op::CloseQueue { .. } => false,
             _ => true,
         }
-    }
-
-    /// Whether it may find no memory for now, while look-ups take some.
-    pub fn grows_meanwhile(&self) -> bool
-        ensures { result ≡ grows_meanwhile self.now }
-    {
-        !matches!(
-            self,
-            Op::Exec | Op::Exit | Op::Leave | Op::CloseQueue { .. }
-        )
     }
 
     /// An equal value.

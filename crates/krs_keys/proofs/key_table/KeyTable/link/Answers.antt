@@ -1,17 +1,19 @@
 use Rattle.std.proofs.Common.{ap, ◌∙◌, sym, subst}
 use Rattle.krs_model.specs.Table.{at}
 use Rattle.krs_model.proofs.Tables.Changes.{at_alter_none}
-use Rattle.krs_keys.specs.Hashed.{by_serial}
+use Rattle.krs_keys.specs.Places.{by_place}
 use Rattle.krs_keys.specs.Keys.{AreOfKind, with_entry}
 use Rattle.krs_keys.proofs.KindsLemmas.{kinds_alter, linked_kind}
 use Rattle.krs_keys.proofs.key_table.KeyTable.link.Goals as goal
 
 pub invariant_of-self-2 : goal.invariant_of-self-2
 invariant_of-self-2 c =
-    let es = by_serial c.self.inside.keys.entries in
-    record {
-      below = λ q h. ap (λ zs. at zs q) c.in_ok-displaced.ensures.ok
-          ∙ at_alter_none es _ q _ (c.self.invariant.below q h);
-      kinds = subst AreOfKind (sym c.in_ok-displaced.ensures.ok) (kinds_alter es _
-          (with_entry c.args.name c.args.serial) (linked_kind c.args.name c.args.serial) c.self.invariant.kinds);
-    }
+    let es = by_place c.self.inside.keys in (
+      c.in_ok-displaced.ensures.placed,
+      record {
+        below = λ q h. ap (λ zs. at zs q) c.in_ok-displaced.ensures.ok
+            ∙ at_alter_none es _ q _ (c.self.invariant.1.below q h);
+        kinds = subst AreOfKind (sym c.in_ok-displaced.ensures.ok) (kinds_alter es _
+            (with_entry c.args.name c.args.serial) (linked_kind c.args.name c.args.serial) c.self.invariant.1.kinds);
+      },
+    )

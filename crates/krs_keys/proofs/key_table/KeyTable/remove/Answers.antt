@@ -1,14 +1,17 @@
 use Rattle.std.proofs.Common.{ap, ◌∙◌}
 use Rattle.krs_model.specs.Table.{at}
 use Rattle.krs_model.proofs.Tables.Changes.{at_without_none}
-use Rattle.krs_keys.specs.Hashed.{by_serial}
+use Rattle.krs_keys.specs.Places.{by_place}
 use Rattle.krs_keys.proofs.KindsLemmas.{kinds_without}
 use Rattle.krs_keys.proofs.key_table.KeyTable.remove.Goals as goal
 
 pub invariant_of-self : goal.invariant_of-self
 invariant_of-self c =
-    let es = by_serial c.self.inside.keys.entries in
-    record {
-      below = λ q h. ap (λ zs. at zs q) c.take_out.ensures.keys ∙ at_without_none es _ q (c.self.invariant.below q h);
-      kinds = kinds_without es _ _ c.take_out.ensures.keys c.take_out.ensures.gone c.self.invariant.kinds;
-    }
+    let es = by_place c.self.inside.keys in (
+      c.remove.ensures.placed,
+      record {
+        below = λ q h.
+            ap (λ zs. at zs q) c.remove.ensures.keys ∙ at_without_none es _ q (c.self.invariant.1.below q h);
+        kinds = kinds_without es _ _ c.remove.ensures.keys c.remove.ensures.gone c.self.invariant.1.kinds;
+      },
+    )

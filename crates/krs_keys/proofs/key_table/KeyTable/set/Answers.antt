@@ -1,7 +1,7 @@
 use Rattle.std.proofs.Common.{ap, ◌∙◌, sym, subst}
 use Rattle.krs_model.specs.Table.{at}
 use Rattle.krs_model.proofs.Tables.Changes.{at_alter_none}
-use Rattle.krs_keys.specs.Hashed.{by_serial}
+use Rattle.krs_keys.specs.Places.{by_place}
 use Rattle.krs_keys.specs.Keys.{AreOfKind}
 use Rattle.krs_keys.specs.Changes.{changed}
 use Rattle.krs_keys.proofs.KindsLemmas.{kinds_alter, changed_kind}
@@ -9,9 +9,12 @@ use Rattle.krs_keys.proofs.key_table.KeyTable.set.Goals as goal
 
 pub invariant_of-self : goal.invariant_of-self
 invariant_of-self c =
-    let es = by_serial c.self.inside.keys.entries in
-    record {
-      below = λ q h. ap (λ zs. at zs q) c.change_in.ensures ∙ at_alter_none es _ q _ (c.self.invariant.below q h);
-      kinds = subst AreOfKind (sym c.change_in.ensures) (kinds_alter es _ (changed c.args.change)
-          (changed_kind c.args.change) c.self.invariant.kinds);
-    }
+    let es = by_place c.self.inside.keys in (
+      c.change.ensures.placed,
+      record {
+        below = λ q h.
+            ap (λ zs. at zs q) c.change.ensures.keys ∙ at_alter_none es _ q _ (c.self.invariant.1.below q h);
+        kinds = subst AreOfKind (sym c.change.ensures.keys) (kinds_alter es _ (changed c.args.change)
+            (changed_kind c.args.change) c.self.invariant.1.kinds);
+      },
+    )

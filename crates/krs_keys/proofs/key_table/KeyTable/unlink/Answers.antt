@@ -1,16 +1,19 @@
 use Rattle.std.proofs.Common.{ap, ◌∙◌, sym, subst}
 use Rattle.krs_model.specs.Table.{at}
 use Rattle.krs_model.proofs.Tables.Changes.{at_alter_none}
-use Rattle.krs_keys.specs.Hashed.{by_serial}
+use Rattle.krs_keys.specs.Places.{by_place}
 use Rattle.krs_keys.specs.Keys.{AreOfKind, without_key}
 use Rattle.krs_keys.proofs.KindsLemmas.{kinds_alter, keyless_kind}
 use Rattle.krs_keys.proofs.key_table.KeyTable.unlink.Goals as goal
 
 pub invariant_of-self : goal.invariant_of-self
 invariant_of-self c =
-    let es = by_serial c.self.inside.keys.entries in
-    record {
-      below = λ q h. ap (λ zs. at zs q) c.unlink_in.ensures ∙ at_alter_none es _ q _ (c.self.invariant.below q h);
-      kinds = subst AreOfKind (sym c.unlink_in.ensures) (kinds_alter es _ (without_key c.args.serial)
-          (keyless_kind c.args.serial) c.self.invariant.kinds);
-    }
+    let es = by_place c.self.inside.keys in (
+      c.unlink.ensures.placed,
+      record {
+        below = λ q h.
+            ap (λ zs. at zs q) c.unlink.ensures.keys ∙ at_alter_none es _ q _ (c.self.invariant.1.below q h);
+        kinds = subst AreOfKind (sym c.unlink.ensures.keys) (kinds_alter es _ (without_key c.args.serial)
+            (keyless_kind c.args.serial) c.self.invariant.1.kinds);
+      },
+    )

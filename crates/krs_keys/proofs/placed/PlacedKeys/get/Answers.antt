@@ -1,0 +1,14 @@
+use Rattle.std.proofs.Common.{◌∙◌, ap, sym}
+use Rattle.krs_keys.proofs.PlacesLemmas.{found, at_in_slots}
+use Rattle.krs_keys.proofs.placed.PlacedKeys.get.Goals as goal
+
+pub returns-in-Some : goal.returns-in-Some
+returns-in-Some c =
+    let slots = c.args.self.now.slots.slots in
+    c.get.ensures
+    ∙ sym (at_in_slots slots c.args.self.now.places.entries c.args.serial ∙ ap (found slots) (sym c.in-Some.ensures))
+
+pub returns-in-None : goal.returns-in-None
+returns-in-None c =
+    let slots = c.args.self.now.slots.slots in
+    sym (at_in_slots slots c.args.self.now.places.entries c.args.serial ∙ ap (found slots) (sym c.in-None.ensures))

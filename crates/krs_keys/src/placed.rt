@@ -1,0 +1,268 @@
+//! The keys, each at a place that it keeps.
+ghost use Rattle.std.specs.Prelude.{◌≡◌, ℕ, ◌+◌, ◌<◌, [], None, false, length};
+ghost use Rattle.std.specs.Prelude.{IfOk, IfErr, OnOk, OnErr, option_copied};
+ghost use Rattle.krs_links.specs.Links.{is_refused, link_error};
+ghost use Rattle.krs_model.specs.Asks.Joining.{is_joinable};
+ghost use Rattle.krs_model.specs.Table.{at, put, without, alter, map_values};
+ghost use Rattle.krs_keys.specs.Changes.{changed};
+ghost use Rattle.krs_keys.specs.Keys.{with_entry, without_key, displaced_at, named_links_of_key_at, seen};
+ghost use Rattle.krs_keys.specs.Keys.{joinable_in, AreOfKind};
+ghost use Rattle.krs_keys.specs.Places.{by_place, place_of, is_sooner, passes, ArePlaced, HaveRoom};
+ghost use Rattle.krs_keys.specs.Table.{IsLinkError};
+
+use crate::slots::{self, list, unlist};
+use crate::{Change, Key};
+use indexmap::{IndexMap, IndexSet};
+use krs_types::{Caller, Errno, Name, Serial};
+use slab::Slab;
+use std::alloc::{AllocError, Global};
+
+/// The keys by place, with an index from their serials.
+#[derive(Drop)]
+pub(crate) struct PlacedKeys {
+    /// The keys, each at its place.
+    slots: Slab<Key>,
+    /// The place of each serial.
+    places: IndexMap<u32, usize>,
+    /// The serials of the keyrings, so that what concerns keyrings alone passes over no other key.
+    rings: IndexSet<u32>,
+}
+
+impl PlacedKeys {
+    /// No keys. It takes no memory.
+    pub(crate) fn new(alloc: Global) -> Self
+        ensures keys { by_place result ≡ [] }
+        ensures placed { ArePlaced result }
+    {
+        PlacedKeys {
+            slots: Slab::new(alloc),
+            places: IndexMap::new(alloc),
+            rings: IndexSet::new(alloc),
+        }
+    }
+
+    /// How many keys there are.
+    pub(crate) fn len(&self) -> usize
+        requires { ArePlaced self.now }
+        ensures { result ≡ length (by_place self.now) }
+    {
+        self.places.len()
+    }
+
+    /// The key at a serial.
+    pub(crate) fn get(&self, serial: u32) -> Option<&Key>
+        ensures { option_copied result ≡ at (by_place self.now) serial }
+    {
+        match self.place_of(serial) {
+            Some(place) => self.slots.get(place),
+            None => None,
+        }
+    }
+
+    /// The place of a serial.
+    fn place_of(&self, serial: u32) -> Option<usize>
+        ensures { result ≡ place_of self.now.places.entries serial }
+    {
+        match self.places.get(&serial) {
+            Some(place) => Some(*place),
+            None => None,
+        }
+    }
+
+    /// The least serial of a keyring that a caller may join. The keyrings come in no order.
+    pub(crate) fn joinable(&self, desc: &[u8], caller: &Caller, clock: u64) -> Option<Serial>
+        requires { ArePlaced self.now }
+        ensures { result ≡ joinable_in clock caller.now desc.now (by_place self.now) }
+    {
+        let mut least = None;
+        for ring in self.rings.as_slice() {
+            if is_sooner(*ring, least) && self.is_joinable(*ring, desc, caller, clock) {
+                least = Some(*ring);
+            }
+        }
+        match least {
+            Some(serial) => Some(Serial::new(serial)),
+            None => None,
+        }
+    }
+
+    /// Whether a caller may join the key at a serial.
+    fn is_joinable(&self, serial: u32, desc: &[u8], caller: &Caller, clock: u64) -> bool
+        ensures { result
+            ≡ passes (λ key. is_joinable clock caller.now desc.now (seen key)) (at (by_place self.now) serial) }
+    {
+        match self.get(serial) {
+            Some(key) => key.is_joinable(desc, caller, clock),
+            None => false,
+        }
+    }
+
+    /// Puts a key at a serial. A refusal leaves what is there.
+    pub(crate) fn insert(&mut self, serial: u32, key: Key) -> Result<(), AllocError>
+        requires placed { ArePlaced self.old }
+        requires absent { at (by_place self.old) serial ≡ None }
+        ensures placed { ArePlaced self.new }
+        ensures ok { OnOk result (by_place self.new ≡ put (by_place self.old) serial key) }
+        ensures err { OnErr result (by_place self.new ≡ by_place self.old) }
+    {
+        self.reserve(1)?;
+        self.put(serial, key);
+        Ok(())
+    }
+
+    /// Two keys under consecutive serials. A refusal leaves neither.
+    pub(crate) fn insert_two(
+        &mut self,
+        serial: u32,
+        first: Key,
+        second: Key,
+    ) -> Result<(), AllocError>
+        requires fits { serial < 4294967295 }
+        requires placed { ArePlaced self.old }
+        requires absent { at (by_place self.old) serial ≡ None }
+        requires next_absent { at (by_place self.old) (serial + 1) ≡ None }
+        ensures placed { ArePlaced self.new }
+        ensures ok { OnOk result (by_place self.new
+            ≡ put (put (by_place self.old) serial first) (serial + 1) second) }
+        ensures err { OnErr result (by_place self.new ≡ by_place self.old) }
+    {
+        self.reserve(2)?;
+        self.put(serial, first);
+        self.put(serial + 1, second);
+        Ok(())
+    }
+
+    /// A key that a keyring links, and the serial that this displaces. A refusal leaves neither.
+    pub(crate) fn insert_linked(
+        &mut self,
+        serial: u32,
+        ring: u32,
+        name: Name,
+        key: Key,
+    ) -> Result<Option<Serial>, Errno>
+        requires placed { ArePlaced self.old }
+        requires absent { at (by_place self.old) serial ≡ None }
+        ensures placed { ArePlaced self.new }
+        ensures displaced { IfOk result (λ old. old ≡ displaced_at (put (by_place self.old) serial key) ring name) }
+        ensures ok { OnOk result (by_place self.new
+            ≡ alter (put (by_place self.old) serial key) ring (with_entry name serial)) }
+        ensures room { OnOk result
+            (is_refused (named_links_of_key_at (put (by_place self.old) serial key) ring) name ≡ false) }
+        ensures error { IfErr result (IsLinkError (put (by_place self.old) serial key) ring name) }
+        ensures err { OnErr result (by_place self.new ≡ by_place self.old) }
+    {
+        if self.reserve(1).is_err() {
+            return Err(Errno::ENOMEM);
+        }
+        self.put(serial, key);
+        match self.link(ring, name, Serial::new(serial)) {
+            Ok(displaced) => Ok(displaced),
+            Err(error) => {
+                let _ = self.remove(serial);
+                Err(error)
+            }
+        }
+    }
+
+    /// Changes the key at a serial, where there is one.
+    pub(crate) fn change(&mut self, serial: u32, change: Change)
+        requires { ArePlaced self.old }
+        ensures placed { ArePlaced self.new }
+        ensures keys { by_place self.new ≡ alter (by_place self.old) serial (changed change) }
+    {
+        match self.place_of(serial) {
+            Some(place) => slots::change(&mut self.slots, place, change),
+            None => {}
+        }
+    }
+
+    /// One more link in a keyring, and the serial that it displaces.
+    pub(crate) fn link(
+        &mut self,
+        ring: u32,
+        name: Name,
+        serial: Serial,
+    ) -> Result<Option<Serial>, Errno>
+        requires { ArePlaced self.old }
+        ensures placed { ArePlaced self.new }
+        ensures displaced { IfOk result (λ old. old ≡ displaced_at (by_place self.old) ring name) }
+        ensures ok { OnOk result (by_place self.new ≡ alter (by_place self.old) ring (with_entry name serial)) }
+        ensures room { OnOk result (is_refused (named_links_of_key_at (by_place self.old) ring) name ≡ false) }
+        ensures error { IfErr result (λ e. e ≡ link_error (named_links_of_key_at (by_place self.old) ring) name) }
+        ensures err { OnErr result (by_place self.new ≡ by_place self.old) }
+    {
+        match self.place_of(ring) {
+            Some(place) => slots::link(&mut self.slots, place, name, serial),
+            None => Ok(None),
+        }
+    }
+
+    /// Takes a key out of one keyring.
+    pub(crate) fn unlink(&mut self, ring: u32, serial: Serial)
+        requires { ArePlaced self.old }
+        ensures placed { ArePlaced self.new }
+        ensures keys { by_place self.new ≡ alter (by_place self.old) ring (without_key serial) }
+    {
+        slots::unlink_in(&mut self.slots, &self.places, ring, serial);
+    }
+
+    /// Takes a key out of all keyrings.
+    pub(crate) fn unlink_all(&mut self, serial: Serial)
+        requires placed { ArePlaced self.old }
+        requires kinds { AreOfKind (by_place self.old) }
+        ensures placed { ArePlaced self.new }
+        ensures keys { by_place self.new ≡ map_values (without_key serial) (by_place self.old) }
+    {
+        slots::unlink_all(&mut self.slots, &self.places, self.rings.as_slice(), serial);
+    }
+
+    /// Takes out the key at a serial, and answers it. Its place is free again.
+    pub(crate) fn remove(&mut self, serial: u32) -> Option<Key>
+        requires { ArePlaced self.old }
+        ensures placed { ArePlaced self.new }
+        ensures key { result ≡ at (by_place self.old) serial }
+        ensures keys { by_place self.new ≡ without (by_place self.old) serial }
+        ensures gone { at (by_place self.new) serial ≡ None }
+    {
+        let place = self.places.swap_remove(&serial)?;
+        let key = self.slots.remove(place);
+        unlist(&mut self.rings, serial, &key);
+        Some(key)
+    }
+
+    /// Makes room for that many more keys, in all three parts.
+    fn reserve(&mut self, more: usize) -> Result<(), AllocError>
+        requires { ArePlaced self.old }
+        ensures placed { ArePlaced self.new }
+        ensures keys { by_place self.new ≡ by_place self.old }
+        ensures room { OnOk result (HaveRoom self.new more) }
+    {
+        self.slots.reserve(more)?;
+        self.places.reserve(more)?;
+        self.rings.reserve(more)
+    }
+
+    /// Puts a key at a serial that has none, where there is room.
+    fn put(&mut self, serial: u32, key: Key)
+        requires placed { ArePlaced self.old }
+        requires absent { at (by_place self.old) serial ≡ None }
+        requires room { HaveRoom self.old 1 }
+        ensures placed { ArePlaced self.new }
+        ensures keys { by_place self.new ≡ put (by_place self.old) serial key }
+        ensures room { (more : ℕ) → HaveRoom self.old (more + 1) → HaveRoom self.new more }
+    {
+        list(&mut self.rings, serial, &key);
+        let place = self.slots.insert_reserved(key);
+        let _ = self.places.insert(serial, place);
+    }
+}
+
+/// Whether a serial is less than the one that was found, if any was.
+fn is_sooner(serial: u32, found: Option<u32>) -> bool
+    ensures { result ≡ is_sooner serial found }
+{
+    match found {
+        Some(other) => serial < other,
+        None => true,
+    }
+}
