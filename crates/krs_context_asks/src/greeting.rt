@@ -1,4 +1,4 @@
-ghost use Rattle.std.specs.Prelude.{◌≡◌, ◌≤◌, Some, ◌∷◌, [], codes, length, None, Ok, IfOk};
+ghost use Rattle.std.specs.Prelude.{◌≡◌, ◌≤◌, Some, ◌∷◌, [], codes, length, None, Ok, IfOk, IsOk};
 ghost use Rattle.krs_types.specs.Caller.{caller_check};
 ghost use Rattle.krs_model.specs.Table.{at};
 ghost use Rattle.krs_model.specs.Outcome.{Leads};
@@ -111,6 +111,7 @@ fn open_first(
     user: Key,
     session: Key,
 ) -> Result<Answer, Fault>
+    requires accepted { IsOk (hello tables.old client caller) }
     requires known { caller_check caller ≡ Ok tt }
     requires absent { at tables.old.uids caller.uid ≡ None }
     requires context { at tables.old.contexts tables.old.next_context ≡ None }
@@ -121,6 +122,7 @@ fn open_first(
         ≡ uid_key (codes "_uid_ses.") ((user.name, tables.old.next_serial) ∷ []) caller }
     ensures { Leads tables.old result tables.new (hello tables.old client caller) }
 {
+    tables.make_walk_room(2)?;
     let first = tables.keys.next();
     let (one, two) = (Serial::new(first), Serial::new(first + 1));
     make_room(&mut tables.holders, one)?;

@@ -7,7 +7,7 @@ ghost use Rattle.krs_model.specs.Asks.Joining.{join, joinable, session_named, jo
 ghost use Rattle.krs_keys.specs.Keys.{seen};
 ghost use Rattle.krs_context_asks.specs.Joined.{joined_ring, session_key, joined_anew, session_in, IsEmptyRing};
 
-use krs_keys::{Content, Key, LAST_SERIAL};
+use krs_keys::{Content, Key};
 use krs_links::Links;
 use krs_tables::{Tables, make_room};
 use krs_types::{Answer, Blob, Caller, Desc, Errno, Fault, Kind, Name, Perm, Serial};
@@ -68,6 +68,7 @@ pub fn join(tables: &mut Tables, client: u32, number: u32, name: Blob) -> Result
     match joinable(tables, &context.caller, name.as_slice()) {
         Some(ring) => join_found(tables, number, left, ring),
         None => {
+            tables.check_serial()?;
             let key = session_key(tables.alloc, name, &context.caller)?;
             join_new(tables, number, left, key)
         }
@@ -105,22 +106,20 @@ fn join_found(
     Ok(Answer::Number(ring.number()))
 }
 
-/// A new keyring becomes the session keyring of a context: ENOSPC where no serial is left.
+/// A new keyring becomes the session keyring of a context, where a serial is left.
 fn join_new(
     tables: &mut Tables,
     number: u32,
     left: Option<Serial>,
     key: Key,
 ) -> Result<Answer, Fault>
+    requires serial { tables.old.next_serial ≤ 2147483647 }
     requires own { session_in tables.old number ≡ Some left }
     requires empty { IsEmptyRing key }
     ensures { Leads tables.old result tables.new (joined_anew tables.old number (seen key)) }
 {
-    let next = tables.keys.next();
-    if next > LAST_SERIAL {
-        return Err(Fault::Refused(Errno::ENOSPC));
-    }
-    make_room(&mut tables.holders, Serial::new(next))?;
+    tables.make_walk_room(1)?;
+    make_room(&mut tables.holders, Serial::new(tables.keys.next()))?;
     match tables.keys.insert(key) {
         Ok(ring) => {
             tables.contexts.attach_session(number, ring);

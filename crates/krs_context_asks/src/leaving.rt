@@ -1,4 +1,4 @@
-ghost use Rattle.std.specs.Prelude.{◌≡◌, ◌≢◌, Err, ◌==◌, ◌&&◌, filter, not, [], cond};
+ghost use Rattle.std.specs.Prelude.{◌≡◌, ◌≢◌, Err, true, ◌==◌, ◌&&◌, filter, not, [], cond};
 ghost use Rattle.krs_types.specs.declared.fault.Fault.TheVariants.{Memory};
 ghost use Rattle.std.specs.Option.{option_to_list};
 ghost use Rattle.krs_model.specs.Outcome.{Leads};
@@ -80,12 +80,25 @@ fn let_go_uid(holders: &mut Holders, contexts: &Contexts, uid: u32, rings: Optio
     }
 }
 
-/// Whether another client has a context of that process.
+/// Whether another client has a context of that process. The context that the process was made with bears its number,
+/// and is looked at first.
 #[tactic(auto, using(crate::proofs::EndedHolders::others_in_process))]
 fn others_have_process(contexts: &BTreeMap<u32, Context>, client: u32, process: u32) -> bool
     ensures { result ≡ has_process (contexts_without client contexts.now.entries) process }
 {
-    any_other_in(contexts, client, process)
+    is_first_of_others(contexts, client, process) || any_other_in(contexts, client, process)
+}
+
+/// Whether the context that a process was made with is there, and another client's.
+#[tactic(auto, using(krs_ctx::proofs::FirstLemmas::any_at))]
+fn is_first_of_others(contexts: &BTreeMap<u32, Context>, client: u32, process: u32) -> bool
+    ensures { result ≡ true → list_any (λ c. not (c.client == client) && (c.process == process))
+        (values contexts.now) ≡ true }
+{
+    match contexts.get(&process) {
+        Some(context) => context.client != client && context.process == process,
+        None => false,
+    }
 }
 
 fn any_other_in(contexts: &BTreeMap<u32, Context>, client: u32, process: u32) -> bool

@@ -1,6 +1,6 @@
 -- HELLO of a store, from what its contexts answer: for whoever makes the keyrings of a uid.
 use Rattle.std.proofs.Common.{◌∙◌, ◌≡◌, ℕ, ◌+◌, ◌<◌, ◌≤◌, ◌||◌, ◌&&◌, if◌then◌else◌, nat_lt, nat_le, is_none, true}
-use Rattle.std.proofs.Common.{false, Bool, Option, Some, None, Result, Ok, Err, refl, ap, sym, arith}
+use Rattle.std.proofs.Common.{false, Bool, Option, Some, None, Result, Ok, Err, IsOk, refl, ap, sym, arith}
 use Rattle.std.specs.Result.{IsErrAnd}
 use Rattle.std.proofs.lemmas.Bool.Decides.{nat_tests}
 use Rattle.krs_types.specs.declared.errno.Errno.{Errno}
@@ -95,6 +95,37 @@ hello_full s client c e known full =
     (is_none rings && nat_lt 2147483646 s.next_serial)
     (with_context (with_uid s c rings) client c (first_session s.next_serial rings), Number s.next_context) e full)
 
+accepted_all : (a b d : Bool) (x : State × Answer)
+    → ((if a then Err EINVAL else Ok (tt {0})) >>= (λ room. if b then Err ENOSPC else Ok (tt {0}))) ≡ Ok (tt {0})
+    → d ≡ false
+    → IsOk ((if a then Err EINVAL else Ok (tt {0})) >>=
+    (λ room. (if b || d then Err ENOSPC else Ok (tt {0})) >>= (λ left. Ok x)))
+accepted_all true b d x h few = absurd cc
+accepted_all false true d x h few = absurd cc
+accepted_all false false d x h few = rw few refl
+
+-- serials are left for the keyrings of a uid, where it has none
+abbrev pub HasSerials : State → Caller → Type 0
+HasSerials s c = (is_none (at s.uids c.uid) && nat_lt 2147483646 s.next_serial) ≡ false
+
+-- HELLO where the client has room, and numbers are left
+pub hello_open : (s : State) (client : ℕ) (c : Caller) → caller_check c ≡ Ok (tt {0})
+    → enterable s client ≡ Ok (tt {0}) → HasSerials s c → IsOk (hello s client c)
+unfolding hello
+hello_open s client c known room few =
+    let rings = at s.uids c.uid in
+    rw known (accepted_all (nat_le 64 (context_count client s.contexts)) (nat_lt 4294967295 s.next_context)
+    (is_none rings && nat_lt 2147483646 s.next_serial)
+    (with_context (with_uid s c rings) client c (first_session s.next_serial rings), Number s.next_context) room few)
+
+-- a uid that has its keyrings needs no serials
+pub no_serials : (s : State) (c : Caller) (rings : UidRings) → at s.uids c.uid ≡ Some rings → HasSerials s c
+no_serials s c rings has = rw has refl
+
+-- a uid that has none needs two
+pub two_serials : (s : State) (c : Caller) → at s.uids c.uid ≡ None → s.next_serial ≤ 2147483646 → HasSerials s c
+two_serials s c none left = rw (none, few s.next_serial left) refl
+
 ok_same : (x y : State × Answer) → ◌≡◌ {A = Result (State × Answer) Errno} (Ok x) (Ok y) → x ≡ y
 ok_same x y h = cc
 
@@ -144,12 +175,12 @@ left_refused (Err f) x e h = let same : f ≡ e = err_same f e h in ap Err same
 -- a fault of the contexts is one of HELLO
 pub hello_fails :
     (s : State) (old new : Anchors) (client : ℕ) (c : Caller) (made : Option UidRings) (r : Result Answer Fault)
-    (x : Fault) → caller_check c ≡ Ok (tt {0}) → IsErrAnd r (λ f. f ≡ x)
+    (x : Fault) → caller_check c ≡ Ok (tt {0}) → IsOk (hello (anchored s old) client c) → IsErrAnd r (λ f. f ≡ x)
     → Enters old (Err x) new (λ q. greeted q client c made)
     → Leads (anchored s old) r (anchored s new) (hello (anchored s old) client c)
-hello_fails s old new client c made r Memory known is enters =
-    leads_memory s old new r (λ q. hello q client c) is enters.1
-hello_fails s old new client c made r (Refused e) known is enters =
+hello_fails s old new client c made r Memory known accepted is enters =
+    leads_memory s old new r (λ q. hello q client c) is accepted enters.1
+hello_fails s old new client c made r (Refused e) known accepted is enters =
     leads_refused s old new r e (λ q. hello q client c) is
     (λ q. hello_full (anchored q old) client c e known
     (left_refused (enterable (anchored q old) client)

@@ -1,5 +1,5 @@
 -- From what contexts answer to what an ask of a store comes to: for the store's own asks.
-use Rattle.std.proofs.Common.{◌≡◌, ℕ, Result, Ok, Err, refl, sym, subst}
+use Rattle.std.proofs.Common.{◌≡◌, ℕ, Result, Ok, Err, IsOk, refl, sym, subst}
 use Rattle.std.specs.Result.{IsErrAnd}
 use Rattle.krs_types.specs.declared.errno.Errno.{Errno}
 use Rattle.krs_types.specs.declared.fault.Fault.{Fault}
@@ -20,11 +20,12 @@ leads_refused s old new (Err f) e meant is refuses same =
     (refuses s, rw same refl)
 
 pub leads_memory : (s : State) (old new : Anchors) (r : Result Answer Fault) (meant : State → Outcome)
-    → IsErrAnd r (λ f. f ≡ Memory) → new ≡ old → Leads (anchored s old) r (anchored s new) (meant (anchored s old))
-leads_memory s old new (Ok x) meant is same = absurd is
-leads_memory s old new (Err f) meant is same =
+    → IsErrAnd r (λ f. f ≡ Memory) → IsOk (meant (anchored s old)) → new ≡ old
+    → Leads (anchored s old) r (anchored s new) (meant (anchored s old))
+leads_memory s old new (Ok x) meant is accepted same = absurd is
+leads_memory s old new (Err f) meant is accepted same =
     subst (λ (g : Fault). Leads (anchored s old) (Err g) (anchored s new) (meant (anchored s old))) (sym is)
-    (tt, rw same refl)
+    (accepted, rw same refl)
 
 -- LEAVE, in any store: its contexts are those that are told, and its queues and watches end by themselves
 pub left_whole : (s : State) (old new : Anchors) (client : ℕ) → new ≡ anchors_of (left (anchored s old) client)

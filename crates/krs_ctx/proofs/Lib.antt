@@ -1,4 +1,5 @@
 pub mod EachLemmas
+pub mod FirstLemmas
 pub mod FitLemmas
 pub mod ToldLemmas
 pub mod HelloLemmas

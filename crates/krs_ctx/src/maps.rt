@@ -1,4 +1,4 @@
-ghost use Rattle.std.specs.Prelude.{◌≡◌, ◌==◌, ◌||◌, not, filter, if◌then◌else◌, None, OnOk, OnErr, count_by};
+ghost use Rattle.std.specs.Prelude.{◌≡◌, ◌==◌, ◌||◌, not, filter, if◌then◌else◌, None, true, OnOk, OnErr, count_by};
 ghost use Rattle.std.specs.BTreeMap.{values};
 ghost use Rattle.krs_model.specs.Table.{at, put, without, alter, map_values};
 ghost use Rattle.krs_model.specs.Asks.Invalidating.{detached, context_without, rings_without};
@@ -34,7 +34,26 @@ pub(crate) fn context_count(contexts: &BTreeMap<u32, Context>, client: u32) -> u
     contexts.values().filter(|c| c.client == client).count()
 }
 
+/// Whether a process has a context. The context that it was made with bears its number, and is looked at first: so the
+/// others are gone over only where that one has ended.
 pub(crate) fn has_process(contexts: &BTreeMap<u32, Context>, process: u32) -> bool
+    ensures { result ≡ has_process contexts.now.entries process }
+{
+    has_first(contexts, process) || any_in(contexts, process)
+}
+
+/// Whether the context that a process was made with is there.
+#[tactic(auto, using(crate::proofs::FirstLemmas::first_has))]
+fn has_first(contexts: &BTreeMap<u32, Context>, process: u32) -> bool
+    ensures { result ≡ true → has_process contexts.now.entries process ≡ true }
+{
+    match contexts.get(&process) {
+        Some(context) => context.process == process,
+        None => false,
+    }
+}
+
+fn any_in(contexts: &BTreeMap<u32, Context>, process: u32) -> bool
     ensures { result ≡ has_process contexts.now.entries process }
 {
     contexts.values().any(|c| c.process == process)

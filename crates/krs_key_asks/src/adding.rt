@@ -1,5 +1,5 @@
 ghost use Rattle.std.specs.Prelude.{◌≡◌, ◌≤◌, ◌||◌, length, IfOk, OnOk, OnErr};
-ghost use Rattle.krs_model.specs.Outcome.{Leads, Gives, Is};
+ghost use Rattle.krs_model.specs.Outcome.{Leads, Is};
 ghost use Rattle.krs_model.specs.Asks.Adding.{admitted, if_room, by_match, place_of, new_key, made};
 ghost use Rattle.krs_model.specs.Asks.Adding.{IsKeyringAt, add};
 ghost use Rattle.krs_model.specs.Asks.Changing.{is_updatable};
@@ -63,34 +63,34 @@ fn by_match(
     ring: Serial,
     links: &Links,
     found: Option<Serial>,
-) -> Result<Place, Fault>
-    ensures place { Gives meant result (by_match tables.now context.now ring (serials links.now) found) }
+) -> Result<Place, Errno>
+    ensures place { Is meant result (by_match tables.now context.now ring (serials links.now) found) }
     ensures serial { IfOk result (HasSerial tables.now.next_serial) }
 {
     let Some(serial) = found else {
-        return Ok(if_room(tables, ring, links, None)?);
+        return if_room(tables, ring, links, None);
     };
     let Some(key) = tables.key(serial) else {
-        return Ok(if_room(tables, ring, links, None)?);
+        return if_room(tables, ring, links, None);
     };
     if !key.is_alive(tables.clock) || !is_updatable(key.name.kind) {
-        return Ok(if_room(tables, ring, links, Some(serial))?);
+        return if_room(tables, ring, links, Some(serial));
     }
-    if !tables.grants(context, serial, key, Want::Granted(Rights::WRITE))? {
-        return Err(Fault::Refused(Errno::EACCES));
+    if !tables.grants(context, serial, key, Want::Granted(Rights::WRITE)) {
+        return Err(Errno::EACCES);
     }
     Ok(Place::Update(serial))
 }
 
 /// Where a key of this name goes in a keyring that may be written.
 #[tactic(auto, unfolding(krs_model::specs::Asks::Adding::place_of))]
-fn place_of(tables: &Tables, context: &Context, name: &Name, ring: i32) -> Result<Place, Fault>
-    ensures place { Gives meant result (place_of tables.now context.now name.now ring) }
+fn place_of(tables: &Tables, context: &Context, name: &Name, ring: i32) -> Result<Place, Errno>
+    ensures place { Is meant result (place_of tables.now context.now name.now ring) }
     ensures serial { IfOk result (HasSerial tables.now.next_serial) }
 {
     let (ring, key) = tables.look_up(context, ring, Want::Granted(Rights::WRITE))?;
     match &key.content {
-        Content::Payload(_) => Err(Fault::Refused(Errno::ENOTDIR)),
+        Content::Payload(_) => Err(Errno::ENOTDIR),
         Content::Links(links) => {
             by_match(tables, context, Serial::new(ring), links, links.find(name))
         }
@@ -112,6 +112,7 @@ fn make(
     ensures ok { OnOk result (tables.new ≡ made tables.old ring name (new_key name payload uid gid)) }
     ensures err { OnErr result (tables.new ≡ tables.old) }
 {
+    tables.make_walk_room(1)?;
     let serial = Serial::new(tables.keys.next());
     let link = name.copy(tables.alloc)?;
     let key = new_key(tables.alloc, name, payload, uid, gid);

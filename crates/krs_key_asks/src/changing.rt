@@ -1,4 +1,5 @@
-ghost use Rattle.std.specs.Prelude.{◌≡◌, ◌||◌};
+ghost use Rattle.std.specs.Prelude.{◌≡◌, ◌≢◌, ◌||◌, Err};
+ghost use Rattle.krs_types.specs.declared.fault.Fault.TheVariants.{Memory};
 ghost use Rattle.krs_model.specs.Outcome.{Leads, Is};
 ghost use Rattle.krs_model.specs.Asks.Changing.{updatable, update, if_owner, set_perm, if_may_own, chown};
 ghost use Rattle.krs_model.specs.Asks.Changing.{expiry_after, set_timeout, revoke};
@@ -39,7 +40,8 @@ pub fn set_perm(
     id: i32,
     mask: u32,
 ) -> Result<Answer, Fault>
-    ensures { Leads tables.old result tables.new (set_perm tables.old client context id mask) }
+    ensures step { Leads tables.old result tables.new (set_perm tables.old client context id mask) }
+    ensures memory { result ≢ Err Memory }
 {
     let context = tables.context_of(client, context)?;
     let (serial, key) = tables.look_up(context, id, Want::Granted(Rights::SETATTR))?;
@@ -59,7 +61,8 @@ pub fn chown(
     uid: u32,
     gid: u32,
 ) -> Result<Answer, Fault>
-    ensures { Leads tables.old result tables.new (chown tables.old client context id uid gid) }
+    ensures step { Leads tables.old result tables.new (chown tables.old client context id uid gid) }
+    ensures memory { result ≢ Err Memory }
 {
     let context = tables.context_of(client, context)?;
     let (serial, key) = tables.look_up(context, id, Want::Granted(Rights::SETATTR))?;
@@ -77,7 +80,8 @@ pub fn set_timeout(
     id: i32,
     seconds: u32,
 ) -> Result<Answer, Fault>
-    ensures { Leads tables.old result tables.new (set_timeout tables.old client context id seconds) }
+    ensures step { Leads tables.old result tables.new (set_timeout tables.old client context id seconds) }
+    ensures memory { result ≢ Err Memory }
 {
     let context = tables.context_of(client, context)?;
     let (serial, _) = tables.look_up(context, id, Want::Granted(Rights::SETATTR))?;
@@ -89,7 +93,8 @@ pub fn set_timeout(
 /// The end of a key, which stays where it is linked: keyctl(2), KEYCTL_REVOKE.
 #[tactic(auto, unfolding(krs_model::specs::Asks::Changing::revoke))]
 pub fn revoke(tables: &mut Tables, client: u32, context: u32, id: i32) -> Result<Answer, Fault>
-    ensures { Leads tables.old result tables.new (revoke tables.old client context id) }
+    ensures step { Leads tables.old result tables.new (revoke tables.old client context id) }
+    ensures memory { result ≢ Err Memory }
 {
     let context = tables.context_of(client, context)?;
     let want = Want::Either(Rights::WRITE, Rights::SETATTR);

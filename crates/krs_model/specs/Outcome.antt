@@ -1,20 +1,19 @@
 -- What an ask comes to, and how a function's result is compared to it. The form is this project's own; the refusals
 -- are those of keyctl(2), add_key(2) and request_key(2), "ERRORS".
-use Rattle.std.specs.Prelude.{◌≡◌, Result, Ok, Err}
+use Rattle.std.specs.Prelude.{◌≡◌, Result, Ok, Err, IsOk}
 use Rattle.krs_types.specs.declared.errno.Errno.{Errno}
 use Rattle.krs_types.specs.declared.ask.Answer.{Answer}
 use Rattle.krs_types.specs.declared.fault.Fault.{Fault}
 use Rattle.krs_types.specs.declared.fault.Fault.TheVariants.{Memory, Refused}
-use Rattle.krs_types.specs.Growth.{MayLackMemory}
 use Rattle.krs_model.specs.State.{State}
 
 -- the state before the sweep and the answer of an accepted ask, or the refusal that comes first
 abbrev pub Outcome : Type 0
 Outcome = Result (State × Answer) Errno
 
--- a fault is the definition's refusal, or out of memory
+-- a fault is the definition's refusal; or memory is wanting for what it accepts
 abbrev pub Fails : {Y : Type 0} → Fault → Result Y Errno → Type 0
-Fails Memory meant = MayLackMemory meant
+Fails Memory meant = IsOk meant
 Fails (Refused e) meant = meant ≡ Err e
 
 -- the result, seen by view, is what is meant, unless memory was wanted

@@ -1,6 +1,6 @@
 -- One step of a store: an ask that is served at a moment, and its reply. The form is this project's own; what each
 -- ask means has its source where the ask is defined.
-use Rattle.std.specs.Prelude.{◌≡◌, ℕ, List, [], ◌++◌, Result, Ok, Err, ◌⊎◌, true}
+use Rattle.std.specs.Prelude.{◌≡◌, ℕ, List, [], ◌++◌, Result, Ok, Err, IsOk, ◌⊎◌, true}
 use Rattle.krs_types.specs.declared.errno.Errno.{Errno}
 use Rattle.krs_types.specs.declared.errno.Errno.TheVariants.{ENOMEM}
 use Rattle.krs_types.specs.declared.ask.Answer.{Answer}
@@ -11,7 +11,7 @@ use Rattle.krs_types.specs.declared.ask.Op.TheVariants.{Update, Revoke, Invalida
 use Rattle.krs_types.specs.declared.ask.Op.TheVariants.{Unlink, Clear, Read, Describe, Watch, OpenQueue, SetFilter}
 use Rattle.krs_types.specs.declared.ask.Op.TheVariants.{ReadQueue, CloseQueue, Exit, Leave}
 use Rattle.krs_types.specs.declared.event.Event.{Event}
-use Rattle.krs_types.specs.Growth.{grows_meanwhile, MayLackMemory}
+use Rattle.krs_types.specs.Growth.{grows}
 use Rattle.krs_model.specs.Table.{Table}
 use Rattle.krs_model.specs.State.{State, Key, raised}
 use Rattle.krs_model.specs.Queues as queues
@@ -82,12 +82,12 @@ pub record Serves (s : State) (client context : ℕ) (op : Op) (answer : Answer)
   pub sweep : IsSweep mid swept
   pub posted : new ≡ posted_in (posts_by s client context op answer swept.keys) swept
 
--- ENOMEM, of an ask that may find none, in the place of what it comes to
+-- ENOMEM, of an ask that takes memory and would be accepted
 abbrev pub LacksMemory : Op → Errno → Outcome → Type 0
-LacksMemory op e meant = (e ≡ ENOMEM) × (grows_meanwhile op ≡ true) × MayLackMemory meant
+LacksMemory op e meant = (e ≡ ENOMEM) × (grows op ≡ true) × IsOk meant
 
--- A refusal leaves everything as it was: profile, refusals change nothing. So does ENOMEM, which is lawful for an ask
--- that may find no memory: profile, want of memory
+-- A refusal leaves everything as it was: profile, refusals change nothing. So does ENOMEM, which is lawful only where
+-- nothing else refuses an ask that takes memory: profile, want of memory
 abbrev pub Ends : State → ℕ → ℕ → Op → Result Answer Errno → State → Type 0
 Ends s client context op (Ok answer) new = Serves s client context op answer new
 Ends s client context op (Err e) new =

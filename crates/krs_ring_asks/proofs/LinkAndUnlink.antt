@@ -30,7 +30,7 @@ use Rattle.krs_model.specs.Asks.Adding.{IsKeyringAt}
 use Rattle.krs_model.specs.Asks.Changing.{changed}
 use Rattle.krs_model.specs.Asks.Linked.{name_of, nestable, link, unlink, if_linked, without_link}
 use Rattle.krs_model.proofs.Lookups.Laws.{look_up_usable}
-use Rattle.krs_tables.specs.Linked.{name_in, room_in, FailsLast, Puts, Takes}
+use Rattle.krs_tables.specs.Linked.{name_in, room_in, Puts, Takes}
 
 -- a keyring that was looked up
 pub record IsFoundRing (s : State) (ring : ℕ × Key) : Type 0 where
@@ -139,18 +139,20 @@ link_done s new client context key ring c into found l puts =
     link_met s client context key ring c into found l
     ∙ (rw (puts.0, puts.1) (within_as s changes Nothing refl))
 
-refused_room : (s : State) (room : Result (Unit {0}) Errno) (done : State × Answer) (e : Fault) → FailsLast e room
-    → Fails e (within_serials s (room >>= (λ there. Ok done)))
-refused_room s room done Memory h = tt
-refused_room s room done (Refused x) h = rw h refl
+-- no room, or no memory where there is room
+failed_room : (s t : State) (room : Result (Unit {0}) Errno) (a : Answer) (e : Fault)
+    → t.next_serial ≡ s.next_serial → Fails e room → Fails e (within_serials s (room >>= (λ there. Ok (t, a))))
+failed_room s t (Ok there) a Memory same h = rw (within_as s t a same) refl
+failed_room s t (Err x) a Memory same h = absurd cc
+failed_room s t room a (Refused x) same h = rw h refl
 
 pub link_failed : (s new : State) (client context : ℕ) (key ring : ℤ) (c : Context) (into found : ℕ × Key) (e : Fault)
     → LooksUp s client context key ring c into found → Puts s (Err e) new into.0 (name_of found.1) found.0
     → Fails e (link s client context key ring) × (new ≡ s)
 link_failed s new client context key ring c into found e l puts = (
   subst (Fails e) (sym (link_met s client context key ring c into found l))
-      (refused_room s (room_in s.keys into.0 (name_of found.1))
-      (changed s into.0 (linking s.keys (name_of found.1) found.0), Nothing) e puts.0),
+      (failed_room s (changed s into.0 (linking s.keys (name_of found.1) found.0))
+      (room_in s.keys into.0 (name_of found.1)) Nothing e refl puts.0),
   puts.1,
 )
 

@@ -9,8 +9,6 @@ use Rattle.krs_types.specs.declared.ask.Answer.{Answer}
 use Rattle.krs_types.specs.declared.ask.Answer.TheVariants.{Number}
 use Rattle.krs_types.specs.declared.context.Context.{Context}
 use Rattle.krs_types.specs.declared.name.Name.{Name}
-use Rattle.krs_types.specs.declared.fault.Fault.{Fault}
-use Rattle.krs_types.specs.declared.fault.Fault.TheVariants.{Memory, Refused}
 use Rattle.krs_types.specs.declared.rights.Want.TheVariants.{Granted}
 use Rattle.krs_types.specs.Rights.{has_all, SEARCH, WRITE, LINK}
 use Rattle.krs_types.specs.Refusing.{◌>>=◌, or_refuse}
@@ -22,7 +20,7 @@ use Rattle.krs_model.specs.Linking.{ring_links, linking}
 use Rattle.krs_model.specs.Lookup.{context_of, look_up}
 use Rattle.krs_model.specs.Making.{made_for, within_serials}
 use Rattle.krs_model.specs.Search.{found, requested}
-use Rattle.krs_model.specs.Outcome.{Outcome, Fails}
+use Rattle.krs_model.specs.Outcome.{Outcome}
 use Rattle.krs_model.specs.Asks.Changing.{changed}
 use Rattle.krs_model.specs.Asks.Linked.{name_of, nestable, linked_into}
 use Rattle.krs_model.specs.Asks.Finding.{search_from, request, sought_name, sought_into, requested_into, found_into}
@@ -131,23 +129,14 @@ search_links s client number head type_name desc dest c name from into links ser
     search_is s client number head type_name desc dest c name from l
     ∙ (rw (into_found, heads, is.links, key_found) refl ∙ found_is s client number c into serial l.own is)
 
-unlooked :
-    (s : State) (c : Context) (from : ℕ × Key) (name : Name) (dest : ℤ) (e : Fault)
-    → Fails e (look_up s c dest (Granted WRITE)) → Fails e (within_serials s (sought_into s c from name dest))
-unlooked s c from name dest Memory h = tt
-unlooked s c from name dest (Refused x) h = rw h refl
-
 -- a search whose destination is refused
 pub search_unlooked :
     (s : State) (client number : ℕ) (head : ℤ) (type_name desc : List ℕ) (dest : ℤ) (c : Context) (name : Name)
-    (from : ℕ × Key) (e : Fault)
-    → Seeks s client number head type_name desc dest c name from → Fails e (look_up s c dest (Granted WRITE))
-    → Fails e (search_from s client number head type_name desc dest) × (s ≡ s)
-search_unlooked s client number head type_name desc dest c name from e l h = (
-  subst (Fails e) (sym (search_is s client number head type_name desc dest c name from l))
-      (unlooked s c from name dest e h),
-  refl,
-)
+    (from : ℕ × Key) (e : Errno)
+    → Seeks s client number head type_name desc dest c name from → look_up s c dest (Granted WRITE) ≡ Err e
+    → (search_from s client number head type_name desc dest ≡ Err e) × (s ≡ s)
+search_unlooked s client number head type_name desc dest c name from e l h =
+    (search_is s client number head type_name desc dest c name from l ∙ rw h refl, refl)
 
 -- a search whose destination is no keyring
 pub search_no_ring :

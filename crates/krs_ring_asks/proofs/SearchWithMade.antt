@@ -11,8 +11,6 @@ use Rattle.krs_types.specs.declared.errno.Errno.{Errno}
 use Rattle.krs_types.specs.declared.errno.Errno.TheVariants.{ENOKEY, EACCES, ELOOP}
 use Rattle.krs_types.specs.declared.ask.Answer.TheVariants.{Number}
 use Rattle.krs_types.specs.declared.context.Context.{Context}
-use Rattle.krs_types.specs.declared.fault.Fault.{Fault}
-use Rattle.krs_types.specs.declared.fault.Fault.TheVariants.{Memory, Refused}
 use Rattle.krs_types.specs.declared.name.Name.{Name}
 use Rattle.krs_types.specs.declared.rights.Want.TheVariants.{Granted}
 use Rattle.krs_types.specs.Rights.{has_all, SEARCH, LINK}
@@ -28,7 +26,7 @@ use Rattle.krs_model.specs.Lookup.{context_of, look_up}
 use Rattle.krs_model.specs.Making.{special_ring, within_serials}
 use Rattle.krs_model.specs.Search.{searcher_of, searched, is_match, is_open, is_answer, found, requested, or_next}
 use Rattle.krs_model.specs.Sound.{IsSound}
-use Rattle.krs_model.specs.Outcome.{Outcome, Fails}
+use Rattle.krs_model.specs.Outcome.{Outcome}
 use Rattle.krs_model.specs.Asks.Changing.{changed}
 use Rattle.krs_model.specs.Asks.Linked.{unless, name_of, linked_into}
 use Rattle.krs_model.specs.Asks.Finding.{search_from, request, sought_name, sought_into, requested_into, found_into}
@@ -229,11 +227,10 @@ by_links special s client number c dest name head (Ok links) own new =
     by_answer special s client number c dest (found s c head name) own new (found_there s c head name)
 by_links special s client number c dest name head (Err e) own new = refl
 
--- what fails first is the answer
-fails_first :
-    {A : Type 0} (e : Fault) (first : Result A Errno) (next : A → Outcome) → Fails e first → Fails e (first >>= next)
-fails_first Memory first next h = tt
-fails_first (Refused x) first next h = rw h refl
+-- what is refused first is the answer
+refused_first :
+    {A : Type 0} (e : Errno) (first : Result A Errno) (next : A → Outcome) → first ≡ Err e → (first >>= next) ≡ Err e
+refused_first e first next h = rw h refl
 
 -- what SEARCH has looked up, with a destination that is made
 pub record SeeksNew (special : Special) (s : State) (client number : ℕ) (head : ℤ)
@@ -291,12 +288,13 @@ search_new special s client number head type_name desc dest c name from l =
 -- a search that finds nothing
 pub search_new_refused :
     (special : Special) (s : State) (client number : ℕ) (head : ℤ) (type_name desc : List ℕ) (dest : ℤ) (c : Context)
-    (name : Name) (from : ℕ × Key) (e : Fault) → SeeksNew special s client number head type_name desc dest c name from
-    → Fails e (found_below s c from name)
-    → Fails e (search_from s client number head type_name desc dest) × (s ≡ s)
-search_new_refused special s client number head type_name desc dest c name from e l h =
-    let fails = fails_first e (found_below s c from name) (λ k. found_made special s client number k) h in
-    (subst (Fails e) (sym (search_new special s client number head type_name desc dest c name from l)) fails, refl)
+    (name : Name) (from : ℕ × Key) (e : Errno) → SeeksNew special s client number head type_name desc dest c name from
+    → found_below s c from name ≡ Err e → (search_from s client number head type_name desc dest ≡ Err e) × (s ≡ s)
+search_new_refused special s client number head type_name desc dest c name from e l h = (
+  search_new special s client number head type_name desc dest c name from l
+      ∙ refused_first e (found_below s c from name) (λ k. found_made special s client number k) h,
+  refl,
+)
 
 -- a search that finds a key
 pub search_new_links :
@@ -356,12 +354,13 @@ request_new special s client number type_name desc dest c name l =
 -- a request that finds nothing beside it
 pub request_new_refused :
     (special : Special) (s : State) (client number : ℕ) (type_name desc : List ℕ) (dest : ℤ) (c : Context)
-    (name : Name) (e : Fault) → RequestsNew special s client number type_name desc dest c name
-    → Fails e (beside special s c name)
-    → Fails e (request s client number type_name desc dest) × (s ≡ s)
-request_new_refused special s client number type_name desc dest c name e l h =
-    let fails = fails_first e (beside special s c name) (λ k. found_made special s client number k) h in
-    (subst (Fails e) (sym (request_new special s client number type_name desc dest c name l)) fails, refl)
+    (name : Name) (e : Errno) → RequestsNew special s client number type_name desc dest c name
+    → beside special s c name ≡ Err e → (request s client number type_name desc dest ≡ Err e) × (s ≡ s)
+request_new_refused special s client number type_name desc dest c name e l h = (
+  request_new special s client number type_name desc dest c name l
+      ∙ refused_first e (beside special s c name) (λ k. found_made special s client number k) h,
+  refl,
+)
 
 -- a request that finds a key
 pub request_new_links :

@@ -1,5 +1,6 @@
-ghost use Rattle.std.specs.Prelude.{IfOk};
-ghost use Rattle.krs_model.specs.Outcome.{Leads, Gives, Is};
+ghost use Rattle.std.specs.Prelude.{◌≡◌, IfOk, IsErrOf, true};
+ghost use Rattle.krs_types.specs.Growth.{has_destination};
+ghost use Rattle.krs_model.specs.Outcome.{Leads, Is};
 ghost use Rattle.krs_model.specs.Search.{found, requested};
 ghost use Rattle.krs_model.specs.Asks.Adding.{IsKeyringAt};
 ghost use Rattle.krs_model.specs.Lookup.{context_of};
@@ -16,7 +17,6 @@ use krs_tables::{Special, Tables};
 use krs_types::{
     Answer, Blob, Context, Desc, Errno, Fault, Kind, Name, Rights, Serial, Want, check_description,
 };
-use krs_walk::Walker;
 
 /// What is looked for: EINVAL, EPERM and ENODEV of the type's name, EINVAL of the description. Profile, search names.
 #[tactic(auto, unfolding(krs_model::specs::Asks::Finding::sought_name))]
@@ -44,13 +44,15 @@ pub fn search(
     dest: i32,
 ) -> Result<Answer, Fault>
     requires sound { IsSound tables.old }
-    ensures { Leads tables.old result tables.new (search_from tables.old client number head type_name desc dest) }
+    ensures step { Leads tables.old result tables.new
+        (search_from tables.old client number head type_name desc dest) }
+    ensures memory { IsErrOf result Fault.Memory → has_destination dest ≡ true }
 {
     let context = tables.context_of(client, number)?;
     let name = sought_name(type_name, desc)?;
     let (head, from) = tables.look_up(context, head, Want::Granted(Rights::SEARCH))?;
     if dest == 0 {
-        return find_from(tables, context, head, from, &name);
+        return Ok(find_from(tables, context, head, from, &name)?);
     }
     if let Some(special) = tables.wanted(number, context, dest) {
         let serial = find_in(tables, context, head, from, &name)?;
@@ -75,12 +77,13 @@ pub fn request(
     dest: i32,
 ) -> Result<Answer, Fault>
     requires sound { IsSound tables.old }
-    ensures { Leads tables.old result tables.new (request tables.old client number type_name desc dest) }
+    ensures step { Leads tables.old result tables.new (request tables.old client number type_name desc dest) }
+    ensures memory { IsErrOf result Fault.Memory → has_destination dest ≡ true }
 {
     let context = tables.context_of(client, number)?;
     let name = sought_name(type_name, desc)?;
     if dest == 0 {
-        return request_alone(tables, context, &name);
+        return Ok(request_alone(tables, context, &name)?);
     }
     if let Some(special) = tables.wanted(number, context, dest) {
         let serial = find_beside(tables, context, special, &name)?;
@@ -99,16 +102,15 @@ fn find_beside(
     context: &Context,
     special: Special,
     name: &Name,
-) -> Result<Serial, Fault>
-    ensures { Gives (λ k. k) result (beside special tables.now context.now name.now) }
+) -> Result<Serial, Errno>
+    ensures { Is (λ k. k) result (beside special tables.now context.now name.now) }
 {
     if !special.is_of_name(name) {
         return find_attached(tables, context, name);
     }
     match find_before(tables, context, special, name) {
         Ok(serial) => Ok(serial),
-        Err(Fault::Memory) => Err(Fault::Memory),
-        Err(Fault::Refused(_)) => Err(Fault::Refused(Errno::EDEADLK)),
+        Err(_) => Err(Errno::EDEADLK),
     }
 }
 
@@ -118,12 +120,12 @@ fn find_before(
     context: &Context,
     special: Special,
     name: &Name,
-) -> Result<Serial, Fault>
-    ensures { Gives (λ k. k) result (found_before special tables.now context.now name.now) }
+) -> Result<Serial, Errno>
+    ensures { Is (λ k. k) result (found_before special tables.now context.now name.now) }
 {
     match (special, context.thread) {
         (Special::Process, Some(thread)) => find(tables, context, thread.number(), name),
-        _ => Err(Fault::Refused(Errno::ENOKEY)),
+        _ => Err(Errno::ENOKEY),
     }
 }
 
@@ -170,23 +172,25 @@ fn link_found(
 }
 
 /// The key at a serial, where it grants LINK: EACCES.
-fn linkable<'a>(tables: &'a Tables, context: &Context, serial: Serial) -> Result<&'a Key, Fault>
-    ensures { Gives (λ key. seen key.now) result (linkable tables.now context.now serial) }
+fn linkable<'a>(tables: &'a Tables, context: &Context, serial: Serial) -> Result<&'a Key, Errno>
+    ensures { Is (λ key. seen key.now) result (linkable tables.now context.now serial) }
 {
     let key = tables.key(serial).ok_or(Errno::ENOKEY)?;
-    if !tables.grants(context, serial, key, Want::Granted(Rights::LINK))? {
-        return Err(Fault::Refused(Errno::EACCES));
+    if !tables.grants(context, serial, key, Want::Granted(Rights::LINK)) {
+        return Err(Errno::EACCES);
     }
     Ok(key)
 }
 
 /// The key of a name that a search from a head finds.
-fn find(tables: &Tables, context: &Context, head: u32, name: &Name) -> Result<Serial, Fault>
-    ensures { Gives (λ k. k) result (found tables.now context.now head name.now) }
+fn find(tables: &Tables, context: &Context, head: u32, name: &Name) -> Result<Serial, Errno>
+    ensures { Is (λ k. k) result (found tables.now context.now head name.now) }
 {
     let ring = tables.process_ring(context.process);
     let head = Serial::new(head);
-    Walker::new(tables.alloc).search(&tables.keys, context, ring, tables.clock, head, name)
+    tables
+        .walker
+        .search(&tables.keys, context, ring, tables.clock, head, name)
 }
 
 /// The key of a name that a search from a keyring finds: ENOTDIR where the head is none.
@@ -196,19 +200,21 @@ fn find_in(
     head: u32,
     key: &Key,
     name: &Name,
-) -> Result<Serial, Fault>
-    ensures { Gives (λ k. k) result (found_below tables.now context.now (head, seen key.now) name.now) }
+) -> Result<Serial, Errno>
+    ensures { Is (λ k. k) result (found_below tables.now context.now (head, seen key.now) name.now) }
 {
     links_of(key)?;
     find(tables, context, head, name)
 }
 
 /// The key of a name that a request finds.
-fn find_attached(tables: &Tables, context: &Context, name: &Name) -> Result<Serial, Fault>
-    ensures { Gives (λ k. k) result (requested tables.now context.now name.now) }
+fn find_attached(tables: &Tables, context: &Context, name: &Name) -> Result<Serial, Errno>
+    ensures { Is (λ k. k) result (requested tables.now context.now name.now) }
 {
     let ring = tables.process_ring(context.process);
-    Walker::new(tables.alloc).request(&tables.keys, context, ring, tables.clock, name)
+    tables
+        .walker
+        .request(&tables.keys, context, ring, tables.clock, name)
 }
 
 /// A search that links nothing.
@@ -218,16 +224,18 @@ fn find_from(
     head: u32,
     from: &Key,
     name: &Name,
-) -> Result<Answer, Fault>
-    ensures { Leads tables.now result tables.now (sought_from tables.now context.now (head, seen from.now) name.now) }
+) -> Result<Answer, Errno>
+    ensures { Is (λ answer. (tables.now, answer)) result
+        (sought_from tables.now context.now (head, seen from.now) name.now) }
 {
     let serial = find_in(tables, context, head, from, name)?;
     Ok(Answer::Number(serial.number()))
 }
 
 /// A request that links nothing.
-fn request_alone(tables: &Tables, context: &Context, name: &Name) -> Result<Answer, Fault>
-    ensures { Leads tables.now result tables.now (found_alone tables.now (requested tables.now context.now name.now)) }
+fn request_alone(tables: &Tables, context: &Context, name: &Name) -> Result<Answer, Errno>
+    ensures { Is (λ answer. (tables.now, answer)) result
+        (found_alone tables.now (requested tables.now context.now name.now)) }
 {
     let serial = find_attached(tables, context, name)?;
     Ok(Answer::Number(serial.number()))

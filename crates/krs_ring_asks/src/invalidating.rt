@@ -1,4 +1,5 @@
-ghost use Rattle.std.specs.Prelude.{◌≡◌};
+ghost use Rattle.std.specs.Prelude.{◌≡◌, ◌≢◌, Err};
+ghost use Rattle.krs_types.specs.declared.fault.Fault.TheVariants.{Memory};
 ghost use Rattle.krs_model.specs.Outcome.{Leads};
 ghost use Rattle.krs_model.specs.Asks.Invalidating.{invalidate, invalidated};
 
@@ -8,7 +9,8 @@ use krs_types::{Answer, Fault, Rights, Serial, Want};
 /// A key out of every keyring and every attachment: keyctl(2), KEYCTL_INVALIDATE.
 #[tactic(auto, unfolding(krs_model::specs::Asks::Invalidating::invalidate))]
 pub fn invalidate(tables: &mut Tables, client: u32, number: u32, id: i32) -> Result<Answer, Fault>
-    ensures { Leads tables.old result tables.new (invalidate tables.old client number id) }
+    ensures step { Leads tables.old result tables.new (invalidate tables.old client number id) }
+    ensures memory { result ≢ Err Memory }
 {
     let context = tables.context_of(client, number)?;
     let (serial, _) = tables.look_up(context, id, Want::Granted(Rights::SEARCH))?;

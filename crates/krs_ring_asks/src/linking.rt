@@ -1,5 +1,6 @@
-ghost use Rattle.std.specs.Prelude.{◌≡◌, None, Some, Ok, IsSome, IfSome, IfOk, OnOk, OnErr};
-ghost use Rattle.krs_model.specs.Outcome.{Leads, Is, Gives};
+ghost use Rattle.std.specs.Prelude.{◌≡◌, ◌≢◌, None, Some, Ok, Err, IsSome, IfSome, IfOk, OnOk, OnErr};
+ghost use Rattle.krs_types.specs.declared.fault.Fault.TheVariants.{Memory};
+ghost use Rattle.krs_model.specs.Outcome.{Leads, Is};
 ghost use Rattle.krs_model.specs.Table.{at};
 ghost use Rattle.krs_model.specs.Linking.{ring_links, linking};
 ghost use Rattle.krs_model.specs.Lookup.{context_of};
@@ -16,7 +17,6 @@ use krs_keys::{Change, Content, Key};
 use krs_links::Links;
 use krs_tables::{Special, Tables};
 use krs_types::{Answer, Errno, Fault, KeyId, Name, Rights, Serial, Want};
-use krs_walk::Walker;
 use std::alloc::AllocError;
 
 /// One link less in a keyring; the key's state and rights do not matter: keyctl(2), KEYCTL_UNLINK.
@@ -28,7 +28,8 @@ pub fn unlink(
     key: i32,
     ring: i32,
 ) -> Result<Answer, Fault>
-    ensures { Leads tables.old result tables.new (unlink tables.old client context key ring) }
+    ensures step { Leads tables.old result tables.new (unlink tables.old client context key ring) }
+    ensures memory { result ≢ Err Memory }
 {
     let context = tables.context_of(client, context)?;
     let (ring, from) = tables.look_up(context, ring, Want::Granted(Rights::WRITE))?;
@@ -42,7 +43,8 @@ pub fn unlink(
 /// All links of a keyring out: keyctl(2), KEYCTL_CLEAR.
 #[tactic(auto, unfolding(krs_model::specs::Asks::Linked::clear))]
 pub fn clear(tables: &mut Tables, client: u32, context: u32, id: i32) -> Result<Answer, Fault>
-    ensures { Leads tables.old result tables.new (clear tables.old client context id) }
+    ensures step { Leads tables.old result tables.new (clear tables.old client context id) }
+    ensures memory { result ≢ Err Memory }
 {
     let context = tables.context_of(client, context)?;
     let (serial, key) = tables.look_up(context, id, Want::Granted(Rights::WRITE))?;
@@ -136,16 +138,15 @@ fn is_coming(tables: &Tables, special: Special, id: i32) -> bool
 
 /// Whether a link from the keyring to the key closes a cycle, or nests a keyring too deep: EDEADLK, ELOOP.
 #[tactic(auto, unfolding(krs_model::specs::Asks::Linked::nestable))]
-pub(crate) fn check_nesting(tables: &Tables, ring: Serial, key: Serial) -> Result<(), Fault>
+pub(crate) fn check_nesting(tables: &Tables, ring: Serial, key: Serial) -> Result<(), Errno>
     requires ring { IsKeyringAt tables.now ring }
     requires key { IsSome (at tables.now.keys key) }
-    ensures { Gives (λ done. done) result (nestable tables.now.keys ring key) }
+    ensures { Is (λ done. done) result (nestable tables.now.keys ring key) }
 {
-    let walker = Walker::new(tables.alloc);
-    if walker.would_cycle(&tables.keys, key, ring)? {
-        return Err(Fault::Refused(Errno::EDEADLK));
+    if tables.walker.would_cycle(&tables.keys, key, ring) {
+        return Err(Errno::EDEADLK);
     }
-    let _height = walker.height_of(&tables.keys, key)?;
+    let _height = tables.walker.height_of(&tables.keys, key)?;
     Ok(())
 }
 

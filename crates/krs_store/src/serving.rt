@@ -1,5 +1,5 @@
 ghost use Rattle.std.specs.Prelude.{◌≡◌, IsErrOf, true};
-ghost use Rattle.krs_types.specs.Growth.{grows_meanwhile};
+ghost use Rattle.krs_types.specs.Growth.{grows};
 ghost use Rattle.krs_tables.specs.Serving.{LeadsTold};
 ghost use Rattle.krs_model.specs.Sound.{IsSound};
 ghost use Rattle.krs_store.specs.Telling.{Runs};
@@ -17,7 +17,7 @@ use krs_types::{Answer, Ask, Fault, Op};
 pub(crate) fn serve(tables: &mut Tables, client: u32, ask: Ask) -> Result<Answer, Fault>
     requires sound { IsSound tables.old }
     ensures told { LeadsTold tables.old client ask.context ask.op result tables.new }
-    ensures memory { IsErrOf result Fault.Memory → grows_meanwhile ask.op ≡ true }
+    ensures memory { IsErrOf result Fault.Memory → grows ask.op ≡ true }
 {
     let tellings = foretell(tables, client, ask.context, &ask.op);
     match run(tables, client, ask) {
@@ -34,7 +34,7 @@ pub(crate) fn serve(tables: &mut Tables, client: u32, ask: Ask) -> Result<Answer
 fn run(tables: &mut Tables, client: u32, ask: Ask) -> Result<Answer, Fault>
     requires sound { IsSound tables.old }
     ensures step { Runs tables.old client ask.context ask.op result tables.new }
-    ensures memory { IsErrOf result Fault.Memory → grows_meanwhile ask.op ≡ true }
+    ensures memory { IsErrOf result Fault.Memory → grows ask.op ≡ true }
 {
     let context = ask.context;
     match ask.op {

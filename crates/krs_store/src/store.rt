@@ -1,6 +1,6 @@
 ghost use Rattle.std.specs.Prelude.{◌≡◌, ◌≤◌, ◌≢◌, false};
 ghost use Rattle.krs_types.specs.declared.errno.Errno.TheVariants.{ENOMEM};
-ghost use Rattle.krs_types.specs.Growth.{grows, grows_meanwhile};
+ghost use Rattle.krs_types.specs.Growth.{grows};
 ghost use Rattle.krs_model.specs.State.{starting_at, raised};
 ghost use Rattle.krs_model.specs.Step.{Step};
 ghost use Rattle.krs_model.specs.History.{event_of};
@@ -62,7 +62,7 @@ impl Store {
     #[tactic(auto, unfolding(krs_model::specs::Step::Step))]
     pub fn apply(&mut self, client: u32, moment: u64, ask: Ask) -> Reply
         ensures step { Step self.old (event_of client moment ask result) self.new }
-        ensures memory { grows ask.op ≡ false → grows_meanwhile ask.op ≡ false → result ≢ Err ENOMEM }
+        ensures memory { grows ask.op ≡ false → result ≢ Err ENOMEM }
     {
         self.tables.raise(moment);
         match serve(&mut self.tables, client, ask) {

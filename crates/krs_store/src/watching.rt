@@ -1,4 +1,5 @@
-ghost use Rattle.std.specs.Prelude.{◌≢◌, Err};
+ghost use Rattle.std.specs.Prelude.{◌≡◌, ◌≢◌, Err, IsErrOf, false};
+ghost use Rattle.krs_types.specs.Growth.{ends_watch};
 ghost use Rattle.krs_types.specs.declared.ask.Op.TheVariants.{Watch};
 ghost use Rattle.krs_types.specs.declared.fault.Fault.TheVariants.{Memory};
 ghost use Rattle.krs_model.specs.Outcome.{Leads};
@@ -70,7 +71,8 @@ pub(crate) fn watch(
     queue: u32,
     watch: i32,
 ) -> Result<Answer, Fault>
-    ensures { LeadsTold tables.old client number (Watch id queue watch) result tables.new }
+    ensures step { LeadsTold tables.old client number (Watch id queue watch) result tables.new }
+    ensures memory { IsErrOf result Fault.Memory → ends_watch watch ≡ false }
 {
     let context = tables.context_of(client, number)?;
     let asked = watch_id(watch)?;

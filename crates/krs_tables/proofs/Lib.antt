@@ -9,3 +9,4 @@ pub mod MadeTwo
 pub mod PostsAndSweep
 pub mod WatchedKeys
 pub mod Removals
+pub mod Wanting

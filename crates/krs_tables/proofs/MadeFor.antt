@@ -15,8 +15,6 @@ use Rattle.krs_types.specs.declared.context.Context.{Context}
 use Rattle.krs_types.specs.declared.context.UidRings.{UidRings}
 use Rattle.krs_types.specs.declared.key_id.KeyId.{KeyId}
 use Rattle.krs_types.specs.declared.key_id.KeyId.TheVariants as id
-use Rattle.krs_types.specs.declared.fault.Fault.{Fault}
-use Rattle.krs_types.specs.declared.fault.Fault.TheVariants.{Memory, Refused}
 use Rattle.krs_types.specs.declared.rights.Want.TheVariants.{Granted}
 use Rattle.krs_types.specs.Rights.{LINK}
 use Rattle.krs_types.specs.KeyId.{key_id_of}
@@ -33,7 +31,7 @@ use Rattle.krs_model.specs.Asks.Adding.{Place, Made, admitted, new_key, made, ad
 use Rattle.krs_model.specs.Asks.Changing.{changed}
 use Rattle.krs_model.specs.Asks.Linked.{unless, name_of, linked_into, linked, link}
 use Rattle.krs_model.specs.Asks.Finding.{got, get_id}
-use Rattle.krs_model.specs.Outcome.{Outcome, Fails}
+use Rattle.krs_model.specs.Outcome.{Outcome}
 use Rattle.krs_model.specs.Sound as model
 use Rattle.krs_model.proofs.Reach.Levels.{same_is, in_left, in_right}
 use Rattle.krs_model.proofs.Sound.Attached.{uid_keys, attached_at, in_uid}
@@ -305,13 +303,12 @@ link_to_other special s client number c key ring new own coming =
     (look_up_other s t c d (special_name special).desc (before special c) (behind special s c) key (Granted LINK)
     new.made new.fit.none other)
 
--- a look-up that fails, fails the link
+-- a look-up that is refused, refuses the link
 pub link_unlooked :
-    (special : Special) (s : State) (client number : ℕ) (c : Context) (key ring : ℤ) (e : Fault)
+    (special : Special) (s : State) (client number : ℕ) (c : Context) (key ring : ℤ) (e : Errno)
     → IsNew special s number c ring → context_of s client number ≡ Ok c → is_coming special s.next_serial key ≡ false
-    → Fails e (look_up s c key (Granted LINK)) → Fails e (link s client number key ring)
-link_unlooked special s client number c key ring Memory new own coming fails = tt
-link_unlooked special s client number c key ring (Refused x) new own coming fails =
+    → look_up s c key (Granted LINK) ≡ Err e → link s client number key ring ≡ Err e
+link_unlooked special s client number c key ring e new own coming fails =
     link_to_other special s client number c key ring new own coming
     ∙ ap (λ (r : Result (ℕ × Key) Errno). within_serials s (r >>= links_new special s number c)) fails
 

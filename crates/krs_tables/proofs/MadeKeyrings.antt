@@ -1,7 +1,7 @@
 -- A thread or process keyring that is made and attached: what it comes to in the definitions, and who holds what.
 use Rattle.std.proofs.Common.{◌≡◌, ◌+◌, ◌≤◌, ℕ, List, [], ◌∷◌, ◌++◌, Option, Some, None, true, false}
 use Rattle.std.proofs.Common.{refl, ap, ◌∙◌, sym, subst, arith, ⊎_elim}
-use Rattle.std.specs.Prelude.{nat_lt, Result, Ok, codes, IfOk}
+use Rattle.std.specs.Prelude.{nat_lt, Result, Ok, codes, IfOk, IsOk}
 use Rattle.std.specs.Option.{IsSome, option_map, option_to_list, unwrap_or}
 use Rattle.std.specs.Ordering.{nat_cmp, match_ordering}
 use Rattle.std.specs.declared.cmp.Ordering.TheVariants.{Less, Equal, Greater}
@@ -52,6 +52,7 @@ use Rattle.krs_tables.specs.View.{state_of, IsConsistent}
 use Rattle.krs_tables.proofs.Owners.{own_there}
 use Rattle.krs_model.proofs.Sound.NewContexts.{own_process_there}
 use Rattle.krs_tables.proofs.Links.{name_kept}
+use Rattle.krs_tables.proofs.Wanting.{accepted}
 
 -- the new keyring is attached once, and all else as often as before
 pub attached_times :
@@ -278,6 +279,15 @@ alone_done special s new client number n c maker own e few is serial =
     let made : new ≡ t = is ∙ (ap (λ (m : Maker). ring_at special m [] s) e ∙ sym (ring_alone special s number c)) in
     rw (own, made, serial) (within_next s t (Number s.next_serial) (ring_next special s number c) few)
 
+-- it is accepted where a serial is left
+pub alone_accepted :
+    (special : Special) (s : model.State) (client number : ℕ) (c : Context) → context_of s client number ≡ Ok c
+    → s.next_serial ≤ 2147483647 → IsOk (ring_made special s client number)
+alone_accepted special s client number c own few =
+    let maker = maker_of number c in
+    accepted _ _ (alone_done special s (ring_at special maker [] s) client number s.next_serial c maker own refl few refl
+    refl)
+
 -- what is changed where it was put
 pub alter_put : {X : Type 0} (es : Table X) (k : ℕ) (v : X) (f : X → X) → alter (put es k v) k f ≡ put es k (f v)
 alter_put {X = X} [] k v f = rw (is_at_same k) refl
@@ -317,3 +327,13 @@ linking_done special s new client number k c maker key answer own e there short 
     is ∙ (ap (λ (m : Maker). ring_at special m (k ∷ []) s) e
     ∙ sym (ring_linking special s number c t.keys (name_of key) k)) in
     rw (own, there, short, made) (within_next s linked answer (ring_next special s number c) few)
+
+-- it is accepted where the key nests no keyring too deep and a serial is left
+pub linking_accepted :
+    (special : Special) (s : model.State) (client number k : ℕ) (c : Context) (key : model.Key) (answer : Answer)
+    → context_of s client number ≡ Ok c → at s.keys k ≡ Some key → has_chain s.keys k 6 ≡ false
+    → s.next_serial ≤ 2147483647 → IsOk (linking_made special s client number k answer)
+linking_accepted special s client number k c key answer own there short few =
+    let maker = maker_of number c in
+    accepted _ _ (linking_done special s (ring_at special maker (k ∷ []) s) client number k c maker key answer own refl
+    there short few refl)

@@ -2,7 +2,7 @@
 use Rattle.std.proofs.Common.{◌≡◌, ℕ, ◌+◌, ◌<◌, ◌≤◌, List, [], ◌∷◌, Option, Some, None, true, false, cond, Ok}
 use Rattle.std.proofs.Common.{refl, ap, ◌∙◌, sym, subst, arith}
 use Rattle.std.specs.Option.{option_to_list, is_some, option_map}
-use Rattle.std.specs.Prelude.{nat_lt}
+use Rattle.std.specs.Prelude.{nat_lt, IsOk}
 use Rattle.std.specs.Ordering.{nat_cmp, match_ordering}
 use Rattle.std.specs.declared.cmp.Ordering.TheVariants.{Less, Equal, Greater}
 use Rattle.std.specs.BTreeMap.{is_at}
@@ -24,6 +24,7 @@ use Rattle.krs_hold.specs.Tally.{number_at, with_number, one_more, all_less, Are
 use Rattle.krs_hold.proofs.Tallies.{number_other}
 use Rattle.krs_hold.proofs.Places.{is_some_alter}
 use Rattle.krs_ctx.specs.Anchors.{Anchors}
+use Rattle.krs_tables.proofs.Wanting.{accepted}
 use Rattle.krs_tables.specs.declared.tables.Tables.TheInside.{Inside}
 use Rattle.krs_tables.specs.declared.making.Special.{Special}
 use Rattle.krs_tables.specs.declared.making.Maker.{Maker}
@@ -215,3 +216,14 @@ adding_told special s new client number serial name payload c maker own of_clien
       made t s.next_serial name (new_key name payload c.caller.uid c.caller.gid),
       Number (s.next_serial + 1),
     )) (ring_alone special s number c))
+
+-- it is accepted where two serials are left
+pub adding_accepted :
+    (special : Special) (s : model.State) (client number : ℕ) (name : Name) (payload : List ℕ) (c : Context)
+    → context_of s client number ≡ Ok c → s.next_serial ≤ 2147483646
+    → IsOk (adding_made special s client number name payload)
+adding_accepted special s client number name payload c own left =
+    let maker = maker_of number c in
+    accepted _ _ (adding_told special s
+    (made (ring_at special maker [] s) s.next_serial name (new_key name payload maker.uid maker.gid)) client number
+    (s.next_serial + 1) name payload c maker own refl left refl refl)

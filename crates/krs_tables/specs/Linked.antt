@@ -1,16 +1,16 @@
 -- What the store tells of one link more, or one less.
-use Rattle.std.specs.Prelude.{◌≡◌, ℕ, true, false, Option, Result, Ok, Err, IsOk}
+use Rattle.std.specs.Prelude.{◌≡◌, ℕ, true, false, Option, Result, Ok, Err}
 use Rattle.std.specs.Option.{option_map}
 use Rattle.krs_types.specs.declared.errno.Errno.{Errno}
 use Rattle.krs_types.specs.declared.errno.Errno.TheVariants.{ENOENT}
 use Rattle.krs_types.specs.declared.fault.Fault.{Fault}
-use Rattle.krs_types.specs.declared.fault.Fault.TheVariants.{Memory, Refused}
 use Rattle.krs_types.specs.declared.name.Name.{Name}
 use Rattle.krs_model.specs.Table.{Table, at}
 use Rattle.krs_model.specs.State.{State, Key}
 use Rattle.krs_model.specs.Levels.{is_in}
 use Rattle.krs_model.specs.Reach.{links_of_key_at}
 use Rattle.krs_model.specs.Linking.{linking, link_named, has_room}
+use Rattle.krs_model.specs.Outcome.{Fails}
 use Rattle.krs_model.specs.Asks.Changing.{changed}
 use Rattle.krs_model.specs.Asks.Linked.{name_of, without_link}
 
@@ -22,16 +22,11 @@ name_in s serial = option_map name_of (at s.keys serial)
 abbrev pub room_in : Table Key → ℕ → Name → Result (Unit {0}) Errno
 room_in keys ring name = has_room (links_of_key_at keys ring) (link_named keys name (links_of_key_at keys ring))
 
--- refused as is meant; or memory is wanting, which is found out last, behind each refusal
-abbrev pub FailsLast : {Y : Type 0} → Fault → Result Y Errno → Type 0
-FailsLast Memory meant = IsOk meant
-FailsLast (Refused e) meant = meant ≡ Err e
-
 -- the keyring links the key, where there is room, and then memory; else nothing has changed
 abbrev pub Puts : State → Result (Unit {0}) Fault → State → ℕ → Name → ℕ → Type 0
 Puts old (Ok done) new ring name serial =
     (room_in old.keys ring name ≡ Ok tt) × (new ≡ changed old ring (linking old.keys name serial))
-Puts old (Err e) new ring name serial = FailsLast e (room_in old.keys ring name) × (new ≡ old)
+Puts old (Err e) new ring name serial = Fails e (room_in old.keys ring name) × (new ≡ old)
 
 -- the keyring does not link the key any more, where it did; else nothing has changed
 abbrev pub Takes : State → Result (Unit {0}) Errno → State → ℕ → ℕ → Type 0

@@ -19,7 +19,6 @@ use krs_ctx::Contexts;
 use krs_keys::{Content, Key, LAST_SERIAL};
 use krs_links::Links;
 use krs_types::{Answer, Blob, Body, Context, Desc, Errno, Fault, KeyId, Kind, Name, Perm, Serial};
-use krs_walk::Walker;
 use std::alloc::{AllocError, Global};
 
 /// A keyring that an ask makes where it wants it and there is none: thread-keyring(7), process-keyring(7).
@@ -135,7 +134,7 @@ impl Tables {
     }
 
     /// A serial is left for one more key: profile, serials run out.
-    fn check_serial(&self) -> Result<(), Errno>
+    pub fn check_serial(&self) -> Result<(), Errno>
         ensures ok { OnOk result (self.now.next_serial ≤ 2147483647) }
         ensures err { OnErr result (2147483648 ≤ self.now.next_serial) }
         ensures error { IfErr result (λ e. e ≡ ENOSPC) }
@@ -178,7 +177,7 @@ impl Tables {
     {
         let maker = Maker::of(number, self.context_of(client, number)?);
         let key = self.key(serial).ok_or(Errno::ENOKEY)?;
-        let _height = Walker::new(self.alloc).height_of(&self.keys, serial)?;
+        let _height = self.walker.height_of(&self.keys, serial)?;
         self.check_serial()?;
         let links = one_link(self.alloc, &key.name, serial)?;
         self.make_ring(special, maker, links, Some(serial))?;
@@ -204,6 +203,7 @@ impl Tables {
         let key = special.key(self.alloc, maker, links)?;
         check_room(&self.holders, &linked)?;
         make_room(&mut self.holders, ring)?;
+        self.make_walk_room(1)?;
         match self.keys.insert(key) {
             Ok(_) => {
                 special.attach(&mut self.contexts, maker, ring);
@@ -257,6 +257,7 @@ impl Tables {
         let (ring, key) = two_keys(self.alloc, special, maker, two, name, payload)?;
         make_room(&mut self.holders, one)?;
         make_room(&mut self.holders, two)?;
+        self.make_walk_room(2)?;
         match self.keys.insert_two(ring, key) {
             Ok(_) => {
                 special.attach(&mut self.contexts, maker, one);

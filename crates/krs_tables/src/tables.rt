@@ -4,7 +4,7 @@ ghost use Rattle.krs_model.specs.Table.{at};
 ghost use Rattle.krs_model.specs.State.{starting_at, raised};
 ghost use Rattle.krs_model.specs.Possession.{process_ring, possessed};
 ghost use Rattle.krs_model.specs.Lookup.{context_of, serial_of, look_up};
-ghost use Rattle.krs_model.specs.Outcome.{Gives, Is};
+ghost use Rattle.krs_model.specs.Outcome.{Is};
 ghost use Rattle.krs_tables.specs.Serving.{SweepsOut};
 ghost use Rattle.krs_model.specs.Sweep.{live_watches};
 ghost use Rattle.krs_model.specs.Reach.{IsAcyclic, links_of_key_at};
@@ -16,13 +16,14 @@ ghost use Rattle.krs_tables.specs.Granting.{grants_to};
 use krs_ctx::Contexts;
 use krs_hold::Holders;
 use krs_keys::{Change, Key, KeyTable};
-use krs_types::{Context, Errno, Fault, KeyId, Serial, Want};
+use krs_types::{Context, Errno, KeyId, Serial, Want};
 use krs_walk::Walker;
 use krs_watch::WatchQueues;
 use std::alloc::{AllocError, Global};
 use std::marker::Model;
 
-/// All that a store has. An ask is a function over it, or over its parts.
+/// All that a store has. An ask is a function over it, or over its parts. The walker keeps its room from one walk to the
+/// next; it is no part of what contracts see.
 #[derive(Drop)]
 pub struct Tables {
     pub keys: KeyTable,
@@ -30,6 +31,7 @@ pub struct Tables {
     pub queues: WatchQueues,
     pub clock: u64,
     pub holders: Holders,
+    pub walker: Walker,
     pub alloc: Global,
 }
 
@@ -57,6 +59,7 @@ impl Tables {
             queues: WatchQueues::new(alloc),
             clock: 0,
             holders: Holders::new(alloc),
+            walker: Walker::new(alloc),
             alloc,
         }
     }
@@ -77,11 +80,12 @@ impl Tables {
 
     /// Whether a context possesses a key: keyrings(7), "Possession".
     #[tactic(auto, unfolding(krs_model::specs::Possession::possessed))]
-    pub fn possesses(&self, context: &Context, serial: Serial) -> Result<bool, AllocError>
-        ensures { IfOk result (λ b. b ≡ possessed self.now context.now serial) }
+    pub fn possesses(&self, context: &Context, serial: Serial) -> bool
+        ensures { result ≡ possessed self.now context.now serial }
     {
         let ring = self.process_ring(context.process);
-        Walker::new(self.alloc).possesses(&self.keys, context, ring, self.clock, serial)
+        self.walker
+            .possesses(&self.keys, context, ring, self.clock, serial)
     }
 
     /// The serial that an id stands for.
@@ -120,40 +124,34 @@ impl Tables {
 
     /// The key that an id names, where it grants what is wanted.
     #[tactic(auto, unfolding(krs_model::specs::Lookup::look_up))]
-    pub fn look_up(&self, context: &Context, id: i32, want: Want) -> Result<(u32, &Key), Fault>
-        ensures found { Gives (λ x. (x.0, seen x.1.now)) result (look_up self.now context.now id want) }
+    pub fn look_up(&self, context: &Context, id: i32, want: Want) -> Result<(u32, &Key), Errno>
+        ensures found { Is (λ x. (x.0, seen x.1.now)) result (look_up self.now context.now id want) }
         ensures named { IfOk result (λ x. FindsByName self.now.keys x.1.now) }
     {
         let serial = self.serial_of(context, id)?;
         let key = self.key(serial).ok_or(Errno::ENOKEY)?;
         if key.revoked {
-            return Err(Fault::Refused(Errno::EKEYREVOKED));
+            return Err(Errno::EKEYREVOKED);
         }
         if key.is_over(self.clock) {
-            return Err(Fault::Refused(Errno::EKEYEXPIRED));
+            return Err(Errno::EKEYEXPIRED);
         }
-        if !self.grants(context, serial, key, want)? {
-            return Err(Fault::Refused(Errno::EACCES));
+        if !self.grants(context, serial, key, want) {
+            return Err(Errno::EACCES);
         }
         Ok((serial.number(), key))
     }
 
     /// Whether a key grants a context what is wanted. Possession is looked for only where it may add something: what is
     /// granted without it is granted with it.
-    pub fn grants(
-        &self,
-        context: &Context,
-        serial: Serial,
-        key: &Key,
-        want: Want,
-    ) -> Result<bool, AllocError>
-        ensures { IfOk result (λ b. b ≡ grants_to self.now context.now serial (seen key.now) want) }
+    pub fn grants(&self, context: &Context, serial: Serial, key: &Key, want: Want) -> bool
+        ensures { result ≡ grants_to self.now context.now serial (seen key.now) want }
     {
         if want.allows(key.grants(&context.caller, false), false) {
-            return Ok(true);
+            return true;
         }
-        let possessed = self.possesses(context, serial)?;
-        Ok(want.allows(key.grants(&context.caller, possessed), possessed))
+        let possessed = self.possesses(context, serial);
+        want.allows(key.grants(&context.caller, possessed), possessed)
     }
 
     /// Changes the key at a serial, and nothing else.
@@ -162,6 +160,11 @@ impl Tables {
     {
         self.holders.let_go_taken(&self.keys, serial, &change);
         self.keys.set(serial, change);
+    }
+
+    /// Room for walks over so many keys more: it is made before the keys are.
+    pub fn make_walk_room(&self, more: usize) -> Result<(), AllocError> {
+        self.walker.room_for(self.keys.len().saturating_add(more))
     }
 
     /// The clock is at least at this moment from now on.

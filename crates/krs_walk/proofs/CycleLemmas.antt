@@ -1,7 +1,7 @@
 -- Laws of a walk from a key that goes along links until it comes to a goal.
 use Rattle.std.proofs.Common.{◌≡◌, ◌≤◌, ◌<◌, ◌+◌, ◌-◌, ℕ, suc, ◌==◌, ◌||◌, true, false, Bool, List, [], ◌∷◌, ◌++◌}
 use Rattle.std.proofs.Common.{length, take, get_or, eqb, refl, ap, ◌∙◌, sym, subst, inl, inr, ⊎_elim, arith, map}
-use Rattle.std.proofs.Common.{cond, Option, None, Some, is_some}
+use Rattle.std.proofs.Common.{cond, Option, None, Some, is_some, ◌↔◌}
 use Rattle.std.proofs.lemmas.Bool.{true≢false, cases_lt}
 use Rattle.std.proofs.lemmas.Bool.Decides.{nat_tests}
 use Rattle.std.proofs.lemmas.List.{take_more, take-append-le, take_all, length-append, length-map, get_or_append_left}
@@ -18,9 +18,14 @@ use Rattle.krs_model.proofs.Reach.Levels.{levels_on}
 use Rattle.krs_model.proofs.Tables.Changes.{same_at}
 use Rattle.krs_walk.specs.Lists.{join}
 use Rattle.krs_model.specs.Laws.{ClosesCycle}
-use Rattle.krs_keys.specs.Keys.{OnlyRingsLink}
+use Rattle.krs_keys.specs.Keys.{OnlyRingsLink, shown, seen}
+use Rattle.krs_keys.specs.declared.key as declared
+use Rattle.std.specs.Map.{keys_of}
+use Rattle.krs_model.proofs.Reach.Acyclic.{IsClosed, closed_levels}
+use Rattle.krs_model.proofs.Reach.Cycles.{there_in}
+use Rattle.krs_walk.specs.Walks.{is_nested_within}
 use Rattle.krs_walk.proofs.ListsLemmas.{Within, fresh, join_fresh, in_join, in_join_left, in_append, in_head, in_tail}
-use Rattle.krs_walk.proofs.ListsLemmas.{in_cons, in_none, in_single, same_is, is_same}
+use Rattle.krs_walk.proofs.ListsLemmas.{in_cons, in_none, in_single, same_is, is_same, same_tests}
 use Rattle.krs_walk.proofs.LevelsLemmas.{Covers, covers_more, levels_next, levels_fewer}
 use Rattle.krs_walk.proofs.ReachLemmas.{one_more, nested_fewer, nested_ring, closes_links, closes_nested, from_levels}
 use Rattle.krs_walk.proofs.MarksLemmas.{no_longer, none_twice, distinct_push}
@@ -254,3 +259,39 @@ pub self_closes : (keys : Table Key) (key goal : ℕ) → is_some (at keys key) 
 self_closes keys key goal there e =
     found_closes keys key goal 0 (key ∷ []) there (walk_starts (nested_in keys) key goal (key ∷ []) refl)
     (distinct_push [] key (none_twice [] refl) refl) (omega arith) e
+
+-- the levels from a key, as many as there are keys, have what is reached from it
+within_reached : (keys : Table Key) (key ring : ℕ) → OnlyRingsLink keys → is_some (at keys key) ≡ true
+    → is_ring (at keys ring) ≡ true → ClosesCycle (links_of_key_at keys) key ring
+    → is_nested_within keys ring (length keys) key ≡ true
+within_reached keys key ring only there is closing =
+    let closed : IsClosed (nested_in keys) (keys_of keys) =
+    λ j k i h. there_in keys k (ring_there (at keys k) (nested_ring keys j k h)) in
+    let found = closed_levels (nested_in keys) (keys_of keys) key ring (there_in keys key there) closed
+    (closes_nested keys key ring only is closing) in
+    subst (λ (n : ℕ). is_in ring (levels (nested_in keys) (key ∷ []) n) ≡ true) (length-map keys (λ e. e.0)) found
+
+reached_within : (keys : Table Key) (key ring n : ℕ) → is_nested_within keys ring n key ≡ true
+    → ClosesCycle (links_of_key_at keys) key ring
+reached_within keys key ring n m = closes_links keys key ring (from_levels (nested_in keys) key n ring m)
+
+-- so they tell whether a cycle is closed
+pub within_closes : (keys : Table Key) (key ring n : ℕ) → OnlyRingsLink keys → is_some (at keys key) ≡ true
+    → is_ring (at keys ring) ≡ true → n ≡ length keys → is_nested_within keys ring n key ≡ closes keys key ring
+unfolding closes
+within_closes keys key ring n only there is all =
+    ap (λ (z : ℕ). is_nested_within keys ring z key) all
+    ∙ same_tests (is_nested_within keys ring (length keys) key) (closes keys key ring)
+    (λ m. levels_fewer (nested_in keys) (links_of_key_at keys) (key ∷ []) (length keys) ring (nested_fewer keys) m)
+    (λ m. within_reached keys key ring only there is (from_levels (links_of_key_at keys) key (length keys) ring m))
+
+pub within_reaches : (keys : Table Key) (key ring n : ℕ) → OnlyRingsLink keys → is_some (at keys key) ≡ true
+    → is_ring (at keys ring) ≡ true → n ≡ length keys
+    → (is_nested_within keys ring n key ≡ true) ↔ ClosesCycle (links_of_key_at keys) key ring
+within_reaches keys key ring n only there is all = (
+  reached_within keys key ring n,
+  λ closing. ap (λ (z : ℕ). is_nested_within keys ring z key) all ∙ within_reached keys key ring only there is closing,
+)
+
+pub shown_length : (keys : Table declared.Key.Key) → length (shown keys) ≡ length keys
+shown_length keys = length-map keys (λ (e : ℕ × declared.Key.Key). (e.0, seen e.1))

@@ -29,6 +29,7 @@ use Rattle.krs_keys.specs.Keys.{OnlyRingsLink}
 use Rattle.krs_walk.specs.Searching.{entered_rings}
 use Rattle.krs_walk.proofs.ListsLemmas.{fresh, join_fresh, join_append, any_join, in_none, in_head, in_cons}
 use Rattle.krs_walk.proofs.LevelsLemmas.{Covers, follow_fresh, at_next}
+use Rattle.krs_walk.proofs.DepthLemmas.{levels_unrolled, levels_below, flat_flat}
 use Rattle.krs_walk.proofs.HeldLemmas.{walk_at, joined_front}
 use Rattle.krs_walk.proofs.RoundsLemmas.{longer}
 
@@ -75,33 +76,8 @@ sought_once by name f first rings =
     ∙ (ap (sought by name) (sym (follow_fresh f (join [] first) [] rings none))
     ∙ sym (joined (flat_map f rings))))
 
--- the levels are the heads, and what the levels above link
-levels_unrolled : (f : ℕ → List ℕ) (heads : List ℕ) (n : ℕ)
-    → levels f heads (suc n) ≡ heads ++ flat_map f (levels f heads n)
-unfolding level levels
-levels_unrolled f heads zero = sym (append-nil heads)
-levels_unrolled f heads (suc n) =
-    ap (λ (zs : List ℕ). zs ++ level f heads (suc n)) (levels_unrolled f heads n)
-    ∙ (append_assoc heads (flat_map f (levels f heads n)) (flat_map f (level f heads n))
-    ∙ ap (λ (zs : List ℕ). heads ++ zs) (sym (flat_map-append f (levels f heads n) (level f heads n))))
-
-level_below : (f : ℕ → List ℕ) (heads : List ℕ) (n : ℕ) → level f heads (suc n) ≡ level f (flat_map f heads) n
-unfolding level
-level_below f heads zero = refl
-level_below f heads (suc n) = ap (flat_map f) (level_below f heads n)
-
--- and the heads, and the levels of what they link
-levels_below : (f : ℕ → List ℕ) (heads : List ℕ) (n : ℕ) → levels f heads (suc n)
-    ≡ heads ++ levels f (flat_map f heads) n
-unfolding level levels
-levels_below f heads zero = sym (append-nil heads)
-levels_below f heads (suc n) =
-    ap (λ (zs : List ℕ). zs ++ level f heads (suc n)) (levels_below f heads n)
-    ∙ (append_assoc heads (levels f (flat_map f heads) n) (level f heads (suc n))
-    ∙ ap (λ (zs : List ℕ). heads ++ (levels f (flat_map f heads) n ++ zs)) (level_below f heads n))
-
 -- what has no part in a list may be left out of it
-abbrev RingsAlone : (ℕ → Bool) → (ℕ → List ℕ) → Type 0
+abbrev pub RingsAlone : (ℕ → Bool) → (ℕ → List ℕ) → Type 0
 RingsAlone ring f = (j : ℕ) → ring j ≡ false → f j ≡ []
 
 flat_rings : (ring : ℕ → Bool) (f : ℕ → List ℕ) (xs : List ℕ) → RingsAlone ring f
@@ -113,11 +89,6 @@ flat_rings ring f (x ∷ xs) alone =
       | true ↦ λ t. ap (λ zs. f x ++ zs) (flat_rings ring f xs alone)
       | false ↦ λ t. flat_rings ring f xs alone ∙ ap (λ zs. zs ++ flat_map f xs) (sym (alone x t))
     ] refl
-
-flat_flat : (f g : ℕ → List ℕ) (xs : List ℕ) → flat_map f (flat_map g xs) ≡ flat_map (λ x. flat_map f (g x)) xs
-flat_flat f g [] = refl
-flat_flat f g (x ∷ xs) =
-    flat_map-append f (g x) (flat_map g xs) ∙ ap (λ zs. flat_map f (g x) ++ zs) (flat_flat f g xs)
 
 flat_same : (f g : ℕ → List ℕ) (xs : List ℕ) → ((j : ℕ) → f j ≡ g j) → flat_map f xs ≡ flat_map g xs
 flat_same f g [] same = refl
@@ -138,7 +109,7 @@ level_rings ring links f heads (suc n) alone own =
     (λ j. sym (flat_rings ring f (links j) own))
     ∙ sym (flat_flat f (λ (j : ℕ). filter ring (links j)) (level (λ j. filter ring (links j)) heads n))))
 
-levels_rings : (ring : ℕ → Bool) (links : ℕ → List ℕ) (heads : List ℕ) (n : ℕ) → RingsAlone ring links →
+pub levels_rings : (ring : ℕ → Bool) (links : ℕ → List ℕ) (heads : List ℕ) (n : ℕ) → RingsAlone ring links →
     flat_map links (levels links heads n) ≡ flat_map links (levels (λ j. filter ring (links j)) heads n)
 unfolding levels
 levels_rings ring links heads zero alone = refl
@@ -163,7 +134,7 @@ entered_linked by serial k (Some key) m =
       | false ↦ λ n. absurd (in_none k n)
     ] m
 
-rings_alone : (by : Searcher) → OnlyRingsLink by.keys → RingsAlone (λ k. is_ring (at by.keys k)) (entered by)
+pub rings_alone : (by : Searcher) → OnlyRingsLink by.keys → RingsAlone (λ k. is_ring (at by.keys k)) (entered by)
 rings_alone by only j none =
     empty_of (entered by j) (λ k m. true≢false (sym (only j k (entered_linked by j k (at by.keys j) m)) ∙ none))
 

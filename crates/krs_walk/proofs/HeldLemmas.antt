@@ -20,7 +20,8 @@ use Rattle.krs_walk.proofs.ListsLemmas.{fresh, join_fresh, join_append, any_join
 use Rattle.krs_walk.proofs.LevelsLemmas.{IsAt, at_next, levels_next, levels_fewer}
 use Rattle.krs_walk.proofs.CycleLemmas.{levels_up}
 use Rattle.krs_walk.proofs.RoundsLemmas.{longer}
-use Rattle.krs_walk.proofs.PossessionLemmas.{same_tests, levels_rings, rings_fewer, followed_linked}
+use Rattle.krs_walk.proofs.ListsLemmas.{same_tests}
+use Rattle.krs_walk.proofs.PossessionLemmas.{levels_rings, rings_fewer, followed_linked}
 
 -- what the list before has been given, and what has joined it
 pub joined_front : (all xs next : List ℕ) → next ≡ join all xs → take (length all) next ≡ all
@@ -81,17 +82,22 @@ first_held s h l b e =
       before = ap (λ (z : ℕ). take z h.seen) b ∙ ap (λ (z : ℕ). join [] (held_to s z)) (sym none);
     }
 
-none_begun : (s : Search) (h : HeldRings) → AreHeld s h → h.levels ≡ 0 → h.start ≡ 0
+none_seen : (s : Search) (h : HeldRings) → AreHeld s h → h.levels ≡ 0 → h.seen ≡ []
 unfolding levels
+none_seen s h held l = held.walked ∙ ap (λ (z : ℕ). join [] (held_to s z)) l
+
+none_begun : (s : Search) (h : HeldRings) → AreHeld s h → h.levels ≡ 0 → h.start ≡ 0
 none_begun s h held l =
-    let none : length h.seen ≡ 0 = ap length (held.walked ∙ ap (λ (z : ℕ). join [] (held_to s z)) l) in
+    let none : length h.seen ≡ 0 = ap length (none_seen s h held l) in
     let within : h.start ≤ length h.seen = held.within in
     omega arith
 
 -- from none to the first
 pub begun_held : (s : Search) (h next : HeldRings) → AreHeld s h → h.levels ≡ 0 → next.levels ≡ h.levels + 1
-    → next.start ≡ h.start → next.seen ≡ join [] (attached_with s.context.now s.process_ring) → AreHeld s next
-begun_held s h next held l m b e = first_held s next (m ∙ ap (λ (z : ℕ). z + 1) l) (b ∙ none_begun s h held l) e
+    → next.start ≡ h.start → next.seen ≡ join h.seen (attached_with s.context.now s.process_ring) → AreHeld s next
+begun_held s h next held l m b e =
+    first_held s next (m ∙ ap (λ (z : ℕ). z + 1) l) (b ∙ none_begun s h held l)
+    (e ∙ ap (λ zs. join zs (attached_with s.context.now s.process_ring)) (none_seen s h held l))
 
 -- the next
 pub next_held : (s : Search) (h next : HeldRings) → AreHeld s h → (h.levels ≡ 0 → ⊥) → h.levels < 8

@@ -1,6 +1,7 @@
 pub mod ListsLemmas
 pub mod MarksLemmas
 pub mod LevelsLemmas
+pub mod DepthLemmas
 pub mod ReachLemmas
 pub mod CycleLemmas
 pub mod HeightLemmas
@@ -12,3 +13,4 @@ pub mod SoughtLemmas
 pub mod SearchLemmas
 pub mod VisitingLemmas
 pub mod FindingLemmas
+pub mod DescentLemmas

@@ -56,6 +56,12 @@ in_none k h = true≢false (sym h)
 pub in_single : (k x : ℕ) → is_in k (x ∷ []) ≡ true → k ≡ x
 in_single k x h = ⊎_elim (λ (e : k ≡ x). e) (λ (no : is_in k [] ≡ true). absurd (in_none k no)) (in_cons k x [] h)
 
+-- two tests that pass together are one
+pub same_tests : (a b : Bool) → (a ≡ true → b ≡ true) → (b ≡ true → a ≡ true) → a ≡ b
+same_tests true b f g = sym (f refl)
+same_tests false true f g = g refl
+same_tests false false f g = refl
+
 -- each of the first is in the second
 abbrev pub Within : List ℕ → List ℕ → Type 0
 Within xs ys = (k : ℕ) → is_in k xs ≡ true → is_in k ys ≡ true

@@ -26,17 +26,11 @@ use Rattle.krs_keys.specs.Keys.{OnlyRingsLink}
 use Rattle.krs_walk.specs.Walks.{followed_rings}
 use Rattle.krs_walk.specs.Walks.{is_linked, is_found}
 use Rattle.krs_walk.proofs.ListsLemmas.{in_none, in_one, in_left, in_right, in_head, in_tail, is_same, or_left}
-use Rattle.krs_walk.proofs.ListsLemmas.{or_right, or_one, any_at}
+use Rattle.krs_walk.proofs.ListsLemmas.{or_right, or_one, any_at, same_tests}
 use Rattle.krs_walk.proofs.LevelsLemmas.{Fewer, in_flat_map, levels_from, levels_next, levels_fewer}
 use Rattle.krs_walk.proofs.ReachLemmas.{in_filter, from_filter}
 use Rattle.krs_walk.proofs.CycleLemmas.{levels_up}
 use Rattle.krs_walk.proofs.KeyringsLemmas.{nested_serials}
-
--- two tests that pass together are one
-pub same_tests : (a b : Bool) → (a ≡ true → b ≡ true) → (b ≡ true → a ≡ true) → a ≡ b
-same_tests true b f g = sym (f refl)
-same_tests false true f g = g refl
-same_tests false false f g = refl
 
 -- a list that passes has one that does
 pub any_from : (p : ℕ → Bool) (xs : List ℕ) → list_any p xs ≡ true → (j : ℕ) × (is_in j xs ≡ true) × (p j ≡ true)

@@ -1,7 +1,7 @@
 -- The keyrings of a level, visited one after the other.
 use Rattle.std.proofs.Common.{◌≡◌, ◌≤◌, ◌<◌, ◌+◌, ℕ, List, length, drop, get_or, Result, Err, ap, ◌∙◌, sym, arith}
 use Rattle.std.specs.List.{flat_map}
-use Rattle.std.proofs.lemmas.List.{drop_more, get_or_append_left}
+use Rattle.std.proofs.lemmas.List.{drop_all, drop_more, get_or_append_left}
 use Rattle.krs_types.specs.declared.errno.Errno.{Errno}
 use Rattle.krs_types.specs.declared.name.Name.{Name}
 use Rattle.krs_model.specs.Search.{Searcher, entered, sought, or_next}
@@ -9,7 +9,7 @@ use Rattle.krs_model.proofs.Reach.Searches.{sought_append}
 use Rattle.krs_walk.specs.Lists.{join}
 use Rattle.krs_walk.specs.Searching.{entered_rings}
 use Rattle.krs_walk.proofs.RoundsLemmas.{IsRound, Grown, round_more, longer}
-use Rattle.krs_walk.proofs.SoughtLemmas.{next_next}
+use Rattle.krs_walk.proofs.SoughtLemmas.{next_next, next_none}
 
 -- the keyrings of a level before this place were visited: their links have this fault, what is left gives the rest
 pub record IsVisit (by : Searcher) (name : Name) (first all : List ℕ) (start place : ℕ)
@@ -19,16 +19,37 @@ pub record IsVisit (by : Searcher) (name : Name) (first all : List ℕ) (start p
   pub left : or_next (Err fault) (sought by name (flat_map (entered by) (drop place first)))
       ≡ or_next (Err before) (sought by name (flat_map (entered by) (drop start first)))
 
-one_visit : (by : Searcher) (name : Name) (first : List ℕ) (place : ℕ) (fault : Errno) → place < length first →
-    or_next (Err fault) (sought by name (flat_map (entered by) (drop place first)))
-    ≡ or_next (or_next (Err fault) (sought by name (entered by (get_or first place 0))))
-    (sought by name (flat_map (entered by) (drop (place + 1) first)))
-one_visit by name first place fault lt =
-    ap (λ (zs : List ℕ). or_next (Err fault) (sought by name (flat_map (entered by) zs))) (drop_more first place 0 lt)
-    ∙ (ap (or_next (Err fault)) (sought_append by name (entered by (get_or first place 0))
-    (flat_map (entered by) (drop (place + 1) first)))
-    ∙ sym (next_next (Err fault) (sought by name (entered by (get_or first place 0)))
-    (sought by name (flat_map (entered by) (drop (place + 1) first)))))
+-- the first of some keys, and the others behind it
+one_turn : (by : Searcher) (name : Name) (g : ℕ → List ℕ) (first : List ℕ) (place : ℕ) (fault : Errno)
+    → place < length first →
+    or_next (Err fault) (sought by name (flat_map g (drop place first)))
+    ≡ or_next (or_next (Err fault) (sought by name (g (get_or first place 0))))
+    (sought by name (flat_map g (drop (place + 1) first)))
+one_turn by name g first place fault lt =
+    ap (λ (zs : List ℕ). or_next (Err fault) (sought by name (flat_map g zs))) (drop_more first place 0 lt)
+    ∙ (ap (or_next (Err fault)) (sought_append by name (g (get_or first place 0))
+    (flat_map g (drop (place + 1) first)))
+    ∙ sym (next_next (Err fault) (sought by name (g (get_or first place 0)))
+    (sought by name (flat_map g (drop (place + 1) first)))))
+
+-- one key in its turn, with what those after it come to
+pub turn_goes_on : (by : Searcher) (name : Name) (g : ℕ → List ℕ) (first : List ℕ) (place here : ℕ) (fault : Errno)
+    (r whole : Result ℕ Errno) → place < length first → here ≡ get_or first place 0
+    → or_next (Err fault) (sought by name (flat_map g (drop place first))) ≡ whole
+    → r ≡ or_next (Err fault) (sought by name (g here))
+    → or_next r (sought by name (flat_map g (drop (place + 1) first))) ≡ whole
+turn_goes_on by name g first place here fault r whole lt same rest h =
+    ap (λ (q : Result ℕ Errno). or_next q (sought by name (flat_map g (drop (place + 1) first))))
+    (h ∙ ap (λ (k : ℕ). or_next (Err fault) (sought by name (g k))) same)
+    ∙ (sym (one_turn by name g first place fault lt) ∙ rest)
+
+-- all have had theirs
+pub turns_end : (by : Searcher) (name : Name) (g : ℕ → List ℕ) (first : List ℕ) (place : ℕ) (fault : Errno)
+    (whole : Result ℕ Errno) → length first ≤ place
+    → or_next (Err fault) (sought by name (flat_map g (drop place first))) ≡ whole → Err fault ≡ whole
+turns_end by name g first place fault whole le rest =
+    sym (next_none (Err fault))
+    ∙ (ap (λ (zs : List ℕ). or_next (Err fault) (sought by name (flat_map g zs))) (sym (drop_all place first le)) ∙ rest)
 
 same_place : (first all : List ℕ) (place here : ℕ) → Grown first all → place < length first
     → here ≡ get_or all place 0 → here ≡ get_or first place 0
@@ -43,10 +64,8 @@ pub visited : (by : Searcher) (name : Name) (first all : List ℕ) (start place 
     or_next r (sought by name (flat_map (entered by) (drop (place + 1) first)))
     ≡ or_next (Err before) (sought by name (flat_map (entered by) (drop start first)))
 visited by name first all start place here before fault r v lt e h =
-    let same = same_place first all place here v.round.grown lt e in
-    ap (λ (q : Result ℕ Errno). or_next q (sought by name (flat_map (entered by) (drop (place + 1) first))))
-    (h ∙ ap (λ (k : ℕ). or_next (Err fault) (sought by name (entered by k))) same)
-    ∙ (sym (one_visit by name first place fault lt) ∙ v.left)
+    turn_goes_on by name (entered by) first place here fault r _ lt
+    (same_place first all place here v.round.grown lt e) v.left h
 
 pub visit_goes_on : (by : Searcher) (name : Name) (first all next : List ℕ) (start place here : ℕ)
     (before fault more : Errno) → IsVisit by name first all start place before fault → place < length first

@@ -1,4 +1,3 @@
 pub mod Lists
-pub mod Visits
 pub mod Walks
 pub mod Searching

@@ -1,9 +1,9 @@
 -- What the search goes by, over the keys of the definitions.
-use Rattle.std.specs.Prelude.{◌≡◌, ◌≤◌, ◌-◌, ℕ, Bool, List, [], length, take, filter, flat_map, Result, Ok}
+use Rattle.std.specs.Prelude.{◌≡◌, ◌≤◌, ◌-◌, ℕ, Bool, List, [], ◌∷◌, length, take, filter, flat_map, Result, Ok}
 use Rattle.std.specs.Prelude.{Err}
 use Rattle.krs_types.specs.declared.errno.Errno.{Errno}
 use Rattle.krs_model.specs.Table.{at}
-use Rattle.krs_model.specs.Levels.{levels}
+use Rattle.krs_model.specs.Levels.{level, levels}
 use Rattle.krs_model.specs.Reach.{is_ring}
 use Rattle.krs_model.specs.Search.{Searcher, searcher_with, entered, or_next, searched, sought}
 use Rattle.krs_keys.specs.Keys.{shown}
@@ -45,6 +45,13 @@ rings_by s ring = entered_rings (searcher_for s) ring
 
 abbrev pub rings_from : Search → List ℕ → List ℕ
 rings_from s rings = flat_map (entered_rings (searcher_for s)) rings
+
+-- the links of the keyrings at a level below a keyring
+abbrev pub links_at : Searcher → ℕ → ℕ → List ℕ
+links_at by depth ring = flat_map (entered by) (level (entered_rings by) (ring ∷ []) depth)
+
+abbrev pub links_below : Search → ℕ → ℕ → List ℕ
+links_below s depth ring = links_at (searcher_for s) depth ring
 
 -- whether the context possesses a key
 abbrev pub is_held : Search → ℕ → Bool

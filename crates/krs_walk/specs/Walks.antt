@@ -1,28 +1,30 @@
 -- What the walks answer, over the keys of the definitions.
-use Rattle.std.specs.Prelude.{◌≡◌, ℕ, ◌+◌, List, Bool, true, false, ◌==◌, filter, flat_map, drop, Option}
+use Rattle.std.specs.Prelude.{◌≡◌, ℕ, ◌+◌, List, [], ◌∷◌, Bool, true, false, ◌==◌, filter, flat_map, drop, Option}
 use Rattle.std.specs.Prelude.{None, Some}
 use Rattle.std.specs.List.{list_any}
 use Rattle.krs_types.specs.declared.caller.Caller.{Caller}
 use Rattle.krs_types.specs.declared.context.Context.{Context}
+use Rattle.krs_types.specs.declared.errno.Errno.{Errno}
 use Rattle.krs_types.specs.declared.errno.Errno.TheVariants.{ELOOP}
-use Rattle.krs_types.specs.declared.fault.Fault.{Fault}
-use Rattle.krs_types.specs.declared.fault.Fault.TheVariants.{Memory, Refused}
 use Rattle.krs_model.specs.Table.{Table, at}
 use Rattle.krs_walk.specs.Lists.{join}
 use Rattle.krs_model.specs.State.{Key}
 use Rattle.krs_model.specs.Levels.{levels, is_in}
 use Rattle.krs_model.specs.Possession.{attached_with, followed_at}
-use Rattle.krs_model.specs.Reach.{is_ring, has_chain}
+use Rattle.krs_model.specs.Reach.{is_ring, has_chain, nested_in}
 
 -- the longest chain of nested keyrings that hangs down from the key has that many links: profile, nesting depth
 pub record IsHeight (keys : Table Key) (key height : ℕ) : Type 0 where
   pub chain : has_chain keys key height ≡ true
   pub longest : has_chain keys key (height + 1) ≡ false
 
--- why a height is not told: out of memory; or the chain has 6 links or more. keyctl(2), KEYCTL_LINK, "ELOOP"
-abbrev pub IsTooDeep : Table Key → ℕ → Fault → Type 0
-IsTooDeep keys key Memory = Unit {0}
-IsTooDeep keys key (Refused errno) = (errno ≡ ELOOP) × (has_chain keys key 6 ≡ true)
+-- why a height is not told: the chain has 6 links or more. keyctl(2), KEYCTL_LINK, "ELOOP"
+abbrev pub IsTooDeep : Table Key → ℕ → Errno → Type 0
+IsTooDeep keys key errno = (errno ≡ ELOOP) × (has_chain keys key 6 ≡ true)
+
+-- the keyring is in the first levels of nested keyrings from a key
+abbrev pub is_nested_within : Table Key → ℕ → ℕ → ℕ → Bool
+is_nested_within keys ring depth key = is_in ring (levels (nested_in keys) (key ∷ []) depth)
 
 -- the links to keyrings among those that the possessor of a keyring follows: keyrings(7), "Possession", (4)
 abbrev pub followed_rings : Table Key → ℕ → Caller → ℕ → List ℕ
@@ -31,6 +33,11 @@ followed_rings keys clock caller serial = filter (λ k. is_ring (at keys k)) (fo
 -- a keyring whose possessor follows a link to this key
 abbrev pub follows_link_to : Table Key → ℕ → Caller → ℕ → ℕ → Bool
 follows_link_to keys clock caller serial k = is_in serial (followed_at keys clock caller k)
+
+-- one of the first levels of followed keyrings from this one links it
+abbrev pub is_linked_within : Table Key → ℕ → Caller → ℕ → ℕ → ℕ → Bool
+is_linked_within keys clock caller serial depth k =
+    list_any (follows_link_to keys clock caller serial) (levels (followed_rings keys clock caller) (k ∷ []) depth)
 
 -- what a walk has come to, with the keyrings that are followed from those from a place on
 abbrev pub with_next : Table Key → ℕ → Caller → ℕ → List ℕ → List ℕ

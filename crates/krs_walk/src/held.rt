@@ -1,4 +1,4 @@
-ghost use Rattle.std.specs.Prelude.{◌≡◌, ◌<◌, ◌+◌, true, IfOk, OnOk};
+ghost use Rattle.std.specs.Prelude.{◌≡◌, ◌<◌, ◌+◌, [], true, IfOk, OnOk};
 ghost use Rattle.krs_model.specs.Table.{at};
 ghost use Rattle.krs_model.specs.Reach.{is_ring};
 ghost use Rattle.krs_keys.specs.Keys.{shown, AreFit};
@@ -7,10 +7,10 @@ ghost use Rattle.krs_keys.specs.Keys.{OnlyRingsLink};
 ghost use Rattle.krs_walk.specs.Searching.{is_held, AreHeld};
 
 use crate::Visits;
-use crate::possession::{is_attached, next_level};
+use crate::possession::{is_attached, join_attached, next_level};
 use crate::search::Search;
+use crate::visits::NoRoom;
 use krs_types::Serial;
-use std::alloc::{AllocError, Global};
 
 /// How many levels of keyrings are possessed: profile, search depth.
 const LEVELS: u8 = 8;
@@ -25,19 +25,25 @@ pub(crate) struct HeldRings {
 }
 
 impl HeldRings {
-    /// None yet. It takes no memory.
-    pub(crate) fn new(alloc: Global) -> Self
+    /// None yet, with an empty list for them.
+    pub(crate) fn new(seen: Visits) -> Self
+        requires { seen ≡ [] }
         ensures { (s : search.Search) → AreHeld s result }
     {
         HeldRings {
-            seen: Visits::new(alloc),
+            seen,
             start: 0,
             levels: 0,
         }
     }
 
+    /// Their list.
+    pub(crate) fn into_list(self) -> Visits {
+        self.seen
+    }
+
     /// Whether a keyring is possessed. Levels are walked until one has it.
-    pub(crate) fn has(&mut self, search: &Search<'_>, ring: Serial) -> Result<bool, AllocError>
+    pub(crate) fn has(&mut self, search: &Search<'_>, ring: Serial) -> Result<bool, NoRoom>
         requires fit { AreFit search.now.keys.now.keys }
         requires only { OnlyRingsLink (shown search.now.keys.now.keys) }
         requires held { AreHeld search.now self.old }
@@ -58,7 +64,7 @@ impl HeldRings {
     }
 
     /// Joins one level more.
-    fn walk_on(&mut self, search: &Search<'_>) -> Result<(), AllocError>
+    fn walk_on(&mut self, search: &Search<'_>) -> Result<(), NoRoom>
         requires fit { AreFit search.now.keys.now.keys }
         requires held { AreHeld search.now self.old }
         requires more { self.old.levels < 8 }
@@ -66,7 +72,7 @@ impl HeldRings {
         ensures one { OnOk result (self.new.levels ≡ self.old.levels + 1) }
     {
         if self.levels == 0 {
-            self.seen = search.walker.attached(search.context, search.process_ring)?;
+            join_attached(&mut self.seen, search.context, search.process_ring)?;
         } else {
             let caller = &search.context.caller;
             self.start = next_level(

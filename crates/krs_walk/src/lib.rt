@@ -1,9 +1,11 @@
 //! Walks over a key table: whether a link would close a cycle, how deep keyrings are nested, which keys are
 //! possessed, and which one a search finds. Each goes over nested keyrings alone, and examines each once, however
-//! often it is linked.
+//! often it is linked. The walker keeps the lists that this takes, and makes room in them when a key is made: a walk
+//! takes no memory. Where a list has no room, a walk goes from keyring to keyring without one, and answers the same.
 #![tactic(auto)]
 
 mod cycle;
+mod descent;
 mod height;
 mod held;
 mod keyrings;
@@ -12,5 +14,5 @@ mod search;
 mod visits;
 mod walker;
 
-pub use visits::Visits;
+use visits::Visits;
 pub use walker::Walker;

@@ -7,15 +7,15 @@ ghost use Rattle.krs_model.specs.Possession.{attached_with, is_followed, possess
 ghost use Rattle.krs_links.specs.Links.{serial_named};
 ghost use Rattle.krs_keys.specs.Keys.{named_links_of_content, seen, shown, AreFit};
 ghost use Rattle.krs_walk.specs.Lists.{join};
-ghost use Rattle.krs_walk.specs.Walks.{followed_rings, is_found, is_linked};
+ghost use Rattle.krs_walk.specs.Walks.{followed_rings, is_found, is_linked, is_linked_within};
 ghost use Rattle.krs_walk.specs.Walks.{follows_link_to, with_next};
 
 use crate::keyrings::rings_in;
+use crate::visits::NoRoom;
 use crate::{Visits, Walker};
 use bitflags::Flags;
 use krs_keys::{Content, Key, KeyTable};
 use krs_types::{Caller, Context, Name, Rights, Serial};
-use std::alloc::AllocError;
 
 /// How many levels of keyrings are asked for a key: profile, search depth.
 const LEVELS: u8 = 7;
@@ -30,28 +30,46 @@ impl Walker {
         process_ring: Option<Serial>,
         clock: u64,
         serial: Serial,
-    ) -> Result<bool, AllocError>
+    ) -> bool
         requires { AreFit keys.now.keys }
-        ensures { IfOk result (λ b. b ≡ possessed_with (shown keys.now.keys) clock context.now process_ring serial) }
+        ensures { result ≡ possessed_with (shown keys.now.keys) clock context.now process_ring serial }
     {
         keys.only_keyrings_link();
         if is_attached(context, &process_ring, serial) {
-            return Ok(true);
+            return true;
         }
-        let key = keys.get(serial);
-        match key {
-            Some(key) => {
-                if attached_link(keys, context, process_ring, clock, key, serial) {
-                    return Ok(true);
-                }
-                self.is_linked_below(keys, context, process_ring, clock, key, serial)
-            }
-            None => Ok(false),
+        match keys.get(serial) {
+            Some(key) => self.is_linked(keys, context, process_ring, clock, key, serial),
+            None => false,
         }
     }
 
-    /// Whether a followed keyring of the first seven levels links a key, where no attached one does: these are the
-    /// first level, and are not asked again.
+    /// Whether a followed keyring of the first seven levels links a key.
+    fn is_linked(
+        &self,
+        keys: &KeyTable,
+        context: &Context,
+        process_ring: Option<Serial>,
+        clock: u64,
+        key: &Key,
+        serial: Serial,
+    ) -> bool
+        requires fit { AreFit keys.now.keys }
+        requires key { at keys.now.keys serial ≡ Some key.now }
+        ensures { result ≡ is_linked (shown keys.now.keys) clock context.now process_ring serial }
+    {
+        if attached_link(keys, context, process_ring, clock, key, serial) {
+            return true;
+        }
+        match self.is_linked_below(keys, context, process_ring, clock, key, serial) {
+            Ok(linked) => linked,
+            Err(NoRoom) => {
+                is_linked_within_reach(keys, context, &process_ring, clock, key, serial)
+            }
+        }
+    }
+
+    /// Whether one does, where no attached one does.
     fn is_linked_below(
         &self,
         keys: &KeyTable,
@@ -60,39 +78,61 @@ impl Walker {
         clock: u64,
         key: &Key,
         serial: Serial,
-    ) -> Result<bool, AllocError>
+    ) -> Result<bool, NoRoom>
         requires fit { AreFit keys.now.keys }
         requires key { at keys.now.keys serial ≡ Some key.now }
         requires attached { list_any (follows_link_to (shown keys.now.keys) clock context.now.caller serial)
             (attached_with context.now process_ring) ≡ false }
         ensures { IfOk result (λ b. b ≡ is_linked (shown keys.now.keys) clock context.now process_ring serial) }
     {
-        let mut seen = self.attached(context, process_ring)?;
-        let mut start = next_level(keys, &context.caller, clock, &mut seen, 0)?;
-        for level in 1..LEVELS {
-            let _ = level;
-            if level_links(keys, &context.caller, clock, &seen, start, key, serial) {
-                return Ok(true);
-            }
-            start = next_level(keys, &context.caller, clock, &mut seen, start)?;
-        }
-        Ok(false)
+        let mut seen = self.take(&self.followed);
+        let linked = is_linked_below(keys, context, process_ring, clock, key, serial, &mut seen);
+        self.followed.set(seen);
+        linked
     }
+}
 
-    /// The attached keyrings.
-    pub(crate) fn attached(
-        &self,
-        context: &Context,
-        process_ring: Option<Serial>,
-    ) -> Result<Visits, AllocError>
-        ensures { IfOk result (λ v. v ≡ join [] (attached_with context.now process_ring)) }
-    {
-        let mut seen = Visits::new(self.alloc);
-        seen.join_one(context.thread)?;
-        seen.join_one(process_ring)?;
-        seen.join_one(context.session)?;
-        Ok(seen)
+/// Whether a followed keyring of the first seven levels links a key, where no attached one does: these are the
+/// first level, and are not asked again. It has an empty list for the keyrings.
+fn is_linked_below(
+    keys: &KeyTable,
+    context: &Context,
+    process_ring: Option<Serial>,
+    clock: u64,
+    key: &Key,
+    serial: Serial,
+    seen: &mut Visits,
+) -> Result<bool, NoRoom>
+    requires fit { AreFit keys.now.keys }
+    requires key { at keys.now.keys serial ≡ Some key.now }
+    requires attached { list_any (follows_link_to (shown keys.now.keys) clock context.now.caller serial)
+        (attached_with context.now process_ring) ≡ false }
+    requires seen { seen.old ≡ [] }
+    ensures { IfOk result (λ b. b ≡ is_linked (shown keys.now.keys) clock context.now process_ring serial) }
+{
+    join_attached(seen, context, process_ring)?;
+    let mut start = next_level(keys, &context.caller, clock, seen, 0)?;
+    for level in 1..LEVELS {
+        let _ = level;
+        if level_links(keys, &context.caller, clock, seen, start, key, serial) {
+            return Ok(true);
+        }
+        start = next_level(keys, &context.caller, clock, seen, start)?;
     }
+    Ok(false)
+}
+
+/// The attached keyrings join a list.
+pub(crate) fn join_attached(
+    seen: &mut Visits,
+    context: &Context,
+    process_ring: Option<Serial>,
+) -> Result<(), NoRoom>
+    ensures { OnOk result (seen.new ≡ join seen.old (attached_with context.now process_ring)) }
+{
+    seen.join_one(context.thread)?;
+    seen.join_one(process_ring)?;
+    seen.join_one(context.session)
 }
 
 /// Whether a keyring is attached.
@@ -145,6 +185,76 @@ fn one_links(
     }
 }
 
+/// Whether a followed keyring of the first seven levels links a key, from each attached keyring down, with no list of
+/// what was seen, so that it may come to a keyring more than once. It takes no memory.
+fn is_linked_within_reach(
+    keys: &KeyTable,
+    context: &Context,
+    process_ring: &Option<Serial>,
+    clock: u64,
+    key: &Key,
+    serial: Serial,
+) -> bool
+    requires fit { AreFit keys.now.keys }
+    requires key { at keys.now.keys serial ≡ Some key.now }
+    ensures { result ≡ list_any (is_linked_within (shown keys.now.keys) clock context.now.caller serial 7)
+        (attached_with context.now process_ring.now) }
+{
+    let caller = &context.caller;
+    one_leads_to(keys, caller, clock, context.thread, key, serial)
+        || one_leads_to(keys, caller, clock, *process_ring, key, serial)
+        || one_leads_to(keys, caller, clock, context.session, key, serial)
+}
+
+/// The same from one keyring, where there is one.
+fn one_leads_to(
+    keys: &KeyTable,
+    caller: &Caller,
+    clock: u64,
+    ring: Option<Serial>,
+    key: &Key,
+    serial: Serial,
+) -> bool
+    requires fit { AreFit keys.now.keys }
+    requires key { at keys.now.keys serial ≡ Some key.now }
+    ensures { result ≡
+        list_any (is_linked_within (shown keys.now.keys) clock caller.now serial 7) (option_to_list ring) }
+{
+    match ring {
+        Some(ring) => is_linked_within(keys, caller, clock, ring, LEVELS, key, serial),
+        None => false,
+    }
+}
+
+/// Whether a followed keyring of so many levels links a key, of which this keyring is the first.
+fn is_linked_within(
+    keys: &KeyTable,
+    caller: &Caller,
+    clock: u64,
+    ring: Serial,
+    depth: u8,
+    key: &Key,
+    serial: Serial,
+) -> bool
+    requires fit { AreFit keys.now.keys }
+    requires key { at keys.now.keys serial ≡ Some key.now }
+    ensures { result ≡ is_linked_within (shown keys.now.keys) clock caller.now serial depth ring }
+{
+    if depth == 0 {
+        return false;
+    }
+    if links_key(keys, caller, clock, ring, key, serial) {
+        return true;
+    }
+    let rings = followed_rings(keys, caller, clock, ring);
+    for nested in rings {
+        if is_linked_within(keys, caller, clock, *nested, depth - 1, key, serial) {
+            return true;
+        }
+    }
+    false
+}
+
 fn is_found(found: Option<Serial>, serial: Serial) -> bool
     ensures { result ≡ is_found serial found }
 {
@@ -184,7 +294,7 @@ pub(crate) fn next_level(
     clock: u64,
     seen: &mut Visits,
     start: usize,
-) -> Result<usize, AllocError>
+) -> Result<usize, NoRoom>
     requires fit { AreFit keys.now.keys }
     requires start { start ≤ length seen.old }
     ensures place { IfOk result (λ end. end ≡ length seen.old) }

@@ -3,9 +3,10 @@ ghost use Rattle.std.specs.Prelude.{IfOk, OnOk};
 ghost use Rattle.std.specs.Option.{option_to_list};
 ghost use Rattle.krs_model.specs.Table.{at};
 ghost use Rattle.krs_model.specs.Access.{rights_on};
+ghost use Rattle.krs_model.specs.Possession.{attached_with};
 ghost use Rattle.krs_model.specs.Search.{found_with, requested_with, found_by, grants_search, is_open};
 ghost use Rattle.krs_model.specs.Search.{or_next, weight, weightier};
-ghost use Rattle.krs_model.specs.Outcome.{Gives};
+ghost use Rattle.krs_model.specs.Outcome.{Is};
 ghost use Rattle.krs_types.specs.Name.{same_name};
 ghost use Rattle.krs_types.specs.Rights.{has_all, SEARCH};
 ghost use Rattle.krs_links.specs.Links.{nested, serials};
@@ -20,11 +21,11 @@ ghost use Rattle.krs_walk.specs.Searching.{AreHeld, Joins};
 use crate::held::HeldRings;
 use crate::keyrings::rings_in;
 use crate::possession::find_in;
+use crate::visits::NoRoom;
 use crate::{Visits, Walker};
 use bitflags::Flags;
 use krs_keys::{Content, Key, KeyTable};
-use krs_types::{Context, Errno, Fault, Name, Rights, Serial};
-use std::alloc::AllocError;
+use krs_types::{Context, Errno, Name, Rights, Serial};
 
 /// How many levels of keyrings are entered below the head: profile, search depth.
 const LEVELS: u8 = 6;
@@ -52,9 +53,9 @@ impl Walker {
         clock: u64,
         head: Serial,
         name: &Name,
-    ) -> Result<Serial, Fault>
+    ) -> Result<Serial, Errno>
         requires { AreFit keys.now.keys }
-        ensures { Gives (λ k. k) result
+        ensures { Is (λ k. k) result
             (found_with (shown keys.now.keys) clock context.now process_ring head name.now) }
     {
         keys.only_keyrings_link();
@@ -66,7 +67,7 @@ impl Walker {
             clock,
             name,
         };
-        refusing(search.find(head)?)
+        search.find(head)
     }
 
     /// The same from the thread, the process and the session keyring in turn: request_key(2); profile,
@@ -78,9 +79,9 @@ impl Walker {
         process_ring: Option<Serial>,
         clock: u64,
         name: &Name,
-    ) -> Result<Serial, Fault>
+    ) -> Result<Serial, Errno>
         requires { AreFit keys.now.keys }
-        ensures { Gives (λ k. k) result
+        ensures { Is (λ k. k) result
             (requested_with (shown keys.now.keys) clock context.now process_ring name.now) }
     {
         keys.only_keyrings_link();
@@ -92,55 +93,95 @@ impl Walker {
             clock,
             name,
         };
-        let thread = search.find_next(Err(Errno::ENOKEY), context.thread)?;
-        let process = search.find_next(thread, process_ring)?;
-        refusing(search.find_next(process, context.session)?)
+        search.find_in_turn()
     }
 }
 
 impl Search<'_> {
-    /// What a search comes to, and behind it one from a head, where there is one.
-    fn find_next(
-        &self,
-        found: Result<Serial, Errno>,
-        head: Option<Serial>,
-    ) -> Result<Result<Serial, Errno>, AllocError>
+    /// What searches from the attached keyrings come to, one after the other.
+    fn find_in_turn(&self) -> Result<Serial, Errno>
         requires fit { AreFit self.now.keys.now.keys }
         requires only { OnlyRingsLink (shown self.now.keys.now.keys) }
-        ensures { IfOk result (λ r. r ≡
-            or_next found (sought_in self.now (searched_from self.now (option_to_list head)))) }
+        ensures { result ≡ sought_in self.now
+            (searched_from self.now (attached_with self.now.context.now self.now.process_ring)) }
+    {
+        let thread = self.find_next(Err(Errno::ENOKEY), self.context.thread);
+        let process = self.find_next(thread, self.process_ring);
+        self.find_next(process, self.context.session)
+    }
+
+    /// What a search comes to, and behind it one from a head, where there is one.
+    fn find_next(&self, found: Result<Serial, Errno>, head: Option<Serial>) -> Result<Serial, Errno>
+        requires fit { AreFit self.now.keys.now.keys }
+        requires only { OnlyRingsLink (shown self.now.keys.now.keys) }
+        ensures { result ≡ or_next found (sought_in self.now (searched_from self.now (option_to_list head))) }
     {
         let (Err(fault), Some(head)) = (found, head) else {
-            return Ok(found);
+            return found;
         };
-        match self.find(head)? {
-            Ok(serial) => Ok(Ok(serial)),
-            Err(more) => Ok(Err(weightier(fault, more))),
+        match self.find(head) {
+            Ok(serial) => Ok(serial),
+            Err(more) => Err(weightier(fault, more)),
         }
     }
 
     /// What a search from a head comes to.
-    fn find(&self, head: Serial) -> Result<Result<Serial, Errno>, AllocError>
+    fn find(&self, head: Serial) -> Result<Serial, Errno>
         requires fit { AreFit self.now.keys.now.keys }
         requires only { OnlyRingsLink (shown self.now.keys.now.keys) }
-        ensures { IfOk result (λ r. r ≡ found_by (searcher_for self.now) head self.now.name.now) }
+        ensures { result ≡ found_by (searcher_for self.now) head self.now.name.now }
     {
-        match self.judge(head)? {
-            Ok(serial) => Ok(Ok(serial)),
-            Err(fault) => self.find_below(head, fault),
+        match self.judge(head) {
+            Ok(serial) => Ok(serial),
+            Err(fault) => self.find_under(head, fault),
         }
     }
 
     /// What it comes to where the head has this fault.
-    fn find_below(&self, head: Serial, fault: Errno) -> Result<Result<Serial, Errno>, AllocError>
+    fn find_under(&self, head: Serial, fault: Errno) -> Result<Serial, Errno>
+        requires fit { AreFit self.now.keys.now.keys }
+        requires only { OnlyRingsLink (shown self.now.keys.now.keys) }
+        requires head { sought_in self.now (head ∷ []) ≡ Err fault }
+        ensures { result ≡ found_by (searcher_for self.now) head self.now.name.now }
+    {
+        match self.find_below(head, fault) {
+            Ok(found) => found,
+            Err(NoRoom) => self.find_by_levels(head, fault),
+        }
+    }
+
+    /// The same, by a walk from the head.
+    fn find_below(&self, head: Serial, fault: Errno) -> Result<Result<Serial, Errno>, NoRoom>
         requires fit { AreFit self.now.keys.now.keys }
         requires only { OnlyRingsLink (shown self.now.keys.now.keys) }
         requires head { sought_in self.now (head ∷ []) ≡ Err fault }
         ensures { IfOk result (λ r. r ≡ found_by (searcher_for self.now) head self.now.name.now) }
     {
-        let mut held = HeldRings::new(self.walker.alloc);
-        let mut seen = Visits::new(self.walker.alloc);
-        let mut fault = match self.visit(&mut held, &mut seen, head, fault)? {
+        let walker = self.walker;
+        let mut seen = walker.take(&walker.rings);
+        let mut held = HeldRings::new(walker.take(&walker.held));
+        let found = self.walk_below(&mut held, &mut seen, head, fault);
+        walker.rings.set(seen);
+        walker.held.set(held.into_list());
+        found
+    }
+
+    /// The same, with an empty list for the keyrings that it enters.
+    fn walk_below(
+        &self,
+        held: &mut HeldRings,
+        seen: &mut Visits,
+        head: Serial,
+        fault: Errno,
+    ) -> Result<Result<Serial, Errno>, NoRoom>
+        requires fit { AreFit self.now.keys.now.keys }
+        requires only { OnlyRingsLink (shown self.now.keys.now.keys) }
+        requires held { AreHeld self.now held.old }
+        requires seen { seen.old ≡ [] }
+        requires head { sought_in self.now (head ∷ []) ≡ Err fault }
+        ensures { IfOk result (λ r. r ≡ found_by (searcher_for self.now) head self.now.name.now) }
+    {
+        let mut fault = match self.visit(held, seen, head, fault)? {
             Ok(linked) => return Ok(Ok(linked)),
             Err(linked) => linked,
         };
@@ -148,7 +189,7 @@ impl Search<'_> {
         for level in 0..LEVELS {
             let _ = level;
             let end = seen.len();
-            match self.visit_level(&mut held, &mut seen, start, fault)? {
+            match self.visit_level(held, seen, start, fault)? {
                 Ok(found) => return Ok(Ok(found)),
                 Err(more) => fault = more,
             }
@@ -165,7 +206,7 @@ impl Search<'_> {
         seen: &mut Visits,
         start: usize,
         fault: Errno,
-    ) -> Result<Result<Serial, Errno>, AllocError>
+    ) -> Result<Result<Serial, Errno>, NoRoom>
         requires fit { AreFit self.now.keys.now.keys }
         requires only { OnlyRingsLink (shown self.now.keys.now.keys) }
         requires held { AreHeld self.now held.old }
@@ -196,7 +237,7 @@ impl Search<'_> {
         seen: &mut Visits,
         ring: Serial,
         fault: Errno,
-    ) -> Result<Result<Serial, Errno>, AllocError>
+    ) -> Result<Result<Serial, Errno>, NoRoom>
         requires fit { AreFit self.now.keys.now.keys }
         requires only { OnlyRingsLink (shown self.now.keys.now.keys) }
         requires held { AreHeld self.now held.old }
@@ -215,7 +256,7 @@ impl Search<'_> {
     }
 
     /// Whether a keyring is entered, and links something.
-    fn enters(&self, held: &mut HeldRings, key: &Key, ring: Serial) -> Result<bool, AllocError>
+    fn enters(&self, held: &mut HeldRings, key: &Key, ring: Serial) -> Result<bool, NoRoom>
         requires fit { AreFit self.now.keys.now.keys }
         requires only { OnlyRingsLink (shown self.now.keys.now.keys) }
         requires held { AreHeld self.now held.old }
@@ -241,7 +282,7 @@ impl Search<'_> {
         seen: &mut Visits,
         content: &Content,
         fault: Errno,
-    ) -> Result<Result<Serial, Errno>, AllocError>
+    ) -> Result<Result<Serial, Errno>, NoRoom>
         requires fit { AreFit self.now.keys.now.keys }
         requires named { AreNamed (name_at self.now.keys.now.keys) (named_links_of_content content.now) }
         ensures sought { IfOk result (λ r. r ≡
@@ -249,75 +290,86 @@ impl Search<'_> {
         ensures joined { IfOk result (λ r.
             Joins r seen.old (serials (nested (named_links_of_content content.now))) seen.new) }
     {
-        match self.judge_link(content)? {
+        match self.judge_behind(content, fault) {
             Ok(serial) => Ok(Ok(serial)),
             Err(more) => {
                 seen.join(rings_in(content))?;
-                Ok(Err(weightier(fault, more)))
+                Ok(Err(more))
             }
         }
     }
 
-    /// What the links of a keyring come to: no other than that of the name.
-    fn judge_link(&self, content: &Content) -> Result<Result<Serial, Errno>, AllocError>
+    /// What the links of a keyring come to, behind this fault.
+    pub(crate) fn judge_behind(&self, content: &Content, fault: Errno) -> Result<Serial, Errno>
         requires fit { AreFit self.now.keys.now.keys }
         requires named { AreNamed (name_at self.now.keys.now.keys) (named_links_of_content content.now) }
-        ensures { IfOk result (λ r. r ≡ sought_in self.now (serials (named_links_of_content content.now))) }
+        ensures { result ≡ sought_behind self.now fault (serials (named_links_of_content content.now)) }
+    {
+        match self.judge_link(content) {
+            Ok(serial) => Ok(serial),
+            Err(more) => Err(weightier(fault, more)),
+        }
+    }
+
+    /// What the links of a keyring come to: no other than that of the name.
+    fn judge_link(&self, content: &Content) -> Result<Serial, Errno>
+        requires fit { AreFit self.now.keys.now.keys }
+        requires named { AreNamed (name_at self.now.keys.now.keys) (named_links_of_content content.now) }
+        ensures { result ≡ sought_in self.now (serials (named_links_of_content content.now)) }
     {
         match find_in(content, self.name) {
             Some(serial) => self.judge(serial),
-            None => Ok(Err(Errno::ENOKEY)),
+            None => Err(Errno::ENOKEY),
         }
     }
 
     /// What a key comes to.
-    fn judge(&self, serial: Serial) -> Result<Result<Serial, Errno>, AllocError>
+    fn judge(&self, serial: Serial) -> Result<Serial, Errno>
         requires { AreFit self.now.keys.now.keys }
-        ensures { IfOk result (λ r. r ≡ sought_in self.now (serial ∷ [])) }
+        ensures { result ≡ sought_in self.now (serial ∷ []) }
     {
         match self.keys.get(serial) {
             Some(key) if *self.name == key.name => self.judge_match(key, serial),
-            _ => Ok(Err(Errno::ENOKEY)),
+            _ => Err(Errno::ENOKEY),
         }
     }
 
     /// What a key of the name comes to.
-    fn judge_match(&self, key: &Key, serial: Serial) -> Result<Result<Serial, Errno>, AllocError>
+    fn judge_match(&self, key: &Key, serial: Serial) -> Result<Serial, Errno>
         requires fit { AreFit self.now.keys.now.keys }
         requires key { at self.now.keys.now.keys serial ≡ Some key.now }
         requires named { same_name self.now.name.now key.now.name ≡ true }
-        ensures { IfOk result (λ r. r ≡ sought_in self.now (serial ∷ [])) }
+        ensures { result ≡ sought_in self.now (serial ∷ []) }
     {
         if key.revoked {
-            return Ok(Err(Errno::EKEYREVOKED));
+            return Err(Errno::EKEYREVOKED);
         }
         if key.is_over(self.clock) {
-            return Ok(Err(Errno::EKEYEXPIRED));
+            return Err(Errno::EKEYEXPIRED);
         }
-        if self.grants(key, serial)? {
-            Ok(Ok(serial))
+        if self.grants(key, serial) {
+            Ok(serial)
         } else {
-            Ok(Err(Errno::EACCES))
+            Err(Errno::EACCES)
         }
     }
 
     /// Whether a key grants SEARCH. Possession is asked where it makes a difference.
-    fn grants(&self, key: &Key, serial: Serial) -> Result<bool, AllocError>
+    pub(crate) fn grants(&self, key: &Key, serial: Serial) -> bool
         requires { AreFit self.now.keys.now.keys }
-        ensures { IfOk result (λ b. b ≡
-            grants_search (searcher_for self.now) serial (seen key.now)) }
+        ensures { result ≡ grants_search (searcher_for self.now) serial (seen key.now) }
     {
         let granted = self.is_granted(key, false);
         if granted == self.is_granted(key, true) {
-            return Ok(granted);
+            return granted;
         }
-        let possessed = self.possesses(serial)?;
-        Ok(self.is_granted(key, possessed))
+        let possessed = self.possesses(serial);
+        self.is_granted(key, possessed)
     }
 
-    fn possesses(&self, serial: Serial) -> Result<bool, AllocError>
+    fn possesses(&self, serial: Serial) -> bool
         requires { AreFit self.now.keys.now.keys }
-        ensures { IfOk result (λ b. b ≡ is_held self.now serial) }
+        ensures { result ≡ is_held self.now serial }
     {
         self.walker.possesses(
             self.keys,
@@ -335,16 +387,6 @@ impl Search<'_> {
     {
         key.grants(&self.context.caller, possessed)
             .contains(Rights::SEARCH)
-    }
-}
-
-/// What a search comes to, as the answer of a function that may want memory.
-fn refusing(found: Result<Serial, Errno>) -> Result<Serial, Fault>
-    ensures { Gives (λ k. k) result found }
-{
-    match found {
-        Ok(serial) => Ok(serial),
-        Err(error) => Err(Fault::Refused(error)),
     }
 }
 

@@ -1,19 +1,23 @@
-ghost use Rattle.std.specs.Prelude.{◌≡◌, ◌==◌, ◌≤◌, ◌<◌, ◌+◌, ◌^◌, [], ◌++◌, ◌∷◌, false, OnOk, length, slice_index};
+ghost use Rattle.std.specs.Prelude.{◌≡◌, ◌==◌, ◌<◌, ◌^◌, [], ◌++◌, ◌∷◌, false, OnOk, length, slice_index};
 ghost use Rattle.std.specs.List.{IsDistinct};
 ghost use Rattle.std.specs.Option.{option_to_list};
 ghost use Rattle.krs_model.specs.Levels.{is_in};
 ghost use Rattle.krs_walk.specs.Lists.{join};
 
+use indexmap::IndexSet;
 use krs_types::Serial;
 use std::alloc::{AllocError, Global};
-use std::collections::BTreeSet;
 use std::marker::Model;
 
-/// The keys that a walk has come to, in the order in which it came to them, each once.
+/// There is no room for one key more in the list of a walk.
+#[derive(Clone, Copy)]
+pub(crate) struct NoRoom;
+
+/// The keys that a walk has come to, in the order in which it came to them, each once. It takes memory in `make_room`
+/// alone, and keeps it.
 #[derive(Drop)]
-pub struct Visits {
-    keys: Vec<Serial>,
-    marks: BTreeSet<u32>,
+pub(crate) struct Visits {
+    keys: IndexSet<u32>,
 }
 
 impl Model for Visits {
@@ -21,75 +25,83 @@ impl Model for Visits {
 
     ghost Value = { List ℕ };
 
-    ghost use Rattle.krs_walk.specs.Visits.{IsMarked};
-
-    ghost view = { λ v. v.keys.items };
-
-    ghost invariant = { λ v. IsMarked v };
+    ghost view = { λ v. v.keys.keys };
 }
 
 impl Visits {
     /// None yet. It takes no memory.
-    pub fn new(alloc: Global) -> Self
+    pub(crate) fn new(alloc: Global) -> Self
         ensures { result ≡ [] }
     {
         Visits {
-            keys: Vec::new(alloc),
-            marks: BTreeSet::new(alloc),
+            keys: IndexSet::new(alloc),
         }
     }
 
-    /// At most as many as there are serials.
-    pub fn len(&self) -> usize
+    /// Makes room for as many keys as that, where it has none yet.
+    pub(crate) fn make_room(&mut self, keys: usize) -> Result<(), AllocError>
+        ensures { self.new ≡ self.old }
+    {
+        self.keys.reserve(keys)
+    }
+
+    /// Takes all out, in the time that it takes for those that are there. The room stays.
+    pub(crate) fn clear(&mut self)
+        ensures { self.new ≡ [] }
+    {
+        self.keys.truncate(0);
+    }
+
+    pub(crate) fn len(&self) -> usize
         ensures is { result ≡ length self.now }
-        ensures small { result ≤ 2 ^ 32 }
+        ensures small { result < 2 ^ 63 }
         ensures once { IsDistinct (λ a b. a == b) self.now }
     {
         self.keys.len()
     }
 
-    pub fn is_empty(&self) -> bool
+    pub(crate) fn is_empty(&self) -> bool
         ensures { result ≡ (length self.now == 0) }
     {
-        self.keys.is_empty()
+        self.keys.as_slice().is_empty()
     }
 
-    pub fn at(&self, place: usize) -> Serial
+    pub(crate) fn at(&self, place: usize) -> Serial
         requires { place < length self.now }
         ensures { result ≡ slice_index self.now place }
     {
-        self.keys[place]
+        let keys = self.keys.as_slice();
+        Serial::new(keys[place])
     }
 
-    pub fn as_slice(&self) -> &[Serial]
+    pub(crate) fn as_slice(&self) -> &[u32]
         ensures { result.now ≡ self.now }
     {
         self.keys.as_slice()
     }
 
-    pub fn has(&self, key: Serial) -> bool
+    pub(crate) fn has(&self, key: Serial) -> bool
         ensures { result ≡ is_in key self.now }
     {
-        self.marks.contains(&key.number())
+        self.keys.contains(&key.number())
     }
 
     /// One key more, where it isn't there.
-    fn push(&mut self, key: Serial) -> Result<(), AllocError>
+    fn push(&mut self, key: Serial) -> Result<(), NoRoom>
         requires { is_in key self.old ≡ false }
         ensures { OnOk result (self.new ≡ self.old ++ key ∷ []) }
     {
-        self.keys.push(key)?;
-        match self.marks.insert(key.number()) {
-            Ok(_) => Ok(()),
-            Err(error) => {
-                let _ = self.keys.pop();
-                Err(error.into())
-            }
+        if self.keys.len() == self.keys.capacity() {
+            return Err(NoRoom);
         }
+        let Ok(_) = self.keys.insert(key.number()) else {
+            return Err(NoRoom);
+        };
+        Ok(())
     }
 
     /// Those of these keys that aren't there yet, in their order.
-    pub fn join(&mut self, keys: &[Serial]) -> Result<(), AllocError>
+    pub(crate) fn join(&mut self, keys: &[Serial]) -> Result<(), NoRoom>
         ensures { OnOk result (self.new ≡ join self.old keys.now) }
     {
         for key in keys {
@@ -101,7 +113,7 @@ impl Visits {
     }
 
     /// This one, where there is one and it isn't there yet.
-    pub fn join_one(&mut self, key: Option<Serial>) -> Result<(), AllocError>
+    pub(crate) fn join_one(&mut self, key: Option<Serial>) -> Result<(), NoRoom>
         ensures { OnOk result (self.new ≡ join self.old (option_to_list key)) }
     {
         match key {

@@ -1,14 +1,54 @@
-use std::alloc::Global;
+ghost use Rattle.std.specs.Prelude.{◌≡◌, []};
 
-/// Walks over a key table.
+use crate::Visits;
+use std::alloc::{AllocError, Global};
+use std::cell::Cell;
+
+/// Walks over a key table. It keeps the lists of its walks, so that these take no memory: where a list has no room,
+/// a walk does without it, and may then come to a keyring more than once.
 #[derive(Drop)]
 pub struct Walker {
-    pub(crate) alloc: Global,
+    alloc: Global,
+    /// The keyrings that a walk has come to.
+    pub(crate) rings: Cell<Visits>,
+    /// Those that the context of a search possesses; of a height, the next layer.
+    pub(crate) held: Cell<Visits>,
+    /// Those of a question of possession, which a search may ask on its way.
+    pub(crate) followed: Cell<Visits>,
 }
 
 impl Walker {
-    /// It takes no memory; a walk takes what it needs, and gives it back.
+    /// It takes no memory.
     pub fn new(alloc: Global) -> Walker {
-        Walker { alloc }
+        Walker {
+            alloc,
+            rings: Cell::new(Visits::new(alloc)),
+            held: Cell::new(Visits::new(alloc)),
+            followed: Cell::new(Visits::new(alloc)),
+        }
+    }
+
+    /// Makes room for walks over a table of that many keys.
+    pub fn room_for(&self, keys: usize) -> Result<(), AllocError> {
+        self.grow(&self.rings, keys)?;
+        self.grow(&self.held, keys)?;
+        self.grow(&self.followed, keys)
+    }
+
+    /// Makes room in one list.
+    fn grow(&self, list: &Cell<Visits>, keys: usize) -> Result<(), AllocError> {
+        let mut visits = self.take(list);
+        let grown = visits.make_room(keys);
+        list.set(visits);
+        grown
+    }
+
+    /// Takes a list out, with nothing in it. Until it is put back there is one without room in its place.
+    pub(crate) fn take(&self, list: &Cell<Visits>) -> Visits
+        ensures { result ≡ [] }
+    {
+        let mut visits = list.replace(Visits::new(self.alloc));
+        visits.clear();
+        visits
     }
 }

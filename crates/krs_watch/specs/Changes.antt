@@ -2,24 +2,19 @@
 use Rattle.std.specs.Prelude.{◌≡◌, ℕ, Bool, not, [], ◌∷◌, map, filter, IsOk, Result, Ok, Err}
 use Rattle.krs_types.specs.declared.errno.Errno.{Errno}
 use Rattle.krs_types.specs.declared.fault.Fault.{Fault}
-use Rattle.krs_types.specs.declared.fault.Fault.TheVariants.{Memory, Refused}
 use Rattle.krs_types.specs.declared.note.Record.TheVariants.{Removal}
 use Rattle.krs_types.specs.Refusing.{◌>>=◌}
 use Rattle.krs_model.specs.Table.{Table}
 use Rattle.krs_model.specs.State.{Queue}
 use Rattle.krs_model.specs.Queues.{Queues, queue_of}
 use Rattle.krs_model.specs.Notes.Posting.{removal_for, posted}
+use Rattle.krs_model.specs.Outcome.{Fails}
 use Rattle.krs_model.specs.Asks.Watching.{Change, unwatched}
-
--- a fault is the refusal that is meant, or ENOMEM for what is accepted
-abbrev pub EndsIn : {A : Type 0} → Fault → Result A Errno → Type 0
-EndsIn Memory meant = IsOk meant
-EndsIn (Refused e) meant = meant ≡ Err e
 
 -- from old, this result and these queues are what is meant; a fault leaves them as they were
 abbrev pub LeadsQueues : {A : Type 0} → Queues → Result A Fault → Queues → Change A → Type 0
 LeadsQueues old (Ok x) new meant = meant ≡ Ok (new, x)
-LeadsQueues old (Err e) new meant = EndsIn e meant × (new ≡ old)
+LeadsQueues old (Err e) new meant = Fails e meant × (new ≡ old)
 
 -- the same of what takes no memory
 abbrev pub LeadsAlways : {A : Type 0} → Queues → Result A Errno → Queues → Change A → Type 0

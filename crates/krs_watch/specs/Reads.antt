@@ -5,8 +5,8 @@ use Rattle.krs_model.specs.Table.{Table, at, alter}
 use Rattle.krs_model.specs.State.{Queue}
 use Rattle.krs_model.specs.Notes.Bytes.{bytes_of_all}
 use Rattle.krs_model.specs.Notes.Front.{front, readable}
+use Rattle.krs_model.specs.Outcome.{Fails}
 use Rattle.krs_model.specs.Asks.Watching.{after_read}
-use Rattle.krs_watch.specs.Changes.{EndsIn}
 
 -- what fits is taken and its bytes are given; where that is refused, or memory is wanting, nothing is taken
 abbrev pub ReadsQueue : ℕ → Queue → Result (List ℕ) Fault → Queue → Type 0
@@ -14,7 +14,7 @@ ReadsQueue room old (Ok bytes) new =
     (readable room old.waiting ≡ Ok (front room old.waiting))
     × (bytes ≡ bytes_of_all (front room old.waiting))
     × (new ≡ after_read room old)
-ReadsQueue room old (Err e) new = EndsIn e (readable room old.waiting) × (new ≡ old)
+ReadsQueue room old (Err e) new = Fails e (readable room old.waiting) × (new ≡ old)
 
 -- the same of the queue at a number, where it is there
 abbrev pub ReadsAt : ℕ → ℕ → Table Queue → Result (List ℕ) Fault → Table Queue → Type 0
@@ -23,4 +23,4 @@ ReadsAt number room old (Ok bytes) new = (q : Queue) → at old number ≡ Some 
     × (bytes ≡ bytes_of_all (front room q.waiting))
     × (new ≡ alter old number (after_read room))
 ReadsAt number room old (Err e) new =
-    ((q : Queue) → at old number ≡ Some q → EndsIn e (readable room q.waiting)) × (new ≡ old)
+    ((q : Queue) → at old number ≡ Some q → Fails e (readable room q.waiting)) × (new ≡ old)

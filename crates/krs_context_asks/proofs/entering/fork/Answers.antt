@@ -1,4 +1,4 @@
-use Rattle.std.proofs.Common.{◌≡◌, ◌≤◌, ◌∙◌, ℕ, Ok, ap, sym, subst, arith}
+use Rattle.std.proofs.Common.{◌≡◌, ◌≤◌, ◌∙◌, ℕ, Ok, ap, refl, sym, subst, arith}
 use Rattle.krs_model.specs.Table.{Table}
 use Rattle.krs_model.specs.State.{State}
 use Rattle.krs_model.specs.Lookup.{context_of}
@@ -7,9 +7,10 @@ use Rattle.krs_keys.specs.Keys.{shown}
 use Rattle.krs_hold.specs.Tally.{AreExact}
 use Rattle.krs_ctx.specs.Anchors.{anchored}
 use Rattle.krs_ctx.specs.Told.{enterable}
-use Rattle.krs_ctx.proofs.ToldLemmas.{fork_refused}
+use Rattle.krs_ctx.proofs.ToldLemmas.{fork_refused, fork_accepted, is_ok}
 use Rattle.krs_tables.specs.View.{state_of}
 use Rattle.krs_context_asks.proofs.EnteredHolders.{fork_tallied, refused_as}
+use Rattle.krs_tables.proofs.Wanting.{wanting_as}
 use Rattle.krs_context_asks.proofs.entering.fork.Goals as goal
 
 pub returns-in_err-can_enter : goal.returns-in_err-can_enter
@@ -18,6 +19,14 @@ returns-in_err-can_enter c =
     (fork_refused c.args.tables.now c.args.client c.args.context c.in_ok-session.field-0.now _ c.in_ok-session.ensures
     (ap (λ (t : State). enterable t c.args.client) (sym c.tables.view_is)
     ∙ sym (c.in_err-can_enter.ensures.given (state_of c.tables.inside))))
+
+pub returns-in_err-check_room : goal.returns-in_err-check_room
+returns-in_err-check_room c =
+    wanting_as c.args.tables.now c.args.tables.now _ _ c.from_residual-in_err-check_room.ensures.1
+    (is_ok _ _ (fork_accepted c.args.tables.now c.args.client c.args.context c.in_ok-session.field-0.now
+    c.in_ok-session.ensures
+    (ap (λ (t : State). enterable t c.args.client) (sym c.tables.view_is)
+    ∙ sym (c.in_ok-can_enter.ensures.given (state_of c.tables.inside))))) refl
 
 pub invariant_of-tables-2 : goal.invariant_of-tables-2
 invariant_of-tables-2 c =

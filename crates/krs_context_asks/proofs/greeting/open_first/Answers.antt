@@ -1,7 +1,8 @@
-use Rattle.std.proofs.Common.{◌≡◌, ◌≤◌, ◌+◌, ◌∙◌, ℕ, refl, Option, Some, None, Ok, [], ◌∷◌, ap, sym, subst, arith}
+use Rattle.std.proofs.Common.{◌≡◌, ◌≤◌, ◌+◌, ◌∙◌, ℕ, refl, Option, Some, None, Ok, IsOk, [], ◌∷◌, ap, sym, subst, arith}
 use Rattle.std.specs.Prelude.{codes}
 use Rattle.krs_types.specs.declared.ask.Answer.TheVariants.{Number}
 use Rattle.krs_types.specs.declared.context.UidRings.{UidRings}
+use Rattle.krs_model.specs.Asks.Hello.{hello}
 use Rattle.krs_model.specs.Table.{at, put, IsBelow}
 use Rattle.krs_model.specs.State.{State}
 use Rattle.krs_model.specs.Sweep.{roots}
@@ -24,10 +25,12 @@ use Rattle.krs_context_asks.proofs.greeting.open_first.Goals as goal
 
 pub returns-in_err-number : goal.returns-in_err-number
 returns-in_err-number c =
+    let accepted : IsOk (hello (state_of c.tables.inside) c.args.client c.args.caller) =
+    subst (λ (t : State). IsOk (hello t c.args.client c.args.caller)) (sym c.tables.view_is) c.requires.accepted in
     rw (← c.tables.view_is)
     (hello_fails (state_of c.tables.inside) c.tables.inside.contexts c.hello.new.self c.args.client c.args.caller
     (Some (record { user = Some c.new-one.result; session = Some c.new-two.result }))
-    c.from_residual-in_err-number.result c.in_err-number.field-0.0 c.requires.known
+    c.from_residual-in_err-number.result c.in_err-number.field-0.0 c.requires.known accepted
     c.from_residual-in_err-number.ensures.1 c.in_err-number.ensures.done)
 
 pub hold_twice-requires-in-Ok : goal.hold_twice-requires-in-Ok

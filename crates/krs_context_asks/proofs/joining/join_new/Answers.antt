@@ -25,11 +25,11 @@ invariant_of-tables-in-Ok c =
     let key = c.args.key in
     let left = c.args.left in
     let here : n ≤ n = omega arith in
-    let none : at es n ≡ None = c.next-next.ensures.unused n here in
+    let none : at es n ≡ None = c.next.ensures.unused n here in
     let own : session_in base c.args.number ≡ Some left =
     subst (λ (t : State). session_in t c.args.number ≡ Some left) (sym c.tables.view_is) c.requires.own in
     let ring : c.in-Ok.ring ≡ n = c.in-Ok.ensures.serial in
-    let serial : c.new.result ≡ n = c.new.ensures ∙ c.next-next.ensures.value in
+    let serial : c.new.result ≡ n = c.new.ensures ∙ c.next.ensures.value in
     let numbers : c.let_go_of.new.self ≡ all_less (option_to_list left) (one_more n (with_number n s.holders)) =
     c.let_go_of.ensures
     ∙ ap (all_less (option_to_list left)) (c.hold.ensures
@@ -61,8 +61,8 @@ returns-in-Ok c =
     let key = c.args.key in
     let ring : c.in-Ok.ring ≡ n = c.in-Ok.ensures.serial in
     let answer : c.number.result ≡ n = c.number.ensures ∙ ring in
-    let next : n ≡ c.next-next.result = sym c.next-next.ensures.value in
-    let few : n ≤ 2147483647 = omega (arith, next, c.if-next-gt-LAST_SERIAL.false) in
+    let few : n ≤ 2147483647 =
+    subst (λ (t : State). t.next_serial ≤ 2147483647) (sym c.tables.view_is) c.requires.serial in
     let anchors : c.attach_session.new.self ≡ changed s.contexts c.args.number (session_to n) =
     c.attach_session.ensures ∙ ap (λ k. changed s.contexts c.args.number (session_to k)) ring in
     rw (← c.tables.view_is)

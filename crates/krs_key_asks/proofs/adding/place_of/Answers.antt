@@ -4,7 +4,7 @@ use Rattle.std.proofs.lemmas.Int.{to_z-of_z}
 use Rattle.krs_types.specs.declared.rights.Want.TheVariants.{Granted}
 use Rattle.krs_types.specs.Rights.{WRITE}
 use Rattle.krs_model.specs.Lookup.{look_up}
-use Rattle.krs_model.specs.Outcome.{Gives}
+use Rattle.krs_model.specs.Outcome.{Is}
 use Rattle.krs_model.specs.Asks.Adding as model
 use Rattle.krs_links.specs.Links.{serials, serial_named}
 use Rattle.krs_keys.specs.Keys.{seen}
@@ -27,4 +27,4 @@ returns-in-Links-clause-place c =
     ≡ model.by_match s x c.in_ok-ring.ring (serials links) (serial_named links c.args.name.now) =
     ap (λ r. model.by_match s x r (serials links) c.find.result) c.new.ensures
     ∙ ap (model.by_match s x c.in_ok-ring.ring (serials links)) c.find.ensures in
-    subst (Gives meant c.by_match.result) (asked ∙ sym told) c.by_match.ensures.place
+    subst (Is meant c.by_match.result) (asked ∙ sym told) c.by_match.ensures.place

@@ -2,7 +2,7 @@ use Rattle.std.proofs.Common.{◌≡◌, ap, sym, ◌∙◌, subst}
 use Rattle.krs_model.specs.State.{State}
 use Rattle.krs_model.specs.Possession.{process_ring}
 use Rattle.krs_model.specs.Search.{found_with, found}
-use Rattle.krs_model.specs.Outcome.{Gives}
+use Rattle.krs_model.specs.Outcome.{Is}
 use Rattle.krs_walk.proofs.FindingLemmas.{found_is}
 use Rattle.krs_tables.specs.View.{state_of}
 use Rattle.krs_ring_asks.proofs.finding.find.Goals as goal
@@ -19,4 +19,4 @@ returns c =
     ap (λ r. found_with s.keys s.clock x r c.new-head.result name) ring
     ∙ (ap (λ k. found_with s.keys s.clock x (process_ring s x.process) k name) c.new-head.ensures
     ∙ (found_is s x c.args.head name ∙ ap (λ (t : State). found t x c.args.head name) c.tables.view_is)) in
-    subst (Gives (λ k. k) c.search.result) asked c.search.ensures
+    subst (Is (λ k. k) c.search.result) asked c.search.ensures

@@ -2,7 +2,7 @@ use Rattle.std.proofs.Common.{◌≡◌, ap, sym, ◌∙◌, subst}
 use Rattle.krs_model.specs.State.{State}
 use Rattle.krs_model.specs.Possession.{process_ring}
 use Rattle.krs_model.specs.Search.{requested_with, requested}
-use Rattle.krs_model.specs.Outcome.{Gives}
+use Rattle.krs_model.specs.Outcome.{Is}
 use Rattle.krs_walk.proofs.FindingLemmas.{requested_is}
 use Rattle.krs_tables.specs.View.{state_of}
 use Rattle.krs_ring_asks.proofs.finding.find_attached.Goals as goal
@@ -17,4 +17,4 @@ returns c =
     let asked : requested_with s.keys s.clock x c.process_ring-ring.result name ≡ requested c.args.tables.now x name =
     ap (λ r. requested_with s.keys s.clock x r name) ring
     ∙ (requested_is s x name ∙ ap (λ (t : State). requested t x name) c.tables.view_is) in
-    subst (Gives (λ k. k) c.request.result) asked c.request.ensures
+    subst (Is (λ k. k) c.request.result) asked c.request.ensures

@@ -9,12 +9,12 @@ use Rattle.krs_types.specs.declared.rights.Want.TheVariants.{Granted}
 use Rattle.krs_types.specs.Rights.{WRITE}
 use Rattle.krs_keys.specs.Keys.{seen}
 use Rattle.krs_ring_asks.proofs.LinkAndUnlink.{found_ring, found_is_ring}
-use Rattle.krs_ring_asks.proofs.SearchAndRequest.{requests, request_links, request_no_ring}
+use Rattle.krs_ring_asks.proofs.SearchAndRequest.{requests, request_links, request_no_ring, wanted_of}
 use Rattle.krs_ring_asks.proofs.SearchWithMade.{requests_new, request_new_refused, request_new_links}
 use Rattle.krs_ring_asks.proofs.finding.request.Goals as goal
 
-pub returns-in_err-links_of : goal.returns-in_err-links_of
-returns-in_err-links_of c =
+pub returns-in_err-links_of-clause-step : goal.returns-in_err-links_of-clause-step
+returns-in_err-links_of-clause-step c =
     let s = c.args.tables.now in
     let x = c.in_ok-context.context.now in
     let into : ℕ × Key = (c.in_ok-into.into, seen c.in_ok-into.ring.now) in
@@ -38,8 +38,8 @@ link_found-requires c =
           c.in_ok-links_of.ensures);
     }
 
-pub returns : goal.returns
-returns c =
+pub returns-clause-step : goal.returns-clause-step
+returns-clause-step c =
     let s = c.args.tables.now in
     let x = c.in_ok-context.context.now in
     let into : ℕ × Key = (c.in_ok-into.into, seen c.in_ok-into.ring.now) in
@@ -53,8 +53,8 @@ returns c =
     c.in_ok-name.name into c.in_ok-serial-2.serial l into_found is c.in_ok-serial-2.ensures in
     subst (Leads s c.link_found.result c.link_found.new.tables) (sym same) c.link_found.ensures
 
-pub returns-in_err-serial : goal.returns-in_err-serial
-returns-in_err-serial c =
+pub returns-in_err-serial-clause-step : goal.returns-in_err-serial-clause-step
+returns-in_err-serial-clause-step c =
     let s = c.args.tables.now in
     let x = c.in_ok-context.context.now in
     let l = requests_new c.in-Some.special s c.args.client c.args.number c.args.type_name c.args.desc c.args.dest x
@@ -65,8 +65,8 @@ returns-in_err-serial c =
     let answer = err_from_is_err_and c.from_residual-in_err-serial.result c.from_residual-in_err-serial.ensures.1 in
     rw (answer.1, answer.2) told
 
-pub returns-in-Some : goal.returns-in-Some
-returns-in-Some c =
+pub returns-in-Some-clause-step : goal.returns-in-Some-clause-step
+returns-in-Some-clause-step c =
     let s = c.args.tables.now in
     let x = c.in_ok-context.context.now in
     let l = requests_new c.in-Some.special s c.args.client c.args.number c.args.type_name c.args.desc c.args.dest x
@@ -75,3 +75,9 @@ returns-in-Some c =
     let same = request_new_links c.in-Some.special s c.args.client c.args.number c.args.type_name c.args.desc
     c.args.dest x c.in_ok-name.name c.in_ok-serial.serial l c.in_ok-serial.ensures in
     subst (Leads s c.link_found_new.result c.link_found_new.new.tables) (sym same) c.link_found_new.ensures
+
+pub returns-clause-memory : goal.returns-clause-memory
+returns-clause-memory c = λ _. wanted_of c.args.dest c.if-dest-eq0.false
+
+pub returns-in-Some-clause-memory : goal.returns-in-Some-clause-memory
+returns-in-Some-clause-memory c = λ _. wanted_of c.args.dest c.if-dest-eq0.false

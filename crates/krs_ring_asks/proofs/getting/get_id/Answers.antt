@@ -7,8 +7,8 @@ use Rattle.krs_tables.specs.Specials.{Makes}
 use Rattle.krs_tables.proofs.MadeFor.{is_new, got_made}
 use Rattle.krs_ring_asks.proofs.getting.get_id.Goals as goal
 
-pub returns-in-Some : goal.returns-in-Some
-returns-in-Some c =
+pub returns-in-Some-clause-step : goal.returns-in-Some-clause-step
+returns-in-Some-clause-step c =
     let s = c.args.tables.now in
     let x = c.in_ok-context.context.now in
     let own = c.in_ok-context.ensures in

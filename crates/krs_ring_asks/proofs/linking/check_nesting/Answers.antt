@@ -17,6 +17,6 @@ unfolding nestable
 returns c =
     let keys = shown c.tables.inside.keys.keys in
     let no_cycle : closes keys c.args.key c.args.ring ≡ false =
-    sym c.in_ok-would_cycle.ensures.closes ∙ c.if-branch.false in
+    sym c.would_cycle.ensures.closes ∙ c.if-would_cycle.false in
     subst (λ (t : State). nestable t.keys c.args.ring c.args.key ≡ Ok (tt {0})) c.tables.view_is
     (rw (no_cycle, c.in_ok-_height.ensures.shallow) refl)

@@ -1,4 +1,4 @@
-use Rattle.std.proofs.Common.{◌≡◌, ap, refl, subst, sym, ◌∙◌, ℕ, true, false, Some, Ok}
+use Rattle.std.proofs.Common.{◌≡◌, ap, refl, subst, sym, ◌∙◌, ℕ, true, false, Some, Ok, Err}
 use Rattle.std.specs.Int.{w32}
 use Rattle.std.proofs.lemmas.Int.{to_z-of_z}
 use Rattle.std.proofs.lemmas.Result.{err_from_is_err_and}
@@ -7,7 +7,7 @@ use Rattle.krs_types.specs.declared.rights.Want.TheVariants.{Granted}
 use Rattle.krs_types.specs.Rights.{LINK}
 use Rattle.krs_model.specs.State.{Key}
 use Rattle.krs_model.specs.Lookup.{look_up}
-use Rattle.krs_model.specs.Outcome.{Leads, Fails}
+use Rattle.krs_model.specs.Outcome.{Leads}
 use Rattle.krs_keys.specs.Keys.{seen}
 use Rattle.krs_tables.specs.Specials.{is_coming, linking_made}
 use Rattle.krs_tables.proofs.MadeFor.{makes_own, is_new, link_to_itself, link_unlooked, link_linking}
@@ -35,7 +35,7 @@ returns-in_err-serial c =
     let passed = sym (to_z-of_z w32 c.args.key c.ranges.key) in
     let coming : is_coming c.args.special s.next_serial c.args.key ≡ false =
     ap (is_coming c.args.special s.next_serial) passed ∙ (sym c.is_coming.ensures ∙ c.if-is_coming.false) in
-    let unlooked : Fails c.in_err-serial.field-0.0 (look_up s x c.args.key (Granted LINK)) =
+    let unlooked : look_up s x c.args.key (Granted LINK) ≡ Err c.in_err-serial.field-0.0 =
     rw passed c.in_err-serial.ensures.found in
     let told = link_unlooked c.args.special s c.args.client c.args.number x c.args.key c.args.ring
     c.in_err-serial.field-0.0 new own coming unlooked in

@@ -8,8 +8,8 @@ use Rattle.krs_tables.specs.Linked.{Takes}
 use Rattle.krs_ring_asks.proofs.LinkAndUnlink.{looks_for, unlink_done, unlink_failed}
 use Rattle.krs_ring_asks.proofs.linking.unlink.Goals as goal
 
-pub returns-in_err-take_link : goal.returns-in_err-take_link
-returns-in_err-take_link c =
+pub returns-in_err-take_link-clause-step : goal.returns-in_err-take_link-clause-step
+returns-in_err-take_link-clause-step c =
     let s = c.args.tables.now in
     let from : ℕ × Key = (c.in_ok-ring.ring, seen c.in_ok-ring.from.now) in
     let there : IsSome (at s.keys c.in_ok-serial.serial) = search rules in
@@ -26,8 +26,8 @@ returns-in_err-take_link c =
     err_from_is_err_and c.from_residual-in_err-take_link.result c.from_residual-in_err-take_link.ensures.1 in
     rw (answer.1, answer.2) told
 
-pub returns : goal.returns
-returns c =
+pub returns-clause-step : goal.returns-clause-step
+returns-clause-step c =
     let s = c.args.tables.now in
     let from : ℕ × Key = (c.in_ok-ring.ring, seen c.in_ok-ring.from.now) in
     let there : IsSome (at s.keys c.in_ok-serial.serial) = search rules in

@@ -12,8 +12,8 @@ use Rattle.krs_store.proofs.Watched.{LooksAt, looks_at, watch_set, watch_ends}
 use Rattle.krs_store.proofs.watching.watch.Goals.{in-Some+in_ok-watch-in-Some, in-None+in_ok-unwatch-in-None}
 use Rattle.krs_store.proofs.watching.watch.Goals as goal
 
-pub returns : goal.returns
-returns c =
+pub returns-clause-step : goal.returns-clause-step
+returns-clause-step c =
     let s = state_of c.tables.inside in
     let x = c.in_ok-context.context.now in
     let found : ℕ × Key = (c.in_ok-key.key, seen c.in_ok-key.field-0-1.now) in

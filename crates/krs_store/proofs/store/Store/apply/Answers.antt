@@ -43,7 +43,7 @@ returns-in-Ok-clause-step c =
     c.raise.ensures (serves_in_turn c.in-Ok.ensures.told c.sweep.ensures))
 
 pub returns-in-Err-Refused-clause-memory : goal.returns-in-Err-Refused-clause-memory
-returns-in-Err-Refused-clause-memory c = λ _ _.
+returns-in-Err-Refused-clause-memory c = λ _.
     refusal_is_no_memory c.raise.new.self c.args.client c.args.ask.context c.args.ask.op c.in-Err-Refused.errno
     (subst (λ (f : Fault). Fails f (outcome_of c.raise.new.self c.args.client c.args.ask.context c.args.ask.op))
     c.in-Err-Refused.field-0-is c.in-Err-Refused.ensures.told.0)

@@ -1,11 +1,12 @@
-use Rattle.std.proofs.Common.{◌≡◌, ◌∙◌, Some, ap, sym, subst, false, Bor}
+use Rattle.std.proofs.Common.{◌≡◌, ◌∙◌, Some, ap, refl, sym, subst, false, Bor}
 use Rattle.std.specs.Option.{option_map}
 use Rattle.krs_model.specs.State.{State}
 use Rattle.krs_model.specs.Reach.{has_chain}
 use Rattle.krs_model.specs.Table.{at}
 use Rattle.krs_keys.specs.declared.key.Key.{Key}
 use Rattle.krs_keys.specs.Keys.{seen}
-use Rattle.krs_tables.proofs.MadeKeyrings.{has_place, linking_done}
+use Rattle.krs_tables.proofs.MadeKeyrings.{has_place, linking_done, linking_accepted}
+use Rattle.krs_tables.proofs.Wanting.{wanting_as}
 use Rattle.krs_tables.proofs.tables.Tables.make_linking.Goals as goal
 
 pub make_ring-requires-clause-place : goal.make_ring-requires-clause-place
@@ -24,3 +25,27 @@ returns c =
     c.in_ok-context_of.field-0.now c.of-maker.result (seen c.in_ok-key.key.now) c.args.answer
     c.in_ok-context_of.ensures
     c.of-maker.ensures there short c.in_ok-check_serial.ensures.ok c.in_ok-make_ring.ensures.ok
+
+pub returns-in_err-links : goal.returns-in_err-links
+returns-in_err-links c =
+    let s = c.args.self.now in
+    let short : has_chain s.keys c.args.serial 6 ≡ false =
+    subst (λ (t : State). has_chain t.keys c.args.serial 6 ≡ false) c.self.view_is c.in_ok-_height.ensures.shallow in
+    let there : at s.keys c.args.serial ≡ Some (seen c.in_ok-key.key.now) =
+    sym c.key.ensures.value ∙ ap (option_map (λ (k : Bor Key). seen k.now)) c.in_ok-key.ensures.ok_part in
+    wanting_as s s _ _ c.from_residual-in_err-links.ensures.1
+    (linking_accepted c.args.special s c.args.client c.args.number c.args.serial c.in_ok-context_of.field-0.now
+    (seen c.in_ok-key.key.now) c.args.answer c.in_ok-context_of.ensures there short c.in_ok-check_serial.ensures.ok)
+    refl
+
+pub returns-in_err-make_ring : goal.returns-in_err-make_ring
+returns-in_err-make_ring c =
+    let s = c.args.self.now in
+    let short : has_chain s.keys c.args.serial 6 ≡ false =
+    subst (λ (t : State). has_chain t.keys c.args.serial 6 ≡ false) c.self.view_is c.in_ok-_height.ensures.shallow in
+    let there : at s.keys c.args.serial ≡ Some (seen c.in_ok-key.key.now) =
+    sym c.key.ensures.value ∙ ap (option_map (λ (k : Bor Key). seen k.now)) c.in_ok-key.ensures.ok_part in
+    wanting_as _ _ _ _ c.from_residual-in_err-make_ring.ensures.1
+    (linking_accepted c.args.special s c.args.client c.args.number c.args.serial c.in_ok-context_of.field-0.now
+    (seen c.in_ok-key.key.now) c.args.answer c.in_ok-context_of.ensures there short c.in_ok-check_serial.ensures.ok)
+    c.in_err-make_ring.ensures.err

@@ -1,5 +1,4 @@
-use Rattle.std.proofs.Common.{◌≡◌, ap, sym, ◌∙◌, refl, subst, IfOk, Result, ℕ}
-use Rattle.krs_types.specs.declared.errno.Errno.{Errno}
+use Rattle.std.proofs.Common.{ap, sym, ◌∙◌, refl}
 use Rattle.krs_keys.specs.Keys.{named_links_of_content}
 use Rattle.krs_walk.specs.Searching.{searcher_for}
 use Rattle.krs_walk.proofs.SoughtLemmas.{sought_link, links_come_to}
@@ -8,11 +7,9 @@ use Rattle.krs_walk.proofs.search.Search.judge_link.Goals as goal
 pub returns-in-Some : goal.returns-in-Some
 returns-in-Some c =
     let s = c.args.self.now in
-    subst (λ (v : Result ℕ Errno). IfOk c.judge.result (λ r. r ≡ v))
-    (ap (sought_link (searcher_for s) s.name.now) (sym c.in-Some.is ∙ c.find_in.ensures)
+    c.judge.ensures ∙ (ap (sought_link (searcher_for s) s.name.now) (sym c.in-Some.is ∙ c.find_in.ensures)
     ∙ sym (links_come_to s.keys.now.keys (searcher_for s) s.name.now (named_links_of_content c.args.content.now) refl
     c.requires.named))
-    c.judge.ensures
 
 pub returns-in-None : goal.returns-in-None
 returns-in-None c =

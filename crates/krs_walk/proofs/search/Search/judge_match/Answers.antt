@@ -18,18 +18,18 @@ returns-then-is_over c =
     (seen_there s.keys.now.keys c.args.serial c.args.key.now c.requires.key)
     c.requires.named c.if-key.false (sym c.is_over.ensures ∙ c.if-is_over.true) refl)
 
-pub returns-then-branch : goal.returns-then-branch
-returns-then-branch c =
+pub returns-then-grants : goal.returns-then-grants
+returns-then-grants c =
     let s = c.args.self.now in
     sym (key_comes_to (searcher_for s) s.name.now c.args.serial (seen c.args.key.now) _ _ _ _
     (seen_there s.keys.now.keys c.args.serial c.args.key.now c.requires.key)
     c.requires.named c.if-key.false (sym c.is_over.ensures ∙ c.if-is_over.false)
-    (sym c.in_ok-grants.ensures ∙ c.if-branch.true))
+    (sym c.grants.ensures ∙ c.if-grants.true))
 
-pub returns-else-branch : goal.returns-else-branch
-returns-else-branch c =
+pub returns-else-grants : goal.returns-else-grants
+returns-else-grants c =
     let s = c.args.self.now in
     sym (key_comes_to (searcher_for s) s.name.now c.args.serial (seen c.args.key.now) _ _ _ _
     (seen_there s.keys.now.keys c.args.serial c.args.key.now c.requires.key)
     c.requires.named c.if-key.false (sym c.is_over.ensures ∙ c.if-is_over.false)
-    (sym c.in_ok-grants.ensures ∙ c.if-branch.false))
+    (sym c.grants.ensures ∙ c.if-grants.false))

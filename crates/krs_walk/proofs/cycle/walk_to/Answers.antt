@@ -1,0 +1,53 @@
+use Rattle.std.proofs.Common.{ap, sym, ◌∙◌, [], ◌∷◌, arith, ℕ, get_or, refl}
+use Rattle.std.proofs.lemmas.Bool.{true≢false}
+use Rattle.krs_model.specs.Reach.{nested_in}
+use Rattle.krs_keys.specs.Keys.{shown}
+use Rattle.krs_walk.specs.Lists.{join}
+use Rattle.krs_walk.proofs.CycleLemmas.{walk_starts, walk_goes_on, found_closes, found_reached, missed_closes}
+use Rattle.krs_walk.proofs.CycleLemmas.{missed_reached, apart_of, same_of}
+use Rattle.krs_walk.proofs.cycle.walk_to.Goals as goal
+
+pub walk-init : goal.walk-init
+walk-init c =
+    walk_starts (nested_in (shown c.args.keys.now.keys)) c.args.key c.args.ring c.join.new.self
+    (c.in_ok-join.ensures ∙ ap (λ zs. join zs (c.args.key ∷ [])) c.requires.seen)
+
+pub walk-preserved : goal.walk-preserved
+walk-preserved c =
+    let links = nested_in (shown c.args.keys.now.keys) in
+    let all = c.walk.seen in
+    walk_goes_on links c.args.key c.args.ring c.walk.place all c.join-in-walk.new.self c.walk.invariant
+    (omega (arith, c.len.ensures.is))
+    (apart_of c.at-here.result c.args.ring (get_or all c.walk.place 0) c.eq.result c.eq.ensures c.if-eq.false
+    c.at-here.ensures)
+    (c.in_ok-join-2.ensures ∙ (ap (join all) c.rings_of.ensures
+    ∙ ap (λ (k : ℕ). join all (links k)) c.at-here.ensures))
+
+pub returns-then-eq-clause-closes : goal.returns-then-eq-clause-closes
+returns-then-eq-clause-closes c =
+    let keys = shown c.args.keys.now.keys in
+    sym (found_closes keys c.args.key c.args.ring c.walk.place c.walk.seen c.requires.key c.walk.invariant
+    c.len.ensures.once (omega (arith, c.len.ensures.is))
+    (same_of c.at-here.result c.args.ring (get_or c.walk.seen c.walk.place 0) c.eq.result c.eq.ensures c.if-eq.true
+    c.at-here.ensures))
+
+pub returns-then-eq-clause-reached : goal.returns-then-eq-clause-reached
+returns-then-eq-clause-reached c = (
+  λ t. found_reached (shown c.args.keys.now.keys) c.args.key c.args.ring c.walk.place c.walk.seen c.walk.invariant
+      (omega (arith, c.len.ensures.is))
+      (same_of c.at-here.result c.args.ring (get_or c.walk.seen c.walk.place 0) c.eq.result c.eq.ensures c.if-eq.true
+      c.at-here.ensures),
+  λ closing. refl,
+)
+
+pub returns-clause-closes : goal.returns-clause-closes
+returns-clause-closes c =
+    sym (missed_closes (shown c.args.keys.now.keys) c.args.key c.args.ring c.walk.place c.walk.seen c.requires.only
+    c.requires.ring c.walk.invariant (omega (arith, c.len.ensures.is)))
+
+pub returns-clause-reached : goal.returns-clause-reached
+returns-clause-reached c = (
+  λ t. absurd (true≢false (sym t)),
+  λ closing. absurd (missed_reached (shown c.args.keys.now.keys) c.args.key c.args.ring c.walk.place c.walk.seen
+      c.requires.only c.requires.ring c.walk.invariant (omega (arith, c.len.ensures.is)) closing),
+)

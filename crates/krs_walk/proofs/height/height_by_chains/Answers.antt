@@ -1,0 +1,13 @@
+use Rattle.std.proofs.Common.{◌+◌, refl, sym, ◌∙◌, arith}
+use Rattle.krs_keys.specs.Keys.{shown}
+use Rattle.krs_walk.proofs.DepthLemmas.{no_chain}
+use Rattle.krs_walk.proofs.HeightLemmas.{none_longer}
+use Rattle.krs_walk.proofs.height.height_by_chains.Goals as goal
+
+pub loop-height-init : goal.loop-height-init
+loop-height-init c = no_chain (shown c.args.keys.now.keys) c.args.key 0 refl
+
+pub returns-then-not-has_chain-clause-shallow : goal.returns-then-not-has_chain-clause-shallow
+returns-then-not-has_chain-clause-shallow c =
+    none_longer (shown c.args.keys.now.keys) c.args.key (c.loop-height.height + 1) 6 (omega arith)
+    (sym c.has_chain.ensures ∙ c.if-not-has_chain.true)

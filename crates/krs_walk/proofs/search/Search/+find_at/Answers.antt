@@ -1,0 +1,39 @@
+use Rattle.std.proofs.Common.{◌-◌, ap, sym, ◌∙◌}
+use Rattle.std.proofs.lemmas.Grind.{get_or_default_zero}
+use Rattle.krs_walk.specs.Searching.{searcher_for, links_at, sought_behind}
+use Rattle.krs_walk.proofs.DescentLemmas.{links_here, links_deep}
+use Rattle.krs_walk.proofs.VisitingLemmas.{turn_goes_on}
+use Rattle.krs_walk.proofs.search.Search.+find_at.Goals as goal
+
+pub returns-then-depth-eq0 : goal.returns-then-depth-eq0
+returns-then-depth-eq0 t c =
+    let s = c.args.self.now in
+    c.find_in_links.ensures ∙ ap (sought_behind s c.args.fault)
+    (links_here (searcher_for s) c.args.ring c.args.depth c.if-depth-eq0.true)
+
+pub loop-nested-init : goal.loop-nested-init
+loop-nested-init t c =
+    let s = c.args.self.now in
+    ap (sought_behind s c.args.fault)
+    (links_deep (searcher_for s) c.args.ring c.args.depth c.rings_entered-rings.result.now c.if-depth-eq0.false
+    c.rings_entered-rings.ensures)
+
+pub returns-in-Ok : goal.returns-in-Ok
+returns-in-Ok t c =
+    let s = c.args.self.now in
+    let l = c.loop-nested in
+    turn_goes_on (searcher_for s) s.name.now (links_at (searcher_for s) (c.args.depth - 1))
+    c.rings_entered-rings.result.now l.nested-index c.nested-item.result l.fault _ _ c.loop-nested-test.true
+    (c.nested-item.is ∙ get_or_default_zero c.rings_entered-rings.result.now l.nested-index c.nested-item.result
+    c.loop-nested-test.true)
+    l.invariant (sym c.in-Ok.is ∙ c.find_at.ensures)
+
+pub loop-nested-preserved : goal.loop-nested-preserved
+loop-nested-preserved t c =
+    let s = c.args.self.now in
+    let l = c.loop-nested in
+    turn_goes_on (searcher_for s) s.name.now (links_at (searcher_for s) (c.args.depth - 1))
+    c.rings_entered-rings.result.now l.nested-index c.nested-item.result l.fault _ _ c.loop-nested-test.true
+    (c.nested-item.is ∙ get_or_default_zero c.rings_entered-rings.result.now l.nested-index c.nested-item.result
+    c.loop-nested-test.true)
+    l.invariant (sym c.in-Err.is ∙ c.find_at.ensures)
