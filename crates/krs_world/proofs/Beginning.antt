@@ -1,20 +1,24 @@
 -- A machine that begins has one history, and so has it after every list of steps.
-use Rattle.std.proofs.Common.{◌≡◌, ℕ, zero, suc, ◌+◌, ◌<◌, ◌≤◌, true, false, List, [], ◌∷◌, ◌++◌, map}
+use Rattle.std.proofs.Common.{◌≡◌, ℕ, zero, suc, ◌+◌, ◌<◌, true, false, List, [], ◌∷◌, ◌++◌, map}
 use Rattle.std.proofs.Common.{length, length-append, ⊎_elim, None, refl, sym, ap, ◌∙◌}
-use Rattle.std.proofs.Common.{subst, inl, inr, arith}
+use Rattle.std.proofs.Common.{subst, inl, inr, arith, take, cond, Some, Bool, Option}
 use mathlib.Core.Option.{some, some-injective, some-ne-none}
 use lib.ListN.{get_elem?}
+use Rattle.krs_types.specs.declared.event.Event.{Event}
 use Rattle.krs_model.specs.State.{State, starting_at}
 use Rattle.krs_world.specs.declared.view.Cell.TheVariants.{Empty}
 use Rattle.krs_world.specs.declared.view.Part.{Part}
 use Rattle.krs_world.specs.declared.view.View.{View}
-use Rattle.krs_world.specs.Knowing.{one, fresh}
+use Rattle.krs_world.specs.declared.view.Service.{Service}
+use Rattle.krs_world.specs.Knowing.{one, fresh, events_of}
 use Rattle.krs_world.specs.History.{Shared, Known, Fits, Stands}
-use Rattle.krs_world.specs.declared.world.Lane.{Lane}
+use Rattle.krs_world.specs.declared.lane.Lane.{Lane}
+use Rattle.krs_world.specs.declared.lane.Slot.{Slot}
+use Rattle.krs_world.specs.declared.lane.Slot.TheVariants as slots
 use Rattle.krs_world.specs.World.{Free, World, fresh_lanes, empty_cells, new_world, cell_of, IsOneHistory}
 use Rattle.krs_world.specs.World.{StaysOne}
-use Rattle.krs_world.specs.Kept.{part_by, world_of, fresh_lane, AreFreshLanes}
-use Rattle.krs_world.specs.Kept.{IsKept}
+use Rattle.krs_world.specs.Kept.{part_by, lane_cell, cell_by, known_by, flight_by, world_of, IsFresh, AreFreshLanes}
+use Rattle.krs_world.specs.Kept.{IsSlotOf, IsKept}
 use Rattle.krs_model.proofs.History.Legal.{legal_none}
 use Rattle.krs_world.proofs.Lanes.{at_snoc}
 use Rattle.krs_world.proofs.Worlds.{get_map, of_map, prefix_none, runs_keep}
@@ -116,43 +120,90 @@ begins_whole : (lanes : ℕ) → (o : IsOneHistory (new_world lanes)) × (o.hist
 unfolding begins_world
 begins_whole lanes = (begins_world lanes, refl)
 
-fresh_parts : (n : ℕ) (lanes : List Lane) → ((j : ℕ) (l : Lane) → get_elem? lanes j ≡ some l → l ≡ fresh_lane (n + j))
-    → map (part_by []) lanes ≡ fresh_lanes n (length lanes)
+-- what the seat of a lane that nothing was done for knows
+fresh_part : (j : ℕ) (l : Lane) → IsFresh j l → part_by [] None l ≡ fresh j
+fresh_part j l f =
+    let seen : take l.seen [] ≡ [] = ap (λ (n : ℕ). take n []) f.seen in
+    let base : take l.base [] ≡ [] = ap (λ (n : ℕ). take n []) f.base in
+    let mine : events_of l.lane (known_by [] l.slot) ≡ [] = ap (λ (s : Slot). events_of l.lane (known_by [] s)) f.slot in
+    let nothing : Option (List Event) = None in
+    let held : cond l.holding (Some []) nothing ≡ nothing = ap (λ (b : Bool). cond b (Some []) nothing) f.holding in
+    let unserved : Option Service = None in
+    let served : cond l.holding unserved unserved ≡ unserved =
+    ap (λ (b : Bool). cond b unserved unserved) f.holding in
+    let flying : flight_by (take l.after []) (lane_cell [] None l) ≡ None =
+    ap (λ (s : Slot). flight_by (take l.after []) (cell_by [] None s)) f.slot in
+    λ i. record {
+      lane = f.lane i;
+      seen = seen i;
+      mine = mine i;
+      holding = held i;
+      serving = served i;
+      flight = flying i;
+      base = base i;
+      taken = f.taken i;
+      found = f.found i;
+      checked = f.checked i;
+      done = f.done i;
+    }
+
+fresh_parts : (n : ℕ) (lanes : List Lane)
+    → ((j : ℕ) (l : Lane) → get_elem? lanes j ≡ some l → IsFresh (n + j) l)
+    → map (part_by [] None) lanes ≡ fresh_lanes n (length lanes)
 fresh_parts n [] all = refl
-fresh_parts n (x ∷ xs) all = let first : x ≡ fresh_lane n = all 0 x refl ∙ ap fresh_lane (omega arith) in
-    let head : part_by [] x ≡ fresh n = ap (part_by []) first in
-    let more = fresh_parts (n + 1) xs (λ j l e. all (suc j) l e ∙ ap fresh_lane (omega arith)) in λ i. head i ∷ more i
+fresh_parts n (x ∷ xs) all =
+    let same : n + 0 ≡ n = omega arith in
+    let head : part_by [] None x ≡ fresh n = fresh_part (n + 0) x (all 0 x refl) ∙ ap fresh same in
+    let more = fresh_parts (n + 1) xs (λ j l e. let on : n + suc j ≡ (n + 1) + j = omega arith in
+    subst (λ (m : ℕ). IsFresh m l) on (all (suc j) l e)) in λ i. head i ∷ more i
+
+fresh_cells : (lanes : List Lane) → ((j : ℕ) (l : Lane) → get_elem? lanes j ≡ some l → l.slot ≡ slots.Empty)
+    → map (lane_cell [] None) lanes ≡ empty_cells (length lanes)
+fresh_cells [] all = refl
+fresh_cells (x ∷ xs) all =
+    let head : lane_cell [] None x ≡ Empty = ap (cell_by [] None) (all 0 x refl) in
+    let more = fresh_cells xs (λ j l e. all (suc j) l e) in λ i. head i ∷ more i
 
 -- a machine that is made of fresh lanes
-pub new_is : (lanes : List Lane) (n : ℕ) → AreFreshLanes n lanes → world_of (starting_at 3) None [] lanes ≡ new_world n
-new_is lanes n f = let parts : map (part_by []) lanes ≡ fresh_lanes 0 (length lanes) =
-    fresh_parts 0 lanes (λ j l e. f.1 j l e ∙ ap fresh_lane (omega arith)) in
+pub new_is : (lanes : List Lane) (n : ℕ) → AreFreshLanes n lanes
+    → world_of (starting_at 3) None None [] lanes ≡ new_world n
+new_is lanes n f =
+    let parts : map (part_by [] None) lanes ≡ fresh_lanes 0 (length lanes) =
+    fresh_parts 0 lanes (λ j l e. let same : j ≡ 0 + j = omega arith in
+    subst (λ (m : ℕ). IsFresh m l) same (f.1 j l e)) in
+    let cells : map (lane_cell [] None) lanes ≡ empty_cells (length lanes) =
+    fresh_cells lanes (λ j l e. (f.1 j l e).slot) in
     λ i. record {
       opening = starting_at 3;
       turn = Free (starting_at 3);
-      cells = empty_cells (f.0 i);
-      seats =
-          (parts ∙ ap (fresh_lanes 0) f.0) i;
+      cells = (cells ∙ ap empty_cells f.0) i;
+      seats = (parts ∙ ap (fresh_lanes 0) f.0) i;
     }
 
-pub new_kept : (lanes : List Lane) (n : ℕ) → AreFreshLanes n lanes → IsKept (starting_at 3) None [] lanes
-new_kept lanes n f = let b : (o : IsOneHistory (world_of (starting_at 3) None [] lanes)) × (o.history.log ≡ []) =
+pub new_kept : (lanes : List Lane) (n : ℕ) → AreFreshLanes n lanes → IsKept (starting_at 3) None None [] lanes
+new_kept lanes n f = let b : (o : IsOneHistory (world_of (starting_at 3) None None [] lanes)) × (o.history.log ≡ []) =
     subst (λ (w : World). (o : IsOneHistory w) × (o.history.log ≡ [])) (sym (new_is lanes n f)) (begins_whole n) in
     record {
       one = b.0;
       whole = b.1;
       legal = legal_none (starting_at 3);
-      short = λ j l e. subst (λ (z : Lane). (z.seen ≤ 0) × (z.base ≤ 0)) (sym (f.1 j l e)) (omega arith, omega arith);
-      numbered = λ j l e. ap (λ (z : Lane). z.lane) (f.1 j l e);
-      holds = λ j l e held. absurd (let no : false ≡ true = sym (ap (λ (z : Lane). z.holding) (f.1 j l e)) ∙ held in
-          cc);
+      each = λ j l e. let t = f.1 j l e in let seen = t.seen in let base = t.base in let after = t.after in record {
+        number = t.lane;
+        seen = omega arith;
+        base = omega arith;
+        after = omega arith;
+        holds = λ held. absurd (let no : false ≡ true = sym t.holding ∙ held in cc);
+        slot = subst (IsSlotOf None [] j) (sym t.slot) tt;
+      };
+      idle = λ _. refl;
+      served = λ s is. absurd cc;
     }
 
 -- one lane more
-pub fresh_more : (lanes : List Lane) (n : ℕ) → AreFreshLanes n lanes
-    → AreFreshLanes (n + 1) (lanes ++ fresh_lane n ∷ [])
-fresh_more lanes n f = (
-  length-append lanes (fresh_lane n ∷ []) ∙ ap (λ (k : ℕ). k + 1) f.0,
-  λ j l e. ⊎_elim (λ (t : get_elem? lanes j ≡ some l). f.1 j l t) (λ (t : (fresh_lane n ≡ l)
-      × (j ≡ length lanes)). sym t.0 ∙ ap fresh_lane (sym (t.1 ∙ f.0))) (at_snoc lanes (fresh_lane n) l j e),
+pub fresh_more : (lanes : List Lane) (n : ℕ) (l : Lane) → AreFreshLanes n lanes → IsFresh n l
+    → AreFreshLanes (n + 1) (lanes ++ l ∷ [])
+fresh_more lanes n l f is = (
+  length-append lanes (l ∷ []) ∙ ap (λ (k : ℕ). k + 1) f.0,
+  λ j z e. ⊎_elim (λ (t : get_elem? lanes j ≡ some z). f.1 j z t) (λ (t : (l ≡ z) × (j ≡ length lanes)).
+      subst (λ (m : ℕ). IsFresh m z) (sym (t.1 ∙ f.0)) (subst (IsFresh n) t.0 is)) (at_snoc lanes l z j e),
 )

@@ -1,4 +1,4 @@
--- What each step comes to on the machine as it is kept: by one list of all calls, and lengths of it.
+-- What each step of the turn comes to on the machine as it is kept: by one list of all calls, and lengths of it.
 use Rattle.std.proofs.Common.{◌≡◌, ◌≢◌, ℕ, ◌+◌, ◌<◌, ◌≤◌, Bool, true, false, cond, List, [], ◌∷◌, ◌++◌, map, length}
 use Rattle.std.proofs.Common.{take, set, Option, Some, None, Result, refl, sym, ap, ◌∙◌, subst, inl, inr, ◌⊎◌}
 use Rattle.std.proofs.Common.{⊎_elim, arith, length-set, length-append}
@@ -8,6 +8,8 @@ use mathlib.Core.Option.{some, some-injective}
 use mathlib.Core.Logic.{dite}
 use native.Mathlib.Decide.{ℕ_discrete}
 use lib.ListN.{get_elem?}
+use Rattle.std.specs.Prelude.{Vec}
+use Rattle.std.specs.declared.alloc.Global.{Global}
 use Rattle.krs_types.specs.declared.ask.Ask.{Ask}
 use Rattle.krs_types.specs.declared.ask.Answer.{Answer}
 use Rattle.krs_types.specs.declared.errno.Errno.{Errno}
@@ -17,85 +19,107 @@ use Rattle.krs_model.specs.Step.{Step}
 use Rattle.krs_model.specs.History.{event_of, IsLegal}
 use Rattle.krs_model.proofs.History.Legal.{legal_more}
 use Rattle.krs_world.specs.declared.view.Part.{Part}
+use Rattle.krs_world.specs.declared.view.Service.{Service}
 use Rattle.krs_world.specs.declared.step.Kind.{Kind}
 use Rattle.krs_world.specs.declared.step.Kind.TheVariants.{Take, TakeFound, Put, Load}
-use Rattle.krs_world.specs.declared.world.Lane.{Lane}
+use Rattle.krs_world.specs.declared.lane.Lane.{Lane}
+use Rattle.krs_world.specs.declared.lane.Slot.{Slot}
+use Rattle.krs_world.specs.declared.lane.Slot.TheVariants as slots
 use Rattle.krs_world.specs.Knowing.{events_of, taken, missed, put_own, put_none, loaded}
-use Rattle.krs_world.specs.World.{Free, World, empty_cells, IsHistory, reseated, IsHolder, StepsAs, IsOneHistory}
-use Rattle.krs_world.specs.Kept.{part_by, turn_by, world_of, IsKept}
-use Rattle.krs_world.proofs.Keeping.{at_set, set_at, set_else, own_event, other_event}
+use Rattle.krs_world.specs.World.{Free, World, IsHistory, reseated, IsHolder, StepsAs, IsOneHistory}
+use Rattle.krs_world.specs.Kept.{part_by, lane_cell, cell_by, known_by, flight_by, turn_by, world_of, IsLane}
+use Rattle.krs_world.specs.Kept.{IsKept}
+use Rattle.krs_world.proofs.Keeping.{at_set, set_at, set_else, own_event}
 use Rattle.krs_world.proofs.Worlds.{get_map, step_as}
-use Rattle.krs_world.proofs.KeptHistory.{seats_by, begins_take, begins_further, begins_short, map_else}
-use Rattle.krs_world.proofs.KeptHistory.{not_true, history_kept, kept_history}
+use Rattle.krs_world.proofs.KeptHistory.{seats_by, cells_by, begins_take, begins_further, begins_short, map_else}
+use Rattle.krs_world.proofs.KeptHistory.{map_alike, each_at, not_true, history_kept, kept_history}
 use Rattle.krs_world.proofs.KeptHistory.{IsSeenWhole, whole_now, seen_whole, reseats}
+use Rattle.krs_world.proofs.Slots.{cond_none, slot_more, cell_more, slot_empty, cell_idle}
+use Rattle.krs_world.proofs.KeptLanes.{lane_out, lane_more, part_more, held_true}
 
 -- The steps, by the lane at its place.
-module _ (store : State) (out : Option ℕ) (log : List Event) (lanes : List Lane) (i : ℕ) (x : Lane)
-    (k : IsKept store out log lanes) (at : get_elem? lanes i ≡ some x) where
+module _ (store : State) (out : Option ℕ) (serving : Option Service) (log : List Event) (lanes : List Lane) (i : ℕ)
+    (x : Lane) (k : IsKept store out serving log lanes) (at : get_elem? lanes i ≡ some x) where
   abbrev pub w : World
-  w = world_of store out log lanes
+  w = world_of store out serving log lanes
 
   -- a step leaves the machine kept
-  after : (store' : State) (out' : Option ℕ) (log' : List Event) (y : Lane) (kind : Kind)
-      → StepsAs w i (part_by log x) kind (world_of store' out' log' (set lanes i y))
-      → (out' ≡ None → IsSeenWhole log' (set lanes i y)) → IsLegal (starting_at 3) log' store'
-      → length log ≤ length log' → y.lane ≡ x.lane → y.seen ≤ length log' → y.base ≤ length log'
-      → (y.holding ≡ true → out' ≡ Some i) → ((j : ℕ) → j ≢ i → out ≡ Some j → out' ≡ Some j)
-      → IsKept store' out' log' (set lanes i y)
-  after store' out' log' y kind steps free legal more lane seen base mine others =
-      let w' : World = world_of store' out' log' (set lanes i y) in
-      let now : IsOneHistory w' = step_as w i (part_by log x) kind w' k.one (get_map (part_by log) lanes i x at) steps
-      in
+  pub after : (store' : State) (out' : Option ℕ) (serving' : Option Service) (log' : List Event) (lanes' : List Lane)
+      (kind : Kind)
+      → StepsAs w i (part_by log serving x) kind (world_of store' out' serving' log' lanes')
+      → (out' ≡ None → IsSeenWhole log' lanes') → IsLegal (starting_at 3) log' store'
+      → ((j : ℕ) (l : Lane) → get_elem? lanes' j ≡ some l → IsLane out' serving' log' j l)
+      → (out' ≡ None → serving' ≡ None)
+      → ((s : Service) → serving' ≡ Some s → (l : Lane) × (get_elem? lanes' s.lane ≡ some l) × (l.slot ≡ slots.Serving))
+      → IsKept store' out' serving' log' lanes'
+  after store' out' serving' log' lanes' kind steps free legal each idle served =
+      let w' : World = world_of store' out' serving' log' lanes' in
+      let now : IsOneHistory w' = step_as w i (part_by log serving x) kind w' k.one
+      (get_map (part_by log serving) lanes i x at) steps in
       record {
         one = now;
-        whole = whole_now store' out' log' (set lanes i y) now free;
+        whole = whole_now store' out' serving' log' lanes' now free;
         legal = legal;
-        short = λ j l e. ⊎_elim
-            (λ (t : (j ≡ i) × (y ≡ l)). subst (λ (z : Lane). (z.seen ≤ length log') × (z.base ≤ length log')) t.1
-            (seen, base))
-            (λ (t : (j ≢ i) × (get_elem? lanes j ≡ some l)). let s = k.short j l t.1 in let s0 = s.0 in let s1 = s.1 in
-            (omega arith, omega arith)) (at_set lanes i j y l e);
-        numbered = λ j l e. ⊎_elim
-            (λ (t : (j ≡ i) × (y ≡ l)). ap (λ (z : Lane). z.lane) (sym t.1) ∙ (lane ∙ (k.numbered i x at ∙ sym t.0)))
-            (λ (t : (j ≢ i) × (get_elem? lanes j ≡ some l)). k.numbered j l t.1) (at_set lanes i j y l e);
-        holds = λ j l e held. ⊎_elim
-            (λ (t : (j ≡ i) × (y ≡ l)). mine (ap (λ (z : Lane). z.holding) t.1 ∙ held)
-            ∙ ap (λ (n : ℕ). Some n) (sym t.0))
-            (λ (t : (j ≢ i) × (get_elem? lanes j ≡ some l)). others j t.0 (k.holds j l t.1 held))
-            (at_set lanes i j y l e);
+        each = each;
+        idle = idle;
+        served = served;
       }
 
+  -- the lane of the call that is served, where a lane keeps its slot
+  pub still_served : (y : Lane) → y.slot ≡ x.slot → (s : Service) → serving ≡ Some s
+      → (l : Lane) × (get_elem? (set lanes i y) s.lane ≡ some l) × (l.slot ≡ slots.Serving)
+  still_served y same s is = let t = k.served s is in dite (ℕ_discrete s.lane i)
+      (λ here. let one : t.0 ≡ x = some-injective t.0 x (sym t.1 ∙ (ap (get_elem? lanes) here ∙ at)) in (
+        y,
+        ap (get_elem? (set lanes i y)) here ∙ set_at lanes i y x at,
+        same ∙ (ap (λ (z : Lane). z.slot) (sym one) ∙ t.2),
+      ))
+      (λ away. (t.0, set_else lanes i s.lane y away ∙ t.1, t.2))
+
   -- a lane that isn't the holder holds nothing
-  unheld : (j : ℕ) (l : Lane) → get_elem? lanes j ≡ some l → j ≢ i → out ≡ Some i → l.holding ≡ false
-  unheld j l e not here = not_true l.holding (λ held. not (let both : Some j ≡ Some i = sym (k.holds j l e held)
+  pub unheld : (j : ℕ) (l : Lane) → get_elem? lanes j ≡ some l → j ≢ i → out ≡ Some i → l.holding ≡ false
+  unheld j l e not here = not_true l.holding (λ held. not (let both : Some j ≡ Some i = sym ((k.each j l e).holds held)
       ∙ here in cc))
 
   abbrev pub Moved : State → Option ℕ → List Event → Lane → Kind → Type 0
   Moved store' out' log' y kind =
-      IsKept store' out' log' (set lanes i y)
-      × StepsAs w i (part_by log x) kind (world_of store' out' log' (set lanes i y))
+      IsKept store' out' serving log' (set lanes i y)
+      × StepsAs w i (part_by log serving x) kind (world_of store' out' serving log' (set lanes i y))
 
   -- take
-  pub takes : (base n : ℕ) → out ≡ None → base ≡ length log → n ≡ x.taken + 1
-      → Moved store (Some i) log record x { base = base; holding = true; taken = n } Take
-  takes base n free eb en =
-      let y : Lane = record x { base = base; holding = true; taken = n } in
-      let part : part_by log y ≡ taken (part_by log x) log =
-      λ j. record (taken (part_by log x) log) {
+  pub takes : (base n : ℕ) (v : Vec ℕ Global) → out ≡ None → base ≡ length log → n ≡ x.taken + 1 → v.items ≡ []
+      → Moved store (Some i) log record x { base = base; holding = true; taken = n; checked = v } Take
+  takes base n v free eb en ev =
+      let y : Lane = record x { base = base; holding = true; taken = n; checked = v } in
+      let none : serving ≡ None = k.idle free in
+      let part : part_by log serving y ≡ taken (part_by log serving x) log =
+      λ j. record (taken (part_by log serving x) log) {
+        serving = (none ∙ sym (cond_none x.holding serving none)) j;
         base = (ap (λ (b : ℕ). take b log) eb ∙ take-length log) j;
-        taken =
-            en j;
+        taken = en j;
+        checked = ev j;
       } in
-      let steps : StepsAs w i (part_by log x) Take (world_of store (Some i) log (set lanes i y)) = (
+      let steps : StepsAs w i (part_by log serving x) Take (world_of store (Some i) serving log (set lanes i y)) = (
         store,
         log,
         ap (turn_by store) free,
-        kept_history store out log lanes k,
-        reseats store out (Some i) log lanes i y (taken (part_by log x) log) part,
+        kept_history store out serving log lanes k,
+        reseats store out (Some i) serving log lanes i x y (taken (part_by log serving x) log) at refl part,
       ) in
-      let short = (k.short i x at).0 in (
-        after store (Some i) log y Take steps (λ no. absurd (cc)) k.legal (omega arith) refl short (omega arith)
-            (λ _. refl) (λ j _ is. absurd (let no : None ≡ Some j = sym free ∙ is in cc)),
+      let o = k.each i x at in (
+        after store (Some i) serving log (set lanes i y) Take steps (λ no. absurd (cc)) k.legal
+            (each_at (IsLane (Some i) serving log) lanes i y
+            record {
+              number = o.number;
+              seen = o.seen;
+              base = omega arith;
+              after = o.after;
+              holds = λ _. refl;
+              slot = o.slot;
+            }
+            (λ j l not e. let u = k.each j l e in lane_out out (Some i) serving log j l u
+            (λ held. absurd (let no : None ≡ Some j = sym free ∙ u.holds held in cc))))
+            (λ no. absurd (cc)) (still_served y refl),
         steps,
       )
 
@@ -104,131 +128,178 @@ module _ (store : State) (out : Option ℕ) (log : List Event) (lanes : List Lan
       → Moved store out log record x { found = n } TakeFound
   misses n holder is not en =
       let y : Lane = record x { found = n } in
-      let part : part_by log y ≡ missed (part_by log x) = λ j. record (missed (part_by log x)) { found = en j } in
-      let steps : StepsAs w i (part_by log x) TakeFound (world_of store out log (set lanes i y)) =
-      (holder, ap (turn_by store) is, not, reseats store out out log lanes i y (missed (part_by log x)) part) in
-      let short = (k.short i x at).0 in let base = (k.short i x at).1 in (
-        after store out log y TakeFound steps (λ no. absurd (let both : None ≡ Some holder = sym no ∙ is in cc)) k.legal
-            (omega arith) refl short base (λ held. k.holds i x at held) (λ j _ o. o),
+      let part : part_by log serving y ≡ missed (part_by log serving x) =
+      λ j. record (missed (part_by log serving x)) { found = en j } in
+      let steps : StepsAs w i (part_by log serving x) TakeFound (world_of store out serving log (set lanes i y)) = (
+        holder,
+        ap (turn_by store) is,
+        not,
+        reseats store out out serving log lanes i x y (missed (part_by log serving x)) at refl part,
+      ) in
+      let o = k.each i x at in (
+        after store out serving log (set lanes i y) TakeFound steps
+            (λ no. absurd (let both : None ≡ Some holder = sym no ∙ is in cc)) k.legal
+            (each_at (IsLane out serving log) lanes i y
+            record {
+              number = o.number;
+              seen = o.seen;
+              base = o.base;
+              after = o.after;
+              holds = o.holds;
+              slot = o.slot;
+            }
+            (λ j l not e. k.each j l e))
+            k.idle (still_served y refl),
         steps,
       )
 
   -- the list that the holder holds
-  pub holding_is : out ≡ Some i → (part_by log x).holding ≡ Some log
-  holding_is here = let h = subst (λ (o : Option ℕ). IsHistory (world_of store o log lanes) log) here
-      (kept_history store out log lanes k) in
-      let same : h.0 ≡ part_by log x = some-injective h.0 (part_by log x) (sym h.1
-      ∙ get_map (part_by log) lanes i x at) in
+  pub holding_is : out ≡ Some i → (part_by log serving x).holding ≡ Some log
+  holding_is here = let h = subst (λ (o : Option ℕ). IsHistory (world_of store o serving log lanes) log) here
+      (kept_history store out serving log lanes k) in
+      let same : h.0 ≡ part_by log serving x = some-injective h.0 (part_by log serving x) (sym h.1
+      ∙ get_map (part_by log serving) lanes i x at) in
       ap (λ (p : Part). p.holding) (sym same) ∙ h.2
 
-  -- so it is a holder that serves no posted call
-  abbrev pub holder : out ≡ Some i → IsHolder w i (part_by log x)
-  holder here = record {
+  -- so it is a holder, which serves no posted call where none is served
+  abbrev pub holder : out ≡ Some i → serving ≡ None → IsHolder w i (part_by log serving x)
+  holder here none = record {
     log = log;
     last = store;
     out = ap (turn_by store) here;
     held = holding_is here;
-    unserving = refl;
+    unserving = cond_none x.holding serving none;
     legal = k.legal;
   }
 
   -- put with no call of its own
-  pub puts_none : (seen : ℕ) → out ≡ Some i → seen ≡ length log
+  pub puts_none : (seen : ℕ) → out ≡ Some i → serving ≡ None → seen ≡ length log
       → Moved store None log record x { seen = seen; holding = false } (Put None)
-  puts_none seen here es =
+  puts_none seen here none es =
       let y : Lane = record x { seen = seen; holding = false } in
-      let part : part_by log y ≡ put_none (part_by log x) log =
-      λ j. record (put_none (part_by log x) log) { seen = (ap (λ (b : ℕ). take b log) es ∙ take-length log) j } in
-      let steps : StepsAs w i (part_by log x) (Put None) (world_of store None log (set lanes i y)) = (
-        holder here,
-        reseats store out None log lanes i y (put_none (part_by log x) log) part,
+      let part : part_by log serving y ≡ put_none (part_by log serving x) log =
+      λ j. record (put_none (part_by log serving x) log) {
+        seen = (ap (λ (b : ℕ). take b log) es ∙ take-length log) j;
+        serving = sym (cond_none x.holding serving none) j;
+      } in
+      let steps : StepsAs w i (part_by log serving x) (Put None) (world_of store None serving log (set lanes i y)) = (
+        holder here none,
+        reseats store out None serving log lanes i x y (put_none (part_by log serving x) log) at refl part,
       ) in
-      let base = (k.short i x at).1 in (
-        after store None log y (Put None) steps (λ _. inr (i, y, set_at lanes i y x at, es)) k.legal (omega arith) refl
-            (omega arith) base (λ no. absurd (cc))
-            (λ j not o. absurd (not (let both : Some j ≡ Some i = sym o ∙ here in cc))),
+      let o = k.each i x at in (
+        after store None serving log (set lanes i y) (Put None) steps (λ _. inr (i, y, set_at lanes i y x at, es))
+            k.legal
+            (each_at (IsLane None serving log) lanes i y
+            record {
+              number = o.number;
+              seen = omega arith;
+              base = o.base;
+              after = o.after;
+              holds = λ no. absurd (cc);
+              slot = o.slot;
+            }
+            (λ j l not e. let u = k.each j l e in lane_out out None serving log j l u
+            (λ held. absurd (not (let both : Some j ≡ Some i = sym (u.holds held) ∙ here in cc)))))
+            (λ _. none) (still_served y refl),
         steps,
       )
 
-  -- what the lanes know where the list has an event more, of the lane at this place
-  part_more : (e : Event) (j : ℕ) (l : Lane) → e.lane ≡ i → out ≡ Some i → j ≢ i → get_elem? lanes j ≡ some l
-      → part_by (log ++ e ∷ []) l ≡ part_by log l
-  part_more e j l mine here not is =
-      let short = (k.short j l is).0 in let base = (k.short j l is).1 in let number = k.numbered j l is in
-      let quiet : l.holding ≡ false = unheld j l is not here in
-      let other : e.lane ≢ l.lane = λ same. not (sym number ∙ (sym same ∙ mine)) in
-      let seen : take l.seen (log ++ e ∷ []) ≡ take l.seen log = take-append-le l.seen log (e ∷ []) short in
-      let based : take l.base (log ++ e ∷ []) ≡ take l.base log = take-append-le l.base log (e ∷ []) base in
-      let calls : events_of l.lane (log ++ e ∷ []) ≡ events_of l.lane log = other_event l.lane log e other in
-      let held : cond l.holding (Some (log ++ e ∷ [])) None ≡ cond l.holding (Some log) None =
-      ap (λ (b : Bool). cond b (Some (log ++ e ∷ [])) None) quiet
-      ∙ sym (ap (λ (b : Bool). cond b (Some log) None) quiet) in
-      λ m. record {
-        lane = l.lane;
-        seen = seen m;
-        mine = calls m;
-        holding = held m;
-        serving = None;
-        flight = None;
-        base = based m;
-        taken = l.taken;
-        found = l.found;
-        checked = [];
-        done = false;
-      }
-
   -- put with an own call
   pub puts : (seen : ℕ) (call : ℕ × Ask) (reply : Result Answer Errno) (next : State) → out ≡ Some i
+      → serving ≡ None → x.slot ≡ slots.Empty
       → Step store (event_of i call.0 call.1 reply) next → seen ≡ length log + 1
       → Moved next None (log ++ event_of i call.0 call.1 reply ∷ [])
       record x { seen = seen; holding = false } (Put (Some call))
-  puts seen call reply next here step es =
+  puts seen call reply next here none idle step es =
       let e : Event = event_of i call.0 call.1 reply in
       let log' : List Event = log ++ e ∷ [] in
       let size : length log' ≡ length log + 1 = length-append log (e ∷ []) in
       let whole : seen ≡ length log' = es ∙ sym size in
-      let number = k.numbered i x at in
-      let base = (k.short i x at).1 in
+      let o = k.each i x at in
       let y : Lane = record x { seen = seen; holding = false } in
-      let based : take x.base log' ≡ take x.base log = take-append-le x.base log (e ∷ []) base in
+      let based : take x.base log' ≡ take x.base log = take-append-le x.base log (e ∷ []) o.base in
       let saw : take seen log' ≡ log' = ap (λ (b : ℕ). take b log') whole ∙ take-length log' in
-      let calls : events_of x.lane log' ≡ events_of x.lane log ++ e ∷ [] = own_event x.lane log e (sym number) in
-      let part : part_by log' y ≡ put_own (part_by log x) log e =
-      λ j. record (put_own (part_by log x) log e) { seen = saw j; mine = calls j; base = based j } in
-      let seats : map (part_by log') (set lanes i y) ≡ set (seats_by log lanes) i (put_own (part_by log x) log e) =
-      map_else (part_by log) (part_by log') lanes i y (put_own (part_by log x) log e) part
-      (λ j l not is. part_more e j l refl here not is) in
-      let new : world_of next None log' (set lanes i y)
-      ≡ record (reseated w i (put_own (part_by log x) log e)) { turn = Free next } =
+      let calls : events_of x.lane (known_by log' x.slot) ≡ events_of x.lane (known_by log x.slot) ++ e ∷ [] =
+      subst (λ (s : Slot). events_of x.lane (known_by log' s) ≡ events_of x.lane (known_by log s) ++ e ∷ []) (sym idle)
+      (own_event x.lane log e (sym o.number)) in
+      let quiet : (after : List Event) (l : List Event) → flight_by after (cell_by l serving x.slot) ≡ None = λ after l.
+      ap (λ (s : Slot). flight_by after (cell_by l serving s)) idle in
+      let part : part_by log' serving y ≡ put_own (part_by log serving x) log e =
+      λ j. record (put_own (part_by log serving x) log e) {
+        seen = saw j;
+        mine = calls j;
+        serving = sym (cond_none x.holding serving none) j;
+        flight = (quiet (take x.after log') log' ∙ sym (quiet (take x.after log) log)) j;
+        base = based j;
+      } in
+      let others : (j : ℕ) (l : Lane) → j ≢ i → get_elem? lanes j ≡ some l
+      → part_by log' serving l ≡ part_by log serving l =
+      λ j l not is. part_more out serving log e j l (k.each j l is) (λ mine. not (sym mine)) (unheld j l is not here) in
+      let seats : map (part_by log' serving) (set lanes i y)
+      ≡ set (seats_by log serving lanes) i (put_own (part_by log serving x) log e) =
+      map_else (part_by log serving) (part_by log' serving) lanes (set lanes i y) i
+      (put_own (part_by log serving x) log e) (length-set lanes i y)
+      (λ j z v there was. (
+        (λ same. ap (part_by log' serving) (sym (some-injective y z (sym (set_at lanes i y x at)
+            ∙ (ap (get_elem? (set lanes i y)) (sym same) ∙ there)))) ∙ part),
+        (λ not. let one : z ≡ v = some-injective z v (sym there ∙ (set_else lanes i j y not ∙ was)) in
+            ap (part_by log' serving) one ∙ others j v not was),
+      )) in
+      let cells : map (lane_cell log' serving) (set lanes i y) ≡ cells_by log serving lanes =
+      map_alike (lane_cell log serving) (lane_cell log' serving) lanes (set lanes i y) (length-set lanes i y)
+      (λ j z v there was. ⊎_elim
+      (λ (t : (j ≡ i) × (y ≡ z)). let old : x ≡ v =
+      some-injective x v (sym at ∙ (ap (get_elem? lanes) (sym t.0) ∙ was)) in
+      ap (lane_cell log' serving) (sym t.1) ∙ (cell_more serving log e i x.slot o.slot
+      ∙ ap (lane_cell log serving) old))
+      (λ (t : (j ≢ i) × (get_elem? lanes j ≡ some z)). let one : z ≡ v = some-injective z v (sym t.1 ∙ was) in
+      cell_more serving log e j z.slot (k.each j z t.1).slot ∙ ap (lane_cell log serving) one)
+      (at_set lanes i j y z there)) in
+      let new : world_of next None serving log' (set lanes i y)
+      ≡ record (reseated w i (put_own (part_by log serving x) log e)) { turn = Free next } =
       λ m. record {
         opening = starting_at 3;
         turn = Free next;
-        cells = empty_cells (length-set lanes i y m);
+        cells = cells m;
         seats = seats m;
       } in
-      let steps : StepsAs w i (part_by log x) (Put (Some call)) (world_of next None log' (set lanes i y)) =
-      (holder here, reply, next, refl, step, new) in (
-        after next None log' y (Put (Some call)) steps (λ _. inr (i, y, set_at lanes i y x at, whole))
-            (legal_more (starting_at 3) store next log e k.legal step) (omega arith) refl (omega arith) (omega arith)
-            (λ no. absurd (cc)) (λ j not o. absurd (not (let both : Some j ≡ Some i = sym o ∙ here in cc))),
+      let steps : StepsAs w i (part_by log serving x) (Put (Some call))
+      (world_of next None serving log' (set lanes i y)) =
+      (holder here none, reply, next, quiet (take x.after log) log, step, new) in (
+        after next None serving log' (set lanes i y) (Put (Some call)) steps
+            (λ _. inr (i, y, set_at lanes i y x at, whole))
+            (legal_more (starting_at 3) store next log e k.legal step)
+            (each_at (IsLane None serving log') lanes i y
+            (let b = o.base in let a = o.after in record {
+              number = o.number;
+              seen = omega arith;
+              base = omega arith;
+              after = omega arith;
+              holds = λ no. absurd (cc);
+              slot = slot_more serving log e i x.slot o.slot;
+            })
+            (λ j l not is. let u = k.each j l is in lane_more out None serving log e j l u
+            (λ held. absurd (not (let both : Some j ≡ Some i = sym (u.holds held) ∙ here in cc)))))
+            (λ _. none) (still_served y refl),
         steps,
       )
 
   -- the same, by what was appended
   pub puts_at : (seen : ℕ) (call : ℕ × Ask) (reply : Result Answer Errno) (next : State) (log' : List Event)
-      → out ≡ Some i → Step store (event_of i call.0 call.1 reply) next
+      → out ≡ Some i → serving ≡ None → x.slot ≡ slots.Empty → Step store (event_of i call.0 call.1 reply) next
       → log' ≡ log ++ event_of i call.0 call.1 reply ∷ [] → seen ≡ length log'
       → Moved next None log'
       record x { seen = seen; holding = false } (Put (Some call))
-  puts_at seen call reply next log' here step is es =
+  puts_at seen call reply next log' here none idle step is es =
       let e : Event = event_of i call.0 call.1 reply in
       let size : seen ≡ length log + 1 = es ∙ (ap length is ∙ length-append log (e ∷ [])) in
       subst (λ (l : List Event). Moved next None l
       record x { seen = seen; holding = false } (Put (Some call)))
-      (sym is) (puts seen call reply next here step size)
+      (sym is) (puts seen call reply next here none idle step size)
 
   -- after a load some lane has seen all calls, where one had before
-  still : (n : ℕ) (y : Lane) → y.seen ≡ n → x.seen ≤ n → n ≤ length log → out ≡ None → IsSeenWhole log (set lanes i y)
+  pub still : (n : ℕ) (y : Lane) → y.seen ≡ n → x.seen ≤ n → n ≤ length log → out ≡ None
+      → IsSeenWhole log (set lanes i y)
   still n y is more within free =
       ⊎_elim inl (λ (t : (j : ℕ) × (l : Lane) × (get_elem? lanes j ≡ some l) × (l.seen ≡ length log)). inr
       (dite (ℕ_discrete t.0 i)
@@ -236,43 +307,70 @@ module _ (store : State) (out : Option ℕ) (log : List Event) (lanes : List Lan
       let all : x.seen ≡ length log = ap (λ (z : Lane). z.seen) (sym one) ∙ t.3 in
       (i, y, set_at lanes i y x at, omega arith))
       (λ away. (t.0, t.1, set_else lanes i t.0 y away ∙ t.2, t.3))))
-      (seen_whole store log lanes (subst (λ (o : Option ℕ). IsKept store o log lanes) free k))
+      (seen_whole store serving log lanes (subst (λ (o : Option ℕ). IsKept store o serving log lanes) free k))
 
   -- load
   pub loads : (n : ℕ) → x.seen ≤ n → n ≤ length log
       → Moved store out log record x { seen = n } (Load n)
   loads n more within =
       let y : Lane = record x { seen = n } in
-      let steps : StepsAs w i (part_by log x) (Load n) (world_of store out log (set lanes i y)) = (
+      let steps : StepsAs w i (part_by log serving x) (Load n) (world_of store out serving log (set lanes i y)) = (
         log,
         take n log,
-        kept_history store out log lanes k,
+        kept_history store out serving log lanes k,
         begins_further x.seen n log more,
         begins_take n log,
         length-take-le n log within,
-        reseats store out out log lanes i y (loaded (part_by log x) (take n log)) refl,
+        reseats store out out serving log lanes i x y (loaded (part_by log serving x) (take n log)) at refl refl,
       ) in
-      let base = (k.short i x at).1 in (
-        after store out log y (Load n) steps (λ free. still n y refl more within free) k.legal
-            (omega arith) refl within base
-            (λ held. k.holds i x at held) (λ j _ o. o),
+      let o = k.each i x at in (
+        after store out serving log (set lanes i y) (Load n) steps (λ free. still n y refl more within free) k.legal
+            (each_at (IsLane out serving log) lanes i y
+            record {
+              number = o.number;
+              seen = within;
+              base = o.base;
+              after = o.after;
+              holds = o.holds;
+              slot = o.slot;
+            }
+            (λ j l not e. k.each j l e))
+            k.idle (still_served y refl),
         steps,
       )
 
   -- A step that isn't possible.
 
   -- what the seat at this place knows
-  seat_is : (p : Part) → get_elem? (seats_by log lanes) i ≡ some p → p ≡ part_by log x
-  seat_is p e = some-injective p (part_by log x) (sym e ∙ get_map (part_by log) lanes i x at)
+  pub seat_is : (p : Part) → get_elem? (seats_by log serving lanes) i ≡ some p → p ≡ part_by log serving x
+  seat_is p e = some-injective p (part_by log serving x) (sym e ∙ get_map (part_by log serving) lanes i x at)
 
   pub no_load : (n : ℕ) → (n < x.seen) ⊎ (length log < n) → (p : Part) (other : World)
-      → get_elem? (seats_by log lanes) i ≡ some p → StepsAs w i p (Load n) other → ⊥
+      → get_elem? (seats_by log serving lanes) i ≡ some p → StepsAs w i p (Load n) other → ⊥
   no_load n outside p other e steps =
-      let whole : steps.0 ≡ log = history_kept store out log lanes k steps.0 steps.2 in
+      let whole : steps.0 ≡ log = history_kept store out serving log lanes k steps.0 steps.2 in
       let seen : take x.seen log ≡ p.seen = ap (λ (q : Part). q.seen) (sym (seat_is p e)) in
-      let size : length (take x.seen log) ≡ x.seen = length-take-le x.seen log (k.short i x at).0 in
+      let size : length (take x.seen log) ≡ x.seen = length-take-le x.seen log (k.each i x at).seen in
       let same : length (take x.seen log) ≡ length p.seen = ap length seen in
       let below : length p.seen ≤ length steps.1 = begins_short p.seen steps.1 steps.3 in
       let above : length steps.1 ≤ length steps.0 = begins_short steps.1 steps.0 steps.4 in
       let all : length steps.0 ≡ length log = ap length whole in let is : length steps.1 ≡ n = steps.5 in
       ⊎_elim (λ (lt : n < x.seen). omega arith) (λ (lt : length log < n). omega arith) outside
+
+  -- who serves a posted call can't put its own or take up another
+  pub no_holder : (s : Service) → serving ≡ Some s → (p : Part) → get_elem? (seats_by log serving lanes) i ≡ some p
+      → IsHolder w i p → ⊥
+  no_holder s is p e h =
+      let same : p ≡ part_by log serving x = seat_is p e in
+      let holds : x.holding ≡ true = held_true x.holding log h.log (ap (λ (q : Part). q.holding) (sym same) ∙ h.held) in
+      let no : Some s ≡ None = sym is ∙ (ap (λ (b : Bool). cond b serving None) (sym holds)
+      ∙ (ap (λ (q : Part). q.serving) (sym same) ∙ h.unserving)) in cc
+
+  -- nor who has a call in flight
+  pub no_put : (call : ℕ × Ask) → (x.slot ≡ slots.Empty → ⊥) → (p : Part) (other : World)
+      → get_elem? (seats_by log serving lanes) i ≡ some p → StepsAs w i p (Put (Some call)) other → ⊥
+  no_put call not p other e steps =
+      let same : p ≡ part_by log serving x = seat_is p e in
+      let idle : (part_by log serving x).flight ≡ None = ap (λ (q : Part). q.flight) (sym same) ∙ steps.3 in
+      not (slot_empty serving log i x.slot (k.each i x at).slot (cell_idle (take x.after log)
+      (lane_cell log serving x) idle))

@@ -1,25 +1,27 @@
 -- The history only grows, and so does what seats have seen, which begins it.
 use Rattle.std.proofs.Common.{◌≡◌, ℕ, List, [], ◌∷◌, ◌++◌, set, Some, None, Result, refl, sym, ap, ◌∙◌, subst}
-use Rattle.std.proofs.Common.{inl, inr}
+use Rattle.std.proofs.Common.{inl, inr, cond, ◌==◌, false}
 use Rattle.std.proofs.Common.{◌⊎◌, ⊎_elim, append_assoc}
 use mathlib.Core.Option.{some, some-injective}
 use mathlib.Core.Logic.{dite}
 use native.Mathlib.Decide.{ℕ_discrete}
 use lib.ListN.{get_elem?}
 use Rattle.krs_types.specs.declared.ask.Ask.{Ask}
-use Rattle.krs_types.specs.declared.ask.Answer.{Answer}
+use Rattle.krs_types.specs.declared.ask.Answer as answer
 use Rattle.krs_types.specs.declared.errno.Errno.{Errno}
 use Rattle.krs_types.specs.declared.event.Event.{Event}
 use Rattle.krs_model.specs.Lists.{Begins}
 use Rattle.krs_model.specs.History.{event_of}
 use Rattle.krs_world.specs.declared.view.Part.{Part}
 use Rattle.krs_world.specs.declared.step.Kind.{Kind}
-use Rattle.krs_world.specs.declared.step.Kind.TheVariants.{Take, TakeFound, Put, Load}
+use Rattle.krs_world.specs.declared.step.Kind.TheVariants.{Take, TakeFound, Put, Load, Post, Grab, Answer, Collect}
+use Rattle.krs_world.specs.declared.step.Kind.TheVariants.{CollectFound, LookAt}
 use Rattle.krs_world.specs.declared.step.WorldStep.{WorldStep}
-use Rattle.krs_world.specs.Knowing.{one, taken, missed, put_own, put_none, loaded}
+use Rattle.krs_world.specs.Knowing.{one, taken, missed, put_own, put_none, loaded, posted, grabbed, answered}
+use Rattle.krs_world.specs.Knowing.{collected, looked_at}
 use Rattle.krs_world.specs.History.{StandsAfter}
 use Rattle.krs_world.specs.World.{Turn, Free, Out, World, new_world, Runs, StepsAs, IsLongest, IsHistoryBy, IsHistory}
-use Rattle.krs_world.specs.World.{reseated, cell_of, IsOneHistory}
+use Rattle.krs_world.specs.World.{reseated, cell_of, IsOneHistory, is_answered, event_by}
 use Rattle.krs_world.specs.Order.{SeenGrows, OnlyGrows}
 use Rattle.krs_world.proofs.Keeping.{prefix_self, prefix_more, prefix_trans, set_at, set_else}
 use Rattle.krs_world.proofs.Worlds.{get_map, prefix_none, history_is, history_is_one, step_as, steps_keep, runs_keep}
@@ -76,6 +78,21 @@ step_sees w lane p (Put (Some call)) new o at t j r is = let h = t.0 in
     (prefix_more p.seen h.log (e ∷ []) (held_begins w o lane p h.log at h.held)) j r is)
 step_sees w lane p (Load n) new o at t j r is = subst (λ (z : World). Grown z.seats j r) (sym t.6)
     (grown_at w.seats lane p (loaded p t.1) at t.3 j r is)
+step_sees w lane p (Post m ask) new o at t j r is = subst (λ (z : World). Grown z.seats j r) (sym t.1)
+    (grown_at w.seats lane p (posted p m ask) at (prefix_self p.seen) j r is)
+step_sees w lane p (Grab other) new o at t j r is = subst (λ (z : World). Grown z.seats j r) (sym t.4)
+    (grown_at w.seats lane p (grabbed p other t.1 t.2) at (prefix_self p.seen) j r is)
+step_sees w lane p Answer new o at t j r is = let h = t.0 in
+    subst (λ (z : World). Grown z.seats j r) (sym t.4)
+    (grown_at w.seats lane p (answered p h.log (event_by h.call t.1)) at (prefix_self p.seen) j r is)
+step_sees w lane p (Collect n) new o at t j r is = let h = t.0 in
+    subst (λ (z : World). Grown z.seats j r) (sym t.1)
+    (grown_at w.seats lane p (collected p h.seen (event_of lane h.moment h.ask h.reply)) at h.more j r is)
+step_sees w lane p CollectFound new o at t j r is = subst (λ (z : World). Grown z.seats j r) (sym t.1)
+    (r, is, prefix_self r.seen)
+step_sees w lane p (LookAt other) new o at t j r is = subst (λ (z : World). Grown z.seats j r) (sym t.4)
+    (grown_at w.seats lane p (looked_at p other (cond (other == lane) (is_answered t.0) false)) at
+    (prefix_self p.seen) j r is)
 
 runs_see : (w : World) (steps : List WorldStep) (end : World) → IsOneHistory w → Runs w steps end → (j : ℕ) (r : Part)
     → get_elem? w.seats j ≡ some r → Grown end.seats j r
@@ -102,11 +119,12 @@ same_grows w new o n log h g = subst (λ (x : List Event × List Event). Begins 
 
 -- a step that leaves the turn, and what is held, as they were
 turn_grows : (w new : World) (lane : ℕ) (p q : Part) (o : IsOneHistory w) (n : IsOneHistory new)
-    → get_elem? w.seats lane ≡ some p → q.holding ≡ p.holding → new ≡ reseated w lane q → SeenGrows w new
+    → get_elem? w.seats lane ≡ some p → q.holding ≡ p.holding → new.turn ≡ w.turn → new.seats ≡ set w.seats lane q
+    → SeenGrows w new
     → (turn : Turn) → w.turn ≡ turn → Begins o.history.log n.history.log
-turn_grows w new lane p q o n at same is grows (Free store) turn = free_grows w new o n grows
+turn_grows w new lane p q o n at same turns seats grows (Free store) turn = free_grows w new o n grows
     (subst (λ (x : Turn). IsHistoryBy x o.history.log w.seats) turn o.whole)
-turn_grows w new lane p q o n at same is grows (Out holder) turn = let log : List Event = o.history.log in
+turn_grows w new lane p q o n at same turns seats grows (Out holder) turn = let log : List Event = o.history.log in
     let h : IsHistoryBy (Out holder) log w.seats = subst (λ (x : Turn). IsHistoryBy x log w.seats) turn o.whole in
     let g : IsHistoryBy (Out holder) log (set w.seats lane q) = dite (ℕ_discrete holder lane)
     (λ here. (
@@ -117,8 +135,8 @@ turn_grows w new lane p q o n at same is grows (Out holder) turn = let log : Lis
           ∙ h.2),
     ))
     (λ away. (h.0, set_else w.seats lane holder q away ∙ h.1, h.2)) in
-    same_grows w new o n log o.whole (subst (λ (x : World). IsHistory x log) (sym is)
-    (subst (λ (x : Turn). IsHistoryBy x log (set w.seats lane q)) (sym turn) g))
+    same_grows w new o n log o.whole (subst (λ (x : Turn × List Part). IsHistoryBy x.0 log x.1)
+    (λ i. (sym (turns ∙ turn) i, sym seats i)) g)
 
 -- what the holder held begins the one history, once its seat has seen that much
 put_grows : (w new : World) (o : IsOneHistory w) (n : IsOneHistory new) (lane : ℕ) (p q : Part) (log : List Event)
@@ -131,22 +149,48 @@ put_grows w new o n lane p q log turn at held more is =
     subst (λ (x : List Event). Begins x n.history.log) (k.holding log held).whole
     (prefix_trans log q.seen n.history.log more (seen_begins new n lane q here))
 
-log_grows : (w : World) (lane : ℕ) (p : Part) (k : Kind) (new : World) (o : IsOneHistory w) (n : IsOneHistory new)
+pub log_grows : (w : World) (lane : ℕ) (p : Part) (k : Kind) (new : World) (o : IsOneHistory w) (n : IsOneHistory new)
     → get_elem? w.seats lane ≡ some p → StepsAs w lane p k new → Begins o.history.log n.history.log
 log_grows w lane p Take new o n at t = same_grows w new o n t.1 t.3 (subst (λ (x : World). IsHistory x t.1) (sym t.4)
     (taken p t.1, set_at w.seats lane (taken p t.1) p at, refl))
-log_grows w lane p TakeFound new o n at t = turn_grows w new lane p (missed p) o n at refl t.3
-    (step_sees w lane p TakeFound new o at t) (Out t.0) t.1
+log_grows w lane p TakeFound new o n at t = turn_grows w new lane p (missed p) o n at refl (ap (λ (x : World). x.turn) t.3)
+    (ap (λ (x : World). x.seats) t.3) (step_sees w lane p TakeFound new o at t) (Out t.0) t.1
 log_grows w lane p (Put None) new o n at t =
     put_grows w new o n lane p (put_none p t.0.log) t.0.log (Free t.0.last) at t.0.held (prefix_self t.0.log) t.1
 log_grows w lane p (Put (Some call)) new o n at t = let h = t.0 in
     let e : Event = event_of lane call.0 call.1 t.1 in
     put_grows w new o n lane p (put_own p h.log e) h.log (Free t.2) at h.held
     (prefix_more h.log h.log (e ∷ []) (prefix_self h.log)) t.5
-log_grows w lane p (Load seen) new o n at t = turn_grows w new lane p (loaded p t.1) o n at refl t.6
-    (step_sees w lane p (Load seen) new o at t) w.turn refl
+log_grows w lane p (Load seen) new o n at t = turn_grows w new lane p (loaded p t.1) o n at refl
+    (ap (λ (x : World). x.turn) t.6) (ap (λ (x : World). x.seats) t.6) (step_sees w lane p (Load seen) new o at t)
+    w.turn refl
+log_grows w lane p (Post m ask) new o n at t = turn_grows w new lane p (posted p m ask) o n at refl
+    (ap (λ (x : World). x.turn) t.1) (ap (λ (x : World). x.seats) t.1) (step_sees w lane p (Post m ask) new o at t)
+    w.turn refl
+log_grows w lane p (Grab other) new o n at t = turn_grows w new lane p (grabbed p other t.1 t.2) o n at refl
+    (ap (λ (x : World). x.turn) t.4) (ap (λ (x : World). x.seats) t.4) (step_sees w lane p (Grab other) new o at t)
+    w.turn refl
+log_grows w lane p Answer new o n at t = let h = t.0 in let e : Event = event_by h.call t.1 in
+    let q : Part = answered p h.log e in
+    let k = o.history.each lane (one w.opening p) (get_map (one w.opening) w.seats lane p at) in
+    let turns : new.turn ≡ Out lane = ap (λ (x : World). x.turn) t.4 ∙ h.out in
+    let seats : new.seats ≡ set w.seats lane q = ap (λ (x : World). x.seats) t.4 in
+    let now : IsHistory new (h.log ++ e ∷ []) = subst (λ (x : Turn × List Part). IsHistoryBy x.0 (h.log ++ e ∷ []) x.1)
+    (λ i. (sym turns i, sym seats i)) (q, set_at w.seats lane q p at, refl) in
+    subst (λ (x : List Event × List Event). Begins x.0 x.1)
+    (λ i. ((k.holding h.log h.held).whole i, history_is_one new n (h.log ++ e ∷ []) now i)) (e ∷ [], refl)
+log_grows w lane p (Collect size) new o n at t = let h = t.0 in
+    turn_grows w new lane p (collected p h.seen (event_of lane h.moment h.ask h.reply)) o n at refl
+    (ap (λ (x : World). x.turn) t.1) (ap (λ (x : World). x.seats) t.1) (step_sees w lane p (Collect size) new o at t)
+    w.turn refl
+log_grows w lane p CollectFound new o n at t = same_grows w new o n o.history.log o.whole
+    (subst (λ (x : World). IsHistory x o.history.log) (sym t.1) o.whole)
+log_grows w lane p (LookAt other) new o n at t =
+    turn_grows w new lane p (looked_at p other (cond (other == lane) (is_answered t.0) false)) o n at refl
+    (ap (λ (x : World). x.turn) t.4) (ap (λ (x : World). x.seats) t.4) (step_sees w lane p (LookAt other) new o at t)
+    w.turn refl
 
-runs_grow : (w : World) (steps : List WorldStep) (end : World) (o : IsOneHistory w) (n : IsOneHistory end)
+pub runs_grow : (w : World) (steps : List WorldStep) (end : World) (o : IsOneHistory w) (n : IsOneHistory end)
     → Runs w steps end → Begins o.history.log n.history.log
 runs_grow w [] end o n r =
     same_grows w end o n o.history.log o.whole (subst (λ (x : World). IsHistory x o.history.log) r o.whole)
@@ -178,7 +222,7 @@ one_order lanes before after mid end i j p q first second at there =
 pub real_time : (lanes : ℕ) (before after : List WorldStep) (mid next end : World) (lane : ℕ) (p : Part)
     (call : ℕ × Ask) (log : List Event) → Runs (new_world lanes) before mid → get_elem? mid.seats lane ≡ some p
     → StepsAs mid lane p (Put (Some call)) next → Runs next after end → IsHistory end log
-    → (reply : Result Answer Errno) × (q : Part) × (get_elem? next.seats lane ≡ some q)
+    → (reply : Result answer.Answer Errno) × (q : Part) × (get_elem? next.seats lane ≡ some q)
     × (q.mine ≡ p.mine ++ event_of lane call.0 call.1 reply ∷ [])
     × StandsAfter p.seen (event_of lane call.0 call.1 reply) log
 real_time lanes before after mid next end lane p call log first at step second history =

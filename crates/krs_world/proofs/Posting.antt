@@ -1,5 +1,4 @@
--- A call that is posted, and a reply that is collected, keep the one history: two cases of steps that no machine
--- makes so far.
+-- A call that is posted, and a reply that is collected, keep the one history.
 use Rattle.std.proofs.Common.{◌≡◌, ℕ, ◌<◌, List, set, Option, None, refl, sym, ap, ◌∙◌}
 use Rattle.std.proofs.Common.{[], ◌∷◌, ◌++◌, subst, arith, Result}
 use mathlib.Core.Option.{some}

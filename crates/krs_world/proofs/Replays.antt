@@ -11,7 +11,7 @@ use Rattle.krs_types.specs.declared.ask.Answer.{Answer}
 use Rattle.krs_types.specs.declared.ask.Ask.{Ask}
 use Rattle.krs_types.specs.declared.ask.Op.{Op}
 use Rattle.krs_types.specs.declared.event.Event.{Event}
-use Rattle.krs_types.specs.Growth.{grows_meanwhile}
+use Rattle.krs_types.specs.Growth.{grows}
 use Rattle.krs_model.specs.State.{State, raised}
 use Rattle.krs_model.specs.Outcome.{Outcome}
 use Rattle.krs_model.specs.Step.{Step, Ends, LacksMemory, outcome_of}
@@ -30,7 +30,7 @@ replied (Ok done) = Ok done.1
 replied (Err e) = Err e
 
 reply_is : (s new : State) (client context : ℕ) (op : Op) (reply : Result Answer Errno)
-    → Ends s client context op reply new → (reply ≡ Err ENOMEM → grows_meanwhile op ≡ true → ⊥)
+    → Ends s client context op reply new → (reply ≡ Err ENOMEM → grows op ≡ true → ⊥)
     → reply ≡ replied (outcome_of s client context op)
 reply_is s new client context op (Ok answer) ends not = sym (ap replied ends.meant)
 reply_is s new client context op (Err e) ends not =
@@ -47,7 +47,7 @@ only_reply old a b e f lane moment ask first second memory other =
     let meant : ℕ → ℕ → Ask → Outcome = λ n at_moment asked.
     outcome_of (raised old at_moment) n asked.context asked.op in
     let this : e.reply ≡ replied (meant e.lane e.moment e.ask) =
-    reply_is (raised old e.moment) a e.lane e.ask.context e.ask.op e.reply first (λ is grows. memory (is, grows)) in
+    reply_is (raised old e.moment) a e.lane e.ask.context e.ask.op e.reply first (λ is takes. memory (is, takes)) in
     let that : f.reply ≡ replied (meant f.lane f.moment f.ask) =
     reply_is (raised old f.moment) b f.lane f.ask.context f.ask.op f.reply second (λ is _. other is) in
     let same : meant e.lane e.moment e.ask ≡ meant f.lane f.moment f.ask =

@@ -1,6 +1,6 @@
 -- The holder of the turn serves posted calls, and the one history stays: it takes up a call, answers it, and looks at
 -- the cells that are not posted.
-use Rattle.std.proofs.Common.{◌≡◌, ◌≢◌, ◌<◌, ◌≤◌, ℕ, Bool, true, false, cond, List, [], ◌∷◌, ◌++◌, set, Option}
+use Rattle.std.proofs.Common.{◌≡◌, ◌≢◌, ℕ, Bool, true, false, cond, List, [], ◌∷◌, ◌++◌, set, Option}
 use Rattle.std.proofs.Common.{Some, None, Result, refl, sym, ap, ◌∙◌, subst, inl, inr, ◌⊎◌, arith, ne_eqb}
 use mathlib.Core.Option.{some}
 use mathlib.Core.Logic.{dite}
@@ -21,11 +21,10 @@ use Rattle.krs_world.specs.declared.view.Part.{Part}
 use Rattle.krs_world.specs.declared.view.Service.{Service}
 use Rattle.krs_world.specs.declared.view.Standing.TheVariants.{One}
 use Rattle.krs_world.specs.declared.view.View.{View}
-use Rattle.krs_world.specs.Knowing.{events_of, one, service, flight, grabbed, answered, looked_at, celled}
+use Rattle.krs_world.specs.Knowing.{events_of, one, service, grabbed, answered, looked_at, celled}
 use Rattle.krs_world.specs.History.{Shared, Fits, Stands, OneHistory}
 use Rattle.krs_world.proofs.Lanes.{held_set, each_set, shares, others_stand, celled_here, celled_else, set_at}
 use Rattle.krs_world.proofs.Lanes.{prefix_more, own_event, other_event, fits_more, fits_same}
-use Rattle.krs_world.proofs.Places.{dealing_set}
 use Rattle.krs_world.proofs.Keeping.{own, views_open, seats_stay, stays}
 
 module _ (a : State) (views : List View) (id : ℕ) (p : Part) (at : get_elem? views id ≡ some (one a p)) where

@@ -1,26 +1,38 @@
 -- Each step of the machine keeps the one history.
 use Rattle.std.proofs.Common.{inl, inr, ◌≡◌, ◌≢◌, ℕ, zero, suc, List, [], ◌∷◌, ◌++◌, map, set}
-use Rattle.std.proofs.Common.{Option, Some, None, refl, sym, ap, ◌∙◌, subst, ⊎_elim, arith}
+use Rattle.std.proofs.Common.{Option, Some, None, refl, sym, ap, ◌∙◌, subst, ⊎_elim, arith, eq-eqb, ne_eqb, cond}
+use Rattle.std.proofs.Common.{◌==◌, Bool, true, false, Result}
 use mathlib.Core.Option.{some, some-injective, some-ne-none}
 use Rattle.krs_model.specs.Lists.{Begins}
 use mathlib.Core.Logic.{dite}
 use native.Mathlib.Decide.{ℕ_discrete}
 use lib.ListN.{get_elem?}
+use Rattle.krs_types.specs.declared.ask.Ask.{Ask}
+use Rattle.krs_types.specs.declared.ask.Answer as answer
+use Rattle.krs_types.specs.declared.errno.Errno.{Errno}
 use Rattle.krs_types.specs.declared.event.Event.{Event}
 use Rattle.krs_model.specs.State.{State}
 use Rattle.krs_model.specs.History.{event_of}
 use Rattle.krs_world.specs.declared.view.Cell.{Cell}
+use Rattle.krs_world.specs.declared.view.Cell.TheVariants as cells
 use Rattle.krs_world.specs.declared.view.Part.{Part}
+use Rattle.krs_world.specs.declared.view.Service.{Service}
 use Rattle.krs_world.specs.declared.view.View.{View}
 use Rattle.krs_world.specs.declared.step.Kind.{Kind}
-use Rattle.krs_world.specs.declared.step.Kind.TheVariants.{Take, TakeFound, Put, Load}
+use Rattle.krs_world.specs.declared.step.Kind.TheVariants.{Take, TakeFound, Put, Load, Post, Grab, Answer, Collect}
+use Rattle.krs_world.specs.declared.step.Kind.TheVariants.{CollectFound, LookAt}
 use Rattle.krs_world.specs.declared.step.WorldStep.{WorldStep}
-use Rattle.krs_world.specs.Knowing.{one, taken, missed, put_own, put_none, loaded}
-use Rattle.krs_world.specs.History.{OneHistory, HasSeen}
-use Rattle.krs_world.specs.World.{Turn, Free, Out, World, IsLongest, IsHistoryBy, reseated, StepsAs, Steps, Runs}
+use Rattle.krs_world.specs.Knowing.{events_of, one, taken, missed, put_own, put_none, loaded, posted, grabbed, answered}
+use Rattle.krs_world.specs.Knowing.{collected, looked_at, celled}
+use Rattle.krs_world.specs.History.{Fits, OneHistory, HasSeen}
+use Rattle.krs_world.specs.World.{Turn, Free, Out, World, IsLongest, IsHistoryBy, reseated, recelled, StepsAs, Steps, Runs}
+use Rattle.krs_world.specs.World.{is_answered, event_by}
 use Rattle.krs_world.specs.World.{turn_word, at_home, cell_of, views_of, IsHistory, IsOneHistory}
 use Rattle.krs_world.proofs.Keeping.{prefix_both, at_set, set_at, set_else}
+use Rattle.krs_world.proofs.Lanes.{celled_here, celled_else, prefix_self}
 use Rattle.krs_world.proofs.Keeping as law
+use Rattle.krs_world.proofs.Posting as posting
+use Rattle.krs_world.proofs.Serving as serving
 
 map_set : {A B : Type 0} (f : A → B) (xs : List A) (i : ℕ) (x : A) → map f (set xs i x) ≡ set (map f xs) i (f x)
 map_set f [] i x = refl
@@ -122,6 +134,33 @@ out_stays (Out holder) seats lane p q at same t = dite (ℕ_discrete holder lane
     ))
     (λ away. (t.0, t.1, set_else seats lane holder q away ∙ t.2, t.3))
 
+-- Cells.
+
+pub cell_at : (cs : List Cell) (l : ℕ) (c : Cell) → get_elem? cs l ≡ some c → cell_of cs l ≡ c
+cell_at [] l c e = absurd (some-ne-none c (sym e))
+cell_at (x ∷ xs) zero c e = some-injective x c e
+cell_at (x ∷ xs) (suc l) c e = cell_at xs l c e
+
+-- a cell that isn't empty is some lane's
+pub at_cell : (cs : List Cell) (l : ℕ) → cell_of cs l ≢ cells.Empty → get_elem? cs l ≡ some (cell_of cs l)
+at_cell [] l not = absurd (not refl)
+at_cell (x ∷ xs) zero not = refl
+at_cell (x ∷ xs) (suc l) not = at_cell xs l not
+
+cell_else : (cs : List Cell) (l j : ℕ) (c : Cell) → j ≢ l → cell_of (set cs l c) j ≡ cell_of cs j
+cell_else [] l j c not = refl
+cell_else (x ∷ xs) zero zero c not = absurd (not refl)
+cell_else (x ∷ xs) zero (suc j) c not = refl
+cell_else (x ∷ xs) (suc l) zero c not = refl
+cell_else (x ∷ xs) (suc l) (suc j) c not = cell_else xs l j c (λ e. not (ap suc e))
+
+cells_set : (cs : List Cell) (l : ℕ) (c old : Cell) → get_elem? cs l ≡ some old
+    → celled (cell_of cs) l c ≡ cell_of (set cs l c)
+cells_set cs l c old at = λ i j. (dite (ℕ_discrete j l)
+    (λ (same : j ≡ l). ap (celled (cell_of cs) l c) same ∙ (celled_here (cell_of cs) l c
+    ∙ (sym (cell_at (set cs l c) l c (set_at cs l c old at)) ∙ ap (cell_of (set cs l c)) (sym same))))
+    (λ not. celled_else (cell_of cs) l j c not ∙ sym (cell_else cs l j c not))) i
+
 -- at a free turn nobody holds a list
 none_held : (a : State) (cell : ℕ → Cell) (seats : List Part) (home : Option State) (o : OneHistory a 0 home cell
     (map (one a) seats)) (lane : ℕ) (p : Part) → get_elem? seats lane ≡ some p → (h : Option (List Event))
@@ -140,6 +179,50 @@ one_now new history out lanes = record {
   whole = history_stands new.opening (cell_of new.cells) new.seats new.turn history out;
   lanes = lanes;
 }
+
+-- the same, of a machine with another seat and another cell
+one_more : (w : World) (o : IsOneHistory w) (lane : ℕ) (p q : Part) (l : ℕ) (c old : Cell)
+    → get_elem? w.seats lane ≡ some p → get_elem? w.cells l ≡ some old → q.lane ≡ p.lane
+    → IsOutAt w.turn (set w.seats lane q)
+    → OneHistory w.opening (turn_word w.turn) (at_home w.turn) (celled (cell_of w.cells) l c)
+    (set (views_of w) lane (one w.opening q))
+    → IsOneHistory (recelled (reseated w lane q) l c)
+one_more w o lane p q l c old at is same out history = let a = w.opening in
+    one_now (recelled (reseated w lane q) l c)
+    (reads a (cell_of (set w.cells l c)) w.seats (turn_word w.turn) (at_home w.turn) lane q
+    (subst (λ (f : ℕ → Cell). OneHistory a (turn_word w.turn) (at_home w.turn) f (set (views_of w) lane (one a q)))
+    (cells_set w.cells l c old is) history))
+    out (lanes_stay w.seats lane p q at same o.lanes)
+
+-- a cell with a reply
+has_reply : (c : Cell) → is_answered c ≡ true
+    → (m : ℕ) × (ask : Ask) × (r : Result answer.Answer Errno) × (c ≡ cells.Answered m ask r)
+has_reply cells.Empty e = absurd cc
+has_reply (cells.Posted m ask) e = absurd cc
+has_reply (cells.Serving m ask) e = absurd cc
+has_reply (cells.Answered m ask r) e = (m, ask, r, refl)
+
+-- the own cell that a holder looked at, and found answered
+finished : (cs : List Cell) (lane other own : ℕ) (c : Cell) → own ≡ lane → get_elem? cs other ≡ some c
+    → cond (other == lane) (is_answered c) false ≡ true
+    → (m : ℕ) × (ask : Ask) × (r : Result answer.Answer Errno) × (cell_of cs own ≡ cells.Answered m ask r)
+finished cs lane other own c number at is_so = dite (ℕ_discrete other lane)
+    (λ (same : other ≡ lane). let t = has_reply c (ap (λ (b : Bool). cond b (is_answered c) false)
+    (sym (eq-eqb other lane same)) ∙ is_so) in
+    (t.0, t.1, t.2, ap (cell_of cs) (number ∙ sym same) ∙ (cell_at cs other c at ∙ t.3)))
+    (λ not. absurd (let no : false ≡ true = ap (λ (b : Bool). cond b (is_answered c) false)
+    (sym (ne_eqb other lane not)) ∙ is_so in cc))
+
+-- the cell of the lane whose call is served
+served_at : (w : World) (o : IsOneHistory w) (lane : ℕ) (p : Part) (call : Service) (log : List Event)
+    → get_elem? w.seats lane ≡ some p → p.holding ≡ Some log → p.serving ≡ Some call
+    → get_elem? w.cells call.lane ≡ some (cells.Serving call.moment call.ask)
+served_at w o lane p call log at held serves = let a = w.opening in
+    let k = o.history.each lane (one a p) (get_map (one a) w.seats lane p at) in
+    let is : cell_of w.cells call.lane ≡ cells.Serving call.moment call.ask =
+    o.history.served call (sym (k.holding log held).same_service ∙ serves) in
+    at_cell w.cells call.lane (λ empty. let no : cells.Empty ≡ cells.Serving call.moment call.ask = sym empty ∙ is in cc)
+    ∙ ap (λ (c : Cell). some c) is
 
 pub step_as : (w : World) (lane : ℕ) (p : Part) (k : Kind) (new : World) → IsOneHistory w
     → get_elem? w.seats lane ≡ some p → StepsAs w lane p k new → IsOneHistory new
@@ -179,6 +262,58 @@ step_as w lane p (Load n) new o at t = let a = w.opening in let cell = cell_of w
     (reads a cell w.seats (turn_word w.turn) (at_home w.turn) lane q (law.loads a (views_of w) lane p
     (seat_of a cell w.seats lane p at) (turn_word w.turn) (at_home w.turn) cell t.1 o.history t.3
     (subst (Begins t.1) is t.4)))
+    (out_stays w.turn w.seats lane p q at refl (out_at w.turn w.seats o.history.log o.whole))
+    (lanes_stay w.seats lane p q at refl o.lanes))
+step_as w lane p (Post m ask) new o at t = let a = w.opening in let cell = cell_of w.cells in
+    let q : Part = posted p m ask in let number = o.lanes lane p at in
+    let is_at = seat_of a cell w.seats lane p at in
+    let k = o.history.each lane (one a p) is_at in
+    let empty : cell p.lane ≡ cells.Empty = ap cell number ∙ cell_at w.cells lane cells.Empty t.0 in
+    let fits : Fits o.history.log p cells.Empty = subst (Fits o.history.log p) empty k.fits in
+    subst IsOneHistory (sym t.1) (one_more w o lane p q lane (cells.Posted m ask) cells.Empty at t.0 refl
+    (out_stays w.turn w.seats lane p q at refl (out_at w.turn w.seats o.history.log o.whole))
+    (subst (λ (l : ℕ). OneHistory a (turn_word w.turn) (at_home w.turn) (celled cell l (cells.Posted m ask))
+    (set (views_of w) lane (one a q))) number
+    (posting.posts a (views_of w) lane p is_at (turn_word w.turn) (at_home w.turn) cell o.history m ask fits.0)))
+step_as w lane p (Grab other) new o at t = let a = w.opening in let cell = cell_of w.cells in let h = t.0 in
+    let q : Part = grabbed p other t.1 t.2 in
+    let is : cell other ≡ cells.Posted t.1 t.2 = cell_at w.cells other (cells.Posted t.1 t.2) t.3 in
+    subst IsOneHistory (sym t.4) (one_more w o lane p q other (cells.Serving t.1 t.2) (cells.Posted t.1 t.2) at t.3 refl
+    (out_stays w.turn w.seats lane p q at refl (out_at w.turn w.seats o.history.log o.whole))
+    (serving.grabs a (views_of w) lane p (seat_of a cell w.seats lane p at) (turn_word w.turn) (at_home w.turn) cell
+    h.log other t.1 t.2 o.history h.held h.unserving is))
+step_as w lane p Answer new o at t = let a = w.opening in let cell = cell_of w.cells in let h = t.0 in
+    let call : Service = h.call in let e : Event = event_by call t.1 in let q : Part = answered p h.log e in
+    let out : IsOutAt w.turn (set w.seats lane q) = subst (λ (x : Turn). IsOutAt x (set w.seats lane q)) (sym h.out)
+    (q, h.log ++ e ∷ [], set_at w.seats lane q p at, refl) in
+    subst IsOneHistory (sym t.4) (one_more w o lane p q call.lane (cells.Answered call.moment call.ask t.1)
+    (cells.Serving call.moment call.ask) at (served_at w o lane p call h.log at h.held h.serving) refl out
+    (serving.answers a (views_of w) lane p (seat_of a cell w.seats lane p at) (turn_word w.turn) (at_home w.turn) cell
+    h.log call.lane call.moment call.ask t.1 h.last t.2 o.history h.held h.serving h.legal t.3))
+step_as w lane p (Collect n) new o at t = let a = w.opening in let cell = cell_of w.cells in let h = t.0 in
+    let number = o.lanes lane p at in let is_at = seat_of a cell w.seats lane p at in
+    let e : ℕ → Event = λ l. event_of l h.moment h.ask h.reply in let q : Part = collected p h.seen (e lane) in
+    let same : h.log ≡ o.history.log = history_is a cell w.seats w.turn o.history h.log h.history in
+    let is : cell p.lane ≡ cells.Answered h.moment h.ask h.reply =
+    ap cell number ∙ cell_at w.cells lane (cells.Answered h.moment h.ask h.reply) h.cell in
+    let has : Begins (p.mine ++ e p.lane ∷ []) (events_of p.lane h.seen) =
+    subst (λ (l : ℕ). Begins (p.mine ++ e l ∷ []) (events_of l h.seen)) (sym number)
+    (subst (Begins (p.mine ++ e lane ∷ [])) (sym h.has) (prefix_self (p.mine ++ e lane ∷ []))) in
+    subst IsOneHistory (sym t.1) (one_more w o lane p q lane cells.Empty (cells.Answered h.moment h.ask h.reply) at
+    h.cell refl
+    (out_stays w.turn w.seats lane p q at refl (out_at w.turn w.seats o.history.log o.whole))
+    (subst (λ (l : ℕ). OneHistory a (turn_word w.turn) (at_home w.turn) (celled cell l cells.Empty)
+    (set (views_of w) lane (one a (collected p h.seen (e l))))) number
+    (posting.collects a (views_of w) lane p is_at (turn_word w.turn) (at_home w.turn) cell o.history h.moment h.ask
+    h.reply h.seen is h.more (subst (Begins h.seen) same h.begins) has)))
+step_as w lane p CollectFound new o at t = subst IsOneHistory (sym t.1) o
+step_as w lane p (LookAt other) new o at t = let a = w.opening in let cell = cell_of w.cells in
+    let done : Bool = cond (other == lane) (is_answered t.0) false in let q : Part = looked_at p other done in
+    subst IsOneHistory (sym t.4) (one_now (reseated w lane q)
+    (reads a cell w.seats (turn_word w.turn) (at_home w.turn) lane q
+    (serving.looks_at a (views_of w) lane p (seat_of a cell w.seats lane p at) (turn_word w.turn) (at_home w.turn) cell
+    other done o.history
+    (λ yes. finished w.cells lane other p.lane t.0 (o.lanes lane p at) t.2 yes)))
     (out_stays w.turn w.seats lane p q at refl (out_at w.turn w.seats o.history.log o.whole))
     (lanes_stay w.seats lane p q at refl o.lanes))
 

@@ -10,9 +10,9 @@ use Rattle.krs_types.specs.declared.event.Event.{Event}
 use Rattle.krs_model.specs.Lists.{Begins}
 use Rattle.krs_model.specs.History.{event_of}
 use Rattle.krs_world.specs.declared.view.Part.{Part}
-use Rattle.krs_world.specs.declared.step.Kind.TheVariants.{Put}
+use Rattle.krs_world.specs.declared.step.Kind.TheVariants.{Put, Collect}
 use Rattle.krs_world.specs.declared.step.WorldStep.{WorldStep}
-use Rattle.krs_world.specs.History.{StandsAfter}
+use Rattle.krs_world.specs.History.{StandsAfter, flight}
 use Rattle.krs_world.specs.World.{World, new_world, Runs, StepsAs, IsHistory}
 
 -- each seat is still there, and what it had seen begins what it has seen
@@ -42,3 +42,14 @@ KeepsRealTime = (lanes : ℕ) (before after : List WorldStep) (mid next end : Wo
     → (reply : Result Answer Errno) × (q : Part) × (get_elem? next.seats lane ≡ some q)
     × (q.mine ≡ p.mine ++ event_of lane call.0 call.1 reply ∷ [])
     × StandsAfter p.seen (event_of lane call.0 call.1 reply) log
+
+-- A posted call of a lane whose reply is collected, whatever happens before and after: its event stands in the history,
+-- for ever after, behind all that its seat had seen as the call was posted, events of other lanes among it.
+abbrev pub KeepsPostedOrder : Type 0
+KeepsPostedOrder = (lanes : ℕ) (before after : List WorldStep) (mid next end : World) (lane : ℕ) (p : Part) (size : ℕ)
+    (log : List Event) → Runs (new_world lanes) before mid → get_elem? mid.seats lane ≡ some p
+    → StepsAs mid lane p (Collect size) next → Runs next after end → IsHistory end log
+    → (moment : ℕ) × (ask : Ask) × (had : List Event) × (reply : Result Answer Errno) × (q : Part)
+    × (p.flight ≡ Some (flight moment ask had)) × (get_elem? next.seats lane ≡ some q)
+    × (q.mine ≡ p.mine ++ event_of lane moment ask reply ∷ [])
+    × StandsAfter had (event_of lane moment ask reply) log

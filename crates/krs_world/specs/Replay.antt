@@ -2,13 +2,13 @@
 use Rattle.std.specs.Prelude.{◌≡◌, ◌⊎◌, true, false, Bool, List, [], ◌∷◌, Err}
 use Rattle.krs_types.specs.declared.errno.Errno.TheVariants.{ENOMEM}
 use Rattle.krs_types.specs.declared.event.Event.{Event}
-use Rattle.krs_types.specs.Growth.{grows_meanwhile}
+use Rattle.krs_types.specs.Growth.{grows}
 use Rattle.krs_model.specs.State.{State, raised}
 use Rattle.krs_model.specs.Step.{Step}
 
 -- an ask that may find no memory, answered with ENOMEM
 abbrev pub FoundNoMemory : Event → Type 0
-FoundNoMemory event = (event.reply ≡ Err ENOMEM) × (grows_meanwhile event.ask.op ≡ true)
+FoundNoMemory event = (event.reply ≡ Err ENOMEM) × (grows event.ask.op ≡ true)
 
 -- One step of the store. Where an ask that may find no memory found none, it isn't asked whether another refusal
 -- applied: the clock alone is raised.

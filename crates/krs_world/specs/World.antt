@@ -1,10 +1,11 @@
 -- The machine of many seats, its steps, and the one history that it has. The form is this project's own.
 use Rattle.std.specs.Prelude.{◌≡◌, ◌≢◌, ◌≤◌, ◌⊎◌, ℕ, zero, suc, ◌+◌, Bool, true, false, List, [], ◌∷◌, Option, Some}
 use Rattle.std.specs.Prelude.{None}
-use Rattle.std.specs.Prelude.{Result, map, length, slice_index_or, slice_set}
+use Rattle.std.specs.Prelude.{Result, map, length, slice_index_or, slice_set, ◌++◌, ◌==◌, cond}
 use mathlib.Core.Option.{some}
 use lib.ListN.{get_elem?}
-use Rattle.krs_types.specs.declared.ask.Answer.{Answer}
+use Rattle.krs_types.specs.declared.ask.Ask.{Ask}
+use Rattle.krs_types.specs.declared.ask.Answer as answer
 use Rattle.krs_types.specs.declared.errno.Errno.{Errno}
 use Rattle.krs_types.specs.declared.errno.Errno.TheVariants.{ENOMEM, ENOSPC}
 use Rattle.krs_types.specs.declared.event.Event.{Event}
@@ -13,13 +14,16 @@ use Rattle.krs_model.specs.Lists.{Begins}
 use Rattle.krs_model.specs.Step.{Step}
 use Rattle.krs_model.specs.History.{event_of, IsLegal}
 use Rattle.krs_world.specs.declared.view.Cell.{Cell}
-use Rattle.krs_world.specs.declared.view.Cell.TheVariants.{Empty}
+use Rattle.krs_world.specs.declared.view.Cell.TheVariants.{Empty, Posted, Serving, Answered}
 use Rattle.krs_world.specs.declared.view.Part.{Part}
+use Rattle.krs_world.specs.declared.view.Service.{Service}
 use Rattle.krs_world.specs.declared.view.View.{View}
 use Rattle.krs_world.specs.declared.step.Kind.{Kind}
-use Rattle.krs_world.specs.declared.step.Kind.TheVariants.{Take, TakeFound, Put, Load}
+use Rattle.krs_world.specs.declared.step.Kind.TheVariants.{Take, TakeFound, Put, Load, Post, Grab, Answer, Collect}
+use Rattle.krs_world.specs.declared.step.Kind.TheVariants.{CollectFound, LookAt}
 use Rattle.krs_world.specs.declared.step.WorldStep.{WorldStep}
-use Rattle.krs_world.specs.Knowing.{one, fresh, taken, missed, put_own, put_none, loaded}
+use Rattle.krs_world.specs.Knowing.{one, fresh, taken, missed, put_own, put_none, loaded, posted, grabbed, answered}
+use Rattle.krs_world.specs.Knowing.{collected, looked_at, events_of}
 use Rattle.krs_world.specs.History.{OneHistory}
 
 -- the turn is free, with the store's state at home, or out at a lane
@@ -76,6 +80,34 @@ reseated w lane p = record w { seats = slice_set w.seats lane p }
 abbrev pub brought_home : World → ℕ → Part → State → World
 brought_home w lane p store = record (reseated w lane p) { turn = Free store }
 
+-- the same, with c in this lane's cell
+abbrev pub recelled : World → ℕ → Cell → World
+recelled w lane c = record w { cells = slice_set w.cells lane c }
+
+-- the lane's cell
+abbrev pub cell_of : List Cell → ℕ → Cell
+cell_of cells lane = slice_index_or cells lane Empty
+
+-- no call waits in the cell
+abbrev pub IsUnposted : Cell → Type 0
+IsUnposted Empty = Unit {0}
+IsUnposted (Posted moment ask) = ⊥
+IsUnposted (Serving moment ask) = Unit {0}
+IsUnposted (Answered moment ask reply) = Unit {0}
+
+-- no reply is in the cell
+abbrev pub IsUnanswered : Cell → Type 0
+IsUnanswered Empty = Unit {0}
+IsUnanswered (Posted moment ask) = Unit {0}
+IsUnanswered (Serving moment ask) = Unit {0}
+IsUnanswered (Answered moment ask reply) = ⊥
+
+abbrev pub is_answered : Cell → Bool
+is_answered Empty = false
+is_answered (Posted moment ask) = false
+is_answered (Serving moment ask) = false
+is_answered (Answered moment ask reply) = true
+
 -- the lane's seat, which knows p, has the turn, and serves no posted call
 pub record IsHolder (w : World) (lane : ℕ) (p : Part) : Type 0 where
   pub log : List Event  -- the list that it holds
@@ -84,6 +116,35 @@ pub record IsHolder (w : World) (lane : ℕ) (p : Part) : Type 0 where
   pub held : p.holding ≡ Some log
   pub unserving : p.serving ≡ None
   pub legal : IsLegal w.opening log last
+
+-- the lane's seat, which knows p, has the turn, and serves a posted call
+pub record IsServer (w : World) (lane : ℕ) (p : Part) : Type 0 where
+  pub log : List Event  -- the list that it holds
+  pub last : State  -- the state that this list ends in
+  pub call : Service
+  pub out : w.turn ≡ Out lane
+  pub held : p.holding ≡ Some log
+  pub serving : p.serving ≡ Some call
+  pub legal : IsLegal w.opening log last
+
+-- the event of the call that is served, with this reply
+abbrev pub event_by : Service → Result answer.Answer Errno → Event
+event_by call reply = event_of call.lane call.moment call.ask reply
+
+-- the call of the lane is answered; its seat, which knows p, may have seen so many calls, that one among them
+pub record IsReady (w : World) (lane : ℕ) (p : Part) (n : ℕ) : Type 0 where
+  pub moment : ℕ
+  pub ask : Ask
+  pub reply : Result answer.Answer Errno
+  pub log : List Event
+  pub seen : List Event
+  pub cell : get_elem? w.cells lane ≡ some (Answered moment ask reply)
+  pub history : IsHistory w log
+  pub more : Begins p.seen seen
+  pub begins : Begins seen log
+  pub size : length seen ≡ n
+  -- of the lane's calls it has those that the seat knows of, and then this one
+  pub has : events_of lane seen ≡ p.mine ++ event_of lane moment ask reply ∷ []
 
 -- what a step of this kind does, by the lane's seat, which knows p
 abbrev pub StepsAs : World → ℕ → Part → Kind → World → Type 0
@@ -95,12 +156,30 @@ StepsAs w lane p TakeFound new =
 StepsAs w lane p (Put None) new =
     (h : IsHolder w lane p) × (new ≡ brought_home w lane (put_none p h.log) h.last)
 StepsAs w lane p (Put (Some call)) new =
-    (h : IsHolder w lane p) × (reply : Result Answer Errno) × (next : State) × (p.flight ≡ None)
+    (h : IsHolder w lane p) × (reply : Result answer.Answer Errno) × (next : State) × (p.flight ≡ None)
     × Step h.last (event_of lane call.0 call.1 reply) next
     × (new ≡ brought_home w lane (put_own p h.log (event_of lane call.0 call.1 reply)) next)
 StepsAs w lane p (Load n) new =
     (log : List Event) × (seen : List Event) × IsHistory w log × Begins p.seen seen × Begins seen log
     × (length seen ≡ n) × (new ≡ reseated w lane (loaded p seen))
+StepsAs w lane p (Post moment ask) new =
+    (get_elem? w.cells lane ≡ some Empty)
+    × (new ≡ recelled (reseated w lane (posted p moment ask)) lane (Posted moment ask))
+StepsAs w lane p (Grab other) new =
+    IsHolder w lane p × (moment : ℕ) × (ask : Ask) × (get_elem? w.cells other ≡ some (Posted moment ask))
+    × (new ≡ recelled (reseated w lane (grabbed p other moment ask)) other (Serving moment ask))
+StepsAs w lane p Answer new =
+    (h : IsServer w lane p) × (reply : Result answer.Answer Errno) × (next : State)
+    × Step h.last (event_by h.call reply) next
+    × (new ≡ recelled (reseated w lane (answered p h.log (event_by h.call reply))) h.call.lane
+    (Answered h.call.moment h.call.ask reply))
+StepsAs w lane p (Collect n) new =
+    (h : IsReady w lane p n)
+    × (new ≡ recelled (reseated w lane (collected p h.seen (event_of lane h.moment h.ask h.reply))) lane Empty)
+StepsAs w lane p CollectFound new = IsUnanswered (cell_of w.cells lane) × (new ≡ w)
+StepsAs w lane p (LookAt other) new =
+    (c : Cell) × (w.turn ≡ Out lane) × (get_elem? w.cells other ≡ some c) × IsUnposted c
+    × (new ≡ reseated w lane (looked_at p other (cond (other == lane) (is_answered c) false)))
 
 -- one step
 abbrev pub Steps : World → WorldStep → World → Type 0
@@ -118,7 +197,7 @@ MovesBy old lane kind false new =
     (new ≡ old) × ((p : Part) (other : World) → get_elem? old.seats lane ≡ some p → ¬ StepsAs old lane p kind other)
 
 -- What a step that was possible is refused with: ENOSPC where it would raise a number that is the greatest already,
--- ENOMEM where it was to put a call
+-- ENOMEM where it was to put or answer a call, or to keep a lane that was looked at
 abbrev pub Refuses : World → ℕ → Part → Kind → Errno → Type 0
 Refuses w lane p Take error =
     (error ≡ ENOSPC) × (18446744073709551615 ≤ p.taken) × ((store : State) × (w.turn ≡ Free store))
@@ -129,6 +208,14 @@ Refuses w lane p (Put None) error = ⊥
 Refuses w lane p (Put (Some call)) error =
     (error ≡ ENOMEM) × IsHolder w lane p × (p.flight ≡ None)
 Refuses w lane p (Load n) error = ⊥
+Refuses w lane p (Post moment ask) error = ⊥
+Refuses w lane p (Grab other) error = ⊥
+Refuses w lane p Answer error = (error ≡ ENOMEM) × IsServer w lane p
+Refuses w lane p (Collect n) error = ⊥
+Refuses w lane p CollectFound error = ⊥
+Refuses w lane p (LookAt other) error =
+    (error ≡ ENOMEM) × (w.turn ≡ Out lane)
+    × ((c : Cell) × (get_elem? w.cells other ≡ some c) × IsUnposted c)
 
 -- a refusal changes nothing
 abbrev pub RefusedBy : World → ℕ → Kind → Errno → World → Type 0
@@ -143,10 +230,6 @@ turn_word (Out lane) = 1
 abbrev pub at_home : Turn → Option State
 at_home (Free store) = Some store
 at_home (Out lane) = None
-
--- the lane's cell
-abbrev pub cell_of : List Cell → ℕ → Cell
-cell_of cells lane = slice_index_or cells lane Empty
 
 -- what the seats know
 abbrev pub views_of : World → List View

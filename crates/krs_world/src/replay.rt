@@ -51,7 +51,7 @@ fn replay(alloc: Global, store: &mut Store, event: &Event) -> Result<bool, Errno
 fn found_no_memory(event: &Event) -> bool
     ensures { IsTrue result ↔ FoundNoMemory event.now }
 {
-    is_no_memory(&event.reply) && event.ask.op.grows_meanwhile()
+    is_no_memory(&event.reply) && event.ask.op.grows()
 }
 
 // Whether this is ENOMEM.

@@ -1,4 +1,4 @@
-//! What a seat knows. These types stand in contracts alone: no value of one is ever made.
+//! What a seat knows. These types but `Service` stand in contracts alone: no value of one is ever made.
 use krs_store::Store;
 use krs_types::{Ask, Event, Reply};
 use std::collections::LinkedList;
@@ -19,7 +19,8 @@ pub struct Flight {
     pub after: LinkedList<Event>,
 }
 
-/// A posted call that the holder of the turn is serving.
+/// A posted call that the holder of the turn is serving. The machine has one at most.
+#[derive(Drop)]
 pub struct Service {
     pub lane: u32,
     pub moment: u64,

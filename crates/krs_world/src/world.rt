@@ -3,31 +3,22 @@ ghost use Rattle.std.specs.Prelude.{◌≡◌, ◌≤◌, Some, None, IfOk, IfEr
 ghost use Rattle.krs_world.specs.declared.step.Kind.TheVariants.{Take, TakeFound, Put, Load};
 ghost use Rattle.krs_world.specs.World.{new_world, MovesBy, RefusedBy};
 
-use crate::{Kind, WorldStep};
+use crate::lane::{Lane, Slot};
+use crate::{Kind, Service, WorldStep};
 use krs_store::Store;
 use krs_types::{Ask, Errno, Event};
 use std::alloc::{AllocError, Global};
 use std::marker::Model;
 
-/// What a seat knows, by lengths of the history.
-#[derive(Clone, Copy)]
-pub(crate) struct Lane {
-    lane: u32,
-    seen: usize,
-    base: usize,
-    holding: bool,
-    taken: u64,
-    found: u64,
-}
-
 /// Seats of lanes over one store, with the list of all calls. No store is copied, and no event: what a seat has seen
-/// is a length of the list.
+/// is a length of the list. An ask that is posted lies in its lane's slot, then in `serving`, then in the list.
 #[derive(Drop)]
 pub struct World {
-    store: Store,
-    out: Option<u32>,
-    log: Vec<Event>,
-    lanes: Vec<Lane>,
+    pub(crate) store: Store,
+    pub(crate) out: Option<u32>,
+    pub(crate) serving: Option<Service>,
+    pub(crate) log: Vec<Event>,
+    pub(crate) lanes: Vec<Lane>,
 }
 
 impl Model for World {
@@ -36,9 +27,9 @@ impl Model for World {
 
     ghost Value = { world.World };
 
-    ghost view = { λ w. world_of w.store w.out w.log.items w.lanes.items };
+    ghost view = { λ w. world_of w.store w.out w.serving w.log.items w.lanes.items };
 
-    ghost invariant = { λ w. IsKept w.store w.out w.log.items w.lanes.items };
+    ghost invariant = { λ w. IsKept w.store w.out w.serving w.log.items w.lanes.items };
 }
 
 impl World {
@@ -56,19 +47,25 @@ impl World {
                 holding: false,
                 taken: 0,
                 found: 0,
+                after: 0,
+                slot: Slot::Empty,
+                checked: Vec::new(alloc),
+                done: false,
             });
         }
         Ok(World {
             store: Store::new(alloc),
             out: None,
+            serving: None,
             log: Vec::new(alloc),
             lanes: seats,
         })
     }
 
-    /// One step: true where it was made, false where it isn't possible. A put serves its ask by the store at home, and
-    /// its reply is what that store answers, ENOMEM too. ENOSPC where the step would raise a number that is the
-    /// greatest already; ENOMEM where there is no memory for the event of a call.
+    /// One step: true where it was made, false where it isn't possible. A put serves its ask by the store, and so does
+    /// an answer; the reply is what the store answers, ENOMEM too. ENOSPC where the step would raise a number that is
+    /// the greatest already; ENOMEM where there is no memory for the event of a call, or to keep that a lane's cell was
+    /// looked at.
     pub fn step(&mut self, step: WorldStep) -> Result<bool, Errno>
         ensures moved { IfOk result (λ done. MovesBy self.old step.lane step.kind done self.new) }
         ensures refused { IfErr result (λ error. RefusedBy self.old step.lane step.kind error self.new) }
@@ -80,6 +77,12 @@ impl World {
             Kind::Put(Some((moment, ask))) => self.put(lane, moment, ask),
             Kind::Put(None) => Ok(self.put_none(lane)),
             Kind::Load(seen) => Ok(self.load(lane, seen)),
+            Kind::Post(moment, ask) => Ok(self.post(lane, moment, ask)),
+            Kind::Grab(other) => Ok(self.grab(lane, other)),
+            Kind::Answer => self.answer(lane),
+            Kind::Collect(seen) => Ok(self.collect(lane, seen)),
+            Kind::CollectFound => Ok(self.collect_found(lane)),
+            Kind::LookAt(other) => self.look_at(lane, other),
         }
     }
 
@@ -98,13 +101,11 @@ impl World {
         let Some(taken) = seat.taken.checked_add(1) else {
             return Err(Errno::ENOSPC);
         };
-        let seat = Lane {
-            taken,
-            holding: true,
-            base: self.log.len(),
-            ..*seat
-        };
-        self.lanes[at] = seat;
+        let seat = &mut self.lanes[at];
+        seat.taken = taken;
+        seat.holding = true;
+        seat.base = self.log.len();
+        seat.checked.clear();
         self.out = Some(lane);
         Ok(true)
     }
@@ -127,8 +128,7 @@ impl World {
         let Some(found) = seat.found.checked_add(1) else {
             return Err(Errno::ENOSPC);
         };
-        let seat = Lane { found, ..*seat };
-        self.lanes[at] = seat;
+        self.lanes[at].found = found;
         Ok(true)
     }
 
@@ -142,16 +142,12 @@ impl World {
         if holder != lane {
             return false;
         }
-        let at = lane as usize;
-        let Some(seat) = self.lanes.get(at) else {
+        let None = self.serving else {
             return false;
         };
-        let seat = Lane {
-            seen: self.log.len(),
-            holding: false,
-            ..*seat
-        };
-        self.lanes[at] = seat;
+        let seat = &mut self.lanes[lane as usize];
+        seat.seen = self.log.len();
+        seat.holding = false;
         self.out = None;
         true
     }
@@ -167,11 +163,13 @@ impl World {
         if holder != lane {
             return Ok(false);
         }
-        let at = lane as usize;
-        let Some(seat) = self.lanes.get(at) else {
+        let None = self.serving else {
             return Ok(false);
         };
-        let seat = *seat;
+        let at = lane as usize;
+        let Slot::Empty = self.lanes[at].slot else {
+            return Ok(false);
+        };
         let alloc = *self.log.allocator();
         let Ok(copy) = ask.copy(alloc) else {
             return Err(Errno::ENOMEM);
@@ -186,11 +184,9 @@ impl World {
             ask: copy,
             reply,
         });
-        self.lanes[at] = Lane {
-            seen: self.log.len(),
-            holding: false,
-            ..seat
-        };
+        let seat = &mut self.lanes[at];
+        seat.seen = self.log.len();
+        seat.holding = false;
         self.out = None;
         Ok(true)
     }
@@ -209,8 +205,7 @@ impl World {
         if self.log.len() < seen {
             return false;
         }
-        let seat = Lane { seen, ..*seat };
-        self.lanes[at] = seat;
+        self.lanes[at].seen = seen;
         true
     }
 }

@@ -3,18 +3,18 @@ use Rattle.std.proofs.Common.{subst, inl, inr}
 use Rattle.std.proofs.Common.{length}
 use lib.ListN.{get_elem?}
 use mathlib.Core.Option.{some}
-use Rattle.krs_world.specs.declared.world.Lane.{Lane}
+use Rattle.krs_world.specs.declared.lane.Lane.{Lane}
 use Rattle.krs_world.specs.declared.step.Kind.TheVariants.{Load}
 use Rattle.krs_world.proofs.world.World.load.Goals as goal
 use Rattle.krs_world.proofs.Moves.{loads}
-use Rattle.krs_world.proofs.Answering.{unseated, lane_at, moves, loads_not}
+use Rattle.krs_world.proofs.Answering.{unseated, lane_at, lanes_same, moves, loads_not}
 
 pub returns-in_default : goal.returns-in_default
 returns-in_default c = let w = c.self.inside in
     let beyond : length w.lanes.items ≤ c.args.lane =
     subst (λ (z : List Lane). length z ≤ c.args.lane) c.deref.ensures.value c.in_default.ensures.lookup.3 in (
       refl,
-      λ p other at steps. unseated c.args.self.now w.store w.out w.log.items w.lanes.items c.args.lane p
+      λ p other at steps. unseated c.args.self.now w.store w.out w.serving w.log.items w.lanes.items c.args.lane p
           c.self.view_is at beyond,
     )
 
@@ -23,7 +23,7 @@ returns-then-seen-seat c = let w = c.self.inside in let x = c.in-Some.seat.now i
     let within : c.args.lane < length c.deref.result.now = search rules in
     let at : get_elem? w.lanes.items c.args.lane ≡ some x =
     lane_at w.lanes.items c.deref.result.now c.args.lane x c.deref.ensures.value within c.in-Some.ensures.lookup.1 in
-    loads_not c.args.self.now w.store w.out w.log.items w.lanes.items c.args.lane x c.self.invariant at c.self.view_is
+    loads_not c.args.self.now w.store w.out w.serving w.log.items w.lanes.items c.args.lane x c.self.invariant at c.self.view_is
     c.args.seen (inl c.if-seen-seat.true)
 
 pub returns-then-len-seen : goal.returns-then-len-seen
@@ -33,26 +33,28 @@ returns-then-len-seen c = let w = c.self.inside in let x = c.in-Some.seat.now in
     lane_at w.lanes.items c.deref.result.now c.args.lane x c.deref.ensures.value within c.in-Some.ensures.lookup.1 in
     let size : c.len.result ≡ length w.log.items = search rules in
     let beyond : length w.log.items < c.args.seen = omega arith in
-    loads_not c.args.self.now w.store w.out w.log.items w.lanes.items c.args.lane x c.self.invariant at c.self.view_is
+    loads_not c.args.self.now w.store w.out w.serving w.log.items w.lanes.items c.args.lane x c.self.invariant at c.self.view_is
     c.args.seen (inr beyond)
 
 pub invariant_of-self : goal.invariant_of-self
-invariant_of-self c = let w = c.self.inside in let x = c.in-Some.seat.now in
+invariant_of-self c = let w = c.self.inside in let x = c.index_mut.result.now in
     let within : c.args.lane < length c.deref.result.now = search rules in
-    let at : get_elem? w.lanes.items c.args.lane ≡ some x =
-    lane_at w.lanes.items c.deref.result.now c.args.lane x c.deref.ensures.value within c.in-Some.ensures.lookup.1 in
+    let t = lanes_same w.lanes.items c.deref.result.now c.args.lane c.in-Some.seat.now x c.deref.ensures.value within
+    c.in-Some.ensures.lookup.1 c.index_mut.ensures.value in
+    let at : get_elem? w.lanes.items c.args.lane ≡ some x = t.0 in
     let size : c.len.result ≡ length w.log.items = search rules in
-    let within : c.args.seen ≤ length w.log.items = omega arith in
-    (loads w.store w.out w.log.items w.lanes.items c.args.lane x c.self.invariant at c.args.seen c.if-seen-seat.false
-    within).0
+    let enough : c.args.seen ≤ length w.log.items = omega arith in
+    let more : x.seen ≤ c.args.seen = subst (λ (z : Lane). z.seen ≤ c.args.seen) t.1 c.if-seen-seat.false in
+    (loads w.store w.out w.serving w.log.items w.lanes.items c.args.lane x c.self.invariant at c.args.seen more enough).0
 
 pub returns : goal.returns
-returns c = let w = c.self.inside in let x = c.in-Some.seat.now in
+returns c = let w = c.self.inside in let x = c.index_mut.result.now in
     let within : c.args.lane < length c.deref.result.now = search rules in
-    let at : get_elem? w.lanes.items c.args.lane ≡ some x =
-    lane_at w.lanes.items c.deref.result.now c.args.lane x c.deref.ensures.value within c.in-Some.ensures.lookup.1 in
+    let t = lanes_same w.lanes.items c.deref.result.now c.args.lane c.in-Some.seat.now x c.deref.ensures.value within
+    c.in-Some.ensures.lookup.1 c.index_mut.ensures.value in
+    let at : get_elem? w.lanes.items c.args.lane ≡ some x = t.0 in
     let size : c.len.result ≡ length w.log.items = search rules in
-    let within : c.args.seen ≤ length w.log.items = omega arith in
-    moves c.args.self.now _ w.store w.out w.log.items w.lanes.items c.args.lane x (Load c.args.seen) c.self.view_is at
-    (loads w.store w.out w.log.items w.lanes.items c.args.lane x c.self.invariant at c.args.seen c.if-seen-seat.false
-    within).1
+    let enough : c.args.seen ≤ length w.log.items = omega arith in
+    let more : x.seen ≤ c.args.seen = subst (λ (z : Lane). z.seen ≤ c.args.seen) t.1 c.if-seen-seat.false in
+    moves c.args.self.now _ w.store w.out w.serving w.log.items w.lanes.items c.args.lane x (Load c.args.seen)
+    c.self.view_is at (loads w.store w.out w.serving w.log.items w.lanes.items c.args.lane x c.self.invariant at c.args.seen more enough).1

@@ -1,4 +1,4 @@
-use Rattle.std.proofs.Common.{rules, ◌≡◌, ◌+◌, ap, ◌∙◌, sym, subst, List, None}
+use Rattle.std.proofs.Common.{rules, ◌≡◌, ◌+◌, refl, ap, ◌∙◌, sym, subst, List, None}
 use Rattle.krs_types.specs.declared.event.Event.{Event}
 use Rattle.krs_model.specs.State.{State}
 use Rattle.krs_world.specs.World.{new_world}
@@ -10,16 +10,27 @@ pub loop-lane-preserved : goal.loop-lane-preserved
 loop-lane-preserved c = record {
   room = c.push_reserved.ensures.capacity ∙ c.loop-lane.invariant.room;
   fresh = subst (AreFreshLanes (c.loop-lane.lane + 1)) (sym c.push_reserved.ensures.items)
-      (fresh_more _ _ c.loop-lane.invariant.fresh);
+      (fresh_more _ _ _ c.loop-lane.invariant.fresh record {
+        lane = refl;
+        seen = refl;
+        base = refl;
+        holding = refl;
+        taken = refl;
+        found = refl;
+        after = refl;
+        slot = refl;
+        checked = c.new.ensures.items;
+        done = refl;
+      });
 }
 
 pub invariant_of-result : goal.invariant_of-result
-invariant_of-result c = subst (λ (z : State × List Event). IsKept z.0 None z.1 c.loop-lane.seats.items)
-    (λ i. (sym c.new.ensures i, sym c.new-2.ensures.items i))
+invariant_of-result c = subst (λ (z : State × List Event). IsKept z.0 None None z.1 c.loop-lane.seats.items)
+    (λ i. (sym c.new-2.ensures i, sym c.new-3.ensures.items i))
     (new_kept c.loop-lane.seats.items c.loop-lane.lane c.loop-lane.invariant.fresh)
 
 pub returns : goal.returns
 returns c = let e : c.loop-lane.lane ≡ c.args.lanes = search rules in
-    subst (λ (z : State × List Event). world_of z.0 None z.1 c.loop-lane.seats.items ≡ new_world c.args.lanes)
-    (λ i. (sym c.new.ensures i, sym c.new-2.ensures.items i))
+    subst (λ (z : State × List Event). world_of z.0 None None z.1 c.loop-lane.seats.items ≡ new_world c.args.lanes)
+    (λ i. (sym c.new-2.ensures i, sym c.new-3.ensures.items i))
     (new_is c.loop-lane.seats.items c.loop-lane.lane c.loop-lane.invariant.fresh ∙ ap new_world e)

@@ -1,80 +1,117 @@
-use Rattle.std.proofs.Common.{rules, ◌≡◌, ◌<◌, ◌≤◌, ℕ, List, [], ◌∷◌, ◌++◌, refl, ap, ◌∙◌}
-use Rattle.std.proofs.Common.{subst, Some}
-use Rattle.std.proofs.Common.{length}
+use Rattle.std.proofs.Common.{rules, arith, ◌≡◌, ◌<◌, ℕ, [], ◌∷◌, ◌++◌, ap, sym, ◌∙◌}
+use Rattle.std.proofs.Common.{Some, length}
+use Rattle.std.specs.Prelude.{vec_len}
 use lib.ListN.{get_elem?}
-use mathlib.Core.Option.{some}
+use mathlib.Core.Option.{some, some-injective}
 use Rattle.krs_model.specs.History.{event_of}
-use Rattle.krs_world.specs.declared.world.Lane.{Lane}
+use Rattle.krs_world.specs.declared.lane.Lane.{Lane}
+use Rattle.krs_world.specs.declared.lane.Slot.TheVariants as slots
 use Rattle.krs_world.specs.declared.step.Kind.TheVariants.{Put}
+use Rattle.krs_world.proofs.KeptHistory.{out_within}
+use Rattle.krs_world.proofs.Moves.{puts_at, no_put}
+use Rattle.krs_world.proofs.Answering.{lane_here, moves, moves_not, busy, no_memory}
 use Rattle.krs_world.proofs.world.World.put.Goals as goal
-use Rattle.krs_world.proofs.Moves.{puts_at}
-use Rattle.krs_world.proofs.Answering.{unseated, lane_at, moves, no_memory}
 
-pub returns-in_default-get-clause-moved : goal.returns-in_default-get-clause-moved
-returns-in_default-get-clause-moved c = let w = c.self.inside in
-    let beyond : length w.lanes.items ≤ c.args.lane =
-    subst (λ (z : List Lane). length z ≤ c.args.lane) c.deref.ensures.value c.in_default-get.ensures.lookup.3 in (
-      refl,
-      λ p other at steps. unseated c.args.self.now w.store w.out w.log.items w.lanes.items c.args.lane p
-          c.self.view_is at beyond,
-    )
+pub returns-in_default-serving-clause-moved : goal.returns-in_default-serving-clause-moved
+returns-in_default-serving-clause-moved c = let w = c.self.inside in
+    busy c.args.self.now w.store w.out w.serving w.log.items w.lanes.items c.args.lane
+    (Put (Some (c.args.moment, c.args.ask))) c.self.invariant c.self.view_is c.in_default-serving.not-None
+    (λ p other steps. steps.0)
+
+pub index-requires : goal.index-requires
+index-requires c = let w = c.self.inside in
+    let same : c.in-Some.holder ≡ c.args.lane = search rules in
+    let here : w.out ≡ Some c.args.lane = c.in-Some.is ∙ ap (λ (n : ℕ). Some n) same in
+    let within : c.args.lane < length w.lanes.items =
+    out_within w.store w.out w.serving w.log.items w.lanes.items c.args.lane c.self.invariant here in
+    let size : vec_len w.lanes ≡ length w.lanes.items = search rules in omega arith
+
+pub returns-in_default-slot-clause-moved : goal.returns-in_default-slot-clause-moved
+returns-in_default-slot-clause-moved c = let w = c.self.inside in let x = c.index.result.now in
+    let same : c.in-Some.holder ≡ c.args.lane = search rules in
+    let here : w.out ≡ Some c.args.lane = c.in-Some.is ∙ ap (λ (n : ℕ). Some n) same in
+    let within : c.args.lane < length w.lanes.items =
+    out_within w.store w.out w.serving w.log.items w.lanes.items c.args.lane c.self.invariant here in
+    let at : get_elem? w.lanes.items c.args.lane ≡ some x =
+    lane_here w.lanes.items c.args.lane x within c.index.ensures in
+    moves_not c.args.self.now w.store w.out w.serving w.log.items w.lanes.items c.args.lane
+    (Put (Some (c.args.moment, c.args.ask))) c.self.view_is
+    (no_put w.store w.out w.serving w.log.items w.lanes.items c.args.lane x c.self.invariant at (c.args.moment, c.args.ask) c.in_default-slot.not-Empty)
 
 pub returns-in_default-copy-clause-refused : goal.returns-in_default-copy-clause-refused
-returns-in_default-copy-clause-refused c = let w = c.self.inside in let x = c.in-Some-get.seat.now in
-    let within : c.args.lane < length c.deref.result.now = search rules in
-    let at : get_elem? w.lanes.items c.args.lane ≡ some x =
-    lane_at w.lanes.items c.deref.result.now c.args.lane x c.deref.ensures.value within c.in-Some-get.ensures.lookup.1
-    in
+returns-in_default-copy-clause-refused c = let w = c.self.inside in let x = c.index.result.now in
     let same : c.in-Some.holder ≡ c.args.lane = search rules in
     let here : w.out ≡ Some c.args.lane = c.in-Some.is ∙ ap (λ (n : ℕ). Some n) same in
-    let refused = no_memory c.args.self.now w.store w.out w.log.items w.lanes.items c.args.lane x
-    (c.args.moment, c.args.ask) c.self.invariant at c.self.view_is here in (search rules, refused.1)
+    let within : c.args.lane < length w.lanes.items =
+    out_within w.store w.out w.serving w.log.items w.lanes.items c.args.lane c.self.invariant here in
+    let at : get_elem? w.lanes.items c.args.lane ≡ some x =
+    lane_here w.lanes.items c.args.lane x within c.index.ensures in
+    let refused = no_memory c.args.self.now w.store w.out w.serving w.log.items w.lanes.items c.args.lane x
+    (c.args.moment, c.args.ask) c.self.invariant at c.self.view_is here c.in-None.is c.in-Empty.is in
+    (search rules, refused.1)
 
 pub returns-in_default-reserve-clause-refused : goal.returns-in_default-reserve-clause-refused
-returns-in_default-reserve-clause-refused c = let w = c.self.inside in let x = c.in-Some-get.seat.now in
-    let within : c.args.lane < length c.deref.result.now = search rules in
-    let at : get_elem? w.lanes.items c.args.lane ≡ some x =
-    lane_at w.lanes.items c.deref.result.now c.args.lane x c.deref.ensures.value within c.in-Some-get.ensures.lookup.1
-    in
+returns-in_default-reserve-clause-refused c = let w = c.self.inside in let x = c.index.result.now in
     let same : c.in-Some.holder ≡ c.args.lane = search rules in
     let here : w.out ≡ Some c.args.lane = c.in-Some.is ∙ ap (λ (n : ℕ). Some n) same in
-    let refused = no_memory c.args.self.now w.store w.out w.log.items w.lanes.items c.args.lane x
-    (c.args.moment, c.args.ask) c.self.invariant at c.self.view_is here in (search rules, refused.1)
+    let within : c.args.lane < length w.lanes.items =
+    out_within w.store w.out w.serving w.log.items w.lanes.items c.args.lane c.self.invariant here in
+    let at : get_elem? w.lanes.items c.args.lane ≡ some x =
+    lane_here w.lanes.items c.args.lane x within c.index.ensures in
+    let refused = no_memory c.args.self.now w.store w.out w.serving w.log.items w.lanes.items c.args.lane x
+    (c.args.moment, c.args.ask) c.self.invariant at c.self.view_is here c.in-None.is c.in-Empty.is in
+    (search rules, refused.1)
+
+pub index_mut-seat-requires : goal.index_mut-seat-requires
+index_mut-seat-requires c = let w = c.self.inside in
+    let same : c.in-Some.holder ≡ c.args.lane = search rules in
+    let here : w.out ≡ Some c.args.lane = c.in-Some.is ∙ ap (λ (n : ℕ). Some n) same in
+    let within : c.args.lane < length w.lanes.items =
+    out_within w.store w.out w.serving w.log.items w.lanes.items c.args.lane c.self.invariant here in
+    let size : vec_len w.lanes ≡ length w.lanes.items = search rules in omega arith
 
 pub invariant_of-self-2 : goal.invariant_of-self-2
-invariant_of-self-2 c = let w = c.self.inside in let x = c.in-Some-get.seat.now in
-    let within : c.args.lane < length c.deref.result.now = search rules in
-    let at : get_elem? w.lanes.items c.args.lane ≡ some x =
-    lane_at w.lanes.items c.deref.result.now c.args.lane x c.deref.ensures.value within c.in-Some-get.ensures.lookup.1
-    in
+invariant_of-self-2 c = let w = c.self.inside in let x = c.index_mut-seat.result.now in
     let same : c.in-Some.holder ≡ c.args.lane = search rules in
     let here : w.out ≡ Some c.args.lane = c.in-Some.is ∙ ap (λ (n : ℕ). Some n) same in
-    let size : c.len.result ≡ length c.push_reserved.new.self.items = search rules in
+    let within : c.args.lane < length w.lanes.items =
+    out_within w.store w.out w.serving w.log.items w.lanes.items c.args.lane c.self.invariant here in
+    let at : get_elem? w.lanes.items c.args.lane ≡ some x =
+    lane_here w.lanes.items c.args.lane x within c.index_mut-seat.ensures.value in
+    let first = c.index.result.now in
+    let same_lane : first ≡ x = some-injective first x
+    (sym (lane_here w.lanes.items c.args.lane first within c.index.ensures) ∙ at) in
+    let idle : x.slot ≡ slots.Empty = ap (λ (z : Lane). z.slot) (sym same_lane) ∙ c.in-Empty.is in
+    let size : c.len-seat.result ≡ length c.push_reserved.new.self.items = search rules in
     let log : c.push_reserved.new.self.items ≡ w.log.items ++ event_of c.args.lane c.args.moment c.args.ask
     c.apply-reply.result ∷ [] =
     c.push_reserved.ensures.items
     ∙ (λ j. c.reserve.ensures.items j ++ event_of c.args.lane c.args.moment (c.in-Ok.ensures j) c.apply-reply.result ∷
     []) in
-    (puts_at w.store w.out w.log.items w.lanes.items c.args.lane x c.self.invariant at c.len.result
+    (puts_at w.store w.out w.serving w.log.items w.lanes.items c.args.lane x c.self.invariant at c.len-seat.result
     (c.args.moment, c.args.ask) c.apply-reply.result c.apply-reply.new.self
-    c.push_reserved.new.self.items here c.apply-reply.ensures.step log size).0
+    c.push_reserved.new.self.items here c.in-None.is idle c.apply-reply.ensures.step log size).0
 
 pub returns-clause-moved : goal.returns-clause-moved
-returns-clause-moved c = let w = c.self.inside in let x = c.in-Some-get.seat.now in
-    let within : c.args.lane < length c.deref.result.now = search rules in
-    let at : get_elem? w.lanes.items c.args.lane ≡ some x =
-    lane_at w.lanes.items c.deref.result.now c.args.lane x c.deref.ensures.value within c.in-Some-get.ensures.lookup.1
-    in
+returns-clause-moved c = let w = c.self.inside in let x = c.index_mut-seat.result.now in
     let same : c.in-Some.holder ≡ c.args.lane = search rules in
     let here : w.out ≡ Some c.args.lane = c.in-Some.is ∙ ap (λ (n : ℕ). Some n) same in
-    let size : c.len.result ≡ length c.push_reserved.new.self.items = search rules in
+    let within : c.args.lane < length w.lanes.items =
+    out_within w.store w.out w.serving w.log.items w.lanes.items c.args.lane c.self.invariant here in
+    let at : get_elem? w.lanes.items c.args.lane ≡ some x =
+    lane_here w.lanes.items c.args.lane x within c.index_mut-seat.ensures.value in
+    let first = c.index.result.now in
+    let same_lane : first ≡ x = some-injective first x
+    (sym (lane_here w.lanes.items c.args.lane first within c.index.ensures) ∙ at) in
+    let idle : x.slot ≡ slots.Empty = ap (λ (z : Lane). z.slot) (sym same_lane) ∙ c.in-Empty.is in
+    let size : c.len-seat.result ≡ length c.push_reserved.new.self.items = search rules in
     let log : c.push_reserved.new.self.items ≡ w.log.items ++ event_of c.args.lane c.args.moment c.args.ask
     c.apply-reply.result ∷ [] =
     c.push_reserved.ensures.items
     ∙ (λ j. c.reserve.ensures.items j ++ event_of c.args.lane c.args.moment (c.in-Ok.ensures j) c.apply-reply.result ∷
     []) in
-    moves c.args.self.now _ w.store w.out w.log.items w.lanes.items c.args.lane x
+    moves c.args.self.now _ w.store w.out w.serving w.log.items w.lanes.items c.args.lane x
     (Put (Some (c.args.moment, c.args.ask))) c.self.view_is at
-    (puts_at w.store w.out w.log.items w.lanes.items c.args.lane x c.self.invariant at c.len.result
+    (puts_at w.store w.out w.serving w.log.items w.lanes.items c.args.lane x c.self.invariant at c.len-seat.result
     (c.args.moment, c.args.ask) c.apply-reply.result c.apply-reply.new.self
-    c.push_reserved.new.self.items here c.apply-reply.ensures.step log size).1
+    c.push_reserved.new.self.items here c.in-None.is idle c.apply-reply.ensures.step log size).1

@@ -1,0 +1,5 @@
+use Rattle.krs_world.proofs.PostedOrder.{posted_order}
+use Rattle.krs_world.proofs.law.posted_calls_keep_real_time_order.Goals as goal
+
+pub returns : goal.returns
+returns c = posted_order

@@ -1,0 +1,149 @@
+use Rattle.std.proofs.Common.{rules, arith, ◌≡◌, ◌<◌, ℕ, List, [], ◌∷◌, ◌++◌, set, ap, sym, ◌∙◌}
+use Rattle.std.proofs.Common.{subst, Some, length, length-set}
+use Rattle.std.specs.Prelude.{vec_len}
+use lib.ListN.{get_elem?}
+use mathlib.Core.Option.{some}
+use Rattle.krs_model.specs.History.{event_of}
+use Rattle.krs_model.specs.Step.{Step}
+use Rattle.krs_types.specs.declared.event.Event.{Event}
+use Rattle.krs_world.specs.declared.view.Service.{Service}
+use Rattle.krs_world.specs.declared.lane.Lane.{Lane}
+use Rattle.krs_world.specs.declared.step.Kind.TheVariants.{Answer}
+use Rattle.krs_world.specs.Kept.{world_of, IsKept}
+use Rattle.krs_world.proofs.KeptHistory.{out_at, out_within, in_bounds}
+use Rattle.krs_world.proofs.ServedMoves.{room_refused}
+use Rattle.krs_world.proofs.AnsweredMoves.{answers_at}
+use Rattle.krs_world.proofs.Answering.{lane_here, moves, serves_none, answer_refused}
+use Rattle.krs_world.proofs.world.World.answer.Goals as goal
+
+pub returns-in_default-serving-clause-moved : goal.returns-in_default-serving-clause-moved
+returns-in_default-serving-clause-moved c = let w = c.self.inside in
+    serves_none c.args.self.now w.store w.out w.serving w.log.items w.lanes.items c.args.lane c.self.view_is c.in_default-serving.is
+
+pub returns-in_default-copy-clause-refused : goal.returns-in_default-copy-clause-refused
+returns-in_default-copy-clause-refused c = let w = c.self.inside in
+    let same : c.in-Some.holder ≡ c.args.lane = search rules in
+    let here : w.out ≡ Some c.args.lane = c.in-Some.is ∙ ap (λ (n : ℕ). Some n) same in
+    let h = out_at w.store w.out w.serving w.log.items w.lanes.items c.args.lane c.self.invariant here in let x = h.0 in
+    let at : get_elem? w.lanes.items c.args.lane ≡ some x = h.1 in
+    let refused = answer_refused c.args.self.now w.store w.out w.serving w.log.items w.lanes.items c.args.lane x c.in-Some-serving.call c.self.invariant at c.self.view_is here
+    c.in-Some-serving.is in (search rules, refused.1)
+
+pub returns-in_default-reserve-clause-refused : goal.returns-in_default-reserve-clause-refused
+returns-in_default-reserve-clause-refused c = let w = c.self.inside in
+    let same : c.in-Some.holder ≡ c.args.lane = search rules in
+    let here : w.out ≡ Some c.args.lane = c.in-Some.is ∙ ap (λ (n : ℕ). Some n) same in
+    let h = out_at w.store w.out w.serving w.log.items w.lanes.items c.args.lane c.self.invariant here in let x = h.0 in
+    let at : get_elem? w.lanes.items c.args.lane ≡ some x = h.1 in
+    let refused = answer_refused c.args.self.now w.store w.out w.serving w.log.items w.lanes.items c.args.lane x c.in-Some-serving.call c.self.invariant at c.self.view_is here
+    c.in-Some-serving.is in (search rules, refused.1)
+
+pub index_mut-seat-requires : goal.index_mut-seat-requires
+index_mut-seat-requires c = let w = c.self.inside in
+    let same : c.in-Some.holder ≡ c.args.lane = search rules in
+    let here : w.out ≡ Some c.args.lane = c.in-Some.is ∙ ap (λ (n : ℕ). Some n) same in
+    let within : c.args.lane < length w.lanes.items = out_within w.store w.out w.serving w.log.items w.lanes.items c.args.lane c.self.invariant here in
+    let size : vec_len w.lanes ≡ length w.lanes.items = search rules in omega arith
+
+pub invariant_of-self-in_default-push : goal.invariant_of-self-in_default-push
+invariant_of-self-in_default-push c = let w = c.self.inside in let x = c.index_mut-seat.result.now in
+    let same : c.in-Some.holder ≡ c.args.lane = search rules in
+    let here : w.out ≡ Some c.args.lane = c.in-Some.is ∙ ap (λ (n : ℕ). Some n) same in
+    let within : c.args.lane < length w.lanes.items = out_within w.store w.out w.serving w.log.items w.lanes.items c.args.lane c.self.invariant here in
+    let at : get_elem? w.lanes.items c.args.lane ≡ some x =
+    lane_here w.lanes.items c.args.lane x within c.index_mut-seat.ensures.value in
+    subst (λ (l : List Event). IsKept w.store w.out w.serving l
+    (set w.lanes.items c.args.lane (record x { checked = c.push.new.self }))) (sym c.reserve.ensures.items)
+    (room_refused w.store w.out w.serving w.log.items w.lanes.items c.args.lane x c.self.invariant at c.push.new.self c.in_default-push.ensures.items).0
+
+pub returns-in_default-push-clause-refused : goal.returns-in_default-push-clause-refused
+returns-in_default-push-clause-refused c = let w = c.self.inside in let x = c.index_mut-seat.result.now in
+    let same : c.in-Some.holder ≡ c.args.lane = search rules in
+    let here : w.out ≡ Some c.args.lane = c.in-Some.is ∙ ap (λ (n : ℕ). Some n) same in
+    let within : c.args.lane < length w.lanes.items = out_within w.store w.out w.serving w.log.items w.lanes.items c.args.lane c.self.invariant here in
+    let at : get_elem? w.lanes.items c.args.lane ≡ some x =
+    lane_here w.lanes.items c.args.lane x within c.index_mut-seat.ensures.value in
+    let refused = answer_refused c.args.self.now w.store w.out w.serving w.log.items w.lanes.items c.args.lane x c.in-Some-serving.call c.self.invariant at c.self.view_is here
+    c.in-Some-serving.is in
+    let room = room_refused w.store w.out w.serving w.log.items w.lanes.items c.args.lane x c.self.invariant at c.push.new.self c.in_default-push.ensures.items in (
+      ap (λ (l : List Event). world_of w.store w.out w.serving l
+          (set w.lanes.items c.args.lane (record x { checked = c.push.new.self }))) c.reserve.ensures.items
+          ∙ (room.1 ∙ c.self.view_is),
+      refused.1,
+    )
+
+pub index_mut-requires : goal.index_mut-requires
+index_mut-requires c = let w = c.self.inside in
+    let k = c.self.invariant.served c.in-Some-serving.call c.in-Some-serving.is in
+    let inside : c.in-Some-serving.call.lane < length w.lanes.items =
+    in_bounds w.lanes.items c.in-Some-serving.call.lane k.0 k.1 in
+    let size : vec_len w.lanes ≡ length w.lanes.items = search rules in omega arith
+
+pub invariant_of-self-2 : goal.invariant_of-self-2
+invariant_of-self-2 c = let w = c.self.inside in let x = c.index_mut-seat.result.now in
+    let same : c.in-Some.holder ≡ c.args.lane = search rules in
+    let here : w.out ≡ Some c.args.lane = c.in-Some.is ∙ ap (λ (n : ℕ). Some n) same in
+    let within : c.args.lane < length w.lanes.items = out_within w.store w.out w.serving w.log.items w.lanes.items c.args.lane c.self.invariant here in
+    let at : get_elem? w.lanes.items c.args.lane ≡ some x =
+    lane_here w.lanes.items c.args.lane x within c.index_mut-seat.ensures.value in
+    let call = c.in-Some-serving.call in
+    let serves : w.serving ≡ Some call = c.in-Some-serving.is in
+    let reply = c.apply-reply.result in
+    let both : Some c.in-Some-take.call ≡ Some call = sym c.in-Some-take.is ∙ (c.take.ensures.value ∙ serves) in
+    let same_call : c.in-Some-take.call ≡ call = cc in
+    let step : Step w.store (event_of call.lane call.moment call.ask reply) c.apply-reply.new.self =
+    subst (λ (v : Service). Step w.store (event_of call.lane v.moment v.ask reply) c.apply-reply.new.self) same_call
+    c.apply-reply.ensures.step in
+    let longer : c.push_reserved.new.self.items
+    ≡ w.log.items ++ event_of call.lane call.moment call.ask reply ∷ [] =
+    c.push_reserved.ensures.items
+    ∙ (λ j. c.reserve.ensures.items j ++ event_of call.lane (same_call j).moment (c.in-Ok.ensures j) reply ∷ []) in
+    let counted : c.len.result ≡ length c.reserve.new.self.items = search rules in
+    let size : c.len.result ≡ length w.log.items = counted ∙ ap length c.reserve.ensures.items in
+    let y : Lane = record x { checked = c.push.new.self; done = c.is_done-seat.result } in
+    let k = c.self.invariant.served call serves in
+    let inside : call.lane < length w.lanes.items = in_bounds w.lanes.items call.lane k.0 k.1 in
+    let long : length (set w.lanes.items c.args.lane y) ≡ length w.lanes.items =
+    length-set w.lanes.items c.args.lane y in
+    let there : get_elem? (set w.lanes.items c.args.lane y) call.lane ≡ some c.index_mut.result.now =
+    lane_here (set w.lanes.items c.args.lane y) call.lane c.index_mut.result.now (omega arith)
+    c.index_mut.ensures.value in
+    (answers_at w.store w.out w.serving w.log.items w.lanes.items c.args.lane x c.self.invariant at call reply
+    c.push.new.self c.is_done-seat.result c.index_mut.result.now here serves c.in-Ok-push.ensures.items c.is_done-seat.ensures there
+    c.apply-reply.new.self c.take.new.self c.push_reserved.new.self.items c.len.result step c.take.ensures.after longer
+    size).0
+
+pub returns-clause-moved : goal.returns-clause-moved
+returns-clause-moved c = let w = c.self.inside in let x = c.index_mut-seat.result.now in
+    let same : c.in-Some.holder ≡ c.args.lane = search rules in
+    let here : w.out ≡ Some c.args.lane = c.in-Some.is ∙ ap (λ (n : ℕ). Some n) same in
+    let within : c.args.lane < length w.lanes.items = out_within w.store w.out w.serving w.log.items w.lanes.items c.args.lane c.self.invariant here in
+    let at : get_elem? w.lanes.items c.args.lane ≡ some x =
+    lane_here w.lanes.items c.args.lane x within c.index_mut-seat.ensures.value in
+    let call = c.in-Some-serving.call in
+    let serves : w.serving ≡ Some call = c.in-Some-serving.is in
+    let reply = c.apply-reply.result in
+    let both : Some c.in-Some-take.call ≡ Some call = sym c.in-Some-take.is ∙ (c.take.ensures.value ∙ serves) in
+    let same_call : c.in-Some-take.call ≡ call = cc in
+    let step : Step w.store (event_of call.lane call.moment call.ask reply) c.apply-reply.new.self =
+    subst (λ (v : Service). Step w.store (event_of call.lane v.moment v.ask reply) c.apply-reply.new.self) same_call
+    c.apply-reply.ensures.step in
+    let longer : c.push_reserved.new.self.items
+    ≡ w.log.items ++ event_of call.lane call.moment call.ask reply ∷ [] =
+    c.push_reserved.ensures.items
+    ∙ (λ j. c.reserve.ensures.items j ++ event_of call.lane (same_call j).moment (c.in-Ok.ensures j) reply ∷ []) in
+    let counted : c.len.result ≡ length c.reserve.new.self.items = search rules in
+    let size : c.len.result ≡ length w.log.items = counted ∙ ap length c.reserve.ensures.items in
+    let y : Lane = record x { checked = c.push.new.self; done = c.is_done-seat.result } in
+    let k = c.self.invariant.served call serves in
+    let inside : call.lane < length w.lanes.items = in_bounds w.lanes.items call.lane k.0 k.1 in
+    let long : length (set w.lanes.items c.args.lane y) ≡ length w.lanes.items =
+    length-set w.lanes.items c.args.lane y in
+    let there : get_elem? (set w.lanes.items c.args.lane y) call.lane ≡ some c.index_mut.result.now =
+    lane_here (set w.lanes.items c.args.lane y) call.lane c.index_mut.result.now (omega arith)
+    c.index_mut.ensures.value in
+    moves c.args.self.now _ w.store w.out w.serving w.log.items w.lanes.items c.args.lane x Answer c.self.view_is at
+    (answers_at w.store w.out w.serving w.log.items w.lanes.items c.args.lane x c.self.invariant at call reply
+    c.push.new.self c.is_done-seat.result c.index_mut.result.now here serves c.in-Ok-push.ensures.items c.is_done-seat.ensures there
+    c.apply-reply.new.self c.take.new.self c.push_reserved.new.self.items c.len.result step c.take.ensures.after longer
+    size).1

@@ -1,0 +1,55 @@
+//! What the machine keeps of a lane.
+ghost use Rattle.std.specs.Prelude.{◌≡◌, true, false, cond};
+
+use krs_types::Ask;
+
+/// What is kept of a lane's cell. The ask of a call stands here until the call is served, and the call in the list of
+/// all calls from then on.
+#[derive(Drop)]
+pub(crate) enum Slot {
+    Empty,
+    Posted(u64, Ask),
+
+    /// The machine has its moment and ask.
+    Serving,
+
+    /// It stands at this place of the list.
+    Answered(usize),
+}
+
+impl Slot {
+    ghost use Rattle.std.specs.Prelude.{◌≡◌};
+    ghost use Rattle.krs_world.specs.Kept.{has_reply};
+
+    /// Whether a reply stands in the cell.
+    pub(crate) fn has_reply(&self) -> bool
+        ensures { result ≡ has_reply self.now }
+    {
+        matches!(self, Slot::Answered(_))
+    }
+}
+
+/// What a seat knows, by lengths of the history.
+#[derive(Drop)]
+pub(crate) struct Lane {
+    pub lane: u32,
+    pub seen: usize,
+    pub base: usize,
+    pub holding: bool,
+    pub taken: u64,
+    pub found: u64,
+
+    /// What it had seen as it posted its call.
+    pub after: usize,
+
+    pub slot: Slot,
+    pub checked: Vec<u32>,
+    pub done: bool,
+}
+
+/// Whether a lane is done after its seat looked at a cell: it was, or the cell is its own, and has a reply.
+pub(crate) fn is_done(done: bool, own: bool, reply: bool) -> bool
+    ensures { result ≡ cond (cond own reply false) true done }
+{
+    done || (own && reply)
+}
