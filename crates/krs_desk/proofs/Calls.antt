@@ -1,5 +1,5 @@
 -- A call that is posted, helped and collected, and what its caller is told.
-use Rattle.std.proofs.Common.{◌≡◌, ◌<◌, ℕ, List, [], ◌∷◌, ◌++◌, Some, Result, refl, sym, ap, ◌∙◌, subst, arith}
+use Rattle.std.proofs.Common.{◌≡◌, ◌+◌, ◌<◌, ℕ, List, [], ◌∷◌, ◌++◌, Some, Result, refl, sym, ap, ◌∙◌, subst, arith}
 use Rattle.std.proofs.Common.{append_assoc}
 use Rattle.atomic_table.specs.Seated.{TableId}
 use Rattle.krs_types.specs.declared.ask.Ask.{Ask}
@@ -13,7 +13,7 @@ use Rattle.krs_world.specs.Knowing.{flight}
 use Rattle.krs_world.proofs.Keeping.{prefix_self, prefix_trans, prefix_more}
 use Rattle.krs_desk.specs.declared.helping.Helped.{Helped}
 use Rattle.krs_desk.specs.declared.helping.Helped.TheVariants.{Took, Busy}
-use Rattle.krs_desk.specs.Sitting.{Sitting, posted_by, Collects, Adds}
+use Rattle.krs_desk.specs.Sitting.{Sitting, missed_by, posted_by, Collects, Adds}
 use Rattle.krs_desk.specs.Helping.{HasHelped, HasLooked, Waits}
 use Rattle.krs_desk.proofs.Seen.{legal_cut}
 
@@ -114,3 +114,43 @@ pub looked_collected :
     → Waits desk s moment ask t → Collects t reply u → HasLooked desk s u
 looked_collected desk s t u moment ask reply w c =
     λ lt. c.checked ∙ w.looked (subst (λ (n : ℕ). s.part.taken < n) c.taken lt)
+
+-- Tries that found the turn taken.
+
+-- nothing is changed but how often the turn was found taken
+abbrev pub found_taken : Sitting → ℕ → Sitting
+found_taken s count = record s { part = record s.part { found = count } }
+
+pub found_more :
+    (s t u : Sitting) → t ≡ found_taken s t.part.found → u ≡ missed_by t → u ≡ found_taken s u.part.found
+found_more s t u e is =
+    let u_is : u ≡ found_taken s (t.part.found + 1) = is ∙ ap missed_by e in
+    u_is ∙ ap (found_taken s) (sym (ap (λ (z : Sitting). z.part.found) u_is))
+
+adds_then : (s u : Sitting) (count : ℕ) (e : Event) → Adds (found_taken s count) e u → Adds s e u
+adds_then s u count e a = record {
+  table = a.table;
+  opening = a.opening;
+  lane = a.lane;
+  upto = a.upto;
+  between = a.between;
+  last = a.last;
+  begins = a.begins;
+  legal = a.legal;
+  ends = a.ends;
+  mine = a.mine;
+  own = a.own;
+}
+
+-- a call after them
+pub adds_after :
+    (s t u : Sitting) (moment : ℕ) (ask asked : Ask) (reply : Result Answer Errno) → t ≡ found_taken s t.part.found
+    → asked ≡ ask → Adds t (event_of t.part.lane moment asked reply) u
+    → Adds s (event_of s.part.lane moment ask reply) u
+adds_after s t u moment ask asked reply e same a =
+    adds_then s u t.part.found (event_of s.part.lane moment ask reply)
+    (subst (λ (z : Sitting × Ask). Adds z.0 (event_of z.0.part.lane moment z.1 reply) u) (λ i. (e i, same i)) a)
+
+pub looked_after :
+    (desk : TableId) (s t u : Sitting) → t ≡ found_taken s t.part.found → HasLooked desk t u → HasLooked desk s u
+looked_after desk s t u e looked = subst (λ (z : Sitting). HasLooked desk z u) e looked

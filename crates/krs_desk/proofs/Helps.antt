@@ -1,12 +1,12 @@
 -- A holder's turn of help, step by step: what its token is, and what its caller is told.
 use Rattle.std.proofs.Common.{◌≡◌, ◌≢◌, ◌<◌, ℕ, ◌+◌, ◌&&◌, eqb, Bool, true, false, cond, List, [], ◌∷◌}
-use Rattle.std.proofs.Common.{◌++◌, Some, None, Result, refl, sym, ap, ◌∙◌, subst, arith, eq-eqb, ne_eqb}
+use Rattle.std.proofs.Common.{◌++◌, Option, Some, None, Result, refl, sym, ap, ◌∙◌, subst, arith, eq-eqb, ne_eqb}
 use Rattle.std.proofs.Common.{append_assoc, append-nil, length-append, add-one}
 use mathlib.Core.Option.{none}
 use mathlib.Core.Logic.{dite}
 use native.Mathlib.Decide.{ℕ_discrete}
 use Rattle.atomic_table.specs.Seated.{TableId}
-use Rattle.atomic_table.specs.Table.{step, rest}
+use Rattle.atomic_table.specs.Table.{step, rest, turned}
 use Rattle.krs_types.specs.declared.ask.Ask.{Ask}
 use Rattle.krs_types.specs.declared.ask.Answer.{Answer}
 use Rattle.krs_types.specs.declared.errno.Errno.{Errno}
@@ -16,16 +16,18 @@ use Rattle.krs_model.specs.State.{State}
 use Rattle.krs_model.specs.Step.{Step}
 use Rattle.krs_model.specs.History.{IsLegal, event_of}
 use Rattle.krs_model.proofs.History.Legal.{legal_more}
+use Rattle.krs_world.specs.declared.view.Flight.{Flight}
 use Rattle.krs_world.specs.declared.view.Part.{Part}
 use Rattle.krs_world.specs.Knowing.{taken, grabbed, answered, looked_at, put_none}
 use Rattle.krs_desk.specs.declared.place.Place.{Place}
 use Rattle.krs_desk.specs.declared.place.Place.TheVariants.{Empty, Home, Asked, Replied}
 use Rattle.krs_desk.specs.Parts.{sat, hand_of}
-use Rattle.krs_desk.specs.Told.{grabs_told, answers_told, brings_told}
+use Rattle.krs_desk.specs.Told.{answers_told, brings_told}
 use Rattle.krs_desk.specs.Sitting.{Sitting}
-use Rattle.krs_desk.specs.Seated.{Me, opening, part, sitting_of, is_free, HasSlot, IsSeated, Holds}
+use Rattle.krs_desk.specs.Seated.{Me, opening, part, sitting_of, is_free, HasSlot, IsSeated, Holds, Serves}
 use Rattle.krs_model.specs.Sound.{IsSound}
-use Rattle.krs_desk.specs.Helping.{below, lanes_of, Helps, held_of, Had, HoldsAll, Progress, Goes, Served, ServesLane}
+use Rattle.krs_desk.specs.Helping.{below, lanes_of, Helps, held_of, Had, HoldsAll, HasBehind, turned_back}
+use Rattle.krs_desk.specs.Helping.{ServesBehind, Progress, Goes, Served, ServesLane}
 use Rattle.krs_desk.proofs.Seats.{same_store}
 
 -- The turn is had.
@@ -51,12 +53,56 @@ had_store m n w x store h slot read left =
 
 -- a token that just had the turn may serve; it has looked at no cell
 pub had_held :
-    (m n : Me) (store : State) → (part m).serving ≡ None → Had m n store
-    → HoldsAll n store × ((part n).checked ≡ [])
-had_held m n store idle had =
-    subst (λ (z : Me). HoldsAll z store × ((part z).checked ≡ [])) (sym had.has) (
-      record { sits = refl; unserving = idle; log = had.log; held = refl; legal = had.found.legal },
+    (lane : ℕ) (idle : Bool) (m n : Me) → IsSeated lane idle m → Holds m n → HoldsAll n × ((part n).checked ≡ [])
+had_held lane idle m n seated had =
+    subst (λ (z : Me). HoldsAll z × ((part z).checked ≡ [])) (sym had.has) (
+      record {
+        log = had.log;
+        last = had.last;
+        has =
+            ap (λ (k : Me). (sat (opening m) (taken (part m) had.log), (0, Home had.last) ∷ k.1)) seated.rests.0;
+        held = refl;
+        legal = had.found.legal;
+        unserving = seated.unserving;
+      },
       refl,
+    )
+
+pub had_hand :
+    (lane : ℕ) (idle : Bool) (m n : Me) → IsSeated lane idle m → Holds m n → idle ≡ is_free (part n).flight
+had_hand lane idle m n seated had = seated.tells ∙ ap (λ (k : Me). is_free (part k).flight) (sym had.has)
+
+-- The store that lies behind another slot.
+
+-- what a turn of the slots in hand leaves in front
+pub behind :
+    (m n : Me) (x : ℕ × Place) (store : State) → HasBehind m x store → n ≡ (m.0, turned m.1)
+    → n ≡ (m.0, (0, Home store) ∷ (hand_of (part m).flight (part m).lane ++ x ∷ []))
+behind m n x store has is = is ∙ ap (λ c. (m.0, turned c)) has
+
+in_front :
+    (idle : Bool) (f : Option Flight) (lane : ℕ) (x y : ℕ × Place) → idle ≡ is_free f
+    → turned_back idle (y ∷ (hand_of f lane ++ x ∷ [])) ≡ x ∷ y ∷ hand_of f lane
+in_front idle None lane x y e = ap (λ b. turned_back b (y ∷ (hand_of None lane ++ x ∷ []))) e
+in_front idle (Some call) lane x y e = ap (λ b. turned_back b (y ∷ (hand_of (Some call) lane ++ x ∷ []))) e
+
+pub served_behind :
+    (idle : Bool) (m n k w : Me) (event : Event) → idle ≡ is_free (part m).flight → n ≡ (m.0, turned m.1)
+    → Serves n event k → w ≡ (k.0, turned_back idle k.1) → ServesBehind m event w
+served_behind idle m n k w event hand e s is x store has =
+    let f = (part m).flight in
+    let lane : ℕ = (part m).lane in
+    let n_is = behind m n x store has e in
+    let both : (0, Home s.before) ∷ rest n.1 ≡ (0, Home store) ∷ (hand_of f lane ++ x ∷ []) =
+    sym s.had ∙ ap (λ (z : Me). z.1) n_is in
+    let head : ◌≡◌ {A = ℕ × Place} (0, Home s.before) (0, Home store) = cc in
+    let same : s.before ≡ store = same_store s.before store (ap (λ (q : ℕ × Place). q.1) head) in
+    let k_is : k ≡ (m.0, (0, Home s.after) ∷ (hand_of f lane ++ x ∷ [])) =
+    s.has ∙ ap (λ (z : Me). (z.0, (0, Home s.after) ∷ rest z.1)) n_is in (
+      s.after,
+      is ∙ (ap (λ (z : Me). (z.0, turned_back idle z.1)) k_is
+          ∙ ap (λ c. (m.0, c)) (in_front idle f lane x (0, Home s.after) hand)),
+      subst (λ (z : State). Step z event s.after) same s.step,
     )
 
 -- One lane.
@@ -82,12 +128,49 @@ read_is a p lane i n x m m' ask ask' c is slot read =
     let same = same_ask m m' ask ask' (sym (slot_is n (Asked m ask) i x c (ap (λ (k : Me). k.1) is) slot) ∙ read) in
     is ∙ (λ k. (sat a (grabbed p lane (same.0 k) (same.1 k)), (i, Asked (same.0 k) (same.1 k)) ∷ c))
 
--- the first slot in hand was written twice
-pub written :
-    (x y z : ℕ × Place) (c : List (ℕ × Place)) (m n n' w : Me) → n ≡ (m.0, x ∷ c) → n' ≡ (n.0, y ∷ rest n.1)
-    → w ≡ (n'.0, z ∷ rest n'.1) → w ≡ (m.0, z ∷ c)
-written x y z c m n n' w e e' e'' =
-    e'' ∙ (ap (λ (k : Me). (k.0, z ∷ rest k.1)) e' ∙ ap (λ (k : Me). (k.0, z ∷ rest k.1)) e)
+-- the ask of a call that was taken up is out of its slot, which lies before the store
+pub emptied :
+    (m n w : Me) (lane moment : ℕ) (ask : Ask) → (h : HoldsAll m)
+    → n ≡ (sat (opening m) (grabbed (part m) lane moment ask), (lane + 1, Asked moment ask) ∷ m.1)
+    → w ≡ (n.0, (lane + 1, Empty) ∷ rest n.1)
+    → w ≡ (
+      sat (opening m) (grabbed (part m) lane moment ask),
+      (lane + 1, Empty) ∷ (0, Home h.last) ∷ hand_of (part m).flight (part m).lane,
+    )
+emptied m n w lane moment ask h e is =
+    is ∙ (ap (λ (k : Me). (k.0, (lane + 1, Empty) ∷ rest k.1)) e
+    ∙ ap (λ (k : Me). (sat (opening m) (grabbed (part m) lane moment ask), (lane + 1, Empty) ∷ k.1)) h.has)
+
+pub lies_behind :
+    (m w : Me) (lane moment : ℕ) (ask : Ask) → (h : HoldsAll m)
+    → w ≡ (
+      sat (opening m) (grabbed (part m) lane moment ask),
+      (lane + 1, Empty) ∷ (0, Home h.last) ∷ hand_of (part m).flight (part m).lane,
+    )
+    → HasBehind w (lane + 1, Empty) h.last
+lies_behind m w lane moment ask h is =
+    subst (λ (z : Me). HasBehind z (lane + 1, Empty) h.last) (sym is) refl
+
+-- the reply lies in that slot, and the store was served
+pub replied :
+    (m w k v : Me) (lane moment : ℕ) (ask : Ask) (reply : Result Answer Errno) (after : State) → (h : HoldsAll m)
+    → w ≡ (
+      sat (opening m) (grabbed (part m) lane moment ask),
+      (lane + 1, Empty) ∷ (0, Home h.last) ∷ hand_of (part m).flight (part m).lane,
+    )
+    → k ≡ (w.0, (lane + 1, Empty) ∷ (0, Home after) ∷ hand_of (part w).flight (part w).lane)
+    → v ≡ (k.0, (lane + 1, Replied reply) ∷ rest k.1)
+    → v ≡ (
+      sat (opening m) (grabbed (part m) lane moment ask),
+      (lane + 1, Replied reply) ∷ (0, Home after) ∷ rest m.1,
+    )
+replied m w k v lane moment ask reply after h e e' is =
+    let q : Part = grabbed (part m) lane moment ask in
+    is ∙ (ap (λ (z : Me). (z.0, (lane + 1, Replied reply) ∷ rest z.1)) e'
+    ∙ (ap
+    (λ (z : Me). (z.0, (lane + 1, Replied reply) ∷ (0, Home after) ∷ hand_of (part z).flight (part z).lane)) e
+    ∙ ap (λ (c : List (ℕ × Place)). (sat (opening m) q, (lane + 1, Replied reply) ∷ (0, Home after) ∷ c))
+    (sym (ap (λ (z : Me). rest z.1) h.has))))
 
 pub answered_is :
     (a : State) (slots lane m : ℕ) (ask : Ask) (reply : Result Answer Errno) (p : Part) (c : List (ℕ × Place))
@@ -98,23 +181,32 @@ answered_is a slots lane m ask reply p c log n w is held told =
     (subst (λ (z : Me). answers_told (step slots (lane + 1) 3 0 none) z 3 w) is told) log lane m ask reply held refl
     refl
 
+-- the store lies before the slots that the token has besides
+pub in_hand : (m : Me) → (h : HoldsAll m) → m ≡ (sat (opening m) (part m), (0, Home h.last) ∷ rest m.1)
+in_hand m h =
+    h.has ∙ ap (λ c. (sat (opening m) (part m), (0, Home h.last) ∷ c)) (sym (ap (λ (k : Me). rest k.1) h.has))
+
 -- one event was added, and the lane's cell was looked at
 pub serves_one :
-    (m : Me) (lane moment : ℕ) (ask : Ask) (reply : Result Answer Errno) (last next : State) (w : Me)
-    → (h : HoldsAll m last)
-    → w ≡ (sat (opening m) (answered (grabbed (part m) lane moment ask) h.log (event_of lane moment ask reply)), m.1)
-    → Step last (event_of lane moment ask reply) next → ServesLane m lane 1 w next
-serves_one m lane moment ask reply last next w h is does =
+    (m : Me) (lane moment : ℕ) (ask : Ask) (reply : Result Answer Errno) (next : State) (w : Me)
+    → (h : HoldsAll m)
+    → w ≡ (
+      sat (opening m) (answered (grabbed (part m) lane moment ask) h.log (event_of lane moment ask reply)),
+      (0, Home next) ∷ rest m.1,
+    )
+    → Step h.last (event_of lane moment ask reply) next → ServesLane m lane 1 w
+serves_one m lane moment ask reply next w h is does =
     let p : Part = part m in
     let e : Event = event_of lane moment ask reply in
-    subst (λ (z : Me). ServesLane m lane 1 z next) (sym is) (
+    subst (λ (z : Me). ServesLane m lane 1 z) (sym is) (
+      next,
       refl,
       record {
         log = h.log;
         events = e ∷ [];
         held = h.held;
         holds = refl;
-        legal = legal_more (opening m) last next h.log e h.legal does;
+        legal = legal_more (opening m) h.last next h.log e h.legal does;
         answers = refl;
         same_lane = refl;
         seen = refl;
@@ -138,20 +230,21 @@ done_if false d e = e
 
 -- the lane's cell was looked at, and no event was added
 pub serves_none :
-    (m : Me) (lane x : ℕ) (last : State) (w : Me) → (h : HoldsAll m last)
+    (m : Me) (lane x : ℕ) (w : Me) → (h : HoldsAll m)
     → w ≡ (sat (opening m) (looked_at (part m) lane ((eqb x 3) && (eqb lane (part m).lane))), m.1)
-    → (lane ≡ (part m).lane → (part m).flight ≢ None → x ≡ 3) → ServesLane m lane 0 w last
-serves_none m lane x last w h is three =
+    → (lane ≡ (part m).lane → (part m).flight ≢ None → x ≡ 3) → ServesLane m lane 0 w
+serves_none m lane x w h is three =
     let p : Part = part m in
     let b : Bool = (eqb x 3) && (eqb lane p.lane) in
-    subst (λ (z : Me). ServesLane m lane 0 z last) (sym is) (
-      refl,
+    subst (λ (z : Me). ServesLane m lane 0 z) (sym is) (
+      h.last,
+      (λ i. (sat (opening m) (looked_at p lane b), (in_hand m h i).1)),
       record {
         log = h.log;
         events = [];
         held = h.held;
         holds = h.held ∙ ap (λ l. Some l) (sym (append-nil h.log));
-        legal = subst (λ l. IsLegal (opening m) l last) (sym (append-nil h.log)) h.legal;
+        legal = subst (λ l. IsLegal (opening m) l h.last) (sym (append-nil h.log)) h.legal;
         answers = refl;
         same_lane = refl;
         seen = refl;
@@ -172,16 +265,16 @@ serves_none m lane x last w h is three =
 
 -- All lanes.
 
-pub starts :
-    (m : Me) (store : State) → HoldsAll m store → (part m).checked ≡ [] → Goes m 0 0 m store
-starts m store h unlooked =
+pub starts : (m : Me) → HoldsAll m → (part m).checked ≡ [] → Goes m 0 0 m
+starts m h unlooked =
     let all : held_of (part m).holding ≡ h.log = ap held_of h.held in (
-      λ i. (h.sits i, m.1),
+      h.last,
+      in_hand m h,
       record {
         events = [];
         holds = h.held ∙ ap (λ l. Some l) (sym all ∙ sym (append-nil (held_of (part m).holding)));
         legal =
-            subst (λ l. IsLegal (opening m) l store) (sym all ∙ sym (append-nil (held_of (part m).holding))) h.legal;
+            subst (λ l. IsLegal (opening m) l h.last) (sym all ∙ sym (append-nil (held_of (part m).holding))) h.legal;
         answers = refl;
         same_lane = refl;
         seen = refl;
@@ -228,34 +321,42 @@ goes_on a p q r j k lane store next g s =
     }
 
 pub goes_at :
-    (m n w : Me) (j k lane : ℕ) (store next : State) → Goes m j lane n store → ServesLane n lane k w next
-    → Goes m (j + k) (lane + 1) w next
-goes_at m n w j k lane store next g s =
-    let same : opening n ≡ opening m = ap opening g.0 in (
-      s.0 ∙ (λ i. (sat (same i) (part w), ap (λ (z : Me). z.1) g.0 i)),
-      goes_on (opening m) (part m) (part n) (part w) j k lane store next g.1
-          (subst (λ (b : State). Served b (part n) lane k (part w) next) same s.1),
+    (m n w : Me) (j k lane : ℕ) → Goes m j lane n → ServesLane n lane k w → Goes m (j + k) (lane + 1) w
+goes_at m n w j k lane g s =
+    let same : opening n ≡ opening m = ap opening g.1 in
+    let behind : rest n.1 ≡ rest m.1 = ap (λ (z : Me). rest z.1) g.1 in (
+      s.0,
+      s.1 ∙ (λ i. (sat (same i) (part w), (0, Home s.0) ∷ behind i)),
+      goes_on (opening m) (part m) (part n) (part w) j k lane g.0 s.0 g.2
+          (subst (λ (b : State). Served b (part n) lane k (part w) s.0) same s.2),
     )
 
-pub held_at : (m n : Me) (j lane : ℕ) (store : State) → Goes m j lane n store → HoldsAll n store
-held_at m n j lane store g =
-    let same : opening n ≡ opening m = ap opening g.0 in
+pub held_at : (m n : Me) (j lane : ℕ) → HoldsAll m → Goes m j lane n → HoldsAll n
+held_at m n j lane h g =
+    let same : opening n ≡ opening m = ap opening g.1 in
+    let hand : rest m.1 ≡ hand_of (part n).flight (part n).lane =
+    ap (λ (z : Me). rest z.1) h.has ∙ (λ i. hand_of (sym g.2.flight i) (sym g.2.same_lane i)) in
     record {
-      sits = ap (λ (z : Me). z.0) g.0 ∙ (λ i. sat (sym same i) (part n));
-      unserving = g.1.unserving;
-      log = held_of (part m).holding ++ g.1.events;
-      held = g.1.holds;
-      legal = subst (λ (b : State). IsLegal b (held_of (part m).holding ++ g.1.events) store) (sym same) g.1.legal;
+      log = held_of (part m).holding ++ g.2.events;
+      last = g.0;
+      has = g.1 ∙ (λ i. (sat (sym same i) (part n), (0, Home g.0) ∷ hand i));
+      held = g.2.holds;
+      legal = subst (λ (b : State). IsLegal b (held_of (part m).holding ++ g.2.events) g.0) (sym same) g.2.legal;
+      unserving = g.2.unserving;
     }
 
--- The store is brought home.
+pub hand_at :
+    (m n : Me) (idle : Bool) (j lane : ℕ) → idle ≡ is_free (part m).flight → Goes m j lane n
+    → idle ≡ is_free (part n).flight
+hand_at m n idle j lane hand g = hand ∙ ap (λ f. is_free f) (sym g.2.flight)
+
+-- The turn is given back.
 
 pub brought_is :
-    (m n w : Me) (slots : ℕ) (store : State) → HoldsAll m store → n ≡ (m.0, (0, Home store) ∷ rest m.1)
-    → brings_told (step slots 0 1 0 none) n 1 w
+    (m w : Me) (slots : ℕ) → HoldsAll m → brings_told (step slots 0 1 0 none) m 1 w
     → w ≡ (sat (opening m) (put_none (part m) (held_of (part m).holding)), rest m.1)
-brought_is m n w slots store h e told =
-    (subst (λ (z : Me). brings_told (step slots 0 1 0 none) z 1 w) e told) h.log h.held
+brought_is m w slots h told =
+    told h.log h.held
     ∙ ap (λ l. (sat (opening m) (put_none (part m) l), rest m.1)) (sym (ap held_of h.held))
 
 -- what the caller is told
@@ -284,33 +385,32 @@ helped_part table desk m log q count next within seen g c =
     }
 
 pub helped :
-    (table same_table desk : TableId) (m n k w : Me) (s : Sitting) (count : ℕ) (store next : State)
-    → sitting_of table m ≡ s → same_table ≡ table → (part m).lane < lanes_of desk → (h : Had m n store)
-    → Goes n count (lanes_of desk) k next
+    (table same_table desk : TableId) (m n k w : Me) (s : Sitting) (count : ℕ) → sitting_of table m ≡ s
+    → same_table ≡ table → (part m).lane < lanes_of desk → (h : Holds m n) → Goes n count (lanes_of desk) k
     → w ≡ (sat (opening k) (put_none (part k) (held_of (part k).holding)), rest k.1)
     → Helps desk s count (sitting_of same_table w)
-helped table same_table desk m n k w s count store next view same within h g is =
+helped table same_table desk m n k w s count view same within h g is =
     let open_is : opening n ≡ opening m = ap opening h.has in
-    let open_k : opening k ≡ opening m = ap opening g.0 ∙ open_is in
+    let open_k : opening k ≡ opening m = ap opening g.1 ∙ open_is in
     let p_is : part n ≡ taken (part m) h.log = ap part h.has in
-    let going : Progress (opening m) (taken (part m) h.log) count (lanes_of desk) (part k) next =
-    subst (λ (z : State × Part). Progress z.0 z.1 count (lanes_of desk) (part k) next) (λ i. (open_is i, p_is i)) g.1 in
+    let going : Progress (opening m) (taken (part m) h.log) count (lanes_of desk) (part k) g.0 =
+    subst (λ (z : State × Part). Progress z.0 z.1 count (lanes_of desk) (part k) g.0) (λ i. (open_is i, p_is i)) g.2 in
     let w_is : w ≡ (sat (opening m) (put_none (part k) (held_of (part k).holding)), rest k.1) =
     is ∙ ap (λ (z : State). (sat z (put_none (part k) (held_of (part k).holding)), rest k.1)) open_k in
     subst (λ (z : Sitting × Sitting). Helps desk z.0 count z.1) (λ i. (view i, sitting_of (sym same i) (sym w_is i)))
-    (helped_part table desk m h.log (part k) count next within h.found.seen going (rest k.1))
+    (helped_part table desk m h.log (part k) count g.0 within h.found.seen going (rest k.1))
 
 pub helped_seated :
-    (lane : ℕ) (idle : Bool) (m n k w : Me) (count lanes : ℕ) (store next : State) → IsSeated lane idle m
-    → (h : Had m n store) → Goes n count lanes k next
-    → w ≡ (sat (opening k) (put_none (part k) (held_of (part k).holding)), rest k.1) → IsSeated lane idle w
-helped_seated lane idle m n k w count lanes store next seated h g is =
+    (lane : ℕ) (idle : Bool) (m n k w : Me) (count lanes : ℕ) → IsSeated lane idle m → (h : Holds m n)
+    → Goes n count lanes k → w ≡ (sat (opening k) (put_none (part k) (held_of (part k).holding)), rest k.1)
+    → IsSeated lane idle w
+helped_seated lane idle m n k w count lanes seated h g is =
     let slots : rest k.1 ≡ hand_of (part m).flight (part m).lane =
-    ap (λ (z : Me). rest z.1) g.0 ∙ (ap (λ (z : Me). rest z.1) h.has ∙ ap (λ (z : Me). z.1) seated.rests.0) in
-    let open_k : opening k ≡ opening m = ap opening g.0 ∙ ap opening h.has in
-    let flight_is : (part k).flight ≡ (part m).flight = g.1.flight ∙ ap (λ (z : Me). (part z).flight) h.has in
-    let lane_is : (part k).lane ≡ (part m).lane = g.1.same_lane ∙ ap (λ (z : Me). (part z).lane) h.has in
-    let held : held_of (part k).holding ≡ held_of (part n).holding ++ g.1.events = ap held_of g.1.holds in
+    ap (λ (z : Me). rest z.1) g.1 ∙ (ap (λ (z : Me). rest z.1) h.has ∙ ap (λ (z : Me). z.1) seated.rests.0) in
+    let open_k : opening k ≡ opening m = ap opening g.1 ∙ ap opening h.has in
+    let flight_is : (part k).flight ≡ (part m).flight = g.2.flight ∙ ap (λ (z : Me). (part z).flight) h.has in
+    let lane_is : (part k).lane ≡ (part m).lane = g.2.same_lane ∙ ap (λ (z : Me). (part z).lane) h.has in
+    let held : held_of (part k).holding ≡ held_of (part n).holding ++ g.2.events = ap held_of g.2.holds in
     subst (λ (z : Me). IsSeated lane idle z) (sym is)
     record {
       rests = (
@@ -320,25 +420,19 @@ helped_seated lane idle m n k w count lanes store next seated h g is =
         ),
         refl,
       );
-      unserving = g.1.unserving;
+      unserving = g.2.unserving;
       tells = seated.tells ∙ ap (λ f. is_free f) (sym flight_is);
       numbered = seated.numbered ∙ sym lane_is;
       sound = subst (λ (z : State). IsSound z) (sym open_k) seated.sound;
-      last = next;
+      last = g.0;
       legal =
-          subst (λ (z : State × List Event). IsLegal z.0 z.1 next)
-          (λ i. (sym (ap opening g.0) i, sym held i)) g.1.legal;
+          subst (λ (z : State × List Event). IsLegal z.0 z.1 g.0)
+          (λ i. (sym (ap opening g.1) i, sym held i)) g.2.legal;
     }
 
--- what a grab tells, of the token as it was before the look that found the call posted
-pub grabbed_on :
-    (lane found : ℕ) (m n w : Me) → n ≡ m → grabs_told (step 0 (lane + 1) 1 2 none) n found w
-    → grabs_told (step 0 (lane + 1) 1 2 none) m found w
-grabbed_on lane found m n w same told =
-    subst (λ (z : Me). grabs_told (step 0 (lane + 1) 1 2 none) z found w) same told
-
-pub held_on : (m n : Me) (store : State) → n ≡ m → HoldsAll m store → HoldsAll n store
-held_on m n store same h = subst (λ (z : Me). HoldsAll z store) (sym same) h
+-- a token that did not change
+pub held_on : (m n : Me) → n ≡ m → HoldsAll m → HoldsAll n
+held_on m n same h = subst (λ (z : Me). HoldsAll z) (sym same) h
 
 -- the lane of a seat is one of its desk's
 pub within :

@@ -7,5 +7,7 @@ pub mod Seats
 pub mod Posts
 pub mod Serves
 pub mod Helps
+pub mod Turns
 pub mod Calls
 pub mod Ending
+pub mod Words

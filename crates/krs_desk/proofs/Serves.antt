@@ -8,7 +8,7 @@ use mathlib.Core.Logic.{dite}
 use native.Mathlib.Decide.{ℕ_discrete}
 use prog.Atomic.{either}
 use lib.ListN.{get_elem?}
-use Rattle.atomic_table.specs.Table.{step, stepped, keeps, takes, gives, rest, Allows}
+use Rattle.atomic_table.specs.Table.{step, stepped, keeps, takes, gives, Allows}
 use Rattle.krs_types.specs.declared.ask.Ask.{Ask}
 use Rattle.krs_types.specs.declared.ask.Answer.{Answer}
 use Rattle.krs_types.specs.declared.errno.Errno.{Errno}
@@ -26,7 +26,7 @@ use Rattle.krs_world.proofs.Serving as serving
 use Rattle.krs_desk.specs.declared.place.Place.{Place}
 use Rattle.krs_desk.specs.declared.place.Place.TheVariants.{Asked, Home, Replied}
 use Rattle.krs_desk.specs.declared.sight.Sight.{Sight}
-use Rattle.krs_desk.specs.Parts.{sat, views_of}
+use Rattle.krs_desk.specs.Parts.{sat, views_of, hand_of}
 use Rattle.krs_desk.specs.Rule.{CellIs, IsVacant, InOneOrder}
 use Rattle.krs_desk.specs.Told.{glances_told, grabs_told, answers_told, brings_told}
 use Rattle.krs_desk.specs.Seated.{Me, opening, part}
@@ -222,27 +222,27 @@ brings_allowed a slots id p c store log held idle legal s r len at small =
 -- The same, of a token as it comes.
 
 pub glances_at :
-    (key : State) (slots id lane : ℕ) (m : Me) (store : State) → HoldsAll m store
+    (key : State) (slots id lane : ℕ) (m : Me) → HoldsAll m
     → Allows (InOneOrder key) slots id m (lane + 1) (λ n. n) (glances_told (step slots (lane + 1) 0 0 none) m)
-glances_at key slots id lane m store h =
+glances_at key slots id lane m h =
     let a : State = opening m in
     let p : Part = part m in
     subst
     (λ (z : Sight). Allows (InOneOrder key) slots id (z, m.1) (lane + 1) (λ n. n)
-    (glances_told (step slots (lane + 1) 0 0 none) (z, m.1))) (sym h.sits)
+    (glances_told (step slots (lane + 1) 0 0 none) (z, m.1))) (ap (λ (k : Me). k.0) (sym h.has))
     (any_key key a slots id (lane + 1) p m.1 (λ n. n) (glances_told (step slots (lane + 1) 0 0 none) (sat a p, m.1))
     (glances_allowed a slots id p m.1 lane h.log h.held h.unserving))
 
 pub grabs_at :
-    (key : State) (slots id lane : ℕ) (m : Me) (store : State) → HoldsAll m store → lane + 1 < slots
+    (key : State) (slots id lane : ℕ) (m : Me) → HoldsAll m → lane + 1 < slots
     → Allows (InOneOrder key) slots id m (lane + 1) (λ n. either (eqb n 1) 2 n)
     (grabs_told (step slots (lane + 1) 1 2 none) m)
-grabs_at key slots id lane m store h room =
+grabs_at key slots id lane m h room =
     let a : State = opening m in
     let p : Part = part m in
     subst
     (λ (z : Sight). Allows (InOneOrder key) slots id (z, m.1) (lane + 1) (λ n. either (eqb n 1) 2 n)
-    (grabs_told (step slots (lane + 1) 1 2 none) (z, m.1))) (sym h.sits)
+    (grabs_told (step slots (lane + 1) 1 2 none) (z, m.1))) (ap (λ (k : Me). k.0) (sym h.has))
     (any_key key a slots id (lane + 1) p m.1 (λ n. either (eqb n 1) 2 n)
     (grabs_told (step slots (lane + 1) 1 2 none) (sat a p, m.1))
     (grabs_allowed a slots id p m.1 lane h.log h.held h.unserving room))
@@ -264,17 +264,15 @@ answers_at key a slots id lane m ask reply p c log last next n is held legal doe
     (answers_allowed a slots id q c lane m ask reply log last next held refl legal does room))
 
 pub brings_at :
-    (key : State) (slots id : ℕ) (m n : Me) (store : State) → HoldsAll m store
-    → n ≡ (m.0, (0, Home store) ∷ rest m.1)
-    → Allows (InOneOrder key) slots id n 0 (λ k. either (eqb k 1) 0 k) (brings_told (step slots 0 1 0 none) n)
-brings_at key slots id m n store h e =
+    (key : State) (slots id : ℕ) (m : Me) → HoldsAll m
+    → Allows (InOneOrder key) slots id m 0 (λ k. either (eqb k 1) 0 k) (brings_told (step slots 0 1 0 none) m)
+brings_at key slots id m h =
     let a : State = opening m in
     let p : Part = part m in
-    let c : List (ℕ × Place) = rest m.1 in
-    let now : n ≡ (sat a p, (0, Home store) ∷ c) = e ∙ (λ i. (h.sits i, (0, Home store) ∷ c)) in
+    let c : List (ℕ × Place) = hand_of p.flight p.lane in
     subst
     (λ (z : Me). Allows (InOneOrder key) slots id z 0 (λ k. either (eqb k 1) 0 k) (brings_told (step slots 0 1 0 none) z))
-    (sym now)
-    (any_key key a slots id 0 p ((0, Home store) ∷ c) (λ k. either (eqb k 1) 0 k)
-    (brings_told (step slots 0 1 0 none) (sat a p, (0, Home store) ∷ c))
-    (brings_allowed a slots id p c store h.log h.held h.unserving h.legal))
+    (sym h.has)
+    (any_key key a slots id 0 p ((0, Home h.last) ∷ c) (λ k. either (eqb k 1) 0 k)
+    (brings_told (step slots 0 1 0 none) (sat a p, (0, Home h.last) ∷ c))
+    (brings_allowed a slots id p c h.last h.log h.held h.unserving h.legal))

@@ -20,7 +20,7 @@ use Rattle.krs_world.specs.declared.view.Cell.{Cell}
 use Rattle.krs_world.specs.declared.view.Part.{Part}
 use Rattle.krs_world.specs.declared.view.View.{View}
 use Rattle.krs_world.specs.declared.view.Standing.TheVariants.{Spent}
-use Rattle.krs_world.specs.Knowing.{one, taken, missed, put_own}
+use Rattle.krs_world.specs.Knowing.{events_of, one, taken, missed, put_own}
 use Rattle.krs_world.specs.History.{OneHistory}
 use Rattle.krs_world.proofs.Keeping as law
 use Rattle.krs_desk.specs.declared.place.Place.{Place}
@@ -210,6 +210,10 @@ puts_allowed a slots id p store c e log last held legal unserving idle does lane
     let views : List View = views_of s.views in
     let is : get_elem? views id ≡ some (one a p) = view_at s.views id (sat a p) at in
     let t = law.puts a views id p is x r.home r.cell log e last store r.history held unserving idle legal does lane in
+    let k = law.own a views id p is x r.home r.cell r.history in
+    let mine : events_of p.lane log ≡ p.mine =
+    ap (events_of p.lane) (k.holding log held).whole
+    ∙ law.idle_mine p r.history.log (r.cell p.lane) idle k.fits in
     let w : Sight = sat a (put_own p log e) in (
       w,
       gives,
@@ -218,8 +222,10 @@ puts_allowed a slots id p store c e log last held legal unserving idle does lane
           (moved_home a s r 0 (some (Home store)) (Some store) id a (put_own p log e) refl t.1),
       λ log' e' held' said'.
           let same_log : log ≡ log' = cc in
-          let same_event : e ≡ e' = cc in
-          ap (λ (z : List Event × Event). (sat a (put_own p z.0 z.1), c)) (λ i. (same_log i, same_event i)),
+          let same_event : e ≡ e' = cc in (
+            ap (λ (z : List Event × Event). (sat a (put_own p z.0 z.1), c)) (λ i. (same_log i, same_event i)),
+            ap (events_of p.lane) (sym same_log) ∙ mine,
+          ),
     )
 
 -- the key is what every view has for the opening state

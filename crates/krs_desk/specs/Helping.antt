@@ -1,18 +1,21 @@
 -- What a turn of help does, and what a call knows of its seat while it waits. The form is this project's own.
-use Rattle.std.specs.Prelude.{◌≡◌, ◌≢◌, ℕ, zero, suc, ◌+◌, ◌-◌, ◌<◌, true, List, [], ◌∷◌, ◌++◌, Option, Some, None}
-use Rattle.std.specs.Prelude.{length}
+use Rattle.std.specs.Prelude.{◌≡◌, ◌≢◌, ℕ, zero, suc, ◌+◌, ◌-◌, ◌<◌, Bool, true, false, List, [], ◌∷◌, ◌++◌}
+use Rattle.std.specs.Prelude.{Option, Some, None, length}
 use Rattle.atomic_table.specs.Seated.{TableId}
+use Rattle.atomic_table.specs.Table.{rest, turned}
 use Rattle.krs_types.specs.declared.ask.Ask.{Ask}
 use Rattle.krs_types.specs.declared.event.Event.{Event}
 use Rattle.krs_model.specs.State.{State}
 use Rattle.krs_model.specs.Lists.{Begins}
+use Rattle.krs_model.specs.Step.{Step}
 use Rattle.krs_model.specs.History.{IsLegal}
 use Rattle.krs_world.specs.declared.view.Part.{Part}
-use Rattle.krs_world.specs.Knowing.{flight, taken}
+use Rattle.krs_world.specs.Knowing.{events_of, flight, taken, put_own}
 use Rattle.krs_desk.specs.declared.helping.Helped.{Helped}
 use Rattle.krs_desk.specs.declared.helping.Helped.TheVariants.{Took, Busy}
-use Rattle.krs_desk.specs.declared.place.Place.TheVariants.{Empty}
-use Rattle.krs_desk.specs.Parts.{sat}
+use Rattle.krs_desk.specs.declared.place.Place.{Place}
+use Rattle.krs_desk.specs.declared.place.Place.TheVariants.{Empty, Home}
+use Rattle.krs_desk.specs.Parts.{sat, hand_of}
 use Rattle.krs_desk.specs.Told.{Found}
 use Rattle.krs_desk.specs.Seated.{Me, part, opening}
 use Rattle.krs_desk.specs.Sitting.{Sitting, missed_by}
@@ -73,19 +76,41 @@ abbrev pub held_of : Option (List Event) → List Event
 held_of None = []
 held_of (Some log) = log
 
--- the turn was had, and the store, which ends this list
+-- the turn was had, and the store taken out, which ends this list
 pub record Had (m n : Me) (store : State) : Type 0 where
   pub log : List Event
   pub has : n ≡ (sat (opening m) (taken (part m) log), (0, Empty) ∷ m.1)
   pub found : Found (opening m) (part m) log store
 
--- the token holds a list, which this store ends, and serves no call
-pub record HoldsAll (m : Me) (store : State) : Type 0 where
-  pub sits : m.0 ≡ sat (opening m) (part m)
-  pub unserving : (part m).serving ≡ None
+-- The token has the turn: it holds a list and has the store, which ends the list, before its own slots. It serves no
+-- call.
+pub record HoldsAll (m : Me) : Type 0 where
   pub log : List Event
+  pub last : State
+  pub has : m ≡ (sat (opening m) (part m), (0, Home last) ∷ hand_of (part m).flight (part m).lane)
   pub held : (part m).holding ≡ Some log
-  pub legal : IsLegal (opening m) log store
+  pub legal : IsLegal (opening m) log last
+  pub unserving : (part m).serving ≡ None
+
+-- the token took this slot last, and has the store behind it, before its own slots
+abbrev pub HasBehind : Me → ℕ × Place → State → Type 0
+HasBehind m x store = m.1 ≡ x ∷ (0, Home store) ∷ hand_of (part m).flight (part m).lane
+
+-- the slots in hand, turned once, or twice where one of them is the seat's own
+abbrev pub turned_back : Bool → List (ℕ × Place) → List (ℕ × Place)
+turned_back true slots = turned (turned slots)
+turned_back false slots = turned slots
+
+-- it took some slot last, and has the store behind it
+abbrev pub IsBehind : Me → Type 0
+IsBehind m = (x : ℕ × Place) × (store : State) × HasBehind m x store
+
+-- a step was made on that store
+abbrev pub ServesBehind : Me → Event → Me → Type 0
+ServesBehind m event n =
+    (x : ℕ × Place) (store : State) → HasBehind m x store
+    → (after : State) × (n ≡ (m.0, x ∷ (0, Home after) ∷ hand_of (part m).flight (part m).lane))
+    × Step store event after
 
 -- the cells of the lanes below `lane` were looked at, and so many calls answered, since the lane p had the turn
 pub record Progress (a : State) (p : Part) (count lane : ℕ) (q : Part) (store : State) : Type 0 where
@@ -104,10 +129,11 @@ pub record Progress (a : State) (p : Part) (count lane : ℕ) (q : Part) (store 
   pub checked : q.checked ≡ below lane
   pub done : p.lane < lane → p.flight ≢ None → q.done ≡ true
 
--- the same slots in hand
-abbrev pub Goes : Me → ℕ → ℕ → Me → State → Type 0
-Goes m count lane n store =
-    (n ≡ (sat (opening m) (part n), m.1)) × Progress (opening m) (part m) count lane (part n) store
+-- the same slots in hand, and the store in its own
+abbrev pub Goes : Me → ℕ → ℕ → Me → Type 0
+Goes m count lane n =
+    (store : State) × (n ≡ (sat (opening m) (part n), (0, Home store) ∷ rest m.1))
+    × Progress (opening m) (part m) count lane (part n) store
 
 -- the cell of one lane was looked at, and so many calls answered
 pub record Served (a : State) (p : Part) (at count : ℕ) (q : Part) (store : State) : Type 0 where
@@ -130,6 +156,18 @@ pub record Served (a : State) (p : Part) (at count : ℕ) (q : Part) (store : St
   pub done : p.done ≡ true → q.done ≡ true
 
 -- the same slots in hand, for one lane
-abbrev pub ServesLane : Me → ℕ → ℕ → Me → State → Type 0
-ServesLane m lane count n store =
-    (n ≡ (sat (opening m) (part n), m.1)) × Served (opening m) (part m) lane count (part n) store
+abbrev pub ServesLane : Me → ℕ → ℕ → Me → Type 0
+ServesLane m lane count n =
+    (store : State) × (n ≡ (sat (opening m) (part n), (0, Home store) ∷ rest m.1))
+    × Served (opening m) (part m) lane count (part n) store
+
+-- a call of the token's own lane was served, as the last of its turn, and the turn given back
+pub record Finishes (m : Me) (event : Event) (n : Me) : Type 0 where
+  pub log : List Event
+  pub last : State
+  pub after : State
+  pub held : (part m).holding ≡ Some log
+  pub has : n ≡ (sat (opening m) (put_own (part m) log event), rest m.1)
+  pub legal : IsLegal (opening m) log last
+  pub step : Step last event after
+  pub mine : events_of (part m).lane log ≡ (part m).mine

@@ -9,7 +9,7 @@ use Rattle.krs_model.specs.State.{State}
 use Rattle.krs_model.specs.Lists.{Begins}
 use Rattle.krs_model.specs.History.{IsLegal, event_of}
 use Rattle.krs_world.specs.declared.view.Part.{Part}
-use Rattle.krs_world.specs.Knowing.{events_of, flight, fresh, missed, posted}
+use Rattle.krs_world.specs.Knowing.{events_of, flight, fresh, loaded, missed, posted}
 use Rattle.krs_world.specs.History.{StandsAfter}
 
 -- A seat: of which desk it is, the state of the store that the desk was opened with, and what the seat knows: its lane,
@@ -82,18 +82,16 @@ abbrev pub HasItsCalls : Sitting → Type 0
 HasItsCalls s = s.part.flight ≡ None → events_of s.part.lane s.part.seen ≡ s.part.mine
 
 -- Two seats met: both have seen one list, which is legal from the one opening state, begins with what either had seen,
--- and has just the calls of each.
+-- and has just the calls of each. Nothing else that they know has changed.
 pub record Meets (s t new_s new_t : Sitting) : Type 0 where
   pub opening : (new_s.opening ≡ s.opening) × (new_t.opening ≡ s.opening)
-  pub lanes : (new_s.part.lane ≡ s.part.lane) × (new_t.part.lane ≡ t.part.lane)
   pub same : new_t.part.seen ≡ new_s.part.seen
   pub last : State
   pub legal : IsLegal s.opening new_s.part.seen last
   pub first : Begins s.part.seen new_s.part.seen
   pub second : Begins t.part.seen new_s.part.seen
-  pub mine : (new_s.part.mine ≡ s.part.mine) × (new_t.part.mine ≡ t.part.mine)
   pub own : HasItsCalls new_s × HasItsCalls new_t
-  pub flights : (new_s.part.flight ≡ s.part.flight) × (new_t.part.flight ≡ t.part.flight)
+  pub rest : (new_s.part ≡ loaded s.part new_s.part.seen) × (new_t.part ≡ loaded t.part new_t.part.seen)
 
 -- the store is the end of a legal list, which begins with what the seat had seen
 pub record EndsIn (s : Sitting) (store : State) : Type 0 where

@@ -48,11 +48,11 @@ takes_told step m found n =
     × (n ≡ (sat (opening m) (taken (part m) log), (0, Home last) ∷ m.1)) × Found (opening m) (part m) log last)
     × (found ≢ 0 → n ≡ (sat (opening m) (missed (part m)), m.1))
 
--- the list that was held has this event more
+-- the list that was held has this event more; it had the lane's calls
 abbrev pub puts_told : List Event → Step Place → Known → ℕ → Known → Type 0
 puts_told events step m found n =
     (log : List Event) (event : Event) → (part m).holding ≡ Some log → events ≡ event ∷ []
-    → n ≡ (sat (opening m) (put_own (part m) log event), rest m.1)
+    → (n ≡ (sat (opening m) (put_own (part m) log event), rest m.1)) × (events_of (part m).lane log ≡ (part m).mine)
 
 -- the list that was held is seen
 abbrev pub brings_told : Step Place → Known → ℕ → Known → Type 0

@@ -1,14 +1,14 @@
-//! The desk, and calls at it.
-ghost use Rattle.std.specs.Prelude.{◌≡◌, ◌≢◌, ◌+◌, ◌<◌, List, [], ◌∷◌, IfOk, IfErr, Some, None};
+//! The desk, and a call in a turn of its own.
+ghost use Rattle.std.specs.Prelude.{◌≡◌, ◌≢◌, List, [], ◌∷◌, IfOk, IfErr, Some, None};
 ghost use Rattle.atomic_table.specs.Table.{rest};
 ghost use Rattle.krs_types.specs.declared.event.Event.{Event};
 ghost use Rattle.krs_model.specs.State.{State};
 ghost use Rattle.krs_model.specs.History.{event_of};
-ghost use Rattle.krs_world.specs.Knowing.{missed, put_own};
+ghost use Rattle.krs_world.specs.Knowing.{events_of, missed, put_own};
 ghost use Rattle.krs_desk.specs.Parts.{sat};
 ghost use Rattle.krs_desk.specs.Told.{event_in};
 ghost use Rattle.krs_desk.specs.Sitting.{Adds, missed_by};
-ghost use Rattle.krs_desk.specs.Helping.{HasLooked};
+ghost use Rattle.krs_desk.specs.Helping.{HoldsAll, Finishes};
 ghost use Rattle.krs_desk.specs.Seated.{IsResting, Holds, Has, Serves, HoldsBefore, part, opening};
 
 use crate::note::{Added, Note};
@@ -18,9 +18,7 @@ use crate::seat::Seat;
 use krs_types::{Ask, Reply};
 use std::marker::{Brand, Model};
 use std::snapshot::Snapshot;
-use std::sync::Wait;
 use std::sync::atomic::{AtomicU64, Ordering};
-use std::{hint, thread};
 
 /// A store with one turn, which is had by one seat at a time. Threads share it by reference. A contract sees which desk
 /// it is.
@@ -56,11 +54,6 @@ impl Drop for Desk {
     }
 }
 
-// So often a call looks at the turn, and then lets other threads go first, before it sleeps.
-const LOOKS: u32 = 16;
-
-const YIELDS: u32 = 1_000;
-
 impl Desk {
     // What was found of the turn. It is 0 where the turn was free: the token has the store then.
     pub(crate) fn take(&self, token: &mut Token) -> u64
@@ -75,7 +68,7 @@ impl Desk {
     }
 
     // Asks the store that the token has, which stays in its slot.
-    fn serve(&self, token: &mut Token, lane: u32, moment: u64, ask: Ask) -> Reply
+    pub(crate) fn serve(&self, token: &mut Token, lane: u32, moment: u64, ask: Ask) -> Reply
         requires table { token.old.table_id ≡ self.now }
         requires has { (store : State) × Has token.old.me store }
         ensures table { token.new.table_id ≡ token.old.table_id }
@@ -96,6 +89,8 @@ impl Desk {
         ensures put { (log : List Event) → (part token.old.me).holding ≡ Some log
             → token.new.me
             ≡ (sat (opening token.old.me) (put_own (part token.old.me) log (event_in note)), rest token.old.me.1) }
+        ensures mine { (log : List Event) → (part token.old.me).holding ≡ Some log
+            → events_of (part token.old.me).lane log ≡ (part token.old.me).mine }
     {
         let shared = &self.table.shared;
         shared.compare_exchange::<Puts<E>>(token, 0, 1, 0);
@@ -111,33 +106,25 @@ impl Desk {
         }
     }
 
-    // Whether the turn was free, or the lane's call answered.
-    fn is_worth_a_try(&self, lane: u32) -> bool
-        requires { lane + 1 < self.now.words }
+    // Asks the store for the token's own lane, as the last of its turn, and gives the turn back.
+    pub(crate) fn finish(&self, token: &mut Token, lane: u32, moment: u64, ask: Ask) -> Reply
+        requires table { token.old.table_id ≡ self.now }
+        requires held { HoldsAll token.old.me }
+        requires idle { (part token.old.me).flight ≡ None }
+        requires lane { lane ≡ (part token.old.me).lane }
+        ensures table { token.new.table_id ≡ token.old.table_id }
+        ensures finished { Finishes token.old.me (event_of lane moment ask result) token.new.me }
     {
-        let shared = &self.table.shared;
-        shared.peek(0) == 0 || shared.peek(lane as usize + 1) == 3
-    }
-
-    // Waits until the turn was free or the lane's call answered, or for a while.
-    fn wait<R: Wait>(&self, rt: &R, lane: u32)
-        requires { lane + 1 < self.now.words }
-    {
-        for _ in 0..LOOKS {
-            if self.is_worth_a_try(lane) {
-                return;
-            }
-            hint::spin_loop();
-        }
-        for _ in 0..YIELDS {
-            thread::yield_now();
-            if self.is_worth_a_try(lane) {
-                return;
-            }
-        }
-        self.sleepers.fetch_add(1, Ordering::SeqCst);
-        self.table.shared.park(rt, 0, 1);
-        self.sleepers.fetch_sub(1, Ordering::SeqCst);
+        let asked = Snapshot::of(&ask);
+        let reply = self.serve(token, lane, moment, ask);
+        let note = Note {
+            lane,
+            moment,
+            ask: asked,
+            reply: Snapshot::of(&reply),
+        };
+        self.put::<Brand>(token, note);
+        reply
     }
 
     /// Asks the store, where the turn is free. The ask comes back where it is found taken. For a seat that has no call
@@ -153,36 +140,6 @@ impl Desk {
         if self.take(&mut seat.token) != 0 {
             return Err(ask);
         }
-        let asked = Snapshot::of(&ask);
-        let reply = self.serve(&mut seat.token, seat.lane, moment, ask);
-        let note = Note {
-            lane: seat.lane,
-            moment,
-            ask: asked,
-            reply: Snapshot::of(&reply),
-        };
-        self.put::<Brand>(&mut seat.token, note);
-        Ok(reply)
-    }
-
-    /// Posts a call, and helps or waits until it is answered. Whoever has the turn answers all calls that are posted.
-    /// For a seat that has no call in flight.
-    pub fn call<R: Wait>(&self, rt: &R, seat: &mut Seat, moment: u64, ask: Ask) -> Reply
-        requires table { seat.old.table ≡ self.now }
-        requires idle { seat.old.part.flight ≡ None }
-        ensures table { seat.new.table ≡ seat.old.table }
-        ensures idle { seat.new.part.flight ≡ None }
-        ensures added { Adds seat.old (event_of seat.old.part.lane moment ask result) seat.new }
-        ensures looked { HasLooked self.now seat.old seat.new }
-    {
-        self.post(seat, moment, ask);
-        for _ in rt.forever() {
-            let _helped = self.help(seat);
-            if let Some(reply) = self.collect(seat) {
-                return reply;
-            }
-            self.wait(rt, seat.lane);
-        }
-        unreachable!()
+        Ok(self.finish(&mut seat.token, seat.lane, moment, ask))
     }
 }

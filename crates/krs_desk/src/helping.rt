@@ -1,23 +1,38 @@
 //! Whoever has the turn answers all calls that are posted.
-ghost use Rattle.std.specs.Prelude.{◌≡◌, ◌≢◌, ◌+◌, ◌≤◌, ◌<◌, [], ◌∷◌, IfOk, IfErr};
+ghost use Rattle.std.specs.Prelude.{◌≡◌, ◌≢◌, ◌+◌, ◌≤◌, ◌<◌, [], IfOk, IfErr};
 ghost use Rattle.atomic_table.specs.Table.{rest};
+ghost use Rattle.krs_model.specs.History.{event_of};
 ghost use Rattle.krs_world.specs.Knowing.{missed, put_none};
-ghost use Rattle.krs_desk.specs.declared.place.Place.TheVariants.{Empty};
 ghost use Rattle.krs_desk.specs.Parts.{sat};
-ghost use Rattle.krs_desk.specs.Seated.{IsResting, part, opening};
-ghost use Rattle.krs_desk.specs.Helping.{HasHelped, Had, HoldsAll, Goes, ServesLane, held_of, lanes_of};
+ghost use Rattle.krs_desk.specs.Seated.{IsResting, part, opening, is_free};
+ghost use Rattle.krs_desk.specs.Helping.{HasHelped, Had, HoldsAll, IsBehind, ServesBehind, Goes, ServesLane};
+ghost use Rattle.krs_desk.specs.Helping.{held_of, lanes_of, turned_back};
 
 use crate::desk::Desk;
 use crate::place::Place;
 use crate::plays::{Answers, Brings, Glances, Grabs, Token};
 use crate::seat::Seat;
 use krs_store::Store;
+use krs_types::{Ask, Reply};
 
 /// How a try to help ended: with the turn had and so many calls answered, or with the turn found taken.
 #[derive(Clone, Copy, Debug, PartialEq, Eq)]
 pub enum Helped {
     Took(u32),
     Busy,
+}
+
+// Brings the slot that was taken last to the front again, where the store was turned to the front. A seat that is
+// idle has a slot of its own in hand.
+fn turn_back(token: &mut Token, idle: bool)
+    ensures table { token.new.table_id ≡ token.old.table_id }
+    ensures turned { token.new.me ≡ (token.old.me.0, turned_back idle token.old.me.1) }
+{
+    token.turn();
+    if !idle {
+        return;
+    }
+    token.turn();
 }
 
 impl Desk {
@@ -40,53 +55,83 @@ impl Desk {
         Ok(store)
     }
 
-    // Looks at a lane's cell, and answers the call that is posted there, if one is. It tells how many.
-    fn serve_lane(&self, token: &mut Token, store: &mut Store, lane: u32) -> u32
+    // Asks the store that the token has behind the slot that it took last.
+    fn serve_behind(&self, token: &mut Token, idle: bool, lane: u32, moment: u64, ask: Ask) -> Reply
+        requires table { token.old.table_id ≡ self.now }
+        requires behind { IsBehind token.old.me }
+        requires hand { idle ≡ is_free (part token.old.me).flight }
+        ensures table { token.new.table_id ≡ token.old.table_id }
+        ensures served { ServesBehind token.old.me (event_of lane moment ask result) token.new.me }
+    {
+        token.turn();
+        let reply = self.serve(token, lane, moment, ask);
+        turn_back(token, idle);
+        reply
+    }
+
+    // Takes up the call that is posted in a lane's cell, if one is, and answers it. It tells how many. It is never
+    // inlined, so that a look at a cell that isn't posted clears no room for an ask and a reply.
+    #[inline(never)]
+    fn answer_lane(&self, token: &mut Token, idle: bool, lane: u32) -> u32
         requires table { token.old.table_id ≡ self.now }
         requires room { lane + 1 < self.now.words }
-        requires held { HoldsAll token.old.me store.old }
+        requires held { HoldsAll token.old.me }
+        requires hand { idle ≡ is_free (part token.old.me).flight }
         ensures table { token.new.table_id ≡ token.old.table_id }
         ensures few { result ≤ 1 }
-        ensures served { ServesLane token.old.me lane result token.new.me store.new }
+        ensures served { ServesLane token.old.me lane result token.new.me }
     {
         let shared = &self.table.shared;
         let cell = lane as usize + 1;
-        if shared.load::<Glances>(token, cell) != 1 {
-            return 0;
-        }
         if shared.compare_exchange::<Grabs>(token, cell, 1, 2) != 1 {
             return 0;
         }
         let Place::Asked(moment, ask) = shared.exchange(token, cell, Place::Empty) else {
             unreachable!()
         };
-        let reply = store.apply(lane, moment, ask);
+        let reply = self.serve_behind(token, idle, lane, moment, ask);
         drop(shared.exchange(token, cell, Place::Replied(reply)));
         shared.store::<Answers>(token, cell, 3);
         1
     }
 
-    // Looks at each lane's cell in turn, and tells how many calls it answered.
-    fn serve_all(&self, token: &mut Token, store: &mut Store) -> u32
+    // Looks at a lane's cell, and answers the call that is posted there, if one is. It tells how many.
+    fn serve_lane(&self, token: &mut Token, idle: bool, lane: u32) -> u32
         requires table { token.old.table_id ≡ self.now }
-        requires held { HoldsAll token.old.me store.old }
+        requires room { lane + 1 < self.now.words }
+        requires held { HoldsAll token.old.me }
+        requires hand { idle ≡ is_free (part token.old.me).flight }
+        ensures table { token.new.table_id ≡ token.old.table_id }
+        ensures few { result ≤ 1 }
+        ensures served { ServesLane token.old.me lane result token.new.me }
+    {
+        if self.table.shared.load::<Glances>(token, lane as usize + 1) != 1 {
+            return 0;
+        }
+        self.answer_lane(token, idle, lane)
+    }
+
+    // Looks at each lane's cell in turn, and tells how many calls it answered.
+    pub(crate) fn serve_all(&self, token: &mut Token, idle: bool) -> u32
+        requires table { token.old.table_id ≡ self.now }
+        requires held { HoldsAll token.old.me }
+        requires hand { idle ≡ is_free (part token.old.me).flight }
         requires unlooked { (part token.old.me).checked ≡ [] }
         ensures table { token.new.table_id ≡ token.old.table_id }
-        ensures gone { Goes token.old.me result (lanes_of self.now) token.new.me store.new }
+        ensures gone { Goes token.old.me result (lanes_of self.now) token.new.me }
     {
         let lanes = (self.table.word_count() - 1) as u32;
         let mut answered = 0;
         for lane in 0..lanes {
-            answered += self.serve_lane(token, store, lane);
+            answered += self.serve_lane(token, idle, lane);
         }
         answered
     }
 
-    // Brings the store home, with the list as it is held, and wakes all that sleep on the turn.
-    fn bring(&self, token: &mut Token, store: Store)
+    // Gives the turn back, with the list as it is held, and wakes all that sleep on the turn.
+    fn bring(&self, token: &mut Token)
         requires table { token.old.table_id ≡ self.now }
-        requires held { HoldsAll token.old.me store }
-        requires slot { token.old.me.1 ≡ (0, Empty) ∷ rest token.old.me.1 }
+        requires held { HoldsAll token.old.me }
         ensures table { token.new.table_id ≡ token.old.table_id }
         ensures brought { token.new.me ≡ (
           sat (opening token.old.me)
@@ -94,9 +139,7 @@ impl Desk {
           rest token.old.me.1,
         ) }
     {
-        let shared = &self.table.shared;
-        drop(shared.exchange(token, 0, Place::Home(store)));
-        shared.compare_exchange::<Brings>(token, 0, 1, 0);
+        self.table.shared.compare_exchange::<Brings>(token, 0, 1, 0);
         self.wake_all();
     }
 
@@ -108,11 +151,11 @@ impl Desk {
         ensures flight { seat.new.part.flight ≡ seat.old.part.flight }
         ensures helped { HasHelped self.now seat.old result seat.new }
     {
-        let Ok(mut store) = self.fetch(&mut seat.token) else {
+        if self.take(&mut seat.token) != 0 {
             return Helped::Busy;
-        };
-        let answered = self.serve_all(&mut seat.token, &mut store);
-        self.bring(&mut seat.token, store);
+        }
+        let answered = self.serve_all(&mut seat.token, seat.idle);
+        self.bring(&mut seat.token);
         Helped::Took(answered)
     }
 }

@@ -3,6 +3,7 @@
 //! may be posted, and is then answered by whoever has the turn.
 #![tactic(auto)]
 
+mod calling;
 mod closing;
 mod desk;
 mod helping;

@@ -1,5 +1,9 @@
-use Rattle.krs_desk.specs.Helping.{Waits}
+use Rattle.std.proofs.Common.{◌≡◌}
+use Rattle.krs_desk.proofs.Calls.{found_taken}
 use Rattle.krs_desk.proofs.desk.Desk.call.Given as goal
 
 abbrev pub invariant-loop : goal.invariant-loop
-invariant-loop g l = record { waits : Waits l.self l.fn.seat l.fn.moment l.fn.ask l.seat }
+invariant-loop g l = record {
+  asks : l.ask ≡ l.fn.ask;
+  seat : l.seat ≡ found_taken l.fn.seat l.seat.part.found;
+}

@@ -6,5 +6,5 @@ abbrev pub invariant-loop-lane : goal.invariant-loop-lane
 invariant-loop-lane l = record {
   table : l.token.table_id ≡ l.initial.token.table_id;
   few : l.answered ≤ l.lane;
-  gone : Goes l.initial.token.me l.answered l.lane l.token.me l.store;
+  gone : Goes l.initial.token.me l.answered l.lane l.token.me;
 }

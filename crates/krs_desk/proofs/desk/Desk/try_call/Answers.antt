@@ -1,75 +1,49 @@
-use Rattle.std.proofs.Common.{rules, refl, sym, ap, ◌∙◌, subst}
-use Rattle.krs_model.specs.History.{event_of}
+use Rattle.std.proofs.Common.{rules, sym, ap, ◌∙◌}
 use Rattle.krs_desk.specs.Sitting.{Sitting}
-use Rattle.krs_desk.specs.Seated.{HoldsBefore, part}
-use Rattle.krs_desk.proofs.Seats.{serves_is, serves_last, served_lane, holds_before, called, called_seated, adds_at}
-use Rattle.krs_desk.proofs.Seats.{front}
+use Rattle.krs_desk.specs.Seated.{Me, part}
+use Rattle.krs_desk.proofs.Helps.{had_held, starts}
+use Rattle.krs_desk.proofs.Turns.{turn_seated, turn_adds, turn_idle}
 use Rattle.krs_desk.proofs.desk.Desk.try_call.Goals as goal
 
-pub serve-reply-requires-clause-has : goal.serve-reply-requires-clause-has
-serve-reply-requires-clause-has c =
-    let had = c.take.ensures.had c.if-take-ne0.false in
-    (had.last, front _ _ _ (ap (λ m. m.1) had.has))
-
-pub put-requires-clause-held : goal.put-requires-clause-held
-put-requires-clause-held c =
-    let had = c.take.ensures.had c.if-take-ne0.false in
+pub finish-requires-clause-held : goal.finish-requires-clause-held
+finish-requires-clause-held c =
     let seat = c.seat.inside in
-    let after = c.serve-reply.new.token.me in
-    let held =
-    holds_before seat.lane seat.idle seat.token.me c.take.new.token.me after _ c.seat.invariant.0
-    (ap (λ (s : Sitting). s.part.flight) c.seat.view_is ∙ c.requires.idle) had c.serve-reply.ensures.served in (
-      had.log,
-      subst (HoldsBefore after had.log)
-          (λ i. event_of seat.lane c.args.moment (sym c.of-asked.ensures i) (sym c.of.ensures i)) held,
-    )
+    (had_held seat.lane seat.idle seat.token.me _ c.seat.invariant.0 (c.take.ensures.had c.if-take-ne0.false)).0
 
-pub put-requires-clause-event : goal.put-requires-clause-event
-put-requires-clause-event c =
-    let had = c.take.ensures.had c.if-take-ne0.false in (
-      refl,
-      served_lane c.seat.inside.lane c.seat.inside.idle c.seat.inside.token.me c.take.new.token.me
-          c.serve-reply.new.token.me _ c.seat.invariant.0 had c.serve-reply.ensures.served,
-    )
+pub finish-requires-clause-idle : goal.finish-requires-clause-idle
+finish-requires-clause-idle c =
+    ap (λ (k : Me). (part k).flight) (c.take.ensures.had c.if-take-ne0.false).has
+    ∙ (ap (λ (s : Sitting). s.part.flight) c.seat.view_is ∙ c.requires.idle)
+
+pub finish-requires-clause-lane : goal.finish-requires-clause-lane
+finish-requires-clause-lane c =
+    c.seat.invariant.0.numbered
+    ∙ sym (ap (λ (k : Me). (part k).lane) (c.take.ensures.had c.if-take-ne0.false).has)
 
 pub invariant_of-seat-2 : goal.invariant_of-seat-2
 invariant_of-seat-2 c =
     let had = c.take.ensures.had c.if-take-ne0.false in
-    let served = c.serve-reply.ensures.served in
-    let me = c.seat.inside.token.me in
-    let after = c.serve-reply.new.token.me in (
-      called_seated _ _ me c.put.new.token.me had.log _
-          (event_of c.seat.inside.lane c.args.moment c.args.ask c.serve-reply.result) had.last
-          served.after c.seat.invariant.0
-          (called me after c.put.new.token.me had.log _ _ _
-          (serves_is me c.take.new.token.me after _ had served) c.put.ensures.put)
-          (λ i. event_of c.seat.inside.lane c.args.moment (c.of-asked.ensures i) (c.of.ensures i)) had.found.legal
-          (serves_last me c.take.new.token.me after _ had served),
+    let seat = c.seat.inside in
+    let held = had_held seat.lane seat.idle seat.token.me _ c.seat.invariant.0 had in (
+      turn_seated seat.lane seat.idle seat.token.me c.take.new.token.me c.take.new.token.me c.finish.new.token.me 0 0 _
+          c.seat.invariant.0 had (starts _ held.0 held.1) c.finish.ensures.finished,
       search rules,
     )
 
 pub returns-clause-added : goal.returns-clause-added
 returns-clause-added c =
     let had = c.take.ensures.had c.if-take-ne0.false in
-    let served = c.serve-reply.ensures.served in
-    let me = c.seat.inside.token.me in
-    let after = c.serve-reply.new.token.me in
-    adds_at c.seat.inside.token.table_id c.put.new.token.table_id me c.put.new.token.me c.args.seat.now had.log _
-    c.seat.inside.lane c.seat.inside.idle c.args.moment c.args.ask c.serve-reply.result had.last served.after
-    c.seat.view_is (search rules)
-    (called me after c.put.new.token.me had.log _ _ _
-    (serves_is me c.take.new.token.me after _ had served) c.put.ensures.put)
-    (λ i. event_of c.seat.inside.lane c.args.moment (c.of-asked.ensures i) (c.of.ensures i)) had.found
-    c.seat.invariant.0 (ap (λ (s : Sitting). s.part.flight) c.seat.view_is ∙ c.requires.idle)
-    (serves_last me c.take.new.token.me after _ had served)
+    let seat = c.seat.inside in
+    let held = had_held seat.lane seat.idle seat.token.me _ c.seat.invariant.0 had in
+    turn_adds seat.token.table_id c.finish.new.token.table_id seat.token.me c.take.new.token.me c.take.new.token.me
+    c.finish.new.token.me c.args.seat.now seat.lane seat.idle 0 0 c.args.moment c.args.ask c.finish.result
+    c.seat.view_is (search rules) c.seat.invariant.0 had (starts _ held.0 held.1) c.finish.ensures.finished
 
 pub returns-clause-idle : goal.returns-clause-idle
 returns-clause-idle c =
     let had = c.take.ensures.had c.if-take-ne0.false in
-    let served = c.serve-reply.ensures.served in
-    let me = c.seat.inside.token.me in
-    let after = c.serve-reply.new.token.me in
-    ap (λ m. (part m).flight)
-    (called me after c.put.new.token.me had.log _ _ _
-    (serves_is me c.take.new.token.me after _ had served) c.put.ensures.put)
-    ∙ (ap (λ (s : Sitting). s.part.flight) c.seat.view_is ∙ c.requires.idle)
+    let seat = c.seat.inside in
+    let held = had_held seat.lane seat.idle seat.token.me _ c.seat.invariant.0 had in
+    turn_idle seat.token.me c.take.new.token.me c.take.new.token.me c.finish.new.token.me 0 0 _
+    (ap (λ (s : Sitting). s.part.flight) c.seat.view_is ∙ c.requires.idle) had (starts _ held.0 held.1)
+    c.finish.ensures.finished

@@ -1,5 +1,5 @@
 use Rattle.krs_desk.proofs.Calls.{waits_helped, adds_collected}
-use Rattle.krs_desk.proofs.desk.Desk.call.Goals as goal
+use Rattle.krs_desk.proofs.desk.Desk.call_by_post.Goals as goal
 
 pub returns-in-Some-collect-clause-added : goal.returns-in-Some-collect-clause-added
 returns-in-Some-collect-clause-added g c =

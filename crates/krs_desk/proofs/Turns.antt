@@ -1,0 +1,182 @@
+-- A call that is served as the last of its turn: what its token and its seat are then, and what its caller is told.
+use Rattle.std.proofs.Common.{◌≡◌, ℕ, Bool, List, [], ◌∷◌, ◌++◌, Some, None, Result, refl, sym, ap}
+use Rattle.std.proofs.Common.{◌∙◌, subst, append-nil, append_assoc}
+use Rattle.atomic_table.specs.Seated.{TableId}
+use Rattle.atomic_table.specs.Table.{rest}
+use Rattle.krs_types.specs.declared.ask.Ask.{Ask}
+use Rattle.krs_types.specs.declared.ask.Answer.{Answer}
+use Rattle.krs_types.specs.declared.errno.Errno.{Errno}
+use Rattle.krs_types.specs.declared.event.Event.{Event}
+use Rattle.krs_model.specs.Lists.{Begins}
+use Rattle.krs_model.specs.State.{State}
+use Rattle.krs_model.specs.Step.{Step}
+use Rattle.krs_model.specs.History.{IsLegal, event_of}
+use Rattle.krs_model.proofs.History.Legal.{legal_more}
+use Rattle.krs_world.specs.declared.view.Part.{Part}
+use Rattle.krs_world.specs.Knowing.{events_of, put_own}
+use Rattle.krs_world.proofs.Keeping.{own_event}
+use Rattle.krs_desk.specs.declared.place.Place.{Place}
+use Rattle.krs_desk.specs.declared.place.Place.TheVariants.{Home}
+use Rattle.krs_desk.specs.Parts.{sat, hand_of}
+use Rattle.krs_desk.specs.Sitting.{Sitting, Adds}
+use Rattle.krs_desk.specs.Seated.{Me, part, opening, sitting_of, is_free, IsSeated, Holds, Serves, HoldsBefore}
+use Rattle.krs_desk.specs.Helping.{HoldsAll, Goes, Finishes, HasLooked, lanes_of, held_of}
+use Rattle.krs_desk.proofs.Seats.{same_store}
+
+-- The token.
+
+pub serves_is :
+    (m w : Me) (e : Event) (h : HoldsAll m) (s : Serves m e w)
+    → w ≡ (sat (opening m) (part m), (0, Home s.after) ∷ hand_of (part m).flight (part m).lane)
+serves_is m w e h s = s.has ∙ ap (λ (k : Me). (k.0, (0, Home s.after) ∷ rest k.1)) h.has
+
+-- the step was made on the store that ends the list
+pub serves_last : (m w : Me) (e : Event) (h : HoldsAll m) (s : Serves m e w) → Step h.last e s.after
+serves_last m w e h s =
+    let c : List (ℕ × Place) = hand_of (part m).flight (part m).lane in
+    let both : (0, Home s.before) ∷ rest m.1 ≡ (0, Home h.last) ∷ c = sym s.had ∙ ap (λ (k : Me). k.1) h.has in
+    let head : ◌≡◌ {A = ℕ × Place} (0, Home s.before) (0, Home h.last) = cc in
+    let same : s.before ≡ h.last = same_store s.before h.last (ap (λ (z : ℕ × Place). z.1) head) in
+    subst (λ (z : State). Step z e s.after) same s.step
+
+pub holds_before :
+    (m w : Me) (e : Event) → (part m).flight ≡ None → (h : HoldsAll m) → Serves m e w → HoldsBefore w h.log e
+holds_before m w e quiet h s =
+    subst (λ (z : Me). HoldsBefore z h.log e) (sym (serves_is m w e h s))
+    record {
+      last = h.last;
+      after = s.after;
+      has = refl;
+      held = h.held;
+      legal = h.legal;
+      step = serves_last m w e h s;
+      unserving = h.unserving;
+      idle = quiet;
+    }
+
+pub finished :
+    (m w n : Me) (said e : Event) → said ≡ e → (h : HoldsAll m) → Serves m e w
+    → ((l : List Event) → (part w).holding ≡ Some l → n ≡ (sat (opening w) (put_own (part w) l said), rest w.1))
+    → ((l : List Event) → (part w).holding ≡ Some l → events_of (part w).lane l ≡ (part w).mine) → Finishes m e n
+finished m w n said e says h s put mine =
+    let w_is = serves_is m w e h s in
+    let held : (part w).holding ≡ Some h.log = ap (λ (k : Me). (part k).holding) w_is ∙ h.held in
+    record {
+      log = h.log;
+      last = h.last;
+      after = s.after;
+      held = h.held;
+      has =
+          put h.log held
+          ∙ (ap (λ (k : Me). (sat (opening k) (put_own (part k) h.log said), rest k.1)) w_is
+          ∙ ((λ i. (sat (opening m) (put_own (part m) h.log (says i)), hand_of (part m).flight (part m).lane))
+          ∙ ap (λ (c : List (ℕ × Place)). (sat (opening m) (put_own (part m) h.log e), c))
+          (sym (ap (λ (k : Me). rest k.1) h.has))));
+      legal = h.legal;
+      step = serves_last m w e h s;
+      mine =
+          ap (λ (p : Part). events_of p.lane h.log) (sym (ap part w_is))
+          ∙ (mine h.log held ∙ ap (λ (k : Me). (part k).mine) w_is);
+    }
+
+-- The seat.
+
+-- the list that was left, and the seat's token
+has_left :
+    (m n k w : Me) (count lanes : ℕ) (e : Event) → (h : Holds m n) → (g : Goes n count lanes k) → (f : Finishes k e w)
+    → (f.log ≡ h.log ++ g.2.events) × (w ≡ (sat (opening m) (put_own (part k) (h.log ++ g.2.events) e), m.1))
+has_left m n k w count lanes e h g f =
+    let log_is : f.log ≡ h.log ++ g.2.events =
+    ap held_of (sym f.held ∙ g.2.holds)
+    ∙ ap (λ (z : Me). held_of (part z).holding ++ g.2.events) h.has in
+    let open_k : opening k ≡ opening m = ap opening g.1 ∙ ap opening h.has in
+    let rest_k : rest k.1 ≡ m.1 = ap (λ (z : Me). rest z.1) g.1 ∙ ap (λ (z : Me). rest z.1) h.has in (
+      log_is,
+      f.has ∙ (λ i. (sat (open_k i) (put_own (part k) (log_is i) e), rest_k i)),
+    )
+
+legal_left :
+    (m n k w : Me) (count lanes : ℕ) (e : Event) → (h : Holds m n) → (g : Goes n count lanes k) → (f : Finishes k e w)
+    → IsLegal (opening m) ((h.log ++ g.2.events) ++ e ∷ []) f.after
+legal_left m n k w count lanes e h g f =
+    let left = has_left m n k w count lanes e h g f in
+    let open_k : opening k ≡ opening m = ap opening g.1 ∙ ap opening h.has in
+    subst (λ (z : State × List Event). IsLegal z.0 (z.1 ++ e ∷ []) f.after) (λ i. (open_k i, left.0 i))
+    (legal_more (opening k) f.last f.after f.log e f.legal f.step)
+
+pub turn_seated :
+    (lane : ℕ) (idle : Bool) (m n k w : Me) (count lanes : ℕ) (e : Event) → IsSeated lane idle m → Holds m n
+    → Goes n count lanes k → Finishes k e w → IsSeated lane idle w
+turn_seated lane idle m n k w count lanes e seated h g f =
+    let left = has_left m n k w count lanes e h g f in
+    let flight_is : (part k).flight ≡ (part m).flight = g.2.flight ∙ ap (λ (z : Me). (part z).flight) h.has in
+    let lane_is : (part k).lane ≡ (part m).lane = g.2.same_lane ∙ ap (λ (z : Me). (part z).lane) h.has in
+    let hand : m.1 ≡ hand_of (part k).flight (part k).lane =
+    ap (λ (z : Me). z.1) seated.rests.0 ∙ (λ i. hand_of (sym flight_is i) (sym lane_is i)) in
+    subst (λ (z : Me). IsSeated lane idle z) (sym left.1)
+    record {
+      rests = ((λ i. (sat (opening m) (put_own (part k) (h.log ++ g.2.events) e), hand i)), refl);
+      unserving = g.2.unserving;
+      tells = seated.tells ∙ ap (λ f. is_free f) (sym flight_is);
+      numbered = seated.numbered ∙ sym lane_is;
+      sound = seated.sound;
+      last = f.after;
+      legal = legal_left m n k w count lanes e h g f;
+    }
+
+adds :
+    (table : TableId) (m : Me) (q : Part) (log : List Event) (events : List Event) (e : Event) (next : State)
+    (c : List (ℕ × Place)) → Begins (part m).seen log → q.lane ≡ (part m).lane → q.mine ≡ (part m).mine
+    → IsLegal (opening m) ((log ++ events) ++ e ∷ []) next → events_of q.lane (log ++ events) ≡ q.mine
+    → e.lane ≡ q.lane
+    → Adds (sitting_of table m) e (sitting_of table (sat (opening m) (put_own q (log ++ events) e), c))
+adds table m q log events e next c seen lane_is mine_is legal own lane = record {
+  table = refl;
+  opening = refl;
+  lane = lane_is;
+  upto = (log ++ events) ++ e ∷ [];
+  between = seen.0 ++ events;
+  last = next;
+  begins = ([], append-nil ((log ++ events) ++ e ∷ []));
+  legal = legal;
+  ends =
+      ap (λ l. l ++ e ∷ [])
+      (ap (λ l. l ++ events) (sym seen.1) ∙ append_assoc (part m).seen seen.0 events);
+  mine = ap (λ l. l ++ e ∷ []) mine_is;
+  own = own_event q.lane (log ++ events) e lane ∙ ap (λ l. l ++ e ∷ []) own;
+}
+
+pub turn_adds :
+    (table same_table : TableId) (m n k w : Me) (s : Sitting) (lane : ℕ) (idle : Bool) (count lanes moment : ℕ)
+    (ask : Ask) (reply : Result Answer Errno) → sitting_of table m ≡ s → same_table ≡ table → IsSeated lane idle m
+    → Holds m n → Goes n count lanes k → Finishes k (event_of lane moment ask reply) w
+    → Adds s (event_of s.part.lane moment ask reply) (sitting_of same_table w)
+turn_adds table same_table m n k w s lane idle count lanes moment ask reply view same seated h g f =
+    let e : Event = event_of lane moment ask reply in
+    let left = has_left m n k w count lanes e h g f in
+    let lane_is : (part k).lane ≡ (part m).lane = g.2.same_lane ∙ ap (λ (z : Me). (part z).lane) h.has in
+    let mine_is : (part k).mine ≡ (part m).mine = g.2.mine ∙ ap (λ (z : Me). (part z).mine) h.has in
+    let own : events_of (part k).lane (h.log ++ g.2.events) ≡ (part k).mine =
+    ap (events_of (part k).lane) (sym left.0) ∙ f.mine in
+    let v : Me = (sat (opening m) (put_own (part k) (h.log ++ g.2.events) e), m.1) in
+    let made : Adds (sitting_of table m) e (sitting_of table v) =
+    adds table m (part k) h.log g.2.events e f.after m.1 h.found.seen lane_is mine_is
+    (legal_left m n k w count lanes e h g f) own (seated.numbered ∙ sym lane_is) in
+    let there : Adds (sitting_of table m) e (sitting_of same_table w) =
+    subst (λ (z : Sitting). Adds (sitting_of table m) e z) (λ i. sitting_of (sym same i) (sym left.1 i)) made in
+    subst (λ (z : Sitting). Adds z (event_of z.part.lane moment ask reply) (sitting_of same_table w)) view
+    (subst (λ (j : ℕ). Adds (sitting_of table m) (event_of j moment ask reply) (sitting_of same_table w))
+    seated.numbered there)
+
+pub turn_idle :
+    (m n k w : Me) (count lanes : ℕ) (e : Event) → (part m).flight ≡ None → Holds m n → Goes n count lanes k
+    → Finishes k e w → (part w).flight ≡ None
+turn_idle m n k w count lanes e quiet h g f =
+    ap (λ (z : Me). (part z).flight) f.has
+    ∙ (g.2.flight ∙ (ap (λ (z : Me). (part z).flight) h.has ∙ quiet))
+
+-- each lane's cell was looked at
+pub turn_looked :
+    (desk table : TableId) (s : Sitting) (n k w : Me) (count : ℕ) (e : Event) → Goes n count (lanes_of desk) k
+    → Finishes k e w → HasLooked desk s (sitting_of table w)
+turn_looked desk table s n k w count e g f = λ lt. ap (λ (z : Me). (part z).checked) f.has ∙ g.2.checked

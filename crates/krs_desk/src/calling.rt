@@ -1,0 +1,139 @@
+//! A call that waits until it is answered.
+ghost use Rattle.std.specs.Prelude.{◌≡◌, ◌<◌, ◌+◌, IfOk, IfErr, None};
+ghost use Rattle.krs_model.specs.History.{event_of};
+ghost use Rattle.krs_desk.specs.Sitting.{Adds, missed_by};
+ghost use Rattle.krs_desk.specs.Helping.{HasLooked};
+
+use crate::desk::Desk;
+use crate::seat::Seat;
+use krs_types::{Ask, Reply};
+use std::sync::Wait;
+use std::sync::atomic::Ordering;
+use std::{hint, thread};
+
+// So often a call tries to have the turn, and lets other threads go first, before it is posted.
+const TRIES: u32 = 4;
+
+// So often a posted call looks at its own cell, then lets other threads go first between two looks, and then looks at
+// the turn as well, before it sleeps.
+const LOOKS: u32 = 16;
+
+const QUIET_YIELDS: u32 = 16;
+
+const YIELDS: u32 = 1_000;
+
+impl Desk {
+    // Whether the lane's call was answered.
+    fn is_answered(&self, lane: u32) -> bool
+        requires { lane + 1 < self.now.words }
+    {
+        self.table.shared.peek(lane as usize + 1) == 3
+    }
+
+    // Whether the turn was free, or the lane's call answered.
+    fn is_worth_a_try(&self, lane: u32) -> bool
+        requires { lane + 1 < self.now.words }
+    {
+        self.is_answered(lane) || self.table.shared.peek(0) == 0
+    }
+
+    // Looks at the lane's cell alone for a while.
+    fn wait_for_answer(&self, lane: u32)
+        requires { lane + 1 < self.now.words }
+    {
+        for _ in 0..LOOKS {
+            if self.is_answered(lane) {
+                return;
+            }
+            hint::spin_loop();
+        }
+        for _ in 0..QUIET_YIELDS {
+            thread::yield_now();
+            if self.is_answered(lane) {
+                return;
+            }
+        }
+    }
+
+    // Waits until the turn was free or the lane's call answered, or for a while.
+    fn wait<R: Wait>(&self, rt: &R, lane: u32)
+        requires { lane + 1 < self.now.words }
+    {
+        self.wait_for_answer(lane);
+        for _ in 0..YIELDS {
+            if self.is_worth_a_try(lane) {
+                return;
+            }
+            thread::yield_now();
+        }
+        self.sleepers.fetch_add(1, Ordering::SeqCst);
+        self.table.shared.park(rt, 0, 1);
+        self.sleepers.fetch_sub(1, Ordering::SeqCst);
+    }
+
+    // Asks the store where the turn is free, after it has answered each call that is posted. The ask comes back where
+    // the turn is found taken.
+    fn call_in_turn(&self, seat: &mut Seat, moment: u64, ask: Ask) -> Result<Reply, Ask>
+        requires table { seat.old.table ≡ self.now }
+        requires idle { seat.old.part.flight ≡ None }
+        ensures table { seat.new.table ≡ seat.old.table }
+        ensures idle { seat.new.part.flight ≡ None }
+        ensures added { IfOk result (λ reply. Adds seat.old (event_of seat.old.part.lane moment ask reply) seat.new) }
+        ensures looked { IfOk result (λ reply. HasLooked self.now seat.old seat.new) }
+        ensures missed { IfErr result (λ back. (back ≡ ask) × (seat.new ≡ missed_by seat.old)) }
+    {
+        if self.take(&mut seat.token) != 0 {
+            return Err(ask);
+        }
+        let answered = self.serve_all(&mut seat.token, true);
+        let reply = self.finish(&mut seat.token, seat.lane, moment, ask);
+        if answered > 0 {
+            self.wake_all();
+            thread::yield_now();
+        }
+        Ok(reply)
+    }
+
+    // Posts a call, and helps or waits until it is answered.
+    #[inline(never)]
+    fn call_by_post<R: Wait>(&self, rt: &R, seat: &mut Seat, moment: u64, ask: Ask) -> Reply
+        requires table { seat.old.table ≡ self.now }
+        requires idle { seat.old.part.flight ≡ None }
+        ensures table { seat.new.table ≡ seat.old.table }
+        ensures idle { seat.new.part.flight ≡ None }
+        ensures added { Adds seat.old (event_of seat.old.part.lane moment ask result) seat.new }
+        ensures looked { HasLooked self.now seat.old seat.new }
+    {
+        self.post(seat, moment, ask);
+        for _ in rt.forever() {
+            let _helped = self.help(seat);
+            if let Some(reply) = self.collect(seat) {
+                return reply;
+            }
+            self.wait(rt, seat.lane);
+        }
+        unreachable!()
+    }
+
+    /// Asks the store in a turn of its own, after each call that is posted. Where the turn is found taken again and
+    /// again it posts the call, and helps or waits until it is answered. Whoever has the turn answers all calls that
+    /// are posted. For a seat that has no call in flight.
+    pub fn call<R: Wait>(&self, rt: &R, seat: &mut Seat, moment: u64, ask: Ask) -> Reply
+        requires table { seat.old.table ≡ self.now }
+        requires idle { seat.old.part.flight ≡ None }
+        ensures table { seat.new.table ≡ seat.old.table }
+        ensures idle { seat.new.part.flight ≡ None }
+        ensures added { Adds seat.old (event_of seat.old.part.lane moment ask result) seat.new }
+        ensures looked { HasLooked self.now seat.old seat.new }
+    {
+        let mut ask = ask;
+        for _ in 0..TRIES {
+            ask = match self.call_in_turn(seat, moment, ask) {
+                Ok(reply) => return reply,
+                Err(back) => back,
+            };
+            thread::yield_now();
+        }
+        self.call_by_post(rt, seat, moment, ask)
+    }
+}
