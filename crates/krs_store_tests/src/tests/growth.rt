@@ -1,5 +1,5 @@
-//! Growths that are refused. For a run in which one is: the ask that it hits answers ENOMEM and changes nothing, and
-//! made again it gives the row's answer.
+//! Growths that are refused. For a run in which one is: the ask that it hits answers ENOMEM, where it takes memory and is
+//! accepted, and changes nothing; made again it gives the row's answer. Any other ask gives the row's answer at once.
 use super::expect;
 use krs_store::Store;
 use krs_store_asks::{Want, add, change, describe, hello, leave, read, update};
@@ -34,8 +34,15 @@ impl Run {
                 Ok(ask) => ask,
                 Err(_) => self.ask(alloc, step)?,
             };
+            let grows = ask.op.grows();
             let reply = match store.apply(0, 9, ask) {
-                Err(Errno::ENOMEM) => store.apply(0, 9, self.ask(alloc, step)?),
+                Err(Errno::ENOMEM) => {
+                    assert!(rt;
+                        grows && !matches!(want, Want::Refused(_)),
+                        "ENOMEM in place of {want:?}"
+                    );
+                    store.apply(0, 9, self.ask(alloc, step)?)
+                }
                 reply => reply,
             };
             expect(rt, reply, *want, "a step");

@@ -6,7 +6,7 @@ ghost use Rattle.krs_keys.specs.Keys.{named_links_of_content, shown, AreFit, IsO
 
 use krs_keys::{Content, Key, KeyTable};
 use krs_links::Links;
-use krs_types::{Blob, Caller, Context, Desc, Errno, Fault, Groups, Kind, Name, Perm, Serial};
+use krs_types::{Blob, Caller, Context, Desc, Errno, Groups, Kind, Name, Perm, Serial};
 use krs_walk::Walker;
 use std::alloc::{AllocError, Global};
 use std::process::Abort;
@@ -72,18 +72,36 @@ fn with_session(alloc: Global, session: Option<Serial>) -> Context {
     }
 }
 
+/// Whether a context, whose process may have a keyring, possesses a key.
+fn has(
+    keys: &KeyTable,
+    walker: &Walker,
+    context: &Context,
+    ring: Option<Serial>,
+    serial: Serial,
+) -> bool
+    requires { AreFit keys.now.keys }
+{
+    walker.possesses(keys, context, ring, 0, serial)
+}
+
+/// The most links in a chain of nested keyrings from a key.
+fn height(keys: &KeyTable, walker: &Walker, serial: Serial) -> Result<u32, Errno>
+    requires { AreFit keys.now.keys }
+{
+    walker.height_of(keys, serial)
+}
+
 /// What is possessed by a context whose session keyring is key 3, where it and key 4 are keyrings that link nothing.
-fn check_possession(rt: &impl Abort, alloc: Global, keys: &KeyTable) -> Result<(), Fault>
+fn check_possession(rt: &impl Abort, alloc: Global, keys: &KeyTable, walker: &Walker)
     requires { AreFit keys.now.keys }
 {
     let (three, four) = (Serial::new(3), Serial::new(4));
-    let walker = Walker::new(alloc);
-    assert!(rt; walker.height_of(keys, three)? == 0);
     let context = with_session(alloc, Some(three));
-    assert!(rt; walker.possesses(keys, &context, None, 0, three)?);
-    assert!(rt; walker.possesses(keys, &context, Some(four), 0, four)?);
-    assert!(rt; !walker.possesses(keys, &context, None, 0, four)?);
-    Ok(())
+    assert!(rt; height(keys, walker, three) == Ok(0));
+    assert!(rt; has(keys, walker, &context, None, three));
+    assert!(rt; has(keys, walker, &context, Some(four), four));
+    assert!(rt; !has(keys, walker, &context, None, four));
 }
 
 #[test]
@@ -92,21 +110,23 @@ fn possession_of_two_keyrings(rt: HostRuntime) -> Result<(), Fail> {
     let first = ring(alloc, b"a", None, false)?;
     let second = ring(alloc, b"b", None, false)?;
     let keys = two_rings(alloc, first, second).map_err(|_| "no keys")?;
-    check_possession(&rt, alloc, &keys)?;
+    let walker = Walker::new(alloc);
+    check_possession(&rt, alloc, &keys, &walker);
+    walker.room_for(2)?;
+    check_possession(&rt, alloc, &keys, &walker);
     Ok(())
 }
 
 /// Where keys 3 and 4 are keyrings that link nothing, a link of one to itself would close a cycle, and no other.
-fn check_cycles(rt: &impl Abort, alloc: Global, keys: &KeyTable) -> Result<(), AllocError>
+fn check_cycles(rt: &impl Abort, alloc: Global, keys: &KeyTable)
     requires fit { AreFit keys.now.keys }
     requires three { is_ring (at (shown keys.now.keys) 3) ≡ true }
     requires four { is_ring (at (shown keys.now.keys) 4) ≡ true }
 {
     let (three, four) = (Serial::new(3), Serial::new(4));
     let walker = Walker::new(alloc);
-    assert!(rt; walker.would_cycle(keys, three, three)?);
-    assert!(rt; !walker.would_cycle(keys, three, four)?);
-    Ok(())
+    assert!(rt; walker.would_cycle(keys, three, three));
+    assert!(rt; !walker.would_cycle(keys, three, four));
 }
 
 #[test]
@@ -115,7 +135,7 @@ fn cycles_of_two_keyrings(rt: HostRuntime) -> Result<(), Fail> {
     let first = ring(alloc, b"a", None, false)?;
     let second = ring(alloc, b"b", None, false)?;
     let keys = two_rings(alloc, first, second).map_err(|_| "no keys")?;
-    check_cycles(&rt, alloc, &keys)?;
+    check_cycles(&rt, alloc, &keys);
     Ok(())
 }
 
@@ -130,6 +150,21 @@ const SEARCHES: [(bool, u64, u32, &[u8], Result<u32, Errno>); 5] = [
     (false, 8, 3, b"a", Err(Errno::EACCES)),
 ];
 
+/// The number of the key of a name that a context finds from a head.
+fn found(
+    keys: &KeyTable,
+    walker: &Walker,
+    context: &Context,
+    clock: u64,
+    head: Serial,
+    name: &Name,
+) -> Result<u32, Errno>
+    requires { AreFit keys.now.keys }
+{
+    let serial = walker.search(keys, context, None, clock, head, name)?;
+    Ok(serial.number())
+}
+
 fn check_searches(rt: &impl Abort, alloc: Global, keys: &KeyTable) -> Result<(), AllocError>
     requires { AreFit keys.now.keys }
 {
@@ -139,10 +174,7 @@ fn check_searches(rt: &impl Abort, alloc: Global, keys: &KeyTable) -> Result<(),
         let context = with_session(alloc, session);
         let name = name(alloc, desc)?;
         let found = walker.search(keys, &context, None, clock, Serial::new(head), &name);
-        assert!(rt;
-            found.map(Serial::number) == answer.map_err(Fault::Refused),
-            "{head} {desc:?}"
-        );
+        assert!(rt; found.map(Serial::number) == answer, "{head} {desc:?}");
     }
     Ok(())
 }
