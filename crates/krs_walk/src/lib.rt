@@ -8,6 +8,7 @@ mod cycle;
 mod descent;
 mod height;
 mod held;
+mod judging;
 mod keyrings;
 mod possession;
 mod search;

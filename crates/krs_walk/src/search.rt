@@ -2,30 +2,25 @@ ghost use Rattle.std.specs.Prelude.{◌≡◌, ◌≤◌, ◌&&◌, [], ◌∷�
 ghost use Rattle.std.specs.Prelude.{IfOk, OnOk};
 ghost use Rattle.std.specs.Option.{option_to_list};
 ghost use Rattle.krs_model.specs.Table.{at};
-ghost use Rattle.krs_model.specs.Access.{rights_on};
 ghost use Rattle.krs_model.specs.Possession.{attached_with};
-ghost use Rattle.krs_model.specs.Search.{found_with, requested_with, found_by, grants_search, is_open};
-ghost use Rattle.krs_model.specs.Search.{or_next, weight, weightier};
+ghost use Rattle.krs_model.specs.Search.{found_with, requested_with, found_by, is_open};
+ghost use Rattle.krs_model.specs.Search.{or_next, weightier};
 ghost use Rattle.krs_model.specs.Outcome.{Is};
-ghost use Rattle.krs_types.specs.Name.{same_name};
-ghost use Rattle.krs_types.specs.Rights.{has_all, SEARCH};
 ghost use Rattle.krs_links.specs.Links.{nested, serials};
 ghost use Rattle.krs_keys.specs.Keys.{named_links_of_content, name_at, seen, shown, AreNamed, AreFit};
 ghost use Rattle.krs_keys.specs.Changes.{links_some};
 ghost use Rattle.krs_keys.specs.Keys.{OnlyRingsLink};
-ghost use Rattle.krs_walk.specs.Searching.{is_held};
 ghost use Rattle.krs_walk.specs.Searching.{entered_links, entered_links_of, rings_by, rings_from};
 ghost use Rattle.krs_walk.specs.Searching.{searched_from, searcher_for, sought_behind, sought_in};
 ghost use Rattle.krs_walk.specs.Searching.{AreHeld, Joins};
 
 use crate::held::HeldRings;
+use crate::judging::weightier;
 use crate::keyrings::rings_in;
-use crate::possession::find_in;
 use crate::visits::NoRoom;
 use crate::{Visits, Walker};
-use bitflags::Flags;
 use krs_keys::{Content, Key, KeyTable};
-use krs_types::{Context, Errno, Name, Rights, Serial};
+use krs_types::{Context, Errno, Name, Serial};
 
 /// How many levels of keyrings are entered below the head: profile, search depth.
 const LEVELS: u8 = 6;
@@ -297,117 +292,5 @@ impl Search<'_> {
                 Ok(Err(more))
             }
         }
-    }
-
-    /// What the links of a keyring come to, behind this fault.
-    pub(crate) fn judge_behind(&self, content: &Content, fault: Errno) -> Result<Serial, Errno>
-        requires fit { AreFit self.now.keys.now.keys }
-        requires named { AreNamed (name_at self.now.keys.now.keys) (named_links_of_content content.now) }
-        ensures { result ≡ sought_behind self.now fault (serials (named_links_of_content content.now)) }
-    {
-        match self.judge_link(content) {
-            Ok(serial) => Ok(serial),
-            Err(more) => Err(weightier(fault, more)),
-        }
-    }
-
-    /// What the links of a keyring come to: no other than that of the name.
-    fn judge_link(&self, content: &Content) -> Result<Serial, Errno>
-        requires fit { AreFit self.now.keys.now.keys }
-        requires named { AreNamed (name_at self.now.keys.now.keys) (named_links_of_content content.now) }
-        ensures { result ≡ sought_in self.now (serials (named_links_of_content content.now)) }
-    {
-        match find_in(content, self.name) {
-            Some(serial) => self.judge(serial),
-            None => Err(Errno::ENOKEY),
-        }
-    }
-
-    /// What a key comes to.
-    fn judge(&self, serial: Serial) -> Result<Serial, Errno>
-        requires { AreFit self.now.keys.now.keys }
-        ensures { result ≡ sought_in self.now (serial ∷ []) }
-    {
-        match self.keys.get(serial) {
-            Some(key) if *self.name == key.name => self.judge_match(key, serial),
-            _ => Err(Errno::ENOKEY),
-        }
-    }
-
-    /// What a key of the name comes to.
-    fn judge_match(&self, key: &Key, serial: Serial) -> Result<Serial, Errno>
-        requires fit { AreFit self.now.keys.now.keys }
-        requires key { at self.now.keys.now.keys serial ≡ Some key.now }
-        requires named { same_name self.now.name.now key.now.name ≡ true }
-        ensures { result ≡ sought_in self.now (serial ∷ []) }
-    {
-        if key.revoked {
-            return Err(Errno::EKEYREVOKED);
-        }
-        if key.is_over(self.clock) {
-            return Err(Errno::EKEYEXPIRED);
-        }
-        if self.grants(key, serial) {
-            Ok(serial)
-        } else {
-            Err(Errno::EACCES)
-        }
-    }
-
-    /// Whether a key grants SEARCH. Possession is asked where it makes a difference.
-    pub(crate) fn grants(&self, key: &Key, serial: Serial) -> bool
-        requires { AreFit self.now.keys.now.keys }
-        ensures { result ≡ grants_search (searcher_for self.now) serial (seen key.now) }
-    {
-        let granted = self.is_granted(key, false);
-        if granted == self.is_granted(key, true) {
-            return granted;
-        }
-        let possessed = self.possesses(serial);
-        self.is_granted(key, possessed)
-    }
-
-    fn possesses(&self, serial: Serial) -> bool
-        requires { AreFit self.now.keys.now.keys }
-        ensures { result ≡ is_held self.now serial }
-    {
-        self.walker.possesses(
-            self.keys,
-            self.context,
-            self.process_ring,
-            self.clock,
-            serial,
-        )
-    }
-
-    /// Whether a key grants SEARCH, as one that is possessed or not.
-    fn is_granted(&self, key: &Key, possessed: bool) -> bool
-        ensures { result ≡
-            has_all (rights_on (seen key.now) self.now.context.now.caller possessed) SEARCH }
-    {
-        key.grants(&self.context.caller, possessed)
-            .contains(Rights::SEARCH)
-    }
-}
-
-/// Of two faults of a search the one that weighs more: profile, fault of a search.
-fn weightier(first: Errno, second: Errno) -> Errno
-    ensures { result ≡ weightier first second }
-{
-    if weight(first) < weight(second) {
-        second
-    } else {
-        first
-    }
-}
-
-fn weight(error: Errno) -> u8
-    ensures { result ≡ weight error }
-{
-    match error {
-        Errno::EKEYREVOKED => 3,
-        Errno::EKEYEXPIRED => 2,
-        Errno::EACCES => 1,
-        _ => 0,
     }
 }

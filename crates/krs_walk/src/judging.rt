@@ -1,0 +1,131 @@
+ghost use Rattle.std.specs.Prelude.{◌≡◌, [], ◌∷◌, Some, Err, true};
+ghost use Rattle.krs_model.specs.Table.{at};
+ghost use Rattle.krs_model.specs.Access.{rights_on};
+ghost use Rattle.krs_model.specs.Search.{grants_search};
+ghost use Rattle.krs_model.specs.Search.{weight, weightier};
+ghost use Rattle.krs_types.specs.Name.{same_name};
+ghost use Rattle.krs_types.specs.Rights.{has_all, SEARCH};
+ghost use Rattle.krs_links.specs.Links.{serials};
+ghost use Rattle.krs_keys.specs.Keys.{named_links_of_content, name_at, seen, AreNamed, AreFit};
+ghost use Rattle.krs_walk.specs.Searching.{is_held};
+ghost use Rattle.krs_walk.specs.Searching.{searcher_for, sought_behind, sought_in};
+
+use crate::possession::find_in;
+use crate::search::Search;
+use bitflags::Flags;
+use krs_keys::{Content, Key};
+use krs_types::{Errno, Rights, Serial};
+
+impl Search<'_> {
+    /// What the links of a keyring come to, behind this fault.
+    pub(crate) fn judge_behind(&self, content: &Content, fault: Errno) -> Result<Serial, Errno>
+        requires fit { AreFit self.now.keys.now.keys }
+        requires named { AreNamed (name_at self.now.keys.now.keys) (named_links_of_content content.now) }
+        ensures { result ≡ sought_behind self.now fault (serials (named_links_of_content content.now)) }
+    {
+        match self.judge_link(content) {
+            Ok(serial) => Ok(serial),
+            Err(more) => Err(weightier(fault, more)),
+        }
+    }
+
+    /// What the links of a keyring come to: no other than that of the name.
+    fn judge_link(&self, content: &Content) -> Result<Serial, Errno>
+        requires fit { AreFit self.now.keys.now.keys }
+        requires named { AreNamed (name_at self.now.keys.now.keys) (named_links_of_content content.now) }
+        ensures { result ≡ sought_in self.now (serials (named_links_of_content content.now)) }
+    {
+        match find_in(content, self.name) {
+            Some(serial) => self.judge(serial),
+            None => Err(Errno::ENOKEY),
+        }
+    }
+
+    /// What a key comes to.
+    pub(crate) fn judge(&self, serial: Serial) -> Result<Serial, Errno>
+        requires { AreFit self.now.keys.now.keys }
+        ensures { result ≡ sought_in self.now (serial ∷ []) }
+    {
+        match self.keys.get(serial) {
+            Some(key) if *self.name == key.name => self.judge_match(key, serial),
+            _ => Err(Errno::ENOKEY),
+        }
+    }
+
+    /// What a key of the name comes to.
+    fn judge_match(&self, key: &Key, serial: Serial) -> Result<Serial, Errno>
+        requires fit { AreFit self.now.keys.now.keys }
+        requires key { at self.now.keys.now.keys serial ≡ Some key.now }
+        requires named { same_name self.now.name.now key.now.name ≡ true }
+        ensures { result ≡ sought_in self.now (serial ∷ []) }
+    {
+        if key.revoked {
+            return Err(Errno::EKEYREVOKED);
+        }
+        if key.is_over(self.clock) {
+            return Err(Errno::EKEYEXPIRED);
+        }
+        if self.grants(key, serial) {
+            Ok(serial)
+        } else {
+            Err(Errno::EACCES)
+        }
+    }
+
+    /// Whether a key grants SEARCH. Possession is asked where it makes a difference.
+    pub(crate) fn grants(&self, key: &Key, serial: Serial) -> bool
+        requires { AreFit self.now.keys.now.keys }
+        ensures { result ≡ grants_search (searcher_for self.now) serial (seen key.now) }
+    {
+        let granted = self.is_granted(key, false);
+        if granted == self.is_granted(key, true) {
+            return granted;
+        }
+        let possessed = self.possesses(serial);
+        self.is_granted(key, possessed)
+    }
+
+    fn possesses(&self, serial: Serial) -> bool
+        requires { AreFit self.now.keys.now.keys }
+        ensures { result ≡ is_held self.now serial }
+    {
+        self.walker.possesses(
+            self.keys,
+            self.context,
+            self.process_ring,
+            self.clock,
+            serial,
+        )
+    }
+
+    /// Whether a key grants SEARCH, as one that is possessed or not.
+    pub(crate) fn is_granted(&self, key: &Key, possessed: bool) -> bool
+        ensures { result ≡
+            has_all (rights_on (seen key.now) self.now.context.now.caller possessed) SEARCH }
+    {
+        key.grants(&self.context.caller, possessed)
+            .contains(Rights::SEARCH)
+    }
+}
+
+/// Of two faults of a search the one that weighs more: profile, fault of a search.
+pub(crate) fn weightier(first: Errno, second: Errno) -> Errno
+    ensures { result ≡ weightier first second }
+{
+    if weight(first) < weight(second) {
+        second
+    } else {
+        first
+    }
+}
+
+fn weight(error: Errno) -> u8
+    ensures { result ≡ weight error }
+{
+    match error {
+        Errno::EKEYREVOKED => 3,
+        Errno::EKEYEXPIRED => 2,
+        Errno::EACCES => 1,
+        _ => 0,
+    }
+}
