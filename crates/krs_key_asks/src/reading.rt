@@ -9,6 +9,11 @@ use krs_links::Links;
 use krs_tables::Tables;
 use krs_types::{Answer, Body, Errno, Fault, Kind, Rights, Want};
 use std::alloc::{AllocError, Global};
+use std::fmt::Write;
+
+/// The longest of what stands before a description: a type of 7 letters, two ids of 10 digits, a mask of 8, each with
+/// its semicolon.
+const LONGEST_HEAD: usize = 39;
 
 /// The payload of a key, or what a keyring links: keyctl(2), KEYCTL_READ.
 #[tactic(auto, unfolding(krs_model::specs::Asks::Reading::read))]
@@ -55,7 +60,8 @@ fn description(alloc: Global, key: &Key) -> Result<Body, AllocError>
 {
     let desc = key.name.desc.as_slice();
     let (kind, uid, gid) = (key.name.kind.name(), key.uid, key.gid);
-    let head = format!(in alloc; "{kind};{uid};{gid};")?;
+    let mut head = String::with_capacity(alloc, desc.len().saturating_add(LONGEST_HEAD))?;
+    write!(head, "{kind};{uid};{gid};")?;
     let mut bytes = head.into_bytes();
     bytes.extend_from_slice(&hex_8(key.perm.bits()))?;
     bytes.push(b';')?;
