@@ -43,18 +43,18 @@ fn uid_key(name: Name, links: Links, caller: &Caller) -> Key
 }
 
 /// The user keyring of a uid, and its user-session keyring, which links the first under this serial.
-fn uid_keys(alloc: Global, caller: &Caller, first: Serial) -> Result<(Key, Key), AllocError>
+fn uid_keys(tables: &Tables, caller: &Caller, first: Serial) -> Result<(Key, Key), AllocError>
     ensures user { IfOk result (λ keys. keys.0 ≡ uid_key (codes "_uid.") [] caller.now) }
     ensures session { IfOk result (λ keys. keys.1
         ≡ uid_key (codes "_uid_ses.") ((keys.0.name, first) ∷ []) caller.now) }
 {
-    let name = uid_name(alloc, "_uid.", caller.uid)?;
-    let session_name = uid_name(alloc, "_uid_ses.", caller.uid)?;
-    let mut links = Links::new(alloc);
-    if links.put(name.copy(alloc)?, first).is_err() {
+    let name = uid_name(tables.alloc, "_uid.", caller.uid)?;
+    let session_name = uid_name(tables.alloc, "_uid_ses.", caller.uid)?;
+    let mut links = tables.no_links();
+    if links.put(name.copy(tables.alloc)?, first).is_err() {
         return Err(AllocError);
     }
-    let user = uid_key(name, Links::new(alloc), caller);
+    let user = uid_key(name, tables.no_links(), caller);
     Ok((user, uid_key(session_name, links, caller)))
 }
 
@@ -99,7 +99,7 @@ fn hello_first(tables: &mut Tables, client: u32, caller: Caller) -> Result<Answe
     if first > LAST_OF_TWO {
         return Err(Fault::Refused(Errno::ENOSPC));
     }
-    let (user, session) = uid_keys(tables.alloc, &caller, Serial::new(first))?;
+    let (user, session) = uid_keys(tables, &caller, Serial::new(first))?;
     open_first(tables, client, caller, user, session)
 }
 

@@ -8,10 +8,9 @@ ghost use Rattle.krs_keys.specs.Keys.{seen};
 ghost use Rattle.krs_context_asks.specs.Joined.{joined_ring, session_key, joined_anew, session_in, IsEmptyRing};
 
 use krs_keys::{Content, Key};
-use krs_links::Links;
 use krs_tables::{Tables, make_room};
 use krs_types::{Answer, Blob, Caller, Desc, Errno, Fault, Kind, Name, Perm, Serial};
-use std::alloc::{AllocError, Global};
+use std::alloc::AllocError;
 
 /// Whether JOIN takes this name: none, or a description that a keyring may have. EINVAL of its length and bytes,
 /// EPERM where it begins with a dot. keyctl(2), KEYCTL_JOIN_SESSION_KEYRING; profile, limits.
@@ -26,7 +25,7 @@ fn check_session_name(name: &[u8]) -> Result<(), Errno>
 }
 
 /// An empty keyring of this description and mask, which JOIN makes.
-fn joined_ring(alloc: Global, desc: Blob, perm: Perm, caller: &Caller) -> Key
+fn joined_ring(tables: &Tables, desc: Blob, perm: Perm, caller: &Caller) -> Key
     requires { length desc ≤ 4095 }
     ensures { result ≡ joined_ring desc perm caller.now }
 {
@@ -41,20 +40,20 @@ fn joined_ring(alloc: Global, desc: Blob, perm: Perm, caller: &Caller) -> Key
         expiry: None,
         revoked: false,
         joined: true,
-        content: Content::Links(Links::new(alloc)),
+        content: Content::Links(tables.no_links()),
     }
 }
 
 /// A new session keyring: `_ses`, or one of this name. Profile, masks of new keys.
-fn session_key(alloc: Global, name: Blob, caller: &Caller) -> Result<Key, AllocError>
+fn session_key(tables: &Tables, name: Blob, caller: &Caller) -> Result<Key, AllocError>
     requires { length name ≤ 4095 }
     ensures { IfOk result (λ key. key ≡ session_key name caller.now) }
 {
     if name.as_slice().is_empty() {
-        let desc = Blob::from_slice(alloc, b"_ses")?;
-        return Ok(joined_ring(alloc, desc, Perm::OF_SESSION, caller));
+        let desc = Blob::from_slice(tables.alloc, b"_ses")?;
+        return Ok(joined_ring(tables, desc, Perm::OF_SESSION, caller));
     }
-    Ok(joined_ring(alloc, name, Perm::OF_NAMED_SESSION, caller))
+    Ok(joined_ring(tables, name, Perm::OF_NAMED_SESSION, caller))
 }
 
 /// Another session keyring: keyctl(2), KEYCTL_JOIN_SESSION_KEYRING; session-keyring(7).
@@ -69,7 +68,7 @@ pub fn join(tables: &mut Tables, client: u32, number: u32, name: Blob) -> Result
         Some(ring) => join_found(tables, number, left, ring),
         None => {
             tables.check_serial()?;
-            let key = session_key(tables.alloc, name, &context.caller)?;
+            let key = session_key(tables, name, &context.caller)?;
             join_new(tables, number, left, key)
         }
     }

@@ -10,11 +10,11 @@ ghost use Rattle.krs_tables.specs.Making.{adding_in};
 
 use krs_keys::{Change, Content, Key, LAST_SERIAL};
 use krs_links::Links;
-use krs_tables::{Tables, new_key};
+use krs_tables::Tables;
 use krs_types::{
     Answer, Blob, Body, Context, Desc, Errno, Fault, Kind, Name, Perm, Rights, Serial, Want,
 };
-use std::alloc::{AllocError, Global};
+use std::alloc::AllocError;
 
 /// Where an added key goes.
 enum Place {
@@ -115,7 +115,7 @@ fn make(
     tables.make_walk_room(1)?;
     let serial = Serial::new(tables.keys.next());
     let link = name.copy(tables.alloc)?;
-    let key = new_key(tables.alloc, name, payload, uid, gid);
+    let key = tables.new_key(name, payload, uid, gid);
     let Ok(()) = tables.holders.made(serial) else {
         return Err(AllocError);
     };

@@ -6,5 +6,7 @@
 
 mod links;
 mod lists;
+mod seed;
 
 pub use links::Links;
+pub use seed::Seed;

@@ -3,7 +3,7 @@ ghost use Rattle.std.specs.Option.{ok_or, option_copied};
 ghost use Rattle.krs_links.specs.Links.{serial_named, link_put, unlinked, unlinked_key, nested, names, serials, has_link};
 ghost use Rattle.krs_links.specs.Links.{is_full, is_refused, link_error, IsUnique};
 
-use crate::lists;
+use crate::{Seed, lists};
 use indexmap::IndexMap;
 use krs_types::{Errno, Name, Serial};
 use std::alloc::Global;
@@ -15,7 +15,7 @@ const MAX_LINKS: usize = 65535;
 /// The links of a keyring, in link order, with an index from their names.
 #[derive(Drop)]
 pub struct Links {
-    entries: IndexMap<Name, Serial>,
+    entries: IndexMap<Name, Serial, Seed>,
     /// The serials of the nested keyrings again, so that a walk goes over them alone.
     rings: Vec<Serial>,
 }
@@ -33,11 +33,11 @@ impl Model for Links {
 
 impl Links {
     /// No links. It takes no memory.
-    pub fn new(alloc: Global) -> Self
+    pub fn new(alloc: Global, seed: Seed) -> Self
         ensures { result ≡ [] }
     {
         Links {
-            entries: IndexMap::new(alloc),
+            entries: IndexMap::with_hasher(alloc, seed),
             rings: Vec::new(alloc),
         }
     }

@@ -5,12 +5,13 @@ ghost use Rattle.krs_links.specs.Links.{serial_named, link_put, unlinked, unlink
 ghost use Rattle.krs_links.specs.Links.{is_refused};
 ghost use Rattle.krs_links.specs.Lists.{place_of, AreLists};
 
+use crate::Seed;
 use indexmap::IndexMap;
 use krs_types::{Kind, Name, Serial};
 use std::alloc::AllocError;
 
 /// The serial that is linked under a name.
-pub(crate) fn find(entries: &IndexMap<Name, Serial>, name: &Name) -> Option<Serial>
+pub(crate) fn find(entries: &IndexMap<Name, Serial, Seed>, name: &Name) -> Option<Serial>
     ensures { result ≡ serial_named entries.now.entries name.now }
 {
     match entries.get(name) {
@@ -20,7 +21,7 @@ pub(crate) fn find(entries: &IndexMap<Name, Serial>, name: &Name) -> Option<Seri
 }
 
 /// Where the link of a name stands.
-pub(crate) fn place_of(entries: &IndexMap<Name, Serial>, name: &Name) -> Option<usize>
+pub(crate) fn place_of(entries: &IndexMap<Name, Serial, Seed>, name: &Name) -> Option<usize>
     ensures place { result ≡ place_of name.now entries.now.entries }
     ensures none { IfNone result (serial_named entries.now.entries name.now ≡ None) }
 {
@@ -28,7 +29,7 @@ pub(crate) fn place_of(entries: &IndexMap<Name, Serial>, name: &Name) -> Option<
 }
 
 /// Whether the link at a place is one to a keyring: then one nested keyring more stands before the next place.
-fn is_ring_at(entries: &IndexMap<Name, Serial>, place: usize) -> bool
+fn is_ring_at(entries: &IndexMap<Name, Serial, Seed>, place: usize) -> bool
     requires { place < length entries.now.entries }
     ensures { length (nested (take (place + 1) entries.now.entries))
         ≡ (if result then length (nested (take place entries.now.entries)) + 1
@@ -41,7 +42,7 @@ fn is_ring_at(entries: &IndexMap<Name, Serial>, place: usize) -> bool
 }
 
 /// How many nested keyrings stand before a place.
-fn rings_before(entries: &IndexMap<Name, Serial>, place: usize) -> usize
+fn rings_before(entries: &IndexMap<Name, Serial, Seed>, place: usize) -> usize
     requires { place ≤ length entries.now.entries }
     ensures { result ≡ length (nested (take place entries.now.entries)) }
 {
@@ -56,7 +57,7 @@ fn rings_before(entries: &IndexMap<Name, Serial>, place: usize) -> usize
 
 /// The nested keyrings with a link in the place of that of its name.
 fn displace_ring(
-    entries: &IndexMap<Name, Serial>,
+    entries: &IndexMap<Name, Serial, Seed>,
     rings: &mut Vec<Serial>,
     place: usize,
     name: &Name,
@@ -73,7 +74,7 @@ fn displace_ring(
 }
 
 /// The nested keyrings without the link of a name.
-fn remove_ring(entries: &IndexMap<Name, Serial>, rings: &mut Vec<Serial>, place: usize, name: &Name)
+fn remove_ring(entries: &IndexMap<Name, Serial, Seed>, rings: &mut Vec<Serial>, place: usize, name: &Name)
     requires lists { AreLists entries.now.entries rings.old.items }
     requires place { place_of name.now entries.now.entries ≡ Some place }
     ensures { rings.new.items ≡ serials (nested (unlinked entries.now.entries name.now)) }
@@ -86,7 +87,7 @@ fn remove_ring(entries: &IndexMap<Name, Serial>, rings: &mut Vec<Serial>, place:
 
 /// A link in the place of that of its name. The displaced serial is answered.
 pub(crate) fn displace(
-    entries: &mut IndexMap<Name, Serial>,
+    entries: &mut IndexMap<Name, Serial, Seed>,
     rings: &mut Vec<Serial>,
     place: usize,
     name: Name,
@@ -109,7 +110,7 @@ pub(crate) fn displace(
 /// A link under a name, and the serial that it displaces. A refusal leaves the links as they are.
 #[tactic(auto, using(crate::proofs::IndexLemmas::insert_entry_puts, crate::proofs::IndexLemmas::lookup_named))]
 fn insert(
-    entries: &mut IndexMap<Name, Serial>,
+    entries: &mut IndexMap<Name, Serial, Seed>,
     name: Name,
     serial: Serial,
 ) -> Result<Option<Serial>, AllocError>
@@ -124,7 +125,7 @@ fn insert(
 
 /// A link under a new name, last.
 pub(crate) fn append(
-    entries: &mut IndexMap<Name, Serial>,
+    entries: &mut IndexMap<Name, Serial, Seed>,
     rings: &mut Vec<Serial>,
     name: Name,
     serial: Serial,
@@ -148,7 +149,7 @@ pub(crate) fn append(
 
 /// Without the link of a name. Its serial is answered.
 pub(crate) fn remove(
-    entries: &mut IndexMap<Name, Serial>,
+    entries: &mut IndexMap<Name, Serial, Seed>,
     rings: &mut Vec<Serial>,
     place: usize,
     name: &Name,
@@ -166,7 +167,7 @@ pub(crate) fn remove(
 
 /// Without the links to a key.
 pub(crate) fn remove_key(
-    entries: &mut IndexMap<Name, Serial>,
+    entries: &mut IndexMap<Name, Serial, Seed>,
     rings: &mut Vec<Serial>,
     serial: Serial,
 )

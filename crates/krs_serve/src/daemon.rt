@@ -9,26 +9,26 @@ use crate::listening::{Accepted, accept_all};
 use crate::saying::{Lines, NOT_BOUND, OUT_OF_MEMORY, USAGE, say};
 use crate::{FreeSeats, Options, seated};
 use krs_desk::Desk;
-use krs_store::Store;
+use krs_store::{Seed, Store};
 use std::alloc::Global;
 use std::env::Args;
 use std::fs::Files;
+use std::hash::RandomState;
 use std::io::Write;
 use std::net::Net;
 use std::os::unix::net::UnixListener;
+use std::random::RandomSource;
 use std::sync::Wait;
 use std::thread::Threads;
 use std::time::Clock;
 use std::{fs, io};
 
 /// The daemon: from its words, the first of which is its name, and its two ends to its exit status.
-pub fn run_daemon<R: Clock + Files + Net + Threads + Wait + Sync, W: Write, E: Write>(
-    rt: &R,
-    alloc: Global,
-    words: io::Result<Args>,
-    output: &mut W,
-    errors: &mut E,
-) -> u8
+pub fn run_daemon<
+    R: Clock + Files + Net + RandomSource + Threads + Wait + Sync,
+    W: Write,
+    E: Write,
+>(rt: &R, alloc: Global, words: io::Result<Args>, output: &mut W, errors: &mut E) -> u8
     ensures { (choice : ChoiceIs)
         × IfErr words (λ error. IsUnread (error_kind error) choice)
         × Answers choice (W.contents output.old) (W.contents output.new)
@@ -39,7 +39,7 @@ pub fn run_daemon<R: Clock + Files + Net + Threads + Wait + Sync, W: Write, E: W
 }
 
 /// What each choice prints, and the status.
-fn answer<R: Clock + Files + Net + Threads + Wait + Sync, W: Write, E: Write>(
+fn answer<R: Clock + Files + Net + RandomSource + Threads + Wait + Sync, W: Write, E: Write>(
     rt: &R,
     alloc: Global,
     choice: Choice,
@@ -72,7 +72,7 @@ fn answer<R: Clock + Files + Net + Threads + Wait + Sync, W: Write, E: Write>(
 
 /// Serves connections on a new store as the options say, and answers the status: docs/FORMAT.md, "The daemon,
 /// keyretaind". The memory for its seats and its lines is had before the path is bound.
-pub fn listen<R: Clock + Files + Net + Threads + Wait + Sync, W: Write>(
+pub fn listen<R: Clock + Files + Net + RandomSource + Threads + Wait + Sync, W: Write>(
     rt: &R,
     alloc: Global,
     options: &Options,
@@ -80,7 +80,8 @@ pub fn listen<R: Clock + Files + Net + Threads + Wait + Sync, W: Write>(
 ) -> u8
     ensures { Serves options.now (W.contents output.old) (W.contents output.new) result }
 {
-    let Ok((desk, seats)) = Desk::open(alloc, options.lanes, Store::new(alloc)) else {
+    let store = Store::seeded(alloc, seed(rt));
+    let Ok((desk, seats)) = Desk::open(alloc, options.lanes, store) else {
         say(output, OUT_OF_MEMORY);
         return 1;
     };
@@ -106,4 +107,10 @@ pub fn listen<R: Clock + Files + Net + Threads + Wait + Sync, W: Write>(
         }
         Accepted::Failed => 3,
     }
+}
+
+/// What the store hashes names from: the system's random source, since the daemon's clients are strangers. Where it
+/// fails, what every store of one's own has.
+fn seed(rt: &impl RandomSource) -> Seed {
+    RandomState::new(rt).map_or(Seed::Fixed, Seed::Random)
 }

@@ -7,4 +7,5 @@ mod store;
 mod telling;
 mod watching;
 
+pub use krs_links::Seed;
 pub use store::Store;

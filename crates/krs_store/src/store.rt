@@ -9,6 +9,7 @@ ghost use Rattle.krs_model.specs.Revocation.{StaysUnread};
 ghost use Rattle.krs_model.specs.Receiving.{GivesStreams};
 
 use crate::serving::serve;
+use krs_links::Seed;
 use krs_tables::Tables;
 use krs_types::{Ask, Errno, Fault, Reply};
 use std::alloc::Global;
@@ -47,13 +48,27 @@ impl Store {
         Store::starting_at(alloc, 3)
     }
 
+    /// An empty store that strangers may use: it hashes the names of links from this seed.
+    pub fn seeded(alloc: Global, seed: Seed) -> Self
+        ensures { result ≡ starting_at 3 }
+    {
+        Store::beginning(alloc, seed, 3)
+    }
+
     /// An empty store that gives this serial next. Above 2147483647 it has none left.
     pub fn starting_at(alloc: Global, next: u32) -> Self
         requires { 3 ≤ next }
         ensures { result ≡ starting_at next }
     {
+        Store::beginning(alloc, Seed::Fixed, next)
+    }
+
+    fn beginning(alloc: Global, seed: Seed, next: u32) -> Self
+        requires { 3 ≤ next }
+        ensures { result ≡ starting_at next }
+    {
         Store {
-            tables: Tables::starting_at(alloc, next),
+            tables: Tables::starting_at(alloc, seed, next),
         }
     }
 

@@ -10,6 +10,5 @@ mod making;
 mod tables;
 
 pub use holding::{check_room, hold_of, hold_twice, make_room};
-pub use made_keys::new_key;
 pub use making::Special;
 pub use tables::Tables;

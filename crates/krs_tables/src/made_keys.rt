@@ -2,25 +2,36 @@ ghost use Rattle.std.specs.Prelude.{◌≡◌};
 ghost use Rattle.krs_model.specs.Asks.Adding.{first_perm};
 ghost use Rattle.krs_tables.specs.Making.{maker_key, first_content};
 
+use crate::Tables;
 use krs_keys::{Content, Key};
-use krs_links::Links;
 use krs_types::{Body, Kind, Name, Perm};
-use std::alloc::Global;
 
-/// A new key of its maker: add_key(2).
-pub fn new_key(alloc: Global, name: Name, payload: Body, uid: u32, gid: u32) -> Key
-    ensures { result ≡ maker_key name payload uid gid }
-{
-    let kind = name.kind;
-    Key {
-        name,
-        uid,
-        gid,
-        perm: first_perm(kind),
-        expiry: None,
-        revoked: false,
-        joined: false,
-        content: first_content(alloc, kind, payload),
+impl Tables {
+    /// A new key of its maker: add_key(2).
+    pub fn new_key(&self, name: Name, payload: Body, uid: u32, gid: u32) -> Key
+        ensures { result ≡ maker_key name payload uid gid }
+    {
+        let kind = name.kind;
+        Key {
+            name,
+            uid,
+            gid,
+            perm: first_perm(kind),
+            expiry: None,
+            revoked: false,
+            joined: false,
+            content: self.first_content(kind, payload),
+        }
+    }
+
+    /// What a new key holds: a keyring is made empty.
+    fn first_content(&self, kind: Kind, payload: Body) -> Content
+        ensures { result ≡ first_content kind payload }
+    {
+        match kind {
+            Kind::User | Kind::Logon => Content::Payload(payload),
+            Kind::Keyring => Content::Links(self.no_links()),
+        }
     }
 }
 
@@ -31,15 +42,5 @@ fn first_perm(kind: Kind) -> Perm
     match kind {
         Kind::User | Kind::Keyring => Perm::OF_KEY,
         Kind::Logon => Perm::OF_LOGON,
-    }
-}
-
-/// What a new key holds: a keyring is made empty.
-fn first_content(alloc: Global, kind: Kind, payload: Body) -> Content
-    ensures { result ≡ first_content kind payload }
-{
-    match kind {
-        Kind::User | Kind::Logon => Content::Payload(payload),
-        Kind::Keyring => Content::Links(Links::new(alloc)),
     }
 }

@@ -13,11 +13,10 @@ ghost use Rattle.krs_tables.specs.Specials.{linking_made, adding_made};
 ghost use Rattle.krs_tables.specs.Specials.{maker_of, attached_as, HasPlace, AreLinksTo, ring_at};
 
 use crate::holding::{check_room, hold_of, make_room};
-use crate::made_keys::new_key;
 use crate::tables::Tables;
 use krs_ctx::Contexts;
 use krs_keys::{Content, Key, LAST_SERIAL};
-use krs_links::Links;
+use krs_links::{Links, Seed};
 use krs_types::{Answer, Blob, Body, Context, Desc, Errno, Fault, KeyId, Kind, Name, Perm, Serial};
 use std::alloc::{AllocError, Global};
 
@@ -106,10 +105,10 @@ impl Special {
 }
 
 /// One link, to this key under its name.
-fn one_link(alloc: Global, name: &Name, serial: Serial) -> Result<Links, AllocError>
+fn one_link(alloc: Global, seed: Seed, name: &Name, serial: Serial) -> Result<Links, AllocError>
     ensures { IfOk result (λ links. links ≡ (name.now, serial) ∷ []) }
 {
-    let mut links = Links::new(alloc);
+    let mut links = Links::new(alloc, seed);
     let name = name.copy(alloc)?;
     match links.put(name, serial) {
         Ok(_) => Ok(links),
@@ -158,7 +157,7 @@ impl Tables {
     {
         let maker = Maker::of(number, self.context_of(client, number)?);
         self.check_serial()?;
-        let ring = self.make_ring(special, maker, Links::new(self.alloc), None)?;
+        let ring = self.make_ring(special, maker, self.no_links(), None)?;
         Ok(Answer::Number(ring.number()))
     }
 
@@ -179,7 +178,7 @@ impl Tables {
         let key = self.key(serial).ok_or(Errno::ENOKEY)?;
         let _height = self.walker.height_of(&self.keys, serial)?;
         self.check_serial()?;
-        let links = one_link(self.alloc, &key.name, serial)?;
+        let links = one_link(self.alloc, self.seed, &key.name, serial)?;
         self.make_ring(special, maker, links, Some(serial))?;
         Ok(answer)
     }
@@ -254,7 +253,7 @@ impl Tables {
     {
         let first = self.keys.next();
         let (one, two) = (Serial::new(first), Serial::new(first + 1));
-        let (ring, key) = two_keys(self.alloc, special, maker, two, name, payload)?;
+        let (ring, key) = self.two_keys(special, maker, two, name, payload)?;
         make_room(&mut self.holders, one)?;
         make_room(&mut self.holders, two)?;
         self.make_walk_room(2)?;
@@ -268,21 +267,21 @@ impl Tables {
             Err(_) => Err(AllocError),
         }
     }
-}
 
-/// The keyring with a link to a new key of that name, which comes under this serial, and that key.
-fn two_keys(
-    alloc: Global,
-    special: Special,
-    maker: Maker,
-    serial: Serial,
-    name: Name,
-    payload: Body,
-) -> Result<(Key, Key), AllocError>
-    ensures ring { IfOk result (λ keys. keys.0 ≡ ring_key special maker ((name, serial) ∷ [])) }
-    ensures key { IfOk result (λ keys. keys.1 ≡ maker_key name payload maker.uid maker.gid) }
-{
-    let links = one_link(alloc, &name, serial)?;
-    let ring = special.key(alloc, maker, links)?;
-    Ok((ring, new_key(alloc, name, payload, maker.uid, maker.gid)))
+    /// The keyring with a link to a new key of that name, which comes under this serial, and that key.
+    fn two_keys(
+        &self,
+        special: Special,
+        maker: Maker,
+        serial: Serial,
+        name: Name,
+        payload: Body,
+    ) -> Result<(Key, Key), AllocError>
+        ensures ring { IfOk result (λ keys. keys.0 ≡ ring_key special maker ((name, serial) ∷ [])) }
+        ensures key { IfOk result (λ keys. keys.1 ≡ maker_key name payload maker.uid maker.gid) }
+    {
+        let links = one_link(self.alloc, self.seed, &name, serial)?;
+        let ring = special.key(self.alloc, maker, links)?;
+        Ok((ring, self.new_key(name, payload, maker.uid, maker.gid)))
+    }
 }

@@ -1,4 +1,4 @@
-ghost use Rattle.std.specs.Prelude.{◌≡◌, ◌≤◌, IfSome, IfOk};
+ghost use Rattle.std.specs.Prelude.{◌≡◌, ◌≤◌, [], IfSome, IfOk};
 ghost use Rattle.std.specs.Option.{option_map};
 ghost use Rattle.krs_model.specs.Table.{at};
 ghost use Rattle.krs_model.specs.State.{starting_at, raised};
@@ -16,6 +16,7 @@ ghost use Rattle.krs_tables.specs.Granting.{grants_to};
 use krs_ctx::Contexts;
 use krs_hold::Holders;
 use krs_keys::{Change, Key, KeyTable};
+use krs_links::{Links, Seed};
 use krs_types::{Context, Errno, KeyId, Serial, Want};
 use krs_walk::Walker;
 use krs_watch::WatchQueues;
@@ -33,6 +34,8 @@ pub struct Tables {
     pub holders: Holders,
     pub walker: Walker,
     pub alloc: Global,
+    /// Of the names of links. It is no part of what contracts see.
+    pub(crate) seed: Seed,
 }
 
 impl Model for Tables {
@@ -48,8 +51,8 @@ impl Model for Tables {
 }
 
 impl Tables {
-    /// An empty store that gives this serial next.
-    pub fn starting_at(alloc: Global, next: u32) -> Self
+    /// An empty store that gives this serial next, and hashes names from this seed.
+    pub fn starting_at(alloc: Global, seed: Seed, next: u32) -> Self
         requires { 3 ≤ next }
         ensures { result ≡ starting_at next }
     {
@@ -61,6 +64,7 @@ impl Tables {
             holders: Holders::new(alloc),
             walker: Walker::new(alloc),
             alloc,
+            seed,
         }
     }
 
@@ -160,6 +164,13 @@ impl Tables {
     {
         self.holders.let_go_taken(&self.keys, serial, &change);
         self.keys.set(serial, change);
+    }
+
+    /// The links of a keyring that is made empty.
+    pub fn no_links(&self) -> Links
+        ensures { result ≡ [] }
+    {
+        Links::new(self.alloc, self.seed)
     }
 
     /// Room for walks over so many keys more: it is made before the keys are.

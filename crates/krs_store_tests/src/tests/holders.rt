@@ -3,7 +3,7 @@ ghost use Rattle.krs_keys.specs.Keys.{IsOfKind};
 
 use krs_hold::Holders;
 use krs_keys::{Change, Content, Key, KeyTable};
-use krs_links::Links;
+use krs_links::{Links, Seed};
 use krs_types::{Blob, Body, Desc, Errno, Kind, Name, Perm, Serial};
 use std::alloc::{AllocError, Global};
 use std::test::Fail;
@@ -81,7 +81,7 @@ fn content(alloc: Global, kind: Kind) -> Content
     ensures { IsOfKind kind result }
 {
     match kind {
-        Kind::Keyring => Content::Links(Links::new(alloc)),
+        Kind::Keyring => Content::Links(Links::new(alloc, Seed::Fixed)),
         Kind::User | Kind::Logon => Content::Payload(Body::new(Vec::new(alloc))),
     }
 }

@@ -2,7 +2,7 @@ ghost use Rattle.std.specs.Prelude.{◌≡◌, IfOk};
 ghost use Rattle.krs_keys.specs.Keys.{IsOfKind};
 
 use krs_keys::{Change, Content, Key, KeyTable};
-use krs_links::Links;
+use krs_links::{Links, Seed};
 use krs_types::{Blob, Body, Desc, Errno, Kind, Name, Perm, Serial};
 use std::alloc::{AllocError, Global};
 use std::test::Fail;
@@ -32,7 +32,7 @@ fn content(alloc: Global, kind: Kind) -> Result<Content, AllocError>
     ensures { IfOk result (IsOfKind kind) }
 {
     match kind {
-        Kind::Keyring => Ok(Content::Links(Links::new(alloc))),
+        Kind::Keyring => Ok(Content::Links(Links::new(alloc, Seed::Fixed))),
         Kind::User | Kind::Logon => Ok(Content::Payload(body(alloc, b"s3")?)),
     }
 }

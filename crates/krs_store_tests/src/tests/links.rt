@@ -1,6 +1,6 @@
 ghost use Rattle.std.specs.Prelude.{◌≤◌, length};
 
-use krs_links::Links;
+use krs_links::{Links, Seed};
 use krs_types::{Blob, Desc, Errno, Kind, Name, Serial};
 use std::alloc::Global;
 use std::process::Abort;
@@ -35,7 +35,7 @@ fn expect(rt: &impl Abort, links: &Links, all: &[u32], rings: &[u32]) {
 #[test]
 fn finds_by_type_and_description(rt: HostRuntime) -> Result<(), Fail> {
     let alloc = rt.alloc();
-    let mut links = Links::new(alloc);
+    let mut links = Links::new(alloc, Seed::Fixed);
     expect(&rt, &links, &[], &[]);
     for (number, kind) in [(5, Kind::User), (6, Kind::Keyring), (7, Kind::Logon)] {
         let new = name(alloc, kind, b"s:x".as_slice())?;
@@ -61,7 +61,7 @@ fn finds_by_type_and_description(rt: HostRuntime) -> Result<(), Fail> {
 #[test]
 fn keeps_places(rt: HostRuntime) -> Result<(), Fail> {
     let alloc = rt.alloc();
-    let mut links = Links::new(alloc);
+    let mut links = Links::new(alloc, Seed::Fixed);
     let rows: [(Kind, &[u8], u32, Option<u32>, &[u32], &[u32]); 7] = [
         (Kind::Keyring, b"a".as_slice(), 5, None, &[5], &[5]),
         (Kind::User, b"a".as_slice(), 6, None, &[5, 6], &[5]),
@@ -128,7 +128,7 @@ fn keeps_places(rt: HostRuntime) -> Result<(), Fail> {
 #[test]
 fn refused_links_change_nothing(rt: HostRuntime) -> Result<(), Fail> {
     let alloc = rt.alloc();
-    let mut links = Links::new(alloc);
+    let mut links = Links::new(alloc, Seed::Fixed);
     let ring = name(alloc, Kind::Keyring, b"a".as_slice())?;
     match links.put(ring, Serial::new(5)) {
         Ok(displaced) => assert!(rt; displaced.is_none()),
@@ -148,7 +148,7 @@ fn refused_links_change_nothing(rt: HostRuntime) -> Result<(), Fail> {
 #[test]
 fn a_full_keyring_only_displaces(rt: HostRuntime) -> Result<(), Fail> {
     let alloc = rt.alloc();
-    let mut links = Links::new(alloc);
+    let mut links = Links::new(alloc, Seed::Fixed);
     for number in 1..65_536u32 {
         let new = name(alloc, Kind::User, &number.to_le_bytes())?;
         assert!(rt; !links.is_full(), "{number}");

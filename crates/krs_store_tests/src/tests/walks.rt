@@ -5,7 +5,7 @@ ghost use Rattle.krs_model.specs.Reach.{is_ring};
 ghost use Rattle.krs_keys.specs.Keys.{named_links_of_content, shown, AreFit, IsOfKind};
 
 use krs_keys::{Content, Key, KeyTable};
-use krs_links::Links;
+use krs_links::{Links, Seed};
 use krs_types::{Blob, Caller, Context, Desc, Errno, Groups, Kind, Name, Perm, Serial};
 use krs_walk::Walker;
 use std::alloc::{AllocError, Global};
@@ -40,7 +40,7 @@ fn ring(alloc: Global, desc: &[u8], expiry: Option<u64>, revoked: bool) -> Resul
         expiry,
         revoked,
         joined: false,
-        content: Content::Links(Links::new(alloc)),
+        content: Content::Links(Links::new(alloc, Seed::Fixed)),
     })
 }
 

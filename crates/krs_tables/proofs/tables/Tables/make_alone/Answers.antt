@@ -10,7 +10,7 @@ make_ring-requires-clause-place c =
 
 pub returns : goal.returns
 returns c =
-    alone_done c.args.special c.args.self.now c.make_ring-2.new.self c.args.client c.args.number c.number.result
+    alone_done c.args.special c.args.self.now c.make_ring.new.self c.args.client c.args.number c.number.result
     c.in_ok-context_of.field-0.now c.of-maker.result c.in_ok-context_of.ensures c.of-maker.ensures
     c.in_ok-check_serial.ensures.ok c.in_ok-ring.ensures.ok (c.number.ensures ∙ c.in_ok-ring.ensures.serial)
 
