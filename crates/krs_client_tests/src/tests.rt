@@ -1,2 +1,3 @@
+mod growths;
 mod remote;
 mod script;

@@ -7,7 +7,6 @@ mod clients;
 mod contexts;
 mod filters;
 mod full;
-mod growth;
 mod holders;
 mod joining;
 mod keys;

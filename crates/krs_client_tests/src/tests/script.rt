@@ -8,11 +8,11 @@ use std::io;
 use std::io::{ErrorKind, Read, Write};
 use std::test::Fail;
 
-mod changes;
-mod contexts;
-mod holders;
-mod keyrings;
-mod notes;
+pub(in crate::tests) mod changes;
+pub(in crate::tests) mod contexts;
+pub(in crate::tests) mod holders;
+pub(in crate::tests) mod keyrings;
+pub(in crate::tests) mod notes;
 
 const ALPHA: &str = "hello 1000 1000\nadd user alpha s3 @u\nprint 5\nrdescribe 5\n";
 

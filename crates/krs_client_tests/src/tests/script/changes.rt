@@ -120,6 +120,9 @@ const SCRIPTS: [&[(&str, &str)]; 6] = [
     &OWNERS_BY_ROOT,
 ];
 
+/// The scripts that are run again with each growth refused.
+pub(in crate::tests) const GROWING: [&[(&str, &str)]; 2] = [&TIMEOUTS_OWNERS_MASKS, &UPDATED];
+
 #[test]
 fn keys_are_changed(rt: HostRuntime) -> Result<(), Fail> {
     for rows in SCRIPTS {

@@ -203,6 +203,15 @@ const SCRIPTS: [(u32, &[(&str, &str)], u8); 10] = [
     (2_147_483_645, &ONE_SERIAL, 1),
 ];
 
+/// The scripts that are run again with each growth refused. They begin on an empty store.
+pub(in crate::tests) const GROWING: [&[(&str, &str)]; 5] = [
+    &PROCESSES,
+    &SESSIONS,
+    &DEPTH,
+    &DESTINATIONS,
+    &COUNTS_AS_MADE,
+];
+
 #[test]
 fn contexts_and_searches(rt: HostRuntime) -> Result<(), Fail> {
     for (first, rows, status) in SCRIPTS {

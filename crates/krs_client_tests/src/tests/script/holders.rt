@@ -123,6 +123,9 @@ fn check_scripts(rt: &impl Abort, alloc: Global, scripts: &[&[(&str, &str)]]) ->
     Ok(())
 }
 
+/// The scripts that are run again with each growth refused.
+pub(in crate::tests) const GROWING: [&[(&str, &str)]; 2] = [&LAST_OF_A_PROCESS, &DETACHED];
+
 #[test]
 fn keys_are_let_go(rt: HostRuntime) -> Result<(), Fail> {
     check_scripts(&rt, rt.alloc(), &LET_GO)

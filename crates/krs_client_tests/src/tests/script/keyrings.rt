@@ -136,6 +136,9 @@ const SCRIPTS: [(&[(&str, &str)], u8); 8] = [
     (&REFUSED, 1),
 ];
 
+/// The scripts that are run again with each growth refused.
+pub(in crate::tests) const GROWING: [&[(&str, &str)]; 2] = [&LINKED, &REVOKED];
+
 #[test]
 fn keyrings_are_changed(rt: HostRuntime) -> Result<(), Fail> {
     for (rows, status) in SCRIPTS {

@@ -187,6 +187,14 @@ fn check_script(
     Ok(())
 }
 
+/// The scripts that are run again with each growth refused.
+pub(in crate::tests) const GROWING: [&[(&str, &str)]; 4] = [
+    &UPDATED_AND_DROPPED,
+    &INVALIDATED,
+    &FILTERED,
+    &KEYRING,
+];
+
 #[test]
 fn keys_are_watched(rt: HostRuntime) -> Result<(), Fail> {
     for (rows, status) in SCRIPTS {
