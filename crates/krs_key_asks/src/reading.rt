@@ -1,4 +1,6 @@
-ghost use Rattle.std.specs.Prelude.{◌≡◌, ◌<◌, IfOk};
+ghost use Rattle.std.specs.Prelude.{◌≡◌, ◌<◌, ◌++◌, ◌∷◌, [], IfOk};
+ghost use Rattle.std.specs.Fmt.{decimal};
+ghost use Rattle.krs_types.specs.Kind.{kind_name};
 ghost use Rattle.krs_model.specs.Outcome.{Leads};
 ghost use Rattle.krs_model.specs.Asks.Reading.{read, describe, description, serial_bytes, hex_8, hex_digit};
 ghost use Rattle.krs_keys.specs.Keys.{seen};
@@ -59,14 +61,23 @@ fn description(alloc: Global, key: &Key) -> Result<Body, AllocError>
     ensures { IfOk result (λ b. b ≡ description (seen key.now)) }
 {
     let desc = key.name.desc.as_slice();
-    let (kind, uid, gid) = (key.name.kind.name(), key.uid, key.gid);
-    let mut head = String::with_capacity(alloc, desc.len().saturating_add(LONGEST_HEAD))?;
-    write!(head, "{kind};{uid};{gid};")?;
-    let mut bytes = head.into_bytes();
+    let (kind, uid, gid) = (key.name.kind, key.uid, key.gid);
+    let mut bytes = owners(alloc, desc.len(), kind, uid, gid)?;
     bytes.extend_from_slice(&hex_8(key.perm.bits()))?;
     bytes.push(b';')?;
     bytes.extend_from_slice(desc)?;
     Ok(Body::new(bytes))
+}
+
+/// Type, uid and gid, each with ';' behind it, in a list with room for the mask and a description of that length.
+fn owners(alloc: Global, desc: usize, kind: Kind, uid: u32, gid: u32) -> Result<Vec<u8>, AllocError>
+    ensures { IfOk result (λ bytes. bytes.items
+        ≡ kind_name kind ++ (59 ∷ (decimal uid ++ (59 ∷ (decimal gid ++ (59 ∷ [])))))) }
+{
+    let kind = kind.name();
+    let mut text = String::with_capacity(alloc, desc.saturating_add(LONGEST_HEAD))?;
+    write!(text, "{kind};{uid};{gid};")?;
+    Ok(text.into_bytes())
 }
 
 /// Eight hexadecimal digits, the highest first.

@@ -1,7 +1,7 @@
 use Rattle.std.proofs.Common.{◌≤◌, ◌≡◌, length, length-append, arith, ap, refl}
 use Rattle.std.specs.Fmt.{decimal}
-use Rattle.std.specs.String.{string_bytes}
 use Rattle.std.proofs.lemmas.Fmt.{length-decimal-le}
+use Rattle.krs_types.specs.Kind.{kind_name}
 use Rattle.krs_tables.proofs.Definitions.{kind_short}
 use Rattle.krs_key_asks.proofs.reading.description.Goals as goal
 
@@ -12,15 +12,12 @@ new-requires c =
     length-decimal-le 10 key.uid (omega arith) (omega arith) (omega arith) in
     let gid : length (decimal key.gid) ≤ 10 =
     length-decimal-le 10 key.gid (omega arith) (omega arith) (omega arith) in
-    let name : length c.name-kind.result.now ≤ 7 = rw c.name-kind.ensures (kind_short key.name.kind) in
+    let name : length (kind_name key.name.kind) ≤ 7 = kind_short key.name.kind in
     let desc : length c.as_slice-desc.result.now ≤ 4095 = c.as_slice-desc.ensures.bound in
     let hex : length c.hex_8.result ≡ 8 = rw c.hex_8.ensures refl in
-    let head = simp length-append at (ap length c.in_ok-head.ensures.ok) in
-    let start : length c.into_bytes-bytes.result.items ≡ length (string_bytes c.in_ok-head.head) =
-    ap (λ v. length v.items) c.into_bytes-bytes.ensures.value in
+    let head = simp length-append at (ap length c.in_ok-bytes.ensures) in
     omega (
       arith,
-      c.into_bytes-bytes.result.ok,
       c.in_ok-extend_from_slice.ensures.len,
       c.in_ok-push.ensures.len,
       c.in_ok-extend_from_slice-2.ensures.len,
