@@ -91,13 +91,13 @@ meets :
     (sitting_of l' (sat (opening m) (loaded (part n) log), n.1))
 meets k l k' l' m n log last f g = record {
   opening = (refl, refl);
-  same = refl;
+  log = log;
+  seen = (refl, refl);
   last = last;
   legal = f.legal;
   first = f.seen;
   second = g.seen;
   own = (f.mine, g.mine);
-  rest = (refl, refl);
 }
 
 pub meets_at :

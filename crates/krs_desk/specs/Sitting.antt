@@ -85,13 +85,13 @@ HasItsCalls s = s.part.flight ≡ None → events_of s.part.lane s.part.seen ≡
 -- and has just the calls of each. Nothing else that they know has changed.
 pub record Meets (s t new_s new_t : Sitting) : Type 0 where
   pub opening : (new_s.opening ≡ s.opening) × (new_t.opening ≡ s.opening)
-  pub same : new_t.part.seen ≡ new_s.part.seen
+  pub log : List Event
+  pub seen : (new_s.part ≡ loaded s.part log) × (new_t.part ≡ loaded t.part log)
   pub last : State
-  pub legal : IsLegal s.opening new_s.part.seen last
-  pub first : Begins s.part.seen new_s.part.seen
-  pub second : Begins t.part.seen new_s.part.seen
+  pub legal : IsLegal s.opening log last
+  pub first : Begins s.part.seen log
+  pub second : Begins t.part.seen log
   pub own : HasItsCalls new_s × HasItsCalls new_t
-  pub rest : (new_s.part ≡ loaded s.part new_s.part.seen) × (new_t.part ≡ loaded t.part new_t.part.seen)
 
 -- the store is the end of a legal list, which begins with what the seat had seen
 pub record EndsIn (s : Sitting) (store : State) : Type 0 where

@@ -1,31 +1,35 @@
 //! Desks that tests sit at.
-ghost use Rattle.std.specs.Prelude.{IfSome};
+ghost use Rattle.std.specs.Prelude.{All, IfSome};
 ghost use Rattle.krs_desk.specs.Sitting.{IsIdleAt};
 
 use krs_desk::{Desk, Seat};
 use krs_store::Store;
 use std::alloc::Global;
 
-/// A desk of one lane and its seat. Where memory was refused it is tried again with the store that came back.
+/// A desk of so many lanes and its seats. Where memory was refused it is tried again with the store that came back.
+fn opened(alloc: Global, lanes: u32, store: Store) -> Option<(Desk, Vec<Seat>)>
+    ensures { IfSome result (λ d. All (IsIdleAt d.0) d.1.items) }
+{
+    match Desk::open(alloc, lanes, store) {
+        Ok(opened) => Some(opened),
+        Err(refused) => Desk::open(alloc, lanes, refused.store).ok(),
+    }
+}
+
+/// A desk of one lane and its seat.
 pub(super) fn one_seat(alloc: Global, store: Store) -> Option<(Desk, Seat)>
     ensures { IfSome result (λ d. IsIdleAt d.0 d.1) }
 {
-    let (desk, mut seats) = match Desk::open(alloc, 1, store) {
-        Ok(opened) => opened,
-        Err(refused) => Desk::open(alloc, 1, refused.store).ok()?,
-    };
+    let (desk, mut seats) = opened(alloc, 1, store)?;
     let seat = seats.pop()?;
     Some((desk, seat))
 }
 
-/// A desk of two lanes and its seats. Where memory was refused it is tried again with the store that came back.
+/// A desk of two lanes and its seats.
 pub(super) fn two_seats(alloc: Global, store: Store) -> Option<(Desk, Seat, Seat)>
     ensures { IfSome result (λ d. IsIdleAt d.0 d.1 × IsIdleAt d.0 d.2) }
 {
-    let (desk, mut seats) = match Desk::open(alloc, 2, store) {
-        Ok(opened) => opened,
-        Err(refused) => Desk::open(alloc, 2, refused.store).ok()?,
-    };
+    let (desk, mut seats) = opened(alloc, 2, store)?;
     let second = seats.pop()?;
     let first = seats.pop()?;
     Some((desk, first, second))
