@@ -12,6 +12,7 @@ use std::process::Abort;
 use std::test::Fail;
 
 /// A client of a store of its own.
+#[derive(Drop)]
 struct Client {
     store: Store,
     context: u32,
