@@ -74,7 +74,12 @@ fn displace_ring(
 }
 
 /// The nested keyrings without the link of a name.
-fn remove_ring(entries: &IndexMap<Name, Serial, Seed>, rings: &mut Vec<Serial>, place: usize, name: &Name)
+fn remove_ring(
+    entries: &IndexMap<Name, Serial, Seed>,
+    rings: &mut Vec<Serial>,
+    place: usize,
+    name: &Name,
+)
     requires lists { AreLists entries.now.entries rings.old.items }
     requires place { place_of name.now entries.now.entries ≡ Some place }
     ensures { rings.new.items ≡ serials (nested (unlinked entries.now.entries name.now)) }
