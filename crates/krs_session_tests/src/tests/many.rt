@@ -3,6 +3,7 @@ ghost use Rattle.std.specs.Prelude.{All, IfOk};
 ghost use Rattle.krs_desk.specs.Sitting.{IsIdleAt};
 
 use super::desk::{gives_bytes, number_of, read};
+use super::seats::opened;
 use krs_desk::{Desk, Seat};
 use krs_store::Store;
 use krs_types::{Ask, Blob, Caller, Groups, Op};
@@ -91,10 +92,7 @@ fn groups_of(alloc: Global, desk: &Desk, seats: Vec<Seat>) -> Result<Vec<Vec<Sea
 #[test]
 fn as_many_callers_as_there_are_seats(rt: HostRuntime) -> Result<(), Fail> {
     let alloc = rt.alloc();
-    let (desk, seats) = match Desk::open(alloc, 256, Store::new(alloc)) {
-        Ok(opened) => opened,
-        Err(refused) => Desk::open(alloc, 256, refused.store).map_err(|_| "no desk")?,
-    };
+    let (desk, seats) = opened(alloc, 256, Store::new(alloc)).ok_or("no desk")?;
     let groups = groups_of(alloc, &desk, seats)?;
     let counts = thread::map_vec(&rt, groups, &|seats| count_reads(&rt, alloc, &desk, seats))?;
     let mut count = 0u32;

@@ -3,7 +3,7 @@ ghost use Rattle.std.specs.Prelude.{◌≡◌};
 ghost use Rattle.krs_desk.specs.Sitting.{IsIdleAt};
 
 use super::desk::{add, hello, number_of};
-use super::seats::two_seats;
+use super::seats::{opened, two_seats};
 use krs_desk::{Desk, Helped, Seat};
 use krs_store::Store;
 use krs_types::{Ask, Blob, Op, Reply};
@@ -58,10 +58,7 @@ fn another_seat_answers_a_posted_call(rt: HostRuntime) -> Result<(), Fail> {
 #[test]
 fn one_turn_answers_all_that_is_posted(rt: HostRuntime) -> Result<(), Fail> {
     let alloc = rt.alloc();
-    let (desk, mut seats) = match Desk::open(alloc, 3, Store::new(alloc)) {
-        Ok(opened) => opened,
-        Err(refused) => Desk::open(alloc, 3, refused.store).map_err(|_| "no desk")?,
-    };
+    let (desk, mut seats) = opened(alloc, 3, Store::new(alloc)).ok_or("no desk")?;
     let mut third = seats.pop().ok_or("no seat")?;
     let mut second = seats.pop().ok_or("no seat")?;
     let mut first = seats.pop().ok_or("no seat")?;
@@ -166,10 +163,7 @@ fn add_rings<R: Wait>(
 #[test]
 fn a_million_calls_have_serials_of_their_own(rt: HostRuntime) -> Result<(), Fail> {
     let alloc = rt.alloc();
-    let (desk, seats) = match Desk::open(alloc, THREADS, Store::new(alloc)) {
-        Ok(opened) => opened,
-        Err(refused) => Desk::open(alloc, THREADS, refused.store).map_err(|_| "no desk")?,
-    };
+    let (desk, seats) = opened(alloc, THREADS, Store::new(alloc)).ok_or("no desk")?;
     let lists = thread::map_vec(&rt, seats, &|seat| add_rings(&rt, alloc, &desk, seat))?;
     let mut serials = Vec::with_capacity(alloc, 1_000_000)?;
     for list in lists {

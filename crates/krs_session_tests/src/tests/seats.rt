@@ -7,12 +7,15 @@ use krs_store::Store;
 use std::alloc::Global;
 
 /// A desk of so many lanes and its seats. Where memory was refused it is tried again with the store that came back.
-fn opened(alloc: Global, lanes: u32, store: Store) -> Option<(Desk, Vec<Seat>)>
+pub(super) fn opened(alloc: Global, lanes: u32, store: Store) -> Option<(Desk, Vec<Seat>)>
     ensures { IfSome result (λ d. All (IsIdleAt d.0) d.1.items) }
 {
     match Desk::open(alloc, lanes, store) {
         Ok(opened) => Some(opened),
-        Err(refused) => Desk::open(alloc, lanes, refused.store).ok(),
+        Err(refused) => match Desk::open(alloc, lanes, refused.store) {
+            Ok(opened) => Some(opened),
+            Err(_) => None,
+        },
     }
 }
 
