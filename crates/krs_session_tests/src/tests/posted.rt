@@ -3,7 +3,7 @@ ghost use Rattle.std.specs.Prelude.{◌≡◌};
 ghost use Rattle.krs_desk.specs.Sitting.{IsIdleAt};
 
 use super::desk::{add, hello, number_of};
-use super::seats::{opened, two_seats};
+use super::seats::{opened, three_seats, two_seats};
 use krs_desk::{Desk, Helped, Seat};
 use krs_store::Store;
 use krs_types::{Ask, Blob, Op, Reply};
@@ -58,10 +58,9 @@ fn another_seat_answers_a_posted_call(rt: HostRuntime) -> Result<(), Fail> {
 #[test]
 fn one_turn_answers_all_that_is_posted(rt: HostRuntime) -> Result<(), Fail> {
     let alloc = rt.alloc();
-    let (desk, mut seats) = opened(alloc, 3, Store::new(alloc)).ok_or("no desk")?;
-    let mut third = seats.pop().ok_or("no seat")?;
-    let mut second = seats.pop().ok_or("no seat")?;
-    let mut first = seats.pop().ok_or("no seat")?;
+    let (desk, mut first, mut second, mut third) = three_seats(alloc, Store::new(alloc)).ok_or(
+        "no desk",
+    )?;
     assert_eq!(rt; post_first(&rt, alloc, &desk, &mut first, b"a")?, 1);
     // The second lane's HELLO by `call` would answer the first lane's call too: it is posted in its place.
     desk.post(&mut second, 0, hello(alloc));

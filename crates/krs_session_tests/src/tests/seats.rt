@@ -37,3 +37,24 @@ pub(super) fn two_seats(alloc: Global, store: Store) -> Option<(Desk, Seat, Seat
     let first = seats.pop()?;
     Some((desk, first, second))
 }
+
+/// The last of these seats, which are idle at the desk; the others stay.
+fn next_seat(desk: &Desk, seats: &mut Vec<Seat>) -> Option<Seat>
+    requires { All (IsIdleAt desk.now) seats.old.items }
+    ensures seat { IfSome result (λ seat. IsIdleAt desk.now seat) }
+    ensures rest { All (IsIdleAt desk.now) seats.new.items }
+{
+    let _desk = desk;
+    seats.pop()
+}
+
+/// A desk of three lanes and its seats.
+pub(super) fn three_seats(alloc: Global, store: Store) -> Option<(Desk, Seat, Seat, Seat)>
+    ensures { IfSome result (λ d. IsIdleAt d.0 d.1 × IsIdleAt d.0 d.2 × IsIdleAt d.0 d.3) }
+{
+    let (desk, mut seats) = opened(alloc, 3, store)?;
+    let third = next_seat(&desk, &mut seats)?;
+    let second = next_seat(&desk, &mut seats)?;
+    let first = next_seat(&desk, &mut seats)?;
+    Some((desk, first, second, third))
+}
