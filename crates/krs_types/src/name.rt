@@ -1,9 +1,9 @@
-ghost use Rattle.std.specs.Prelude.{◌≡◌, ◌≤◌, ◌++◌, length, nat_eq, IfOk};
+ghost use Rattle.std.specs.Prelude.{◌≡◌, ◌≤◌, ◌++◌, [], ◌∷◌, length, nat_eq, IfOk};
 ghost use Rattle.std.specs.Cmp.{partial_equiv_from_equiv};
-ghost use Rattle.std.specs.Cmp.Lexicographic.{pointwise, nat_list_eq_equiv};
+ghost use Rattle.std.specs.Cmp.Lexicographic.{pointwise, nat_list_eq_equiv, same_text};
 ghost use Rattle.std.specs.Cmp.Rules.{comparing, hashing};
 ghost use Rattle.std.specs.Hash as fed;
-ghost use Rattle.std.proofs.Common.{rules};
+ghost use Rattle.std.proofs.Common.{rules, ap, sym};
 ghost use Rattle.krs_types.specs.Name.{kind_number, same_name};
 
 use crate::{Blob, Kind};
@@ -66,12 +66,12 @@ impl Eq for Desc {
 }
 
 impl Hash for Desc {
-    ghost hash_input = { fed.slice fed.u8 };
+    ghost hash_input = { λ d. d ∷ [] };
 
-    ghost respects_eq = { Prim.search (hashing, rules) };
+    ghost respects_eq = { λ a b same. ap (λ d. d ∷ []) (same_text a b (sym same)) };
 
     fn hash<H: Hasher>(&self, state: &mut H) {
-        self.as_slice().hash(state);
+        state.write(self.as_slice());
     }
 }
 
@@ -123,12 +123,13 @@ impl Eq for Name {
 }
 
 impl Hash for Name {
-    ghost hash_input = { λ n. fed.u8 (kind_number n.kind) ++ fed.slice fed.u8 n.desc };
+    ghost hash_input = { λ n. (n.desc ∷ []) ++ fed.u8 (kind_number n.kind) };
 
     ghost respects_eq = { Prim.search (hashing, rules) };
 
+    /// The description at one stroke, then the type: a hasher takes whole words of it, and no two names feed it alike.
     fn hash<H: Hasher>(&self, state: &mut H) {
-        state.write_u8(self.kind.number());
         self.desc.hash(state);
+        state.write_u8(self.kind.number());
     }
 }
