@@ -1,19 +1,16 @@
 -- What the words of an index map say of links.
-use Rattle.std.proofs.Common.{◌≡◌, ℕ, zero, suc, ◌+◌, [], ◌∷◌, Some, true, false, cond, not, refl, sym, ap, ◌∙◌}
-use Rattle.std.proofs.Common.{◌&&◌, Bool, length, take, subst, arith}
-use Rattle.std.specs.List.{find, position, position_from, slice_get, AllByRecursion}
+use Rattle.std.proofs.Common.{◌≡◌, ℕ, zero, suc, ◌+◌, [], ◌∷◌, Some, true, false, cond, refl, sym, ap, ◌∙◌}
+use Rattle.std.proofs.Common.{◌&&◌, Bool, length, take, arith}
+use Rattle.std.specs.List.{find, position, position_from, slice_get}
 use Rattle.std.proofs.lemmas.Iterator.Adapters.{position_from-zero}
-use Rattle.std.proofs.lemmas.Map.Keys.{IsDistinct-head, IsDistinct-tail}
 use Rattle.std.proofs.lemmas.Option.{none-some}
 use Rattle.std.specs.Option.{option_map, unwrap_or}
-use Rattle.std.specs.Map.{lookup, remove_entry}
+use Rattle.std.specs.Map.{lookup}
 use Rattle.indexmap.specs.IndexMap.{insert_entry}
 use Rattle.krs_types.specs.declared.name.Name.{Name}
 use Rattle.krs_types.specs.Name.{same_name}
 use Rattle.krs_types.proofs.Names.{equal_names}
-use Rattle.krs_links.specs.Links.{LinkList, names, serial_named, link_put, unlinked, nested, is_ring, IsUnique}
-use Rattle.krs_links.specs.Lists.{place_of}
-use Rattle.krs_links.proofs.PlacesLemmas.{others_stay}
+use Rattle.krs_links.specs.Links.{LinkList, names, serial_named, place_of, link_put, nested, is_ring}
 
 -- an insert links: a link of that name keeps its place
 pub insert_entry_puts :
@@ -37,20 +34,6 @@ lookup_named (link ∷ links) name =
       | true ↦ refl
       | false ↦ lookup_named links name
     ]
-
--- a removal by name unlinks, as no other link has the name
-pub remove_entry_unlinks :
-    (links : LinkList) (name : Name) → IsUnique links → remove_entry (same_name name) links ≡ unlinked links name
-remove_entry_unlinks [] name unique = refl
-remove_entry_unlinks (link ∷ links) name unique =
-    elim (same_name name link.0) as (λ b. same_name name link.0 ≡ b
-    → cond b links (link ∷ remove_entry (same_name name) links)
-    ≡ cond (not b) (link ∷ unlinked links name) (unlinked links name)) [
-      | true ↦ λ same. sym (others_stay name links (subst (λ (n : Name). AllByRecursion (λ m. same_name n m ≡ false)
-          (names links)) (sym (equal_names name link.0 same)) (IsDistinct-head same_name link.0 (names links) unique)))
-      | false ↦ λ other. ap (λ rest. link ∷ rest)
-          (remove_entry_unlinks links name (IsDistinct-tail same_name link.0 (names links) unique))
-    ] refl
 
 from_names :
     (n : ℕ) (links : LinkList) (name : Name) → position_from (same_name name) n (names links)

@@ -63,27 +63,6 @@ IsUnique-linked name serial (x ∷ xs) u =
           (IsUnique-linked name serial xs (IsDistinct-tail same_name x.0 (names xs) u))
     ] refl
 
-apart_unlinked : (name other : Name) (xs : LinkList) → AllByRecursion (λ n. same_name other n ≡ false) (names xs) →
-    AllByRecursion (λ n. same_name other n ≡ false) (names (unlinked xs name))
-apart_unlinked name other [] all = tt
-apart_unlinked name other (x ∷ xs) all =
-    elim (same_name name x.0) as (λ b. AllByRecursion (λ n. same_name other n ≡ false) (names (cond (not b)
-    (x ∷ unlinked xs name) (unlinked xs name)))) [
-      | true ↦ apart_unlinked name other xs all.1
-      | false ↦ (all.0, apart_unlinked name other xs all.1)
-    ]
-
--- also without one
-pub IsUnique-unlinked : (name : Name) (xs : LinkList) → IsUnique xs → IsUnique (unlinked xs name)
-IsUnique-unlinked name [] u = u
-IsUnique-unlinked name (x ∷ xs) u =
-    let rest : IsUnique (unlinked xs name) = IsUnique-unlinked name xs (IsDistinct-tail same_name x.0 (names xs) u) in
-    elim (same_name name x.0) as (λ b. IsUnique (cond (not b) (x ∷ unlinked xs name) (unlinked xs name))) [
-      | true ↦ rest
-      | false ↦ IsDistinct-cons same_name x.0 (names (unlinked xs name)) (apart_unlinked name x.0 xs
-          (IsDistinct-head same_name x.0 (names xs) u)) rest
-    ]
-
 -- a name that is linked as nothing takes nothing out
 pub unlinked_none : (name : Name) (xs : LinkList) → serial_named xs name ≡ None → unlinked xs name ≡ xs
 unlinked_none name [] h = refl

@@ -1,22 +1,23 @@
 -- What a change at the place of a name does to the two lists.
-use Rattle.std.proofs.Common.{◌≡◌, ℕ, zero, suc, ◌+◌, ◌<◌, List, [], ◌∷◌, ◌++◌, Option, Some, None, IfNone, Bool}
+use Rattle.std.proofs.Common.{◌≡◌, ℕ, zero, suc, ◌+◌, ◌<◌, ◌≤◌, List, [], ◌∷◌, ◌++◌, Option, Some, None, IfNone, Bool}
 use Rattle.std.proofs.Common.{true, false, cond, length, get_or, set, take, refl, ap, ◌∙◌, sym, subst, arith}
 use Rattle.std.proofs.Common.{length-append}
 use Rattle.std.specs.Option.{option_map}
-use Rattle.std.specs.List.{find, position, position_from, remove, AllByRecursion}
-use Rattle.std.proofs.lemmas.Option.{none-some}
+use Rattle.std.specs.List.{find, position, position_from, remove, slice_get, AllByRecursion}
+use Rattle.std.proofs.lemmas.Option.{none-some, slice_get-map, slice_get_within}
+use Rattle.std.proofs.lemmas.Option.{get_or_from_slice_get, slice_get-get_or}
 use Rattle.std.proofs.lemmas.Iterator.Adapters.{position_from-zero}
 use Rattle.std.proofs.lemmas.List.Quantifiers.{position-Some}
 use Rattle.std.proofs.lemmas.List.{append-nil}
-use Rattle.std.proofs.lemmas.List.Edits.{length-remove}
 use Rattle.std.proofs.Math.ListN.{length-set}
-use Rattle.std.proofs.lemmas.Map.Keys.{IsDistinct-head, IsDistinct-tail, IsDistinct-from_apart}
+use Rattle.std.proofs.lemmas.Map.Keys.{IsDistinct-head, IsDistinct-tail, IsDistinct-cons, IsDistinct-from_apart}
 use Rattle.krs_types.specs.declared.name.Name.{Name}
 use Rattle.krs_types.specs.Name.{same_name}
-use Rattle.krs_links.specs.Links.{LinkList, names, serials, IsUnique, serial_named, link_put, unlinked, nested, is_ring}
-use Rattle.krs_links.specs.Lists.{AreLists, place_of}
+use Rattle.krs_links.specs.Links.{LinkList, names, serials, IsUnique, serial_named, place_of, link_put, unlinked}
+use Rattle.krs_links.specs.Links.{nested, is_ring}
+use Rattle.krs_links.specs.Lists.{AreLists}
 use Rattle.krs_types.proofs.Names.{equal_names}
-use Rattle.krs_links.proofs.LinksLemmas.{linked_last, IsUnique-linked, IsUnique-unlinked}
+use Rattle.krs_links.proofs.LinksLemmas.{linked_last, IsUnique-linked}
 
 find_at : {X : Type 0} (p : X → Bool) (xs : List X) (i : ℕ) (d : X) → i < length xs → p (get_or xs i d) ≡ true →
     ((k : ℕ) → k < i → p (get_or xs k d) ≡ false) → find p xs ≡ Some (get_or xs i d)
@@ -183,20 +184,74 @@ rings_stay_displaced name serial xs i h other =
     ap serials (set_no_ring xs i d d (place_within name xs i d h) (ring_at name xs i d h ∙ other) other)
     ∙ ap (λ (links : LinkList). serials (nested links)) (linked_at name serial xs i d h)
 
--- a removal among the nested keyrings, where the name is a keyring's, and else none
-pub rings_removed : (name : Name) (xs : LinkList) (i : ℕ) → IsUnique xs → place_of name xs ≡ Some i →
-    is_ring name ≡ true → remove (serials (nested xs)) (rings_before xs i) ≡ serials (nested (unlinked xs name))
-rings_removed name xs i u h ring =
-    let d : Name × ℕ = (name, 0) in
-    remove_rings xs i d (place_within name xs i d h) (ring_at name xs i d h ∙ ring)
-    ∙ ap (λ (links : LinkList). serials (nested links)) (unlinked_at name xs i d u h)
+-- ---- the link at a place goes
+-- the place among the nested keyrings
+pub ring_within_at : (xs : LinkList) (i : ℕ) (link : Name × ℕ) → slice_get xs i ≡ Some link → is_ring link.0 ≡ true →
+    rings_before xs i < length (serials (nested xs))
+ring_within_at xs i link here ring =
+    within_at xs i link (slice_get_within xs i link here)
+    (ap (λ (l : Name × ℕ). is_ring l.0) (get_or_from_slice_get xs i link link here) ∙ ring)
 
-pub rings_stay_removed : (name : Name) (xs : LinkList) (i : ℕ) → IsUnique xs → place_of name xs ≡ Some i →
-    is_ring name ≡ false → serials (nested xs) ≡ serials (nested (unlinked xs name))
-rings_stay_removed name xs i u h other =
+-- a removal among the nested keyrings, where the link is one to a keyring, and else none
+pub rings_removed_at : (xs : LinkList) (i : ℕ) (link : Name × ℕ) → slice_get xs i ≡ Some link → is_ring link.0 ≡ true →
+    remove (serials (nested xs)) (rings_before xs i) ≡ serials (nested (remove xs i))
+rings_removed_at xs i link here ring =
+    remove_rings xs i link (slice_get_within xs i link here)
+    (ap (λ (l : Name × ℕ). is_ring l.0) (get_or_from_slice_get xs i link link here) ∙ ring)
+
+pub rings_stay_removed_at : (xs : LinkList) (i : ℕ) (link : Name × ℕ) → slice_get xs i ≡ Some link →
+    is_ring link.0 ≡ false → serials (nested xs) ≡ serials (nested (remove xs i))
+rings_stay_removed_at xs i link here other =
+    ap serials (remove_no_ring xs i link (slice_get_within xs i link here)
+    (ap (λ (l : Name × ℕ). is_ring l.0) (get_or_from_slice_get xs i link link here) ∙ other))
+
+-- where no link stands, none goes
+pub removed_past : (xs : LinkList) (i : ℕ) → slice_get xs i ≡ None → remove xs i ≡ xs
+removed_past [] zero none = refl
+removed_past [] (suc i) none = refl
+removed_past (x ∷ xs) zero none = absurd (none-some x (sym none))
+removed_past (x ∷ xs) (suc i) none = ap (λ zs. x ∷ zs) (removed_past xs i none)
+
+apart_removed : (name : Name) (xs : LinkList) (i : ℕ) → AllByRecursion (λ n. same_name name n ≡ false) (names xs) →
+    AllByRecursion (λ n. same_name name n ≡ false) (names (remove xs i))
+apart_removed name [] zero all = tt
+apart_removed name [] (suc i) all = tt
+apart_removed name (x ∷ xs) zero all = all.1
+apart_removed name (x ∷ xs) (suc i) all = (all.0, apart_removed name xs i all.1)
+
+unique_removed : (xs : LinkList) (i : ℕ) → IsUnique xs → IsUnique (remove xs i)
+unique_removed [] zero u = u
+unique_removed [] (suc i) u = u
+unique_removed (x ∷ xs) zero u = IsDistinct-tail same_name x.0 (names xs) u
+unique_removed (x ∷ xs) (suc i) u = IsDistinct-cons same_name x.0 (names (remove xs i))
+    (apart_removed x.0 xs i (IsDistinct-head same_name x.0 (names xs) u))
+    (unique_removed xs i (IsDistinct-tail same_name x.0 (names xs) u))
+
+no_longer : (xs : LinkList) (i : ℕ) → length (remove xs i) ≤ length xs
+no_longer [] zero = omega arith
+no_longer [] (suc i) = omega arith
+no_longer (x ∷ xs) zero = omega arith
+no_longer (x ∷ xs) (suc i) =
+    let later = no_longer xs i in
+    omega (arith, later)
+
+-- a removal keeps the two lists
+pub AreLists-removed : (xs : LinkList) (rings after : List ℕ) (i : ℕ) → AreLists xs rings →
+    after ≡ serials (nested (remove xs i)) → AreLists (remove xs i) after
+AreLists-removed xs rings after i lists e = record {
+  bound = let short = no_longer xs i in let bound = lists.bound in omega (arith, short, bound);
+  unique = unique_removed xs i lists.unique;
+  nested = e;
+}
+
+-- the link at the place of a name has its serial
+pub serial_at_named : (name : Name) (xs : LinkList) (i : ℕ) → place_of name xs ≡ Some i →
+    slice_get (serials xs) i ≡ serial_named xs name
+serial_at_named name xs i h =
     let d : Name × ℕ = (name, 0) in
-    ap serials (remove_no_ring xs i d (place_within name xs i d h) (ring_at name xs i d h ∙ other))
-    ∙ ap (λ (links : LinkList). serials (nested links)) (unlinked_at name xs i d u h)
+    slice_get-map (λ (link : Name × ℕ). link.1) xs i
+    ∙ (ap (option_map (λ (link : Name × ℕ). link.1)) (slice_get-get_or xs i d (place_within name xs i d h))
+    ∙ sym (linked_as_at name xs i d h))
 
 rings_last : (xs : LinkList) (link : Name × ℕ) → serials (nested (xs ++ link ∷ [])) ≡ serials (nested xs) ++ cond
     (is_ring link.0) (link.1 ∷ []) []
@@ -263,17 +318,3 @@ none_are_lists e f = rw (e, f) (record {
       (λ i j d below within. absurd (omega arith));
   nested = refl;
 })
-
--- and without a link
-pub AreLists-unlinked : (name : Name) (xs : LinkList) (rings after : List ℕ) (i : ℕ) → AreLists xs rings →
-    place_of name xs ≡ Some i → after ≡ serials (nested (unlinked xs name)) → AreLists (unlinked xs name) after
-AreLists-unlinked name xs rings after i lists h e =
-    let d : Name × ℕ = (name, 0) in
-    let long : length (unlinked xs name) + 1 ≡ length xs = ap (λ (links : LinkList). length links + 1) (sym
-    (unlinked_at name xs i d lists.unique h)) ∙ length-remove xs i (place_within name xs i d h) in
-    record {
-      bound = let bound = lists.bound in
-          omega arith;
-      unique = IsUnique-unlinked name xs lists.unique;
-      nested = e;
-    }

@@ -1,6 +1,6 @@
 -- What a keyring links: keyrings(7), "Keyrings". Names and serials, in link order.
 use Rattle.std.specs.Prelude.{ℕ, ◌==◌, Bool, ◌&&◌, cond, not, nat_le, if◌then◌else◌, List, [], ◌∷◌, length, map}
-use Rattle.std.specs.Prelude.{filter, find, Option, is_none}
+use Rattle.std.specs.Prelude.{filter, find, position, Option, is_none}
 use Rattle.std.specs.Option.{option_map}
 use Rattle.std.specs.List.{IsDistinct, list_any}
 use Rattle.krs_types.specs.declared.kind.Kind.TheVariants.{Keyring}
@@ -29,6 +29,10 @@ IsUnique links = IsDistinct same_name (names links)
 -- the serial that is linked under a name
 abbrev pub serial_named : LinkList → Name → Option ℕ
 serial_named links name = option_map (λ link. link.1) (find (λ link. same_name name link.0) links)
+
+-- the place of the link of a name
+abbrev pub place_of : Name → LinkList → Option ℕ
+place_of name links = position (λ link. same_name name link.0) links
 
 -- a key is linked
 abbrev pub has_link : ℕ → LinkList → Bool

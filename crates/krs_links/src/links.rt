@@ -1,6 +1,7 @@
 ghost use Rattle.std.specs.Prelude.{◌≡◌, ◌≤◌, [], length, slice_get, false, IfOk, OnOk, IfErr, OnErr, IsOk, IsSome};
+ghost use Rattle.std.specs.List.{remove};
 ghost use Rattle.std.specs.Option.{ok_or, option_copied};
-ghost use Rattle.krs_links.specs.Links.{serial_named, link_put, unlinked, unlinked_key, nested, names, serials, has_link};
+ghost use Rattle.krs_links.specs.Links.{serial_named, place_of, link_put, unlinked, nested, names, serials};
 ghost use Rattle.krs_links.specs.Links.{is_full, is_refused, link_error, IsUnique};
 
 use crate::{Seed, lists};
@@ -77,20 +78,18 @@ impl Links {
         }
     }
 
-    /// Whether a key is linked.
-    pub fn has(&self, serial: Serial) -> bool
-        ensures { result ≡ has_link serial self.now }
-    {
-        self.entries
-            .iter()
-            .any(|link| link.1.number() == serial.number())
-    }
-
     /// The serial that is linked under a name. Names of different types are different: keyrings(7), "Keyrings".
     pub fn find(&self, name: &Name) -> Option<Serial>
         ensures { result ≡ serial_named self.now name.now }
     {
         lists::find(&self.entries, name)
+    }
+
+    /// The place of the link of a name.
+    pub fn place_of(&self, name: &Name) -> Option<usize>
+        ensures { result ≡ place_of name.now self.now }
+    {
+        lists::place_of(&self.entries, name)
     }
 
     /// Whether a link under this name would be refused: there are as many as there may be, and none is displaced.
@@ -134,17 +133,16 @@ impl Links {
         let Some(place) = lists::place_of(&self.entries, name) else {
             return Err(Errno::ENOENT);
         };
-        match lists::remove(&mut self.entries, &mut self.rings, place, name) {
-            Some(serial) => Ok(serial),
-            None => Err(Errno::ENOENT),
-        }
+        lists::remove_at(&mut self.entries, &mut self.rings, place).ok_or(Errno::ENOENT)
     }
 
-    /// Takes out the link to a key, where there is one. It takes no memory. keyctl(2), KEYCTL_INVALIDATE.
-    pub fn remove_key(&mut self, serial: Serial)
-        ensures { self.new ≡ unlinked_key self.old serial }
+    /// Takes out the link at a place, where there is one, and answers its serial. Those behind it move up. It takes no
+    /// memory.
+    pub fn remove_at(&mut self, place: usize) -> Option<Serial>
+        ensures value { result ≡ slice_get (serials self.old) place }
+        ensures links { self.new ≡ remove self.old place }
     {
-        lists::remove_key(&mut self.entries, &mut self.rings, serial);
+        lists::remove_at(&mut self.entries, &mut self.rings, place)
     }
 
     /// Takes out all links, and gives their memory back: keyctl(2), KEYCTL_CLEAR.

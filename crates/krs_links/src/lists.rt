@@ -1,9 +1,10 @@
 //! The two lists that a `Links` keeps, and what each change does to both.
-ghost use Rattle.std.specs.Prelude.{◌≡◌, ◌<◌, ◌≤◌, length, take, None, IfNone, IfOk, OnOk, OnErr};
+ghost use Rattle.std.specs.Prelude.{◌≡◌, ◌<◌, ◌≤◌, length, take, slice_get, None, IfNone, IfOk, OnOk, OnErr};
 ghost use Rattle.std.specs.Prelude.{◌+◌, false, if◌then◌else◌};
-ghost use Rattle.krs_links.specs.Links.{serial_named, link_put, unlinked, unlinked_key, nested, serials};
+ghost use Rattle.std.specs.List.{remove};
+ghost use Rattle.krs_links.specs.Links.{serial_named, place_of, link_put, nested, serials};
 ghost use Rattle.krs_links.specs.Links.{is_refused};
-ghost use Rattle.krs_links.specs.Lists.{place_of, AreLists};
+ghost use Rattle.krs_links.specs.Lists.{AreLists};
 
 use crate::Seed;
 use indexmap::IndexMap;
@@ -73,18 +74,15 @@ fn displace_ring(
     }
 }
 
-/// The nested keyrings without the link of a name.
-fn remove_ring(
-    entries: &IndexMap<Name, Serial, Seed>,
-    rings: &mut Vec<Serial>,
-    place: usize,
-    name: &Name,
-)
-    requires lists { AreLists entries.now.entries rings.old.items }
-    requires place { place_of name.now entries.now.entries ≡ Some place }
-    ensures { rings.new.items ≡ serials (nested (unlinked entries.now.entries name.now)) }
+/// The nested keyrings without the link at a place.
+fn remove_ring_at(entries: &IndexMap<Name, Serial, Seed>, rings: &mut Vec<Serial>, place: usize)
+    requires rings { rings.old.items ≡ serials (nested entries.now.entries) }
+    ensures { rings.new.items ≡ serials (nested (remove entries.now.entries place)) }
 {
-    if name.kind.is(Kind::Keyring) {
+    let Some(link) = entries.get_index(place) else {
+        return;
+    };
+    if link.0.kind.is(Kind::Keyring) {
         let ring = rings_before(entries, place);
         rings.remove(ring);
     }
@@ -152,34 +150,20 @@ pub(crate) fn append(
     Ok(())
 }
 
-/// Without the link of a name. Its serial is answered.
-pub(crate) fn remove(
+/// Without the link at a place, whose serial is answered.
+pub(crate) fn remove_at(
     entries: &mut IndexMap<Name, Serial, Seed>,
     rings: &mut Vec<Serial>,
     place: usize,
-    name: &Name,
 ) -> Option<Serial>
     requires lists { AreLists entries.old.entries rings.old.items }
-    requires place { place_of name.now entries.old.entries ≡ Some place }
-    ensures removed { result ≡ serial_named entries.old.entries name.now }
-    ensures none { IfNone result (entries.new.entries ≡ entries.old.entries) }
-    ensures links { entries.new.entries ≡ unlinked entries.old.entries name.now }
+    ensures removed { result ≡ slice_get (serials entries.old.entries) place }
+    ensures links { entries.new.entries ≡ remove entries.old.entries place }
     ensures lists { AreLists entries.new.entries rings.new.items }
 {
-    remove_ring(entries, rings, place, name);
-    entries.shift_remove(name)
-}
-
-/// Without the links to a key.
-pub(crate) fn remove_key(
-    entries: &mut IndexMap<Name, Serial, Seed>,
-    rings: &mut Vec<Serial>,
-    serial: Serial,
-)
-    requires lists { AreLists entries.old.entries rings.old.items }
-    ensures links { entries.new.entries ≡ unlinked_key entries.old.entries serial }
-    ensures lists { AreLists entries.new.entries rings.new.items }
-{
-    entries.retain(|_name, linked| linked.number() != serial.number());
-    rings.retain(|ring| ring.number() != serial.number());
+    remove_ring_at(entries, rings, place);
+    match entries.shift_remove_index(place) {
+        Some(link) => Some(link.1),
+        None => None,
+    }
 }

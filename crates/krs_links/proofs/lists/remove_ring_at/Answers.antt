@@ -1,0 +1,24 @@
+use Rattle.std.proofs.Common.{◌∙◌, length, sym, ap, arith}
+use Rattle.krs_links.proofs.PlacesLemmas.{ring_within_at, rings_removed_at, rings_stay_removed_at}
+use Rattle.krs_links.proofs.lists.remove_ring_at.Goals as goal
+
+pub remove-requires : goal.remove-requires
+remove-requires c =
+    let links = c.args.entries.now.entries in
+    let within = ring_within_at links c.args.place _ (sym c.in-Some.ensures.entry)
+    (sym c.is.ensures ∙ c.if-is.true) in
+    let long = ap length c.requires.rings in
+    omega (arith, c.args.rings.now.ok)
+
+pub returns-then-is : goal.returns-then-is
+returns-then-is c =
+    let links = c.args.entries.now.entries in
+    let ring = sym c.is.ensures ∙ c.if-is.true in
+    rw (c.remove.ensures.items, c.requires.rings, c.rings_before-ring.ensures)
+    (rings_removed_at links c.args.place _ (sym c.in-Some.ensures.entry) ring)
+
+pub returns-else-is : goal.returns-else-is
+returns-else-is c =
+    let links = c.args.entries.now.entries in
+    let other = sym c.is.ensures ∙ c.if-is.false in
+    c.requires.rings ∙ rings_stay_removed_at links c.args.place _ (sym c.in-Some.ensures.entry) other
