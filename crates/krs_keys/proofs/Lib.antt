@@ -8,4 +8,5 @@ pub mod RisingTables
 pub mod HashedLemmas
 pub mod PlacesLemmas
 pub mod RingsLemmas
+pub mod LinkPlaces
 pub mod LeastJoinable

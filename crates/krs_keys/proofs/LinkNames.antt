@@ -1,8 +1,8 @@
 -- Links keep the names of their keys.
-use Rattle.std.proofs.Common.{◌≡◌, ℕ, ◌==◌, ◌||◌, [], ◌∷◌, Option, Some, None, Bool, true, false, not, cond, filter}
+use Rattle.std.proofs.Common.{◌≡◌, ◌≢◌, ℕ, zero, suc, ◌==◌, ◌||◌, [], ◌∷◌, Option, Some, None, Bool, true, false, not, cond, filter}
 use Rattle.std.proofs.Common.{refl, ap, ◌∙◌, sym, subst, ⊎_elim}
 use Rattle.std.specs.Option.{option_map}
-use Rattle.std.specs.List.{find}
+use Rattle.std.specs.List.{find, remove, slice_get}
 use Rattle.std.proofs.lemmas.Bool.{true≢false, eqb-true}
 use Rattle.std.proofs.lemmas.Option.{none-some, same_Some}
 use Rattle.krs_types.specs.declared.name.Name.{Name}
@@ -10,12 +10,13 @@ use Rattle.krs_types.specs.Name.{same_name}
 use Rattle.krs_model.specs.Table.{Table, at, put, alter}
 use Rattle.krs_model.proofs.Tables.Changes.{at_put_same, at_put_other, at_or_apart, at_alter_same, at_alter_other, at_kept}
 use Rattle.krs_keys.specs.declared.key.Key.{Key}
-use Rattle.krs_links.specs.Links.{LinkList, link_put, serial_named, serials}
+use Rattle.krs_links.specs.Links.{LinkList, link_put, serial_named, serials, has_link, unlinked_key}
 use Rattle.krs_types.proofs.Names.{equal_names, other_way, same_name_equiv}
 use Rattle.krs_links.proofs.LinksLemmas.{serial_named-linked_other}
 use Rattle.krs_model.specs.Levels.{is_in}
 use Rattle.krs_model.proofs.Reach.Levels.{same_is, or_true}
-use Rattle.krs_keys.specs.Keys.{named_links_of_content, name_at, AreNamed, AreFit}
+use Rattle.krs_keys.specs.Keys.{named_links_of_content, named_links_of_key, named_links_of_key_at, name_at, AreNamed}
+use Rattle.krs_keys.specs.Keys.{AreFit}
 use Rattle.krs_keys.proofs.TableLemmas.{mapped_some, was_there}
 
 -- names that are there before are there after
@@ -73,6 +74,100 @@ none_left names name serial (link ∷ links) there none named =
     let rest : serial_named links name ≡ None = rw other at none in
     let apart : (link.1 == serial) ≡ false = other_serial names name serial link there named.0 other in
     rw apart (ap (λ zs. link.1 ∷ zs) (none_left names name serial links there rest named.1))
+
+-- a key whose name is not linked is not linked
+none_linked : (names : ℕ → Option Name) (name : Name) (serial : ℕ) (links : LinkList) → names serial ≡ Some name
+    → serial_named links name ≡ None → AreNamed names links → has_link serial links ≡ false
+none_linked names name serial [] there none named = refl
+none_linked names name serial (link ∷ links) there none named =
+    let other : same_name name link.0 ≡ false = not_first name link links none in
+    let rest : serial_named links name ≡ None = rw other at none in
+    let apart : (link.1 == serial) ≡ false = other_serial names name serial link there named.0 other in
+    rw apart (none_linked names name serial links there rest named.1)
+
+apart_in : (a b : ℕ) → (Some a ≢ Some b) → (a == b) ≡ false
+apart_in a b other =
+    elim (a == b) as (λ t. (a == b) ≡ t → t ≡ false) [
+      | true ↦ λ same. absurd (other (ap (λ k. Some k) (eqb-true a b same)))
+      | false ↦ λ apart. refl
+    ] refl
+
+-- nor is one whose name links another
+pub other_linked : (names : ℕ → Option Name) (name : Name) (serial : ℕ) (links : LinkList) → names serial ≡ Some name
+    → (serial_named links name ≢ Some serial) → AreNamed names links → has_link serial links ≡ false
+other_linked names name serial [] there other named = refl
+other_linked names name serial (link ∷ links) there other named =
+    elim (same_name name link.0) as (λ b. same_name name link.0 ≡ b → (option_map (λ (l : Name × ℕ). l.1)
+    (cond b (Some link) (find (λ (l : Name × ℕ). same_name name l.0) links)) ≢ Some serial)
+    → ((link.1 == serial) || has_link serial links) ≡ false) [
+      | true ↦ λ same h.
+          let apart : (link.1 == serial) ≡ false = apart_in link.1 serial h in
+          let none : serial_named links name ≡ None = ap (serial_named links) (equal_names name link.0 same) ∙ named.2 in
+          rw apart (none_linked names name serial links there none named.1)
+      | false ↦ λ two h.
+          let apart : (link.1 == serial) ≡ false = other_serial names name serial link there named.0 two in
+          rw apart (other_linked names name serial links there h named.1)
+    ] refl other
+
+-- what is no key is not linked
+pub missing_linked : (names : ℕ → Option Name) (serial : ℕ) (links : LinkList) → names serial ≡ None
+    → AreNamed names links → has_link serial links ≡ false
+missing_linked names serial [] missing named = refl
+missing_linked names serial (link ∷ links) missing named =
+    elim (link.1 == serial) as (λ b. (link.1 == serial) ≡ b → (b || has_link serial links) ≡ false) [
+      | true ↦ λ same. absurd (none-some link.0
+          (sym missing ∙ (ap names (sym (eqb-true link.1 serial same)) ∙ named.0)))
+      | false ↦ λ apart. missing_linked names serial links missing named.1
+    ] refl
+
+-- what stands at a place is linked
+pub linked_at : (serial : ℕ) (links : LinkList) (place : ℕ) → slice_get (serials links) place ≡ Some serial
+    → has_link serial links ≡ true
+linked_at serial [] zero here = absurd (none-some serial here)
+linked_at serial [] (suc place) here = absurd (none-some serial here)
+linked_at serial (link ∷ links) zero here = rw (same_is link.1 serial (same_Some link.1 serial here)) refl
+linked_at serial (link ∷ links) (suc place) here =
+    or_true (link.1 == serial) (has_link serial links) (linked_at serial links place here)
+
+-- where the key is not linked, nothing goes
+pub others_stay : (serial : ℕ) (links : LinkList) → has_link serial links ≡ false → unlinked_key links serial ≡ links
+others_stay serial [] none = refl
+others_stay serial (link ∷ links) none =
+    elim (link.1 == serial) as (λ b. (b || has_link serial links) ≡ false
+    → cond (not b) (link ∷ unlinked_key links serial) (unlinked_key links serial) ≡ link ∷ links) [
+      | true ↦ λ h. absurd (true≢false h)
+      | false ↦ λ h. ap (λ zs. link ∷ zs) (others_stay serial links h)
+    ] none
+
+-- the one link of the key goes with its place
+pub removed_at : (names : ℕ → Option Name) (serial : ℕ) (links : LinkList) (place : ℕ) → AreNamed names links
+    → slice_get (serials links) place ≡ Some serial → remove links place ≡ unlinked_key links serial
+removed_at names serial [] zero named here = absurd (none-some serial here)
+removed_at names serial [] (suc place) named here = absurd (none-some serial here)
+removed_at names serial (link ∷ links) zero named here =
+    let one : link.1 ≡ serial = same_Some link.1 serial here in
+    let there : names serial ≡ Some link.0 = subst (λ (k : ℕ). names k ≡ Some link.0) one named.0 in
+    rw (same_is link.1 serial one)
+    (sym (others_stay serial links (none_linked names link.0 serial links there named.2 named.1)))
+removed_at names serial (link ∷ links) (suc place) named here =
+    let apart : (link.1 == serial) ≡ false = elim (link.1 == serial) as (λ b. (link.1 == serial) ≡ b → b ≡ false) [
+      | true ↦ λ same.
+          let there : names serial ≡ Some link.0 =
+          subst (λ (k : ℕ). names k ≡ Some link.0) (eqb-true link.1 serial same) named.0 in
+          absurd (true≢false (sym (linked_at serial links place here)
+          ∙ none_linked names link.0 serial links there named.2 named.1))
+      | false ↦ λ other. refl
+    ] refl in
+    rw apart (ap (λ zs. link ∷ zs) (removed_at names serial links place named.1 here))
+
+none_named : (names : ℕ → Option Name) (o : Option Key) → ((key : Key) → o ≡ Some key
+    → AreNamed names (named_links_of_content key.content)) → AreNamed names (named_links_of_key o)
+none_named names None h = tt
+none_named names (Some key) h = h key refl
+
+-- links have the names of their keys
+pub ring_named : (es : Table Key) (ring : ℕ) → AreFit es → AreNamed (name_at es) (named_links_of_key_at es ring)
+ring_named es ring fit = none_named (name_at es) (at es ring) (λ key there. fit ring key there)
 
 -- what is found by name is linked
 pub found_in : (name : Name) (serial : ℕ) (links : LinkList) → serial_named links name ≡ Some serial

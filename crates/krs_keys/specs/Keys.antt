@@ -1,5 +1,6 @@
 -- Keys as they are kept, with the names of their links, and as the definitions see them.
 use Rattle.std.specs.Prelude.{◌≡◌, ℕ, List, [], ◌∷◌, true, Option, None, Some, find}
+use Rattle.std.specs.List.{remove}
 use Rattle.std.specs.Option.{option_map}
 use Rattle.krs_types.specs.declared.kind.Kind.{Kind}
 use Rattle.krs_types.specs.declared.kind.Kind.TheVariants.{Keyring}
@@ -61,6 +62,15 @@ keyless_content serial (Links links) = Links (unlinked_key links serial)
 -- the key out of a keyring
 abbrev pub without_key : ℕ → Key → Key
 without_key serial key = record key { content = keyless_content serial key.content }
+
+-- what a keyring links, without the link at a place
+abbrev pub content_without_at : ℕ → Content → Content
+content_without_at place (Payload bytes) = Payload bytes
+content_without_at place (Links links) = Links (remove links place)
+
+-- the link at a place out of a keyring
+abbrev pub without_link_at : ℕ → Key → Key
+without_link_at place key = record key { content = content_without_at place key.content }
 
 -- the name of the key at a serial
 abbrev pub name_at : Table Key → ℕ → Option Name

@@ -1,6 +1,6 @@
-ghost use Rattle.std.specs.Prelude.{◌≡◌, false, IfOk, IfErr, OnOk, OnErr};
-ghost use Rattle.krs_links.specs.Links.{serial_named, has_link, is_refused, link_error};
-ghost use Rattle.krs_keys.specs.Keys.{with_entry, without_key, named_links_of_content, seen};
+ghost use Rattle.std.specs.Prelude.{◌≡◌, ◌≢◌, Some, false, slice_get, IfSome, IfNone, IfOk, IfErr, OnOk, OnErr};
+ghost use Rattle.krs_links.specs.Links.{serial_named, serials, is_refused, link_error};
+ghost use Rattle.krs_keys.specs.Keys.{with_entry, without_link_at, named_links_of_content, seen};
 ghost use Rattle.krs_keys.specs.Changes.{changed};
 ghost use Rattle.krs_model.specs.Asks.Changing.{or_left};
 ghost use Rattle.krs_model.specs.Access.{is_over, is_alive, rights_on};
@@ -84,13 +84,27 @@ impl Key {
             && self.grants(caller, false).contains(Rights::SEARCH)
     }
 
-    /// Whether it links a key.
-    pub fn links_to(&self, serial: Serial) -> bool
-        ensures { result ≡ has_link serial (named_links_of_content self.now.content) }
+    /// Where it links the key of this name and this serial.
+    pub fn link_place(&self, name: &Name, serial: Serial) -> Option<usize>
+        ensures there { IfSome result
+            (λ place. slice_get (serials (named_links_of_content self.now.content)) place ≡ Some serial) }
+        ensures none { IfNone result (serial_named (named_links_of_content self.now.content) name.now ≢ Some serial) }
     {
         match &self.content {
-            Content::Payload(_) => false,
-            Content::Links(links) => links.has(serial),
+            Content::Payload(_) => None,
+            Content::Links(links) => {
+                let Some(place) = links.place_of(name) else {
+                    return None;
+                };
+                let Some(linked) = links.serial_at(place) else {
+                    return None;
+                };
+                if linked.number() == serial.number() {
+                    Some(place)
+                } else {
+                    None
+                }
+            }
         }
     }
 
@@ -104,11 +118,11 @@ impl Key {
         }
     }
 
-    /// Without a link to this key, where it is a keyring.
-    pub fn unlink_key(&mut self, serial: Serial)
-        ensures { self.new ≡ without_key serial self.old }
+    /// Without the link at a place, where it is a keyring.
+    pub fn unlink_at(&mut self, place: usize)
+        ensures { self.new ≡ without_link_at place self.old }
     {
-        self.content.unlink_key(serial);
+        self.content.unlink_at(place);
     }
 
     /// Changes it.
@@ -151,7 +165,7 @@ impl Key {
 
 impl Content {
     ghost use Rattle.krs_keys.specs.Changes.{paid_with, emptied, cleared_content, links_some};
-    ghost use Rattle.krs_keys.specs.Keys.{keyless_content};
+    ghost use Rattle.krs_keys.specs.Keys.{content_without_at};
 
     /// Another payload in the place of the one that is there.
     fn pay(&mut self, payload: Body)
@@ -173,13 +187,15 @@ impl Content {
         }
     }
 
-    /// Without a link to this key, where it is a keyring.
-    fn unlink_key(&mut self, serial: Serial)
-        ensures { self.new ≡ keyless_content serial self.old }
+    /// Without the link at a place, where it is a keyring.
+    fn unlink_at(&mut self, place: usize)
+        ensures { self.new ≡ content_without_at place self.old }
     {
         match self {
             Content::Payload(_) => {}
-            Content::Links(links) => links.remove_key(serial),
+            Content::Links(links) => {
+                links.remove_at(place);
+            }
         }
     }
 

@@ -5,7 +5,7 @@ ghost use Rattle.std.specs.Map.{keys_of};
 ghost use Rattle.std.specs.Ordering.{nat_cmp};
 ghost use Rattle.krs_model.specs.Table.{at, put, without, alter, map_values, IsBelow};
 ghost use Rattle.krs_keys.specs.Keys.{with_entry, without_key, displaced_at, named_links_of_key_at};
-ghost use Rattle.krs_keys.specs.Keys.{shown, IsOfKind, AreOfKind, OnlyRingsLink};
+ghost use Rattle.krs_keys.specs.Keys.{shown, IsOfKind, AreOfKind, AreFit, OnlyRingsLink};
 ghost use Rattle.krs_links.specs.Links.{has_link, is_refused, link_error};
 ghost use Rattle.krs_keys.specs.Changes.{changed};
 ghost use Rattle.krs_keys.specs.Table.{with_key, with_linked_key, AreLeft};
@@ -81,16 +81,6 @@ impl KeyTable {
         ensures { option_copied result ≡ at self.now.keys serial }
     {
         self.keys.get(serial.number())
-    }
-
-    /// Whether a keyring links a key.
-    pub fn has_link(&self, ring: Serial, serial: Serial) -> bool
-        ensures { result ≡ has_link serial (named_links_of_key_at self.now.keys ring) }
-    {
-        match self.get(ring) {
-            Some(key) => key.links_to(serial),
-            None => false,
-        }
     }
 
     /// Whether a keyring would refuse a link under this name: it is full, and no link is displaced.
@@ -199,15 +189,21 @@ impl KeyTable {
         Ok(displaced)
     }
 
-    /// Takes a key out of a keyring. It takes no memory. keyctl(2), KEYCTL_UNLINK.
-    pub fn unlink(&mut self, ring: Serial, serial: Serial)
-        ensures { self.new ≡ record self.old { keys = alter self.old.keys ring (without_key serial) } }
+    /// Takes a key out of a keyring, and answers whether it was there. It looks for the key's own name, which each link
+    /// has. It takes no memory. keyctl(2), KEYCTL_UNLINK.
+    pub fn unlink(&mut self, ring: Serial, serial: Serial) -> bool
+        requires fit { AreFit self.old.keys }
+        ensures linked { result ≡ has_link serial (named_links_of_key_at self.old.keys ring) }
+        ensures keys { self.new ≡ record self.old { keys = alter self.old.keys ring (without_key serial) } }
+        ensures stays { result ≡ false → self.new ≡ self.old }
     {
-        self.keys.unlink(ring.number(), serial);
+        self.keys.unlink(ring.number(), serial)
     }
 
-    /// Takes a key out of all keyrings. It takes no memory. keyctl(2), KEYCTL_INVALIDATE.
+    /// Takes a key out of all keyrings, from each by the key's own name. It takes no memory. keyctl(2),
+    /// KEYCTL_INVALIDATE.
     pub fn unlink_all(&mut self, serial: Serial)
+        requires fit { AreFit self.old.keys }
         ensures { self.new ≡ record self.old { keys = map_values (without_key serial) self.old.keys } }
     {
         self.keys.unlink_all(serial);

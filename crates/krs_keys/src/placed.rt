@@ -1,12 +1,12 @@
 //! The keys, each at a place that it keeps.
 ghost use Rattle.std.specs.Prelude.{◌≡◌, ℕ, ◌+◌, ◌<◌, [], None, false, length};
 ghost use Rattle.std.specs.Prelude.{IfOk, IfErr, OnOk, OnErr, option_copied};
-ghost use Rattle.krs_links.specs.Links.{is_refused, link_error};
+ghost use Rattle.krs_links.specs.Links.{has_link, is_refused, link_error};
 ghost use Rattle.krs_model.specs.Asks.Joining.{is_joinable};
 ghost use Rattle.krs_model.specs.Table.{at, put, without, alter, map_values};
 ghost use Rattle.krs_keys.specs.Changes.{changed};
 ghost use Rattle.krs_keys.specs.Keys.{with_entry, without_key, displaced_at, named_links_of_key_at, seen};
-ghost use Rattle.krs_keys.specs.Keys.{joinable_in, AreOfKind};
+ghost use Rattle.krs_keys.specs.Keys.{joinable_in, AreFit, AreOfKind};
 ghost use Rattle.krs_keys.specs.Places.{by_place, place_of, is_sooner, passes, ArePlaced, HaveRoom};
 ghost use Rattle.krs_keys.specs.Table.{IsLinkError};
 
@@ -53,10 +53,7 @@ impl PlacedKeys {
     pub(crate) fn get(&self, serial: u32) -> Option<&Key>
         ensures { option_copied result ≡ at (by_place self.now) serial }
     {
-        match self.place_of(serial) {
-            Some(place) => self.slots.get(place),
-            None => None,
-        }
+        slots::get(&self.slots, &self.places, serial)
     }
 
     /// The place of a serial.
@@ -197,19 +194,23 @@ impl PlacedKeys {
         }
     }
 
-    /// Takes a key out of one keyring.
-    pub(crate) fn unlink(&mut self, ring: u32, serial: Serial)
-        requires { ArePlaced self.old }
+    /// Takes a key out of one keyring, and answers whether it was there.
+    pub(crate) fn unlink(&mut self, ring: u32, serial: Serial) -> bool
+        requires placed { ArePlaced self.old }
+        requires fit { AreFit (by_place self.old) }
         ensures placed { ArePlaced self.new }
+        ensures linked { result ≡ has_link serial (named_links_of_key_at (by_place self.old) ring) }
         ensures keys { by_place self.new ≡ alter (by_place self.old) ring (without_key serial) }
+        ensures stays { result ≡ false → by_place self.new ≡ by_place self.old }
     {
-        slots::unlink_in(&mut self.slots, &self.places, ring, serial);
+        slots::unlink_in(&mut self.slots, &self.places, ring, serial)
     }
 
     /// Takes a key out of all keyrings.
     pub(crate) fn unlink_all(&mut self, serial: Serial)
         requires placed { ArePlaced self.old }
         requires kinds { AreOfKind (by_place self.old) }
+        requires fit { AreFit (by_place self.old) }
         ensures placed { ArePlaced self.new }
         ensures keys { by_place self.new ≡ map_values (without_key serial) (by_place self.old) }
     {

@@ -1,12 +1,14 @@
 //! What stands at a place, and which keyrings are listed.
-ghost use Rattle.std.specs.Prelude.{◌≡◌, ℕ, ◌+◌, ◌≤◌, false, nat_eq, cond, IfOk, IfErr, OnOk, OnErr};
+ghost use Rattle.std.specs.Prelude.{◌≡◌, ℕ, ◌+◌, ◌≤◌, Some, false, nat_eq, cond, slice_get, option_copied};
+ghost use Rattle.std.specs.Prelude.{IfSome, IfNone, IfOk, IfErr, OnOk, OnErr};
 ghost use Rattle.indexmap.specs.IndexSet.{spare};
-ghost use Rattle.krs_links.specs.Links.{is_refused, link_error};
-ghost use Rattle.krs_model.specs.Table.{alter, map_values};
+ghost use Rattle.krs_links.specs.Links.{has_link, serials, is_refused, link_error};
+ghost use Rattle.krs_model.specs.Table.{at, alter, map_values};
 ghost use Rattle.krs_types.specs.declared.kind.Kind.TheVariants.{Keyring};
 ghost use Rattle.krs_types.specs.Kind.{same_kind};
 ghost use Rattle.krs_keys.specs.Changes.{changed};
-ghost use Rattle.krs_keys.specs.Keys.{with_entry, without_key, displaced_by, named_links_of_key, AreOfKind};
+ghost use Rattle.krs_keys.specs.Keys.{with_entry, without_key, without_link_at, displaced_by, named_links_of_key};
+ghost use Rattle.krs_keys.specs.Keys.{name_at, named_links_of_key_at, AreNamed, AreFit, AreOfKind};
 ghost use Rattle.krs_keys.specs.Places.{held, in_slots, is_among, AreRings, HavePlaces, IsChangedAt};
 
 use crate::{Change, Key};
@@ -43,31 +45,92 @@ pub(crate) fn link(
     }
 }
 
-/// Takes a key out of the keyring at a place.
-fn unlink(slots: &mut Slab<Key>, place: usize, serial: Serial)
-    ensures { IsChangedAt place (without_key serial) slots.old.slots slots.new.slots }
+/// The key at a serial.
+pub(crate) fn get<'a>(
+    slots: &'a Slab<Key>,
+    places: &IndexMap<u32, usize>,
+    serial: u32,
+) -> Option<&'a Key>
+    ensures { option_copied result ≡ at (in_slots slots.now.slots places.now.entries) serial }
+{
+    match places.get(&serial) {
+        Some(place) => slots.get(*place),
+        None => None,
+    }
+}
+
+/// Where the keyring at a place links a key. A link has its key's own name.
+fn link_place(
+    slots: &Slab<Key>,
+    places: &IndexMap<u32, usize>,
+    place: usize,
+    serial: Serial,
+) -> Option<usize>
+    requires named { AreNamed (name_at (in_slots slots.now.slots places.now.entries))
+        (named_links_of_key (held slots.now.slots place)) }
+    ensures there { IfSome result
+        (λ link. slice_get (serials (named_links_of_key (held slots.now.slots place))) link ≡ Some serial) }
+    ensures none { IfNone result (has_link serial (named_links_of_key (held slots.now.slots place)) ≡ false) }
+{
+    let Some(key) = get(slots, places, serial.number()) else {
+        return None;
+    };
+    match slots.get(place) {
+        Some(ring) => ring.link_place(&key.name, serial),
+        None => None,
+    }
+}
+
+/// Takes the link at a place out of the keyring at a place.
+fn remove_link(slots: &mut Slab<Key>, place: usize, link: usize)
+    ensures { IsChangedAt place (without_link_at link) slots.old.slots slots.new.slots }
 {
     match slots.get_mut(place) {
-        Some(key) => key.unlink_key(serial),
+        Some(key) => key.unlink_at(link),
         None => {}
     }
 }
 
-/// Takes a key out of one keyring.
+/// Takes a key out of the keyring at a place, and answers whether it was there.
+fn unlink(
+    slots: &mut Slab<Key>,
+    places: &IndexMap<u32, usize>,
+    place: usize,
+    serial: Serial,
+) -> bool
+    requires named { AreNamed (name_at (in_slots slots.old.slots places.now.entries))
+        (named_links_of_key (held slots.old.slots place)) }
+    ensures linked { result ≡ has_link serial (named_links_of_key (held slots.old.slots place)) }
+    ensures changed { IsChangedAt place (without_key serial) slots.old.slots slots.new.slots }
+    ensures stays { result ≡ false → slots.new.slots ≡ slots.old.slots }
+{
+    let Some(link) = link_place(slots, places, place, serial) else {
+        return false;
+    };
+    remove_link(slots, place, link);
+    true
+}
+
+/// Takes a key out of one keyring, and answers whether it was there.
 pub(crate) fn unlink_in(
     slots: &mut Slab<Key>,
     places: &IndexMap<u32, usize>,
     ring: u32,
     serial: Serial,
-)
-    requires { HavePlaces slots.old.slots places.now.entries }
+) -> bool
+    requires places { HavePlaces slots.old.slots places.now.entries }
+    requires fit { AreFit (in_slots slots.old.slots places.now.entries) }
     ensures places { HavePlaces slots.new.slots places.now.entries }
+    ensures linked { result
+        ≡ has_link serial (named_links_of_key_at (in_slots slots.old.slots places.now.entries) ring) }
     ensures keys { in_slots slots.new.slots places.now.entries
         ≡ alter (in_slots slots.old.slots places.now.entries) ring (without_key serial) }
+    ensures stays { result ≡ false
+        → in_slots slots.new.slots places.now.entries ≡ in_slots slots.old.slots places.now.entries }
 {
     match places.get(&ring) {
-        Some(place) => unlink(slots, *place, serial),
-        None => {}
+        Some(place) => unlink(slots, places, *place, serial),
+        None => false,
     }
 }
 
@@ -81,6 +144,7 @@ pub(crate) fn unlink_all(
     requires places { HavePlaces slots.old.slots places.now.entries }
     requires rings { AreRings (in_slots slots.old.slots places.now.entries) rings.now }
     requires kinds { AreOfKind (in_slots slots.old.slots places.now.entries) }
+    requires fit { AreFit (in_slots slots.old.slots places.now.entries) }
     ensures places { HavePlaces slots.new.slots places.now.entries }
     ensures keys { in_slots slots.new.slots places.now.entries
         ≡ map_values (without_key serial) (in_slots slots.old.slots places.now.entries) }

@@ -24,7 +24,7 @@ use Rattle.krs_keys.specs.declared.key.Content.{Content}
 use Rattle.krs_keys.specs.declared.key.Content.TheVariants.{Payload, Links}
 use Rattle.krs_keys.specs.Keys.{named_links_of_content, seen, seen_content, shown, name_at, named_links_of_key, named_links_of_key_at, AreNamed}
 use Rattle.krs_keys.specs.Keys.{AreFit, IsOfKind, AreOfKind, with_entry, entered}
-use Rattle.krs_keys.proofs.LinkNames.{fit_alter, named_linked}
+use Rattle.krs_keys.proofs.LinkNames.{fit_alter, named_linked, ring_named}
 use Rattle.krs_keys.proofs.KeysLemmas.{serials-content, found_named, seen-with_entry}
 use Rattle.krs_tables.specs.declared.tables.Tables.TheInside.{Inside}
 use Rattle.std.specs.Int.{w32, to_le_bytes}
@@ -51,15 +51,6 @@ is_shown (Some key) = sym (serials-content key.content)
 -- what is linked, by name and by serial
 pub links_shown : (es : Table Key) (ring : ℕ) → links_of_key_at (shown es) ring ≡ serials (named_links_of_key_at es ring)
 links_shown es ring = ap links_of_key (at_map seen es ring) ∙ is_shown (at es ring)
-
-none_named : (names : ℕ → Option Name) (o : Option Key) → ((key : Key) → o ≡ Some key
-    → AreNamed names (named_links_of_content key.content)) → AreNamed names (named_links_of_key o)
-none_named names None h = tt
-none_named names (Some key) h = h key refl
-
--- links have the names of their keys
-pub ring_named : (es : Table Key) (ring : ℕ) → AreFit es → AreNamed (name_at es) (named_links_of_key_at es ring)
-ring_named es ring fit = none_named (name_at es) (at es ring) (λ key there. fit ring key there)
 
 has_link-serials : (serial : ℕ) (links : LinkList) → has_link serial links ≡ is_in serial (serials links)
 has_link-serials serial [] = refl

@@ -1,6 +1,7 @@
-use Rattle.std.proofs.Common.{subst}
+use Rattle.std.proofs.Common.{subst, sym}
 use Rattle.std.proofs.lemmas.List.{take_all}
-use Rattle.krs_keys.specs.Keys.{without_key}
+use Rattle.krs_keys.specs.Keys.{without_key, AreFit}
+use Rattle.krs_keys.proofs.Unlinking.{fit-keyless}
 use Rattle.krs_keys.specs.Places.{in_slots}
 use Rattle.krs_keys.proofs.PlacesLemmas.{rises_in_slots}
 use Rattle.krs_keys.proofs.RisingTables.{rises_map}
@@ -12,6 +13,8 @@ loop-ring-preserved c =
     let places = c.args.places.now.entries in
     record {
       places = c.unlink_in.ensures.places;
+      fit = subst AreFit (sym c.unlink_in.ensures.keys)
+          (fit-keyless c.args.serial (in_slots c.loop-ring.slots.slots places) _ c.loop-ring.invariant.fit);
       unlinked = one_unlinked c.args.serial c.args.rings.now c.loop-ring.ring-index 0
           (in_slots c.args.slots.now.slots places) (in_slots c.loop-ring.slots.slots places)
           (in_slots c.unlink_in.new.slots.slots places) c.loop-ring-test.true

@@ -1,18 +1,40 @@
-use Rattle.std.proofs.Common.{◌∙◌, ap, sym}
+use Rattle.std.proofs.Common.{◌≡◌, ℕ, List, Option, ◌∙◌, ap, sym, subst}
+use Rattle.krs_links.specs.Links.{has_link}
+use Rattle.krs_model.specs.Table.{at}
 use Rattle.krs_model.proofs.Tables.Changes.{alter_none}
-use Rattle.krs_keys.specs.Keys.{without_key}
-use Rattle.krs_keys.specs.Places.{in_slots}
+use Rattle.krs_keys.specs.declared.key.Key.{Key}
+use Rattle.krs_keys.specs.Keys.{name_at, named_links_of_key, AreNamed, without_key}
+use Rattle.krs_keys.specs.Places.{in_slots, place_of}
+use Rattle.krs_keys.proofs.LinkNames.{ring_named}
 use Rattle.krs_keys.proofs.PlacesLemmas.{found, at_in_slots, in_slots_alter}
 use Rattle.krs_keys.proofs.slots.unlink_in.Goals as goal
+
+-- what is at the keyring, whose place was looked up
+placed : (slots : List (Option Key)) (places : List (ℕ × ℕ)) (ring : ℕ) (looked_up : Option ℕ)
+    → looked_up ≡ place_of places ring → at (in_slots slots places) ring ≡ found slots looked_up
+placed slots places ring looked_up is = at_in_slots slots places ring ∙ ap (found slots) (sym is)
+
+pub unlink-requires : goal.unlink-requires
+unlink-requires c = record {
+  named = subst (λ (o : Option Key). AreNamed (name_at (in_slots c.args.slots.now.slots c.args.places.now.entries))
+      (named_links_of_key o)) (placed c.args.slots.now.slots c.args.places.now.entries c.args.ring _ c.in-Some.ensures.value)
+      (ring_named (in_slots c.args.slots.now.slots c.args.places.now.entries) c.args.ring c.requires.fit);
+}
+
+pub returns-in-Some-clause-linked : goal.returns-in-Some-clause-linked
+returns-in-Some-clause-linked c =
+    c.unlink.ensures.linked ∙ ap (λ (o : Option Key). has_link c.args.serial (named_links_of_key o)) (sym (placed c.args.slots.now.slots c.args.places.now.entries c.args.ring _ c.in-Some.ensures.value))
 
 pub returns-in-Some-clause-keys : goal.returns-in-Some-clause-keys
 returns-in-Some-clause-keys c =
     in_slots_alter c.args.slots.now.slots c.unlink.new.slots.slots c.args.places.now.entries c.in-Some.place.now
-    (without_key c.args.serial) c.requires c.unlink.ensures c.args.ring (sym c.in-Some.ensures.value)
+    (without_key c.args.serial) c.requires.places c.unlink.ensures.changed c.args.ring (sym c.in-Some.ensures.value)
+
+pub returns-in-None-clause-linked : goal.returns-in-None-clause-linked
+returns-in-None-clause-linked c =
+    sym (ap (λ (o : Option Key). has_link c.args.serial (named_links_of_key o)) (placed c.args.slots.now.slots c.args.places.now.entries c.args.ring _ c.in-None.ensures.value))
 
 pub returns-in-None-clause-keys : goal.returns-in-None-clause-keys
 returns-in-None-clause-keys c =
-    let slots = c.args.slots.now.slots in
-    let places = c.args.places.now.entries in
-    sym (alter_none (in_slots slots places) c.args.ring (without_key c.args.serial)
-    (at_in_slots slots places c.args.ring ∙ ap (found slots) (sym c.in-None.ensures.value)))
+    sym (alter_none (in_slots c.args.slots.now.slots c.args.places.now.entries) c.args.ring
+    (without_key c.args.serial) (placed c.args.slots.now.slots c.args.places.now.entries c.args.ring _ c.in-None.ensures.value))

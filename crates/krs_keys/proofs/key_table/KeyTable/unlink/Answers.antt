@@ -2,9 +2,13 @@ use Rattle.std.proofs.Common.{ap, ◌∙◌, sym, subst}
 use Rattle.krs_model.specs.Table.{at}
 use Rattle.krs_model.proofs.Tables.Changes.{at_alter_none}
 use Rattle.krs_keys.specs.Places.{by_place}
-use Rattle.krs_keys.specs.Keys.{AreOfKind, without_key}
+use Rattle.krs_keys.specs.Keys.{AreFit, AreOfKind, without_key}
+use Rattle.krs_keys.specs.Table.{Keys}
 use Rattle.krs_keys.proofs.KindsLemmas.{kinds_alter, keyless_kind}
 use Rattle.krs_keys.proofs.key_table.KeyTable.unlink.Goals as goal
+
+pub unlink-requires-clause-fit : goal.unlink-requires-clause-fit
+unlink-requires-clause-fit c = subst (λ (t : Keys). AreFit t.keys) (sym c.self.view_is) c.requires.fit
 
 pub invariant_of-self : goal.invariant_of-self
 invariant_of-self c =

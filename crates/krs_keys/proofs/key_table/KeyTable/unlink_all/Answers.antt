@@ -2,10 +2,14 @@ use Rattle.std.proofs.Common.{ap, ◌∙◌, sym, subst}
 use Rattle.std.specs.Option.{option_map}
 use Rattle.krs_model.specs.Table.{at}
 use Rattle.krs_model.proofs.Tables.Changes.{at_map}
-use Rattle.krs_keys.specs.Keys.{AreOfKind, without_key}
+use Rattle.krs_keys.specs.Keys.{AreFit, AreOfKind, without_key}
+use Rattle.krs_keys.specs.Table.{Keys}
 use Rattle.krs_keys.specs.Places.{by_place}
 use Rattle.krs_keys.proofs.Unlinking.{kinds-without_key}
 use Rattle.krs_keys.proofs.key_table.KeyTable.unlink_all.Goals as goal
+
+pub unlink_all-requires-clause-fit : goal.unlink_all-requires-clause-fit
+unlink_all-requires-clause-fit c = subst (λ (t : Keys). AreFit t.keys) (sym c.self.view_is) c.requires.fit
 
 pub invariant_of-self : goal.invariant_of-self
 invariant_of-self c =

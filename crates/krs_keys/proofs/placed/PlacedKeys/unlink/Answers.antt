@@ -11,5 +11,5 @@ returns-clause-placed c = record {
   places = c.unlink_in.ensures.places;
   rings = subst (λ (t : Table Key). AreRings t c.args.self.now.rings.keys) (sym c.unlink_in.ensures.keys)
       (rings_alter (by_place c.args.self.now) c.args.self.now.rings.keys c.args.ring (without_key c.args.serial)
-      (λ v. refl) c.requires.rings);
+      (λ v. refl) c.requires.placed.rings);
 }
