@@ -206,10 +206,9 @@ fn put_named(
 fn take_link(tables: &mut Tables, ring: Serial, serial: Serial) -> Result<(), Errno>
     ensures { Takes tables.old result tables.new ring serial }
 {
-    if !tables.keys.has_link(ring, serial) {
+    if !tables.keys.unlink(ring, serial) {
         return Err(Errno::ENOENT);
     }
-    tables.keys.unlink(ring, serial);
     tables.holders.let_go(serial);
     Ok(())
 }
