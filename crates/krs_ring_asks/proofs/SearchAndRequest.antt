@@ -1,6 +1,6 @@
 -- SEARCH and REQUEST with a destination, from what the store has looked up to what they come to.
 use Rattle.std.proofs.Common.{◌≡◌, ℕ, ℤ, pos, negsuc, zero, suc, to_z, of_z, FitsSigned, List, Option, None, Some}
-use Rattle.std.proofs.Common.{true, false, Result, Ok, Err, refl, ap, ◌∙◌, sym, subst, cond}
+use Rattle.std.proofs.Common.{true, false, Result, Ok, Err, refl, ap, ◌∙◌, sym, cond}
 use Rattle.std.specs.Int.{w32}
 use Rattle.std.proofs.lemmas.Int.{to_z-of_z}
 use Rattle.krs_types.specs.declared.errno.Errno.{Errno}

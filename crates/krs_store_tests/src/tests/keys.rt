@@ -122,8 +122,6 @@ fn a_link_displaces_its_match(rt: HostRuntime) -> Result<(), Fail> {
     }
     assert!(rt; links_some(keys.get(ring)));
     assert!(rt; !links_some(keys.get(Serial::new(5))));
-    keys.unlink(ring, Serial::new(5));
-    assert!(rt; !links_some(keys.get(ring)));
     assert!(rt; keys.next() == 6);
     Ok(())
 }
