@@ -1,1 +1,3 @@
 mod SessionsLemmas
+mod DaemonLemmas
+mod CommandLineLemmas

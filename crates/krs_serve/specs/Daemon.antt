@@ -1,9 +1,11 @@
 -- What the daemon prints and answers: docs/FORMAT.md, "The daemon, keyretaind".
-use Rattle.std.specs.Prelude.{ℕ, ◌≡◌, ◌⊎◌, ◌++◌, List, Option, codes, string_bytes}
+use Rattle.std.specs.Prelude.{ℕ, ◌≡◌, ◌⊎◌, ◌++◌, List, Option, Some, None, codes, string_bytes}
 use Rattle.std.specs.Fmt.{decimal}
 use Rattle.krs_words.specs.Writing.{WritesFront}
 use Rattle.krs_serve.specs.declared.choice.Choice.{Choice}
 use Rattle.krs_serve.specs.declared.choice.Choice.TheVariants.{Serve, Usage, Memory, Shown, Refused}
+use Rattle.krs_serve.specs.declared.listening.Accepted.{Accepted}
+use Rattle.krs_serve.specs.declared.listening.Accepted.TheVariants.{All, Failed}
 use Rattle.krs_serve.specs.declared.options.Options.{Options}
 
 -- what it prints once clients can connect
@@ -14,15 +16,30 @@ listening_line path = codes "listening " ++ path ++ codes "\n"
 abbrev pub served_line : ℕ → List ℕ
 served_line connections = codes "served " ++ decimal connections ++ codes "\n"
 
--- What a daemon prints by its options, with its status: it lacks memory or can't bind its path, or it listens. What it
--- prints at its end is told by no contract, as its connections are not. Of a line that can't be written whole a
--- beginning is written, and the daemon goes on.
+-- how many connections it serves before it ends: as many as it is told, or more than ever come
+abbrev pub connections_of : Option ℕ → ℕ
+connections_of None = 18446744073709551615
+connections_of (Some connections) = connections
+
+-- a failed accept is told, and nothing else is printed while connections are accepted
+abbrev pub TellsAccepted : Accepted → Option (List ℕ) → Option (List ℕ) → Type 0
+TellsAccepted All old new = new ≡ old
+TellsAccepted Failed old new = WritesFront old new (codes "error: accept\n")
+
+-- what it prints at its end, and its status: its last connection was served, or an accept failed
+abbrev pub Ends : ℕ → Option (List ℕ) → Option (List ℕ) → ℕ → Type 0
+Ends connections old new status =
+    (WritesFront old new (served_line connections) × (status ≡ 0))
+    ⊎ (WritesFront old new (codes "error: accept\n") × (status ≡ 3))
+
+-- What a daemon prints by its options, with its status: it lacks memory or can't bind its path, or it listens and then
+-- ends. Of a line that can't be written whole a beginning is written, and the daemon goes on.
 abbrev pub Serves : Options → Option (List ℕ) → Option (List ℕ) → ℕ → Type 0
 Serves options old new status =
     (WritesFront old new (codes "error 12 ENOMEM\n") × (status ≡ 1))
     ⊎ ((WritesFront old new (codes "error: socket\n") × (status ≡ 3))
     ⊎ ((listening : Option (List ℕ)) × WritesFront old listening (listening_line (string_bytes options.path))
-    × ((status ≡ 0) ⊎ (status ≡ 3))))
+    × Ends (connections_of options.accept) listening new status))
 
 -- What is printed, and the status. What is refused of the words is told on standard error, and nothing is printed;
 -- nothing else is told there.

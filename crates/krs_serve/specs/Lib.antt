@@ -1,4 +1,5 @@
 pub mod Clock
+pub mod CommandLine
 pub mod Choice
 pub mod Daemon
 pub mod Sessions

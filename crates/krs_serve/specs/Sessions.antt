@@ -1,13 +1,25 @@
 -- What many sessions at once did, each on a seat of its own.
-use Rattle.std.specs.Prelude.{ℕ, List, ◌-◌}
+use Rattle.std.specs.Prelude.{ℕ, List, ◌≢◌, ◌≤◌, ◌+◌, ◌-◌}
 use Rattle.krs_types.specs.declared.event.Event.{Event}
+use Rattle.krs_wire.specs.declared.fault.WireFault.TheVariants.{Memory}
 use Rattle.krs_session.specs.declared.ended.Ended.{Ended}
-use Rattle.krs_session.specs.Session.{Session}
+use Rattle.krs_session.specs.declared.ended.Ended.TheVariants.{Wire}
+use Rattle.krs_session.specs.Session.{Session, Counts, EndsBy}
 
--- From this reader, seat, clock and writer a session ended so, whatever it left of them. Its events are what its frames
--- ask, in order, and then LEAVE.
+-- what a reader and a writer have counted
+abbrev pub counts_of : {R W : Type 0} → (R → ℕ) → (R → ℕ) → (R → ℕ) → (W → ℕ) → R → W → Counts
+counts_of reads empties failed_reads failed_writes reader writer = record {
+  reads = reads reader;
+  empties = empties reader;
+  failed_reads = failed_reads reader;
+  failed_writes = failed_writes writer;
+}
+
+-- From this reader, seat, clock and writer a session of so many reads at most ended so, whatever it left of them. Its
+-- events are what its frames ask, in order, and then LEAVE. Why it ended is what its ends counted.
 pub record EndsSession {R S C W : Type 0} (gave : R → List ℕ → R → Type 0) (leads : S → List Event → S → Type 0)
-    (ticked : C → List ℕ → C → Type 0) (took : W → List ℕ → W → Type 0) (lane_of : S → ℕ) (reads : R → ℕ)
+    (ticked : C → List ℕ → C → Type 0) (took : W → List ℕ → W → Type 0) (lane_of : S → ℕ)
+    (reads empties failed_reads : R → ℕ) (failed_writes : W → ℕ) (turns : ℕ)
     (reader : R) (seat : S) (clock : C) (writer : W) (ended : Ended) : Type 0 where
   pub last_reader : R
   pub last_seat : S
@@ -16,3 +28,7 @@ pub record EndsSession {R S C W : Type 0} (gave : R → List ℕ → R → Type 
   pub session : Session (λ bytes. gave reader bytes last_reader) (λ events. leads seat events last_seat)
       (λ moments. ticked clock moments last_clock) (λ text. took writer text last_writer)
       (lane_of seat) (reads last_reader - reads reader) ended
+  pub count : EndsBy turns (counts_of reads empties failed_reads failed_writes reader writer)
+      (counts_of reads empties failed_reads failed_writes last_reader last_writer) ended
+  pub bounded : reads last_reader ≤ reads reader + turns
+  pub not_wire : ended ≢ Wire Memory

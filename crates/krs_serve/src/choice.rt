@@ -1,11 +1,14 @@
-ghost use Rattle.std.specs.Prelude.{IfErr};
+ghost use Rattle.std.specs.Prelude.{◌≡◌, IfOk, IfErr, OnErr, ℕ, List, Option, option_map, map, string_bytes};
 ghost use Rattle.std.specs.IoError.{error_kind};
-ghost use Rattle.clap.specs.Words.{kind_of};
-ghost use Rattle.krs_serve.specs.Choice.{IsUnread, Tells};
+ghost use Rattle.std.specs.Vec.Iter.{into_iter_items};
+ghost use Rattle.clap.specs.Words.{FailsBy, kind_of, fault_of, found_of, app_of};
+ghost use Rattle.krs_serve.specs.declared.choice.Choice.TheVariants.{Memory};
+ghost use Rattle.krs_serve.specs.Choice.{IsUnread, Tells, LeadsTo, choice_by};
+ghost use Rattle.krs_serve.specs.CommandLine.{Gives, Spells, daemon};
 
 use crate::options::Options;
 use clap::error::ErrorKind;
-use clap::{Arg, Command, Error, value_parser};
+use clap::{Arg, ArgMatches, Command, Error, value_parser};
 use std::alloc::{AllocError, Global};
 use std::env::Args;
 use std::io;
@@ -49,49 +52,67 @@ pub enum Choice {
 
 /// What the words lead to, the first of which is the program's name. Words that are no text are usage.
 pub fn choose(alloc: Global, words: io::Result<Args>) -> Choice
-    ensures { IfErr words (λ error. IsUnread (error_kind error) result) }
+    ensures read { IfOk words (λ words. LeadsTo (map string_bytes (into_iter_items words)) result) }
+    ensures unread { IfErr words (λ error. IsUnread (error_kind error) result) }
 {
     match words {
-        Ok(words) => choice_of_all(alloc, words),
+        Ok(words) => choice_of_all(alloc, words.collect(alloc)),
         Err(error) if error.kind() == io::ErrorKind::OutOfMemory => Choice::Memory,
         Err(_) => Choice::Usage,
     }
 }
 
-fn choice_of_all(alloc: Global, words: Args) -> Choice {
-    let words: Result<Vec<String>, AllocError> = words.collect(alloc);
+/// What all the words lead to, for which memory may be wanting.
+fn choice_of_all(alloc: Global, words: Result<Vec<String>, AllocError>) -> Choice
+    ensures words { IfOk words (λ words. LeadsTo (map string_bytes words.items) result) }
+    ensures memory { OnErr words (result ≡ Memory) }
+{
     match words {
-        Ok(words) => choice_of(alloc, words.as_slice()),
+        Ok(words) => choice_of(alloc, options_in(alloc, words.as_slice())),
         Err(_) => Choice::Memory,
     }
 }
 
-fn choice_of(alloc: Global, words: &[String]) -> Choice {
-    match options_in(alloc, words) {
+/// What was read of the words is served, or is usage; an error is told.
+fn choice_of(alloc: Global, read: Result<Option<Options>, Error>) -> Choice
+    ensures read { IfOk read (λ options. result ≡ choice_by options) }
+    ensures told { IfErr read (λ error. (text : Option (List ℕ)) × Tells (kind_of error) text result) }
+{
+    match read {
         Ok(Some(options)) => Choice::Serve(options),
         Ok(None) => Choice::Usage,
-        Err(error) => told(alloc, &error),
+        Err(error) => told(&error, format!(in alloc; "{error}").ok()),
     }
 }
 
-/// What the reader of options tells in place of reading the words.
-fn told(alloc: Global, error: &Error) -> Choice
-    ensures { Tells (kind_of error.now) result }
+/// What is told in place of what the words ask for: the text of the reader's error, if memory was there for it.
+fn told(error: &Error, text: Option<String>) -> Choice
+    ensures { Tells (kind_of error.now) (option_map string_bytes text) result }
 {
     if error.kind() == ErrorKind::OutOfMemory {
         return Choice::Memory;
     }
-    match format!(in alloc; "{error}") {
-        Ok(text) if error.use_stderr() => Choice::Refused(text),
-        Ok(text) => Choice::Shown(text),
-        Err(_) => Choice::Memory,
+    match text {
+        Some(text) if error.use_stderr() => Choice::Refused(text),
+        Some(text) => Choice::Shown(text),
+        None => Choice::Memory,
     }
 }
 
 /// The options that the words, behind the program's name, spell. An error is `clap`'s refusal of them, or the text of
 /// `--help` or `--version`.
-fn options_in(alloc: Global, words: &[String]) -> Result<Option<Options>, Error> {
+fn options_in(alloc: Global, words: &[String]) -> Result<Option<Options>, Error>
+    ensures spelled { IfOk result (Spells (map string_bytes words.now)) }
+    ensures faults { FailsBy (fault_of daemon (map string_bytes words.now)) result }
+{
     let matches = command_line(alloc)?.try_get_matches_from(words)?;
+    Ok(options_of(alloc, &matches)?)
+}
+
+/// The options that these arguments give.
+fn options_of(alloc: Global, matches: &ArgMatches<'_>) -> Result<Option<Options>, AllocError>
+    ensures { IfOk result (Gives (found_of matches.now)) }
+{
     let Some(path) = matches.get_str(SOCKET) else {
         return Ok(None);
     };
@@ -102,7 +123,9 @@ fn options_in(alloc: Global, words: &[String]) -> Result<Option<Options>, Error>
     Ok(Options::new(path.to_string(alloc)?, lanes, accept))
 }
 
-fn command_line<'a>(alloc: Global) -> Result<Command<'a>, AllocError> {
+fn command_line<'a>(alloc: Global) -> Result<Command<'a>, AllocError>
+    ensures { IfOk result (λ command. app_of command ≡ daemon) }
+{
     let socket = Arg::new(alloc, SOCKET)
         .long(SOCKET)
         .value_name("PATH")

@@ -1,4 +1,5 @@
-ghost use Rattle.std.specs.Prelude.{◌≡◌, OnErr};
+ghost use Rattle.std.specs.Prelude.{◌≡◌, ◌/◌, IfOk, OnErr};
+ghost use Rattle.std.specs.Time.{system_time_nanos};
 ghost use Rattle.krs_serve.specs.Clock.{IsKept, kept_none, kept_both};
 
 use krs_session::Clock;
@@ -22,6 +23,7 @@ impl<'r, R> SystemClock<'r, R> {
 
 /// The whole seconds of a reading, or the last answer where there is none.
 fn seconds(reading: io::Result<SystemTime>, last: u64) -> u64
+    ensures read { IfOk reading (λ time. result ≡ system_time_nanos time / 1_000_000_000) }
     ensures failed { OnErr reading (result ≡ last) }
 {
     match reading {

@@ -1,14 +1,17 @@
-ghost use Rattle.std.specs.Prelude.{IfErr};
+ghost use Rattle.std.specs.Prelude.{◌≡◌, All, IfOk, IfErr, map, string_bytes};
 ghost use Rattle.std.specs.IoError.{error_kind};
+ghost use Rattle.std.specs.Vec.Iter.{into_iter_items};
+ghost use Rattle.krs_model.specs.State.{starting_at};
+ghost use Rattle.krs_desk.specs.Sitting.{IsIdleAt, fresh_seats};
 ghost use Rattle.krs_serve.specs.declared.choice.Choice.{Choice as ChoiceIs};
-ghost use Rattle.krs_serve.specs.Choice.{IsUnread};
-ghost use Rattle.krs_serve.specs.Daemon.{Answers, Serves};
+ghost use Rattle.krs_serve.specs.Choice.{IsUnread, LeadsTo};
+ghost use Rattle.krs_serve.specs.Daemon.{Answers, Serves, connections_of};
 
 use crate::choice::{Choice, choose};
 use crate::listening::{Accepted, accept_all};
 use crate::saying::{Lines, NOT_BOUND, OUT_OF_MEMORY, USAGE, say};
 use crate::{FreeSeats, Options, seated};
-use krs_desk::Desk;
+use krs_desk::{Desk, Refused, Seat};
 use krs_store::{Seed, Store};
 use std::alloc::Global;
 use std::env::Args;
@@ -30,6 +33,7 @@ pub fn run_daemon<
     E: Write,
 >(rt: &R, alloc: Global, words: io::Result<Args>, output: &mut W, errors: &mut E) -> u8
     ensures { (choice : ChoiceIs)
+        × IfOk words (λ words. LeadsTo (map string_bytes (into_iter_items words)) choice)
         × IfErr words (λ error. IsUnread (error_kind error) choice)
         × Answers choice (W.contents output.old) (W.contents output.new)
         (E.contents errors.old) (E.contents errors.new) result }
@@ -70,6 +74,29 @@ fn answer<R: Clock + Files + Net + RandomSource + Threads + Wait + Sync, W: Writ
     }
 }
 
+/// A desk of a new store, with a seat for each lane of the options.
+fn opened(
+    rt: &impl RandomSource,
+    alloc: Global,
+    options: &Options,
+) -> Result<(Desk, Vec<Seat>), Refused>
+    ensures seats { IfOk result (λ d. d.1.items ≡ fresh_seats d.0 (starting_at 3) options.now.lanes) }
+    ensures own { IfOk result (λ d. All (IsIdleAt d.0) d.1.items) }
+    ensures empty { IfOk result (λ d. All (λ seat. seat.opening ≡ starting_at 3) d.1.items) }
+{
+    Desk::open(alloc, options.lanes, Store::seeded(alloc, seed(rt)))
+}
+
+/// How many connections are accepted before it ends.
+fn connections_for(accept: Option<u32>) -> u64
+    ensures { result ≡ connections_of accept }
+{
+    match accept {
+        Some(connections) => u64::from(connections),
+        None => u64::MAX,
+    }
+}
+
 /// Serves connections on a new store as the options say, and answers the status: docs/FORMAT.md, "The daemon,
 /// keyretaind". The memory for its seats and its lines is had before the path is bound.
 pub fn listen<R: Clock + Files + Net + RandomSource + Threads + Wait + Sync, W: Write>(
@@ -80,13 +107,12 @@ pub fn listen<R: Clock + Files + Net + RandomSource + Threads + Wait + Sync, W: 
 ) -> u8
     ensures { Serves options.now (W.contents output.old) (W.contents output.new) result }
 {
-    let store = Store::seeded(alloc, seed(rt));
-    let Ok((desk, seats)) = Desk::open(alloc, options.lanes, store) else {
+    let Ok((desk, seats)) = opened(rt, alloc, options) else {
         say(output, OUT_OF_MEMORY);
         return 1;
     };
     let path = options.path.as_str();
-    let connections = options.accept.map_or(u64::MAX, u64::from);
+    let connections = connections_for(options.accept);
     let made = seated(alloc, &desk, seats);
     let (Ok(sittings), Ok(lines)) = (made, Lines::new(alloc, path, connections)) else {
         say(output, OUT_OF_MEMORY);

@@ -1,11 +1,13 @@
-use crate::saying::say;
+ghost use Rattle.krs_serve.specs.Daemon.{TellsAccepted};
+
+use crate::saying::{NOT_ACCEPTED, say};
 use crate::{FreeSeats, serve_connection};
 use std::alloc::Global;
 use std::io::Write;
 use std::os::unix::net::UnixListener;
 use std::sync::Wait;
 use std::thread;
-use std::thread::Threads;
+use std::thread::{Scope, Threads};
 use std::time::Clock;
 
 /// How the accepting of connections ended.
@@ -18,8 +20,40 @@ pub enum Accepted {
 }
 
 /// Accepts so many connections and serves each in a worker of its own, on a free seat that it waits for. Where no
-/// worker can be started the connection is served before the next accept. A failed accept is told at once; what was
-/// accepted is served to its end either way.
+/// worker can be started the connection is served before the next accept.
+fn accept_each<'s, 'd, E, R: Threads + Wait + Clock + Sync>(
+    rt: &'s R,
+    alloc: Global,
+    listener: &UnixListener,
+    free: &'s FreeSeats<'d>,
+    connections: u64,
+    scope: &'s Scope<'s, E>,
+) -> Accepted {
+    for _ in 0..connections {
+        let sitting = free.take(rt);
+        let Ok((stream, _)) = listener.accept() else {
+            free.give(rt, sitting);
+            return Accepted::Failed;
+        };
+        let worker = move || free.give(rt, serve_connection(rt, alloc, stream, sitting));
+        if let Err(refused) = scope.spawn(worker) {
+            (refused.value)();
+        }
+    }
+    Accepted::All
+}
+
+/// Tells a failed accept, and nothing else.
+fn tell<W: Write>(accepted: Accepted, output: &mut W)
+    ensures { TellsAccepted accepted (W.contents output.old) (W.contents output.new) }
+{
+    match accepted {
+        Accepted::All => {}
+        Accepted::Failed => say(output, NOT_ACCEPTED),
+    }
+}
+
+/// Accepts so many connections. A failed accept is told at once; what was accepted is served to its end either way.
 pub fn accept_all<'d, R: Threads + Wait + Clock + Sync, W: Write>(
     rt: &R,
     alloc: Global,
@@ -27,20 +61,13 @@ pub fn accept_all<'d, R: Threads + Wait + Clock + Sync, W: Write>(
     free: &FreeSeats<'d>,
     connections: u64,
     output: &mut W,
-) -> Accepted {
-    thread::scope(thread::scope_env(), rt, |scope| {
-        for _ in 0..connections {
-            let sitting = free.take(rt);
-            let Ok((stream, _)) = listener.accept() else {
-                free.give(rt, sitting);
-                say(output, "error: accept\n");
-                return Accepted::Failed;
-            };
-            let worker = move || free.give(rt, serve_connection(rt, alloc, stream, sitting));
-            if let Err(refused) = scope.spawn(worker) {
-                (refused.value)();
-            }
-        }
-        Accepted::All
-    })
+) -> Accepted
+    ensures { TellsAccepted result (W.contents output.old) (W.contents output.new) }
+{
+    let (accepted, _output) = thread::scope(thread::scope_env(), rt, move |scope| {
+        let accepted = accept_each(rt, alloc, listener, free, connections, scope);
+        tell(accepted, output);
+        (accepted, output)
+    });
+    accepted
 }

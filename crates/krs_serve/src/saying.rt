@@ -15,6 +15,9 @@ pub const OUT_OF_MEMORY: &str = "error 12 ENOMEM\n";
 /// What is printed where the path can't be bound.
 pub const NOT_BOUND: &str = "error: socket\n";
 
+/// What is printed where a connection can't be accepted.
+pub const NOT_ACCEPTED: &str = "error: accept\n";
+
 /// Says a text. Where it can't be written whole, a beginning of it stands there, and the daemon goes on.
 pub fn say<W: Write>(output: &mut W, text: &str)
     ensures { WritesFront (W.contents output.old) (W.contents output.new) text.now }

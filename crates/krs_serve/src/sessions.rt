@@ -45,7 +45,8 @@ pub fn run_sessions<
     requires failures { All (λ entry. W.failures entry.writer < u64.MAX) list.items }
     ensures one_each { IfOk result (λ ends. vec_len ends ≡ vec_len list) }
     ensures in_order { IfOk result (λ ends. AllZip
-        (λ job ended. EndsSession R.gave D.leads C.ticked W.took D.lane_of R.reads
+        (λ job ended. EndsSession R.gave D.leads C.ticked W.took D.lane_of
+        R.reads R.empties R.failures W.failures turns
         job.0.reader job.1 job.0.clock job.0.writer ended)
         (zip list.items seats.items) ends.items) }
     ensures memory { IfErr result (λ error. error ≡ ENOMEM) }
@@ -103,7 +104,8 @@ fn serve_jobs<
         × (W.failures job.0.writer < u64.MAX)) jobs.items }
     ensures len { IfOk result (λ ends. vec_len ends ≡ vec_len jobs) }
     ensures each { IfOk result (λ ends. (i : ℕ) (d : _) (e : _) → i < vec_len jobs
-        → EndsSession R.gave D.leads C.ticked W.took D.lane_of R.reads
+        → EndsSession R.gave D.leads C.ticked W.took D.lane_of
+        R.reads R.empties R.failures W.failures turns
         (slice_index_or jobs.items i d).0.reader (slice_index_or jobs.items i d).1
         (slice_index_or jobs.items i d).0.clock (slice_index_or jobs.items i d).0.writer
         (slice_index_or ends.items i e)) }
@@ -127,7 +129,8 @@ fn serve_one<
     requires empties { R.empties job.0.reader < u64.MAX }
     requires read_failures { R.failures job.0.reader < u64.MAX }
     requires failures { W.failures job.0.writer < u64.MAX }
-    ensures { EndsSession R.gave D.leads C.ticked W.took D.lane_of R.reads
+    ensures { EndsSession R.gave D.leads C.ticked W.took D.lane_of
+        R.reads R.empties R.failures W.failures turns
         job.0.reader job.1 job.0.clock job.0.writer result }
 {
     let (entry, mut seat) = job;

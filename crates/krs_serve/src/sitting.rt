@@ -1,15 +1,17 @@
 ghost use Rattle.std.specs.Prelude.{◌≡◌, All, IfOk, vec_len};
+ghost use Rattle.krs_model.specs.State.{starting_at};
 ghost use Rattle.krs_desk.specs.Sitting.{IsIdleAt};
 
 use krs_desk::{Desk, Seat};
 use std::alloc::{AllocError, Global};
 
-/// A seat beside its desk, as it goes from one thread to another.
+/// A seat beside its desk, as it goes from one thread to another. The desk was opened with an empty store.
 #[derive(Drop)]
 pub struct Sitting<'d> {
     pub desk: &'d Desk,
     pub seat: Seat,
     pub ghost own: { IsIdleAt desk.now seat },
+    pub ghost empty: { seat.opening ≡ starting_at 3 },
 }
 
 /// Each seat beside its desk.
@@ -18,7 +20,8 @@ pub fn seated<'d>(
     desk: &'d Desk,
     seats: Vec<Seat>,
 ) -> Result<Vec<Sitting<'d>>, AllocError>
-    requires { All (IsIdleAt desk.now) seats.items }
+    requires own { All (IsIdleAt desk.now) seats.items }
+    requires empty { All (λ seat. seat.opening ≡ starting_at 3) seats.items }
     ensures { IfOk result (λ sittings. vec_len sittings ≡ vec_len seats) }
 {
     let mut left = seats;

@@ -41,6 +41,6 @@ returns-in-Ok-serve_jobs-clause-in_order g c =
     omega (arith, c.in-Ok-serve_jobs.ensures.len, ends.ok.0, jobs.ok.0) in
     let all = all_zip_at jobs.items ends.items
     (λ job ended. EndsSession g.R.Source.gave g.D.Keeper.leads g.C.Clock.ticked g.W.Sink.took g.D.Keeper.lane_of
-    g.R.Source.reads job.0.reader job.1 job.0.clock job.0.writer ended) each
+    g.R.Source.reads g.R.Source.empties g.R.Source.failures g.W.Sink.failures c.args.turns job.0.reader job.1 job.0.clock job.0.writer ended) each
     (λ i d e lt. c.in-Ok-serve_jobs.ensures.each i d e (omega (arith, lt, jobs.ok.0))) in
     rw c.in-Ok.ensures at all

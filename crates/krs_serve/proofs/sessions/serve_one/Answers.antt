@@ -7,4 +7,7 @@ returns g c = record {
   last_clock = c.run.new.clock;
   last_writer = c.run.new.writer;
   session = c.run.ensures.session;
+  count = c.run.ensures.count;
+  bounded = c.run.ensures.bounded;
+  not_wire = c.run.ensures.not_wire;
 }

@@ -1,0 +1,18 @@
+-- The seats of a new desk.
+use Rattle.std.proofs.Common.{◌≡◌, ℕ, zero, suc, All, List, refl}
+use Rattle.std.proofs.lemmas.List.Elements.{All-nil, All-push, All-same}
+use Rattle.atomic_table.specs.Seated.{TableId}
+use Rattle.krs_model.specs.State.{State}
+use Rattle.krs_desk.specs.Sitting.{Sitting, fresh_seat, fresh_seats}
+
+fresh_opened : (table : TableId) (a : State) (n : ℕ) → All (λ s. s.opening ≡ a) (fresh_seats table a n)
+fresh_opened table a zero = All-nil (λ (s : Sitting). s.opening ≡ a)
+fresh_opened table a (suc n) =
+    All-push (λ (s : Sitting). s.opening ≡ a) (fresh_seats table a n) (fresh_seat table a n) (fresh_opened table a n)
+    refl
+
+-- each seat that is dealt knows the store that the desk was opened with
+pub all_opened :
+    (table : TableId) (a : State) (n : ℕ) (xs : List Sitting) → xs ≡ fresh_seats table a n → All (λ s. s.opening ≡ a) xs
+all_opened table a n xs is =
+    All-same (λ (s : Sitting). s.opening ≡ a) xs (fresh_seats table a n) is (fresh_opened table a n)
