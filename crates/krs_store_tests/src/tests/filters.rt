@@ -1,5 +1,6 @@
 use krs_notes::{Filter, FilterEntry, KeyEvent, Record, passes};
 use krs_types::Errno;
+use std::alloc::{AllocError, Global};
 use std::test::Fail;
 
 /// An entry for the subtypes of word 0.
@@ -52,12 +53,23 @@ const UPDATES: [(u32, u32, u32, u32, bool); 12] = [
     (1, 0, 0x800, 0b10, false),
 ];
 
+/// A filter of one entry.
+fn filter_of(alloc: Global, entry: FilterEntry) -> Result<Result<Filter, Errno>, AllocError> {
+    let entries = Vec::from_array(alloc, [entry])?;
+    Ok(Filter::new(entries))
+}
+
+/// Whether a record passes a filter.
+fn lets_through(filter: &Filter, record: &Record) -> bool {
+    filter.passes(record)
+}
+
 #[test]
 fn a_filter_takes_good_entries(rt: HostRuntime) -> Result<(), Fail> {
     for (note_type, info_filter, info_mask, good) in ENTRIES {
-        let one = [entry(note_type, info_filter, info_mask, 2)].to_vec(rt.alloc())?;
+        let made = filter_of(rt.alloc(), entry(note_type, info_filter, info_mask, 2))?;
         assert_eq!(rt;
-            Filter::new(one).is_ok(),
+            made.is_ok(),
             good,
             "of {note_type:x}:{info_filter:x}:{info_mask:x}"
         );
@@ -81,15 +93,15 @@ fn a_filter_takes_1_to_16_entries(rt: HostRuntime) -> Result<(), Fail> {
 fn a_note_passes_what_asks_for_it(rt: HostRuntime) -> Result<(), Fail> {
     let update = note(KeyEvent::Updated, 9);
     for (note_type, info_filter, info_mask, subtypes, pass) in UPDATES {
-        let one = [entry(note_type, info_filter, info_mask, subtypes)].to_vec(rt.alloc())?;
-        let filter = Filter::new(one)?;
+        let entry = entry(note_type, info_filter, info_mask, subtypes);
+        let filter = filter_of(rt.alloc(), entry)??;
         assert_eq!(rt;
-            filter.passes(&update),
+            lets_through(&filter, &update),
             pass,
             "of {note_type:x}:{info_filter:x}:{info_mask:x}:{subtypes:x}"
         );
-        assert!(rt; filter.passes(&Record::Removal { watch: 9, id: 5 }));
-        assert!(rt; filter.passes(&Record::Loss));
+        assert!(rt; lets_through(&filter, &Record::Removal { watch: 9, id: 5 }));
+        assert!(rt; lets_through(&filter, &Record::Loss));
     }
     Ok(())
 }

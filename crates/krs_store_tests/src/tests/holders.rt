@@ -4,11 +4,13 @@ ghost use Rattle.krs_keys.specs.Keys.{IsOfKind};
 use krs_hold::Holders;
 use krs_keys::{Change, Content, Key, KeyTable};
 use krs_links::{Links, Seed};
-use krs_types::{Blob, Body, Desc, Errno, Kind, Name, Perm, Serial};
+use krs_types::{Blob, Body, Desc, Kind, Name, Perm, Serial};
 use std::alloc::{AllocError, Global};
+use std::process::Abort;
 use std::test::Fail;
 
-/// A table of keys and what holds them.
+/// A table of keys and what holds them, behind calls that promise nothing: a test knows nothing of them but what they
+/// answer.
 #[derive(Drop)]
 struct Held {
     keys: KeyTable,
@@ -29,38 +31,92 @@ impl Held {
         }
     }
 
-    /// A key that nothing holds.
-    fn make(&mut self, key: Key) -> Result<u32, AllocError>
-        requires { IsOfKind key.name.kind key.content }
-    {
+    /// The serial of the next key, which has room among what is held.
+    fn next(&mut self) -> Result<u32, AllocError> {
         let serial = Serial::new(self.keys.next());
-        self.holders.made(serial).map_err(no_memory)?;
-        let _ = self.keys.insert(key).map_err(no_memory)?;
-        Ok(serial.number())
+        match self.holders.made(serial) {
+            Ok(()) => Ok(serial.number()),
+            Err(_) => Err(AllocError),
+        }
     }
 
-    /// A key that a keyring links.
-    fn make_in(&mut self, ring: u32, name: Name, key: Key) -> Result<u32, AllocError>
+    fn insert(&mut self, key: Key) -> Result<(), AllocError>
         requires { IsOfKind key.name.kind key.content }
     {
-        let serial = Serial::new(self.keys.next());
-        self.holders.made(serial).map_err(no_memory)?;
-        let displaced = self
-            .keys
-            .insert_linked(Serial::new(ring), name, key)
-            .map_err(no_memory)?;
-        self.hold(serial.number());
+        match self.keys.insert(key) {
+            Ok(_) => Ok(()),
+            Err(_) => Err(AllocError),
+        }
+    }
+
+    fn insert_in(&mut self, ring: u32, name: Name, key: Key) -> Result<Option<Serial>, AllocError>
+        requires { IsOfKind key.name.kind key.content }
+    {
+        match self.keys.insert_linked(Serial::new(ring), name, key) {
+            Ok(displaced) => Ok(displaced),
+            Err(_) => Err(AllocError),
+        }
+    }
+
+    /// A key of this number in its description that nothing holds.
+    fn make(&mut self, alloc: Global, kind: Kind, number: u32) -> Result<u32, AllocError> {
+        let serial = self.next()?;
+        self.insert(key(alloc, kind, number)?)?;
+        Ok(serial)
+    }
+
+    /// The same that a keyring links.
+    fn make_in(
+        &mut self,
+        alloc: Global,
+        ring: u32,
+        kind: Kind,
+        number: u32,
+    ) -> Result<u32, AllocError> {
+        let serial = self.next()?;
+        let link = name(alloc, kind, number)?;
+        let displaced = self.insert_in(ring, link, key(alloc, kind, number)?)?;
+        self.hold(serial);
         self.holders.let_go_of(displaced);
-        Ok(serial.number())
+        Ok(serial)
     }
 
     fn has(&self, serial: u32) -> bool {
         self.keys.get(Serial::new(serial)).is_some()
     }
-}
 
-fn no_memory(_errno: Errno) -> AllocError {
-    AllocError
+    /// Which of the keys 3, 4 and 5 are there.
+    fn has_each(&self) -> [bool; 3] {
+        [self.has(3), self.has(4), self.has(5)]
+    }
+
+    fn len(&self) -> usize {
+        self.keys.len()
+    }
+
+    fn let_go(&mut self, serial: u32) {
+        self.holders.let_go(Serial::new(serial));
+    }
+
+    fn sweep(&mut self) {
+        self.holders.sweep(&mut self.keys);
+    }
+
+    fn release(&mut self, serial: u32) {
+        self.holders.release(&mut self.keys, Serial::new(serial));
+    }
+
+    /// Takes all links of a keyring.
+    fn clear(&mut self, serial: u32) {
+        let (ring, change) = (Serial::new(serial), Change::Cleared);
+        self.holders.let_go_taken(&self.keys, ring, &change);
+        self.keys.set(ring, change);
+    }
+
+    /// Makes room for a key, which is not used.
+    fn has_made(&mut self, serial: u32) -> bool {
+        self.holders.made(Serial::new(serial)).is_ok()
+    }
 }
 
 fn name(alloc: Global, kind: Kind, number: u32) -> Result<Name, AllocError>
@@ -103,55 +159,66 @@ fn key(alloc: Global, kind: Kind, number: u32) -> Result<Key, AllocError>
 }
 
 /// Keyring 3, attached, links keyring 4, which links key 5. Key 5 is attached too.
+fn fill(held: &mut Held, alloc: Global) -> Result<(), AllocError> {
+    let ring = held.make(alloc, Kind::Keyring, 3)?;
+    held.hold(ring);
+    let nested = held.make_in(alloc, ring, Kind::Keyring, 4)?;
+    let leaf = held.make_in(alloc, nested, Kind::User, 5)?;
+    held.hold(leaf);
+    Ok(())
+}
+
 fn three(alloc: Global) -> Result<Held, AllocError> {
     let mut held = Held::new(alloc);
-    let ring = held.make(key(alloc, Kind::Keyring, 3)?)?;
-    held.hold(ring);
-    let nested = held.make_in(
-        ring,
-        name(alloc, Kind::Keyring, 4)?,
-        key(alloc, Kind::Keyring, 4)?,
-    )?;
-    let leaf = held.make_in(
-        nested,
-        name(alloc, Kind::User, 5)?,
-        key(alloc, Kind::User, 5)?,
-    )?;
-    held.hold(leaf);
+    fill(&mut held, alloc)?;
     Ok(held)
+}
+
+fn check_holds(rt: &impl Abort, held: &mut Held) -> Result<(), Fail> {
+    held.sweep();
+    assert!(rt; held.has_each() == [true, true, true]);
+    // The keyring is let go of and held again before the sweep.
+    held.let_go(3);
+    held.hold(3);
+    held.sweep();
+    assert!(rt; held.has_each() == [true, true, true]);
+    // Keyring 3 goes with keyring 4, and key 5 stays attached.
+    held.release(3);
+    assert!(rt; held.has_each() == [false, false, true]);
+    held.release(5);
+    assert!(rt; held.len() == 0);
+    Ok(())
 }
 
 #[test]
 fn what_nothing_holds_goes(rt: HostRuntime) -> Result<(), Fail> {
-    let alloc = rt.alloc();
-    let mut held = three(alloc)?;
-    held.holders.sweep(&mut held.keys);
-    assert!(rt; held.has(3) && held.has(4) && held.has(5));
-    // The keyring is let go of and held again before the sweep.
-    held.holders.let_go(Serial::new(3));
-    held.hold(3);
-    held.holders.sweep(&mut held.keys);
-    assert!(rt; held.has(3) && held.has(4) && held.has(5));
-    // Keyring 3 goes with keyring 4, and key 5 stays attached.
-    held.holders.release(&mut held.keys, Serial::new(3));
-    assert!(rt; !held.has(3) && !held.has(4) && held.has(5));
-    held.holders.release(&mut held.keys, Serial::new(5));
-    assert!(rt; held.keys.len() == 0);
+    let mut held = three(rt.alloc())?;
+    check_holds(&rt, &mut held)
+}
+
+fn check_clear(rt: &impl Abort, held: &mut Held) -> Result<(), Fail> {
+    held.clear(4);
+    held.sweep();
+    assert!(rt; held.len() == 3);
+    held.release(5);
+    assert!(rt; held.has_each() == [true, true, false]);
     Ok(())
 }
 
 #[test]
 fn a_keyring_is_cleared(rt: HostRuntime) -> Result<(), Fail> {
-    let alloc = rt.alloc();
-    let mut held = three(alloc)?;
-    let ring = Serial::new(4);
-    let change = Change::Cleared;
-    held.holders.let_go_taken(&held.keys, ring, &change);
-    held.keys.set(ring, change);
-    held.holders.sweep(&mut held.keys);
-    assert!(rt; held.keys.len() == 3);
-    held.holders.release(&mut held.keys, Serial::new(5));
-    assert!(rt; held.has(3) && held.has(4) && !held.has(5));
+    let mut held = three(rt.alloc())?;
+    check_clear(&rt, &mut held)
+}
+
+fn check_displaced(rt: &impl Abort, alloc: Global, held: &mut Held) -> Result<(), Fail> {
+    // Room that is not used, and is used later.
+    assert!(rt; held.has_made(6));
+    held.sweep();
+    held.let_go(5);
+    let other = held.make_in(alloc, 4, Kind::User, 5)?;
+    held.sweep();
+    assert!(rt; other == 6 && held.has(6) && !held.has(5) && held.len() == 3);
     Ok(())
 }
 
@@ -159,13 +226,20 @@ fn a_keyring_is_cleared(rt: HostRuntime) -> Result<(), Fail> {
 fn a_displaced_key_goes(rt: HostRuntime) -> Result<(), Fail> {
     let alloc = rt.alloc();
     let mut held = three(alloc)?;
-    // Room that is not used, and is used later.
-    assert!(rt; held.holders.made(Serial::new(6)) == Ok(()));
-    held.holders.sweep(&mut held.keys);
-    held.holders.let_go(Serial::new(5));
-    let other = held.make_in(4, name(alloc, Kind::User, 5)?, key(alloc, Kind::User, 5)?)?;
-    held.holders.sweep(&mut held.keys);
-    assert!(rt; other == 6 && held.has(6) && !held.has(5) && held.keys.len() == 3);
+    check_displaced(&rt, alloc, &mut held)
+}
+
+fn check_chain(rt: &impl Abort, alloc: Global, held: &mut Held) -> Result<(), Fail> {
+    let head = held.make(alloc, Kind::Keyring, 0)?;
+    held.hold(head);
+    let mut ring = head;
+    for number in 1..10_000u32 {
+        ring = held.make_in(alloc, ring, Kind::Keyring, number)?;
+    }
+    held.sweep();
+    assert!(rt; held.len() == 10_000);
+    held.release(head);
+    assert!(rt; held.len() == 0);
     Ok(())
 }
 
@@ -173,17 +247,19 @@ fn a_displaced_key_goes(rt: HostRuntime) -> Result<(), Fail> {
 fn a_chain_of_keyrings_goes(rt: HostRuntime) -> Result<(), Fail> {
     let alloc = rt.alloc();
     let mut held = Held::new(alloc);
-    let head = held.make(key(alloc, Kind::Keyring, 0)?)?;
-    held.hold(head);
-    let mut ring = head;
-    for number in 1..10_000u32 {
-        let link = name(alloc, Kind::Keyring, number)?;
-        ring = held.make_in(ring, link, key(alloc, Kind::Keyring, number)?)?;
+    check_chain(&rt, alloc, &mut held)
+}
+
+fn check_fan(rt: &impl Abort, alloc: Global, held: &mut Held) -> Result<(), Fail> {
+    let ring = held.make(alloc, Kind::Keyring, 0)?;
+    held.hold(ring);
+    for number in 1..10_001u32 {
+        let _ = held.make_in(alloc, ring, Kind::User, number)?;
     }
-    held.holders.sweep(&mut held.keys);
-    assert!(rt; held.keys.len() == 10_000);
-    held.holders.release(&mut held.keys, Serial::new(head));
-    assert!(rt; held.keys.len() == 0);
+    held.sweep();
+    assert!(rt; held.len() == 10_001);
+    held.release(ring);
+    assert!(rt; held.len() == 0);
     Ok(())
 }
 
@@ -191,15 +267,5 @@ fn a_chain_of_keyrings_goes(rt: HostRuntime) -> Result<(), Fail> {
 fn all_that_a_keyring_links_goes(rt: HostRuntime) -> Result<(), Fail> {
     let alloc = rt.alloc();
     let mut held = Held::new(alloc);
-    let ring = held.make(key(alloc, Kind::Keyring, 0)?)?;
-    held.hold(ring);
-    for number in 1..10_001u32 {
-        let link = name(alloc, Kind::User, number)?;
-        let _ = held.make_in(ring, link, key(alloc, Kind::User, number)?)?;
-    }
-    held.holders.sweep(&mut held.keys);
-    assert!(rt; held.keys.len() == 10_001);
-    held.holders.release(&mut held.keys, Serial::new(ring));
-    assert!(rt; held.keys.len() == 0);
-    Ok(())
+    check_fan(&rt, alloc, &mut held)
 }

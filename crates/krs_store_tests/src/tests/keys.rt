@@ -5,6 +5,7 @@ use krs_keys::{Change, Content, Key, KeyTable};
 use krs_links::{Links, Seed};
 use krs_types::{Blob, Body, Desc, Errno, Kind, Name, Perm, Serial};
 use std::alloc::{AllocError, Global};
+use std::process::Abort;
 use std::test::Fail;
 
 fn name(alloc: Global, kind: Kind, desc: &[u8]) -> Result<Name, AllocError>
@@ -62,80 +63,137 @@ pub(super) fn body(alloc: Global, bytes: &[u8]) -> Result<Body, AllocError> {
 }
 
 /// Owner, group, mask, expiry and whether it was revoked.
-fn told(key: Option<&Key>) -> Option<(u32, u32, u32, Option<u64>, bool)> {
+type Told = (u32, u32, u32, Option<u64>, bool);
+
+fn told(key: Option<&Key>) -> Option<Told> {
     match key {
         Some(key) => Some((key.uid, key.gid, key.perm.bits(), key.expiry, key.revoked)),
         None => None,
     }
 }
 
-fn links_some(key: Option<&Key>) -> bool {
-    match key {
-        Some(key) => key.content.links_some(),
-        None => false,
+/// A table, behind calls that promise nothing: a test knows nothing of it but what they answer.
+#[derive(Drop)]
+struct Table {
+    alloc: Global,
+    keys: KeyTable,
+}
+
+impl Table {
+    fn starting_at(alloc: Global, next: u32) -> Table {
+        Table {
+            alloc,
+            keys: KeyTable::starting_at(alloc, next),
+        }
+    }
+
+    fn insert(&mut self, kind: Kind, desc: &[u8]) -> Result<Result<Serial, Errno>, AllocError> {
+        let key = key(self.alloc, kind, desc)?;
+        Ok(self.keys.insert(key))
+    }
+
+    /// The user key `b`, and one of this kind and description.
+    fn insert_two(&mut self, kind: Kind, desc: &[u8]) -> Result<Result<Serial, Errno>, AllocError> {
+        let first = key(self.alloc, Kind::User, b"b")?;
+        let second = key(self.alloc, kind, desc)?;
+        Ok(self.keys.insert_two(first, second))
+    }
+
+    /// The user key `a`, which a keyring links.
+    fn insert_linked(&mut self, ring: Serial) -> Result<Result<Option<Serial>, Errno>, AllocError> {
+        let link = name(self.alloc, Kind::User, b"a")?;
+        let made = key(self.alloc, Kind::User, b"a")?;
+        Ok(self.keys.insert_linked(ring, link, made))
+    }
+
+    fn set(&mut self, serial: Serial, change: Change) {
+        self.keys.set(serial, change);
+    }
+
+    /// Removes a key, and tells of it.
+    fn remove(&mut self, serial: Serial) -> Option<Told> {
+        told(self.keys.remove(serial).as_ref())
+    }
+
+    fn told(&self, serial: Serial) -> Option<Told> {
+        told(self.keys.get(serial))
+    }
+
+    fn links_some(&self, serial: Serial) -> bool {
+        match self.keys.get(serial) {
+            Some(key) => key.content.links_some(),
+            None => false,
+        }
+    }
+
+    fn next(&self) -> u32 {
+        self.keys.next()
+    }
+
+    fn len(&self) -> usize {
+        self.keys.len()
     }
 }
 
-#[test]
-fn keys_rise_and_change(rt: HostRuntime) -> Result<(), Fail> {
-    let alloc = rt.alloc();
-    let mut keys = KeyTable::starting_at(alloc, 3);
-    assert!(rt; keys.insert(key(alloc, Kind::Keyring, b"ring")?) == Ok(Serial::new(3)));
-    assert!(rt; keys.insert(key(alloc, Kind::User, b"a")?) == Ok(Serial::new(4)));
-    let first = key(alloc, Kind::User, b"b")?;
-    let second = key(alloc, Kind::Logon, b"c:d")?;
-    assert!(rt; keys.insert_two(first, second) == Ok(Serial::new(5)));
+fn check_changes(rt: &impl Abort, alloc: Global, keys: &mut Table) -> Result<(), Fail> {
+    assert!(rt; keys.insert(Kind::Keyring, b"ring")? == Ok(Serial::new(3)));
+    assert!(rt; keys.insert(Kind::User, b"a")? == Ok(Serial::new(4)));
+    assert!(rt; keys.insert_two(Kind::Logon, b"c:d")? == Ok(Serial::new(5)));
     assert!(rt; keys.next() == 7);
     let four = Serial::new(4);
-    keys.set(
-        four,
-        Change::Owner {
-            uid: 7,
-            gid: 4_294_967_295,
-        },
-    );
+    let (uid, gid) = (7, 4_294_967_295);
+    keys.set(four, Change::Owner { uid, gid });
     keys.set(four, Change::Mask(Perm::OF_UID));
     keys.set(four, Change::Expiry(Some(60)));
-    assert!(rt; told(keys.get(four)) == Some((7, 100, 0x1f3f_0000, Some(60), false)));
+    assert!(rt; keys.told(four) == Some((7, 100, 0x1f3f_0000, Some(60), false)));
     keys.set(four, Change::Payload(body(alloc, b"t4")?));
-    assert!(rt; told(keys.get(four)) == Some((7, 100, 0x1f3f_0000, None, false)));
+    assert!(rt; keys.told(four) == Some((7, 100, 0x1f3f_0000, None, false)));
     keys.set(four, Change::Revoked);
-    assert!(rt; told(keys.get(four)) == Some((7, 100, 0x1f3f_0000, None, true)));
-    assert!(rt; told(keys.remove(four).as_ref()) == Some((7, 100, 0x1f3f_0000, None, true)));
-    assert!(rt; told(keys.get(four)).is_none());
+    assert!(rt; keys.told(four) == Some((7, 100, 0x1f3f_0000, None, true)));
+    assert!(rt; keys.remove(four) == Some((7, 100, 0x1f3f_0000, None, true)));
+    assert!(rt; keys.told(four).is_none());
     assert!(rt; keys.next() == 7 && keys.len() == 3);
     Ok(())
 }
 
 #[test]
-fn a_link_displaces_its_match(rt: HostRuntime) -> Result<(), Fail> {
+fn keys_rise_and_change(rt: HostRuntime) -> Result<(), Fail> {
     let alloc = rt.alloc();
+    let mut keys = Table::starting_at(alloc, 3);
+    check_changes(&rt, alloc, &mut keys)
+}
+
+fn check_links(rt: &impl Abort, keys: &mut Table) -> Result<(), Fail> {
     let ring = Serial::new(3);
-    let mut keys = KeyTable::starting_at(alloc, 3);
-    assert!(rt; keys.insert(key(alloc, Kind::Keyring, b"ring")?) == Ok(ring));
+    assert!(rt; keys.insert(Kind::Keyring, b"ring")? == Ok(ring));
     let rows = [(None, 5u32), (Some(Serial::new(4)), 6)];
     for (displaced, next) in rows {
-        let link = name(alloc, Kind::User, b"a")?;
-        let made = key(alloc, Kind::User, b"a")?;
-        assert!(rt; keys.insert_linked(ring, link, made) == Ok(displaced));
+        assert!(rt; keys.insert_linked(ring)? == Ok(displaced));
         assert!(rt; keys.next() == next);
     }
-    assert!(rt; links_some(keys.get(ring)));
-    assert!(rt; !links_some(keys.get(Serial::new(5))));
+    assert!(rt; keys.links_some(ring));
+    assert!(rt; !keys.links_some(Serial::new(5)));
     assert!(rt; keys.next() == 6);
     Ok(())
 }
 
 #[test]
-fn the_last_serial(rt: HostRuntime) -> Result<(), Fail> {
-    let alloc = rt.alloc();
-    let mut keys = KeyTable::starting_at(alloc, 2_147_483_647);
-    let first = key(alloc, Kind::User, b"a")?;
-    let second = key(alloc, Kind::User, b"b")?;
-    assert!(rt; keys.insert_two(first, second) == Err(Errno::ENOSPC));
+fn a_link_displaces_its_match(rt: HostRuntime) -> Result<(), Fail> {
+    let mut keys = Table::starting_at(rt.alloc(), 3);
+    check_links(&rt, &mut keys)
+}
+
+fn check_last_serial(rt: &impl Abort, keys: &mut Table) -> Result<(), Fail> {
+    assert!(rt; keys.insert_two(Kind::User, b"a")? == Err(Errno::ENOSPC));
     let last = Serial::new(2_147_483_647);
-    assert!(rt; keys.insert(key(alloc, Kind::User, b"a")?) == Ok(last));
-    assert!(rt; keys.insert(key(alloc, Kind::User, b"b")?) == Err(Errno::ENOSPC));
+    assert!(rt; keys.insert(Kind::User, b"a")? == Ok(last));
+    assert!(rt; keys.insert(Kind::User, b"b")? == Err(Errno::ENOSPC));
     assert!(rt; keys.next() == 2_147_483_648);
     Ok(())
+}
+
+#[test]
+fn the_last_serial(rt: HostRuntime) -> Result<(), Fail> {
+    let mut keys = Table::starting_at(rt.alloc(), 2_147_483_647);
+    check_last_serial(&rt, &mut keys)
 }

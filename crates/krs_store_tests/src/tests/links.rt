@@ -1,170 +1,246 @@
-ghost use Rattle.std.specs.Prelude.{◌≤◌, length};
-
 use krs_links::{Links, Seed};
 use krs_types::{Blob, Desc, Errno, Kind, Name, Serial};
-use std::alloc::Global;
+use std::alloc::{AllocError, Global};
 use std::process::Abort;
 use std::test::Fail;
 
-fn name(alloc: Global, kind: Kind, desc: &[u8]) -> Result<Name, Fail>
-    requires { length desc.now ≤ 4095 }
-{
-    let bytes = Blob::from_slice(alloc, desc)?;
+/// A name. Its description is short, as those of these tests are.
+fn name(alloc: Global, kind: Kind, desc: &[u8]) -> Result<Name, AllocError> {
+    let desc = Blob::from_slice(alloc, desc)?;
+    if desc.as_slice().len() > 4095 {
+        return Err(AllocError);
+    }
     Ok(Name {
         kind,
-        desc: Desc::new(bytes),
+        desc: Desc::new(desc),
     })
 }
 
+/// Links, behind calls that promise nothing: a test knows nothing of them but what they answer.
+#[derive(Drop)]
+struct Linked {
+    alloc: Global,
+    links: Links,
+}
+
+impl Linked {
+    fn new(alloc: Global) -> Linked {
+        Linked {
+            alloc,
+            links: Links::new(alloc, Seed::Fixed),
+        }
+    }
+
+    fn put(
+        &mut self,
+        kind: Kind,
+        desc: &[u8],
+        number: u32,
+    ) -> Result<Result<Option<Serial>, Errno>, AllocError> {
+        let name = name(self.alloc, kind, desc)?;
+        Ok(self.links.put(name, Serial::new(number)))
+    }
+
+    fn find(&self, kind: Kind, desc: &[u8]) -> Result<Option<Serial>, AllocError> {
+        let name = name(self.alloc, kind, desc)?;
+        Ok(self.links.find(&name))
+    }
+
+    fn remove(&mut self, kind: Kind, desc: &[u8]) -> Result<Result<Serial, Errno>, AllocError> {
+        let name = name(self.alloc, kind, desc)?;
+        Ok(self.links.remove(&name))
+    }
+
+    fn clear(&mut self) {
+        self.links.clear();
+    }
+
+    fn len(&self) -> usize {
+        self.links.len()
+    }
+
+    fn is_full(&self) -> bool {
+        self.links.is_full()
+    }
+
+    /// Whether the name at a place is this one.
+    fn is_named(&self, place: usize, kind: Kind, desc: &[u8]) -> bool {
+        match self.links.name_at(place) {
+            Some(name) => name.kind.is(kind) && name.desc.as_slice() == desc,
+            None => false,
+        }
+    }
+
+    fn has_name_at(&self, place: usize) -> bool {
+        self.links.name_at(place).is_some()
+    }
+
+    /// Whether the key that is linked at a place is this one, and its name has this place.
+    fn is_at(&self, place: usize, number: u32) -> bool {
+        let serial = Serial::new(number);
+        match self.links.name_at(place) {
+            Some(name) => {
+                self.links.serial_at(place) == Some(serial)
+                    && self.links.place_of(name) == Some(place)
+            }
+            None => false,
+        }
+    }
+
+    /// Whether no key is linked at a place.
+    fn ends_at(&self, place: usize) -> bool {
+        self.links.serial_at(place).is_none() && self.links.name_at(place).is_none()
+    }
+
+    fn remove_at(&mut self, place: usize) -> Option<Serial> {
+        self.links.remove_at(place)
+    }
+
+    fn rings(&self) -> usize {
+        self.links.rings().len()
+    }
+
+    /// The number of the nested keyring at a place, or 0 where there are not as many.
+    fn ring_at(&self, place: usize) -> u32 {
+        match self.links.rings().get(place) {
+            Some(ring) => ring.number(),
+            None => 0,
+        }
+    }
+}
+
 /// The serials of the links, and those of the nested keyrings, in link order.
-fn expect(rt: &impl Abort, links: &Links, all: &[u32], rings: &[u32]) {
+fn expect(rt: &impl Abort, links: &Linked, all: &[u32], rings: &[u32]) {
     assert_eq!(rt; links.len(), all.len(), "{all:?}");
     for (place, serial) in all.iter().enumerate() {
-        let serial = Serial::new(*serial);
-        assert_eq!(rt; links.serial_at(place), Some(serial), "of {all:?}");
-        assert!(rt; links.has(serial), "of {all:?}");
+        assert!(rt; links.is_at(place, *serial), "of {all:?}");
     }
-    assert!(rt; links.serial_at(all.len()).is_none() && !links.has(Serial::new(0)));
-    assert_eq!(rt; links.rings().len(), rings.len(), "{rings:?}");
-    for (ring, serial) in links.rings().iter().zip(rings) {
-        assert_eq!(rt; ring.number(), *serial, "of {rings:?}");
+    assert!(rt; links.ends_at(all.len()), "of {all:?}");
+    assert_eq!(rt; links.rings(), rings.len(), "{rings:?}");
+    for (place, serial) in rings.iter().enumerate() {
+        assert_eq!(rt; links.ring_at(place), *serial, "of {rings:?}");
     }
 }
 
 /// keyrings(7): a keyring links keys of several types, and a description stands for each type by itself.
-#[test]
-fn finds_by_type_and_description(rt: HostRuntime) -> Result<(), Fail> {
-    let alloc = rt.alloc();
-    let mut links = Links::new(alloc, Seed::Fixed);
-    expect(&rt, &links, &[], &[]);
-    for (number, kind) in [(5, Kind::User), (6, Kind::Keyring), (7, Kind::Logon)] {
-        let new = name(alloc, kind, b"s:x".as_slice())?;
-        assert!(rt; links.find(&new).is_none(), "{kind:?}");
-        assert_eq!(rt; links.put(new, Serial::new(number)), Ok(None), "{kind:?}");
+fn check_finds(rt: &impl Abort, links: &mut Linked) -> Result<(), Fail> {
+    expect(rt, links, &[], &[]);
+    let rows = [(5, Kind::User), (6, Kind::Keyring), (7, Kind::Logon)];
+    for (number, kind) in rows {
+        assert!(rt; links.find(kind, b"s:x")?.is_none(), "{kind:?}");
+        assert_eq!(rt; links.put(kind, b"s:x", number)?, Ok(None), "{kind:?}");
     }
-    expect(&rt, &links, &[5, 6, 7], &[6]);
-    for (number, kind) in [(5, Kind::User), (6, Kind::Keyring), (7, Kind::Logon)] {
-        let known = name(alloc, kind, b"s:x".as_slice())?;
-        assert_eq!(rt; links.find(&known), Some(Serial::new(number)), "{kind:?}");
+    expect(rt, links, &[5, 6, 7], &[6]);
+    for (number, kind) in rows {
+        let found = links.find(kind, b"s:x")?;
+        assert_eq!(rt; found, Some(Serial::new(number)), "{kind:?}");
     }
-    assert_eq!(rt;
-        links.find(&name(alloc, Kind::User, b"s:y".as_slice())?),
-        None
-    );
-    let first = links.name_at(0).ok_or("no first link")?;
-    assert!(rt; first.kind.is(Kind::User) && first.desc.as_slice() == b"s:x".as_slice());
-    assert!(rt; links.name_at(2).is_some() && links.name_at(3).is_none() && !links.is_full());
+    assert_eq!(rt; links.find(Kind::User, b"s:y")?, None);
+    assert!(rt; links.is_named(0, Kind::User, b"s:x"));
+    assert!(rt; links.has_name_at(2) && !links.has_name_at(3) && !links.is_full());
     Ok(())
 }
 
+#[test]
+fn finds_by_type_and_description(rt: HostRuntime) -> Result<(), Fail> {
+    let mut links = Linked::new(rt.alloc());
+    check_finds(&rt, &mut links)
+}
+
+/// A key that is linked: its kind, description and number, what it displaces, and the links and nested keyrings then.
+type Row<'a> = (Kind, &'a [u8], u32, Option<u32>, &'a [u32], &'a [u32]);
+
+#[rattlefmt::skip]
+const PLACES: [Row<'static>; 7] = [
+    (Kind::Keyring, b"a", 5, None, &[5], &[5]),
+    (Kind::User, b"a", 6, None, &[5, 6], &[5]),
+    (Kind::Keyring, b"b", 7, None, &[5, 6, 7], &[5, 7]),
+    (Kind::Keyring, b"c", 8, None, &[5, 6, 7, 8], &[5, 7, 8]),
+    (Kind::User, b"a", 9, Some(6), &[5, 9, 7, 8], &[5, 7, 8]),
+    (Kind::Keyring, b"b", 10, Some(7), &[5, 9, 10, 8], &[5, 10, 8]),
+    (Kind::Keyring, b"a", 5, Some(5), &[5, 9, 10, 8], &[5, 10, 8]),
+];
+
+/// A name that is unlinked from those: its kind, what that answers, and the links and nested keyrings then.
+#[rattlefmt::skip]
+const REMOVALS: [(Kind, Result<u32, Errno>, &[u32], &[u32]); 3] = [
+    (Kind::Keyring, Ok(5), &[9, 10, 8], &[10, 8]),
+    (Kind::Keyring, Err(Errno::ENOENT), &[9, 10, 8], &[10, 8]),
+    (Kind::User, Ok(9), &[10, 8], &[10, 8]),
+];
+
 /// A link of equal name takes the place of the other. What is linked anew after its removal stands last.
+fn check_places(rt: &impl Abort, links: &mut Linked) -> Result<(), Fail> {
+    for (kind, desc, number, displaced, all, rings) in PLACES {
+        let put = links.put(kind, desc, number)?;
+        assert_eq!(rt; put, Ok(displaced.map(Serial::new)), "{number}");
+        expect(rt, links, all, rings);
+    }
+    for (kind, removed, all, rings) in REMOVALS {
+        let found = links.remove(kind, b"a")?;
+        assert_eq!(rt; found, removed.map(Serial::new), "of {all:?}");
+        expect(rt, links, all, rings);
+    }
+    assert_eq!(rt; links.put(Kind::Keyring, b"a", 11)?, Ok(None));
+    expect(rt, links, &[10, 8, 11], &[10, 8, 11]);
+    assert_eq!(rt; links.remove_at(3), None);
+    assert_eq!(rt; links.remove_at(1), Some(Serial::new(8)));
+    expect(rt, links, &[10, 11], &[10, 11]);
+    links.clear();
+    expect(rt, links, &[], &[]);
+    assert_eq!(rt; links.put(Kind::User, b"a", 12)?, Ok(None));
+    expect(rt, links, &[12], &[]);
+    Ok(())
+}
+
 #[test]
 fn keeps_places(rt: HostRuntime) -> Result<(), Fail> {
-    let alloc = rt.alloc();
-    let mut links = Links::new(alloc, Seed::Fixed);
-    let rows: [(Kind, &[u8], u32, Option<u32>, &[u32], &[u32]); 7] = [
-        (Kind::Keyring, b"a".as_slice(), 5, None, &[5], &[5]),
-        (Kind::User, b"a".as_slice(), 6, None, &[5, 6], &[5]),
-        (Kind::Keyring, b"b".as_slice(), 7, None, &[5, 6, 7], &[5, 7]),
-        (
-            Kind::Keyring,
-            b"c".as_slice(),
-            8,
-            None,
-            &[5, 6, 7, 8],
-            &[5, 7, 8],
-        ),
-        (
-            Kind::User,
-            b"a".as_slice(),
-            9,
-            Some(6),
-            &[5, 9, 7, 8],
-            &[5, 7, 8],
-        ),
-        (
-            Kind::Keyring,
-            b"b".as_slice(),
-            10,
-            Some(7),
-            &[5, 9, 10, 8],
-            &[5, 10, 8],
-        ),
-        (
-            Kind::Keyring,
-            b"a".as_slice(),
-            5,
-            Some(5),
-            &[5, 9, 10, 8],
-            &[5, 10, 8],
-        ),
-    ];
-    for (kind, desc, number, displaced, all, rings) in rows {
-        if desc.len() > 4095 {
-            continue;
-        }
-        let put = links.put(name(alloc, kind, desc)?, Serial::new(number));
-        assert_eq!(rt; put, Ok(displaced.map(Serial::new)), "{number}");
-        expect(&rt, &links, all, rings);
-    }
-    let ring = name(alloc, Kind::Keyring, b"a".as_slice())?;
-    let user = name(alloc, Kind::User, b"a".as_slice())?;
-    assert_eq!(rt; links.remove(&ring), Ok(Serial::new(5)));
-    expect(&rt, &links, &[9, 10, 8], &[10, 8]);
-    assert_eq!(rt; links.remove(&ring), Err(Errno::ENOENT));
-    expect(&rt, &links, &[9, 10, 8], &[10, 8]);
-    assert_eq!(rt; links.remove(&user), Ok(Serial::new(9)));
-    expect(&rt, &links, &[10, 8], &[10, 8]);
-    assert_eq!(rt; links.put(ring, Serial::new(11)), Ok(None));
-    expect(&rt, &links, &[10, 8, 11], &[10, 8, 11]);
-    links.clear();
-    expect(&rt, &links, &[], &[]);
-    assert_eq!(rt; links.put(user, Serial::new(12)), Ok(None));
-    expect(&rt, &links, &[12], &[]);
-    Ok(())
+    let mut links = Linked::new(rt.alloc());
+    check_places(&rt, &mut links)
 }
 
 /// A link that found no memory changes nothing. Made again it is linked.
-#[test]
-fn refused_links_change_nothing(rt: HostRuntime) -> Result<(), Fail> {
-    let alloc = rt.alloc();
-    let mut links = Links::new(alloc, Seed::Fixed);
-    let ring = name(alloc, Kind::Keyring, b"a".as_slice())?;
-    match links.put(ring, Serial::new(5)) {
+fn check_refusal(rt: &impl Abort, links: &mut Linked) -> Result<(), Fail> {
+    match links.put(Kind::Keyring, b"a", 5)? {
         Ok(displaced) => assert!(rt; displaced.is_none()),
         Err(error) => {
             assert_eq!(rt; error, Errno::ENOMEM);
-            expect(&rt, &links, &[], &[]);
-            let ring = name(alloc, Kind::Keyring, b"a".as_slice())?;
-            assert_eq!(rt; links.put(ring, Serial::new(5)), Ok(None));
+            expect(rt, links, &[], &[]);
+            assert_eq!(rt; links.put(Kind::Keyring, b"a", 5)?, Ok(None));
         }
     }
-    expect(&rt, &links, &[5], &[5]);
+    expect(rt, links, &[5], &[5]);
     Ok(())
+}
+
+#[test]
+fn refused_links_change_nothing(rt: HostRuntime) -> Result<(), Fail> {
+    let mut links = Linked::new(rt.alloc());
+    check_refusal(&rt, &mut links)
 }
 
 /// A full keyring takes no new name, and a link of an equal name in the place of the other: keyctl(2), KEYCTL_LINK,
 /// "ENFILE"; profile, full keyrings.
-#[test]
-fn a_full_keyring_only_displaces(rt: HostRuntime) -> Result<(), Fail> {
-    let alloc = rt.alloc();
-    let mut links = Links::new(alloc, Seed::Fixed);
+fn check_full(rt: &impl Abort, links: &mut Linked) -> Result<(), Fail> {
     for number in 1..65_536u32 {
-        let new = name(alloc, Kind::User, &number.to_le_bytes())?;
+        let desc = number.to_le_bytes();
         assert!(rt; !links.is_full(), "{number}");
-        assert_eq!(rt; links.put(new, Serial::new(number)), Ok(None), "{number}");
+        assert_eq!(rt; links.put(Kind::User, &desc, number)?, Ok(None), "{number}");
     }
     assert!(rt; links.is_full());
     let seven = 7u32.to_le_bytes();
-    let unlike = name(alloc, Kind::Logon, &seven)?;
-    assert_eq!(rt; links.put(unlike, Serial::new(70_000)), Err(Errno::ENFILE));
-    let alike = name(alloc, Kind::User, &seven)?;
-    assert_eq!(rt;
-        links.put(alike, Serial::new(70_000)),
-        Ok(Some(Serial::new(7)))
-    );
-    let known = name(alloc, Kind::User, &seven)?;
-    assert_eq!(rt; links.find(&known), Some(Serial::new(70_000)));
+    let unlike = links.put(Kind::Logon, &seven, 70_000)?;
+    assert_eq!(rt; unlike, Err(Errno::ENFILE));
+    let alike = links.put(Kind::User, &seven, 70_000)?;
+    assert_eq!(rt; alike, Ok(Some(Serial::new(7))));
+    let known = links.find(Kind::User, &seven)?;
+    assert_eq!(rt; known, Some(Serial::new(70_000)));
     assert_eq!(rt; links.len(), 65_535);
     Ok(())
+}
+
+#[test]
+fn a_full_keyring_only_displaces(rt: HostRuntime) -> Result<(), Fail> {
+    let mut links = Linked::new(rt.alloc());
+    check_full(&rt, &mut links)
 }

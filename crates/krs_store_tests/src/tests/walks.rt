@@ -57,6 +57,20 @@ fn two_rings(alloc: Global, first: Key, second: Key) -> Result<KeyTable, Errno>
     Ok(keys)
 }
 
+/// The keyrings 3, `a`, which may expire, and 4, `b`, which may be revoked. They link nothing.
+fn keyrings(alloc: Global, expiry: Option<u64>, revoked: bool) -> Result<KeyTable, AllocError>
+    ensures fit { IfOk result (λ keys. AreFit keys.keys) }
+    ensures three { IfOk result (λ keys. is_ring (at (shown keys.keys) 3) ≡ true) }
+    ensures four { IfOk result (λ keys. is_ring (at (shown keys.keys) 4) ≡ true) }
+{
+    let first = ring(alloc, b"a", expiry, false)?;
+    let second = ring(alloc, b"b", None, revoked)?;
+    match two_rings(alloc, first, second) {
+        Ok(keys) => Ok(keys),
+        Err(_) => Err(AllocError),
+    }
+}
+
 /// A context that has no thread keyring.
 fn with_session(alloc: Global, session: Option<Serial>) -> Context {
     Context {
@@ -107,9 +121,7 @@ fn check_possession(rt: &impl Abort, alloc: Global, keys: &KeyTable, walker: &Wa
 #[test]
 fn possession_of_two_keyrings(rt: HostRuntime) -> Result<(), Fail> {
     let alloc = rt.alloc();
-    let first = ring(alloc, b"a", None, false)?;
-    let second = ring(alloc, b"b", None, false)?;
-    let keys = two_rings(alloc, first, second).map_err(|_| "no keys")?;
+    let keys = keyrings(alloc, None, false)?;
     let walker = Walker::new(alloc);
     check_possession(&rt, alloc, &keys, &walker);
     walker.room_for(2)?;
@@ -132,9 +144,7 @@ fn check_cycles(rt: &impl Abort, alloc: Global, keys: &KeyTable)
 #[test]
 fn cycles_of_two_keyrings(rt: HostRuntime) -> Result<(), Fail> {
     let alloc = rt.alloc();
-    let first = ring(alloc, b"a", None, false)?;
-    let second = ring(alloc, b"b", None, false)?;
-    let keys = two_rings(alloc, first, second).map_err(|_| "no keys")?;
+    let keys = keyrings(alloc, None, false)?;
     check_cycles(&rt, alloc, &keys);
     Ok(())
 }
@@ -173,8 +183,8 @@ fn check_searches(rt: &impl Abort, alloc: Global, keys: &KeyTable) -> Result<(),
         let session = if attached { Some(Serial::new(3)) } else { None };
         let context = with_session(alloc, session);
         let name = name(alloc, desc)?;
-        let found = walker.search(keys, &context, None, clock, Serial::new(head), &name);
-        assert!(rt; found.map(Serial::number) == answer, "{head} {desc:?}");
+        let found = found(keys, &walker, &context, clock, Serial::new(head), &name);
+        assert!(rt; found == answer, "{head} {desc:?}");
     }
     Ok(())
 }
@@ -182,9 +192,7 @@ fn check_searches(rt: &impl Abort, alloc: Global, keys: &KeyTable) -> Result<(),
 #[test]
 fn searches_of_two_keyrings(rt: HostRuntime) -> Result<(), Fail> {
     let alloc = rt.alloc();
-    let first = ring(alloc, b"a", Some(9), false)?;
-    let second = ring(alloc, b"b", None, true)?;
-    let keys = two_rings(alloc, first, second).map_err(|_| "no keys")?;
+    let keys = keyrings(alloc, Some(9), true)?;
     check_searches(&rt, alloc, &keys)?;
     Ok(())
 }
