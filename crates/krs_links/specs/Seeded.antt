@@ -1,5 +1,6 @@
--- The hasher that a seed begins with.
-use Rattle.std.specs.Hash.DefaultHasher.{initial}
+-- The hasher that a seed begins with, and what bytes hash to from it.
+use Rattle.std.specs.Prelude.{ℕ, List}
+use Rattle.std.specs.Hash.DefaultHasher.{initial, write, finish}
 use Rattle.std.specs.RandomState.{initial_hasher}
 use Rattle.std.specs.declared.hash.DefaultHasher.{DefaultHasher}
 use Rattle.krs_links.specs.declared.seed.Seed.{Seed}
@@ -9,3 +10,7 @@ use Rattle.krs_links.specs.declared.seed.Seed.TheVariants.{Fixed, Random}
 abbrev pub first_hasher : Seed → DefaultHasher
 first_hasher Fixed = initial
 first_hasher (Random state) = initial_hasher state
+
+-- what bytes hash to
+abbrev pub digest : Seed → List ℕ → ℕ
+digest seed bytes = finish (write (first_hasher seed) bytes)

@@ -1,6 +1,7 @@
-ghost use Rattle.krs_links.specs.Seeded.{first_hasher};
+ghost use Rattle.std.specs.Prelude.{◌≡◌};
+ghost use Rattle.krs_links.specs.Seeded.{first_hasher, digest};
 
-use std::hash::{BuildHasher, DefaultHasher, RandomState};
+use std::hash::{BuildHasher, DefaultHasher, Hasher, RandomState};
 
 /// What the hashes of names begin with. Strangers choose the names, and who knows the seed can choose many of one hash,
 /// which makes look-ups slow. No contract sees it.
@@ -10,6 +11,17 @@ pub enum Seed {
     Fixed,
     /// Of the system's random source.
     Random(RandomState),
+}
+
+impl Seed {
+    /// What some bytes hash to from this seed: the same each time.
+    pub fn digest(&self, bytes: &[u8]) -> u64
+        ensures { result ≡ digest self.now bytes.now }
+    {
+        let mut hasher = self.build_hasher();
+        hasher.write(bytes);
+        hasher.finish()
+    }
 }
 
 impl BuildHasher for Seed {
