@@ -1,23 +1,21 @@
--- The least serial of a key that a caller may join, found among keyrings in no order.
-use Rattle.std.proofs.Common.{◌≡◌, ℕ, ◌<◌, ◌≤◌, List, [], ◌∷◌, length, take, Option, Some, None}
-use Rattle.std.proofs.Common.{Bool, true, false, cond, find, ◌&&◌, refl, ap, ◌∙◌, sym, subst, arith, true≢false}
+-- The least serial of a keyring that a caller may join, found among those whose descriptions hash alike.
+use Rattle.std.proofs.Common.{◌≡◌, ℕ, ◌<◌, List, [], ◌∷◌, Option, Some, None, nat_eq}
+use Rattle.std.proofs.Common.{Bool, true, false, cond, find, refl, ap, ◌∙◌, sym, arith, true≢false}
 use Rattle.std.proofs.lemmas.Bool.Decides.{nat_tests}
-use Rattle.std.proofs.lemmas.List.{take_all}
 use Rattle.std.proofs.lemmas.Map.Keys.{sorted_tail}
 use Rattle.std.specs.Cmp.{ranked}
+use Rattle.std.specs.List.{list_any}
 use Rattle.std.specs.Option.{option_map}
 use Rattle.std.specs.Ordering.{nat_cmp}
 use Rattle.std.specs.declared.cmp.Ordering.TheVariants.{Less, Equal, Greater}
 use Rattle.std.specs.BTreeMap.{is_at}
 use Rattle.std.specs.Map.{keys_of}
 use Rattle.krs_types.specs.declared.caller.Caller.{Caller}
-use Rattle.krs_types.specs.declared.kind.Kind.TheVariants.{Keyring}
-use Rattle.krs_types.specs.Kind.{same_kind}
 use Rattle.krs_model.specs.Table.{Table, at, map_values, Rises}
 use Rattle.krs_model.specs.Asks.Joining.{is_joinable}
 use Rattle.krs_keys.specs.declared.key.Key.{Key}
 use Rattle.krs_keys.specs.Keys.{seen, joinable_in}
-use Rattle.krs_keys.specs.Places.{is_among, is_keyring, is_sooner, passes, AreRings}
+use Rattle.krs_keys.specs.Places.{is_sooner, passes}
 use Rattle.krs_keys.proofs.RisingTables.{past, below, at_first}
 
 -- the least serial of the values that pass a test
@@ -82,46 +80,22 @@ first_is p (e ∷ es) found s is =
       | false ↦ λ t. first_is p es found (sorted_tail nat_cmp e.0 (keys_of es) s) (from_rest p e es found s t is)
     ] refl
 
--- ---- among the serials so far
--- what was found passes, and it is the least of these that do
-pub record IsLeastOf (test : ℕ → Bool) (ks : List ℕ) (found : Option ℕ) : Type 0 where
+-- ---- but for those that weren't looked at yet
+-- what was found passes, and each that passes and is less is among the rest
+pub record IsLeastBut (test : ℕ → Bool) (rest : List (ℕ × ℕ)) (found : Option ℕ) : Type 0 where
   pub passes : (n : ℕ) → found ≡ Some n → test n ≡ true
-  pub least : (q : ℕ) → is_among ks q ≡ true → test q ≡ true → is_sooner q found ≡ false
+  pub least : (q : ℕ) → test q ≡ true → list_any (λ e. nat_eq q e.1) rest ≡ false → is_sooner q found ≡ false
 
-first_of_both : (a b : Bool) → (a && b) ≡ true → a ≡ true
-first_of_both true b h = refl
-first_of_both false b h = h
-
--- what may be joined is a keyring
-joins_rings : (clock : ℕ) (who : Caller) (desc : List ℕ) (o : Option Key)
-    → passes (λ key. is_joinable clock who desc (seen key)) o ≡ true → is_keyring o ≡ true
-joins_rings clock who desc None h = h
-joins_rings clock who desc (Some key) h =
-    first_of_both (same_kind key.name.kind Keyring) key.joined
-    (first_of_both (same_kind key.name.kind Keyring && key.joined) _ h)
-
--- the least of the keyrings is the least of the table
+-- when none is left, what was found is the least of the table
 pub joinable_is :
-    (clock : ℕ) (who : Caller) (desc : List ℕ) (keys : Table Key) (rings : List ℕ) (found : Option ℕ) → Rises keys
-    → AreRings keys rings
-    → IsLeastOf (λ q. passes (λ key. is_joinable clock who desc (seen key)) (at keys q)) rings found
-    → joinable_in clock who desc keys ≡ found
-joinable_is clock who desc keys rings found rises are is =
+    (clock : ℕ) (who : Caller) (desc : List ℕ) (keys : Table Key) (rest : List (ℕ × ℕ)) (found : Option ℕ)
+    → Rises keys → rest ≡ []
+    → IsLeastBut (λ q. passes (λ key. is_joinable clock who desc (seen key)) (at keys q)) rest found
+    → found ≡ joinable_in clock who desc keys
+joinable_is clock who desc keys rest found rises none is =
     let joins = is_joinable clock who desc in
-    first_map joins seen keys
+    sym (first_map joins seen keys
     ∙ first_is (λ key. joins (seen key)) keys found rises (record {
       passes = is.passes;
-      least = λ q h. is.least q (are q ∙ joins_rings clock who desc (at keys q) h) h;
-    })
-
--- so it is when all keyrings were looked at
-pub joinable_after :
-    (clock : ℕ) (who : Caller) (desc : List ℕ) (keys : Table Key) (rings seen_rings : List ℕ) (i : ℕ)
-    (found : Option ℕ) → seen_rings ≡ rings → length seen_rings ≤ i → Rises keys → AreRings keys rings
-    → IsLeastOf (λ q. passes (λ key. is_joinable clock who desc (seen key)) (at keys q)) (take i rings) found
-    → found ≡ joinable_in clock who desc keys
-joinable_after clock who desc keys rings seen_rings i found same past rises are is =
-    let test : ℕ → Bool = λ q. passes (λ key. is_joinable clock who desc (seen key)) (at keys q) in
-    let whole : take i rings ≡ rings = take_all i rings (subst (λ ks. length ks ≤ i) same past) in
-    sym (joinable_is clock who desc keys rings found rises are
-    (subst (λ ks. IsLeastOf test ks found) whole is))
+      least = λ q h. is.least q h (ap (λ (es : List (ℕ × ℕ)). list_any (λ e. nat_eq q e.1) es) none);
+    }))

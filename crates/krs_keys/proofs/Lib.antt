@@ -7,6 +7,8 @@ pub mod Unlinking
 pub mod RisingTables
 pub mod HashedLemmas
 pub mod PlacesLemmas
+pub mod AfterChanges
 pub mod RingsLemmas
+pub mod SessionsLemmas
 pub mod LinkPlaces
 pub mod LeastJoinable

@@ -18,7 +18,8 @@ use Rattle.krs_keys.specs.declared.key.Content.{Content}
 use Rattle.krs_keys.specs.declared.key.Content.TheVariants.{Payload, Links}
 use Rattle.krs_keys.specs.Keys.{IsOfKind, AreOfKind, keyless_content, without_key}
 use Rattle.krs_keys.specs.Places.{is_among, is_keyring, AreRings}
-use Rattle.krs_keys.proofs.RisingTables.{at_put, at_alter, at_without, either_way, same_tables}
+use Rattle.krs_keys.proofs.AfterChanges.{told_alter, told_map, told_put, told_without}
+use Rattle.krs_keys.proofs.RisingTables.{at_alter, same_tables}
 
 -- a change that keeps the name of a key
 abbrev pub KeepsName : (Key → Key) → Type 0
@@ -33,24 +34,13 @@ pub rings_alter :
     (keys : Table Key) (rings : List ℕ) (k : ℕ) (f : Key → Key) → KeepsName f → AreRings keys rings
     → AreRings (alter keys k f) rings
 rings_alter keys rings k f keeps are q =
-    are q ∙ sym (ap is_keyring (at_alter keys k q f)
-    ∙ elim (is_at (nat_cmp q) k) as (λ b. is_at (nat_cmp q) k ≡ b
-    → is_keyring (cond b (option_map f (at keys k)) (at keys q)) ≡ is_keyring (at keys q)) [
-      | true ↦ λ t. keyring_mapped f keeps (at keys k) ∙ ap (λ z. is_keyring (at keys z)) (sym (same_at q k t))
-      | false ↦ λ t. refl
-    ] refl)
+    are q ∙ sym (told_alter is_keyring keys k q f (keyring_mapped f keeps))
 
 -- and so are all keys that are
 pub rings_map :
     (keys : Table Key) (rings : List ℕ) (f : Key → Key) → KeepsName f → AreRings keys rings
     → AreRings (map_values f keys) rings
-rings_map keys rings f keeps are q =
-    are q ∙ sym (ap is_keyring (at_map f keys q) ∙ keyring_mapped f keeps (at keys q))
-
-keyring_either :
-    (b : Bool) (o p : Option Key) → cond b (is_keyring o) (is_keyring p) ≡ is_keyring (cond b o p)
-keyring_either true o p = refl
-keyring_either false o p = refl
+rings_map keys rings f keeps are q = are q ∙ sym (told_map is_keyring keys q f (keyring_mapped f keeps))
 
 -- a key more, whose serial is listed where it is a keyring
 pub rings_put :
@@ -59,9 +49,7 @@ pub rings_put :
     → AreRings keys rings → AreRings (put keys k v) new
 rings_put keys rings new k v listed are q =
     listed q ∙ (ap (cond (nat_eq k q) (same_kind v.name.kind Keyring)) (are q)
-    ∙ (keyring_either (nat_eq k q) (Some v) (at keys q)
-    ∙ ap is_keyring (ap (λ b. cond b (Some v) (at keys q)) (sym (unsigned_tied k q) ∙ either_way k q)
-    ∙ sym (at_put keys k q v))))
+    ∙ sym (told_put is_keyring keys k q v))
 
 -- a key less, whose serial is not listed any more
 pub rings_without :
@@ -69,9 +57,7 @@ pub rings_without :
     → ((q : ℕ) → is_among new q ≡ cond (nat_eq k q) false (is_among rings q)) → AreRings keys rings
     → AreRings (without keys k) new
 rings_without keys rings new k rises left are q =
-    left q ∙ (ap (cond (nat_eq k q) false) (are q)
-    ∙ (keyring_either (nat_eq k q) None (at keys q)
-    ∙ ap is_keyring (ap (λ b. cond b None (at keys q)) (sym (unsigned_tied k q)) ∙ sym (at_without keys k q rises))))
+    left q ∙ (ap (cond (nat_eq k q) false) (are q) ∙ sym (told_without is_keyring keys k q rises))
 
 -- ---- a key out of all keyrings
 unlinked_twice : (serial : ℕ) (xs : LinkList) → unlinked_key (unlinked_key xs serial) serial ≡ unlinked_key xs serial

@@ -1,5 +1,5 @@
 -- Laws of the table of keys.
-use Rattle.std.proofs.Common.{◌≡◌, [], ◌∷◌, Option, Some, None, Bool, true, false, cond, Result, Ok, Err}
+use Rattle.std.proofs.Common.{◌≡◌, ℕ, [], ◌∷◌, Option, Some, None, Bool, true, false, cond, Result, Ok, Err}
 use Rattle.std.proofs.Common.{refl, ap, rules}
 use Rattle.std.specs.Option.{option_map}
 use Rattle.std.specs.Map.{keys_of}
@@ -7,6 +7,11 @@ use Rattle.std.specs.Result.{OnOk, OnErr, IfOk, IfErr, IsOk}
 use Rattle.std.proofs.lemmas.Option.{none-some, same_Some}
 use Rattle.krs_model.specs.Table.{Table, map_values}
 use Rattle.krs_keys.specs.declared.key.Key.{Key}
+use Rattle.krs_keys.specs.Table.{Keys}
+
+-- these keys, with the serial that comes next
+abbrev pub seen_as : ℕ → Table Key → Keys
+seen_as next keys = record { keys = keys; next = next }
 
 -- a map's values seen through f: its keys
 pub keys_map : {X Y : Type 0} (f : X → Y) (es : Table X) → keys_of (map_values f es) ≡ keys_of es

@@ -1,6 +1,6 @@
 -- Which keys of a table stay: keyrings(7), "Anchoring keys"; profile, dropped at once.
-use Rattle.std.specs.Prelude.{◌≡◌, ℕ, List, Bool, filter}
-use Rattle.krs_model.specs.Table.{Table}
+use Rattle.std.specs.Prelude.{◌≡◌, ℕ, List, Bool, true, filter}
+use Rattle.krs_model.specs.Table.{Table, at}
 use Rattle.krs_model.specs.Sweep.{PicksHeld}
 use Rattle.krs_model.specs.Anchored.{IsClosedChoice}
 use Rattle.krs_keys.specs.declared.key.Key.{Key}
@@ -17,3 +17,7 @@ pub record KeepsAnchored (attached : List ℕ) (old new : Table Key) : Type 0 wh
   pub kept : ℕ → Bool
   pub choice : IsClosedChoice (shown old) attached kept
   pub keys : new ≡ filter (λ e. kept e.0) old
+
+-- each key of a set stays as it was
+abbrev pub KeepsAll : (ℕ → Bool) → Table Key → Table Key → Type 0
+KeepsAll has old new = (serial : ℕ) → has serial ≡ true → at new serial ≡ at old serial

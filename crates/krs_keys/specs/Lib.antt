@@ -4,3 +4,4 @@ pub mod Table
 pub mod Kept
 pub mod Hashed
 pub mod Places
+pub mod Sessions

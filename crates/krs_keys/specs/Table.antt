@@ -7,6 +7,8 @@ use Rattle.krs_types.specs.declared.errno.Errno.{Errno}
 use Rattle.krs_types.specs.declared.errno.Errno.TheVariants.{ENOSPC, ENOMEM}
 use Rattle.krs_model.specs.Table.{Table, put, alter, IsBelow}
 use Rattle.krs_keys.specs.declared.key.Key.{Key}
+use Rattle.krs_keys.specs.declared.sessions.Sessions.{Sessions}
+use Rattle.krs_keys.specs.Sessions.{AreSessions}
 
 -- the keys by serial, and the serial that comes next
 pub record Keys : Type 0 where
@@ -15,9 +17,10 @@ pub record Keys : Type 0 where
 
 -- The serial that comes next and those above it are in no use. Each key holds what keys of its type hold: so only
 -- keyrings link keys.
-pub record AreKept (keys : Table Key) (next : ℕ) : Type 0 where
+pub record AreKept (keys : Table Key) (listed : Sessions) (next : ℕ) : Type 0 where
   pub below : IsBelow keys next
   pub kinds : AreOfKind keys
+  pub sessions : AreSessions listed keys
 
 -- one more key, under the next serial
 abbrev pub with_key : Keys → Key → Keys

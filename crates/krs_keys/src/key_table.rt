@@ -11,9 +11,13 @@ ghost use Rattle.krs_keys.specs.Changes.{changed};
 ghost use Rattle.krs_keys.specs.Table.{with_key, with_linked_key, AreLeft};
 ghost use Rattle.krs_keys.specs.Table.{insert_error, IsLinkError, IsLinkedError};
 ghost use Rattle.krs_keys.specs.Keys.{joinable_in};
+ghost use Rattle.krs_keys.specs.Places.{by_place, ArePlaced};
+ghost use Rattle.krs_keys.specs.Sessions.{AreSessions};
 
 use crate::placed::PlacedKeys;
+use crate::sessions::Sessions;
 use crate::{Change, Key};
+use krs_links::Seed;
 use krs_types::{Caller, Errno, Name, Serial};
 use std::alloc::Global;
 use std::marker::Model;
@@ -25,6 +29,7 @@ pub const LAST_SERIAL: u32 = 2_147_483_647;
 #[derive(Drop)]
 pub struct KeyTable {
     keys: PlacedKeys,
+    sessions: Sessions,
     next: u32,
 }
 
@@ -38,16 +43,18 @@ impl Model for KeyTable {
 
     ghost view = { λ t. record { keys = by_place t.keys; next = t.next } };
 
-    ghost invariant = { λ t. ArePlaced t.keys × AreKept (by_place t.keys) t.next };
+    ghost invariant = { λ t. ArePlaced t.keys × AreKept (by_place t.keys) t.sessions t.next };
 }
 
 impl KeyTable {
-    /// No keys, and this serial next. It takes no memory.
-    pub fn starting_at(alloc: Global, next: u32) -> Self
+    /// No keys, and this serial next. Strangers choose the names of keyrings, which are hashed from this seed. It takes
+    /// no memory.
+    pub fn starting_at(alloc: Global, seed: Seed, next: u32) -> Self
         ensures { result ≡ record { keys = []; next = next } }
     {
         KeyTable {
             keys: PlacedKeys::new(alloc),
+            sessions: Sessions::new(alloc, seed),
             next,
         }
     }
@@ -97,7 +104,7 @@ impl KeyTable {
     pub fn joinable(&self, desc: &[u8], caller: &Caller, clock: u64) -> Option<Serial>
         ensures { result ≡ joinable_in clock caller.now desc.now self.now.keys }
     {
-        self.keys.joinable(desc, caller, clock)
+        self.keys.joinable(&self.sessions, desc, caller, clock)
     }
 
     /// One more key, under the next serial, which is answered: ENOSPC, ENOMEM.
@@ -109,17 +116,13 @@ impl KeyTable {
         ensures error { IfErr result (λ e. e ≡ insert_error self.old.next 1) }
         ensures err { OnErr result (self.new ≡ self.old) }
     {
-        if self.next > LAST_SERIAL {
+        let serial = self.next;
+        if serial > LAST_SERIAL {
             return Err(Errno::ENOSPC);
         }
-        match self.keys.insert(self.next, key) {
-            Ok(()) => {
-                let serial = Serial::new(self.next);
-                self.next += 1;
-                Ok(serial)
-            }
-            Err(_) => Err(Errno::ENOMEM),
-        }
+        put_in(&mut self.keys, &mut self.sessions, serial, key)?;
+        self.next += 1;
+        Ok(Serial::new(serial))
     }
 
     /// Two more keys, under consecutive serials, the first of which is answered: ENOSPC, ENOMEM. A refusal leaves
@@ -133,16 +136,20 @@ impl KeyTable {
         ensures error { IfErr result (λ e. e ≡ insert_error self.old.next 2) }
         ensures err { OnErr result (self.new ≡ self.old) }
     {
-        if self.next >= LAST_SERIAL {
+        let serial = self.next;
+        if serial >= LAST_SERIAL {
             return Err(Errno::ENOSPC);
         }
-        match self.keys.insert_two(self.next, first, second) {
+        put_in(&mut self.keys, &mut self.sessions, serial, first)?;
+        match put_in(&mut self.keys, &mut self.sessions, serial + 1, second) {
             Ok(()) => {
-                let serial = Serial::new(self.next);
                 self.next += 2;
-                Ok(serial)
+                Ok(Serial::new(serial))
             }
-            Err(_) => Err(Errno::ENOMEM),
+            Err(error) => {
+                let _ = take_out(&mut self.keys, &mut self.sessions, self.next);
+                Err(error)
+            }
         }
     }
 
@@ -166,9 +173,17 @@ impl KeyTable {
         if serial > LAST_SERIAL {
             return Err(Errno::ENOSPC);
         }
-        let displaced = self.keys.insert_linked(serial, ring.number(), name, key)?;
-        self.next += 1;
-        Ok(displaced)
+        put_in(&mut self.keys, &mut self.sessions, serial, key)?;
+        match self.keys.link(ring.number(), name, Serial::new(serial)) {
+            Ok(displaced) => {
+                self.next += 1;
+                Ok(displaced)
+            }
+            Err(error) => {
+                let _ = take_out(&mut self.keys, &mut self.sessions, serial);
+                Err(error)
+            }
+        }
     }
 
     /// One more link in a keyring, and the serial that it displaces: ENFILE, ENOMEM.
@@ -222,6 +237,44 @@ impl KeyTable {
         ensures keys { self.new ≡ record self.old { keys = without self.old.keys serial } }
         ensures gone { at self.new.keys serial ≡ None }
     {
-        self.keys.remove(serial.number())
+        take_out(&mut self.keys, &mut self.sessions, serial.number())
     }
+}
+
+/// A new key, which is listed where it is a keyring that JOIN made. A refusal leaves what is there: ENOMEM.
+fn put_in(
+    keys: &mut PlacedKeys,
+    sessions: &mut Sessions,
+    serial: u32,
+    key: Key,
+) -> Result<(), Errno>
+    requires placed { ArePlaced keys.old }
+    requires sessions { AreSessions sessions.old (by_place keys.old) }
+    requires absent { at (by_place keys.old) serial ≡ None }
+    ensures placed { ArePlaced keys.new }
+    ensures sessions { AreSessions sessions.new (by_place keys.new) }
+    ensures ok { OnOk result (by_place keys.new ≡ put (by_place keys.old) serial key) }
+    ensures error { IfErr result (λ e. e ≡ Errno.ENOMEM) }
+    ensures err { OnErr result (by_place keys.new ≡ by_place keys.old) }
+{
+    if keys.reserve(1).is_err() || sessions.list(serial, &key).is_err() {
+        return Err(Errno::ENOMEM);
+    }
+    keys.put(serial, key);
+    Ok(())
+}
+
+/// Takes out the key at a serial, which is listed no more, and answers it.
+fn take_out(keys: &mut PlacedKeys, sessions: &mut Sessions, serial: u32) -> Option<Key>
+    requires placed { ArePlaced keys.old }
+    requires sessions { AreSessions sessions.old (by_place keys.old) }
+    ensures placed { ArePlaced keys.new }
+    ensures sessions { AreSessions sessions.new (by_place keys.new) }
+    ensures key { result ≡ at (by_place keys.old) serial }
+    ensures keys { by_place keys.new ≡ without (by_place keys.old) serial }
+    ensures gone { at (by_place keys.new) serial ≡ None }
+{
+    let key = keys.remove(serial)?;
+    sessions.unlist(serial, &key);
+    Some(key)
 }

@@ -2,9 +2,12 @@
 #![tactic(auto)]
 
 mod key;
+mod key_set;
 mod key_table;
 mod placed;
+mod sessions;
 mod slots;
 
 pub use key::{Change, Content, Key};
+pub use key_set::KeySet;
 pub use key_table::{KeyTable, LAST_SERIAL};

@@ -1,5 +1,5 @@
 //! The keys, each at a place that it keeps.
-ghost use Rattle.std.specs.Prelude.{◌≡◌, ℕ, ◌+◌, ◌<◌, [], None, false, length};
+ghost use Rattle.std.specs.Prelude.{◌≡◌, ℕ, ◌+◌, [], None, false, length};
 ghost use Rattle.std.specs.Prelude.{IfOk, IfErr, OnOk, OnErr, option_copied};
 ghost use Rattle.krs_links.specs.Links.{has_link, is_refused, link_error};
 ghost use Rattle.krs_model.specs.Asks.Joining.{is_joinable};
@@ -8,8 +8,9 @@ ghost use Rattle.krs_keys.specs.Changes.{changed};
 ghost use Rattle.krs_keys.specs.Keys.{with_entry, without_key, displaced_at, named_links_of_key_at, seen};
 ghost use Rattle.krs_keys.specs.Keys.{joinable_in, AreFit, AreOfKind};
 ghost use Rattle.krs_keys.specs.Places.{by_place, place_of, is_sooner, passes, ArePlaced, HaveRoom};
-ghost use Rattle.krs_keys.specs.Table.{IsLinkError};
+ghost use Rattle.krs_keys.specs.Sessions.{AreSessions};
 
+use crate::sessions::Sessions;
 use crate::slots::{self, list, unlist};
 use crate::{Change, Key};
 use indexmap::{IndexMap, IndexSet};
@@ -66,15 +67,21 @@ impl PlacedKeys {
         }
     }
 
-    /// The least serial of a keyring that a caller may join. The keyrings come in no order.
-    pub(crate) fn joinable(&self, desc: &[u8], caller: &Caller, clock: u64) -> Option<Serial>
-        requires { ArePlaced self.now }
+    /// The least serial of a keyring that a caller may join by this description, among those that JOIN made.
+    pub(crate) fn joinable(
+        &self,
+        sessions: &Sessions,
+        desc: &[u8],
+        caller: &Caller,
+        clock: u64,
+    ) -> Option<Serial>
+        requires sessions { AreSessions sessions.now (by_place self.now) }
         ensures { result ≡ joinable_in clock caller.now desc.now (by_place self.now) }
     {
         let mut least = None;
-        for ring in self.rings.as_slice() {
-            if is_sooner(*ring, least) && self.is_joinable(*ring, desc, caller, clock) {
-                least = Some(*ring);
+        for ring in sessions.named(desc) {
+            if is_sooner(ring.1, least) && self.is_joinable(ring.1, desc, caller, clock) {
+                least = Some(ring.1);
             }
         }
         match least {
@@ -91,73 +98,6 @@ impl PlacedKeys {
         match self.get(serial) {
             Some(key) => key.is_joinable(desc, caller, clock),
             None => false,
-        }
-    }
-
-    /// Puts a key at a serial. A refusal leaves what is there.
-    pub(crate) fn insert(&mut self, serial: u32, key: Key) -> Result<(), AllocError>
-        requires placed { ArePlaced self.old }
-        requires absent { at (by_place self.old) serial ≡ None }
-        ensures placed { ArePlaced self.new }
-        ensures ok { OnOk result (by_place self.new ≡ put (by_place self.old) serial key) }
-        ensures err { OnErr result (by_place self.new ≡ by_place self.old) }
-    {
-        self.reserve(1)?;
-        self.put(serial, key);
-        Ok(())
-    }
-
-    /// Two keys under consecutive serials. A refusal leaves neither.
-    pub(crate) fn insert_two(
-        &mut self,
-        serial: u32,
-        first: Key,
-        second: Key,
-    ) -> Result<(), AllocError>
-        requires fits { serial < 4294967295 }
-        requires placed { ArePlaced self.old }
-        requires absent { at (by_place self.old) serial ≡ None }
-        requires next_absent { at (by_place self.old) (serial + 1) ≡ None }
-        ensures placed { ArePlaced self.new }
-        ensures ok { OnOk result (by_place self.new
-            ≡ put (put (by_place self.old) serial first) (serial + 1) second) }
-        ensures err { OnErr result (by_place self.new ≡ by_place self.old) }
-    {
-        self.reserve(2)?;
-        self.put(serial, first);
-        self.put(serial + 1, second);
-        Ok(())
-    }
-
-    /// A key that a keyring links, and the serial that this displaces. A refusal leaves neither.
-    pub(crate) fn insert_linked(
-        &mut self,
-        serial: u32,
-        ring: u32,
-        name: Name,
-        key: Key,
-    ) -> Result<Option<Serial>, Errno>
-        requires placed { ArePlaced self.old }
-        requires absent { at (by_place self.old) serial ≡ None }
-        ensures placed { ArePlaced self.new }
-        ensures displaced { IfOk result (λ old. old ≡ displaced_at (put (by_place self.old) serial key) ring name) }
-        ensures ok { OnOk result (by_place self.new
-            ≡ alter (put (by_place self.old) serial key) ring (with_entry name serial)) }
-        ensures room { OnOk result
-            (is_refused (named_links_of_key_at (put (by_place self.old) serial key) ring) name ≡ false) }
-        ensures error { IfErr result (IsLinkError (put (by_place self.old) serial key) ring name) }
-        ensures err { OnErr result (by_place self.new ≡ by_place self.old) }
-    {
-        if self.reserve(1).is_err() {
-            return Err(Errno::ENOMEM);
-        }
-        self.put(serial, key);
-        match self.link(ring, name, Serial::new(serial)) {
-            Ok(displaced) => Ok(displaced),
-            Err(error) => {
-                let _ = self.remove(serial);
-                Err(error)
-            }
         }
     }
 
@@ -232,7 +172,7 @@ impl PlacedKeys {
     }
 
     /// Makes room for that many more keys, in all three parts.
-    fn reserve(&mut self, more: usize) -> Result<(), AllocError>
+    pub(crate) fn reserve(&mut self, more: usize) -> Result<(), AllocError>
         requires { ArePlaced self.old }
         ensures placed { ArePlaced self.new }
         ensures keys { by_place self.new ≡ by_place self.old }
@@ -244,7 +184,7 @@ impl PlacedKeys {
     }
 
     /// Puts a key at a serial that has none, where there is room.
-    fn put(&mut self, serial: u32, key: Key)
+    pub(crate) fn put(&mut self, serial: u32, key: Key)
         requires placed { ArePlaced self.old }
         requires absent { at (by_place self.old) serial ≡ None }
         requires room { HaveRoom self.old 1 }

@@ -5,14 +5,15 @@ use Rattle.krs_keys.specs.Keys.{AreOfKind}
 use Rattle.krs_keys.proofs.KindsLemmas.{kinds_put}
 use Rattle.krs_keys.proofs.key_table.KeyTable.insert.Goals as goal
 
-pub invariant_of-self : goal.invariant_of-self
-invariant_of-self c =
+pub invariant_of-self-2 : goal.invariant_of-self-2
+invariant_of-self-2 c =
     let es = by_place c.self.inside.keys in
-    let n = c.self.inside.next in (
-      c.in-Ok.ensures.placed,
+    let n = c.self.inside.next in
+    let more = c.in_ok-put_in.ensures.ok in (
+      c.put_in.ensures.placed,
       record {
-        below = below_put _ _ n c.args.key c.in-Ok.ensures.ok c.self.invariant.1.below;
-        kinds = subst AreOfKind (sym c.in-Ok.ensures.ok)
-            (kinds_put es n c.args.key c.requires c.self.invariant.1.kinds);
+        below = below_put _ _ n c.args.key more c.self.invariant.1.below;
+        kinds = subst AreOfKind (sym more) (kinds_put es n c.args.key c.requires c.self.invariant.1.kinds);
+        sessions = c.put_in.ensures.sessions;
       },
     )

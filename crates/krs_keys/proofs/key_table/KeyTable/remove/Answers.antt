@@ -8,10 +8,11 @@ use Rattle.krs_keys.proofs.key_table.KeyTable.remove.Goals as goal
 pub invariant_of-self : goal.invariant_of-self
 invariant_of-self c =
     let es = by_place c.self.inside.keys in (
-      c.remove.ensures.placed,
+      c.take_out.ensures.placed,
       record {
         below = λ q h.
-            ap (λ zs. at zs q) c.remove.ensures.keys ∙ at_without_none es _ q (c.self.invariant.1.below q h);
-        kinds = kinds_without es _ _ c.remove.ensures.keys c.remove.ensures.gone c.self.invariant.1.kinds;
+            ap (λ zs. at zs q) c.take_out.ensures.keys ∙ at_without_none es _ q (c.self.invariant.1.below q h);
+        kinds = kinds_without es _ _ c.take_out.ensures.keys c.take_out.ensures.gone c.self.invariant.1.kinds;
+        sessions = c.take_out.ensures.sessions;
       },
     )

@@ -5,6 +5,8 @@ use Rattle.krs_keys.specs.Places.{by_place}
 use Rattle.krs_keys.specs.Keys.{AreOfKind}
 use Rattle.krs_keys.specs.Changes.{changed}
 use Rattle.krs_keys.proofs.KindsLemmas.{kinds_alter, changed_kind}
+use Rattle.krs_keys.specs.Sessions.{AreSessions}
+use Rattle.krs_keys.proofs.SessionsLemmas.{sessions_alter, session-changed}
 use Rattle.krs_keys.proofs.key_table.KeyTable.set.Goals as goal
 
 pub invariant_of-self : goal.invariant_of-self
@@ -16,5 +18,8 @@ invariant_of-self c =
             ap (λ zs. at zs q) c.change.ensures.keys ∙ at_alter_none es _ q _ (c.self.invariant.1.below q h);
         kinds = subst AreOfKind (sym c.change.ensures.keys) (kinds_alter es _ (changed c.args.change)
             (changed_kind c.args.change) c.self.invariant.1.kinds);
+        sessions = subst (AreSessions c.self.inside.sessions) (sym c.change.ensures.keys)
+            (sessions_alter c.self.inside.sessions es _ (changed c.args.change) (session-changed c.args.change)
+            c.self.invariant.1.sessions);
       },
     )

@@ -1,10 +1,12 @@
-use Rattle.std.proofs.Common.{ap, ◌∙◌, sym, subst}
+use Rattle.std.proofs.Common.{refl, ap, ◌∙◌, sym, subst}
 use Rattle.krs_model.specs.Table.{at}
 use Rattle.krs_model.proofs.Tables.Changes.{at_alter_none}
 use Rattle.krs_keys.specs.Places.{by_place}
 use Rattle.krs_keys.specs.Keys.{AreFit, AreOfKind, without_key}
 use Rattle.krs_keys.specs.Table.{Keys}
 use Rattle.krs_keys.proofs.KindsLemmas.{kinds_alter, keyless_kind}
+use Rattle.krs_keys.specs.Sessions.{AreSessions}
+use Rattle.krs_keys.proofs.SessionsLemmas.{sessions_alter}
 use Rattle.krs_keys.proofs.key_table.KeyTable.unlink.Goals as goal
 
 pub unlink-requires-clause-fit : goal.unlink-requires-clause-fit
@@ -19,5 +21,8 @@ invariant_of-self c =
             ap (λ zs. at zs q) c.unlink.ensures.keys ∙ at_alter_none es _ q _ (c.self.invariant.1.below q h);
         kinds = subst AreOfKind (sym c.unlink.ensures.keys) (kinds_alter es _ (without_key c.args.serial)
             (keyless_kind c.args.serial) c.self.invariant.1.kinds);
+        sessions = subst (AreSessions c.self.inside.sessions) (sym c.unlink.ensures.keys)
+            (sessions_alter c.self.inside.sessions es _ (without_key c.args.serial) (λ v. (refl, refl))
+            c.self.invariant.1.sessions);
       },
     )

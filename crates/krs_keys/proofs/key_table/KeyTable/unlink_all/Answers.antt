@@ -1,4 +1,4 @@
-use Rattle.std.proofs.Common.{ap, ◌∙◌, sym, subst}
+use Rattle.std.proofs.Common.{refl, ap, ◌∙◌, sym, subst}
 use Rattle.std.specs.Option.{option_map}
 use Rattle.krs_model.specs.Table.{at}
 use Rattle.krs_model.proofs.Tables.Changes.{at_map}
@@ -6,6 +6,8 @@ use Rattle.krs_keys.specs.Keys.{AreFit, AreOfKind, without_key}
 use Rattle.krs_keys.specs.Table.{Keys}
 use Rattle.krs_keys.specs.Places.{by_place}
 use Rattle.krs_keys.proofs.Unlinking.{kinds-without_key}
+use Rattle.krs_keys.specs.Sessions.{AreSessions}
+use Rattle.krs_keys.proofs.SessionsLemmas.{sessions_map}
 use Rattle.krs_keys.proofs.key_table.KeyTable.unlink_all.Goals as goal
 
 pub unlink_all-requires-clause-fit : goal.unlink_all-requires-clause-fit
@@ -21,5 +23,7 @@ invariant_of-self c =
             ∙ (at_map f es q ∙ ap (option_map f) (c.self.invariant.1.below q h));
         kinds = subst AreOfKind (sym c.unlink_all.ensures.keys) (kinds-without_key c.args.serial es
             c.self.invariant.1.kinds);
+        sessions = subst (AreSessions c.self.inside.sessions) (sym c.unlink_all.ensures.keys)
+            (sessions_map c.self.inside.sessions es f (λ v. (refl, refl)) c.self.invariant.1.sessions);
       },
     )

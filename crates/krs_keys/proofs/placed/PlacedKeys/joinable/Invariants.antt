@@ -1,13 +1,12 @@
-use Rattle.std.proofs.Common.{take}
 use Rattle.krs_model.specs.Asks.Joining.{is_joinable}
 use Rattle.krs_model.specs.Table.{at}
 use Rattle.krs_keys.specs.Keys.{seen}
 use Rattle.krs_keys.specs.Places.{by_place, passes}
-use Rattle.krs_keys.proofs.LeastJoinable.{IsLeastOf}
+use Rattle.krs_keys.proofs.LeastJoinable.{IsLeastBut}
 use Rattle.krs_keys.proofs.placed.PlacedKeys.joinable.Given as goal
 
--- the least serial so far of a keyring that may be joined
+-- the least serial of a keyring that may be joined, but for those that come
 abbrev pub invariant-loop-ring : goal.invariant-loop-ring
 invariant-loop-ring l =
-    IsLeastOf (λ q. passes (λ key. is_joinable l.clock l.caller l.desc (seen key)) (at (by_place l.self) q))
-    (take l.ring-index l.self.rings.keys) l.least
+    IsLeastBut (λ q. passes (λ key. is_joinable l.clock l.caller l.desc (seen key)) (at (by_place l.self) q))
+    l.ring-iterator l.least
