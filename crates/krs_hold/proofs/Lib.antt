@@ -9,3 +9,4 @@ pub mod Numbers
 pub mod Tallies
 pub mod KeyTallies
 pub mod Detached
+pub mod WatchedKeys

@@ -1,15 +1,15 @@
 //! What goes once nothing holds it, key after key: without a list, without recursion.
-ghost use Rattle.std.specs.Prelude.{◌≡◌, ◌<◌, ℕ, List, Some, None};
+ghost use Rattle.std.specs.Prelude.{◌≡◌, ◌<◌, ℕ, List, Some, None, false};
 ghost use Rattle.krs_model.specs.Table.{at, without};
 ghost use Rattle.krs_model.specs.Sweep.{links_of_key};
 ghost use Rattle.krs_keys.specs.Keys.{shown};
-ghost use Rattle.krs_keys.specs.Kept.{KeepsAnchored};
+ghost use Rattle.krs_keys.specs.Kept.{KeepsAnchored, KeepsAll};
 ghost use Rattle.krs_keys.specs.Hashed.{by_serial};
 ghost use Rattle.krs_hold.specs.Tally.{AreExact};
 ghost use Rattle.krs_hold.specs.Chain.{numbers_of, IsChained, Spares, gone_all, total_weight};
 
 use crate::counts::{Count, forget, holders, let_go_links, rest};
-use krs_keys::KeyTable;
+use krs_keys::{KeySet, KeyTable};
 use krs_types::Serial;
 use std::collections::HashMap;
 
@@ -36,8 +36,14 @@ fn drop_key(
 }
 
 /// Takes the first out of the chain, and drops its key where nothing holds it. The first of the
-/// chain is answered.
-fn look(keys: &mut KeyTable, counts: &mut HashMap<u32, Count>, serial: u32) -> Option<u32>
+/// chain is answered. It says where a watched key is dropped.
+fn look<W: KeySet>(
+    keys: &mut KeyTable,
+    counts: &mut HashMap<u32, Count>,
+    serial: u32,
+    watched: &W,
+    told: &mut bool,
+) -> Option<u32>
     requires { IsChained (by_serial counts.old.entries) (Some serial) }
     ensures chained { IsChained (by_serial counts.new.entries) result }
     ensures less { total_weight (by_serial counts.new.entries) < total_weight (by_serial counts.old.entries) }
@@ -47,17 +53,28 @@ fn look(keys: &mut KeyTable, counts: &mut HashMap<u32, Count>, serial: u32) -> O
     ensures spared { (attached : List ℕ)
         → AreExact keys.old.keys (numbers_of (by_serial counts.old.entries)) attached
         → Spares attached keys.old.keys keys.new.keys }
+    ensures watched { told.new ≡ false
+        → (told.old ≡ false) × KeepsAll (W.has watched.now) keys.old.keys keys.new.keys }
     ensures next { keys.new.next ≡ keys.old.next }
 {
     let next = rest(counts, serial);
     if holders(counts, serial) > 0 {
         return next;
     }
+    if watched.has(Serial::new(serial)) {
+        *told = true;
+    }
     drop_key(keys, counts, next, serial)
 }
 
-/// Drops each key that nothing holds, and then those that only dropped keys held.
-pub(crate) fn sweep(keys: &mut KeyTable, counts: &mut HashMap<u32, Count>, mut first: Option<u32>)
+/// Drops each key that nothing holds, and then those that only dropped keys held. Answers whether a
+/// watched one is among them.
+pub(crate) fn sweep<W: KeySet>(
+    keys: &mut KeyTable,
+    counts: &mut HashMap<u32, Count>,
+    mut first: Option<u32>,
+    watched: &W,
+) -> bool
     requires { IsChained (by_serial counts.old.entries) first }
     ensures chained { IsChained (by_serial counts.new.entries) None }
     ensures exact { (attached : List ℕ)
@@ -66,10 +83,13 @@ pub(crate) fn sweep(keys: &mut KeyTable, counts: &mut HashMap<u32, Count>, mut f
     ensures anchored { (attached : List ℕ)
         → AreExact keys.old.keys (numbers_of (by_serial counts.old.entries)) attached
         → KeepsAnchored attached keys.old.keys keys.new.keys }
+    ensures watched { result ≡ false → KeepsAll (W.has watched.now) keys.old.keys keys.new.keys }
     ensures next { keys.new.next ≡ keys.old.next }
 {
+    let mut told = false;
     'dropping: while let Some(serial) = first {
-        first = look(keys, counts, serial);
+        first = look(keys, counts, serial, watched, &mut told);
     }
     let _ = keys.len();
+    told
 }

@@ -1,4 +1,4 @@
-ghost use Rattle.std.specs.Prelude.{◌≡◌, ◌<◌, ◌+◌, ◌-◌, ◌^◌, ℕ, List, [], ◌∷◌};
+ghost use Rattle.std.specs.Prelude.{◌≡◌, ◌<◌, ◌+◌, ◌-◌, ◌^◌, ℕ, List, [], false};
 ghost use Rattle.std.specs.Prelude.{OnOk, OnErr, IfErr, IsOk, IsSome, nat_le, replicate};
 ghost use Rattle.std.specs.Option.{option_to_list};
 ghost use Rattle.krs_types.specs.declared.errno.Errno.TheVariants.{ENOMEM};
@@ -6,14 +6,14 @@ ghost use Rattle.krs_model.specs.Table.{at};
 ghost use Rattle.krs_model.specs.Reach.{IsAcyclic, links_of_key_at};
 ghost use Rattle.krs_links.specs.Links.{serials};
 ghost use Rattle.krs_keys.specs.Keys.{named_links_of_content, shown};
-ghost use Rattle.krs_keys.specs.Kept.{KeepsAnchored, Sweeps};
+ghost use Rattle.krs_keys.specs.Kept.{KeepsAnchored, KeepsAll, Sweeps};
 ghost use Rattle.krs_hold.specs.Tally.{number_at, with_number, one_more, one_less, all_less};
-ghost use Rattle.krs_hold.specs.Tally.{IsTallied, AreExact};
+ghost use Rattle.krs_hold.specs.Tally.{AreExact};
 ghost use Rattle.krs_hold.specs.Taken.{taken_at};
 
 use crate::cascade::sweep;
 use crate::counts::{Count, holders, let_go, let_go_links, let_go_times, raise};
-use krs_keys::{Change, Content, KeyTable};
+use krs_keys::{Change, Content, KeySet, KeyTable};
 use krs_types::{Errno, Serial};
 use std::alloc::Global;
 use std::collections::HashMap;
@@ -137,8 +137,9 @@ impl Holders {
     }
 
     /// Drops each key that nothing holds any more, and then those that only dropped keys held:
-    /// keyrings(7), "Anchoring keys"; profile, dropped at once.
-    pub fn sweep(&mut self, keys: &mut KeyTable)
+    /// keyrings(7), "Anchoring keys"; profile, dropped at once. Answers whether a watched one is among
+    /// them: where none is, no watch has to be looked at.
+    pub fn sweep<W: KeySet>(&mut self, keys: &mut KeyTable, watched: &W) -> bool
         ensures exact { (attached : List ℕ) → AreExact keys.old.keys self.old attached
             → AreExact keys.new.keys self.new attached }
         ensures anchored { (attached : List ℕ) → AreExact keys.old.keys self.old attached
@@ -146,27 +147,11 @@ impl Holders {
         ensures swept { (attached : List ℕ) → AreExact keys.old.keys self.old attached
             → IsAcyclic (links_of_key_at (shown keys.old.keys))
             → Sweeps attached keys.old.keys keys.new.keys }
+        ensures watched { result ≡ false → KeepsAll (W.has watched.now) keys.old.keys keys.new.keys }
         ensures next { keys.new.next ≡ keys.old.next }
     {
-        sweep(keys, &mut self.counts, self.first);
+        let told = sweep(keys, &mut self.counts, self.first, watched);
         self.first = None;
-    }
-
-    /// Lets go of a key for a link or an attachment that is gone already, and sweeps.
-    pub fn release(&mut self, keys: &mut KeyTable, serial: Serial)
-        ensures exact { (attached : List ℕ)
-            → IsTallied (shown keys.old.keys) attached (serial ∷ []) self.old
-            → AreExact keys.new.keys self.new attached }
-        ensures anchored { (attached : List ℕ)
-            → IsTallied (shown keys.old.keys) attached (serial ∷ []) self.old
-            → KeepsAnchored attached keys.old.keys keys.new.keys }
-        ensures swept { (attached : List ℕ)
-            → IsTallied (shown keys.old.keys) attached (serial ∷ []) self.old
-            → IsAcyclic (links_of_key_at (shown keys.old.keys))
-            → Sweeps attached keys.old.keys keys.new.keys }
-        ensures next { keys.new.next ≡ keys.old.next }
-    {
-        self.let_go(serial);
-        self.sweep(keys);
+        told
     }
 }

@@ -1,6 +1,6 @@
 -- What one link more, or one less, comes to in the definitions.
 use Rattle.std.proofs.Common.{◌≡◌, ℕ, ◌==◌, ◌&&◌, ◌||◌, List, [], ◌∷◌, Option, Some, None, Bool, true, false, cond}
-use Rattle.std.proofs.Common.{Ok, Err, length, zero, suc, take, ◌*◌, ◌≤◌, length-append, arith, refl, ap, ◌∙◌, sym}
+use Rattle.std.proofs.Common.{Ok, Err, length, suc, ◌*◌, length-append, arith, refl, ap, ◌∙◌, sym}
 use Rattle.std.proofs.Common.{subst}
 use Rattle.std.specs.Option.{option_map}
 use Rattle.std.specs.Prelude.{nat_le}

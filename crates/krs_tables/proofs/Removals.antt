@@ -1,19 +1,21 @@
--- The removal records of a sweep: where no key is dropped there are none.
-use Rattle.std.proofs.Common.{◌≡◌, ◌≤◌, List, [], ◌∷◌, Bool, true, false, not, cond, filter, map, length, refl, ap}
-use Rattle.std.proofs.Common.{◌∙◌, sym, subst, arith}
-use Rattle.std.specs.Option.{is_some}
-use Rattle.std.proofs.lemmas.List.Filters.{length-filter_both}
+-- The removal records of a sweep: where no watched key is dropped there are none.
+use Rattle.std.proofs.Common.{◌≡◌, ◌==◌, ℕ, List, [], ◌∷◌, Bool, true, false, ◌||◌, cond, filter, map, refl, ap}
+use Rattle.std.proofs.Common.{◌∙◌, sym}
+use Rattle.std.proofs.lemmas.Bool.{eq-eqb}
+use Rattle.std.specs.List.{list_any, AllByRecursion}
+use Rattle.std.specs.Option.{is_some, option_map}
 use Rattle.krs_model.specs.Table.{Table, at}
 use Rattle.krs_model.specs.State as model
-use Rattle.krs_model.specs.Queues.{Queues}
-use Rattle.krs_model.specs.Sweep.{live_watches, roots}
+use Rattle.krs_model.specs.Queues.{Queues, Watch}
+use Rattle.krs_model.specs.Sweep.{live_watches}
+use Rattle.krs_model.proofs.Tables.Changes.{at_map}
 use Rattle.krs_tables.specs.Serving.{SweepsOut}
 use Rattle.krs_model.specs.Notes.Posting.{removal_for, dropped_watches}
 use Rattle.krs_tables.proofs.PostsAndSweep.{posted_nothing}
 use Rattle.krs_tables.proofs.WatchedKeys.{none_dropped}
 use Rattle.krs_keys.specs.declared.key.Key.{Key}
-use Rattle.krs_keys.specs.Keys.{shown}
-use Rattle.krs_keys.specs.Kept.{Sweeps}
+use Rattle.krs_keys.specs.Keys.{seen, shown}
+use Rattle.krs_keys.specs.Kept.{KeepsAll}
 use Rattle.krs_watch.specs.Changes.{swept}
 use Rattle.krs_tables.specs.declared.tables.Tables.TheInside.{Inside}
 use Rattle.krs_tables.specs.View.{state_of}
@@ -30,37 +32,57 @@ pub sweeps_dropped :
     → q ≡ swept (λ k. is_some (at (shown new) k)) s.queues → SweepsOut (state_of s) (with_both s new q)
 sweeps_dropped s new q told is = rw is (record { swept = swept_state s new; sweep = told.sweep; posted = refl })
 
--- a filter that leaves as many leaves all
-kept_all : {X : Type 0} (p : X → Bool) (xs : List X) → length xs ≤ length (filter p xs) → filter p xs ≡ xs
-kept_all p [] h = refl
-kept_all p (x ∷ xs) h =
-    elim (p x) as (λ b. length (x ∷ xs) ≤ length (cond b (x ∷ filter p xs) (filter p xs))
-    → cond b (x ∷ filter p xs) (filter p xs) ≡ x ∷ xs) [
-      | true ↦ λ le. ap (λ ys. x ∷ ys) (kept_all p xs (omega arith))
-      | false ↦ λ le.
-          let both = length-filter_both p (λ y. not (p y)) (λ y. refl) xs in
-          absurd (omega arith)
-    ] h
+-- the same of each watch: the same are left
+left_alike :
+    (has : ℕ → Bool) (P Q : ℕ → Bool) (ws : List Watch) → ((k : ℕ) → has k ≡ true → P k ≡ Q k)
+    → AllByRecursion (λ w. has w.0.0 ≡ true) ws → filter (λ w. P w.0.0) ws ≡ filter (λ w. Q w.0.0) ws
+left_alike has P Q [] alike all = refl
+left_alike has P Q (w ∷ ws) alike all =
+    rw (alike w.0.0 all.0) (ap (λ zs. cond (Q w.0.0) (w ∷ zs) zs) (left_alike has P Q ws alike all.1))
 
--- no key was dropped
-pub sweeps_none :
-    (s : Inside) (new : Table Key) → IsSweptTable s new → Sweeps (roots (state_of s)) s.keys.keys new
-    → length s.keys.keys ≤ length new → live_watches (shown s.keys.keys) s.queues.watches ≡ s.queues.watches
+or_after : (a b : Bool) → b ≡ true → (a || b) ≡ true
+or_after true b h = refl
+or_after false b h = h
+
+-- what is so of keys of some watches is so of those of more
+still :
+    (w : Watch) (some ws : List Watch)
+    → AllByRecursion (λ (v : Watch). list_any (λ (u : Watch). u.0.0 == v.0.0) some ≡ true) ws
+    → AllByRecursion (λ (v : Watch). list_any (λ (u : Watch). u.0.0 == v.0.0) (w ∷ some) ≡ true) ws
+still w some [] all = tt
+still w some (v ∷ ws) all =
+    (or_after (w.0.0 == v.0.0) (list_any (λ (u : Watch). u.0.0 == v.0.0) some) all.0, still w some ws all.1)
+
+-- the key of each watch is watched
+all_watched :
+    (ws : List Watch) → AllByRecursion (λ (v : Watch). list_any (λ (u : Watch). u.0.0 == v.0.0) ws ≡ true) ws
+all_watched [] = tt
+all_watched (w ∷ ws) = (
+  ap (λ b. b || list_any (λ (u : Watch). u.0.0 == w.0.0) ws) (eq-eqb w.0.0 w.0.0 refl),
+  still w ws ws (all_watched ws),
+)
+
+-- no watched key was dropped
+pub sweeps_unwatched :
+    (s : Inside) (new : Table Key) → IsSweptTable s new
+    → KeepsAll (λ k. list_any (λ w. w.0.0 == k) s.queues.watches) s.keys.keys new
+    → live_watches (shown s.keys.keys) s.queues.watches ≡ s.queues.watches
     → SweepsOut (state_of s) (record (state_of s) { keys = shown new })
-sweeps_none s new told sweeps many live =
-    let same : new ≡ s.keys.keys =
-    sweeps.keys ∙ kept_all (λ e. sweeps.kept e.0) s.keys.keys
-    (subst (λ (es : Table Key). length s.keys.keys ≤ length es) sweeps.keys many) in
-    let stays : live_watches (shown new) s.queues.watches ≡ s.queues.watches =
-    ap (λ (es : Table Key). live_watches (shown es) s.queues.watches) same ∙ live in
-    let none : dropped_watches (shown new) s.queues.watches ≡ [] = none_dropped (shown new) s.queues.watches stays in
+sweeps_unwatched s new told kept live =
+    let old = s.keys.keys in
+    let ws = s.queues.watches in
+    let there : Table Key → ℕ → Bool = λ keys k. is_some (at (shown keys) k) in
+    let alike : (k : ℕ) → list_any (λ (w : Watch). w.0.0 == k) ws ≡ true → there new k ≡ there old k = λ k h.
+    ap is_some (at_map seen new k ∙ (ap (option_map seen) (kept k h) ∙ sym (at_map seen old k))) in
+    let stays : live_watches (shown new) ws ≡ ws =
+    left_alike (λ k. list_any (λ w. w.0.0 == k) ws) (there new) (there old) ws alike (all_watched ws) ∙ live in
+    let none : dropped_watches (shown new) ws ≡ [] = none_dropped (shown new) ws stays in
     let after : model.State = swept_state s new in
     let is : after ≡ record (state_of s) { keys = shown new } =
-    ap (λ ws. record (state_of s) { keys = shown new; watches = ws }) stays in
+    ap (λ zs. record (state_of s) { keys = shown new; watches = zs }) stays in
     record {
       swept = after;
       sweep = told.sweep;
       posted = sym is
-          ∙ sym (posted_nothing (map removal_for (dropped_watches (shown new) s.queues.watches)) after
-          (ap (map removal_for) none));
+          ∙ sym (posted_nothing (map removal_for (dropped_watches (shown new) ws)) after (ap (map removal_for) none));
     }

@@ -1,8 +1,8 @@
 -- The thread and process keyrings that the store makes.
 use Rattle.std.specs.Prelude.{◌≡◌, ◌==◌, ℕ, ℤ, ◌+◌, List, [], ◌∷◌, None, Some, Option, Bool, true, false, codes}
-use Rattle.std.specs.Prelude.{nat_lt, if◌then◌else◌, Result, Ok, Err}
+use Rattle.std.specs.Prelude.{nat_lt, Result, Ok, Err}
 use Rattle.krs_types.specs.declared.errno.Errno.{Errno}
-use Rattle.krs_types.specs.declared.errno.Errno.TheVariants.{ENOKEY, EDEADLK, ELOOP, ENOSPC}
+use Rattle.krs_types.specs.declared.errno.Errno.TheVariants.{ENOKEY, ELOOP, ENOSPC}
 use Rattle.krs_types.specs.declared.ask.Answer.{Answer}
 use Rattle.krs_types.specs.declared.ask.Answer.TheVariants.{Number}
 use Rattle.krs_types.specs.declared.kind.Kind.TheVariants.{Keyring}
@@ -20,7 +20,7 @@ use Rattle.krs_model.specs.Possession.{process_ring}
 use Rattle.krs_model.specs.Lookup.{context_of}
 use Rattle.krs_model.specs.Linking.{linking}
 use Rattle.krs_model.specs.Reach.{has_chain}
-use Rattle.krs_model.specs.Making.{with_new, with_thread, with_process, thread_to, special_ring, made_for}
+use Rattle.krs_model.specs.Making.{with_new, with_thread, with_process, thread_to, made_for}
 use Rattle.krs_model.specs.Making.{within_serials}
 use Rattle.krs_model.specs.Asks.Adding.{made, new_key}
 use Rattle.krs_model.specs.Asks.Changing.{changed}

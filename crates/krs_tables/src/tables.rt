@@ -57,7 +57,7 @@ impl Tables {
         ensures { result ≡ starting_at next }
     {
         Tables {
-            keys: KeyTable::starting_at(alloc, next),
+            keys: KeyTable::starting_at(alloc, seed, next),
             contexts: Contexts::new(alloc),
             queues: WatchQueues::new(alloc),
             clock: 0,
@@ -186,15 +186,13 @@ impl Tables {
     }
 
     /// Just the keys stay that are attached, or linked by what stays. The watches of the others end with removal
-    /// records.
+    /// records. Where no watched key goes, no watch is looked at.
     pub fn sweep(&mut self)
         requires acyclic { IsAcyclic (links_of_key_at self.old.keys) }
         requires live { live_watches self.old.keys self.old.watches ≡ self.old.watches }
         ensures { SweepsOut self.old self.new }
     {
-        let before = self.keys.len();
-        self.holders.sweep(&mut self.keys);
-        if self.keys.len() < before {
+        if self.holders.sweep(&mut self.keys, &self.queues) {
             self.queues.sweep(&self.keys);
         }
     }

@@ -1,6 +1,7 @@
 -- The part of the watches that lies around those of a key.
-use Rattle.std.proofs.Common.{◌≡◌, ℕ, zero, suc, ◌+◌, List, [], ◌∷◌, Bool, true, false, cond, eqb, filter, refl, sym}
-use Rattle.std.proofs.Common.{ap, arith}
+use Rattle.std.proofs.Common.{◌≡◌, ℕ, zero, suc, ◌+◌, List, [], ◌∷◌, Bool, true, false, cond, eqb, ◌||◌, filter, refl, sym}
+use Rattle.std.proofs.Common.{ap, ◌∙◌, arith}
+use Rattle.std.specs.List.{list_any}
 use Rattle.std.specs.Ordering.{nat_cmp, ordering_then, is_le}
 use Rattle.std.specs.declared.cmp.Ordering.TheVariants.{Less, Equal, Greater}
 use Rattle.std.specs.declared.ops.Bound.TheVariants.{Included, Excluded, Unbounded}
@@ -56,3 +57,21 @@ from_key key watches =
     watches (λ w t.
     let k : w.0.0 ≡ key = eqb-true w.0.0 key t in
     rw (k, starts key w.0.1) refl)
+
+-- one that passes a test is among those that do
+any_filter : {X : Type 0} (p : X → Bool) (xs : List X) → list_any p xs ≡ list_any p (filter p xs)
+any_filter p [] = refl
+any_filter p (x ∷ xs) =
+    elim (p x) as (λ b. p x ≡ b
+    → (b || list_any p xs) ≡ list_any p (cond b (x ∷ filter p xs) (filter p xs))) [
+      | true ↦ λ t. rw t refl
+      | false ↦ λ t. any_filter p xs
+    ] refl
+
+-- a key is watched where it has watches
+pub watched_alike :
+    (key : ℕ) (some all : List Watch) → watches_at key some ≡ watches_at key all
+    → list_any (λ w. eqb w.0.0 key) some ≡ list_any (λ w. eqb w.0.0 key) all
+watched_alike key some all same =
+    any_filter (λ w. eqb w.0.0 key) some
+    ∙ (ap (list_any (λ w. eqb w.0.0 key)) same ∙ sym (any_filter (λ w. eqb w.0.0 key) all))

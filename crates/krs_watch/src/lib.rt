@@ -2,14 +2,12 @@
 #![tactic(auto)]
 
 mod ids;
-mod keys;
 mod laws;
 mod posting;
 mod queue;
 mod queues;
 
 pub use ids::watch_id;
-pub use keys::KeySet;
 pub use laws::{
     notes_reach_their_watchers, posts_reach_their_queues, reads_take_the_longest_front,
 };

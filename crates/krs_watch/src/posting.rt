@@ -35,7 +35,7 @@ fn offer(queues: &mut BTreeMap<u32, NoteQueue>, number: u32, note: Record)
 }
 
 /// The part of the watches that has all of a key, and where no key is greater no other.
-fn around(watches: &BTreeMap<Place, u8>, key: u32) -> Range<'_, Place, u8>
+pub(crate) fn around(watches: &BTreeMap<Place, u8>, key: u32) -> Range<'_, Place, u8>
     ensures { watches_at key result ≡ watches_at key watches.now.entries }
 {
     match key.checked_add(1) {

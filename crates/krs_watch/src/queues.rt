@@ -9,9 +9,9 @@ ghost use Rattle.krs_model.specs.Asks.Watching.{with_filter};
 ghost use Rattle.krs_watch.specs.Reads.{ReadsAt};
 ghost use Rattle.krs_watch.specs.Changes.{LeadsQueues, LeadsAlways, OwnsQueue, watch_ended, swept};
 
-use crate::keys::KeySet;
-use crate::posting::{Place, post, post_note};
+use crate::posting::{Place, around, post, post_note};
 use crate::queue::NoteQueue;
+use krs_keys::KeySet;
 use krs_notes::Filter;
 use krs_ring::NoteRing;
 use krs_types::{Body, Errno, Fault, FilterEntry, KeyEvent, Record, Serial};
@@ -167,6 +167,27 @@ impl WatchQueues {
         post_dropped(&mut self.queues, &self.watches, keys);
         keep_live(&mut self.watches, keys);
     }
+}
+
+impl KeySet for WatchQueues {
+    ghost has = { λ queues k. list_any (λ w. w.0.0 == k) queues.watches };
+
+    /// Whether a key is watched: a look at its own watches alone.
+    fn has(&self, key: Serial) -> bool {
+        is_watched(&self.watches, key.number())
+    }
+}
+
+/// Whether a key is watched.
+fn is_watched(watches: &BTreeMap<Place, u8>, key: u32) -> bool
+    ensures { result ≡ list_any (λ w. w.0.0 == key) watches.now.entries }
+{
+    for (place, _id) in around(watches, key) {
+        if place.0 == key {
+            return true;
+        }
+    }
+    false
 }
 
 /// A removal record comes to each queue that watches a key which is not there.

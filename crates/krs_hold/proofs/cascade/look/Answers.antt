@@ -1,13 +1,15 @@
-use Rattle.std.proofs.Common.{◌≡◌, ℕ, ◌≤◌, ap, arith}
+use Rattle.std.proofs.Common.{◌≡◌, ℕ, ◌≤◌, ap, ◌∙◌, sym, arith, true≢false}
 use Rattle.krs_hold.specs.Chain.{Chained}
 use Rattle.krs_hold.proofs.Steps.{IsRested, rest_weighs, kept_chain, kept_exact}
 use Rattle.krs_hold.proofs.Steps.{dropped_chain, dropped_weighs, dropped_exact, dropped_spares}
 use Rattle.krs_hold.proofs.Anchoring.{spares_all}
 use Rattle.krs_keys.specs.Hashed.{by_serial}
+use Rattle.krs_hold.proofs.WatchedKeys.{unwatched_goes}
+use Rattle.krs_hold.proofs.cascade.look.Goals.{then-has, else-has}
 use Rattle.krs_hold.proofs.cascade.look.Goals as goal
 
 pub returns-then-holders-gt0-clause-chained : goal.returns-then-holders-gt0-clause-chained
-returns-then-holders-gt0-clause-chained c =
+returns-then-holders-gt0-clause-chained g c =
     let r : IsRested _ _ _ _ =
     record { chained = c.requires; counts = c.rest-next.ensures.counts; after = c.rest-next.ensures.next } in
     let held = c.holders.ensures in
@@ -15,27 +17,27 @@ returns-then-holders-gt0-clause-chained c =
     kept_chain _ _ _ _ r (omega (arith, held, some))
 
 pub returns-then-holders-gt0-clause-less : goal.returns-then-holders-gt0-clause-less
-returns-then-holders-gt0-clause-less c =
+returns-then-holders-gt0-clause-less g c =
     rest_weighs _ _ _ _
     (record { chained = c.requires; counts = c.rest-next.ensures.counts; after = c.rest-next.ensures.next })
 
 pub returns-then-holders-gt0-clause-exact : goal.returns-then-holders-gt0-clause-exact
-returns-then-holders-gt0-clause-exact c = λ a h.
+returns-then-holders-gt0-clause-exact g c = λ a h.
     kept_exact _ a _ _ _ _
     (record { chained = c.requires; counts = c.rest-next.ensures.counts; after = c.rest-next.ensures.next }) h
 
 pub returns-then-holders-gt0-clause-spared : goal.returns-then-holders-gt0-clause-spared
-returns-then-holders-gt0-clause-spared c = λ a h. spares_all a c.args.keys.now.keys
+returns-then-holders-gt0-clause-spared g c = λ a h. spares_all a c.args.keys.now.keys
 
 pub returns-clause-chained : goal.returns-clause-chained
-returns-clause-chained c =
+returns-clause-chained g c =
     let u : Chained = record { counts = by_serial c.drop_key.new.counts.entries; first = c.drop_key.result } in
     dropped_chain c.args.keys.now.keys (by_serial c.args.counts.now.entries) c.args.serial _ _ u
     (record { chained = c.requires; counts = c.rest-next.ensures.counts; after = c.rest-next.ensures.next })
     (record { no_count = c.drop_key.ensures.no_count; counts = c.drop_key.ensures.counts })
 
 pub returns-clause-less : goal.returns-clause-less
-returns-clause-less c =
+returns-clause-less g c =
     let u : Chained = record { counts = by_serial c.drop_key.new.counts.entries; first = c.drop_key.result } in
     dropped_weighs c.args.keys.now.keys (by_serial c.args.counts.now.entries) c.args.serial _ _ u
     (record { chained = c.requires; counts = c.rest-next.ensures.counts; after = c.rest-next.ensures.next })
@@ -45,7 +47,7 @@ empty : (n m : ℕ) → n ≡ m → n ≤ 0 → m ≡ 0
 empty n m e h = omega (arith, e, h)
 
 pub returns-clause-exact : goal.returns-clause-exact
-returns-clause-exact c = λ a h.
+returns-clause-exact g c = λ a h.
     let u : Chained = record { counts = by_serial c.drop_key.new.counts.entries; first = c.drop_key.result } in
     dropped_exact c.args.keys.now.keys c.drop_key.new.keys.keys a c.args.serial
     (by_serial c.rest-next.new.counts.entries) c.rest-next.result u (ap (λ t. t.keys) c.drop_key.ensures.keys)
@@ -56,10 +58,22 @@ returns-clause-exact c = λ a h.
     (record { chained = c.requires; counts = c.rest-next.ensures.counts; after = c.rest-next.ensures.next }) h)
 
 pub returns-clause-spared : goal.returns-clause-spared
-returns-clause-spared c = λ a h.
+returns-clause-spared g c = λ a h.
     dropped_spares c.args.keys.now.keys c.drop_key.new.keys.keys a c.args.serial
     (by_serial c.rest-next.new.counts.entries)
     (ap (λ t. t.keys) c.drop_key.ensures.keys) c.drop_key.ensures.gone
     (empty _ _ c.holders.ensures c.if-holders-gt0.false)
     (kept_exact _ a _ _ _ _
     (record { chained = c.requires; counts = c.rest-next.ensures.counts; after = c.rest-next.ensures.next }) h)
+
+pub returns-clause-watched : goal.returns-clause-watched
+returns-clause-watched g c = λ none.
+    let has = g.W.KeySet.has c.args.watched.now in
+    elim c.if-has.branch [
+      | then-has w ↦ absurd (true≢false (sym w.told-is ∙ none))
+      | else-has w ↦ (
+        sym w.told-is ∙ none,
+        unwatched_goes has c.args.keys.now.keys c.drop_key.new.keys.keys c.args.serial
+            (ap has (sym c.new.ensures) ∙ (sym c.has.ensures ∙ w.if-has.false)) (ap (λ t. t.keys) c.drop_key.ensures.keys),
+      )
+    ]

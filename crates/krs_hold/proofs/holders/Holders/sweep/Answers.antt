@@ -5,7 +5,7 @@ use Rattle.krs_hold.proofs.Anchoring.{anchored_sweeps}
 use Rattle.krs_hold.proofs.holders.Holders.sweep.Goals as goal
 
 pub returns-clause-swept : goal.returns-clause-swept
-returns-clause-swept c = λ a h acyclic.
+returns-clause-swept g c = λ a h acyclic.
     let keys = c.args.keys.now.keys in
-    anchored_sweeps a keys c.sweep.new.keys.keys acyclic
-    (c.sweep.ensures.anchored a (subst (λ (zs : Table ℕ). AreExact keys zs a) (sym c.self.view_is) h))
+    anchored_sweeps a keys c.sweep-told.new.keys.keys acyclic
+    (c.sweep-told.ensures.anchored a (subst (λ (zs : Table ℕ). AreExact keys zs a) (sym c.self.view_is) h))
