@@ -1,6 +1,7 @@
 ghost use Rattle.std.specs.Prelude.{◌≡◌, IfOk};
 ghost use Rattle.krs_keys.specs.Keys.{IsOfKind};
 
+use super::watches::Below;
 use krs_hold::Holders;
 use krs_keys::{Change, Content, Key, KeyTable};
 use krs_links::{Links, Seed};
@@ -20,7 +21,7 @@ struct Held {
 impl Held {
     fn new(alloc: Global) -> Held {
         Held {
-            keys: KeyTable::starting_at(alloc, 3),
+            keys: KeyTable::starting_at(alloc, Seed::Fixed, 3),
             holders: Holders::new(alloc),
         }
     }
@@ -98,12 +99,14 @@ impl Held {
         self.holders.let_go(Serial::new(serial));
     }
 
-    fn sweep(&mut self) {
-        self.holders.sweep(&mut self.keys);
+    /// Whether a watched key is among those that go: 3 and 4 are watched.
+    fn sweep(&mut self) -> bool {
+        self.holders.sweep(&mut self.keys, &Below(5))
     }
 
-    fn release(&mut self, serial: u32) {
-        self.holders.release(&mut self.keys, Serial::new(serial));
+    fn release(&mut self, serial: u32) -> bool {
+        self.let_go(serial);
+        self.sweep()
     }
 
     /// Takes all links of a keyring.
@@ -183,10 +186,8 @@ fn check_holds(rt: &impl Abort, held: &mut Held) -> Result<(), Fail> {
     held.sweep();
     assert!(rt; held.has_each() == [true, true, true]);
     // Keyring 3 goes with keyring 4, and key 5 stays attached.
-    held.release(3);
-    assert!(rt; held.has_each() == [false, false, true]);
-    held.release(5);
-    assert!(rt; held.len() == 0);
+    assert!(rt; held.release(3) && held.has_each() == [false, false, true]);
+    assert!(rt; !held.release(5) && held.len() == 0);
     Ok(())
 }
 

@@ -83,7 +83,7 @@ impl Table {
     fn starting_at(alloc: Global, next: u32) -> Table {
         Table {
             alloc,
-            keys: KeyTable::starting_at(alloc, next),
+            keys: KeyTable::starting_at(alloc, Seed::Fixed, next),
         }
     }
 

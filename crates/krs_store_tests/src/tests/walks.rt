@@ -52,7 +52,7 @@ fn two_rings(alloc: Global, first: Key, second: Key) -> Result<KeyTable, Errno>
     ensures keys { IfOk result (λ keys. keys.keys ≡ put (put [] 3 first) 4 second) }
     ensures fit { IfOk result (λ keys. AreFit keys.keys) }
 {
-    let mut keys = KeyTable::starting_at(alloc, 3);
+    let mut keys = KeyTable::starting_at(alloc, Seed::Fixed, 3);
     keys.insert_two(first, second)?;
     Ok(keys)
 }

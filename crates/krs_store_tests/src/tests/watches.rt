@@ -1,14 +1,15 @@
 ghost use Rattle.std.specs.Prelude.{nat_lt};
 
+use krs_keys::KeySet;
 use krs_types::{Body, Errno, Fault, FilterEntry, KeyEvent, Serial};
-use krs_watch::{KeySet, WatchQueues, watch_id};
+use krs_watch::{WatchQueues, watch_id};
 use std::alloc::Global;
 use std::process::Abort;
 use std::test::Fail;
 
-/// The keys below a serial are there.
+/// The keys below a serial.
 #[derive(Drop)]
-struct Below(u32);
+pub(super) struct Below(pub(super) u32);
 
 impl KeySet for Below {
     ghost has = { λ keys k. nat_lt k keys.0 };
