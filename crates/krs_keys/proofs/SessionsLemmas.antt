@@ -177,10 +177,10 @@ least : (n : ℕ) → is_le (nat_cmp 0 n) ≡ true
 least zero = refl
 least (suc n) = let less : nat_cmp 0 (suc n) ≡ Less = sym (nat_cmp_is 0 (suc n) Less (omega arith)) in rw less refl
 
-above : (k n : ℕ) → is_le (ordering_then (nat_cmp (k + 1) k) (nat_cmp 0 n)) ≡ false
+pub above : (k n : ℕ) → is_le (ordering_then (nat_cmp (k + 1) k) (nat_cmp 0 n)) ≡ false
 above k n = let more : nat_cmp (k + 1) k ≡ Greater = sym (nat_cmp_is (k + 1) k Greater (omega arith)) in rw more refl
 
-starts : (k n : ℕ) → is_le (ordering_then (nat_cmp k k) (nat_cmp 0 n)) ≡ true
+pub starts : (k n : ℕ) → is_le (ordering_then (nat_cmp k k) (nat_cmp 0 n)) ≡ true
 starts k n = rw (same k) (least n)
 
 bears : (g k a b : ℕ) → is_at (place_cmp (g, k)) (a, b) ≡ true → (g ≡ a) × (nat_eq k b ≡ true)

@@ -1,15 +1,13 @@
 -- The part of the watches that lies around those of a key.
-use Rattle.std.proofs.Common.{◌≡◌, ℕ, zero, suc, ◌+◌, List, [], ◌∷◌, Bool, true, false, cond, eqb, ◌||◌, filter, refl, sym}
-use Rattle.std.proofs.Common.{ap, ◌∙◌, arith}
+use Rattle.std.proofs.Common.{◌≡◌, ℕ, ◌+◌, List, [], ◌∷◌, Bool, true, false, cond, eqb, ◌||◌, filter, refl, sym}
+use Rattle.std.proofs.Common.{ap, ◌∙◌}
 use Rattle.std.specs.List.{list_any}
-use Rattle.std.specs.Ordering.{nat_cmp, ordering_then, is_le}
-use Rattle.std.specs.declared.cmp.Ordering.TheVariants.{Less, Equal, Greater}
 use Rattle.std.specs.declared.ops.Bound.TheVariants.{Included, Excluded, Unbounded}
 use Rattle.std.specs.BTreeMap.Range.{range_contains}
-use Rattle.std.specs.Cmp.{nat_cmp_is}
 use Rattle.std.proofs.lemmas.Bool.{eqb-true}
 use Rattle.krs_model.specs.Queues.{Watch, place_cmp}
 use Rattle.krs_model.specs.Notes.Posting.{watches_at}
+use Rattle.krs_keys.proofs.SessionsLemmas.{starts, above}
 
 -- what a weaker test leaves has all that a stronger one finds
 pub filter_within : {X : Type 0} (p q : X → Bool) (xs : List X) → ((x : X) → p x ≡ true → q x ≡ true) →
@@ -24,19 +22,6 @@ filter_within p q (x ∷ xs) h =
         | false ↦ filter_within p q xs h
       ]
     ] refl
-
-same : (k : ℕ) → nat_cmp k k ≡ Equal
-same k = sym (nat_cmp_is k k Equal refl)
-
-least : (n : ℕ) → is_le (nat_cmp 0 n) ≡ true
-least zero = refl
-least (suc n) = let less : nat_cmp 0 (suc n) ≡ Less = sym (nat_cmp_is 0 (suc n) Less (omega arith)) in rw less refl
-
-above : (k n : ℕ) → is_le (ordering_then (nat_cmp (k + 1) k) (nat_cmp 0 n)) ≡ false
-above k n = let more : nat_cmp (k + 1) k ≡ Greater = sym (nat_cmp_is (k + 1) k Greater (omega arith)) in rw more refl
-
-starts : (k n : ℕ) → is_le (ordering_then (nat_cmp k k) (nat_cmp 0 n)) ≡ true
-starts k n = rw (same k) (least n)
 
 -- from the key's first place to the next key's
 pub between_keys : (key : ℕ) (watches : List Watch) →
