@@ -1,13 +1,16 @@
 //! Scripts and single calls over a connection whose ends are in memory: docs/FORMAT.md, "Scripts over a socket",
 //! "Single calls". The replies are the bytes of the vectors, and what is asked is compared with them.
-use krs_ctl::{run_program, run_remote};
+use super::script;
+use super::script::program_words;
+use krs_commands::Command;
+use krs_ctl::run_remote;
 use krs_remote::{call_command, run_call};
 use krs_types::{Caller, Groups};
-use krs_words::words;
+use krs_words::{NoCommand, words};
 use std::alloc::{AllocError, Global};
-use std::env::Args;
 use std::io;
 use std::io::{ErrorKind, Write};
+use std::process::Abort;
 use std::test::Fail;
 
 /// Context 1 for 1000 1000, the key 5, its payload, and its description.
@@ -42,17 +45,28 @@ fn joined(alloc: Global, parts: &[&[u8]]) -> Result<Vec<u8>, AllocError> {
     Ok(all)
 }
 
+/// The status of a script over a connection with these replies. It promises nothing of what it prints and asks, which a
+/// test finds in the texts.
+fn ended(
+    alloc: Global,
+    input: &[u8],
+    output: &mut Vec<u8>,
+    replies: &[u8],
+    asked: &mut Vec<u8>,
+) -> u8 {
+    run_remote(alloc, input, output, replies, asked)
+}
+
 #[test]
 fn a_script(rt: HostRuntime) -> Result<(), Fail> {
     let alloc = rt.alloc();
     let replies = joined(alloc, &[CONTEXT, ADDED, PAYLOAD, DESCRIBED])?;
+    let asks = joined(alloc, &[ASKS_CONTEXT, ASKS_ADD, ASKS_READ, ASKS_DESCRIBE])?;
     let (mut output, mut asked) = (Vec::new(alloc), Vec::new(alloc));
-    let input = ALPHA.as_bytes();
-    let status = run_remote(alloc, input, &mut output, replies.as_slice(), &mut asked);
+    let status = ended(alloc, ALPHA.as_bytes(), &mut output, &replies, &mut asked);
     let wanted = b"1\n5\ns3\nuser;1000;1000;3f010000;alpha\n".as_slice();
     assert_eq!(rt; output.as_slice(), wanted);
     assert_eq!(rt; status, 0);
-    let asks = joined(alloc, &[ASKS_CONTEXT, ASKS_ADD, ASKS_READ, ASKS_DESCRIBE])?;
     assert_eq!(rt; asked.as_slice(), asks.as_slice());
     Ok(())
 }
@@ -86,14 +100,22 @@ const SCRIPTS: [(&str, &[u8], &str, u8, usize); 16] = [
 ];
 
 #[test]
-fn scripts(rt: HostRuntime) -> Result<(), Fail> {
+fn scripts(rt: HostRuntime) {
     let alloc = rt.alloc();
-    for (input, replies, wanted, status, asks) in SCRIPTS {
+    for (input, replies, wanted, status, asks) in &SCRIPTS {
         let (mut output, mut asked) = (Vec::new(alloc), Vec::new(alloc));
-        let ended = run_remote(alloc, input.as_bytes(), &mut output, replies, &mut asked);
+        let ended = ended(alloc, input.as_bytes(), &mut output, replies, &mut asked);
         assert_eq!(rt; output.as_slice(), wanted.as_bytes(), "at {input:?}");
-        assert_eq!(rt; ended, status, "at {input:?}");
-        assert_eq!(rt; asked.len(), asks, "at {input:?}");
+        assert_eq!(rt; ended, *status, "at {input:?}");
+        assert_eq!(rt; asked.len(), *asks, "at {input:?}");
+    }
+}
+
+/// LEAVE, and an UPDATE of 65530 bytes.
+fn add_long_update(input: &mut Vec<u8>) -> Result<(), AllocError> {
+    input.extend_from_slice(b"leave\nupdate 5 ")?;
+    for _ in 0..65_530 {
+        input.push(b'a')?;
     }
     Ok(())
 }
@@ -102,13 +124,11 @@ fn scripts(rt: HostRuntime) -> Result<(), Fail> {
 #[test]
 fn too_long(rt: HostRuntime) -> Result<(), Fail> {
     let alloc = rt.alloc();
-    let mut input = b"leave\nupdate 5 ".to_vec(alloc)?;
-    for _ in 0..65_530 {
-        input.push(b'a')?;
-    }
+    let mut input = Vec::new(alloc);
+    add_long_update(&mut input)?;
     let (mut output, mut asked) = (Vec::new(alloc), Vec::new(alloc));
-    let replies = b"\x04\0\0\0\0\0\0\0".as_slice();
-    let status = run_remote(alloc, input.as_slice(), &mut output, replies, &mut asked);
+    let replies = b"\x04\0\0\0\0\0\0\0";
+    let status = ended(alloc, &input, &mut output, replies, &mut asked);
     assert_eq!(rt; output.as_slice(), b"ok\nusage\n".as_slice());
     assert_eq!(rt; status, 2);
     assert_eq!(rt; asked.len(), 12);
@@ -136,19 +156,27 @@ impl Write for Takes {
     }
 }
 
+/// The status of a script whose output takes so many bytes.
+fn ended_unprinted(alloc: Global, left: usize, replies: &[u8]) -> u8 {
+    let (mut output, mut asked) = (Takes { left }, Vec::new(alloc));
+    run_remote(alloc, ALPHA.as_bytes(), &mut output, replies, &mut asked)
+}
+
+/// The same of a connection that takes so many.
+fn ended_unasked(alloc: Global, left: usize, replies: &[u8], output: &mut Vec<u8>) -> u8 {
+    let mut asked = Takes { left };
+    run_remote(alloc, ALPHA.as_bytes(), output, replies, &mut asked)
+}
+
 /// Printing that fails ends a script without a word, and a connection that takes nothing with one.
 #[test]
 fn ends_that_fail(rt: HostRuntime) -> Result<(), Fail> {
     let alloc = rt.alloc();
     let replies = joined(alloc, &[CONTEXT, ADDED, PAYLOAD, DESCRIBED])?;
-    let mut asked = Vec::new(alloc);
-    let mut full = Takes { left: 3 };
-    let input = ALPHA.as_bytes();
-    let status = run_remote(alloc, input, &mut full, replies.as_slice(), &mut asked);
-    assert_eq!(rt; status, 3);
-    for left in [0, 1, 23, 24, 58] {
-        let (mut output, mut to) = (Vec::new(alloc), Takes { left });
-        let status = run_remote(alloc, input, &mut output, replies.as_slice(), &mut to);
+    assert_eq!(rt; ended_unprinted(alloc, 3, &replies), 3);
+    for left in &[0, 1, 23, 24, 58] {
+        let mut output = Vec::new(alloc);
+        let status = ended_unasked(alloc, *left, &replies, &mut output);
         assert!(rt; output.ends_with(b"error: connection\n"), "at {left}");
         assert_eq!(rt; status, 3, "at {left}");
     }
@@ -156,8 +184,10 @@ fn ends_that_fail(rt: HostRuntime) -> Result<(), Fail> {
 }
 
 /// A single call for 1000 1000, the replies, what is printed, and the status.
+type Call<'a> = (&'a str, &'a [&'a [u8]], &'a str, u8);
+
 #[rattlefmt::skip]
-const CALLS: [(&str, &[&[u8]], &str, u8); 5] = [
+const CALLS: [Call<'static>; 5] = [
     ("add user alpha s3 @u", &[CONTEXT, ADDED], "5\n", 0),
     ("print 5", &[CONTEXT, PAYLOAD], "s3\n", 0),
     ("print 5", &[CONTEXT, NO_KEY], "error 126 ENOKEY\n", 1),
@@ -173,19 +203,39 @@ fn caller(alloc: Global) -> Caller {
     }
 }
 
+fn command(alloc: Global, line: &str) -> Result<Command, NoCommand> {
+    let words = words(alloc, line.as_bytes())?;
+    call_command(alloc, words.as_slice())
+}
+
+/// The status of a single call, which promises no more than a script.
+fn called(
+    alloc: Global,
+    command: Command,
+    output: &mut Vec<u8>,
+    replies: &[u8],
+    asked: &mut Vec<u8>,
+) -> u8 {
+    run_call(alloc, caller(alloc), command, output, replies, asked)
+}
+
+fn check_call(rt: &impl Abort, alloc: Global, command: Command, replies: &[u8], call: &Call<'_>) {
+    let (_, _, wanted, status) = *call;
+    let (mut output, mut asked) = (Vec::new(alloc), Vec::new(alloc));
+    let ended = called(alloc, command, &mut output, replies, &mut asked);
+    assert_eq!(rt; output.as_slice(), wanted.as_bytes(), "at {wanted:?}");
+    assert_eq!(rt; ended, status, "at {wanted:?}");
+    assert!(rt; asked.starts_with(ASKS_CONTEXT), "at {wanted:?}");
+}
+
 #[test]
 fn calls(rt: HostRuntime) -> Result<(), Fail> {
     let alloc = rt.alloc();
-    for (line, replies, wanted, status) in CALLS {
-        let words = words(alloc, line.as_bytes())?;
-        let command = call_command(alloc, words.as_slice())?;
+    for call in &CALLS {
+        let (line, replies, _, _) = *call;
         let replies = joined(alloc, replies)?;
-        let (mut output, mut asked) = (Vec::new(alloc), Vec::new(alloc));
-        let from = replies.as_slice();
-        let ended = run_call(alloc, caller(alloc), command, &mut output, from, &mut asked);
-        assert_eq!(rt; output.as_slice(), wanted.as_bytes(), "at {wanted:?}");
-        assert_eq!(rt; ended, status, "at {wanted:?}");
-        assert!(rt; asked.starts_with(ASKS_CONTEXT), "at {wanted:?}");
+        let command = command(alloc, line)?;
+        check_call(&rt, alloc, command, &replies, call);
     }
     Ok(())
 }
@@ -211,27 +261,15 @@ const PROGRAMS: [(&[&str], &str, u8); 14] = [
     (&["--uid", "1", "print", "5"], "usage\n", 2),
 ];
 
-/// The program's name, and these words behind it.
-fn program_words(alloc: Global, words: &[&str]) -> Result<Args, Fail> {
-    let mut all = Vec::new(alloc);
-    all.push(String::from_str(alloc, "keyretain")?)
-        .map_err(AllocError::from)?;
-    for word in words {
-        all.push(String::from_str(alloc, word)?)
-            .map_err(AllocError::from)?;
-    }
-    Ok(all.into_iter())
-}
-
 #[test]
 fn programs(rt: HostRuntime) -> Result<(), Fail> {
     let alloc = rt.alloc();
-    for (words, wanted, status) in PROGRAMS {
-        let args = Ok(program_words(alloc, words)?);
+    for (words, wanted, status) in &PROGRAMS {
+        let args = program_words(alloc, words)?;
         let (mut output, mut errors) = (Vec::new(alloc), Vec::new(alloc));
-        let ended = run_program(&rt, alloc, args, ALPHA.as_bytes(), &mut output, &mut errors);
+        let ended = script::ended(&rt, alloc, Ok(args), ALPHA, &mut output, &mut errors);
         assert_eq!(rt; output.as_slice(), wanted.as_bytes(), "at {words:?}");
-        assert_eq!(rt; ended, status, "at {words:?}");
+        assert_eq!(rt; ended, *status, "at {words:?}");
     }
     Ok(())
 }
@@ -248,10 +286,10 @@ const TOLD: [(&str, &str); 4] = [
 #[test]
 fn errors_name_lines(rt: HostRuntime) -> Result<(), Fail> {
     let alloc = rt.alloc();
-    for (input, told) in TOLD {
-        let args = Ok(program_words(alloc, &["script"])?);
+    for (input, told) in &TOLD {
+        let args = program_words(alloc, &["script"])?;
         let (mut output, mut errors) = (Vec::new(alloc), Vec::new(alloc));
-        run_program(&rt, alloc, args, input.as_bytes(), &mut output, &mut errors);
+        let _ = script::ended(&rt, alloc, Ok(args), input, &mut output, &mut errors);
         assert_eq!(rt; errors.as_slice(), told.as_bytes(), "at {input:?}");
     }
     Ok(())

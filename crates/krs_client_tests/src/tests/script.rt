@@ -6,6 +6,8 @@ use std::cell::Cell;
 use std::env::Args;
 use std::io;
 use std::io::{ErrorKind, Read, Write};
+use std::net::Net;
+use std::process::Abort;
 use std::test::Fail;
 
 pub(in crate::tests) mod changes;
@@ -62,49 +64,69 @@ const FAULTS: [&str; 119] = [
     "request user k 6 7", "exit 1", "Exit", "invalidate", "invalidate 5 6", "invalidate x", "Invalidate 5",
 ];
 
-fn script(alloc: Global, input: &str) -> Result<(String, u8), Fail> {
+/// Runs a script, behind a call that promises nothing: a test knows nothing of one but what it prints and how it ends.
+fn run(alloc: Global, input: &[u8], output: &mut Vec<u8>, store: Store) -> ScriptEnd {
+    run_script(alloc, input, output, store)
+}
+
+/// A script on a store prints this, and has this status.
+fn check_on(rt: &impl Abort, alloc: Global, store: Store, input: &str, wanted: &str, status: u8) {
     let mut output = Vec::new(alloc);
-    let end = run_script(alloc, input.as_bytes(), &mut output, Store::new(alloc));
-    Ok((String::from_utf8(output)?, end.status))
+    let end = run(alloc, input.as_bytes(), &mut output, store);
+    assert_eq!(rt; output.as_slice(), wanted.as_bytes(), "at {input:?}");
+    assert_eq!(rt; end.status, status, "at {input:?}");
 }
 
-/// The lines of a script, and what they print, each with its newline.
-fn texts(alloc: Global, rows: &[(&str, &str)]) -> Result<(String, String), Fail> {
-    let mut input = String::new(alloc);
-    let mut wanted = String::new(alloc);
+/// So does a script on an empty store.
+fn check_script(rt: &impl Abort, alloc: Global, input: &str, wanted: &str, status: u8) {
+    check_on(rt, alloc, Store::new(alloc), input, wanted, status);
+}
+
+fn add_line(text: &mut String, line: &str) -> Result<(), AllocError> {
+    text.push_str(line)?;
+    text.push('\n')?;
+    Ok(())
+}
+
+/// The lines of a script, or what they print, each with its newline.
+fn text_of(alloc: Global, rows: &[(&str, &str)], is_printed: bool) -> Result<String, AllocError> {
+    let mut text = String::new(alloc);
     for (line, printed) in rows {
-        input.push_str(line)?;
-        input.push('\n')?;
-        wanted.push_str(printed)?;
-        wanted.push('\n')?;
+        add_line(&mut text, if is_printed { printed } else { line })?;
     }
-    Ok((input, wanted))
+    Ok(text)
 }
 
-#[test]
-fn scripts(rt: HostRuntime) -> Result<(), Fail> {
-    for (input, wanted, status) in SCRIPTS {
-        let (output, ended) = script(rt.alloc(), input)?;
-        assert_eq!(rt; output.as_str(), wanted, "at {input:?}");
-        assert_eq!(rt; ended, status, "at {input:?}");
-    }
+/// A script by its lines, and what each prints.
+fn check_rows(
+    rt: &impl Abort,
+    alloc: Global,
+    rows: &[(&str, &str)],
+    status: u8,
+) -> Result<(), AllocError> {
+    let input = text_of(alloc, rows, false)?;
+    let wanted = text_of(alloc, rows, true)?;
+    check_script(rt, alloc, input.as_str(), wanted.as_str(), status);
     Ok(())
 }
 
 #[test]
-fn faults(rt: HostRuntime) -> Result<(), Fail> {
-    for line in FAULTS {
-        let (output, status) = script(rt.alloc(), line)?;
-        assert_eq!(rt; output.as_str(), "usage\n", "at {line:?}");
-        assert_eq!(rt; status, 2, "at {line:?}");
+fn scripts(rt: HostRuntime) {
+    for (input, wanted, status) in &SCRIPTS {
+        check_script(&rt, rt.alloc(), input, wanted, *status);
     }
-    Ok(())
 }
 
-/// A reader of bytes that are no text, and of lines longer than any buffer.
 #[test]
-fn any_bytes(rt: HostRuntime) -> Result<(), Fail> {
-    let mut input = b"hello 1000 1000\nadd user \xff\x80 ".to_vec(rt.alloc())?;
+fn faults(rt: HostRuntime) {
+    for line in &FAULTS {
+        check_script(&rt, rt.alloc(), line, "usage\n", 2);
+    }
+}
+
+/// Bytes that are no text, and lines longer than any buffer.
+fn add_any_bytes(input: &mut Vec<u8>) -> Result<(), AllocError> {
+    input.extend_from_slice(b"hello 1000 1000\nadd user \xff\x80 ")?;
     for _ in 0..200_000 {
         input.push(b'a')?;
     }
@@ -112,13 +134,14 @@ fn any_bytes(rt: HostRuntime) -> Result<(), Fail> {
     for _ in 0..200_000 {
         input.push(0)?;
     }
-    let mut output = Vec::new(rt.alloc());
-    let end = run_script(
-        rt.alloc(),
-        input.as_slice(),
-        &mut output,
-        Store::new(rt.alloc()),
-    );
+    Ok(())
+}
+
+#[test]
+fn any_bytes(rt: HostRuntime) -> Result<(), Fail> {
+    let (mut input, mut output) = (Vec::new(rt.alloc()), Vec::new(rt.alloc()));
+    add_any_bytes(&mut input)?;
+    let end = run(rt.alloc(), &input, &mut output, Store::new(rt.alloc()));
     let wanted =
         "1\nerror 22 EINVAL\n5\n:hex:757365723b313030303b313030303b33663031303030303bff80\n:hex:fe\n";
     assert_eq!(rt; output.as_slice(), wanted.as_bytes());
@@ -127,16 +150,12 @@ fn any_bytes(rt: HostRuntime) -> Result<(), Fail> {
 }
 
 #[test]
-fn store_comes_back(rt: HostRuntime) -> Result<(), Fail> {
+fn store_comes_back(rt: HostRuntime) {
     let alloc = rt.alloc();
     let mut output = Vec::new(alloc);
-    let first = run_script(alloc, ALPHA.as_bytes(), &mut output, Store::new(alloc));
-    output.clear();
-    let again = b"context 1\nprint 5\n".as_slice();
-    let ScriptEnd { status, store: _ } = run_script(alloc, again, &mut output, first.store);
-    assert_eq!(rt; output.as_slice(), b"ok\ns3\n".as_slice());
-    assert_eq!(rt; status, 0);
-    Ok(())
+    let first = run(alloc, ALPHA.as_bytes(), &mut output, Store::new(alloc));
+    let again = "context 1\nprint 5\n";
+    check_on(&rt, alloc, first.store, again, "ok\ns3\n", 0);
 }
 
 /// Gives a line at a time, and fails where the answers to those before it are not out, or at line `fails_at`.
@@ -217,28 +236,37 @@ const ENDS: [(usize, usize, u8, usize); 8] = [
     (9, 0, 3, 0), (9, 1, 3, 1), (9, 3, 3, 3), (9, 4, 0, 4),
 ];
 
+/// The status of a script over ends that fail.
+fn ended_at(alloc: Global, reader: LineByLine<'_>, writer: &mut FailsOnce<'_>) -> u8 {
+    let end = run_script(alloc, reader, writer, Store::new(alloc));
+    end.status
+}
+
 #[test]
-fn a_line_at_a_time(rt: HostRuntime) -> Result<(), Fail> {
+fn a_line_at_a_time(rt: HostRuntime) {
     let lines = [
         "hello 1000 1000\n",
         "add user alpha s3 @u\n",
         "print 5\n",
         "rdescribe 5\n",
     ];
-    for (reads, writes, status, count) in ENDS {
+    for (reads, writes, status, count) in &ENDS {
         let out = Cell::new(0);
         let reader = LineByLine {
             lines: lines.as_slice(),
             out: &out,
             given: 0,
-            fails_at: reads,
+            fails_at: *reads,
         };
-        let mut writer = FailsOnce::after(writes, &out);
-        let end = run_script(rt.alloc(), reader, &mut writer, Store::new(rt.alloc()));
-        assert_eq!(rt; end.status, status, "reads to {reads}, writes to {writes}");
-        assert_eq!(rt; writer.taken, count, "reads to {reads}, writes to {writes}");
+        let mut writer = FailsOnce::after(*writes, &out);
+        let ended = ended_at(rt.alloc(), reader, &mut writer);
+        assert_eq!(rt; ended, *status, "reads to {reads}, writes to {writes}");
+        assert_eq!(rt;
+            writer.taken,
+            *count,
+            "reads to {reads}, writes to {writes}"
+        );
     }
-    Ok(())
 }
 
 /// Newlines without an end, behind a first line, and how many bytes of them were read.
@@ -258,14 +286,19 @@ impl Read for Endless<'_> {
     }
 }
 
+/// The status of a script that reads so.
+fn ended_late(alloc: Global, reader: Endless<'_>, output: &mut Vec<u8>) -> u8 {
+    let end = run_script(alloc, reader, output, Store::new(alloc));
+    end.status
+}
+
 /// All lines that a script has at most are read, and no more than a buffer behind them.
 #[test]
-fn ends_after_many_lines(rt: HostRuntime) -> Result<(), Fail> {
+fn ends_after_many_lines(rt: HostRuntime) {
     let mut output = Vec::new(rt.alloc());
     let given = Cell::new(0);
     let reader = Endless { given: &given };
-    let end = run_script(rt.alloc(), reader, &mut output, Store::new(rt.alloc()));
-    assert_eq!(rt; end.status, 3);
+    assert_eq!(rt; ended_late(rt.alloc(), reader, &mut output), 3);
     assert_eq!(rt; output.as_slice(), b"ok\n".as_slice());
     let all_lines = 16_777_216 + "context 1".len();
     assert!(rt;
@@ -273,7 +306,6 @@ fn ends_after_many_lines(rt: HostRuntime) -> Result<(), Fail> {
         "{} bytes",
         given.get()
     );
-    Ok(())
 }
 
 /// The words behind the program's name, its input and status, how its output begins, and whether it writes to
@@ -293,37 +325,44 @@ const PROGRAMS: [(&[&str], &str, u8, &str, bool); 11] = [
     (&["--nonsense"], ALPHA, 2, "", true),
 ];
 
+fn add_word(alloc: Global, words: &mut Vec<String>, word: &str) -> Result<(), AllocError> {
+    let word = String::from_str(alloc, word)?;
+    words.push(word).map_err(AllocError::from)
+}
+
 /// The program's name, and these words behind it.
-fn program_words(alloc: Global, words: &[&str]) -> Result<Args, Fail> {
+pub(super) fn program_words(alloc: Global, words: &[&str]) -> Result<Args, AllocError> {
     let mut all = Vec::new(alloc);
-    all.push(String::from_str(alloc, "keyretain")?)
-        .map_err(AllocError::from)?;
+    add_word(alloc, &mut all, "keyretain")?;
     for word in words {
-        all.push(String::from_str(alloc, word)?)
-            .map_err(AllocError::from)?;
+        add_word(alloc, &mut all, word)?;
     }
     Ok(all.into_iter())
+}
+
+/// The status of the program. It promises nothing of what it writes, which a test finds in the texts.
+pub(super) fn ended<N: Net>(
+    net: &N,
+    alloc: Global,
+    words: io::Result<Args>,
+    input: &str,
+    output: &mut Vec<u8>,
+    errors: &mut Vec<u8>,
+) -> u8 {
+    run_program(net, alloc, words, input.as_bytes(), output, errors)
 }
 
 #[test]
 fn programs(rt: HostRuntime) -> Result<(), Fail> {
     let alloc = rt.alloc();
-    for (words, input, status, begins, has_errors) in PROGRAMS {
+    for (words, input, status, begins, has_errors) in &PROGRAMS {
         let args = program_words(alloc, words)?;
-        let mut output = Vec::new(alloc);
-        let mut errors = Vec::new(alloc);
-        let ended = run_program(
-            &rt,
-            alloc,
-            Ok(args),
-            input.as_bytes(),
-            &mut output,
-            &mut errors,
-        );
-        assert_eq!(rt; ended, status, "at {words:?}");
+        let (mut output, mut errors) = (Vec::new(alloc), Vec::new(alloc));
+        let ended = ended(&rt, alloc, Ok(args), input, &mut output, &mut errors);
+        assert_eq!(rt; ended, *status, "at {words:?}");
         assert!(rt; output.starts_with(begins.as_bytes()), "at {words:?}");
         assert_eq!(rt; output.is_empty(), begins.is_empty(), "at {words:?}");
-        assert_eq!(rt; errors.is_empty(), !has_errors, "at {words:?}");
+        assert_eq!(rt; errors.is_empty(), !*has_errors, "at {words:?}");
     }
     Ok(())
 }
@@ -336,17 +375,26 @@ const UNPRINTED: [(&[&str], u8); 5] = [
     (&["--nonsense"], 2),
 ];
 
+fn ended_unprinted<N: Net>(
+    net: &N,
+    alloc: Global,
+    words: Args,
+    output: &mut FailsOnce<'_>,
+    errors: &mut FailsOnce<'_>,
+) -> u8 {
+    run_program(net, alloc, Ok(words), ALPHA.as_bytes(), output, errors)
+}
+
 #[test]
 fn programs_that_cannot_print(rt: HostRuntime) -> Result<(), Fail> {
     let alloc = rt.alloc();
-    for (words, status) in UNPRINTED {
+    for (words, status) in &UNPRINTED {
         let args = program_words(alloc, words)?;
         let (out, told) = (Cell::new(0), Cell::new(0));
         let mut output = FailsOnce::after(0, &out);
         let mut errors = FailsOnce::after(0, &told);
-        let input = ALPHA.as_bytes();
-        let ended = run_program(&rt, alloc, Ok(args), input, &mut output, &mut errors);
-        assert_eq!(rt; ended, status, "at {words:?}");
+        let ended = ended_unprinted(&rt, alloc, args, &mut output, &mut errors);
+        assert_eq!(rt; ended, *status, "at {words:?}");
         assert_eq!(rt; output.taken, 0, "at {words:?}");
         assert_eq!(rt; errors.taken, 0, "at {words:?}");
     }
@@ -355,18 +403,16 @@ fn programs_that_cannot_print(rt: HostRuntime) -> Result<(), Fail> {
 
 /// Words that cannot be had: no text, or no memory for them.
 #[test]
-fn words_that_fail(rt: HostRuntime) -> Result<(), Fail> {
-    for (kind, wanted, status) in [
+fn words_that_fail(rt: HostRuntime) {
+    let alloc = rt.alloc();
+    for (kind, wanted, status) in &[
         (ErrorKind::InvalidData, "usage\n", 2),
         (ErrorKind::OutOfMemory, "error 12 ENOMEM\n", 1),
     ] {
-        let words = Err(io::Error::from(kind));
-        let mut output = Vec::new(rt.alloc());
-        let mut errors = Vec::new(rt.alloc());
-        let input = ALPHA.as_bytes();
-        let ended = run_program(&rt, rt.alloc(), words, input, &mut output, &mut errors);
+        let words = Err(io::Error::from(*kind));
+        let (mut output, mut errors) = (Vec::new(alloc), Vec::new(alloc));
+        let ended = ended(&rt, alloc, words, ALPHA, &mut output, &mut errors);
         assert_eq!(rt; output.as_slice(), wanted.as_bytes());
-        assert_eq!(rt; ended, status);
+        assert_eq!(rt; ended, *status);
     }
-    Ok(())
 }

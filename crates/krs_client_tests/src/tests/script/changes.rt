@@ -1,5 +1,5 @@
 //! Scripts whose keys are changed, a line and what it prints in each row.
-use super::{script, texts};
+use super::check_rows;
 use std::test::Fail;
 
 /// A key's time ends, and moments never go back.
@@ -125,11 +125,8 @@ pub(in crate::tests) const GROWING: [&[(&str, &str)]; 2] = [&TIMEOUTS_OWNERS_MAS
 
 #[test]
 fn keys_are_changed(rt: HostRuntime) -> Result<(), Fail> {
-    for rows in SCRIPTS {
-        let (input, wanted) = texts(rt.alloc(), rows)?;
-        let (output, status) = script(rt.alloc(), input.as_str())?;
-        assert_eq!(rt; output.as_str(), wanted.as_str(), "at {input:?}");
-        assert_eq!(rt; status, 1, "at {input:?}");
+    for rows in &SCRIPTS {
+        check_rows(&rt, rt.alloc(), rows, 1)?;
     }
     Ok(())
 }

@@ -1,6 +1,5 @@
 //! Scripts of contexts, session keyrings and search, a line and what it prints in each row.
-use super::texts;
-use krs_ctl::run_script;
+use super::{check_on, text_of};
 use krs_store::Store;
 use std::test::Fail;
 
@@ -214,17 +213,12 @@ pub(in crate::tests) const GROWING: [&[(&str, &str)]; 5] = [
 
 #[test]
 fn contexts_and_searches(rt: HostRuntime) -> Result<(), Fail> {
-    for (first, rows, status) in SCRIPTS {
-        let (input, wanted) = texts(rt.alloc(), rows)?;
-        let mut output = Vec::new(rt.alloc());
-        let store = Store::starting_at(rt.alloc(), first.max(3));
-        let end = run_script(rt.alloc(), input.as_bytes(), &mut output, store);
-        assert_eq!(rt;
-            String::from_utf8(output)?.as_str(),
-            wanted.as_str(),
-            "at {input:?}"
-        );
-        assert_eq!(rt; end.status, status, "at {input:?}");
+    let alloc = rt.alloc();
+    for (first, rows, status) in &SCRIPTS {
+        let input = text_of(alloc, rows, false)?;
+        let wanted = text_of(alloc, rows, true)?;
+        let store = Store::starting_at(alloc, (*first).max(3));
+        check_on(&rt, alloc, store, input.as_str(), wanted.as_str(), *status);
     }
     Ok(())
 }

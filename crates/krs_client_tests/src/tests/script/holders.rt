@@ -1,5 +1,5 @@
 //! Scripts in which contexts end and keys are let go, a line and what it prints in each row.
-use super::{script, texts};
+use super::check_rows;
 use std::alloc::Global;
 use std::process::Abort;
 use std::test::Fail;
@@ -115,10 +115,7 @@ const INVALIDATIONS: [&[(&str, &str)]; 3] = [&INVALIDATED, &DETACHED, &NOT_INVAL
 /// Every script here has a refusal, so that its status is 1.
 fn check_scripts(rt: &impl Abort, alloc: Global, scripts: &[&[(&str, &str)]]) -> Result<(), Fail> {
     for rows in scripts {
-        let (input, wanted) = texts(alloc, rows)?;
-        let (output, status) = script(alloc, input.as_str())?;
-        assert_eq!(rt; output.as_str(), wanted.as_str(), "at {input:?}");
-        assert_eq!(rt; status, 1, "at {input:?}");
+        check_rows(rt, alloc, rows, 1)?;
     }
     Ok(())
 }

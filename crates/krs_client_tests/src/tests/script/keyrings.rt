@@ -1,5 +1,5 @@
 //! Scripts of keyrings, a line and what it prints in each row.
-use super::{script, texts};
+use super::check_rows;
 use std::test::Fail;
 
 /// A keyring is not linked into one that it reaches, nor into itself.
@@ -141,11 +141,8 @@ pub(in crate::tests) const GROWING: [&[(&str, &str)]; 2] = [&LINKED, &REVOKED];
 
 #[test]
 fn keyrings_are_changed(rt: HostRuntime) -> Result<(), Fail> {
-    for (rows, status) in SCRIPTS {
-        let (input, wanted) = texts(rt.alloc(), rows)?;
-        let (output, ended) = script(rt.alloc(), input.as_str())?;
-        assert_eq!(rt; output.as_str(), wanted.as_str(), "at {input:?}");
-        assert_eq!(rt; ended, status, "at {input:?}");
+    for (rows, status) in &SCRIPTS {
+        check_rows(&rt, rt.alloc(), rows, *status)?;
     }
     Ok(())
 }

@@ -1,7 +1,6 @@
 //! Scripts of queues and watches, a line and what it prints in each row.
-use super::{script, texts};
-use std::alloc::Global;
-use std::process::Abort;
+use super::{add_line, check_rows, check_script, text_of};
+use std::alloc::{AllocError, Global};
 use std::test::Fail;
 
 /// A new payload is told of, and so is the end of a watched keyring that another one displaced.
@@ -174,19 +173,6 @@ const FAULTS: [&str; 37] = [
     "readq", "readq 1", "readq 1 2 3", "readq 1 x", "readq x 1",
 ];
 
-fn check_script(
-    rt: &impl Abort,
-    alloc: Global,
-    input: &str,
-    wanted: &str,
-    status: u8,
-) -> Result<(), Fail> {
-    let (output, ended) = script(alloc, input)?;
-    assert_eq!(rt; output.as_str(), wanted, "at {input:?}");
-    assert_eq!(rt; ended, status, "at {input:?}");
-    Ok(())
-}
-
 /// The scripts that are run again with each growth refused.
 pub(in crate::tests) const GROWING: [&[(&str, &str)]; 4] = [
     &UPDATED_AND_DROPPED,
@@ -197,41 +183,57 @@ pub(in crate::tests) const GROWING: [&[(&str, &str)]; 4] = [
 
 #[test]
 fn keys_are_watched(rt: HostRuntime) -> Result<(), Fail> {
-    for (rows, status) in SCRIPTS {
-        let (input, wanted) = texts(rt.alloc(), rows)?;
-        check_script(&rt, rt.alloc(), input.as_str(), wanted.as_str(), status)?;
+    for (rows, status) in &SCRIPTS {
+        check_rows(&rt, rt.alloc(), rows, *status)?;
     }
     Ok(())
 }
 
 #[test]
-fn words_of_queues(rt: HostRuntime) -> Result<(), Fail> {
-    for line in FAULTS {
-        check_script(&rt, rt.alloc(), line, "usage\n", 2)?;
+fn words_of_queues(rt: HostRuntime) {
+    for line in &FAULTS {
+        check_script(&rt, rt.alloc(), line, "usage\n", 2);
+    }
+}
+
+/// What is asked and printed where 256 queues are open.
+#[rattlefmt::skip]
+const ALL_OPEN: [(&str, &str); 5] = [
+    ("open 1", "error 23 ENFILE"),
+    ("open 0", "error 22 EINVAL"),
+    ("closeq 7", "ok"),
+    ("open 1", "257"),
+    ("readq 7 16", "error 9 EBADF"),
+];
+
+/// The lines that open 256 queues, and their numbers.
+fn add_queues(alloc: Global, input: &mut String, wanted: &mut String) -> Result<(), AllocError> {
+    for number in 1..=256_u32 {
+        let number = format!(in alloc; "{number}")?;
+        add_line(input, "open 1")?;
+        add_line(wanted, number.as_str())?;
     }
     Ok(())
+}
+
+fn add_text(
+    alloc: Global,
+    text: &mut String,
+    rows: &[(&str, &str)],
+    is_printed: bool,
+) -> Result<(), AllocError> {
+    let more = text_of(alloc, rows, is_printed)?;
+    text.push_str(more.as_str())
 }
 
 /// 256 queues are open at once. The number of one that was closed isn't given again.
 #[test]
 fn open_queues(rt: HostRuntime) -> Result<(), Fail> {
-    let mut input = String::new(rt.alloc());
-    let mut wanted = String::new(rt.alloc());
-    for number in 1..=256_u32 {
-        input.push_str("open 1\n")?;
-        wanted.push_str(format!(in rt.alloc(); "{number}\n")?.as_str())?;
-    }
-    let (last, answers) = texts(
-        rt.alloc(),
-        &[
-            ("open 1", "error 23 ENFILE"),
-            ("open 0", "error 22 EINVAL"),
-            ("closeq 7", "ok"),
-            ("open 1", "257"),
-            ("readq 7 16", "error 9 EBADF"),
-        ],
-    )?;
-    input.push_str(last.as_str())?;
-    wanted.push_str(answers.as_str())?;
-    check_script(&rt, rt.alloc(), input.as_str(), wanted.as_str(), 1)
+    let alloc = rt.alloc();
+    let (mut input, mut wanted) = (String::new(alloc), String::new(alloc));
+    add_queues(alloc, &mut input, &mut wanted)?;
+    add_text(alloc, &mut input, &ALL_OPEN, false)?;
+    add_text(alloc, &mut wanted, &ALL_OPEN, true)?;
+    check_script(&rt, alloc, input.as_str(), wanted.as_str(), 1);
+    Ok(())
 }
