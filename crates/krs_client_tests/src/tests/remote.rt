@@ -1,7 +1,6 @@
 //! Scripts and single calls over a connection whose ends are in memory: docs/FORMAT.md, "Scripts over a socket",
 //! "Single calls". The replies are the bytes of the vectors, and what is asked is compared with them.
-use super::script;
-use super::script::program_words;
+use super::script::programs::{program_words, status_of};
 use krs_commands::Command;
 use krs_ctl::run_remote;
 use krs_remote::{call_command, run_call};
@@ -267,7 +266,7 @@ fn programs(rt: HostRuntime) -> Result<(), Fail> {
     for (words, wanted, status) in &PROGRAMS {
         let args = program_words(alloc, words)?;
         let (mut output, mut errors) = (Vec::new(alloc), Vec::new(alloc));
-        let ended = script::ended(&rt, alloc, Ok(args), ALPHA, &mut output, &mut errors);
+        let ended = status_of(&rt, alloc, Ok(args), ALPHA, &mut output, &mut errors);
         assert_eq!(rt; output.as_slice(), wanted.as_bytes(), "at {words:?}");
         assert_eq!(rt; ended, *status, "at {words:?}");
     }
@@ -289,7 +288,7 @@ fn errors_name_lines(rt: HostRuntime) -> Result<(), Fail> {
     for (input, told) in &TOLD {
         let args = program_words(alloc, &["script"])?;
         let (mut output, mut errors) = (Vec::new(alloc), Vec::new(alloc));
-        let _ = script::ended(&rt, alloc, Ok(args), input, &mut output, &mut errors);
+        let _ = status_of(&rt, alloc, Ok(args), input, &mut output, &mut errors);
         assert_eq!(rt; errors.as_slice(), told.as_bytes(), "at {input:?}");
     }
     Ok(())

@@ -1,12 +1,10 @@
-//! Scripts and the program over ends in memory: the worked examples of docs/FORMAT.md, and ends that fail.
-use krs_ctl::{ScriptEnd, run_program, run_script};
+//! Scripts over ends in memory: the worked examples of docs/FORMAT.md, and ends that fail.
+use krs_ctl::{ScriptEnd, run_script};
 use krs_store::Store;
 use std::alloc::{AllocError, Global};
 use std::cell::Cell;
-use std::env::Args;
 use std::io;
 use std::io::{ErrorKind, Read, Write};
-use std::net::Net;
 use std::process::Abort;
 use std::test::Fail;
 
@@ -15,6 +13,7 @@ pub(in crate::tests) mod contexts;
 pub(in crate::tests) mod holders;
 pub(in crate::tests) mod keyrings;
 pub(in crate::tests) mod notes;
+pub(in crate::tests) mod programs;
 
 const ALPHA: &str = "hello 1000 1000\nadd user alpha s3 @u\nprint 5\nrdescribe 5\n";
 
@@ -97,17 +96,28 @@ fn text_of(alloc: Global, rows: &[(&str, &str)], is_printed: bool) -> Result<Str
     Ok(text)
 }
 
-/// A script by its lines, and what each prints.
+/// A script on a store by its lines, and what each prints.
+fn check_rows_on(
+    rt: &impl Abort,
+    alloc: Global,
+    store: Store,
+    rows: &[(&str, &str)],
+    status: u8,
+) -> Result<(), AllocError> {
+    let input = text_of(alloc, rows, false)?;
+    let wanted = text_of(alloc, rows, true)?;
+    check_on(rt, alloc, store, input.as_str(), wanted.as_str(), status);
+    Ok(())
+}
+
+/// The same on an empty store.
 fn check_rows(
     rt: &impl Abort,
     alloc: Global,
     rows: &[(&str, &str)],
     status: u8,
 ) -> Result<(), AllocError> {
-    let input = text_of(alloc, rows, false)?;
-    let wanted = text_of(alloc, rows, true)?;
-    check_script(rt, alloc, input.as_str(), wanted.as_str(), status);
-    Ok(())
+    check_rows_on(rt, alloc, Store::new(alloc), rows, status)
 }
 
 #[test]
@@ -306,113 +316,4 @@ fn ends_after_many_lines(rt: HostRuntime) {
         "{} bytes",
         given.get()
     );
-}
-
-/// The words behind the program's name, its input and status, how its output begins, and whether it writes to
-/// standard error.
-#[rattlefmt::skip]
-const PROGRAMS: [(&[&str], &str, u8, &str, bool); 11] = [
-    (&["script"], ALPHA, 0, "1\n5\ns3\n", false),
-    (&["--", "script"], ALPHA, 0, "1\n5\ns3\n", false),
-    (&["script"], "context 1\nprint 5\n", 1, "ok\nerror 3 ESRCH\n", false),
-    (&["script"], "context 1\nnonsense\n", 2, "ok\nusage\n", true),
-    (&[], ALPHA, 2, "usage\n", true),
-    (&["scrip"], ALPHA, 2, "usage\n", true),
-    (&["script", "x"], ALPHA, 2, "usage\n", true),
-    (&["print", "5"], ALPHA, 2, "usage\n", true),
-    (&["--version"], ALPHA, 0, "keyretain 0.1.0\n", false),
-    (&["--help"], ALPHA, 0, "A client of a key store", false),
-    (&["--nonsense"], ALPHA, 2, "", true),
-];
-
-fn add_word(alloc: Global, words: &mut Vec<String>, word: &str) -> Result<(), AllocError> {
-    let word = String::from_str(alloc, word)?;
-    words.push(word).map_err(AllocError::from)
-}
-
-/// The program's name, and these words behind it.
-pub(super) fn program_words(alloc: Global, words: &[&str]) -> Result<Args, AllocError> {
-    let mut all = Vec::new(alloc);
-    add_word(alloc, &mut all, "keyretain")?;
-    for word in words {
-        add_word(alloc, &mut all, word)?;
-    }
-    Ok(all.into_iter())
-}
-
-/// The status of the program. It promises nothing of what it writes, which a test finds in the texts.
-pub(super) fn ended<N: Net>(
-    net: &N,
-    alloc: Global,
-    words: io::Result<Args>,
-    input: &str,
-    output: &mut Vec<u8>,
-    errors: &mut Vec<u8>,
-) -> u8 {
-    run_program(net, alloc, words, input.as_bytes(), output, errors)
-}
-
-#[test]
-fn programs(rt: HostRuntime) -> Result<(), Fail> {
-    let alloc = rt.alloc();
-    for (words, input, status, begins, has_errors) in &PROGRAMS {
-        let args = program_words(alloc, words)?;
-        let (mut output, mut errors) = (Vec::new(alloc), Vec::new(alloc));
-        let ended = ended(&rt, alloc, Ok(args), input, &mut output, &mut errors);
-        assert_eq!(rt; ended, *status, "at {words:?}");
-        assert!(rt; output.starts_with(begins.as_bytes()), "at {words:?}");
-        assert_eq!(rt; output.is_empty(), begins.is_empty(), "at {words:?}");
-        assert_eq!(rt; errors.is_empty(), !*has_errors, "at {words:?}");
-    }
-    Ok(())
-}
-
-/// Words of a program whose output fails, and its status.
-#[rattlefmt::skip]
-const UNPRINTED: [(&[&str], u8); 5] = [
-    (&["script"], 3), (&["scrip"], 3), (&["--version"], 3), (&["--help"], 3),
-    // What is refused goes to standard error.
-    (&["--nonsense"], 2),
-];
-
-fn ended_unprinted<N: Net>(
-    net: &N,
-    alloc: Global,
-    words: Args,
-    output: &mut FailsOnce<'_>,
-    errors: &mut FailsOnce<'_>,
-) -> u8 {
-    run_program(net, alloc, Ok(words), ALPHA.as_bytes(), output, errors)
-}
-
-#[test]
-fn programs_that_cannot_print(rt: HostRuntime) -> Result<(), Fail> {
-    let alloc = rt.alloc();
-    for (words, status) in &UNPRINTED {
-        let args = program_words(alloc, words)?;
-        let (out, told) = (Cell::new(0), Cell::new(0));
-        let mut output = FailsOnce::after(0, &out);
-        let mut errors = FailsOnce::after(0, &told);
-        let ended = ended_unprinted(&rt, alloc, args, &mut output, &mut errors);
-        assert_eq!(rt; ended, *status, "at {words:?}");
-        assert_eq!(rt; output.taken, 0, "at {words:?}");
-        assert_eq!(rt; errors.taken, 0, "at {words:?}");
-    }
-    Ok(())
-}
-
-/// Words that cannot be had: no text, or no memory for them.
-#[test]
-fn words_that_fail(rt: HostRuntime) {
-    let alloc = rt.alloc();
-    for (kind, wanted, status) in &[
-        (ErrorKind::InvalidData, "usage\n", 2),
-        (ErrorKind::OutOfMemory, "error 12 ENOMEM\n", 1),
-    ] {
-        let words = Err(io::Error::from(*kind));
-        let (mut output, mut errors) = (Vec::new(alloc), Vec::new(alloc));
-        let ended = ended(&rt, alloc, words, ALPHA, &mut output, &mut errors);
-        assert_eq!(rt; output.as_slice(), wanted.as_bytes());
-        assert_eq!(rt; ended, *status);
-    }
 }

@@ -1,5 +1,5 @@
 //! Scripts of contexts, session keyrings and search, a line and what it prints in each row.
-use super::{check_on, text_of};
+use super::check_rows_on;
 use krs_store::Store;
 use std::test::Fail;
 
@@ -213,12 +213,9 @@ pub(in crate::tests) const GROWING: [&[(&str, &str)]; 5] = [
 
 #[test]
 fn contexts_and_searches(rt: HostRuntime) -> Result<(), Fail> {
-    let alloc = rt.alloc();
     for (first, rows, status) in &SCRIPTS {
-        let input = text_of(alloc, rows, false)?;
-        let wanted = text_of(alloc, rows, true)?;
-        let store = Store::starting_at(alloc, (*first).max(3));
-        check_on(&rt, alloc, store, input.as_str(), wanted.as_str(), *status);
+        let store = Store::starting_at(rt.alloc(), (*first).max(3));
+        check_rows_on(&rt, rt.alloc(), store, rows, *status)?;
     }
     Ok(())
 }
