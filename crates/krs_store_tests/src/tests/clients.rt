@@ -1,9 +1,10 @@
 //! Two clients of one store.
-use super::expect;
+use super::{expect, reply};
 use krs_store::Store;
 use krs_store_asks::{Want, add, change, describe, hello, leave, read};
 use krs_types::{Ask, Blob, Errno, Op};
 use std::alloc::{AllocError, Global};
+use std::process::Abort;
 use std::test::Fail;
 
 /// The asks of the test of a kept key, by their number.
@@ -27,34 +28,42 @@ fn kept_ask(alloc: Global, step: u8) -> Result<Ask, AllocError> {
 }
 
 /// A client, the number of its ask, and what that is answered with.
+type Row<'a> = (u32, u8, Want<'a>);
+
+#[rattlefmt::skip]
+const KEPT: [Row<'static>; 17] = [
+    (0, 0, Want::Number(1)),
+    (7, 1, Want::Number(2)),
+    (0, 2, Want::Number(7)),
+    (0, 6, Want::Bytes(b"s3")),
+    (0, 5, Want::Bytes(b"user;1000;1000;3f010000;alpha")),
+    (0, 3, Want::Number(7)),
+    (0, 6, Want::Bytes(b"t4")),
+    (0, 4, Want::Refused(Errno::ENOTDIR)),
+    (0, 7, Want::Refused(Errno::ENOKEY)),
+    (0, 8, Want::Refused(Errno::EINVAL)),
+    (0, 9, Want::Bytes(&[7, 0, 0, 0])),
+    (7, 10, Want::Refused(Errno::EACCES)),
+    (7, 6, Want::Refused(Errno::ESRCH)),
+    (0, 11, Want::Nothing),
+    (0, 0, Want::Number(3)),
+    (0, 12, Want::Refused(Errno::ENOKEY)),
+    (7, 13, Want::Bytes(b"keyring;2000;2000;1f3f0000;_uid.2000")),
+];
+
+fn check_kept(rt: &impl Abort, alloc: Global, store: &mut Store) -> Result<(), Fail> {
+    for (client, step, want) in &KEPT {
+        let ask = kept_ask(alloc, *step)?;
+        expect(rt, reply(store, *client, 0, ask), *want, "a row");
+    }
+    Ok(())
+}
+
 #[test]
 fn a_key_is_kept_updated_and_left(rt: HostRuntime) -> Result<(), Fail> {
     let alloc = rt.alloc();
     let mut store = Store::new(alloc);
-    let rows: [(u32, u8, Want<'_>); 17] = [
-        (0, 0, Want::Number(1)),
-        (7, 1, Want::Number(2)),
-        (0, 2, Want::Number(7)),
-        (0, 6, Want::Bytes(b"s3")),
-        (0, 5, Want::Bytes(b"user;1000;1000;3f010000;alpha")),
-        (0, 3, Want::Number(7)),
-        (0, 6, Want::Bytes(b"t4")),
-        (0, 4, Want::Refused(Errno::ENOTDIR)),
-        (0, 7, Want::Refused(Errno::ENOKEY)),
-        (0, 8, Want::Refused(Errno::EINVAL)),
-        (0, 9, Want::Bytes(&[7, 0, 0, 0])),
-        (7, 10, Want::Refused(Errno::EACCES)),
-        (7, 6, Want::Refused(Errno::ESRCH)),
-        (0, 11, Want::Nothing),
-        (0, 0, Want::Number(3)),
-        (0, 12, Want::Refused(Errno::ENOKEY)),
-        (7, 13, Want::Bytes(b"keyring;2000;2000;1f3f0000;_uid.2000")),
-    ];
-    for (client, step, want) in rows {
-        let ask = kept_ask(alloc, step)?;
-        expect(&rt, store.apply(client, 0, ask), want, "a row");
-    }
-    Ok(())
+    check_kept(&rt, alloc, &mut store)
 }
 
 /// The asks of the test of a dropped key, by their number.
@@ -79,26 +88,30 @@ fn dropping_ask(alloc: Global, step: u8) -> Result<Ask, AllocError> {
     }
 }
 
-/// A key that drops as its client leaves gives a removal record to the queue of another: a client, the number of its
-/// ask, and what that is answered with.
+/// A key that drops as its client leaves gives a removal record to the queue of another.
+#[rattlefmt::skip]
+const DROPPED: [Row<'static>; 8] = [
+    (0, 0, Want::Number(1)),
+    (0, 1, Want::Number(5)),
+    (1, 0, Want::Number(2)),
+    (1, 2, Want::Number(1)),
+    (1, 3, Want::Nothing),
+    (0, 4, Want::Nothing),
+    (0, 5, Want::Refused(Errno::EBADF)),
+    (1, 5, Want::Bytes(&[0, 0, 0, 0, 16, 9, 0, 0, 5, 0, 0, 0, 0, 0, 0, 0])),
+];
+
+fn check_dropped(rt: &impl Abort, alloc: Global, store: &mut Store) -> Result<(), Fail> {
+    for (client, step, want) in &DROPPED {
+        let ask = dropping_ask(alloc, *step)?;
+        expect(rt, reply(store, *client, 0, ask), *want, "a row");
+    }
+    Ok(())
+}
+
 #[test]
 fn a_dropped_key_ends_watches_of_others(rt: HostRuntime) -> Result<(), Fail> {
     let alloc = rt.alloc();
     let mut store = Store::new(alloc);
-    let removal = [0, 0, 0, 0, 16, 9, 0, 0, 5, 0, 0, 0, 0, 0, 0, 0];
-    let rows: [(u32, u8, Want<'_>); 8] = [
-        (0, 0, Want::Number(1)),
-        (0, 1, Want::Number(5)),
-        (1, 0, Want::Number(2)),
-        (1, 2, Want::Number(1)),
-        (1, 3, Want::Nothing),
-        (0, 4, Want::Nothing),
-        (0, 5, Want::Refused(Errno::EBADF)),
-        (1, 5, Want::Bytes(&removal)),
-    ];
-    for (client, step, want) in rows {
-        let ask = dropping_ask(alloc, step)?;
-        expect(&rt, store.apply(client, 0, ask), want, "a row");
-    }
-    Ok(())
+    check_dropped(&rt, alloc, &mut store)
 }

@@ -66,11 +66,12 @@ fn lets_through(filter: &Filter, record: &Record) -> bool {
 
 #[test]
 fn a_filter_takes_good_entries(rt: HostRuntime) -> Result<(), Fail> {
-    for (note_type, info_filter, info_mask, good) in ENTRIES {
-        let made = filter_of(rt.alloc(), entry(note_type, info_filter, info_mask, 2))?;
+    for (note_type, info_filter, info_mask, good) in &ENTRIES {
+        let entry = entry(*note_type, *info_filter, *info_mask, 2);
+        let made = filter_of(rt.alloc(), entry)?;
         assert_eq!(rt;
             made.is_ok(),
-            good,
+            *good,
             "of {note_type:x}:{info_filter:x}:{info_mask:x}"
         );
     }
@@ -92,12 +93,12 @@ fn a_filter_takes_1_to_16_entries(rt: HostRuntime) -> Result<(), Fail> {
 #[test]
 fn a_note_passes_what_asks_for_it(rt: HostRuntime) -> Result<(), Fail> {
     let update = note(KeyEvent::Updated, 9);
-    for (note_type, info_filter, info_mask, subtypes, pass) in UPDATES {
-        let entry = entry(note_type, info_filter, info_mask, subtypes);
+    for (note_type, info_filter, info_mask, subtypes, pass) in &UPDATES {
+        let entry = entry(*note_type, *info_filter, *info_mask, *subtypes);
         let filter = filter_of(rt.alloc(), entry)??;
         assert_eq!(rt;
             lets_through(&filter, &update),
-            pass,
+            *pass,
             "of {note_type:x}:{info_filter:x}:{info_mask:x}:{subtypes:x}"
         );
         assert!(rt; lets_through(&filter, &Record::Removal { watch: 9, id: 5 }));

@@ -1,9 +1,91 @@
 //! A full keyring, by asks.
-use super::expect;
+use super::{expect, reply};
 use krs_store::Store;
 use krs_store_asks::{Want, add, change, hello, read};
-use krs_types::{Answer, Errno, Op};
+use krs_types::{Answer, Ask, Errno, Op, Reply};
+use std::alloc::{AllocError, Global};
+use std::process::Abort;
 use std::test::*;
+
+/// The asks of the test by their number: HELLO and the keyring, and then those behind all keys that it may have.
+fn ask_at(alloc: Global, step: u8) -> Result<Ask, AllocError> {
+    match step {
+        0 => Ok(hello(alloc, 1000)),
+        1 => add(alloc, b"keyring", b"big", b"", -4),
+        2 => add(alloc, b"user", b"k65535", b"x", 5),
+        3 => add(alloc, b"user", b"k0", b"x", -4),
+        4 => Ok(change(Op::Link {
+            key: 65_541,
+            ring: 5,
+        })),
+        _ => Ok(read(1, 6)),
+    }
+}
+
+/// The number of an ask, what that is answered with, and what it is.
+type Row<'a> = (u8, Want<'a>, &'a str);
+
+#[rattlefmt::skip]
+const EMPTY: [Row<'static>; 2] = [
+    (0, Want::Number(1), "HELLO"),
+    (1, Want::Number(5), "the keyring"),
+];
+
+#[rattlefmt::skip]
+const FULL: [Row<'static>; 4] = [
+    (2, Want::Refused(Errno::ENFILE), "one key more"),
+    (3, Want::Number(65_541), "a key elsewhere"),
+    (4, Want::Nothing, "its link"),
+    (5, Want::Refused(Errno::ENOKEY), "the key that was displaced"),
+];
+
+fn check_rows(
+    rt: &impl Abort,
+    alloc: Global,
+    store: &mut Store,
+    rows: &[Row<'_>],
+) -> Result<(), AllocError> {
+    for (step, want, name) in rows {
+        let ask = ask_at(alloc, *step)?;
+        expect(rt, reply(store, 0, 9, ask), *want, name);
+    }
+    Ok(())
+}
+
+/// Adds the key of a number to the keyring, which has this serial.
+fn check_key(
+    rt: &impl Abort,
+    alloc: Global,
+    store: &mut Store,
+    number: u32,
+    serial: u32,
+) -> Result<(), AllocError> {
+    let desc = format!(in alloc; "k{number}")?;
+    let ask = add(alloc, b"user", desc.as_bytes(), b"x", 5)?;
+    expect(rt, reply(store, 0, 9, ask), Want::Number(serial), "a key");
+    Ok(())
+}
+
+/// Whether a reply is all links of the full keyring, the first of which is the one that took the place of another.
+fn gives_all_links(reply: &Reply) -> bool {
+    match reply {
+        Ok(Answer::Bytes(links)) => {
+            links.as_slice().len() == 262_140 && links.as_slice().starts_with(&[5, 0, 1, 0])
+        }
+        _ => false,
+    }
+}
+
+fn check_full(rt: &impl Abort, alloc: Global, store: &mut Store) -> Result<(), Fail> {
+    check_rows(rt, alloc, store, &EMPTY)?;
+    for number in 0..65_535u32 {
+        check_key(rt, alloc, store, number, number + 6)?;
+    }
+    check_rows(rt, alloc, store, &FULL)?;
+    let links = reply(store, 0, 9, read(1, 5));
+    assert!(rt; gives_all_links(&links), "the keyring is not read");
+    Ok(())
+}
 
 // A keyring with as many links as one may have takes no new name: keyctl(2), KEYCTL_LINK, "ENFILE". A link of an equal
 // name takes the place of the other, whose key nothing holds any more.
@@ -11,41 +93,5 @@ use std::test::*;
 fn a_full_keyring_takes_no_new_key(rt: HostRuntime) -> Result<(), Fail> {
     let alloc = rt.alloc();
     let mut store = Store::new(alloc);
-    let reply = store.apply(0, 9, hello(alloc, 1000));
-    expect(&rt, reply, Want::Number(1), "HELLO");
-    let reply = store.apply(0, 9, add(alloc, b"keyring", b"big", b"", -4)?);
-    expect(&rt, reply, Want::Number(5), "the keyring");
-    for number in 0..65_535u32 {
-        let desc = format!(in alloc; "k{number}")?;
-        let reply = store.apply(0, 9, add(alloc, b"user", desc.as_bytes(), b"x", 5)?);
-        expect(&rt, reply, Want::Number(number + 6), "a key");
-    }
-    let reply = store.apply(0, 9, add(alloc, b"user", b"k65535", b"x", 5)?);
-    expect(&rt, reply, Want::Refused(Errno::ENFILE), "one key more");
-    let reply = store.apply(0, 9, add(alloc, b"user", b"k0", b"x", -4)?);
-    expect(&rt, reply, Want::Number(65_541), "a key elsewhere");
-    let reply = store.apply(
-        0,
-        9,
-        change(Op::Link {
-            key: 65_541,
-            ring: 5,
-        }),
-    );
-    expect(&rt, reply, Want::Nothing, "its link");
-    match store.apply(0, 9, read(1, 5)) {
-        Ok(Answer::Bytes(links)) => {
-            assert_eq!(rt; links.as_slice().len(), 262_140);
-            assert!(rt; links.as_slice().starts_with(&[5, 0, 1, 0]));
-        }
-        _ => panic!(rt; "the keyring is not read"),
-    }
-    let reply = store.apply(0, 9, read(1, 6));
-    expect(
-        &rt,
-        reply,
-        Want::Refused(Errno::ENOKEY),
-        "the key that was displaced",
-    );
-    Ok(())
+    check_full(&rt, alloc, &mut store)
 }

@@ -1,13 +1,33 @@
 //! Session keyrings: lengths of names, and the last serial.
 ghost use Rattle.std.specs.Prelude.{◌≤◌};
 
-use super::expect;
+use super::{expect, reply};
 use krs_store::Store;
 use krs_store_asks::{Want, change, hello};
-use krs_types::{Blob, Errno, Op};
-use std::alloc::Global;
+use krs_types::{Ask, Blob, Errno, Op};
+use std::alloc::{AllocError, Global};
 use std::process::Abort;
 use std::test::Fail;
+
+fn join(alloc: Global, name: &[u8]) -> Result<Ask, AllocError> {
+    let name = Blob::from_slice(alloc, name)?;
+    Ok(change(Op::Join { name }))
+}
+
+/// JOIN, behind HELLO.
+fn check_asks(
+    rt: &impl Abort,
+    alloc: Global,
+    store: &mut Store,
+    name: &[u8],
+    want: Want<'_>,
+) -> Result<(), Fail> {
+    let first = reply(store, 0, 0, hello(alloc, 1000));
+    expect(rt, first, Want::Number(1), "a hello");
+    let ask = join(alloc, name)?;
+    expect(rt, reply(store, 0, 0, ask), want, "a join");
+    Ok(())
+}
 
 /// JOIN, behind the HELLO of a uid whose two keyrings take the first two serials.
 fn check_join(
@@ -20,25 +40,15 @@ fn check_join(
     requires { 3 ≤ first }
 {
     let mut store = Store::starting_at(alloc, first);
-    let name = Blob::from_slice(alloc, name)?;
-    let asks = [
-        (hello(alloc, 1000), Want::Number(1)),
-        (change(Op::Join { name }), want),
-    ];
-    for (ask, want) in asks {
-        expect(rt, store.apply(0, 0, ask), want, "a join");
-    }
-    Ok(())
+    check_asks(rt, alloc, &mut store, name, want)
 }
 
 #[test]
 fn a_session_name_has_at_most_4095_bytes(rt: HostRuntime) -> Result<(), Fail> {
     let alloc = rt.alloc();
-    let long = vec![in alloc; b'a'; 4096]?;
-    let long = long.as_slice();
-    assert!(rt; long.len() == 4096);
+    let long = [b'a'; 4096];
     check_join(&rt, alloc, 3, &long[..4095], Want::Number(5))?;
-    check_join(&rt, alloc, 3, long, Want::Refused(Errno::EINVAL))
+    check_join(&rt, alloc, 3, &long, Want::Refused(Errno::EINVAL))
 }
 
 #[test]

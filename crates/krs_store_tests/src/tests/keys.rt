@@ -135,24 +135,40 @@ impl Table {
     }
 }
 
-fn check_changes(rt: &impl Abort, alloc: Global, keys: &mut Table) -> Result<(), Fail> {
+fn check_inserted(rt: &impl Abort, keys: &mut Table) -> Result<(), Fail> {
     assert!(rt; keys.insert(Kind::Keyring, b"ring")? == Ok(Serial::new(3)));
     assert!(rt; keys.insert(Kind::User, b"a")? == Ok(Serial::new(4)));
     assert!(rt; keys.insert_two(Kind::Logon, b"c:d")? == Ok(Serial::new(5)));
     assert!(rt; keys.next() == 7);
+    Ok(())
+}
+
+/// Changes of key 4, which is given this payload.
+fn check_changed(rt: &impl Abort, keys: &mut Table, payload: Body) {
     let four = Serial::new(4);
     let (uid, gid) = (7, 4_294_967_295);
     keys.set(four, Change::Owner { uid, gid });
     keys.set(four, Change::Mask(Perm::OF_UID));
     keys.set(four, Change::Expiry(Some(60)));
     assert!(rt; keys.told(four) == Some((7, 100, 0x1f3f_0000, Some(60), false)));
-    keys.set(four, Change::Payload(body(alloc, b"t4")?));
+    keys.set(four, Change::Payload(payload));
     assert!(rt; keys.told(four) == Some((7, 100, 0x1f3f_0000, None, false)));
     keys.set(four, Change::Revoked);
     assert!(rt; keys.told(four) == Some((7, 100, 0x1f3f_0000, None, true)));
+}
+
+fn check_removed(rt: &impl Abort, keys: &mut Table) {
+    let four = Serial::new(4);
     assert!(rt; keys.remove(four) == Some((7, 100, 0x1f3f_0000, None, true)));
     assert!(rt; keys.told(four).is_none());
     assert!(rt; keys.next() == 7 && keys.len() == 3);
+}
+
+fn check_keys(rt: &impl Abort, alloc: Global, keys: &mut Table) -> Result<(), Fail> {
+    check_inserted(rt, keys)?;
+    let payload = body(alloc, b"t4")?;
+    check_changed(rt, keys, payload);
+    check_removed(rt, keys);
     Ok(())
 }
 
@@ -160,16 +176,16 @@ fn check_changes(rt: &impl Abort, alloc: Global, keys: &mut Table) -> Result<(),
 fn keys_rise_and_change(rt: HostRuntime) -> Result<(), Fail> {
     let alloc = rt.alloc();
     let mut keys = Table::starting_at(alloc, 3);
-    check_changes(&rt, alloc, &mut keys)
+    check_keys(&rt, alloc, &mut keys)
 }
 
 fn check_links(rt: &impl Abort, keys: &mut Table) -> Result<(), Fail> {
     let ring = Serial::new(3);
     assert!(rt; keys.insert(Kind::Keyring, b"ring")? == Ok(ring));
     let rows = [(None, 5u32), (Some(Serial::new(4)), 6)];
-    for (displaced, next) in rows {
-        assert!(rt; keys.insert_linked(ring)? == Ok(displaced));
-        assert!(rt; keys.next() == next);
+    for (displaced, next) in &rows {
+        assert!(rt; keys.insert_linked(ring)? == Ok(*displaced));
+        assert!(rt; keys.next() == *next);
     }
     assert!(rt; keys.links_some(ring));
     assert!(rt; !keys.links_some(Serial::new(5)));

@@ -100,6 +100,26 @@ impl Linked {
         self.links.rings().len()
     }
 
+    /// Whether these keys are linked, in link order, and no more.
+    fn are(&self, all: &[u32]) -> bool {
+        for (place, serial) in all.iter().enumerate() {
+            if !self.is_at(place, *serial) {
+                return false;
+            }
+        }
+        self.len() == all.len() && self.ends_at(all.len())
+    }
+
+    /// Whether these are the nested keyrings, in link order.
+    fn rings_are(&self, rings: &[u32]) -> bool {
+        for (place, serial) in rings.iter().enumerate() {
+            if self.ring_at(place) != *serial {
+                return false;
+            }
+        }
+        self.rings() == rings.len()
+    }
+
     /// The number of the nested keyring at a place, or 0 where there are not as many.
     fn ring_at(&self, place: usize) -> u32 {
         match self.links.rings().get(place) {
@@ -111,29 +131,22 @@ impl Linked {
 
 /// The serials of the links, and those of the nested keyrings, in link order.
 fn expect(rt: &impl Abort, links: &Linked, all: &[u32], rings: &[u32]) {
-    assert_eq!(rt; links.len(), all.len(), "{all:?}");
-    for (place, serial) in all.iter().enumerate() {
-        assert!(rt; links.is_at(place, *serial), "of {all:?}");
-    }
-    assert!(rt; links.ends_at(all.len()), "of {all:?}");
-    assert_eq!(rt; links.rings(), rings.len(), "{rings:?}");
-    for (place, serial) in rings.iter().enumerate() {
-        assert_eq!(rt; links.ring_at(place), *serial, "of {rings:?}");
-    }
+    assert!(rt; links.are(all), "{all:?}");
+    assert!(rt; links.rings_are(rings), "{rings:?}");
 }
 
 /// keyrings(7): a keyring links keys of several types, and a description stands for each type by itself.
 fn check_finds(rt: &impl Abort, links: &mut Linked) -> Result<(), Fail> {
     expect(rt, links, &[], &[]);
     let rows = [(5, Kind::User), (6, Kind::Keyring), (7, Kind::Logon)];
-    for (number, kind) in rows {
-        assert!(rt; links.find(kind, b"s:x")?.is_none(), "{kind:?}");
-        assert_eq!(rt; links.put(kind, b"s:x", number)?, Ok(None), "{kind:?}");
+    for (number, kind) in &rows {
+        assert!(rt; links.find(*kind, b"s:x")?.is_none(), "{kind:?}");
+        assert_eq!(rt; links.put(*kind, b"s:x", *number)?, Ok(None), "{kind:?}");
     }
     expect(rt, links, &[5, 6, 7], &[6]);
-    for (number, kind) in rows {
-        let found = links.find(kind, b"s:x")?;
-        assert_eq!(rt; found, Some(Serial::new(number)), "{kind:?}");
+    for (number, kind) in &rows {
+        let found = links.find(*kind, b"s:x")?;
+        assert_eq!(rt; found, Some(Serial::new(*number)), "{kind:?}");
     }
     assert_eq!(rt; links.find(Kind::User, b"s:y")?, None);
     assert!(rt; links.is_named(0, Kind::User, b"s:x"));
@@ -169,28 +182,45 @@ const REMOVALS: [(Kind, Result<u32, Errno>, &[u32], &[u32]); 3] = [
     (Kind::User, Ok(9), &[10, 8], &[10, 8]),
 ];
 
-/// A link of equal name takes the place of the other. What is linked anew after its removal stands last.
-fn check_places(rt: &impl Abort, links: &mut Linked) -> Result<(), Fail> {
-    for (kind, desc, number, displaced, all, rings) in PLACES {
-        let put = links.put(kind, desc, number)?;
-        assert_eq!(rt; put, Ok(displaced.map(Serial::new)), "{number}");
+/// What is linked anew after those, and behind all links.
+const ANEW: [Row<'static>; 1] = [(Kind::Keyring, b"a", 11, None, &[10, 8, 11], &[10, 8, 11])];
+
+const AGAIN: [Row<'static>; 1] = [(Kind::User, b"a", 12, None, &[12], &[])];
+
+fn check_puts(rt: &impl Abort, links: &mut Linked, rows: &[Row<'_>]) -> Result<(), Fail> {
+    for (kind, desc, number, displaced, all, rings) in rows {
+        let put = links.put(*kind, desc, *number)?;
+        assert!(rt; put == Ok(displaced.map(Serial::new)), "{number}");
         expect(rt, links, all, rings);
     }
-    for (kind, removed, all, rings) in REMOVALS {
-        let found = links.remove(kind, b"a")?;
-        assert_eq!(rt; found, removed.map(Serial::new), "of {all:?}");
+    Ok(())
+}
+
+fn check_removals(rt: &impl Abort, links: &mut Linked) -> Result<(), Fail> {
+    for (kind, removed, all, rings) in &REMOVALS {
+        let found = links.remove(*kind, b"a")?;
+        assert!(rt; found == removed.map(Serial::new), "of {all:?}");
         expect(rt, links, all, rings);
     }
-    assert_eq!(rt; links.put(Kind::Keyring, b"a", 11)?, Ok(None));
-    expect(rt, links, &[10, 8, 11], &[10, 8, 11]);
-    assert_eq!(rt; links.remove_at(3), None);
-    assert_eq!(rt; links.remove_at(1), Some(Serial::new(8)));
+    Ok(())
+}
+
+/// The second of three links is taken out by its place, and then all are.
+fn check_taken(rt: &impl Abort, links: &mut Linked) {
+    assert!(rt; links.remove_at(3).is_none());
+    assert!(rt; links.remove_at(1) == Some(Serial::new(8)));
     expect(rt, links, &[10, 11], &[10, 11]);
     links.clear();
     expect(rt, links, &[], &[]);
-    assert_eq!(rt; links.put(Kind::User, b"a", 12)?, Ok(None));
-    expect(rt, links, &[12], &[]);
-    Ok(())
+}
+
+/// A link of equal name takes the place of the other. What is linked anew after its removal stands last.
+fn check_places(rt: &impl Abort, links: &mut Linked) -> Result<(), Fail> {
+    check_puts(rt, links, &PLACES)?;
+    check_removals(rt, links)?;
+    check_puts(rt, links, &ANEW)?;
+    check_taken(rt, links);
+    check_puts(rt, links, &AGAIN)
 }
 
 #[test]

@@ -3,6 +3,7 @@ ghost use Rattle.krs_model.specs.Notes.Bytes.{is_loss};
 
 use krs_ring::NoteRing;
 use krs_types::{Errno, KeyEvent, Record};
+use std::process::Abort;
 use std::test::Fail;
 
 fn note(key: u32) -> Record
@@ -18,7 +19,7 @@ fn note(key: u32) -> Record
 
 #[test]
 fn a_ring_holds_1_to_512_records(rt: HostRuntime) {
-    for (capacity, good) in [
+    for (capacity, good) in &[
         (0, false),
         (1, true),
         (2, true),
@@ -27,9 +28,9 @@ fn a_ring_holds_1_to_512_records(rt: HostRuntime) {
         (513, false),
         (u32::MAX, false),
     ] {
-        match NoteRing::new(rt.alloc(), capacity) {
-            Ok(ring) => assert!(rt; good && ring.first() == None, "of {capacity}"),
-            Err(error) => assert!(rt; error == Errno::EINVAL && !good, "of {capacity}"),
+        match NoteRing::new(rt.alloc(), *capacity) {
+            Ok(ring) => assert!(rt; *good && ring.first() == None, "of {capacity}"),
+            Err(error) => assert!(rt; error == Errno::EINVAL && !*good, "of {capacity}"),
         }
     }
 }
@@ -73,19 +74,23 @@ fn a_loss_keeps_its_place(rt: HostRuntime) -> Result<(), Fail> {
     Ok(())
 }
 
+fn check_capacity(rt: &impl Abort, ring: &mut NoteRing, capacity: u32) {
+    for key in 0..=capacity {
+        ring.post(note(key));
+    }
+    for key in 0..capacity {
+        assert_eq!(rt; ring.take(), Some(note(key)), "of {capacity}");
+    }
+    assert_eq!(rt; ring.take(), Some(Record::Loss), "of {capacity}");
+    assert_eq!(rt; ring.take(), None, "of {capacity}");
+}
+
 /// At its edge a ring keeps exactly as many records as were asked for.
 #[test]
 fn a_ring_keeps_its_capacity(rt: HostRuntime) -> Result<(), Fail> {
-    for capacity in [1, 2, 511, 512] {
-        let mut ring = NoteRing::new(rt.alloc(), capacity)?;
-        for key in 0..=capacity {
-            ring.post(note(key));
-        }
-        for key in 0..capacity {
-            assert_eq!(rt; ring.take(), Some(note(key)), "of {capacity}");
-        }
-        assert_eq!(rt; ring.take(), Some(Record::Loss), "of {capacity}");
-        assert_eq!(rt; ring.take(), None, "of {capacity}");
+    for capacity in &[1, 2, 511, 512] {
+        let mut ring = NoteRing::new(rt.alloc(), *capacity)?;
+        check_capacity(&rt, &mut ring, *capacity);
     }
     Ok(())
 }

@@ -118,15 +118,21 @@ fn check_possession(rt: &impl Abort, alloc: Global, keys: &KeyTable, walker: &Wa
     assert!(rt; !has(keys, walker, &context, None, four));
 }
 
+/// The same by a walker that has no room yet, and by one that has.
+fn check_rooms(rt: &impl Abort, alloc: Global, keys: &KeyTable) -> Result<(), Fail>
+    requires { AreFit keys.now.keys }
+{
+    let walker = Walker::new(alloc);
+    check_possession(rt, alloc, keys, &walker);
+    walker.room_for(2)?;
+    check_possession(rt, alloc, keys, &walker);
+    Ok(())
+}
+
 #[test]
 fn possession_of_two_keyrings(rt: HostRuntime) -> Result<(), Fail> {
-    let alloc = rt.alloc();
-    let keys = keyrings(alloc, None, false)?;
-    let walker = Walker::new(alloc);
-    check_possession(&rt, alloc, &keys, &walker);
-    walker.room_for(2)?;
-    check_possession(&rt, alloc, &keys, &walker);
-    Ok(())
+    let keys = keyrings(rt.alloc(), None, false)?;
+    check_rooms(&rt, rt.alloc(), &keys)
 }
 
 /// Where keys 3 and 4 are keyrings that link nothing, a link of one to itself would close a cycle, and no other.
@@ -175,16 +181,20 @@ fn found(
     Ok(serial.number())
 }
 
-fn check_searches(rt: &impl Abort, alloc: Global, keys: &KeyTable) -> Result<(), AllocError>
+fn check_searches(rt: &impl Abort, alloc: Global, keys: &KeyTable) -> Result<(), Fail>
     requires { AreFit keys.now.keys }
 {
     let walker = Walker::new(alloc);
-    for (attached, clock, head, desc, answer) in SEARCHES {
-        let session = if attached { Some(Serial::new(3)) } else { None };
-        let context = with_session(alloc, session);
+    for (attached, clock, head, desc, answer) in &SEARCHES {
+        let session = if *attached {
+            Some(Serial::new(3))
+        } else {
+            None
+        };
         let name = name(alloc, desc)?;
-        let found = found(keys, &walker, &context, clock, Serial::new(head), &name);
-        assert!(rt; found == answer, "{head} {desc:?}");
+        let context = with_session(alloc, session);
+        let found = found(keys, &walker, &context, *clock, Serial::new(*head), &name);
+        assert!(rt; found == *answer, "{head} {desc:?}");
     }
     Ok(())
 }
@@ -193,6 +203,5 @@ fn check_searches(rt: &impl Abort, alloc: Global, keys: &KeyTable) -> Result<(),
 fn searches_of_two_keyrings(rt: HostRuntime) -> Result<(), Fail> {
     let alloc = rt.alloc();
     let keys = keyrings(alloc, Some(9), true)?;
-    check_searches(&rt, alloc, &keys)?;
-    Ok(())
+    check_searches(&rt, alloc, &keys)
 }

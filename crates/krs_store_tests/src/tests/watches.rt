@@ -109,8 +109,8 @@ fn a_key_is_watched_once_and_unwatched(rt: HostRuntime) -> Result<(), Fail> {
 
 /// watch_queue.rst: a full queue drops what comes, and tells so once.
 fn check_drops(rt: &impl Abort, queues: &mut Queues) -> Result<(), Fail> {
-    for event in [KeyEvent::Updated, KeyEvent::Updated, KeyEvent::Setattr] {
-        queues.post(event, 5);
+    for event in &[KeyEvent::Updated, KeyEvent::Updated, KeyEvent::Setattr] {
+        queues.post(*event, 5);
     }
     expect_refused(rt, queues, 8, Errno::ENOBUFS);
     let note = [1, 0, 0, 1, 16, 0, 0, 0, 5, 0, 0, 0, 0, 0, 0, 0];
@@ -180,38 +180,57 @@ fn removals_come_by_rising_serial(rt: HostRuntime) -> Result<(), Fail> {
     check_removals(&rt, &mut queues)
 }
 
+fn check_open(
+    rt: &impl Abort,
+    queues: &mut Queues,
+    client: u32,
+    capacity: u32,
+    wanted: Result<u32, Fault>,
+) {
+    assert_eq!(rt; queues.open(client, capacity), wanted);
+}
+
+fn check_close(
+    rt: &impl Abort,
+    queues: &mut Queues,
+    client: u32,
+    number: u32,
+    wanted: Result<(), Errno>,
+) {
+    assert_eq!(rt; queues.close(client, number), wanted);
+}
+
 /// 256 queues at once, numbers that rise, and no number twice: profile, queue numbers.
-fn check_numbers(rt: &impl Abort, queues: &mut Queues) -> Result<(), Fail> {
+fn check_numbers(rt: &impl Abort, queues: &mut Queues) {
     for number in 1..257 {
-        assert_eq!(rt; queues.open(number % 2, 1)?, number);
+        check_open(rt, queues, number % 2, 1, Ok(number));
     }
-    assert_eq!(rt; queues.open(0, 1), Err(Fault::Refused(Errno::ENFILE)));
-    assert_eq!(rt; queues.open(0, 0), Err(Fault::Refused(Errno::EINVAL)));
-    assert_eq!(rt; queues.close(0, 7), Err(Errno::EBADF));
-    assert_eq!(rt; queues.close(1, 7), Ok(()));
-    assert_eq!(rt; queues.open(0, 1)?, 257);
+    check_open(rt, queues, 0, 1, Err(Fault::Refused(Errno::ENFILE)));
+    check_open(rt, queues, 0, 0, Err(Fault::Refused(Errno::EINVAL)));
+    check_close(rt, queues, 0, 7, Err(Errno::EBADF));
+    check_close(rt, queues, 1, 7, Ok(()));
+    check_open(rt, queues, 0, 1, Ok(257));
     queues.leave(0);
-    assert_eq!(rt; queues.close(0, 2), Err(Errno::EBADF));
-    assert_eq!(rt; queues.close(1, 1), Ok(()));
-    Ok(())
+    check_close(rt, queues, 0, 2, Err(Errno::EBADF));
+    check_close(rt, queues, 1, 1, Ok(()));
 }
 
 #[test]
-fn queues_are_256_and_no_number_comes_twice(rt: HostRuntime) -> Result<(), Fail> {
+fn queues_are_256_and_no_number_comes_twice(rt: HostRuntime) {
     let mut queues = Queues(WatchQueues::new(rt.alloc()));
-    check_numbers(&rt, &mut queues)
+    check_numbers(&rt, &mut queues);
 }
 
 /// uapi linux/keyctl.h, KEYCTL_WATCH_KEY; Documentation/security/keys/core.rst: ids.
 #[test]
 fn watch_ids_are_bytes_or_minus_1(rt: HostRuntime) {
-    for (id, found) in [
+    for (id, found) in &[
         (0, Ok(Some(0))),
         (255, Ok(Some(255))),
         (256, Err(Errno::EINVAL)),
         (-1, Ok(None)),
         (-2, Err(Errno::EINVAL)),
     ] {
-        assert_eq!(rt; watch_id(id), found, "of {id}");
+        assert_eq!(rt; watch_id(*id), *found, "of {id}");
     }
 }

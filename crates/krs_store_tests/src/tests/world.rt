@@ -1,8 +1,11 @@
 //! The machine of many seats, and the check that a list of events may have happened to a new store.
+mod small;
+
 use super::keys::body;
 use krs_store_asks::{add, describe, hello, leave, read};
 use krs_types::{Answer, Ask, Event, Reply};
 use krs_world::{Kind, World, WorldStep, replay_check};
+use small::{LANES, Small, Stage};
 use std::alloc::{AllocError, Global};
 use std::process::Abort;
 use std::test::Fail;
@@ -20,40 +23,69 @@ fn event(ask: Ask, reply: Reply) -> Event {
     }
 }
 
-/// A client's first calls: HELLO, ADD of a key, READ and DESCRIBE of it, where ADD is said to answer this serial.
-fn first_calls(alloc: Global, serial: u32) -> Result<Vec<Event>, Fail> {
-    let mut events = Vec::new(alloc);
-    events.push(event(hello(alloc, 1000), Ok(Answer::Number(1))))?;
-    let ask = add(alloc, b"user", b"alpha", b"s3", -4)?;
-    events.push(event(ask, Ok(Answer::Number(serial))))?;
-    let secret = bytes(alloc, b"s3")?;
-    events.push(event(read(1, 5), secret))?;
-    let described = bytes(alloc, b"user;1000;1000;3f010000;alpha")?;
-    events.push(event(describe(1, 5), described))?;
-    Ok(events)
+/// A client's first calls, by their place: HELLO, ADD of a key, READ and DESCRIBE of it, where ADD is said to answer
+/// this serial.
+fn first_call(alloc: Global, place: u8, serial: u32) -> Result<Event, AllocError> {
+    match place {
+        0 => Ok(event(hello(alloc, 1000), Ok(Answer::Number(1)))),
+        1 => {
+            let ask = add(alloc, b"user", b"alpha", b"s3", -4)?;
+            Ok(event(ask, Ok(Answer::Number(serial))))
+        }
+        2 => Ok(event(read(1, 5), bytes(alloc, b"s3")?)),
+        _ => {
+            let described = bytes(alloc, b"user;1000;1000;3f010000;alpha")?;
+            Ok(event(describe(1, 5), described))
+        }
+    }
+}
+
+/// Appends them to these events.
+fn add_first_calls(alloc: Global, serial: u32, events: &mut Vec<Event>) -> Result<(), AllocError> {
+    for place in 0..4u8 {
+        events.push(first_call(alloc, place, serial)?)?;
+    }
+    Ok(())
+}
+
+/// Appends copies of the first events to others.
+fn add_copies(alloc: Global, events: &[Event], copies: &mut Vec<Event>) -> Result<(), AllocError> {
+    for event in events {
+        copies.push(event.copy(alloc)?)?;
+    }
+    Ok(())
+}
+
+/// Whether it is found that these events may have happened, or may not.
+fn is_replayed(alloc: Global, events: &[Event], happened: bool) -> bool {
+    match replay_check(alloc, events) {
+        Ok(found) => found == happened,
+        Err(_) => false,
+    }
+}
+
+fn check_first_calls(
+    rt: &impl Abort,
+    alloc: Global,
+    events: &mut Vec<Event>,
+    copies: &mut Vec<Event>,
+    other: &mut Vec<Event>,
+) -> Result<(), AllocError> {
+    add_first_calls(alloc, 5, events)?;
+    add_copies(alloc, events, copies)?;
+    add_first_calls(alloc, 6, other)?;
+    assert!(rt; is_replayed(alloc, events, true), "the events");
+    assert!(rt; is_replayed(alloc, copies, true), "their copies");
+    assert!(rt; is_replayed(alloc, other, false), "another serial");
+    Ok(())
 }
 
 #[test]
 fn first_calls_may_have_happened(rt: HostRuntime) -> Result<(), Fail> {
     let alloc = rt.alloc();
-    let events = first_calls(alloc, 5)?;
-    let mut copies = Vec::new(alloc);
-    for event in &events {
-        copies.push(event.copy(alloc)?)?;
-    }
-    assert!(rt;
-        matches!(replay_check(alloc, &events), Ok(true)),
-        "the events"
-    );
-    assert!(rt;
-        matches!(replay_check(alloc, &copies), Ok(true)),
-        "their copies"
-    );
-    let other = first_calls(alloc, 6)?;
-    assert!(rt;
-        matches!(replay_check(alloc, &other), Ok(false)),
-        "another serial"
-    );
+    let (mut events, mut copies) = (Vec::new(alloc), Vec::new(alloc));
+    let mut other = Vec::new(alloc);
+    check_first_calls(&rt, alloc, &mut events, &mut copies, &mut other)?;
     Ok(())
 }
 
@@ -66,202 +98,76 @@ fn expect_step(rt: &impl Abort, world: &mut World, step: WorldStep, possible: bo
     assert!(rt; is_so, "{row}");
 }
 
-#[test]
-fn one_seat_has_the_turn(rt: HostRuntime) -> Result<(), Fail> {
-    let mut world = World::new(rt.alloc(), 2)?;
-    let take = WorldStep {
-        lane: 0,
-        kind: Kind::Take,
+/// A step of the tests of one turn and of a posted call, by its lane and number.
+fn step(alloc: Global, lane: u32, number: u8) -> WorldStep {
+    let kind = match number {
+        0 => Kind::Take,
+        1 => Kind::TakeFound,
+        2 => Kind::Put(None),
+        3 => Kind::Post(0, hello(alloc, 1000)),
+        4 => Kind::Post(0, leave()),
+        5 => Kind::Grab(0),
+        6 => Kind::LookAt(0),
+        7 => Kind::Answer,
+        8 => Kind::CollectFound,
+        9 => Kind::Collect(0),
+        _ => Kind::Collect(1),
     };
-    expect_step(&rt, &mut world, take, true, "the turn is free");
-    let again = WorldStep {
-        lane: 1,
-        kind: Kind::Take,
-    };
-    expect_step(&rt, &mut world, again, false, "the turn is out");
-    let found = WorldStep {
-        lane: 1,
-        kind: Kind::TakeFound,
-    };
-    expect_step(&rt, &mut world, found, true, "the turn is found out");
-    Ok(())
-}
-
-fn step(lane: u32, kind: Kind) -> WorldStep {
     WorldStep { lane, kind }
 }
 
-/// One seat posts a call, and another answers it: each step in turn, and one before that isn't possible yet.
+/// A step's lane and number, whether it is possible, and why.
+type Row<'a> = (u32, u8, bool, &'a str);
+
+fn check_steps(rt: &impl Abort, alloc: Global, world: &mut World, rows: &[Row<'_>]) {
+    for (lane, number, possible, name) in rows {
+        let step = step(alloc, *lane, *number);
+        expect_step(rt, world, step, *possible, name);
+    }
+}
+
+#[rattlefmt::skip]
+const ONE_TURN: [Row<'static>; 3] = [
+    (0, 0, true, "the turn is free"),
+    (1, 0, false, "the turn is out"),
+    (1, 1, true, "the turn is found out"),
+];
+
 #[test]
-fn a_posted_call_is_answered(rt: HostRuntime) -> Result<(), Fail> {
-    let alloc = rt.alloc();
-    let mut world = World::new(alloc, 2)?;
-    let seats = &mut world;
-    let ask = hello(alloc, 1000);
-    expect_step(&rt, seats, step(1, Kind::Take), true, "the turn is free");
-    expect_step(&rt, seats, step(1, Kind::Grab(0)), false, "no call");
-    expect_step(&rt, seats, step(1, Kind::LookAt(0)), true, "a look");
-    expect_step(&rt, seats, step(0, Kind::Post(0, ask)), true, "a post");
-    expect_step(&rt, seats, step(0, Kind::Post(0, leave())), false, "twice");
-    expect_step(&rt, seats, step(1, Kind::LookAt(0)), false, "a call waits");
-    expect_step(&rt, seats, step(0, Kind::Grab(0)), false, "not the holder");
-    expect_step(
-        &rt,
-        seats,
-        step(1, Kind::Answer),
-        false,
-        "nothing to answer",
-    );
-    expect_step(&rt, seats, step(1, Kind::Grab(0)), true, "a grab");
-    expect_step(
-        &rt,
-        seats,
-        step(1, Kind::Put(None)),
-        false,
-        "still to answer",
-    );
-    expect_step(
-        &rt,
-        seats,
-        step(0, Kind::CollectFound),
-        true,
-        "no reply yet",
-    );
-    expect_step(&rt, seats, step(1, Kind::Answer), true, "an answer");
-    expect_step(&rt, seats, step(0, Kind::CollectFound), false, "a reply");
-    expect_step(&rt, seats, step(0, Kind::Collect(0)), false, "not seen");
-    expect_step(&rt, seats, step(1, Kind::Collect(1)), false, "another's");
-    expect_step(&rt, seats, step(0, Kind::Collect(1)), true, "a collect");
-    expect_step(&rt, seats, step(1, Kind::Put(None)), true, "a put");
+fn one_seat_has_the_turn(rt: HostRuntime) -> Result<(), Fail> {
+    let mut world = World::new(rt.alloc(), 2)?;
+    check_steps(&rt, rt.alloc(), &mut world, &ONE_TURN);
     Ok(())
 }
 
-/// The lanes of the recipe's machine; it also draws one lane more, which has no seat.
-const LANES: u32 = 3;
+/// Seat 1 takes the turn and looks, seat 0 posts, seat 1 grabs the call and answers it, and seat 0 collects the reply:
+/// each step in turn, and before it those that aren't possible yet.
+#[rattlefmt::skip]
+const POSTED: [Row<'static>; 17] = [
+    (1, 0, true, "the turn is free"),
+    (1, 5, false, "no call"),
+    (1, 6, true, "a look"),
+    (0, 3, true, "a post"),
+    (0, 4, false, "twice"),
+    (1, 6, false, "a call waits"),
+    (0, 5, false, "not the holder"),
+    (1, 7, false, "nothing to answer"),
+    (1, 5, true, "a grab"),
+    (1, 2, false, "still to answer"),
+    (0, 8, true, "no reply yet"),
+    (1, 7, true, "an answer"),
+    (0, 8, false, "a reply"),
+    (0, 9, false, "not seen"),
+    (1, 10, false, "another's"),
+    (0, 10, true, "a collect"),
+    (1, 2, true, "a put"),
+];
 
-/// How far a lane's posted call has come. A call that was answered has its place among all calls.
-#[derive(Clone, Copy)]
-enum Stage {
-    Empty,
-    Posted,
-    Serving,
-    Answered(usize),
-}
-
-/// What makes a step possible, in a few numbers: who has the turn, whose posted call is being served, how many calls
-/// there were, how many of them each lane has seen, and how far its posted call has come.
-#[derive(Drop)]
-struct Small {
-    out: Option<u32>,
-    serving: Option<u32>,
-    calls: usize,
-    seen: [usize; 3],
-    stages: [Stage; 3],
-}
-
-impl Small {
-    fn has_turn(&self, lane: u32) -> bool {
-        match self.out {
-            Some(holder) => holder == lane,
-            None => false,
-        }
-    }
-
-    /// It has the turn, and serves no posted call.
-    fn is_holder(&self, lane: u32) -> bool {
-        self.has_turn(lane) && self.serving.is_none()
-    }
-
-    fn stage(&self, lane: u32) -> Stage {
-        self.stages
-            .get(lane as usize)
-            .copied()
-            .unwrap_or(Stage::Empty)
-    }
-
-    fn may_see(&self, lane: u32, calls: usize) -> bool {
-        let seen = self.seen.get(lane as usize).copied().unwrap_or(0);
-        seen <= calls && calls <= self.calls
-    }
-
-    fn is_possible(&self, lane: u32, kind: &Kind) -> bool {
-        if LANES <= lane {
-            return false;
-        }
-        let stage = self.stage(lane);
-        match kind {
-            Kind::Take => self.out.is_none(),
-            Kind::TakeFound => self.out.is_some() && !self.has_turn(lane),
-            Kind::Put(None) => self.is_holder(lane),
-            Kind::Put(Some(_)) => self.is_holder(lane) && matches!(stage, Stage::Empty),
-            Kind::Load(calls) => self.may_see(lane, *calls),
-            Kind::Post(..) => matches!(stage, Stage::Empty),
-            Kind::Grab(other) => {
-                self.is_holder(lane) && matches!(self.stage(*other), Stage::Posted)
-            }
-            Kind::Answer => self.has_turn(lane) && self.serving.is_some(),
-            Kind::Collect(calls) => match stage {
-                Stage::Answered(place) => place < *calls && self.may_see(lane, *calls),
-                _ => false,
-            },
-            Kind::CollectFound => !matches!(stage, Stage::Answered(_)),
-            Kind::LookAt(other) => {
-                let posted = matches!(self.stage(*other), Stage::Posted);
-                self.has_turn(lane) && *other < LANES && !posted
-            }
-        }
-    }
-
-    fn sees(&mut self, lane: u32, calls: usize) {
-        if let Some(seen) = self.seen.get_mut(lane as usize) {
-            *seen = calls;
-        }
-    }
-
-    fn comes_to(&mut self, lane: u32, stage: Stage) {
-        if let Some(at) = self.stages.get_mut(lane as usize) {
-            *at = stage;
-        }
-    }
-
-    /// The call that is being served is answered.
-    fn answer(&mut self) {
-        if let Some(other) = self.serving {
-            let place = self.calls;
-            self.comes_to(other, Stage::Answered(place));
-            self.calls = self.calls.saturating_add(1);
-            self.serving = None;
-        }
-    }
-
-    /// Makes a step that is possible.
-    fn make(&mut self, lane: u32, kind: &Kind) {
-        match kind {
-            Kind::Take => self.out = Some(lane),
-            Kind::TakeFound => {}
-            Kind::Put(call) => {
-                if call.is_some() {
-                    self.calls = self.calls.saturating_add(1);
-                }
-                self.out = None;
-                let calls = self.calls;
-                self.sees(lane, calls);
-            }
-            Kind::Load(calls) => self.sees(lane, *calls),
-            Kind::Post(..) => self.comes_to(lane, Stage::Posted),
-            Kind::Grab(other) => {
-                self.serving = Some(*other);
-                self.comes_to(*other, Stage::Serving);
-            }
-            Kind::Answer => self.answer(),
-            Kind::Collect(calls) => {
-                self.sees(lane, *calls);
-                self.comes_to(lane, Stage::Empty);
-            }
-            Kind::CollectFound => {}
-            Kind::LookAt(_) => {}
-        }
-    }
+#[test]
+fn a_posted_call_is_answered(rt: HostRuntime) -> Result<(), Fail> {
+    let mut world = World::new(rt.alloc(), 2)?;
+    check_steps(&rt, rt.alloc(), &mut world, &POSTED);
+    Ok(())
 }
 
 /// The number after this one: a linear congruential generator with Knuth's constants (MMIX).
@@ -364,21 +270,25 @@ impl Recipe {
     }
 }
 
-/// A thousand steps by a fixed recipe over a machine of three lanes: each is made exactly where it is possible, and of
-/// each kind some are and some aren't.
-#[test]
-fn a_thousand_steps(rt: HostRuntime) -> Result<(), Fail> {
-    let mut world = World::new(rt.alloc(), LANES)?;
-    let mut recipe = Recipe::new();
+/// Each step is made exactly where it is possible, and of each kind some are and some aren't.
+fn check_recipe(rt: &impl Abort, alloc: Global, world: &mut World, recipe: &mut Recipe) {
     for _ in 0..1000u32 {
-        let (index, step) = recipe.draw(rt.alloc());
+        let (index, step) = recipe.draw(alloc);
         let possible = recipe.make(index, &step);
-        expect_step(&rt, &mut world, step, possible, "a step of the recipe");
+        expect_step(rt, world, step, possible, "a step of the recipe");
     }
     assert!(rt; recipe.made.are_all(), "a kind of step was never made");
     assert!(rt;
         recipe.refused.are_all(),
         "a kind of step was always possible"
     );
+}
+
+/// A thousand steps by a fixed recipe over a machine of three lanes.
+#[test]
+fn a_thousand_steps(rt: HostRuntime) -> Result<(), Fail> {
+    let mut world = World::new(rt.alloc(), LANES)?;
+    let mut recipe = Recipe::new();
+    check_recipe(&rt, rt.alloc(), &mut world, &mut recipe);
     Ok(())
 }
