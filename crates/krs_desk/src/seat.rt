@@ -1,6 +1,6 @@
 //! What a thread knows of the one history.
 ghost use Rattle.std.specs.Prelude.{◌≡◌, true, None};
-ghost use Rattle.krs_desk.specs.Seated.{IsResting, sitting_of};
+ghost use Rattle.krs_desk.specs.Seated.{HasSlot, IsSeated, sitting_of};
 
 use crate::plays::Token;
 use std::marker::Model;
@@ -39,17 +39,13 @@ impl Drop for Seat {
 }
 
 impl Seat {
-    // The token of a seat that is given up.
-    pub(crate) fn into_token(self) -> Token
-        ensures sitting { sitting_of result.table_id result.me ≡ self }
-        ensures rests { IsResting result.me }
+    // The lane, whether it is idle, and the token of a seat that is given up.
+    pub(crate) fn into_parts(self) -> (u32, bool, Token)
+        ensures sitting { sitting_of result.2.table_id result.2.me ≡ self }
+        ensures seated { IsSeated result.0 result.1 result.2.me × HasSlot result.0 result.2.table_id }
     {
-        let Self {
-            lane: _,
-            idle: _,
-            token,
-        } = self;
-        token
+        let Self { lane, idle, token } = self;
+        (lane, idle, token)
     }
 
     /// The number of the seat at its desk. The store knows it as the client's number.
