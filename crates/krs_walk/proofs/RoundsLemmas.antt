@@ -51,7 +51,7 @@ any_all : (p : ℕ → Bool) (f : ℕ → List ℕ) (heads : List ℕ) (n start 
     → list_any p (levels f heads (n + 1)) ≡ list_any p all
 any_all p f heads n start all at_level = sym (ap (list_any p) at_level.upto ∙ any_join p [] (levels f heads (n + 1)))
 
-any_up : (p : ℕ → Bool) (f : ℕ → List ℕ) (heads : List ℕ) (n m : ℕ) → n ≤ m → list_any p (levels f heads n) ≡ true
+pub any_up : (p : ℕ → Bool) (f : ℕ → List ℕ) (heads : List ℕ) (n m : ℕ) → n ≤ m → list_any p (levels f heads n) ≡ true
     → list_any p (levels f heads m) ≡ true
 any_up p f heads n m le h =
     let r = any_from p (levels f heads n) h in
@@ -79,30 +79,37 @@ search_finds p f heads n m start all s lt h =
     any_up p f heads (n + 1) m up (any_all p f heads n start all s.walk
     ∙ (any_parts p start all ∙ or_right (list_any p (take start all)) (list_any p (drop start all)) h))
 
--- none does, and what they link joins the list
-pub search_goes_on : (p : ℕ → Bool) (f : ℕ → List ℕ) (heads : List ℕ) (n start : ℕ) (all next : List ℕ)
-    → IsSearch p f heads n start all → list_any p (drop start all) ≡ false
+-- the first n + 1 levels have none that passes, and what the last of them links joins the list
+pub search_joins : (p : ℕ → Bool) (f : ℕ → List ℕ) (heads : List ℕ) (n start : ℕ) (all next : List ℕ)
+    → IsAt f heads n start all → list_any p (levels f heads (n + 1)) ≡ false
     → next ≡ join all (flat_map f (drop start all)) → IsSearch p f heads (n + 1) (length all) next
-search_goes_on p f heads n start all next s h e =
-    let none : list_any p all ≡ false =
-    any_parts p start all ∙ (ap (λ b. b || list_any p (drop start all)) s.missed ∙ h) in
+search_joins p f heads n start all next s none e =
     let front : take (length all) next ≡ all =
     ap (take (length all)) (e ∙ join_fresh all (flat_map f (drop start all)))
     ∙ take_at all (fresh all (flat_map f (drop start all))) (length all) refl in
     record {
       within = longer all (flat_map f (drop start all)) next e;
-      walk = at_next f heads n start all next s.walk e;
-      missed = ap (list_any p) front ∙ none;
-      not_yet = any_all p f heads n start all s.walk ∙ none;
+      walk = at_next f heads n start all next s e;
+      missed = ap (list_any p) front ∙ (sym (any_all p f heads n start all s) ∙ none);
+      not_yet = none;
     }
 
--- the heads are asked, and what they link joins the list
-pub search_behind :
-    (p : ℕ → Bool) (f : ℕ → List ℕ) (heads all next : List ℕ) → all ≡ join [] heads → list_any p heads ≡ false
-    → next ≡ join all (flat_map f (drop 0 all)) → IsSearch p f heads 1 (length all) next
-search_behind p f heads all next e none j =
-    search_goes_on p f heads 0 0 all next (search_starts p f heads all e)
-    (ap (list_any p) e ∙ (any_join p [] heads ∙ none)) j
+-- none of a level does, and what its keys link joins the list
+pub search_goes_on : (p : ℕ → Bool) (f : ℕ → List ℕ) (heads : List ℕ) (n start : ℕ) (all next : List ℕ)
+    → IsSearch p f heads n start all → list_any p (drop start all) ≡ false
+    → next ≡ join all (flat_map f (drop start all)) → IsSearch p f heads (n + 1) (length all) next
+search_goes_on p f heads n start all next s h e =
+    search_joins p f heads n start all next s.walk
+    (any_all p f heads n start all s.walk
+    ∙ (any_parts p start all ∙ (ap (λ b. b || list_any p (drop start all)) s.missed ∙ h))) e
+
+-- the first two levels have none that passes, and were joined one after the other
+pub search_behind : (p : ℕ → Bool) (f : ℕ → List ℕ) (heads all below next : List ℕ) → all ≡ join [] heads
+    → list_any p (levels f heads 2) ≡ false → below ≡ join all (flat_map f (drop 0 all))
+    → next ≡ join below (flat_map f (drop (length all) below)) → IsSearch p f heads 2 (length below) next
+search_behind p f heads all below next e none j k =
+    search_joins p f heads 1 (length all) below next
+    (at_next f heads 0 0 all below (at_heads f heads all e) j) none k
 
 any_here : (p : ℕ → Bool) (all : List ℕ) (place : ℕ) → place < length all
     → list_any p (drop place all) ≡ (p (get_or all place 0) || list_any p (drop (place + 1) all))
@@ -121,9 +128,3 @@ any_fails p all place here lt e t =
 
 pub any_past : (p : ℕ → Bool) (all : List ℕ) (place : ℕ) → length all ≤ place → list_any p (drop place all) ≡ false
 any_past p all place le = ap (list_any p) (drop_all place all le)
-
--- a head passes
-pub head_passes : (p : ℕ → Bool) (f : ℕ → List ℕ) (heads : List ℕ) (m : ℕ) → 1 ≤ m → list_any p heads ≡ true
-    → list_any p (levels f heads m) ≡ true
-unfolding level levels
-head_passes p f heads m le h = any_up p f heads 1 m le h

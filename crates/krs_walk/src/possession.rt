@@ -20,9 +20,13 @@ use krs_types::{Caller, Context, Name, Rights, Serial};
 /// How many levels of keyrings are asked for a key: profile, search depth.
 const LEVELS: u8 = 7;
 
+/// So many of them are asked first, with no list of what was seen: a key is mostly linked by an attached keyring, or by
+/// one that it links, as the session keyring links the user keyring.
+const NEAR_LEVELS: u8 = 2;
+
 impl Walker {
     /// Whether a context, whose process has this keyring, possesses a key. keyrings(7), "Possession"; profile, search
-    /// depth. Levels are asked one after the other, and those below are not walked where one links the key.
+    /// depth. The two nearest levels are asked first, and those below are not walked where one of these links the key.
     pub fn possesses(
         &self,
         keys: &KeyTable,
@@ -58,18 +62,26 @@ impl Walker {
         requires key { at keys.now.keys serial ≡ Some key.now }
         ensures { result ≡ is_linked (shown keys.now.keys) clock context.now process_ring serial }
     {
-        if attached_link(keys, context, process_ring, clock, key, serial) {
+        if is_linked_within_reach(
+            keys,
+            context,
+            &process_ring,
+            clock,
+            key,
+            serial,
+            NEAR_LEVELS,
+        ) {
             return true;
         }
         match self.is_linked_below(keys, context, process_ring, clock, key, serial) {
             Ok(linked) => linked,
             Err(NoRoom) => {
-                is_linked_within_reach(keys, context, &process_ring, clock, key, serial)
+                is_linked_within_reach(keys, context, &process_ring, clock, key, serial, LEVELS)
             }
         }
     }
 
-    /// Whether one does, where no attached one does.
+    /// Whether one does, where none of the near levels does.
     fn is_linked_below(
         &self,
         keys: &KeyTable,
@@ -81,7 +93,7 @@ impl Walker {
     ) -> Result<bool, NoRoom>
         requires fit { AreFit keys.now.keys }
         requires key { at keys.now.keys serial ≡ Some key.now }
-        requires attached { list_any (follows_link_to (shown keys.now.keys) clock context.now.caller serial)
+        requires near { list_any (is_linked_within (shown keys.now.keys) clock context.now.caller serial 2)
             (attached_with context.now process_ring) ≡ false }
         ensures { IfOk result (λ b. b ≡ is_linked (shown keys.now.keys) clock context.now process_ring serial) }
     {
@@ -92,8 +104,8 @@ impl Walker {
     }
 }
 
-/// Whether a followed keyring of the first seven levels links a key, where no attached one does: these are the
-/// first level, and are not asked again. It has an empty list for the keyrings.
+/// Whether a followed keyring of the first seven levels links a key, where none of the near levels does, which are not
+/// asked again. It has an empty list for the keyrings.
 fn is_linked_below(
     keys: &KeyTable,
     context: &Context,
@@ -105,14 +117,15 @@ fn is_linked_below(
 ) -> Result<bool, NoRoom>
     requires fit { AreFit keys.now.keys }
     requires key { at keys.now.keys serial ≡ Some key.now }
-    requires attached { list_any (follows_link_to (shown keys.now.keys) clock context.now.caller serial)
+    requires near { list_any (is_linked_within (shown keys.now.keys) clock context.now.caller serial 2)
         (attached_with context.now process_ring) ≡ false }
     requires seen { seen.old ≡ [] }
     ensures { IfOk result (λ b. b ≡ is_linked (shown keys.now.keys) clock context.now process_ring serial) }
 {
     join_attached(seen, context, process_ring)?;
-    let mut start = next_level(keys, &context.caller, clock, seen, 0)?;
-    for level in 1..LEVELS {
+    let below = next_level(keys, &context.caller, clock, seen, 0)?;
+    let mut start = next_level(keys, &context.caller, clock, seen, below)?;
+    for level in NEAR_LEVELS..LEVELS {
         let _ = level;
         if level_links(keys, &context.caller, clock, seen, start, key, serial) {
             return Ok(true);
@@ -144,49 +157,8 @@ pub(crate) fn is_attached(context: &Context, process_ring: &Option<Serial>, seri
         || is_found(context.session, serial)
 }
 
-/// Whether an attached keyring links a key, which is the common case. It takes no memory.
-fn attached_link(
-    keys: &KeyTable,
-    context: &Context,
-    process_ring: Option<Serial>,
-    clock: u64,
-    key: &Key,
-    serial: Serial,
-) -> bool
-    requires fit { AreFit keys.now.keys }
-    requires key { at keys.now.keys serial ≡ Some key.now }
-    ensures { result ≡
-        list_any (follows_link_to (shown keys.now.keys) clock context.now.caller serial)
-        (attached_with context.now process_ring) }
-{
-    let caller = &context.caller;
-    one_links(keys, caller, clock, context.thread, key, serial)
-        || one_links(keys, caller, clock, process_ring, key, serial)
-        || one_links(keys, caller, clock, context.session, key, serial)
-}
-
-/// Whether a keyring links a key, where there is one.
-fn one_links(
-    keys: &KeyTable,
-    caller: &Caller,
-    clock: u64,
-    ring: Option<Serial>,
-    key: &Key,
-    serial: Serial,
-) -> bool
-    requires fit { AreFit keys.now.keys }
-    requires key { at keys.now.keys serial ≡ Some key.now }
-    ensures { result ≡
-        list_any (follows_link_to (shown keys.now.keys) clock caller.now serial) (option_to_list ring) }
-{
-    match ring {
-        Some(ring) => links_key(keys, caller, clock, ring, key, serial),
-        None => false,
-    }
-}
-
-/// Whether a followed keyring of the first seven levels links a key, from each attached keyring down, with no list of
-/// what was seen, so that it may come to a keyring more than once. It takes no memory.
+/// Whether a followed keyring of so many levels links a key, from each attached keyring down, with no list of what was
+/// seen, so that it may come to a keyring more than once. It takes no memory.
 fn is_linked_within_reach(
     keys: &KeyTable,
     context: &Context,
@@ -194,16 +166,17 @@ fn is_linked_within_reach(
     clock: u64,
     key: &Key,
     serial: Serial,
+    depth: u8,
 ) -> bool
     requires fit { AreFit keys.now.keys }
     requires key { at keys.now.keys serial ≡ Some key.now }
-    ensures { result ≡ list_any (is_linked_within (shown keys.now.keys) clock context.now.caller serial 7)
+    ensures { result ≡ list_any (is_linked_within (shown keys.now.keys) clock context.now.caller serial depth)
         (attached_with context.now process_ring.now) }
 {
     let caller = &context.caller;
-    one_leads_to(keys, caller, clock, context.thread, key, serial)
-        || one_leads_to(keys, caller, clock, *process_ring, key, serial)
-        || one_leads_to(keys, caller, clock, context.session, key, serial)
+    one_leads_to(keys, caller, clock, context.thread, key, serial, depth)
+        || one_leads_to(keys, caller, clock, *process_ring, key, serial, depth)
+        || one_leads_to(keys, caller, clock, context.session, key, serial, depth)
 }
 
 /// The same from one keyring, where there is one.
@@ -214,14 +187,15 @@ fn one_leads_to(
     ring: Option<Serial>,
     key: &Key,
     serial: Serial,
+    depth: u8,
 ) -> bool
     requires fit { AreFit keys.now.keys }
     requires key { at keys.now.keys serial ≡ Some key.now }
     ensures { result ≡
-        list_any (is_linked_within (shown keys.now.keys) clock caller.now serial 7) (option_to_list ring) }
+        list_any (is_linked_within (shown keys.now.keys) clock caller.now serial depth) (option_to_list ring) }
 {
     match ring {
-        Some(ring) => is_linked_within(keys, caller, clock, ring, LEVELS, key, serial),
+        Some(ring) => is_linked_within(keys, caller, clock, ring, depth, key, serial),
         None => false,
     }
 }

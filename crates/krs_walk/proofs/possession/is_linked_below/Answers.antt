@@ -1,12 +1,20 @@
-use Rattle.std.proofs.Common.{◌≡◌, ◌+◌, ℕ, Bool, false, ap, sym, subst, ◌∙◌, arith}
-use Rattle.std.specs.List.{list_any}
+use Rattle.std.proofs.Common.{◌≡◌, ◌≤◌, ◌+◌, ℕ, length, drop, Bool, false, ap, sym, subst, ◌∙◌, arith}
+use Rattle.std.specs.List.{flat_map, list_any}
 use Rattle.krs_model.specs.Levels.{levels, is_in}
 use Rattle.krs_model.specs.Possession.{followed_at, attached_with}
 use Rattle.krs_keys.specs.Keys.{shown}
 use Rattle.krs_walk.specs.Lists.{join}
 use Rattle.krs_walk.specs.Walks.{followed_rings}
-use Rattle.krs_walk.proofs.RoundsLemmas.{IsSearch, search_behind, search_goes_on, search_finds}
+use Rattle.krs_walk.proofs.DepthLemmas.{any_heads}
+use Rattle.krs_walk.proofs.RoundsLemmas.{IsSearch, search_behind, search_goes_on, search_finds, longer}
 use Rattle.krs_walk.proofs.possession.is_linked_below.Goals as goal
+
+pub next_level-requires-2-clause-start : goal.next_level-requires-2-clause-start
+next_level-requires-2-clause-start c =
+    let rings = followed_rings (shown c.args.keys.now.keys) c.args.clock c.args.context.now.caller in
+    let all = c.join_attached.new.seen in
+    subst (λ (n : ℕ). n ≤ length c.next_level.new.seen) (sym c.in_ok-below.ensures.place)
+    (longer all (flat_map rings (drop 0 all)) c.next_level.new.seen c.in_ok-below.ensures.joined)
 
 pub loop-level-init : goal.loop-level-init
 loop-level-init c =
@@ -14,10 +22,12 @@ loop-level-init c =
     λ k. is_in c.args.serial (followed_at (shown c.args.keys.now.keys) c.args.clock c.args.context.now.caller k) in
     let rings = followed_rings (shown c.args.keys.now.keys) c.args.clock c.args.context.now.caller in
     let heads = attached_with c.args.context.now c.args.process_ring in
-    subst (λ (n : ℕ). IsSearch test rings heads 1 n c.next_level.new.seen) (sym c.in_ok-start.ensures.place)
-    (search_behind test rings heads c.join_attached.new.seen c.next_level.new.seen
-    (c.in_ok-join_attached.ensures ∙ ap (λ zs. join zs heads) c.requires.seen)
-    c.requires.attached c.in_ok-start.ensures.joined)
+    let near : list_any test (levels rings heads 2) ≡ false = any_heads test rings heads 2 ∙ c.requires.near in
+    subst (λ (n : ℕ). IsSearch test rings heads 2 n c.next_level-2.new.seen) (sym c.in_ok-start.ensures.place)
+    (search_behind test rings heads c.join_attached.new.seen c.next_level.new.seen c.next_level-2.new.seen
+    (c.in_ok-join_attached.ensures ∙ ap (λ zs. join zs heads) c.requires.seen) near c.in_ok-below.ensures.joined
+    (subst (λ (n : ℕ). c.next_level-2.new.seen ≡ join c.next_level.new.seen (flat_map rings
+    (drop n c.next_level.new.seen))) c.in_ok-below.ensures.place c.in_ok-start.ensures.joined))
 
 pub loop-level-preserved : goal.loop-level-preserved
 loop-level-preserved c =
