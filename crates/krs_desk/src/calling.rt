@@ -12,7 +12,7 @@ use std::sync::atomic::Ordering;
 use std::{hint, thread};
 
 // So often a call tries to have the turn, and lets other threads go first, before it is posted.
-const TRIES: u32 = 4;
+const TRIES: u32 = 64;
 
 // So often a posted call looks at its own cell, then lets other threads go first between two looks, and then looks at
 // the turn as well, before it sleeps.
