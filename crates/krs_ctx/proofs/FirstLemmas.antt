@@ -1,13 +1,11 @@
--- The context that a process was made with bears its number.
-use Rattle.std.proofs.Common.{◌≡◌, ℕ, ◌==◌, ◌||◌, [], ◌∷◌, Option, Some, None, Bool, true, false, cond, refl, ap, ◌∙◌}
+-- What is at a number is among the values.
+use Rattle.std.proofs.Common.{◌≡◌, ℕ, ◌||◌, [], ◌∷◌, Some, Bool, true, false, cond, ap, ◌∙◌}
 use Rattle.std.specs.List.{list_any}
 use Rattle.std.specs.Map.{values_of}
 use Rattle.std.specs.BTreeMap.{is_at}
 use Rattle.std.specs.Ordering.{nat_cmp}
 use Rattle.std.proofs.lemmas.Option.{none-some, same_Some}
-use Rattle.krs_types.specs.declared.context.Context.{Context}
 use Rattle.krs_model.specs.Table.{Table, at}
-use Rattle.krs_model.specs.Asks.Leaving.{has_process}
 use Rattle.krs_model.proofs.Reach.Levels.{or_true}
 
 -- what is at a number and passes a test is among the values that pass it
@@ -21,8 +19,3 @@ any_at p (e ∷ es) k v there holds =
       | true ↦ λ same. ap (λ b. b || list_any p (values_of es)) (ap p (same_Some e.1 v same) ∙ holds)
       | false ↦ λ rest. or_true (p e.1) (list_any p (values_of es)) (any_at p es k v rest holds)
     ] there
-
-pub first_has :
-    (es : Table Context) (k process : ℕ) (c : Context)
-    → at es k ≡ Some c → (c.process == process) ≡ true → has_process es process ≡ true
-first_has es k process c there holds = any_at (λ d. d.process == process) es k c there holds

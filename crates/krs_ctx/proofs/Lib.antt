@@ -1,6 +1,9 @@
 pub mod EachLemmas
 pub mod FirstLemmas
 pub mod FitLemmas
+pub mod MembersLemmas
+pub mod ListedLemmas
+pub mod GroupLemmas
 pub mod ToldLemmas
 pub mod HelloLemmas
 pub mod LeadsLemmas

@@ -1,3 +1,4 @@
 pub mod Anchors
+pub mod Members
 pub mod Told
 pub mod View

@@ -14,10 +14,10 @@ ghost use Rattle.krs_ctx.specs.Told.{CanBeTakenBack, taken_back, changed, with_r
 ghost use Rattle.krs_ctx.specs.Told.{anchors_without};
 
 use crate::maps::{
-    context_count, detach_contexts, detach_processes, detach_uids, drop_contexts, drop_processes,
-    drop_uids, end_others, end_process, end_uid, enter, enter_first, has_process, has_uid,
-    own_context, put_new, set_ring, set_session, set_thread, take_out,
+    detach_processes, detach_uids, drop_processes, drop_uids, end_process, end_uid, enter,
+    enter_first, own_context, set_ring, take_out,
 };
+use crate::table::ContextTable;
 use krs_types::{Caller, Context, Errno, Fault, Serial, UidRings};
 use std::alloc::{AllocError, Global};
 use std::collections::BTreeMap;
@@ -32,7 +32,7 @@ const LAST_NUMBER: u64 = 4_294_967_295;
 /// Contexts by number, processes by number with their process keyrings, and uids with their two keyrings.
 #[derive(Drop)]
 pub struct Contexts {
-    contexts: BTreeMap<u32, Context>,
+    contexts: ContextTable,
     processes: BTreeMap<u32, Option<Serial>>,
     uids: BTreeMap<u32, UidRings>,
     next: u64,
@@ -57,7 +57,7 @@ impl Contexts {
         ensures { result ≡ record { contexts = []; processes = []; uids = []; next_context = 1 } }
     {
         Contexts {
-            contexts: BTreeMap::new(alloc),
+            contexts: ContextTable::new(alloc),
             processes: BTreeMap::new(alloc),
             uids: BTreeMap::new(alloc),
             next: 1,
@@ -70,7 +70,7 @@ impl Contexts {
         ensures value { result.now.entries ≡ self.now.contexts }
         ensures fit { IsFit self.now }
     {
-        &self.contexts
+        self.contexts.all()
     }
 
     /// The process keyrings by the number of the process.
@@ -91,14 +91,14 @@ impl Contexts {
     pub fn has_process(&self, process: u32) -> bool
         ensures { result ≡ has_process self.now.contexts process }
     {
-        has_process(&self.contexts, process)
+        self.contexts.has_process(process)
     }
 
     /// Whether a uid has a context.
     pub fn has_uid(&self, uid: u32) -> bool
         ensures { result ≡ has_uid self.now.contexts uid }
     {
-        has_uid(&self.contexts, uid)
+        self.contexts.has_uid(uid)
     }
 
     /// The context of that number, where it is the client's: ESRCH.
@@ -107,7 +107,7 @@ impl Contexts {
         ensures { (s : State)
             → Is (λ c. c.now) result (context_of (anchored s self.now) client number) }
     {
-        match self.contexts.get(&number) {
+        match self.contexts.get(number) {
             Some(context) if context.client == client => Ok(context),
             _ => Err(Errno::ESRCH),
         }
@@ -155,7 +155,7 @@ impl Contexts {
         ensures number { IfOk result (λ n. n ≡ self.now.next_context) }
         ensures fit { IsFit self.now }
     {
-        if context_count(&self.contexts, client) >= MAX_CONTEXTS {
+        if self.contexts.count(client) >= MAX_CONTEXTS {
             return Err(Errno::EINVAL);
         }
         if self.next > LAST_NUMBER {
@@ -260,7 +260,7 @@ impl Contexts {
         requires { self.old.next_context ≡ number + 1 }
         ensures { self.new ≡ taken_back self.old number uid }
     {
-        take_out(&mut self.contexts, number);
+        let _ = self.contexts.remove(number);
         take_out(&mut self.processes, number);
         take_out(&mut self.uids, uid);
         self.next = u64::from(number);
@@ -274,7 +274,7 @@ impl Contexts {
         let maker = self.context_of(client, number)?;
         let entered = self.next_number(client)?;
         let context = thread_of(self.alloc, maker)?;
-        put_new(&mut self.contexts, entered, context)?;
+        self.contexts.insert(entered, context)?;
         self.next += 1;
         Ok(entered)
     }
@@ -298,8 +298,8 @@ impl Contexts {
         ensures { Does self.old result self.new (λ s. exec s client number) }
     {
         let process = self.context_of(client, number)?.process;
-        set_thread(&mut self.contexts, number, None);
-        end_others(&mut self.contexts, process, number);
+        self.contexts.set_thread(number, None);
+        self.contexts.end_others(process, number);
         set_ring(&mut self.processes, process, None);
         Ok(())
     }
@@ -312,7 +312,7 @@ impl Contexts {
         let context = self.context_of(client, number)?;
         let process = context.process;
         let uid = context.caller.uid;
-        take_out(&mut self.contexts, number);
+        let _ = self.contexts.remove(number);
         end_process(&mut self.processes, &self.contexts, process);
         end_uid(&mut self.uids, &self.contexts, uid);
         Ok(())
@@ -323,7 +323,7 @@ impl Contexts {
     pub fn leave(&mut self, client: u32)
         ensures { (s : State) → self.new ≡ anchors_of (left (anchored s self.old) client) }
     {
-        drop_contexts(&mut self.contexts, client);
+        self.contexts.end_all_of(client);
         drop_processes(&mut self.processes, &self.contexts);
         drop_uids(&mut self.uids, &self.contexts);
     }
@@ -332,7 +332,7 @@ impl Contexts {
     pub fn detach(&mut self, serial: Serial)
         ensures { self.new ≡ anchors_without self.old serial }
     {
-        detach_contexts(&mut self.contexts, serial);
+        self.contexts.detach(serial);
         detach_processes(&mut self.processes, serial);
         detach_uids(&mut self.uids, serial);
     }
@@ -341,14 +341,14 @@ impl Contexts {
     pub fn attach_session(&mut self, number: u32, ring: Serial)
         ensures { self.new ≡ changed self.old number (session_to ring) }
     {
-        set_session(&mut self.contexts, number, Some(ring));
+        self.contexts.set_session(number, Some(ring));
     }
 
     /// Makes a keyring the thread keyring of a context.
     pub fn attach_thread(&mut self, number: u32, ring: Serial)
         ensures { self.new ≡ changed self.old number (thread_to ring) }
     {
-        set_thread(&mut self.contexts, number, Some(ring));
+        self.contexts.set_thread(number, Some(ring));
     }
 
     /// Makes a keyring the keyring of a process.

@@ -4,6 +4,9 @@
 #![tactic(auto)]
 
 mod contexts;
+mod listed;
 mod maps;
+mod members;
+mod table;
 
 pub use contexts::Contexts;

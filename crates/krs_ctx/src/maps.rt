@@ -1,9 +1,9 @@
-ghost use Rattle.std.specs.Prelude.{◌≡◌, ◌==◌, ◌||◌, not, filter, if◌then◌else◌, None, true, OnOk, OnErr, count_by};
-ghost use Rattle.std.specs.BTreeMap.{values};
+ghost use Rattle.std.specs.Prelude.{◌≡◌, filter, if◌then◌else◌, None, OnOk, OnErr};
 ghost use Rattle.krs_model.specs.Table.{at, put, without, alter, map_values};
 ghost use Rattle.krs_model.specs.Asks.Invalidating.{detached, context_without, rings_without};
-ghost use Rattle.krs_model.specs.Asks.Leaving.{contexts_without, has_process, has_uid};
+ghost use Rattle.krs_model.specs.Asks.Leaving.{has_process, has_uid};
 
+use crate::table::ContextTable;
 use krs_types::{Caller, Context, Serial, UidRings};
 use std::alloc::AllocError;
 use std::collections::BTreeMap;
@@ -25,44 +25,6 @@ pub(crate) fn take_out<V: Drop>(map: &mut BTreeMap<u32, V>, key: u32)
     ensures gone { at map.new.entries key ≡ None }
 {
     let _ = map.remove(&key);
-}
-
-/// How many contexts a client has.
-pub(crate) fn context_count(contexts: &BTreeMap<u32, Context>, client: u32) -> usize
-    ensures { result ≡ count_by (λ c. c.client == client) (values contexts.now) }
-{
-    contexts.values().filter(|c| c.client == client).count()
-}
-
-/// Whether a process has a context. The context that it was made with bears its number, and is looked at first: so the
-/// others are gone over only where that one has ended.
-pub(crate) fn has_process(contexts: &BTreeMap<u32, Context>, process: u32) -> bool
-    ensures { result ≡ has_process contexts.now.entries process }
-{
-    has_first(contexts, process) || any_in(contexts, process)
-}
-
-/// Whether the context that a process was made with is there.
-#[tactic(auto, using(crate::proofs::FirstLemmas::first_has))]
-fn has_first(contexts: &BTreeMap<u32, Context>, process: u32) -> bool
-    ensures { result ≡ true → has_process contexts.now.entries process ≡ true }
-{
-    match contexts.get(&process) {
-        Some(context) => context.process == process,
-        None => false,
-    }
-}
-
-fn any_in(contexts: &BTreeMap<u32, Context>, process: u32) -> bool
-    ensures { result ≡ has_process contexts.now.entries process }
-{
-    contexts.values().any(|c| c.process == process)
-}
-
-pub(crate) fn has_uid(contexts: &BTreeMap<u32, Context>, uid: u32) -> bool
-    ensures { result ≡ has_uid contexts.now.entries uid }
-{
-    contexts.values().any(|c| c.caller.uid == uid)
 }
 
 /// A context in a process of its own.
@@ -92,20 +54,20 @@ pub(crate) fn own_context(
 /// A context and its process. A refusal leaves neither.
 #[tactic(auto, using(krs_model::proofs::Tables::Changes::without_put))]
 pub(crate) fn enter(
-    contexts: &mut BTreeMap<u32, Context>,
+    contexts: &mut ContextTable,
     processes: &mut BTreeMap<u32, Option<Serial>>,
     number: u32,
     context: Context,
 ) -> Result<(), AllocError>
-    requires { at contexts.old.entries number ≡ None }
-    ensures context { OnOk result (contexts.new.entries ≡ put contexts.old.entries number context) }
+    requires { at contexts.old number ≡ None }
+    ensures context { OnOk result (contexts.new ≡ put contexts.old number context) }
     ensures process { OnOk result (processes.new.entries ≡ put processes.old.entries number None) }
-    ensures err_contexts { OnErr result (contexts.new.entries ≡ contexts.old.entries) }
+    ensures err_contexts { OnErr result (contexts.new ≡ contexts.old) }
     ensures err_processes { OnErr result (processes.new.entries ≡ processes.old.entries) }
 {
-    put_new(contexts, number, context)?;
+    contexts.insert(number, context)?;
     if put_new(processes, number, None).is_err() {
-        take_out(contexts, number);
+        let _ = contexts.remove(number);
         return Err(AllocError);
     }
     Ok(())
@@ -114,7 +76,7 @@ pub(crate) fn enter(
 /// A context and its process, and the keyrings of its uid. A refusal leaves nothing of them.
 #[tactic(auto, using(krs_model::proofs::Tables::Changes::without_put))]
 pub(crate) fn enter_first(
-    contexts: &mut BTreeMap<u32, Context>,
+    contexts: &mut ContextTable,
     processes: &mut BTreeMap<u32, Option<Serial>>,
     uids: &mut BTreeMap<u32, UidRings>,
     number: u32,
@@ -122,18 +84,18 @@ pub(crate) fn enter_first(
     uid: u32,
     rings: UidRings,
 ) -> Result<(), AllocError>
-    requires absent_context { at contexts.old.entries number ≡ None }
+    requires absent_context { at contexts.old number ≡ None }
     requires absent_process { at processes.old.entries number ≡ None }
-    ensures context { OnOk result (contexts.new.entries ≡ put contexts.old.entries number context) }
+    ensures context { OnOk result (contexts.new ≡ put contexts.old number context) }
     ensures process { OnOk result (processes.new.entries ≡ put processes.old.entries number None) }
     ensures uids { OnOk result (uids.new.entries ≡ put uids.old.entries uid rings) }
-    ensures err_contexts { OnErr result (contexts.new.entries ≡ contexts.old.entries) }
+    ensures err_contexts { OnErr result (contexts.new ≡ contexts.old) }
     ensures err_processes { OnErr result (processes.new.entries ≡ processes.old.entries) }
     ensures err_uids { OnErr result (uids.new.entries ≡ uids.old.entries) }
 {
     enter(contexts, processes, number, context)?;
     if put_new(uids, uid, rings).is_err() {
-        take_out(contexts, number);
+        let _ = contexts.remove(number);
         take_out(processes, number);
         return Err(AllocError);
     }
@@ -176,71 +138,43 @@ pub(crate) fn set_ring(
     }
 }
 
-/// Just this context of its process stays.
-pub(crate) fn end_others(contexts: &mut BTreeMap<u32, Context>, process: u32, number: u32)
-    ensures { contexts.new.entries
-        ≡ filter (λ e. not (e.1.process == process) || (e.0 == number)) contexts.old.entries }
-{
-    contexts.retain(|other, context| stays(*other, context, process, number));
-}
-
-/// Whether a context is of another process, or is this one.
-fn stays(other: u32, context: &Context, process: u32, number: u32) -> bool
-    ensures { result ≡ (not (context.now.process == process) || (other == number)) }
-{
-    context.process != process || other == number
-}
-
 /// Ends a process that has no context.
 pub(crate) fn end_process(
     processes: &mut BTreeMap<u32, Option<Serial>>,
-    contexts: &BTreeMap<u32, Context>,
+    contexts: &ContextTable,
     process: u32,
 )
-    ensures { processes.new.entries ≡ (if has_process contexts.now.entries process
+    ensures { processes.new.entries ≡ (if has_process contexts.now process
         then processes.old.entries else without processes.old.entries process) }
 {
-    if !has_process(contexts, process) {
+    if !contexts.has_process(process) {
         take_out(processes, process);
     }
 }
 
 /// Lets go of the keyrings of a uid that has no context.
-pub(crate) fn end_uid(
-    uids: &mut BTreeMap<u32, UidRings>,
-    contexts: &BTreeMap<u32, Context>,
-    uid: u32,
-)
-    ensures { uids.new.entries ≡ (if has_uid contexts.now.entries uid
+pub(crate) fn end_uid(uids: &mut BTreeMap<u32, UidRings>, contexts: &ContextTable, uid: u32)
+    ensures { uids.new.entries ≡ (if has_uid contexts.now uid
         then uids.old.entries else without uids.old.entries uid) }
 {
-    if !has_uid(contexts, uid) {
+    if !contexts.has_uid(uid) {
         take_out(uids, uid);
     }
 }
 
-pub(crate) fn drop_contexts(contexts: &mut BTreeMap<u32, Context>, client: u32)
-    ensures { contexts.new.entries ≡ contexts_without client contexts.old.entries }
-{
-    contexts.retain(|_number, context| context.client != client);
-}
-
 /// Just the processes stay that have a context.
-pub(crate) fn drop_processes(
-    processes: &mut BTreeMap<u32, Option<Serial>>,
-    contexts: &BTreeMap<u32, Context>,
-)
+pub(crate) fn drop_processes(processes: &mut BTreeMap<u32, Option<Serial>>, contexts: &ContextTable)
     ensures { processes.new.entries
-        ≡ filter (λ e. has_process contexts.now.entries e.0) processes.old.entries }
+        ≡ filter (λ e. has_process contexts.now e.0) processes.old.entries }
 {
-    processes.retain(|process, _ring| has_process(contexts, *process));
+    processes.retain(|process, _ring| contexts.has_process(*process));
 }
 
 /// Just the uids stay that have a context.
-pub(crate) fn drop_uids(uids: &mut BTreeMap<u32, UidRings>, contexts: &BTreeMap<u32, Context>)
-    ensures { uids.new.entries ≡ filter (λ e. has_uid contexts.now.entries e.0) uids.old.entries }
+pub(crate) fn drop_uids(uids: &mut BTreeMap<u32, UidRings>, contexts: &ContextTable)
+    ensures { uids.new.entries ≡ filter (λ e. has_uid contexts.now e.0) uids.old.entries }
 {
-    uids.retain(|uid, _rings| has_uid(contexts, *uid));
+    uids.retain(|uid, _rings| contexts.has_uid(*uid));
 }
 
 /// An attachment, where it is not of this key.

@@ -7,4 +7,4 @@ use Rattle.krs_ctx.proofs.contexts.Contexts.detach.Goals as goal
 pub invariant_of-self : goal.invariant_of-self
 invariant_of-self c =
     mapped_fit (anchors_in c.self.inside) _ (context_without c.args.serial) (detached c.args.serial) (λ x. refl)
-    c.self.invariant c.detach_contexts.ensures c.detach_processes.ensures refl
+    c.self.invariant c.detach.ensures c.detach_processes.ensures refl

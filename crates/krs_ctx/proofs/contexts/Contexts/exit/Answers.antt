@@ -5,5 +5,5 @@ use Rattle.krs_ctx.proofs.contexts.Contexts.exit.Goals as goal
 
 pub invariant_of-self : goal.invariant_of-self
 invariant_of-self c =
-    exited_fit (anchors_in c.self.inside) _ c.args.number _ c.self.invariant c.take_out.ensures.entries
+    exited_fit (anchors_in c.self.inside) _ c.args.number _ c.self.invariant c.remove.ensures.contexts
     c.end_process.ensures refl

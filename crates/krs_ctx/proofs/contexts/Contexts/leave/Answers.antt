@@ -6,4 +6,4 @@ use Rattle.krs_ctx.proofs.contexts.Contexts.leave.Goals as goal
 pub invariant_of-self : goal.invariant_of-self
 invariant_of-self c =
     left_fit (anchors_in c.self.inside) _ (λ e. not (e.1.client == c.args.client)) c.self.invariant
-    c.drop_contexts.ensures c.drop_processes.ensures refl
+    c.end_all_of.ensures c.drop_processes.ensures refl

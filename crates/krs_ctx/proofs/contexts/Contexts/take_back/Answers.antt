@@ -8,5 +8,5 @@ pub invariant_of-self : goal.invariant_of-self
 invariant_of-self c =
     taken_back_fit (anchors_in c.self.inside) _ c.args.number c.self.invariant
     (ap (λ (t : Anchors). t.next_context) c.self.view_is ∙ c.requires)
-    c.take_out.ensures.gone c.take_out-2.ensures.gone c.take_out.ensures.entries c.take_out-2.ensures.entries
+    c.remove.ensures.gone c.take_out.ensures.gone c.remove.ensures.contexts c.take_out.ensures.entries
     c.from-self-inside.ensures

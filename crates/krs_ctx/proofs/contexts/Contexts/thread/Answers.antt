@@ -23,13 +23,13 @@ returns-in_err-context c =
     (c.in_ok-maker.ensures s) (c.in_ok-entered.ensures.given s)))
     refl
 
-pub returns-in_err-put_new : goal.returns-in_err-put_new
-returns-in_err-put_new c =
-    wants _ _ _ _ c.from_residual-in_err-put_new.ensures.1
+pub returns-in_err-insert : goal.returns-in_err-insert
+returns-in_err-insert c =
+    wants _ _ _ _ c.from_residual-in_err-insert.ensures.1
     (λ s. is_ok _ _
     (thread_accepted (anchored s c.args.self.now) c.args.client c.args.number c.in_ok-maker.maker.now
     (c.in_ok-maker.ensures s) (c.in_ok-entered.ensures.given s)))
-    (rw c.in_err-put_new.ensures.err c.self.view_is)
+    (rw c.in_err-insert.ensures.err c.self.view_is)
 
 pub invariant_of-self-2 : goal.invariant_of-self-2
 invariant_of-self-2 c =
@@ -40,7 +40,7 @@ invariant_of-self-2 c =
     c.in_ok-maker.maker.now) (sym c.self.view_is) (c.in_ok-maker.ensures s)) in
     thread_fit old _ c.args.number c.in_ok-maker.maker.now c.in_ok-context.context c.self.invariant found
     (ap (λ (x : Context). x.process) c.in_ok-context.ensures)
-    (c.in_ok-put_new.ensures.ok
+    (c.in_ok-insert.ensures.ok
     ∙ ap (λ n. put old.contexts n c.in_ok-context.context)
     (c.in_ok-entered.ensures.number ∙ ap (λ (t : Anchors). t.next_context) (sym c.self.view_is))) refl refl
 
@@ -51,4 +51,4 @@ returns c = λ s.
     (c.in_ok-entered.ensures.given s)
     ∙ ap Ok (thread_told s c.args.self.now (anchors_in c.self.inside) _ m c.in_ok-context.context
     c.in_ok-entered.entered c.self.view_is
-    c.in_ok-put_new.ensures.ok refl refl refl c.in_ok-context.ensures c.in_ok-entered.ensures.number)
+    c.in_ok-insert.ensures.ok refl refl refl c.in_ok-context.ensures c.in_ok-entered.ensures.number)

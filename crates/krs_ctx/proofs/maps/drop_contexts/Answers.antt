@@ -1,7 +1,0 @@
-use Rattle.std.proofs.Common.{nat_eq, not, rules}
-use Rattle.std.proofs.lemmas.Map.Made.{filter_same_pairs}
-use Rattle.krs_ctx.proofs.maps.drop_contexts.Goals as goal
-
-pub returns : goal.returns
-returns c = filter_same_pairs _ (λ e. not (nat_eq e.1.client c.args.client)) _ (λ k v b w f' t. search rules)
-    c.args.contexts.now.entries c.retain.new.self.entries c.retain.ensures.filtered
