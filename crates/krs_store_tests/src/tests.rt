@@ -5,18 +5,8 @@ use std::process::Abort;
 
 mod adding;
 mod clients;
-mod contexts;
-mod filters;
 mod full;
-mod holders;
 mod joining;
-mod keys;
-mod links;
-mod records;
-mod rings;
-mod values;
-mod walks;
-mod watches;
 mod world;
 
 /// Makes an ask, behind a call that promises nothing: a test knows nothing of a store but what it answers.

@@ -1,9 +1,8 @@
 //! The machine of many seats, and the check that a list of events may have happened to a new store.
 mod small;
 
-use super::keys::body;
 use krs_store_asks::{add, describe, hello, leave, read};
-use krs_types::{Answer, Ask, Event, Reply};
+use krs_types::{Answer, Ask, Body, Event, Reply};
 use krs_world::{Kind, World, WorldStep, replay_check};
 use small::{LANES, Small, Stage};
 use std::alloc::{AllocError, Global};
@@ -11,7 +10,11 @@ use std::process::Abort;
 use std::test::Fail;
 
 fn bytes(alloc: Global, bytes: &[u8]) -> Result<Reply, AllocError> {
-    Ok(Ok(Answer::Bytes(body(alloc, bytes)?)))
+    let bytes = Vec::from_slice(alloc, bytes)?;
+    if bytes.len() > 262140 {
+        return Err(AllocError);
+    }
+    Ok(Ok(Answer::Bytes(Body::new(bytes))))
 }
 
 fn event(ask: Ask, reply: Reply) -> Event {

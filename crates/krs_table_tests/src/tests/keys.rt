@@ -54,7 +54,7 @@ fn key(alloc: Global, kind: Kind, desc: &[u8]) -> Result<Key, AllocError>
     })
 }
 
-pub(super) fn body(alloc: Global, bytes: &[u8]) -> Result<Body, AllocError> {
+fn body(alloc: Global, bytes: &[u8]) -> Result<Body, AllocError> {
     let bytes = Vec::from_slice(alloc, bytes)?;
     if bytes.len() > 262140 {
         return Err(AllocError);

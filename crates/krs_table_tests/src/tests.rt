@@ -1,0 +1,10 @@
+mod contexts;
+mod filters;
+mod holders;
+mod keys;
+mod links;
+mod records;
+mod rings;
+mod values;
+mod walks;
+mod watches;
