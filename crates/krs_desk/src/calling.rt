@@ -11,8 +11,12 @@ use std::sync::Wait;
 use std::sync::atomic::Ordering;
 use std::{hint, thread};
 
-// So often a call tries to have the turn, and lets other threads go first, before it is posted.
-const TRIES: u32 = 64;
+// So often a call tries to have the turn before it is posted.
+const TRIES: u32 = 16;
+
+// So often it lets other threads go first between two tries. Whoever has the turn can then take it again for its next
+// call: where the turn goes to another processor, the memory of the store must follow.
+const PAUSES: u32 = 8;
 
 // So often a posted call looks at its own cell, then lets other threads go first between two looks, and then looks at
 // the turn as well, before it sleeps.
@@ -22,7 +26,19 @@ const QUIET_YIELDS: u32 = 16;
 
 const YIELDS: u32 = 1_000;
 
+// Lets other threads go first for a while.
+fn pause() {
+    for _ in 0..PAUSES {
+        thread::yield_now();
+    }
+}
+
 impl Desk {
+    // Whether nobody had the turn.
+    fn is_free(&self) -> bool {
+        self.table.shared.peek(0) == 0
+    }
+
     // Whether the lane's call was answered.
     fn is_answered(&self, lane: u32) -> bool
         requires { lane + 1 < self.now.words }
@@ -34,7 +50,7 @@ impl Desk {
     fn is_worth_a_try(&self, lane: u32) -> bool
         requires { lane + 1 < self.now.words }
     {
-        self.is_answered(lane) || self.table.shared.peek(0) == 0
+        self.is_answered(lane) || self.is_free()
     }
 
     // Looks at the lane's cell alone for a while.
@@ -115,9 +131,9 @@ impl Desk {
         unreachable!()
     }
 
-    /// Asks the store in a turn of its own, after each call that is posted. Where the turn is found taken again and
-    /// again it posts the call, and helps or waits until it is answered. Whoever has the turn answers all calls that
-    /// are posted. For a seat that has no call in flight.
+    /// Asks the store in a turn of its own, after each call that is posted. Where the turn is taken again and again it
+    /// posts the call, and helps or waits until it is answered. Whoever has the turn answers all calls that are posted.
+    /// For a seat that has no call in flight.
     pub fn call<R: Wait>(&self, rt: &R, seat: &mut Seat, moment: u64, ask: Ask) -> Reply
         requires table { seat.old.table ≡ self.now }
         requires idle { seat.old.part.flight ≡ None }
@@ -128,11 +144,13 @@ impl Desk {
     {
         let mut ask = ask;
         for _ in 0..TRIES {
-            ask = match self.call_in_turn(seat, moment, ask) {
-                Ok(reply) => return reply,
-                Err(back) => back,
-            };
-            thread::yield_now();
+            if self.is_free() {
+                ask = match self.call_in_turn(seat, moment, ask) {
+                    Ok(reply) => return reply,
+                    Err(back) => back,
+                };
+            }
+            pause();
         }
         self.call_by_post(rt, seat, moment, ask)
     }
