@@ -14,9 +14,10 @@ use std::{hint, thread};
 // So often a call tries to have the turn before it is posted.
 const TRIES: u32 = 16;
 
-// So often it lets other threads go first between two tries. Whoever has the turn can then take it again for its next
-// call: where the turn goes to another processor, the memory of the store must follow.
-const PAUSES: u32 = 8;
+// So often it lets other threads go first after a try that isn't its first. Whoever has the turn can then take it again
+// for its next call: where the turn goes to another processor, the memory of the store must follow. After the first try
+// it does so once: mostly the turn is given back at once.
+const YIELDS_BETWEEN: u32 = 8;
 
 // So often a posted call looks at its own cell, then lets other threads go first between two looks, and then looks at
 // the turn as well, before it sleeps.
@@ -26,9 +27,9 @@ const QUIET_YIELDS: u32 = 16;
 
 const YIELDS: u32 = 1_000;
 
-// Lets other threads go first for a while.
-fn pause() {
-    for _ in 0..PAUSES {
+// Lets other threads go first, so often.
+fn pause(yields: u32) {
+    for _ in 0..yields {
         thread::yield_now();
     }
 }
@@ -143,6 +144,7 @@ impl Desk {
         ensures looked { HasLooked self.now seat.old seat.new }
     {
         let mut ask = ask;
+        let mut yields = 1;
         for _ in 0..TRIES {
             if self.is_free() {
                 ask = match self.call_in_turn(seat, moment, ask) {
@@ -150,7 +152,8 @@ impl Desk {
                     Err(back) => back,
                 };
             }
-            pause();
+            pause(yields);
+            yields = YIELDS_BETWEEN;
         }
         self.call_by_post(rt, seat, moment, ask)
     }
