@@ -1,10 +1,8 @@
 -- What the ends of contexts owe the numbers of holders.
-use Rattle.std.proofs.Common.{◌≡◌, ℕ, ◌+◌, ◌==◌, ◌&&◌, ◌||◌, ◌++◌, List, [], ◌∷◌, Bool, true, false, not, filter}
+use Rattle.std.proofs.Common.{◌≡◌, ℕ, ◌+◌, ◌++◌, List, [], Bool, true, false}
 use Rattle.std.proofs.Common.{cond, refl, ap, sym, ◌∙◌, subst, arith}
 use Rattle.std.proofs.Common.{Option, None, Some, Result, Ok}
 use Rattle.std.specs.Option.{option_to_list, unwrap_or}
-use Rattle.std.specs.List.{list_any}
-use Rattle.std.specs.Map.{values_of}
 use Rattle.krs_types.specs.declared.context.Context.{Context}
 use Rattle.krs_types.specs.declared.context.UidRings.{UidRings}
 use Rattle.krs_types.specs.declared.errno.Errno.{Errno}
@@ -16,7 +14,7 @@ use Rattle.krs_model.specs.State.{State, Key}
 use Rattle.krs_model.specs.Possession.{process_ring}
 use Rattle.krs_model.specs.Lookup.{context_of}
 use Rattle.krs_model.specs.Sweep.{roots, context_roots, process_roots, uid_roots}
-use Rattle.krs_model.specs.Asks.Leaving.{contexts_without, has_process, has_uid, exit, exited}
+use Rattle.krs_model.specs.Asks.Leaving.{has_process, has_uid, exit, exited}
 use Rattle.krs_model.proofs.Sound.Attached.{context_keys}
 use Rattle.krs_hold.specs.Tally.{times, IsTallied, all_less}
 use Rattle.krs_hold.proofs.Times.{times-append}
@@ -25,31 +23,6 @@ use Rattle.krs_tables.specs.Holding.{rings_of}
 use Rattle.krs_tables.proofs.OwedHolders.{less_then, then_less}
 use Rattle.krs_context_asks.proofs.EnteredHolders.{held_less, same_accepted}
 use Rattle.krs_tables.proofs.Owners.{own_there}
-
--- a test of the entries that stay
-any_kept :
-    (p r : Context → Bool) (es : Table Context)
-    → list_any (λ c. r c && p c) (values_of es) ≡ list_any p (values_of (filter (λ e. r e.1) es))
-any_kept p r [] = refl
-any_kept p r (e ∷ es) =
-    elim (r e.1) as (λ b. ((b && p e.1) || list_any (λ c. r c && p c) (values_of es))
-    ≡ list_any p (values_of (cond b (e ∷ filter (λ d. r d.1) es) (filter (λ d. r d.1) es)))) [
-      | true ↦ ap (λ rest. p e.1 || rest) (any_kept p r es)
-      | false ↦ any_kept p r es
-    ]
-
--- another client's context of a process, or of a uid
-pub others_in_process :
-    (es : Table Context) (client process : ℕ)
-    → list_any (λ c. not (c.client == client) && (c.process == process)) (values_of es)
-    ≡ has_process (contexts_without client es) process
-others_in_process es client process = any_kept (λ c. c.process == process) (λ c. not (c.client == client)) es
-
-pub others_of_uid :
-    (es : Table Context) (client uid : ℕ)
-    → list_any (λ c. not (c.client == client) && (c.caller.uid == uid)) (values_of es)
-    ≡ has_uid (contexts_without client es) uid
-others_of_uid es client uid = any_kept (λ c. c.caller.uid == uid) (λ c. not (c.client == client)) es
 
 -- an entry goes where a test fails
 cut_times :

@@ -1,13 +1,11 @@
-ghost use Rattle.std.specs.Prelude.{◌≡◌, ◌≢◌, Err, true, ◌==◌, ◌&&◌, filter, not, [], cond};
+ghost use Rattle.std.specs.Prelude.{◌≡◌, ◌≢◌, Err, ◌==◌, filter, not, [], cond};
 ghost use Rattle.krs_types.specs.declared.fault.Fault.TheVariants.{Memory};
 ghost use Rattle.std.specs.Option.{option_to_list};
 ghost use Rattle.krs_model.specs.Outcome.{Leads};
 ghost use Rattle.krs_tables.specs.Holding.{rings_of};
-ghost use Rattle.std.specs.List.{list_any};
-ghost use Rattle.std.specs.BTreeMap.{values};
 ghost use Rattle.krs_model.specs.Sweep.{context_roots, process_roots, uid_roots};
 ghost use Rattle.krs_hold.specs.Tally.{all_less};
-ghost use Rattle.krs_model.specs.Asks.Leaving.{contexts_without, has_process, has_uid, left, exit};
+ghost use Rattle.krs_model.specs.Asks.Leaving.{has_process, has_uid, left, exit};
 
 use krs_ctx::Contexts;
 use krs_hold::Holders;
@@ -20,20 +18,10 @@ pub fn leave(tables: &mut Tables, client: u32)
     ensures { tables.new ≡ left tables.old client }
 {
     tables.queues.leave(client);
-    let contexts = tables.contexts.contexts();
-    let_go_contexts(&mut tables.holders, contexts, client);
-    let_go_processes(
-        &mut tables.holders,
-        tables.contexts.processes(),
-        contexts,
-        client,
-    );
-    let_go_uids(
-        &mut tables.holders,
-        tables.contexts.uids(),
-        contexts,
-        client,
-    );
+    let_go_contexts(&mut tables.holders, tables.contexts.contexts(), client);
+    tables.contexts.end_contexts(client);
+    let_go_processes(&mut tables.holders, &tables.contexts);
+    let_go_uids(&mut tables.holders, &tables.contexts);
     tables.contexts.leave(client);
 }
 
@@ -80,53 +68,6 @@ fn let_go_uid(holders: &mut Holders, contexts: &Contexts, uid: u32, rings: Optio
     }
 }
 
-/// Whether another client has a context of that process. The context that the process was made with bears its number,
-/// and is looked at first.
-#[tactic(auto, using(crate::proofs::EndedHolders::others_in_process))]
-fn others_have_process(contexts: &BTreeMap<u32, Context>, client: u32, process: u32) -> bool
-    ensures { result ≡ has_process (contexts_without client contexts.now.entries) process }
-{
-    is_first_of_others(contexts, client, process) || any_other_in(contexts, client, process)
-}
-
-/// Whether the context that a process was made with is there, and another client's.
-#[tactic(auto, using(krs_ctx::proofs::FirstLemmas::any_at))]
-fn is_first_of_others(contexts: &BTreeMap<u32, Context>, client: u32, process: u32) -> bool
-    ensures { result ≡ true → list_any (λ c. not (c.client == client) && (c.process == process))
-        (values contexts.now) ≡ true }
-{
-    match contexts.get(&process) {
-        Some(context) => context.client != client && context.process == process,
-        None => false,
-    }
-}
-
-fn any_other_in(contexts: &BTreeMap<u32, Context>, client: u32, process: u32) -> bool
-    ensures { result ≡ list_any (λ c. not (c.client == client) && (c.process == process))
-        (values contexts.now) }
-{
-    contexts
-        .values()
-        .any(|c| c.client != client && c.process == process)
-}
-
-/// Whether another client has a context of that uid.
-#[tactic(auto, using(crate::proofs::EndedHolders::others_of_uid))]
-fn others_have_uid(contexts: &BTreeMap<u32, Context>, client: u32, uid: u32) -> bool
-    ensures { result ≡ has_uid (contexts_without client contexts.now.entries) uid }
-{
-    any_other_of(contexts, client, uid)
-}
-
-fn any_other_of(contexts: &BTreeMap<u32, Context>, client: u32, uid: u32) -> bool
-    ensures { result ≡ list_any (λ c. not (c.client == client) && (c.caller.uid == uid))
-        (values contexts.now) }
-{
-    contexts
-        .values()
-        .any(|c| c.client != client && c.caller.uid == uid)
-}
-
 /// Lets go of what the contexts of a client attach.
 fn let_go_contexts(holders: &mut Holders, contexts: &BTreeMap<u32, Context>, client: u32)
     ensures { holders.new ≡ all_less (context_roots (filter
@@ -141,37 +82,25 @@ fn let_go_contexts(holders: &mut Holders, contexts: &BTreeMap<u32, Context>, cli
     }
 }
 
-/// Lets go of what processes attach that have no context without this client.
-fn let_go_processes(
-    holders: &mut Holders,
-    processes: &BTreeMap<u32, Option<Serial>>,
-    contexts: &BTreeMap<u32, Context>,
-    client: u32,
-)
+/// Lets go of what processes attach that have no context.
+fn let_go_processes(holders: &mut Holders, contexts: &Contexts)
     ensures { holders.new ≡ all_less (process_roots (filter
-        (λ e. not (has_process (contexts_without client contexts.now.entries) e.0))
-        processes.now.entries)) holders.old }
+        (λ e. not (has_process contexts.now.contexts e.0)) contexts.now.processes)) holders.old }
 {
-    for (process, ring) in processes {
-        if !others_have_process(contexts, client, *process) {
+    for (process, ring) in contexts.processes() {
+        if !contexts.has_process(*process) {
             holders.let_go_of(*ring);
         }
     }
 }
 
-/// Lets go of what uids attach that have no context without this client.
-fn let_go_uids(
-    holders: &mut Holders,
-    uids: &BTreeMap<u32, UidRings>,
-    contexts: &BTreeMap<u32, Context>,
-    client: u32,
-)
+/// Lets go of what uids attach that have no context.
+fn let_go_uids(holders: &mut Holders, contexts: &Contexts)
     ensures { holders.new ≡ all_less (uid_roots (filter
-        (λ e. not (has_uid (contexts_without client contexts.now.entries) e.0))
-        uids.now.entries)) holders.old }
+        (λ e. not (has_uid contexts.now.contexts e.0)) contexts.now.uids)) holders.old }
 {
-    for (uid, rings) in uids {
-        if !others_have_uid(contexts, client, *uid) {
+    for (uid, rings) in contexts.uids() {
+        if !contexts.has_uid(*uid) {
             holders.let_go_of(rings.user);
             holders.let_go_of(rings.session);
         }

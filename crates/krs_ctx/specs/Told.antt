@@ -16,6 +16,7 @@ use Rattle.krs_model.specs.Outcome.{Outcome}
 use Rattle.krs_model.specs.Asks.Hello.{has_context_left, with_context}
 use Rattle.krs_model.specs.Asks.Entering.{if_context_number}
 use Rattle.krs_model.specs.Asks.Invalidating.{detached, context_without, rings_without}
+use Rattle.krs_model.specs.Asks.Leaving.{contexts_without}
 use Rattle.krs_ctx.specs.Anchors.{Anchors, anchored}
 
 -- The new anchors and the number that is answered are what is meant. ENOMEM stands only for what would have
@@ -81,6 +82,10 @@ changed t number f = record t { contexts = alter t.contexts number f }
 -- with this keyring of a process: process-keyring(7)
 abbrev pub with_ring : Anchors → ℕ → ℕ → Anchors
 with_ring t process ring = record t { processes = alter t.processes process (λ was. Some ring) }
+
+-- with no context of this client
+abbrev pub without_contexts_of : Anchors → ℕ → Anchors
+without_contexts_of t client = record t { contexts = contexts_without client t.contexts }
 
 -- with no attachment of this key: keyctl(2), KEYCTL_INVALIDATE
 abbrev pub anchors_without : Anchors → ℕ → Anchors

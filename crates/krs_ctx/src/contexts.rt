@@ -11,7 +11,7 @@ ghost use Rattle.krs_model.specs.Asks.Leaving.{exit, has_process, has_uid, left}
 ghost use Rattle.krs_ctx.specs.Anchors.{IsFit, anchored, anchors_of};
 ghost use Rattle.krs_ctx.specs.Told.{Enters, Does, Opens, OpensWith, enterable, greeted};
 ghost use Rattle.krs_ctx.specs.Told.{CanBeTakenBack, taken_back, changed, with_ring};
-ghost use Rattle.krs_ctx.specs.Told.{anchors_without};
+ghost use Rattle.krs_ctx.specs.Told.{anchors_without, without_contexts_of};
 
 use crate::maps::{
     detach_processes, detach_uids, drop_processes, drop_uids, end_process, end_uid, enter,
@@ -318,7 +318,14 @@ impl Contexts {
         Ok(())
     }
 
-    /// Ends all contexts of a client.
+    /// Ends all contexts of a client. Their processes and uids stay.
+    pub fn end_contexts(&mut self, client: u32)
+        ensures { self.new ≡ without_contexts_of self.old client }
+    {
+        self.contexts.end_all_of(client);
+    }
+
+    /// Ends all contexts of a client, and the processes and uids that have no context then.
     #[tactic(auto, unfolding(krs_model::specs::Asks::Leaving::left))]
     pub fn leave(&mut self, client: u32)
         ensures { (s : State) → self.new ≡ anchors_of (left (anchored s self.old) client) }

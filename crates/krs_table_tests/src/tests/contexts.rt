@@ -112,8 +112,11 @@ fn a_client_leaves_with_its_own_contexts(rt: HostRuntime) -> Result<(), Fail> {
     assert!(rt; hello(&mut contexts, alloc, 0, 2000, Some(rings(5))) == Ok(3));
     assert!(rt; told(&contexts, 1, 1).is_none());
     assert!(rt; contexts.thread(1, 1) == Err(Fault::Refused(Errno::ESRCH)));
-    contexts.leave(0);
+    contexts.end_contexts(0);
     assert!(rt; contexts.contexts().len() == 1);
+    assert!(rt; contexts.uids().len() == 2);
+    contexts.leave(0);
+    assert!(rt; contexts.processes().len() == 1);
     assert!(rt; contexts.uids().len() == 1);
     assert!(rt; told(&contexts, 1, 2) == Some((2, 0, 0, 4)));
     Ok(())

@@ -6,7 +6,7 @@ use Rattle.krs_model.specs.Asks.Leaving.{contexts_without, has_process, has_uid,
 use Rattle.krs_keys.specs.Keys.{shown}
 use Rattle.krs_hold.specs.Tally.{AreExact, all_less}
 use Rattle.krs_ctx.specs.Anchors.{Anchors, anchored}
-use Rattle.krs_ctx.proofs.LeadsLemmas.{left_whole}
+use Rattle.krs_ctx.proofs.LeadsLemmas.{left_after, left_whole}
 use Rattle.krs_tables.specs.View.{state_of}
 use Rattle.krs_tables.proofs.OwedHolders.{left_told}
 use Rattle.krs_context_asks.proofs.leaving.leave.Goals as goal
@@ -17,28 +17,23 @@ invariant_of-tables c =
     let s = c.tables.inside in
     let t = s.contexts in
     let cs = contexts_without c.args.client t.contexts in
-    let contexts = c.contexts-contexts.ensures.value in
     record {
       fit = c.tables.invariant.fit;
       kinds = c.tables.invariant.kinds;
       tallied =
           subst (λ (a : Anchors). AreExact s.keys.keys c.let_go_uids.new.holders (roots (anchored (state_of s) a)))
-          (sym (c.leave-2.ensures (state_of s)))
+          (sym (left_after (state_of s) t _ _ c.args.client c.end_contexts.ensures (c.leave-2.ensures (state_of s))))
           (left_told (shown s.keys.keys) t.contexts cs t.processes _ t.uids _ (λ e. e.1.client == c.args.client)
           (λ e. has_process cs e.0) (λ e. has_uid cs e.0) s.holders _ _ _ refl refl refl
           (c.let_go_contexts.ensures
-          ∙ ap (λ es. all_less (context_roots (filter (λ e. e.1.client == c.args.client) es)) s.holders) contexts)
+          ∙ ap (λ es. all_less (context_roots (filter (λ e. e.1.client == c.args.client) es)) s.holders)
+          c.contexts.ensures.value)
           (c.let_go_processes.ensures
-          ∙ (ap (λ es. all_less (process_roots (filter (λ e. not
-          (has_process (contexts_without c.args.client es) e.0))
-          c.processes.result.now.entries)) c.let_go_contexts.new.holders) contexts
-          ∙ ap (λ es. all_less (process_roots (filter (λ e. not (has_process cs e.0)) es))
-          c.let_go_contexts.new.holders) c.processes.ensures))
+          ∙ ap (λ (a : Anchors). all_less (process_roots (filter (λ e. not (has_process a.contexts e.0)) a.processes))
+          c.let_go_contexts.new.holders) c.end_contexts.ensures)
           (c.let_go_uids.ensures
-          ∙ (ap (λ es. all_less (uid_roots (filter (λ e. not (has_uid (contexts_without c.args.client es) e.0))
-          c.uids.result.now.entries)) c.let_go_processes.new.holders) contexts
-          ∙ ap (λ es. all_less (uid_roots (filter (λ e. not (has_uid cs e.0)) es))
-          c.let_go_processes.new.holders) c.uids.ensures))
+          ∙ ap (λ (a : Anchors). all_less (uid_roots (filter (λ e. not (has_uid a.contexts e.0)) a.uids))
+          c.let_go_processes.new.holders) c.end_contexts.ensures)
           c.tables.invariant.tallied);
     }
 
@@ -46,8 +41,10 @@ pub returns : goal.returns
 unfolding left
 returns c =
     let s = state_of c.tables.inside in
+    let t = c.tables.inside.contexts in
     let after : Queues → State = λ q.
     record (anchored s c.leave-2.new.self) { queues = q.queues; watches = q.watches; next_queue = q.next_queue } in
     rw (← c.tables.view_is)
     (ap after c.leave.ensures
-    ∙ sym (left_whole s c.tables.inside.contexts _ c.args.client (c.leave-2.ensures s)))
+    ∙ sym (left_whole s t _ c.args.client
+    (left_after s t _ _ c.args.client c.end_contexts.ensures (c.leave-2.ensures s))))
