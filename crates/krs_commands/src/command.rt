@@ -1,5 +1,5 @@
 ghost use Rattle.std.specs.Prelude.{map};
-ghost use Rattle.krs_commands.specs.Command.{alone_of, command_of};
+ghost use Rattle.krs_commands.specs.Command.{alone_of, command_of, row_of};
 ghost use Rattle.krs_words.specs.Parsed.{Reads};
 
 use crate::name::CommandName;
@@ -9,7 +9,7 @@ use krs_words::NoCommand;
 use std::alloc::Global;
 
 /// What a line or a single call asks for.
-#[derive(Debug, Drop)]
+#[derive(Drop)]
 pub enum Command {
     /// The lines that follow are of this context.
     Context(u32),
@@ -30,7 +30,15 @@ pub fn parse(alloc: Global, words: &[&[u8]]) -> Result<Command, NoCommand>
     let [word, args @ ..] = words else {
         return Err(NoCommand::Usage);
     };
-    match CommandName::of_word(word).ok_or(NoCommand::Usage)? {
+    let name = CommandName::of_word(word).ok_or(NoCommand::Usage)?;
+    command_named(alloc, name, args)
+}
+
+/// The command of that name with these words.
+fn command_named(alloc: Global, name: CommandName, args: &[&[u8]]) -> Result<Command, NoCommand>
+    ensures { Reads result (row_of name (map (λ w. w.now) args.now)) }
+{
+    match name {
         CommandName::Hello => contexts::hello(alloc, args),
         CommandName::Context => contexts::context(args),
         CommandName::Moment => contexts::moment(args),

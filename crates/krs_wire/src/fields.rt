@@ -98,19 +98,20 @@ pub(crate) fn groups_at(alloc: Global, bytes: &[u8]) -> Result<(Groups, &[u8]), 
 }
 
 /// The subtype words of a filter entry.
-#[tactic(auto, unfolding(crate::specs::Field::many_read))]
 fn subtypes_at(bytes: &[u8]) -> Result<([u32; 8], &[u8]), WireFault>
     ensures { GivesRead (λ x. (x.0, x.1.now)) result (or_bad_body ((repeated 8 (number w32)).read bytes.now)) }
 {
-    let (first, rest) = u32_at(bytes)?;
-    let (second, rest) = u32_at(rest)?;
-    let (third, rest) = u32_at(rest)?;
-    let (fourth, rest) = u32_at(rest)?;
-    let (fifth, rest) = u32_at(rest)?;
-    let (sixth, rest) = u32_at(rest)?;
-    let (seventh, rest) = u32_at(rest)?;
-    let (eighth, rest) = u32_at(rest)?;
-    let words = [first, second, third, fourth, fifth, sixth, seventh, eighth];
+    let mut words = [0; 8];
+    let mut rest = bytes;
+    for place in 0..8 {
+        match u32_at(rest) {
+            Err(fault) => return Err(fault),
+            Ok((word, after)) => {
+                words[place] = word;
+                rest = after;
+            }
+        }
+    }
     Ok((words, rest))
 }
 

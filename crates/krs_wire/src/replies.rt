@@ -1,5 +1,5 @@
 ghost use Rattle.std.specs.Prelude.{◌≡◌, ◌≤◌, ◌++◌, IfOk, IfErr, IfSome, OnOk, OnErr, length};
-ghost use Rattle.std.specs.Int.{w32};
+ghost use Rattle.std.specs.Int.{w32, to_le_bytes};
 ghost use Rattle.krs_wire.specs.Faulting.{GivesRead};
 ghost use Rattle.krs_wire.specs.Field.{number};
 ghost use Rattle.krs_wire.specs.Reply.{answer_of, frame_of, reply_by, reply_front, reply_frame, shape_of, Finds};
@@ -16,14 +16,22 @@ const MIN_LENGTH: usize = 4;
 
 const MAX_LENGTH: usize = 262_144;
 
+/// The length and the status in front of a body.
+fn head_of(length: u32, status: u32) -> [u8; 8]
+    ensures { result ≡ to_le_bytes w32 length ++ to_le_bytes w32 status }
+{
+    let mut head = [0; 8];
+    LittleEndian::write_u32(&mut head, length);
+    LittleEndian::write_u32(&mut head[4..], status);
+    head
+}
+
 fn put_frame(out: &mut Vec<u8>, status: u32, body: &[u8]) -> Result<(), AllocError>
     requires { length body.now ≤ 262140 }
     ensures ok { OnOk result (out.new.items ≡ out.old.items ++ frame_of status body.now) }
     ensures err { OnErr result (out.new.items ≡ out.old.items) }
 {
-    let mut head = [0; 8];
-    LittleEndian::write_u32(&mut head, body.len() as u32 + 4);
-    LittleEndian::write_u32(&mut head[4..], status);
+    let head = head_of(body.len() as u32 + 4, status);
     out.reserve(8 + body.len())?;
     out.extend_from_slice(&head)?;
     out.extend_from_slice(body)?;

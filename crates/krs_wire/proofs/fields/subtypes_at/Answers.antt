@@ -1,0 +1,36 @@
+use Rattle.std.proofs.Common.{◌≡◌, ◌-◌, ◌+◌, ◌<◌, List, ℕ, ap, sym, subst, take, length, ◌∙◌}
+use Rattle.std.specs.Int.{w32}
+use Rattle.std.proofs.lemmas.List.{take_more_set, take_all, length-set}
+use Rattle.krs_wire.specs.Field.{number, many_read}
+use Rattle.krs_wire.specs.Faulting.{or_bad_body}
+use Rattle.krs_wire.proofs.CountLemmas.{with_front, many_on, many_ends, many_done}
+use Rattle.krs_wire.proofs.fields.subtypes_at.Goals as goal
+
+pub loop-place-preserved : goal.loop-place-preserved
+loop-place-preserved c =
+    let words = c.loop-place.words in
+    let place = c.loop-place.place in
+    let lt : place < length words = rw c.loop-place.invariant.0 c.loop-place-test.true in
+    let next =
+    many_on (number w32) (take place words) 8 place c.loop-place.rest.now c.in-Ok.word c.in-Ok.after.now _
+    c.loop-place-test.true c.in-Ok.ensures c.loop-place.invariant.1 in
+    (
+      length-set words place c.in-Ok.word ∙ c.loop-place.invariant.0,
+      subst (λ (xs : List ℕ). with_front xs (many_read (number w32) (8 - (place + 1)) c.in-Ok.after.now)
+      ≡ many_read (number w32) 8 c.args.bytes.now) (sym (take_more_set words place c.in-Ok.word lt)) next,
+    )
+
+pub returns : goal.returns
+returns c =
+    let words = c.loop-place.words in
+    let all : take c.loop-place.place words ≡ words = take_all c.loop-place.place words
+    (rw c.loop-place.invariant.0 c.loop-place-test.false) in
+    ap (λ o. or_bad_body o) (many_done (number w32) words 8 c.loop-place.place c.loop-place.rest.now _
+    c.loop-place-test.false
+    (subst (λ (xs : List ℕ). with_front xs (many_read (number w32) (8 - c.loop-place.place) c.loop-place.rest.now)
+    ≡ many_read (number w32) 8 c.args.bytes.now) all c.loop-place.invariant.1))
+
+pub returns-in-Err : goal.returns-in-Err
+returns-in-Err c =
+    λ other. many_ends (number w32) (take c.loop-place.place c.loop-place.words) 8 c.loop-place.place
+    c.loop-place.rest.now c.in-Err.fault _ c.loop-place-test.true (c.in-Err.ensures other) c.loop-place.invariant.1
