@@ -1,7 +1,3 @@
-mod desk;
-mod many;
-mod posted;
-mod seats;
 mod serve;
 mod session;
 mod wire;

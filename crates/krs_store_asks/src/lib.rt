@@ -1,4 +1,4 @@
-//! Asks in few words, and what they are answered with, for the tests of the store.
+//! Asks in few words, and what they are answered with, for the tests of the store and the desk.
 #![tactic(auto)]
 
 ghost use Rattle.std.specs.Prelude.{◌≡◌, [], IfOk};
@@ -27,6 +27,14 @@ pub fn is_wanted(reply: &Reply, want: Want<'_>) -> bool
         (Ok(Answer::Bytes(got)), Want::Bytes(bytes)) => got.as_slice() == bytes,
         (Err(got), Want::Refused(errno)) => got.number() == errno.number(),
         _ => false,
+    }
+}
+
+/// The number that a reply gives, and 0 for any other reply.
+pub fn number_of(reply: &Reply) -> u32 {
+    match reply {
+        Ok(Answer::Number(number)) => *number,
+        _ => 0,
     }
 }
 

@@ -1,10 +1,7 @@
 mod contexts;
 mod filters;
 mod holders;
-mod keys;
-mod links;
 mod records;
 mod rings;
 mod values;
-mod walks;
 mod watches;

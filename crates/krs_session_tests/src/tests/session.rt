@@ -10,9 +10,9 @@ mod growths;
 mod joined;
 mod shared;
 
-use super::seats::one_seat;
 use fakes::{Bites, Chair, Rising, Table, Then, Watching, chair_of, reader_of, watches, writer_of};
 use krs_desk::{Desk, Seat};
+use krs_desk_tests::one_seat;
 use krs_session::*;
 use krs_store::Store;
 use krs_wire::WireFault;

@@ -6,13 +6,13 @@ ghost use Rattle.krs_session.specs.Over.{over_reads, over_empties, over_failures
 
 use super::ASKS;
 use super::fakes::watches;
-use crate::tests::desk::{add, gives_bytes, hello, is_refused, number_of, read};
-use crate::tests::seats::{one_seat, two_seats};
 use crate::tests::serve::{Open, Still};
 use krs_desk::{Desk, Seat};
+use krs_desk_tests::{one_seat, two_seats};
 use krs_serve::{Entry, run_sessions};
 use krs_session::{Ended, Keeper, Over, run};
 use krs_store::Store;
+use krs_store_asks::{Want, add, hello, is_wanted, number_of, read};
 use krs_types::{Answer, Ask, Errno, Op, Reply};
 use std::alloc::{AllocError, Global};
 use std::sync::atomic::{AtomicU64, Ordering};
@@ -80,15 +80,15 @@ fn a_session_tells_of_a_refused_growth_or_ends(rt: HostRuntime) -> Result<(), Fa
         (gate.answered.get(), 0)
     );
     let mut store = desk.close(seat).map_err(|_| "the turn is out")?;
-    assert!(rt; is_refused(&store.apply(0, 0, read(1, 5)), Errno::ESRCH));
+    assert!(rt; is_wanted(&store.apply(0, 0, read(1, 5)), Want::Refused(Errno::ESRCH)));
     Ok(())
 }
 
 /// The asks of two seats, by their place.
 fn ask_at(alloc: Global, place: u8) -> Result<Ask, AllocError> {
     match place {
-        0 | 2 => Ok(hello(alloc)),
-        1 => add(alloc, 1, b"alpha", b"s3"),
+        0 | 2 => Ok(hello(alloc, 1000)),
+        1 => add(alloc, b"user", b"alpha", b"s3", -4),
         3 => Ok(read(2, 5)),
         _ => Ok(read(1, 5)),
     }
@@ -120,8 +120,13 @@ fn one_thread_is_never_handed_an_ask_back(rt: HostRuntime) -> Result<(), Fail> {
     assert_eq!(rt; number_of(&reply_at(alloc, &desk, &mut first, 1)?), 5);
     desk.meet(&mut first, &mut second);
     assert_eq!(rt; number_of(&reply_at(alloc, &desk, &mut second, 2)?), 2);
-    assert!(rt; gives_bytes(&reply_at(alloc, &desk, &mut second, 3)?, b"s3"));
-    assert!(rt; is_refused(&reply_at(alloc, &desk, &mut second, 4)?, Errno::ESRCH));
+    assert!(rt; is_wanted(&reply_at(alloc, &desk, &mut second, 3)?, Want::Bytes(b"s3")));
+    assert!(rt;
+        is_wanted(
+            &reply_at(alloc, &desk, &mut second, 4)?,
+            Want::Refused(Errno::ESRCH)
+        )
+    );
     Ok(())
 }
 

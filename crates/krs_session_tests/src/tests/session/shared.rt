@@ -3,8 +3,8 @@ ghost use Rattle.krs_desk.specs.Sitting.{IsIdleAt};
 
 use super::fakes::watches;
 use super::{ASKS, REPLIES, converse};
-use crate::tests::seats::{one_seat, two_seats};
 use krs_desk::{Desk, Seat};
+use krs_desk_tests::{one_seat, two_seats};
 use krs_session::Ended;
 use krs_store::Store;
 use std::alloc::Global;

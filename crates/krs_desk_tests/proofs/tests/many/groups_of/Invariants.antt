@@ -1,6 +1,6 @@
 use Rattle.std.proofs.Common.{All}
 use Rattle.krs_desk.specs.Sitting.{IsIdleAt}
-use Rattle.krs_session_tests.proofs.tests.many.groups_of.Given as goal
+use Rattle.krs_desk_tests.proofs.tests.many.groups_of.Given as goal
 
 -- the seats that are left are idle, and so are those of the groups
 abbrev pub invariant-groups : goal.invariant-groups

@@ -7,7 +7,7 @@ use krs_store::Store;
 use std::alloc::Global;
 
 /// A desk of so many lanes and its seats. Where memory was refused it is tried again with the store that came back.
-pub(super) fn opened(alloc: Global, lanes: u32, store: Store) -> Option<(Desk, Vec<Seat>)>
+pub fn opened(alloc: Global, lanes: u32, store: Store) -> Option<(Desk, Vec<Seat>)>
     ensures { IfSome result (λ d. All (IsIdleAt d.0) d.1.items) }
 {
     match Desk::open(alloc, lanes, store) {
@@ -20,7 +20,7 @@ pub(super) fn opened(alloc: Global, lanes: u32, store: Store) -> Option<(Desk, V
 }
 
 /// A desk of one lane and its seat.
-pub(super) fn one_seat(alloc: Global, store: Store) -> Option<(Desk, Seat)>
+pub fn one_seat(alloc: Global, store: Store) -> Option<(Desk, Seat)>
     ensures { IfSome result (λ d. IsIdleAt d.0 d.1) }
 {
     let (desk, mut seats) = opened(alloc, 1, store)?;
@@ -29,7 +29,7 @@ pub(super) fn one_seat(alloc: Global, store: Store) -> Option<(Desk, Seat)>
 }
 
 /// A desk of two lanes and its seats.
-pub(super) fn two_seats(alloc: Global, store: Store) -> Option<(Desk, Seat, Seat)>
+pub fn two_seats(alloc: Global, store: Store) -> Option<(Desk, Seat, Seat)>
     ensures { IfSome result (λ d. IsIdleAt d.0 d.1 × IsIdleAt d.0 d.2) }
 {
     let (desk, mut seats) = opened(alloc, 2, store)?;
@@ -49,7 +49,7 @@ fn next_seat(desk: &Desk, seats: &mut Vec<Seat>) -> Option<Seat>
 }
 
 /// A desk of three lanes and its seats.
-pub(super) fn three_seats(alloc: Global, store: Store) -> Option<(Desk, Seat, Seat, Seat)>
+pub fn three_seats(alloc: Global, store: Store) -> Option<(Desk, Seat, Seat, Seat)>
     ensures { IfSome result (λ d. IsIdleAt d.0 d.1 × IsIdleAt d.0 d.2 × IsIdleAt d.0 d.3) }
 {
     let (desk, mut seats) = opened(alloc, 3, store)?;

@@ -1,8 +1,8 @@
 use Rattle.std.proofs.Common.{◌≡◌, [], rules, sym, subst}
 use Rattle.krs_model.specs.Table.{put}
 use Rattle.krs_keys.specs.Keys.{AreFit}
-use Rattle.krs_table_tests.proofs.Rings.{two_fit}
-use Rattle.krs_table_tests.proofs.tests.walks.two_rings.Goals as goal
+use Rattle.krs_key_tests.proofs.Rings.{two_fit}
+use Rattle.krs_key_tests.proofs.tests.walks.two_rings.Goals as goal
 
 pub returns-clause-fit : goal.returns-clause-fit
 returns-clause-fit c =

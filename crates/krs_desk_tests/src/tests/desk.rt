@@ -2,28 +2,16 @@
 //! that came back opens the next desk, so that each of these also shows that it came back whole.
 ghost use Rattle.krs_desk.specs.Sitting.{IsIdleAt};
 
-use super::seats::two_seats;
+use crate::two_seats;
 use krs_desk::{Desk, Seat, Why};
 use krs_store::Store;
-use krs_types::{Answer, Ask, Blob, Caller, Errno, Groups, Op, Reply};
+use krs_store_asks::{Want, hello, is_wanted, number_of, read};
+use krs_types::{Answer, Ask, Reply};
 use std::alloc::{AllocError, Global};
 use std::sync::Wait;
 use std::test::*;
 use std::thread;
 use std::thread::Threads;
-
-/// HELLO 1000 1000 without other groups.
-pub(super) fn hello(alloc: Global) -> Ask {
-    let groups = Groups::new(Vec::new(alloc));
-    Ask {
-        context: 0,
-        op: Op::Hello(Caller {
-            uid: 1000,
-            gid: 1000,
-            groups,
-        }),
-    }
-}
 
 /// ADD of a user key to the user keyring.
 pub(super) fn add(
@@ -32,45 +20,8 @@ pub(super) fn add(
     desc: &[u8],
     payload: &[u8],
 ) -> Result<Ask, AllocError> {
-    let op = Op::Add {
-        type_name: Blob::from_slice(alloc, b"user")?,
-        desc: Blob::from_slice(alloc, desc)?,
-        payload: Blob::from_slice(alloc, payload)?,
-        ring: -4,
-    };
-    Ok(Ask { context, op })
-}
-
-/// READ of a key.
-pub(super) fn read(context: u32, id: i32) -> Ask {
-    Ask {
-        context,
-        op: Op::Read { id },
-    }
-}
-
-/// The number that a reply gives, and 0 for any other reply.
-pub(super) fn number_of(reply: &Reply) -> u32 {
-    match reply {
-        Ok(Answer::Number(number)) => *number,
-        _ => 0,
-    }
-}
-
-/// Whether a reply gives these bytes.
-pub(super) fn gives_bytes(reply: &Reply, bytes: &[u8]) -> bool {
-    match reply {
-        Ok(Answer::Bytes(body)) => body.as_slice() == bytes,
-        _ => false,
-    }
-}
-
-/// Whether a reply is this error.
-pub(super) fn is_refused(reply: &Reply, errno: Errno) -> bool {
-    match reply {
-        Ok(_) => false,
-        Err(got) => got.number() == errno.number(),
-    }
+    let ask = krs_store_asks::add(alloc, b"user", desc, payload, -4)?;
+    Ok(Ask { context, ..ask })
 }
 
 fn gives_length(reply: &Reply, length: usize) -> bool {
@@ -98,7 +49,7 @@ fn add_hundred<R: Wait>(
     requires { IsIdleAt desk.now seat.old }
     ensures { IsIdleAt desk.now seat.new }
 {
-    let context = number_of(&desk.call(rt, seat, 0, hello(alloc)));
+    let context = number_of(&desk.call(rt, seat, 0, hello(alloc, 1000)));
     let mut serials = Vec::with_capacity(alloc, 100)?;
     for n in 1..=100u8 {
         let desc = format!(in alloc; "{letter}{n}")?;
@@ -174,7 +125,7 @@ fn two_threads_share_one_store(rt: HostRuntime) -> Result<(), Fail> {
 /// A store with context 1 of client 0 and key 5 of the payload `s3`.
 fn used_store(alloc: Global) -> Result<Store, AllocError> {
     let mut store = Store::new(alloc);
-    let _ = store.apply(0, 0, hello(alloc));
+    let _ = store.apply(0, 0, hello(alloc, 1000));
     let _ = store.apply(0, 0, add(alloc, 1, b"alpha", b"s3")?);
     Ok(store)
 }
@@ -186,13 +137,13 @@ fn a_desk_goes_on_with_its_store(rt: HostRuntime) -> Result<(), Fail> {
     let alloc = rt.alloc();
     let (desk, mut first, mut second) = two_seats(alloc, used_store(alloc)?).ok_or("no desk")?;
     let reply = desk.try_call(&mut first, 0, read(1, 5));
-    assert!(rt; reply.is_ok_and(|reply| gives_bytes(&reply, b"s3")));
-    let reply = desk.try_call(&mut second, 0, hello(alloc));
+    assert!(rt; reply.is_ok_and(|reply| is_wanted(&reply, Want::Bytes(b"s3"))));
+    let reply = desk.try_call(&mut second, 0, hello(alloc, 1000));
     assert!(rt; reply.is_ok_and(|reply| number_of(&reply) == 2));
     let reply = desk.try_call(&mut second, 0, read(2, -4));
-    assert!(rt; reply.is_ok_and(|reply| gives_bytes(&reply, &[5, 0, 0, 0])));
+    assert!(rt; reply.is_ok_and(|reply| is_wanted(&reply, Want::Bytes(&[5, 0, 0, 0]))));
     let mut store = desk.close(first).map_err(|_| "the turn is out")?;
-    assert!(rt; gives_bytes(&store.apply(0, 0, read(1, 5)), b"s3"));
+    assert!(rt; is_wanted(&store.apply(0, 0, read(1, 5)), Want::Bytes(b"s3")));
     Ok(())
 }
 
@@ -205,7 +156,7 @@ fn too_few_or_many_lanes_hand_the_store_back(rt: HostRuntime) -> Result<(), Fail
         };
         assert!(rt; refused.why == Why::Lanes);
         let mut store = refused.store;
-        assert!(rt; gives_bytes(&store.apply(0, 0, read(1, 5)), b"s3"));
+        assert!(rt; is_wanted(&store.apply(0, 0, read(1, 5)), Want::Bytes(b"s3")));
     }
     Ok(())
 }

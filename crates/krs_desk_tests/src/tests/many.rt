@@ -2,26 +2,16 @@
 ghost use Rattle.std.specs.Prelude.{All, IfOk};
 ghost use Rattle.krs_desk.specs.Sitting.{IsIdleAt};
 
-use super::desk::{gives_bytes, number_of, read};
-use super::seats::opened;
+use crate::opened;
 use krs_desk::{Desk, Seat};
 use krs_store::Store;
-use krs_types::{Ask, Blob, Caller, Groups, Op};
+use krs_store_asks::{Want, hello, is_wanted, number_of, read};
+use krs_types::{Ask, Blob, Op};
 use std::alloc::{AllocError, Global};
 use std::sync::Wait;
 use std::test::*;
 use std::thread;
 use std::thread::Threads;
-
-/// HELLO of the user whose number is 1000 above the lane.
-fn hello_of(alloc: Global, lane: u32) -> Ask {
-    let op = Op::Hello(Caller {
-        uid: 1000u32.saturating_add(lane),
-        gid: 1000,
-        groups: Groups::new(Vec::new(alloc)),
-    });
-    Ask { context: 0, op }
-}
 
 /// Whether a seat's caller reads back the digits of its lane, which it added under the same name as all others do.
 fn reads_its_own<R: Wait>(
@@ -34,7 +24,12 @@ fn reads_its_own<R: Wait>(
 {
     let lane = seat.lane();
     let digits = format!(in alloc; "{lane}")?;
-    let context = number_of(&desk.call(rt, &mut seat, 0, hello_of(alloc, lane)));
+    let context = number_of(&desk.call(
+        rt,
+        &mut seat,
+        0,
+        hello(alloc, 1000u32.saturating_add(lane)),
+    ));
     let op = Op::Add {
         type_name: Blob::from_slice(alloc, b"user")?,
         desc: Blob::from_slice(alloc, b"a")?,
@@ -48,7 +43,7 @@ fn reads_its_own<R: Wait>(
         0,
         read(context, i32::try_from(serial).unwrap_or(0)),
     );
-    Ok(gives_bytes(&reply, digits.as_bytes()))
+    Ok(is_wanted(&reply, Want::Bytes(digits.as_bytes())))
 }
 
 /// At how many of these seats that is so, one after the other.

@@ -2,10 +2,11 @@
 ghost use Rattle.std.specs.Prelude.{◌≡◌};
 ghost use Rattle.krs_desk.specs.Sitting.{IsIdleAt};
 
-use super::desk::{add, hello, number_of};
-use super::seats::{opened, three_seats, two_seats};
+use super::desk::add;
+use crate::{opened, three_seats, two_seats};
 use krs_desk::{Desk, Helped, Seat};
 use krs_store::Store;
+use krs_store_asks::{hello, number_of};
 use krs_types::{Ask, Blob, Op, Reply};
 use std::alloc::{AllocError, Global};
 use std::sync::Wait;
@@ -34,7 +35,7 @@ fn post_first<R: Wait>(
     requires { IsIdleAt desk.now seat.old }
     ensures { seat.new.table ≡ desk.now }
 {
-    let context = number_of(&desk.call(rt, seat, 0, hello(alloc)));
+    let context = number_of(&desk.call(rt, seat, 0, hello(alloc, 1000)));
     desk.post(seat, 0, add(alloc, context, desc, b"x")?);
     Ok(context)
 }
@@ -63,7 +64,7 @@ fn one_turn_answers_all_that_is_posted(rt: HostRuntime) -> Result<(), Fail> {
     )?;
     assert_eq!(rt; post_first(&rt, alloc, &desk, &mut first, b"a")?, 1);
     // The second lane's HELLO by `call` would answer the first lane's call too: it is posted in its place.
-    desk.post(&mut second, 0, hello(alloc));
+    desk.post(&mut second, 0, hello(alloc, 1000));
     assert!(rt; desk.help(&mut third) == Helped::Took(2));
     assert!(rt; gives(desk.collect(&mut first), 5));
     assert!(rt; gives(desk.collect(&mut second), 2));
@@ -149,7 +150,7 @@ fn add_rings<R: Wait>(
 ) -> Result<Vec<u32>, AllocError>
     requires { IsIdleAt desk.now seat }
 {
-    let context = number_of(&desk.call(rt, &mut seat, 0, hello(alloc)));
+    let context = number_of(&desk.call(rt, &mut seat, 0, hello(alloc, 1000)));
     let mut serials = Vec::with_capacity(alloc, CALLS as usize)?;
     'calls: for _ in 0..CALLS {
         let ask = add_ring(alloc, context)?;
