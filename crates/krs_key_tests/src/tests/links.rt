@@ -135,20 +135,33 @@ fn expect(rt: &impl Abort, links: &Linked, all: &[u32], rings: &[u32]) {
     assert!(rt; links.rings_are(rings), "{rings:?}");
 }
 
-/// keyrings(7): a keyring links keys of several types, and a description stands for each type by itself.
-fn check_finds(rt: &impl Abort, links: &mut Linked) -> Result<(), Fail> {
-    expect(rt, links, &[], &[]);
-    let rows = [(5, Kind::User), (6, Kind::Keyring), (7, Kind::Logon)];
-    for (number, kind) in &rows {
+const KINDS: [(u32, Kind); 3] = [(5, Kind::User), (6, Kind::Keyring), (7, Kind::Logon)];
+
+/// Links a key of each type under one description.
+fn link_each(rt: &impl Abort, links: &mut Linked) -> Result<(), Fail> {
+    for (number, kind) in &KINDS {
         assert!(rt; links.find(*kind, b"s:x")?.is_none(), "{kind:?}");
         assert_eq!(rt; links.put(*kind, b"s:x", *number)?, Ok(None), "{kind:?}");
     }
-    expect(rt, links, &[5, 6, 7], &[6]);
-    for (number, kind) in &rows {
+    Ok(())
+}
+
+/// Finds each of those by its type.
+fn find_each(rt: &impl Abort, links: &Linked) -> Result<(), Fail> {
+    for (number, kind) in &KINDS {
         let found = links.find(*kind, b"s:x")?;
         assert_eq!(rt; found, Some(Serial::new(*number)), "{kind:?}");
     }
     assert_eq!(rt; links.find(Kind::User, b"s:y")?, None);
+    Ok(())
+}
+
+/// keyrings(7): a keyring links keys of several types, and a description stands for each type by itself.
+fn check_finds(rt: &impl Abort, links: &mut Linked) -> Result<(), Fail> {
+    expect(rt, links, &[], &[]);
+    link_each(rt, links)?;
+    expect(rt, links, &[5, 6, 7], &[6]);
+    find_each(rt, links)?;
     assert!(rt; links.is_named(0, Kind::User, b"s:x"));
     assert!(rt; links.has_name_at(2) && !links.has_name_at(3) && !links.is_full());
     Ok(())
@@ -249,14 +262,20 @@ fn refused_links_change_nothing(rt: HostRuntime) -> Result<(), Fail> {
     check_refusal(&rt, &mut links)
 }
 
-/// A full keyring takes no new name, and a link of an equal name in the place of the other: keyctl(2), KEYCTL_LINK,
-/// "ENFILE"; profile, full keyrings.
-fn check_full(rt: &impl Abort, links: &mut Linked) -> Result<(), Fail> {
+/// Links as many keys as a keyring links, each under its number.
+fn fill(rt: &impl Abort, links: &mut Linked) -> Result<(), Fail> {
     for number in 1..65_536u32 {
         let desc = number.to_le_bytes();
         assert!(rt; !links.is_full(), "{number}");
         assert_eq!(rt; links.put(Kind::User, &desc, number)?, Ok(None), "{number}");
     }
+    Ok(())
+}
+
+/// A full keyring takes no new name, and a link of an equal name in the place of the other: keyctl(2), KEYCTL_LINK,
+/// "ENFILE"; profile, full keyrings.
+fn check_full(rt: &impl Abort, links: &mut Linked) -> Result<(), Fail> {
+    fill(rt, links)?;
     assert!(rt; links.is_full());
     let seven = 7u32.to_le_bytes();
     let unlike = links.put(Kind::Logon, &seven, 70_000)?;
