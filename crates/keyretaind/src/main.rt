@@ -1,6 +1,7 @@
 //! The daemon of a key store.
 #![tactic(auto)]
 
+use krs_serve::Voice;
 use std::env;
 use std::process::ExitCode;
 
@@ -10,7 +11,7 @@ fn main(rt: HostRuntime) -> ExitCode {
         &rt,
         rt.alloc(),
         words,
-        &mut rt.stdout(),
-        &mut rt.stderr(),
+        &mut Voice::new(rt.stdout()),
+        &mut Voice::new(rt.stderr()),
     ))
 }

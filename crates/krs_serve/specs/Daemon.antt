@@ -1,7 +1,7 @@
 -- What the daemon prints and answers: docs/FORMAT.md, "The daemon, keyretaind".
 use Rattle.std.specs.Prelude.{ℕ, ◌≡◌, ◌⊎◌, ◌++◌, List, Option, Some, None, codes, string_bytes}
 use Rattle.std.specs.Fmt.{decimal}
-use Rattle.krs_words.specs.Writing.{WritesFront}
+use Rattle.krs_serve.specs.Saying.{Heard, Says}
 use Rattle.krs_serve.specs.declared.choice.Choice.{Choice}
 use Rattle.krs_serve.specs.declared.choice.Choice.TheVariants.{Serve, Usage, Memory, Shown, Refused}
 use Rattle.krs_serve.specs.declared.listening.Accepted.{Accepted}
@@ -22,35 +22,35 @@ connections_of None = 18446744073709551615
 connections_of (Some connections) = connections
 
 -- a failed accept is told, and nothing else is printed while connections are accepted
-abbrev pub TellsAccepted : Accepted → Option (List ℕ) → Option (List ℕ) → Type 0
+abbrev pub TellsAccepted : Accepted → Heard → Heard → Type 0
 TellsAccepted All old new = new ≡ old
-TellsAccepted Failed old new = WritesFront old new (codes "error: accept\n")
+TellsAccepted Failed old new = Says old new (codes "error: accept\n")
 
 -- what it prints at its end, and its status: its last connection was served, or an accept failed
-abbrev pub Ends : ℕ → Option (List ℕ) → Option (List ℕ) → ℕ → Type 0
+abbrev pub Ends : ℕ → Heard → Heard → ℕ → Type 0
 Ends connections old new status =
-    (WritesFront old new (served_line connections) × (status ≡ 0))
-    ⊎ (WritesFront old new (codes "error: accept\n") × (status ≡ 3))
+    (Says old new (served_line connections) × (status ≡ 0))
+    ⊎ (Says old new (codes "error: accept\n") × (status ≡ 3))
 
 -- What a daemon prints by its options, with its status: it lacks memory or can't bind its path, or it listens and then
--- ends. Of a line that can't be written whole a beginning is written, and the daemon goes on.
-abbrev pub Serves : Options → Option (List ℕ) → Option (List ℕ) → ℕ → Type 0
+-- ends. Of a line that its output fails to take whole a beginning is written, and the daemon goes on.
+abbrev pub Serves : Options → Heard → Heard → ℕ → Type 0
 Serves options old new status =
-    (WritesFront old new (codes "error 12 ENOMEM\n") × (status ≡ 1))
-    ⊎ ((WritesFront old new (codes "error: socket\n") × (status ≡ 3))
-    ⊎ ((listening : Option (List ℕ)) × WritesFront old listening (listening_line (string_bytes options.path))
+    (Says old new (codes "error 12 ENOMEM\n") × (status ≡ 1))
+    ⊎ ((Says old new (codes "error: socket\n") × (status ≡ 3))
+    ⊎ ((listening : Heard) × Says old listening (listening_line (string_bytes options.path))
     × Ends (connections_of options.accept) listening new status))
 
 -- What is printed, and the status. What is refused of the words is told on standard error, and nothing is printed;
 -- nothing else is told there.
-abbrev pub Answers : Choice → Option (List ℕ) → Option (List ℕ) → Option (List ℕ) → Option (List ℕ) → ℕ → Type 0
+abbrev pub Answers : Choice → Heard → Heard → Heard → Heard → ℕ → Type 0
 Answers (Serve options) old new old_errors new_errors status =
     Serves options old new status × (new_errors ≡ old_errors)
 Answers Usage old new old_errors new_errors status =
-    WritesFront old new (codes "usage\n") × (status ≡ 2) × (new_errors ≡ old_errors)
+    Says old new (codes "usage\n") × (status ≡ 2) × (new_errors ≡ old_errors)
 Answers Memory old new old_errors new_errors status =
-    WritesFront old new (codes "error 12 ENOMEM\n") × (status ≡ 1) × (new_errors ≡ old_errors)
+    Says old new (codes "error 12 ENOMEM\n") × (status ≡ 1) × (new_errors ≡ old_errors)
 Answers (Shown text) old new old_errors new_errors status =
-    WritesFront old new (string_bytes text) × (status ≡ 0) × (new_errors ≡ old_errors)
+    Says old new (string_bytes text) × (status ≡ 0) × (new_errors ≡ old_errors)
 Answers (Refused text) old new old_errors new_errors status =
-    WritesFront old_errors new_errors (string_bytes text) × (status ≡ 2) × (new ≡ old)
+    Says old_errors new_errors (string_bytes text) × (status ≡ 2) × (new ≡ old)

@@ -2,4 +2,5 @@ pub mod Clock
 pub mod CommandLine
 pub mod Choice
 pub mod Daemon
+pub mod Saying
 pub mod Sessions

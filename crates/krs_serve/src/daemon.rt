@@ -6,10 +6,11 @@ ghost use Rattle.krs_desk.specs.Sitting.{IsIdleAt, fresh_seats};
 ghost use Rattle.krs_serve.specs.declared.choice.Choice.{Choice as ChoiceIs};
 ghost use Rattle.krs_serve.specs.Choice.{IsUnread, LeadsTo};
 ghost use Rattle.krs_serve.specs.Daemon.{Answers, Serves, connections_of};
+ghost use Rattle.krs_serve.specs.Saying.{heard};
 
 use crate::choice::{Choice, choose};
 use crate::listening::{Accepted, accept_all};
-use crate::saying::{Lines, NOT_BOUND, OUT_OF_MEMORY, USAGE, say};
+use crate::saying::{Lines, NOT_BOUND, OUT_OF_MEMORY, USAGE, Voice};
 use crate::{FreeSeats, Options, seated};
 use krs_desk::{Desk, Refused, Seat};
 use krs_store::{Seed, Store};
@@ -31,12 +32,18 @@ pub fn run_daemon<
     R: Clock + Files + Net + RandomSource + Threads + Wait + Sync,
     W: Write,
     E: Write,
->(rt: &R, alloc: Global, words: io::Result<Args>, output: &mut W, errors: &mut E) -> u8
+>(
+    rt: &R,
+    alloc: Global,
+    words: io::Result<Args>,
+    output: &mut Voice<W>,
+    errors: &mut Voice<E>,
+) -> u8
     ensures { (choice : ChoiceIs)
         × IfOk words (λ words. LeadsTo (map string_bytes (into_iter_items words)) choice)
         × IfErr words (λ error. IsUnread (error_kind error) choice)
-        × Answers choice (W.contents output.old) (W.contents output.new)
-        (E.contents errors.old) (E.contents errors.new) result }
+        × Answers choice (heard W.contents output.old) (heard W.contents output.new)
+        (heard E.contents errors.old) (heard E.contents errors.new) result }
 {
     let choice = choose(alloc, words);
     answer(rt, alloc, choice, output, errors)
@@ -47,28 +54,28 @@ fn answer<R: Clock + Files + Net + RandomSource + Threads + Wait + Sync, W: Writ
     rt: &R,
     alloc: Global,
     choice: Choice,
-    output: &mut W,
-    errors: &mut E,
+    output: &mut Voice<W>,
+    errors: &mut Voice<E>,
 ) -> u8
-    ensures { Answers choice (W.contents output.old) (W.contents output.new)
-        (E.contents errors.old) (E.contents errors.new) result }
+    ensures { Answers choice (heard W.contents output.old) (heard W.contents output.new)
+        (heard E.contents errors.old) (heard E.contents errors.new) result }
 {
     match choice {
         Choice::Serve(options) => listen(rt, alloc, &options, output),
         Choice::Usage => {
-            say(output, USAGE);
+            output.say(USAGE);
             2
         }
         Choice::Memory => {
-            say(output, OUT_OF_MEMORY);
+            output.say(OUT_OF_MEMORY);
             1
         }
         Choice::Shown(text) => {
-            say(output, text.as_str());
+            output.say(text.as_str());
             0
         }
         Choice::Refused(text) => {
-            say(errors, text.as_str());
+            errors.say(text.as_str());
             2
         }
     }
@@ -103,32 +110,32 @@ pub fn listen<R: Clock + Files + Net + RandomSource + Threads + Wait + Sync, W: 
     rt: &R,
     alloc: Global,
     options: &Options,
-    output: &mut W,
+    output: &mut Voice<W>,
 ) -> u8
-    ensures { Serves options.now (W.contents output.old) (W.contents output.new) result }
+    ensures { Serves options.now (heard W.contents output.old) (heard W.contents output.new) result }
 {
     let Ok((desk, seats)) = opened(rt, alloc, options) else {
-        say(output, OUT_OF_MEMORY);
+        output.say(OUT_OF_MEMORY);
         return 1;
     };
     let path = options.path.as_str();
     let connections = connections_for(options.accept);
     let made = seated(alloc, &desk, seats);
     let (Ok(sittings), Ok(lines)) = (made, Lines::new(alloc, path, connections)) else {
-        say(output, OUT_OF_MEMORY);
+        output.say(OUT_OF_MEMORY);
         return 1;
     };
     let Ok(listener) = UnixListener::bind(rt, path) else {
-        say(output, NOT_BOUND);
+        output.say(NOT_BOUND);
         return 3;
     };
     let free = FreeSeats::new(sittings);
-    say(output, lines.listening.as_str());
+    output.say(lines.listening.as_str());
     let accepted = accept_all(rt, alloc, &listener, &free, connections, output);
     let _ = fs::remove_file(rt, path);
     match accepted {
         Accepted::All => {
-            say(output, lines.served.as_str());
+            output.say(lines.served.as_str());
             0
         }
         Accepted::Failed => 3,

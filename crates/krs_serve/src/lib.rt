@@ -19,5 +19,6 @@ pub use daemon::{listen, run_daemon};
 pub use free::FreeSeats;
 pub use gate::OpenGate;
 pub use options::Options;
+pub use saying::Voice;
 pub use sessions::{Entry, run_sessions};
 pub use sitting::{Sitting, seated};

@@ -1,6 +1,7 @@
 ghost use Rattle.krs_serve.specs.Daemon.{TellsAccepted};
+ghost use Rattle.krs_serve.specs.Saying.{heard};
 
-use crate::saying::{NOT_ACCEPTED, say};
+use crate::saying::{NOT_ACCEPTED, Voice};
 use crate::{FreeSeats, serve_connection};
 use std::alloc::Global;
 use std::io::Write;
@@ -44,12 +45,12 @@ fn accept_each<'s, 'd, E, R: Threads + Wait + Clock + Sync>(
 }
 
 /// Tells a failed accept, and nothing else.
-fn tell<W: Write>(accepted: Accepted, output: &mut W)
-    ensures { TellsAccepted accepted (W.contents output.old) (W.contents output.new) }
+fn tell<W: Write>(accepted: Accepted, output: &mut Voice<W>)
+    ensures { TellsAccepted accepted (heard W.contents output.old) (heard W.contents output.new) }
 {
     match accepted {
         Accepted::All => {}
-        Accepted::Failed => say(output, NOT_ACCEPTED),
+        Accepted::Failed => output.say(NOT_ACCEPTED),
     }
 }
 
@@ -60,9 +61,9 @@ pub fn accept_all<'d, R: Threads + Wait + Clock + Sync, W: Write>(
     listener: &UnixListener,
     free: &FreeSeats<'d>,
     connections: u64,
-    output: &mut W,
+    output: &mut Voice<W>,
 ) -> Accepted
-    ensures { TellsAccepted result (W.contents output.old) (W.contents output.new) }
+    ensures { TellsAccepted result (heard W.contents output.old) (heard W.contents output.new) }
 {
     let (accepted, _output) = thread::scope(thread::scope_env(), rt, move |scope| {
         let accepted = accept_each(rt, alloc, listener, free, connections, scope);

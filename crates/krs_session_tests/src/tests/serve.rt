@@ -4,7 +4,7 @@ ghost use Rattle.std.specs.Prelude.{◌≡◌, All, IfOk};
 ghost use Rattle.krs_session.specs.Over.{over_reads, over_empties, over_failures};
 
 use krs_desk::Desk;
-use krs_serve::{Entry, Options, listen, run_sessions};
+use krs_serve::{Entry, Options, Voice, listen, run_sessions};
 use krs_session::{Clock, Ended, Failed, Gate, Over, Point, Sink};
 use krs_store::Store;
 use std::alloc::{AllocError, Global};
@@ -296,14 +296,14 @@ fn a_path_that_is_there_is_not_bound(rt: HostRuntime) -> Result<(), Fail> {
     let options = Options::new(path, 16, Some(0)).ok_or("no options")?;
     let path = options.path.as_str();
     fs::write(&rt, path, b"")?;
-    let mut printed = Vec::new(alloc);
+    let mut printed = Voice::new(Vec::new(alloc));
     assert_eq!(rt; listen(&rt, alloc, &options, &mut printed), 3);
-    assert_eq!(rt; printed.as_slice(), b"error: socket\n".as_slice());
+    assert_eq!(rt; printed.writer().as_slice(), b"error: socket\n".as_slice());
     fs::remove_file(&rt, path)?;
-    let mut printed = Vec::new(alloc);
+    let mut printed = Voice::new(Vec::new(alloc));
     assert_eq!(rt; listen(&rt, alloc, &options, &mut printed), 0);
     let wanted = format!(in alloc; "listening {path}\nserved 0\n")?;
-    assert_eq!(rt; printed.as_slice(), wanted.as_bytes());
+    assert_eq!(rt; printed.writer().as_slice(), wanted.as_bytes());
     assert!(rt; is_gone(&rt, path));
     Ok(())
 }

@@ -1,0 +1,20 @@
+-- Which of its ends it came to.
+use Rattle.std.proofs.Common.{rules, refl, inl, inr}
+use Rattle.krs_serve.specs.Saying.{heard}
+use Rattle.krs_serve.proofs.daemon.listen.Goals as goal
+
+pub returns-in_default : goal.returns-in_default
+returns-in_default g c = inl (c.say.ensures, refl)
+
+pub returns-in_default-2 : goal.returns-in_default-2
+returns-in_default-2 g c = inl (c.say-in_default-2.ensures, refl)
+
+pub returns-in_default-bind : goal.returns-in_default-bind
+returns-in_default-bind g c = inr (inl (c.say-in_default-bind.ensures, refl))
+
+pub returns-in-All : goal.returns-in-All
+returns-in-All g c = inr (inr (
+  heard g.W.Write.contents c.say-2.new.self,
+  search rules,
+  inl (search rules, refl),
+))
