@@ -11,7 +11,7 @@ COMPLETIONDIR = $(PREFIX)/share/bash-completion/completions
 
 PROGRAMS = keyretain keyretaind
 
-.PHONY: build run test check-man install uninstall bench bench-instructions measure
+.PHONY: build run test wrong-bodies check-man install uninstall bench bench-instructions measure
 
 # Proves and builds the programs.
 build:
@@ -33,6 +33,10 @@ test:
 	for program in $(PROGRAMS); do install -m 755 crates/$$program/out/$$program bin/ || exit 1; done
 	tests/growths
 	tests/service
+
+# Tries each wrong body by itself, where the gate tries those of one file together. Takes hours.
+wrong-bodies:
+	tests/wrong-bodies
 
 # Whether the man pages render without a warning.
 check-man:
