@@ -1,7 +1,7 @@
 -- Fronts of a waiting list.
-use Rattle.std.proofs.Common.{◌≡◌, ℕ, ◌-◌, ◌≤◌, true, false, cond, leb, List, [], ◌∷◌, Some, None, length, refl, sym}
+use Rattle.std.proofs.Common.{◌≡◌, ℕ, ◌+◌, ◌-◌, ◌≤◌, ◌<◌, true, false, cond, leb, List, [], ◌∷◌, ◌++◌, drop, Some, None, length, refl, sym}
 use Rattle.std.proofs.Common.{ap}
-use Rattle.std.proofs.Common.{◌∙◌, arith, length-append}
+use Rattle.std.proofs.Common.{◌∙◌, arith, append_assoc, length-append}
 use Rattle.std.specs.List.{slice_get}
 use Rattle.krs_types.specs.declared.note.Record.{Record}
 use Rattle.krs_model.specs.Notes.Bytes.{bytes_of, bytes_of_all}
@@ -51,3 +51,37 @@ front_less room (r ∷ rs) =
           )
       | false ↦ omega arith
     ]
+
+-- what a front is once its first is taken
+pub record Taken (room : ℕ) (rs : List Record) (r : Record) : Type 0 where
+  pub front_is : front room rs ≡ r ∷ front (room - length (bytes_of r)) (drop 1 rs)
+  pub behind_is : behind room rs ≡ behind (room - length (bytes_of r)) (drop 1 rs)
+  pub fewer : length (drop 1 rs) < length rs
+
+pub one_taken : (room : ℕ) (rs : List Record) (r : Record) → Some r ≡ slice_get rs 0 →
+    leb (length (bytes_of r)) room ≡ true → Taken room rs r
+one_taken room [] r h f = absurd cc
+one_taken room (q ∷ rs) r h f =
+    let e : r ≡ q = cc in
+    let g : leb (length (bytes_of q)) room ≡ true = ap (λ (x : Record). leb (length (bytes_of x)) room) (sym e) ∙ f in
+    rw e (record { front_is = rw g refl; behind_is = rw g refl; fewer = omega arith })
+
+-- the bytes of all are the same, with one more taken
+pub bytes_go_on : (left next : ℕ) (rs after : List Record) (r : Record) (xs ys all : List ℕ) → Taken left rs r →
+    next ≡ left - length (bytes_of r) → after ≡ drop 1 rs → ys ≡ xs ++ bytes_of r →
+    xs ++ bytes_of_all (front left rs) ≡ all → ys ++ bytes_of_all (front next after) ≡ all
+bytes_go_on left next rs after r xs ys all t n a y h =
+    rw (n, a, y) (append_assoc xs (bytes_of r) (bytes_of_all (front (left - length (bytes_of r)) (drop 1 rs)))
+    ∙ (ap (λ (zs : List Record). xs ++ bytes_of_all zs) (sym t.front_is) ∙ h))
+
+pub size_goes_on : (left next : ℕ) (rs after : List Record) (r : Record) (xs ys : List ℕ) → Taken left rs r →
+    next ≡ left - length (bytes_of r) → after ≡ drop 1 rs → ys ≡ xs ++ bytes_of r →
+    length ys + length (bytes_of_all (front next after)) ≡ length xs + length (bytes_of_all (front left rs))
+size_goes_on left next rs after r xs ys t n a y =
+    sym (length-append ys (bytes_of_all (front next after)))
+    ∙ (ap length (bytes_go_on left next rs after r xs ys _ t n a y refl)
+    ∙ length-append xs (bytes_of_all (front left rs)))
+
+pub rest_goes_on : (left next : ℕ) (rs after : List Record) (r : Record) → Taken left rs r →
+    next ≡ left - length (bytes_of r) → after ≡ drop 1 rs → behind next after ≡ behind left rs
+rest_goes_on left next rs after r t n a = rw (n, a) (sym t.behind_is)

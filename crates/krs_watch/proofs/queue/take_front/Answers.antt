@@ -1,5 +1,6 @@
-use Rattle.std.proofs.Common.{◌≡◌, ◌≤◌, ◌-◌, ℕ, List, ◌++◌, length, vec_len, leb, true, arith, refl, sym, ap, ◌∙◌}
-use Rattle.std.proofs.lemmas.Bool.{true≢false}
+use Rattle.std.proofs.Common.{◌≡◌, ◌≤◌, ◌+◌, ◌-◌, ℕ, List, ◌++◌, drop, length, vec_len, leb, true, arith, refl, sym, ap, ◌∙◌}
+use Rattle.std.proofs.Common.{length-append}
+use Rattle.std.proofs.lemmas.Bool.{true≢false, leb-true}
 use Rattle.std.proofs.lemmas.List.{append-nil}
 use Rattle.krs_types.specs.declared.note.Record.{Record}
 use Rattle.krs_model.specs.Notes.Bytes.{bytes_of, bytes_of_all}
@@ -7,6 +8,7 @@ use Rattle.krs_model.specs.Notes.Front.{front, behind}
 use Rattle.krs_ring.specs.Ring.{Ring}
 use Rattle.krs_model.proofs.Notes.Fronts.{front_size}
 use Rattle.krs_watch.proofs.FrontLemmas.{Stops, stops_empty, stops_full, first_within, front_less}
+use Rattle.krs_watch.proofs.FrontLemmas.{Taken, one_taken, bytes_go_on, size_goes_on, rest_goes_on}
 use Rattle.krs_watch.proofs.queue.take_front.Goals.{in-Some+then-not-fits, in_default}
 use Rattle.krs_watch.proofs.queue.take_front.Goals as goal
 
@@ -28,6 +30,40 @@ taking-init c =
       grown = rw left (let size = front_size room waiting in let less = front_less room waiting in
           let exact = c.in_ok-bytes.ensures.exact in let least = c.min-most.ensures in omega arith);
       bound = rw left (let less = front_less room waiting in omega arith);
+    }
+
+pub taking-preserved : goal.taking-preserved
+taking-preserved c =
+    let bytes = c.taking.bytes in
+    let after = c.append.new.bytes in
+    let rs = c.taking.ring.waiting in
+    let r = c.in-Some.note in
+    let left = c.args.room - vec_len bytes in
+    let next = c.args.room - vec_len after in
+    let fit : leb (length (bytes_of r)) left ≡ true = rw (← c.len.ensures) (sym c.if-not-fits.ensures) in
+    let fits = leb-true _ _ fit in
+    let taken : Taken left rs r = one_taken left rs r c.in-Some.ensures fit in
+    let more = c.in_ok-append.ensures.items in
+    let had = bytes.ok.0 in
+    let has = after.ok.0 in
+    let added : length after.items ≡ length bytes.items + length (bytes_of r) =
+    ap length more ∙ length-append bytes.items (bytes_of r) in
+    let longer : vec_len after ≡ vec_len bytes + length (bytes_of r) = omega (arith, had, has, added) in
+    let less : next ≡ left - length (bytes_of r) = omega (arith, longer) in
+    let behind_first : c.take.new.self.waiting ≡ drop 1 rs = ap (λ (t : Ring). t.waiting) c.take.ensures.rest in
+    let size = size_goes_on left next rs c.take.new.self.waiting r bytes.items after.items taken less behind_first more in
+    let grown = c.taking.invariant.grown in
+    let bound = c.taking.invariant.bound in
+    let within = c.taking.invariant.within in
+    let capacity = c.in_ok-append.ensures.capacity in
+    record {
+      bytes = bytes_go_on left next rs c.take.new.self.waiting r bytes.items after.items _ taken less behind_first more
+          c.taking.invariant.bytes;
+      rest = rest_goes_on left next rs c.take.new.self.waiting r taken less behind_first ∙ c.taking.invariant.rest;
+      same = ap (λ (t : Ring). t.capacity) c.take.ensures.rest ∙ c.taking.invariant.same;
+      within = omega (arith, longer, fits, within);
+      grown = omega (arith, had, has, size, grown, capacity);
+      bound = omega (arith, had, has, size, bound);
     }
 
 pub returns-in_err-append-clause-same : goal.returns-in_err-append-clause-same

@@ -1,12 +1,16 @@
-use Rattle.std.proofs.Common.{◌≡◌, ℕ, List, Some, Ok, ap, sym, ◌∙◌}
+use Rattle.std.proofs.Common.{◌≡◌, ℕ, List, Some, Ok, ap, sym, ◌∙◌, rules}
 use Rattle.krs_types.specs.declared.note.Record.TheVariants.{Removal}
 use Rattle.krs_model.specs.Table.{Table, alter}
 use Rattle.krs_model.specs.State.{Queue}
 use Rattle.krs_model.specs.Queues.{Queues, Watch, watch_at, without_watch}
 use Rattle.krs_model.specs.Notes.Posting.{after_note}
-use Rattle.krs_model.specs.Asks.Watching.{Change}
+use Rattle.krs_model.specs.Asks.Watching.{Change, unwatched}
 use Rattle.krs_watch.proofs.ChangesLemmas.{ends_watch}
 use Rattle.krs_watch.proofs.queues.WatchQueues.unwatch.Goals as goal
+
+pub returns-in_default : goal.returns-in_default
+unfolding unwatched
+returns-in_default c = search rules
 
 pub returns : goal.returns
 returns c =
