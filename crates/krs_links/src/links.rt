@@ -146,7 +146,6 @@ impl Links {
     }
 
     /// Takes out all links, and gives their memory back: keyctl(2), KEYCTL_CLEAR.
-    #[tactic(auto, using(crate::proofs::PlacesLemmas::none_are_lists))]
     pub fn clear(&mut self)
         ensures { self.new ≡ [] }
     {

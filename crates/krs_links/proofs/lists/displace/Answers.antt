@@ -1,4 +1,4 @@
-use Rattle.std.proofs.Common.{◌∙◌, ◌&&◌, ℕ, sym, ap}
+use Rattle.std.proofs.Common.{◌∙◌, ◌&&◌, ℕ, sym, ap, rules}
 use Rattle.std.specs.Option.{is_none}
 use Rattle.std.proofs.lemmas.Option.{none-some}
 use Rattle.krs_types.specs.declared.name.Name.{Name}
@@ -27,3 +27,9 @@ returns-clause-lists c =
     rw c.in-Ok.ensures.links
     (AreLists-displaced c.args.name c.args.serial links c.args.rings.now.items after c.args.place
     c.requires.lists c.requires.place c.displace_ring.ensures)
+
+pub returns-clause-displaced : goal.returns-clause-displaced
+returns-clause-displaced c = search rules
+
+pub returns-clause-links : goal.returns-clause-links
+returns-clause-links c = search rules

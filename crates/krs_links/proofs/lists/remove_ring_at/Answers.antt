@@ -1,5 +1,6 @@
 use Rattle.std.proofs.Common.{◌∙◌, length, sym, ap, arith}
-use Rattle.krs_links.proofs.PlacesLemmas.{ring_within_at, rings_removed_at, rings_stay_removed_at}
+use Rattle.krs_links.specs.Links.{LinkList, nested, serials}
+use Rattle.krs_links.proofs.PlacesLemmas.{ring_within_at, rings_removed_at, rings_stay_removed_at, removed_past}
 use Rattle.krs_links.proofs.lists.remove_ring_at.Goals as goal
 
 pub remove-requires : goal.remove-requires
@@ -22,3 +23,9 @@ returns-else-is c =
     let links = c.args.entries.now.entries in
     let other = sym c.is.ensures ∙ c.if-is.false in
     c.requires.rings ∙ rings_stay_removed_at links c.args.place _ (sym c.in-Some.ensures.entry) other
+
+pub returns-in_default : goal.returns-in_default
+returns-in_default c =
+    let links = c.args.entries.now.entries in
+    c.requires.rings
+    ∙ sym (ap (λ (ls : LinkList). serials (nested ls)) (removed_past links c.args.place (sym c.in_default.ensures.entry)))
