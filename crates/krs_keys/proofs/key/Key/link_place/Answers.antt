@@ -44,3 +44,10 @@ returns-else-number-clause-none c = λ h.
     ∙ (found c.args.self.now.content c.in-Links.links c.args.name.now c.in-Some.place c.serial_at.result
     c.place_of.result c.in-Links.is c.place_of.ensures c.in-Some.is c.serial_at.ensures ∙ h))
     ∙ sym c.number-in-Links.ensures))
+
+pub returns-then-number-clause-there : goal.returns-then-number-clause-there
+returns-then-number-clause-there c =
+    ap (λ (content : Content). slice_get (serials (named_links_of_content content)) c.in-Some.place) c.in-Links.is
+    ∙ (sym c.serial_at.ensures
+    ∙ (c.in-Some-serial_at.is
+    ∙ ap (λ n. Some n) (sym c.number.ensures ∙ (c.if-number.true ∙ c.number-in-Links.ensures))))

@@ -1,9 +1,10 @@
-use Rattle.std.proofs.Common.{◌≡◌, ◌+◌, refl, ap, ◌∙◌, sym, subst, arith}
+use Rattle.std.proofs.Common.{◌≡◌, ℕ, ◌+◌, refl, ap, ◌∙◌, sym, subst, arith}
 use Rattle.krs_model.specs.Table.{Table, at, put, without, IsBelow}
 use Rattle.krs_model.proofs.Tables.Changes.{below_put, at_put_none, without_put}
 use Rattle.krs_keys.specs.declared.key.Key.{Key}
 use Rattle.krs_keys.specs.Places.{by_place}
 use Rattle.krs_keys.specs.Keys.{AreOfKind}
+use Rattle.krs_keys.specs.Table.{Keys, with_key}
 use Rattle.krs_keys.proofs.KindsLemmas.{kinds_put}
 use Rattle.krs_keys.proofs.TableLemmas.{seen_as}
 use Rattle.krs_keys.proofs.key_table.KeyTable.insert_two.Goals as goal
@@ -52,3 +53,19 @@ invariant_of-self-in-Err c = (
 
 pub returns-in-Err-clause-err : goal.returns-in-Err-clause-err
 returns-in-Err-clause-err c = ap (seen_as c.self.inside.next) (back c) ∙ c.self.view_is
+
+pub returns-in-Ok-clause-ok : goal.returns-in-Ok-clause-ok
+returns-in-Ok-clause-ok c =
+    let n = c.self.inside.next in
+    let one = put (by_place c.self.inside.keys) n c.args.first in
+    let both : by_place c.put_in-2.new.keys ≡ put one (n + 1) c.args.second =
+    c.in-Ok.ensures.ok ∙ ap (λ (t : Table Key). put t (n + 1) c.args.second) c.in_ok-put_in.ensures.ok in
+    let next : n + 2 ≡ n + 1 + 1 = omega arith in
+    ap (seen_as (n + 2)) both
+    ∙ (ap (λ (m : ℕ). seen_as m (put one (n + 1) c.args.second)) next
+    ∙ ap (λ (t : Keys). with_key (with_key t c.args.first) c.args.second) c.self.view_is)
+
+pub returns-in-Ok-clause-left : goal.returns-in-Ok-clause-left
+returns-in-Ok-clause-left c =
+    let same : c.self.inside.next ≡ c.args.self.now.next = ap (λ (t : Keys). t.next) c.self.view_is in
+    omega arith

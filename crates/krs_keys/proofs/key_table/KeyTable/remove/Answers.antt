@@ -1,4 +1,4 @@
-use Rattle.std.proofs.Common.{ap, ◌∙◌}
+use Rattle.std.proofs.Common.{ap, ◌∙◌, rules}
 use Rattle.krs_model.specs.Table.{at}
 use Rattle.krs_model.proofs.Tables.Changes.{at_without_none}
 use Rattle.krs_keys.specs.Places.{by_place}
@@ -16,3 +16,12 @@ invariant_of-self c =
         sessions = c.take_out.ensures.sessions;
       },
     )
+
+pub returns-clause-key : goal.returns-clause-key
+returns-clause-key c = search rules
+
+pub returns-clause-keys : goal.returns-clause-keys
+returns-clause-keys c = search rules
+
+pub returns-clause-gone : goal.returns-clause-gone
+returns-clause-gone c = search rules

@@ -1,4 +1,4 @@
-use Rattle.std.proofs.Common.{ap, ◌∙◌, sym, subst}
+use Rattle.std.proofs.Common.{ap, ◌∙◌, sym, subst, rules}
 use Rattle.krs_model.specs.Table.{at}
 use Rattle.krs_model.proofs.Tables.Changes.{at_alter_none}
 use Rattle.krs_keys.specs.Places.{by_place}
@@ -23,3 +23,6 @@ invariant_of-self c =
             c.self.invariant.1.sessions);
       },
     )
+
+pub returns : goal.returns
+returns c = search rules

@@ -1,0 +1,5 @@
+use Rattle.std.proofs.Common.{rules}
+use Rattle.krs_keys.proofs.key.Content.links_some.Goals as goal
+
+pub returns-in-Links : goal.returns-in-Links
+returns-in-Links c = search rules

@@ -1,0 +1,5 @@
+use Rattle.std.proofs.Common.{rules}
+use Rattle.krs_keys.proofs.key.Key.change.Goals as goal
+
+pub returns-in-Payload : goal.returns-in-Payload
+returns-in-Payload c = search rules
