@@ -1,9 +1,11 @@
 -- Bytes that are put behind others.
 use Rattle.std.proofs.Common.{◌≡◌, ◌+◌, ◌<◌, List, [], ◌∷◌, ◌++◌, ℕ, length, get_or, take, Result, Ok, Err, OnOk, ap}
-use Rattle.std.proofs.Common.{sym, subst, ◌∙◌, append_assoc}
+use Rattle.std.proofs.Common.{sym, subst, ◌∙◌, append_assoc, arith, IfErr, length-append}
 use Rattle.std.proofs.lemmas.List.{take_more, flat_map_more}
 use Rattle.std.specs.List.{flat_map, AllByRecursion}
 use Rattle.krs_wire.specs.Field.{Field}
+use Rattle.krs_wire.specs.Spelling.{IsTooLong}
+use Rattle.krs_wire.specs.declared.fault.WireFault.{WireFault}
 
 -- the next bytes stand behind all that were put before them
 pub then_put : {T E : Type 0} (r : Result T E) (out front next mid new : List ℕ)
@@ -11,6 +13,13 @@ pub then_put : {T E : Type 0} (r : Result T E) (out front next mid new : List �
 then_put (Ok x) out front next mid new before put =
     put ∙ ap (λ (bytes : List ℕ). bytes ++ next) before ∙ append_assoc out front next
 then_put (Err x) out front next mid new before put = tt
+
+-- what is too long is too long behind other bytes
+pub long_behind : {T : Type 0} (r : Result T WireFault) (least : ℕ) (front next : List ℕ)
+    → IfErr r (IsTooLong least next) → IfErr r (IsTooLong least (front ++ next))
+long_behind (Ok x) least front next long = tt
+long_behind (Err fault) least front next long =
+    λ other. ((long other).0, omega (arith, length-append front next, (long other).1))
 
 all_one : {A : Type 0} (P : A → Type 0) (xs : List A) (x : A) → AllByRecursion P xs → P x
     → AllByRecursion P (xs ++ x ∷ [])

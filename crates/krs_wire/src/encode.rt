@@ -16,7 +16,7 @@ use crate::WireFault;
 use crate::framed::{MAX_LENGTH, VERSION};
 use byteorder::{ByteOrder, LittleEndian};
 use krs_types::{Ask, Blob, Caller, FilterEntries, FilterEntry, Groups, Op};
-use std::alloc::{AllocError, Global};
+use std::alloc::Global;
 
 /// The number of an operation on the wire.
 fn operation_number(op: &Op) -> u16
@@ -53,32 +53,39 @@ fn operation_number(op: &Op) -> u16
     }
 }
 
-fn put_u16(out: &mut Vec<u8>, number: u16) -> Result<(), AllocError>
-    ensures { OnOk result (out.new.items ≡ out.old.items ++ to_le_bytes w16 number) }
+fn put_u16(out: &mut Vec<u8>, number: u16) -> Result<(), WireFault>
+    ensures ok { OnOk result (out.new.items ≡ out.old.items ++ to_le_bytes w16 number) }
+    ensures memory { IfErr result (λ fault. fault ≡ WireFault.Memory) }
 {
     let mut bytes = [0; 2];
     LittleEndian::write_u16(&mut bytes, number);
-    out.extend_from_slice(&bytes)
+    out.extend_from_slice(&bytes)?;
+    Ok(())
 }
 
-fn put_u32(out: &mut Vec<u8>, number: u32) -> Result<(), AllocError>
-    ensures { OnOk result (out.new.items ≡ out.old.items ++ to_le_bytes w32 number) }
+fn put_u32(out: &mut Vec<u8>, number: u32) -> Result<(), WireFault>
+    ensures ok { OnOk result (out.new.items ≡ out.old.items ++ to_le_bytes w32 number) }
+    ensures memory { IfErr result (λ fault. fault ≡ WireFault.Memory) }
 {
     let mut bytes = [0; 4];
     LittleEndian::write_u32(&mut bytes, number);
-    out.extend_from_slice(&bytes)
+    out.extend_from_slice(&bytes)?;
+    Ok(())
 }
 
-fn put_id(out: &mut Vec<u8>, id: i32) -> Result<(), AllocError>
-    ensures { OnOk result (out.new.items ≡ out.old.items ++ id_field.spell id) }
+fn put_id(out: &mut Vec<u8>, id: i32) -> Result<(), WireFault>
+    ensures ok { OnOk result (out.new.items ≡ out.old.items ++ id_field.spell id) }
+    ensures memory { IfErr result (λ fault. fault ≡ WireFault.Memory) }
 {
     put_u32(out, id.cast_unsigned())
 }
 
-fn put_flag(out: &mut Vec<u8>, is_set: bool) -> Result<(), AllocError>
-    ensures { OnOk result (out.new.items ≡ out.old.items ++ flag.spell is_set) }
+fn put_flag(out: &mut Vec<u8>, is_set: bool) -> Result<(), WireFault>
+    ensures ok { OnOk result (out.new.items ≡ out.old.items ++ flag.spell is_set) }
+    ensures memory { IfErr result (λ fault. fault ≡ WireFault.Memory) }
 {
-    out.extend_from_slice(&[u8::from(is_set)])
+    out.extend_from_slice(&[u8::from(is_set)])?;
+    Ok(())
 }
 
 fn put_text(out: &mut Vec<u8>, text: &Blob) -> Result<(), WireFault>
@@ -110,10 +117,11 @@ fn put_blob(out: &mut Vec<u8>, blob: &Blob) -> Result<(), WireFault>
 }
 
 /// The numbers, without their count.
-fn put_numbers(out: &mut Vec<u8>, numbers: &[u32]) -> Result<(), AllocError>
+fn put_numbers(out: &mut Vec<u8>, numbers: &[u32]) -> Result<(), WireFault>
     ensures ok { OnOk result (out.new.items ≡
         out.old.items ++ flat_map (λ n. to_le_bytes w32 n) numbers.now) }
     ensures fits { OnOk result (AllByRecursion (λ n. n < 256 ^ 4) numbers.now) }
+    ensures memory { IfErr result (λ fault. fault ≡ WireFault.Memory) }
 {
     for number in numbers {
         put_u32(out, *number)?;
@@ -131,8 +139,7 @@ fn put_groups(out: &mut Vec<u8>, groups: &Groups) -> Result<(), WireFault>
         return Err(WireFault::BadLength);
     }
     put_u32(out, numbers.len() as u32)?;
-    put_numbers(out, numbers)?;
-    Ok(())
+    put_numbers(out, numbers)
 }
 
 fn put_hello(out: &mut Vec<u8>, caller: &Caller) -> Result<(), WireFault>
@@ -162,8 +169,7 @@ fn put_add(
     put_text(out, type_name)?;
     put_text(out, desc)?;
     put_blob(out, payload)?;
-    put_id(out, ring)?;
-    Ok(())
+    put_id(out, ring)
 }
 
 fn put_update(out: &mut Vec<u8>, id: i32, payload: &Blob) -> Result<(), WireFault>
@@ -176,34 +182,38 @@ fn put_update(out: &mut Vec<u8>, id: i32, payload: &Blob) -> Result<(), WireFaul
     put_blob(out, payload)
 }
 
-fn put_chown(out: &mut Vec<u8>, id: i32, uid: u32, gid: u32) -> Result<(), AllocError>
-    ensures { OnOk result
+fn put_chown(out: &mut Vec<u8>, id: i32, uid: u32, gid: u32) -> Result<(), WireFault>
+    ensures ok { OnOk result
         (out.new.items ≡ out.old.items ++ chown_fields.spell (chown_parts id uid gid)) }
+    ensures memory { IfErr result (λ fault. fault ≡ WireFault.Memory) }
 {
     put_id(out, id)?;
     put_u32(out, uid)?;
     put_u32(out, gid)
 }
 
-fn put_id_number(out: &mut Vec<u8>, id: i32, number: u32) -> Result<(), AllocError>
-    ensures { OnOk result
+fn put_id_number(out: &mut Vec<u8>, id: i32, number: u32) -> Result<(), WireFault>
+    ensures ok { OnOk result
         (out.new.items ≡ out.old.items ++ id_number_fields.spell (id_number_parts id number)) }
+    ensures memory { IfErr result (λ fault. fault ≡ WireFault.Memory) }
 {
     put_id(out, id)?;
     put_u32(out, number)
 }
 
-fn put_link(out: &mut Vec<u8>, key: i32, ring: i32) -> Result<(), AllocError>
-    ensures { OnOk result
+fn put_link(out: &mut Vec<u8>, key: i32, ring: i32) -> Result<(), WireFault>
+    ensures ok { OnOk result
         (out.new.items ≡ out.old.items ++ link_fields.spell (link_parts key ring)) }
+    ensures memory { IfErr result (λ fault. fault ≡ WireFault.Memory) }
 {
     put_id(out, key)?;
     put_id(out, ring)
 }
 
-fn put_get_id(out: &mut Vec<u8>, id: i32, create: bool) -> Result<(), AllocError>
-    ensures { OnOk result
+fn put_get_id(out: &mut Vec<u8>, id: i32, create: bool) -> Result<(), WireFault>
+    ensures ok { OnOk result
         (out.new.items ≡ out.old.items ++ get_id_fields.spell (get_id_parts id create)) }
+    ensures memory { IfErr result (λ fault. fault ≡ WireFault.Memory) }
 {
     put_id(out, id)?;
     put_flag(out, create)
@@ -218,8 +228,7 @@ fn put_request(out: &mut Vec<u8>, type_name: &Blob, desc: &Blob, dest: i32) -> R
 {
     put_text(out, type_name)?;
     put_text(out, desc)?;
-    put_id(out, dest)?;
-    Ok(())
+    put_id(out, dest)
 }
 
 fn put_search(
@@ -240,26 +249,29 @@ fn put_search(
     put_request(out, type_name, desc, dest)
 }
 
-fn put_watch(out: &mut Vec<u8>, id: i32, queue: u32, watch: i32) -> Result<(), AllocError>
-    ensures { OnOk result
+fn put_watch(out: &mut Vec<u8>, id: i32, queue: u32, watch: i32) -> Result<(), WireFault>
+    ensures ok { OnOk result
         (out.new.items ≡ out.old.items ++ watch_fields.spell (watch_parts id queue watch)) }
+    ensures memory { IfErr result (λ fault. fault ≡ WireFault.Memory) }
 {
     put_id(out, id)?;
     put_u32(out, queue)?;
     put_id(out, watch)
 }
 
-fn put_read_queue(out: &mut Vec<u8>, queue: u32, room: u32) -> Result<(), AllocError>
-    ensures { OnOk result
+fn put_read_queue(out: &mut Vec<u8>, queue: u32, room: u32) -> Result<(), WireFault>
+    ensures ok { OnOk result
         (out.new.items ≡ out.old.items ++ read_queue_fields.spell (read_queue_parts queue room)) }
+    ensures memory { IfErr result (λ fault. fault ≡ WireFault.Memory) }
 {
     put_u32(out, queue)?;
     put_u32(out, room)
 }
 
-fn put_entry(out: &mut Vec<u8>, line: &FilterEntry) -> Result<(), AllocError>
+fn put_entry(out: &mut Vec<u8>, line: &FilterEntry) -> Result<(), WireFault>
     ensures ok { OnOk result (out.new.items ≡ out.old.items ++ entry_field.spell line.now) }
     ensures fits { OnOk result (entry_field.Fits line.now) }
+    ensures memory { IfErr result (λ fault. fault ≡ WireFault.Memory) }
 {
     put_u32(out, line.note_type)?;
     put_u32(out, line.info_filter)?;
@@ -300,46 +312,45 @@ fn put_body(out: &mut Vec<u8>, op: &Op) -> Result<(), WireFault>
     ensures long { IfErr result (IsTooLong 65536 (body_of_op op.now)) }
 {
     match op {
-        Op::GetId { id, create } => put_get_id(out, *id, *create)?,
-        Op::Join { name } => put_text(out, name)?,
-        Op::Update { id, payload } => put_update(out, *id, payload)?,
-        Op::Revoke { id } => put_id(out, *id)?,
-        Op::Chown { id, uid, gid } => put_chown(out, *id, *uid, *gid)?,
-        Op::SetPerm { id, mask } => put_id_number(out, *id, *mask)?,
-        Op::Describe { id } => put_id(out, *id)?,
-        Op::Clear { id } => put_id(out, *id)?,
-        Op::Link { key, ring } => put_link(out, *key, *ring)?,
-        Op::Unlink { key, ring } => put_link(out, *key, *ring)?,
+        Op::GetId { id, create } => put_get_id(out, *id, *create),
+        Op::Join { name } => put_text(out, name),
+        Op::Update { id, payload } => put_update(out, *id, payload),
+        Op::Revoke { id } => put_id(out, *id),
+        Op::Chown { id, uid, gid } => put_chown(out, *id, *uid, *gid),
+        Op::SetPerm { id, mask } => put_id_number(out, *id, *mask),
+        Op::Describe { id } => put_id(out, *id),
+        Op::Clear { id } => put_id(out, *id),
+        Op::Link { key, ring } => put_link(out, *key, *ring),
+        Op::Unlink { key, ring } => put_link(out, *key, *ring),
         Op::Search {
             head,
             type_name,
             desc,
             dest,
-        } => put_search(out, *head, type_name, desc, *dest)?,
-        Op::Read { id } => put_id(out, *id)?,
-        Op::SetTimeout { id, seconds } => put_id_number(out, *id, *seconds)?,
-        Op::Invalidate { id } => put_id(out, *id)?,
-        Op::Watch { id, queue, watch } => put_watch(out, *id, *queue, *watch)?,
-        Op::Hello(caller) => put_hello(out, caller)?,
-        Op::Thread | Op::Fork | Op::Exec => (),
-        Op::Exit | Op::Leave => (),
+        } => put_search(out, *head, type_name, desc, *dest),
+        Op::Read { id } => put_id(out, *id),
+        Op::SetTimeout { id, seconds } => put_id_number(out, *id, *seconds),
+        Op::Invalidate { id } => put_id(out, *id),
+        Op::Watch { id, queue, watch } => put_watch(out, *id, *queue, *watch),
+        Op::Hello(caller) => put_hello(out, caller),
+        Op::Thread | Op::Fork | Op::Exec => Ok(()),
+        Op::Exit | Op::Leave => Ok(()),
         Op::Add {
             type_name,
             desc,
             payload,
             ring,
-        } => put_add(out, type_name, desc, payload, *ring)?,
+        } => put_add(out, type_name, desc, payload, *ring),
         Op::Request {
             type_name,
             desc,
             dest,
-        } => put_request(out, type_name, desc, *dest)?,
-        Op::OpenQueue { capacity } => put_u32(out, *capacity)?,
-        Op::SetFilter { queue, entries } => put_set_filter(out, *queue, entries)?,
-        Op::ReadQueue { queue, room } => put_read_queue(out, *queue, *room)?,
-        Op::CloseQueue { queue } => put_u32(out, *queue)?,
+        } => put_request(out, type_name, desc, *dest),
+        Op::OpenQueue { capacity } => put_u32(out, *capacity),
+        Op::SetFilter { queue, entries } => put_set_filter(out, *queue, entries),
+        Op::ReadQueue { queue, room } => put_read_queue(out, *queue, *room),
+        Op::CloseQueue { queue } => put_u32(out, *queue),
     }
-    Ok(())
 }
 
 /// What stands behind the length.

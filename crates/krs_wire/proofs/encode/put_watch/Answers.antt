@@ -4,8 +4,8 @@ use Rattle.krs_wire.specs.Bodies.{id_field}
 use Rattle.krs_wire.proofs.PutLemmas.{then_put}
 use Rattle.krs_wire.proofs.encode.put_watch.Goals as goal
 
-pub returns : goal.returns
-returns c =
+pub returns-clause-ok : goal.returns-clause-ok
+returns-clause-ok c =
     let out = c.args.out.now.items in
     let id = id_field.spell c.args.id in
     let queue = to_le_bytes w32 c.args.queue in

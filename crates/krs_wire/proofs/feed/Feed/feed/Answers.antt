@@ -26,3 +26,6 @@ returns-in-Err-clause-refused c =
 pub returns-after-fault-clause-frames : goal.returns-after-fault-clause-frames
 returns-after-fault-clause-frames c =
     feeds _ _ _ c.self.inside.left.items _ _ (sym c.self.view_is) c.in_default.is c.in-Ok.ensures.frames
+
+pub returns-in-Some-clause-failed : goal.returns-in-Some-clause-failed
+returns-in-Some-clause-failed c = search rules
