@@ -1,5 +1,6 @@
 use Rattle.std.proofs.Common.{◌≡◌, ℕ, List, ◌++◌, length, drop, Some, true, false, refl, sym, ap, ◌∙◌}
 use Rattle.std.proofs.lemmas.Bool.{true≢false}
+use Rattle.std.proofs.lemmas.Option.{none-some}
 use Rattle.std.proofs.lemmas.Bool.Decides.{Decides-eqb}
 use Rattle.std.proofs.lemmas.Slice.Eq.{starts_is}
 use Rattle.krs_model.specs.Notes.Bytes.{bytes_of}
@@ -25,3 +26,15 @@ returns-else-starts_with-clause-each c = λ r h b.
     let own : front ≡ bytes_of r = c.as_slice-own.ensures ∙ (c.encode-encoded.ensures ∙ ap bytes_of is) in
     let starts = starts_is Decides-eqb bytes front false c.if-starts_with.ensures.value in
     absurd (true≢false (sym (starts.1 b.0 (sym b.1 ∙ ap (λ (xs : List ℕ). xs ++ b.0) (sym own)))))
+
+pub returns-in_err-note-clause-each : goal.returns-in_err-note-clause-each
+returns-in_err-note-clause-each c = λ r h b. absurd (none-some _ (c.in_err-note.ensures ∙ guess-begins r c.args.bytes.now h b))
+
+pub returns-then-starts_with-clause-each : goal.returns-then-starts_with-clause-each
+returns-then-starts_with-clause-each c = λ r h b.
+    let front = c.as_slice-own.result.now in
+    let same : Some c.in_ok-note.note ≡ Some r = c.in_ok-note.ensures ∙ guess-begins r c.args.bytes.now h b in
+    let is : c.in_ok-note.note ≡ r = cc in
+    let own : front ≡ bytes_of r = c.as_slice-own.ensures ∙ (c.encode-encoded.ensures ∙ ap bytes_of is) in
+    let long : length front ≡ length (bytes_of r) = ap length own in
+    cc
