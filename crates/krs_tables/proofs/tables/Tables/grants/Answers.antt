@@ -1,5 +1,5 @@
 -- What is granted without possession.
-use Rattle.std.proofs.Common.{◌≡◌, true, false, sym, ap, ◌∙◌}
+use Rattle.std.proofs.Common.{◌≡◌, true, false, sym, ap, ◌∙◌, rules, tests}
 use Rattle.krs_types.specs.Rights.{allows}
 use Rattle.krs_model.specs.Access.{rights_on}
 use Rattle.krs_model.specs.Possession.{possessed}
@@ -13,3 +13,6 @@ returns-then-allows c =
     ap (λ n. allows c.args.want n false) (sym c.grants.ensures) ∙ sym c.if-allows.ensures in
     sym (allows_more c.args.want (seen c.args.key.now) c.args.context.now.caller
     (possessed c.args.self.now c.args.context.now c.args.serial) granted)
+
+pub returns : goal.returns
+returns c = search (rules, tests)

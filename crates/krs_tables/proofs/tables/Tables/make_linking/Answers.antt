@@ -3,6 +3,7 @@ use Rattle.std.specs.Option.{option_map}
 use Rattle.krs_model.specs.State.{State}
 use Rattle.krs_model.specs.Reach.{has_chain}
 use Rattle.krs_model.specs.Table.{at}
+use Rattle.krs_model.specs.Asks.Linked.{name_of}
 use Rattle.krs_keys.specs.declared.key.Key.{Key}
 use Rattle.krs_keys.specs.Keys.{seen}
 use Rattle.krs_tables.proofs.MadeKeyrings.{has_place, linking_done, linking_accepted}
@@ -49,3 +50,9 @@ returns-in_err-make_ring c =
     (linking_accepted c.args.special s c.args.client c.args.number c.args.serial c.in_ok-context_of.field-0.now
     (seen c.in_ok-key.key.now) c.args.answer c.in_ok-context_of.ensures there short c.in_ok-check_serial.ensures.ok)
     c.in_err-make_ring.ensures.err
+
+pub make_ring-requires-clause-links : goal.make_ring-requires-clause-links
+make_ring-requires-clause-links c =
+    let there : at c.args.self.now.keys c.args.serial ≡ Some (seen c.in_ok-key.key.now) =
+    sym c.key.ensures.value ∙ ap (option_map (λ (k : Bor Key). seen k.now)) c.in_ok-key.ensures.ok_part in
+    (c.in_ok-key.key.now.name, ap (option_map name_of) there, c.in_ok-links.ensures)

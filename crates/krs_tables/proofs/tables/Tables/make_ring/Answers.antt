@@ -1,4 +1,4 @@
-use Rattle.std.proofs.Common.{◌≡◌, ◌∙◌, ap, sym, subst}
+use Rattle.std.proofs.Common.{◌≡◌, ◌∙◌, ap, sym, subst, arith}
 use Rattle.std.specs.Option.{option_to_list}
 use Rattle.krs_model.specs.State.{State}
 use Rattle.krs_model.specs.Sweep.{roots}
@@ -67,3 +67,6 @@ invariant_of-self-in-Err c =
       kinds = c.self.invariant.kinds;
       tallied = c.in_ok-make_room.ensures.exact s.keys.keys (roots (state_of s)) c.self.invariant.tallied;
     })
+
+pub hold-requires : goal.hold-requires
+hold-requires c = omega (arith, c.in_ok-make_room.ensures.room)
