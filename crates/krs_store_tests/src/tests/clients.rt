@@ -66,6 +66,16 @@ fn a_key_is_kept_updated_and_left(rt: HostRuntime) -> Result<(), Fail> {
     check_kept(&rt, alloc, &mut store)
 }
 
+/// WATCH of key 5, by a queue that one of the clients has.
+fn watch(context: u32, watch: i32) -> Ask {
+    let op = Op::Watch {
+        id: 5,
+        queue: 1,
+        watch,
+    };
+    Ask { context, op }
+}
+
 /// The asks of the test of a dropped key, by their number.
 fn dropping_ask(alloc: Global, step: u8) -> Result<Ask, AllocError> {
     match step {
@@ -75,27 +85,29 @@ fn dropping_ask(alloc: Global, step: u8) -> Result<Ask, AllocError> {
             Ok(change(Op::Join { name }))
         }
         2 => Ok(change(Op::OpenQueue { capacity: 4 })),
-        3 => Ok(Ask {
-            context: 2,
-            op: Op::Watch {
-                id: 5,
-                queue: 1,
-                watch: 9,
-            },
-        }),
+        3 => Ok(watch(2, 9)),
         4 => Ok(leave()),
-        _ => Ok(change(Op::ReadQueue { queue: 1, room: 64 })),
+        5 => Ok(change(Op::ReadQueue { queue: 1, room: 64 })),
+        6 => Ok(watch(2, -2)),
+        7 => Ok(watch(1, 9)),
+        8 => Ok(watch(1, -1)),
+        _ => Ok(change(Op::CloseQueue { queue: 1 })),
     }
 }
 
-/// A key that drops as its client leaves gives a removal record to the queue of another.
+/// A key that drops as its client leaves gives a removal record to the queue of another, which is no queue of that
+/// client.
 #[rattlefmt::skip]
-const DROPPED: [Row<'static>; 8] = [
+const DROPPED: [Row<'static>; 12] = [
     (0, 0, Want::Number(1)),
     (0, 1, Want::Number(5)),
     (1, 0, Want::Number(2)),
     (1, 2, Want::Number(1)),
+    (1, 6, Want::Refused(Errno::EINVAL)),
     (1, 3, Want::Nothing),
+    (0, 7, Want::Refused(Errno::EBADF)),
+    (0, 8, Want::Refused(Errno::EBADF)),
+    (0, 9, Want::Refused(Errno::EBADF)),
     (0, 4, Want::Nothing),
     (0, 5, Want::Refused(Errno::EBADF)),
     (1, 5, Want::Bytes(&[0, 0, 0, 0, 16, 9, 0, 0, 5, 0, 0, 0, 0, 0, 0, 0])),
