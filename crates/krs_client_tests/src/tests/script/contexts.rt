@@ -161,6 +161,58 @@ const BY_WHOM: [(&str, &str); 33] = [
     ("join .\0", "error 3 ESRCH"),
 ];
 
+/// A client has 64 contexts, whatever makes them.
+#[rattlefmt::skip]
+const FULL: [(&str, &str); 69] = [
+    ("hello 1000 1000", "1"),
+    ("thread", "2"), ("fork", "3"), ("thread", "4"), ("fork", "5"), ("thread", "6"), ("fork", "7"), ("thread", "8"),
+    ("fork", "9"), ("thread", "10"), ("fork", "11"), ("thread", "12"), ("fork", "13"), ("thread", "14"),
+    ("fork", "15"), ("thread", "16"), ("fork", "17"), ("thread", "18"), ("fork", "19"), ("thread", "20"),
+    ("fork", "21"), ("thread", "22"), ("fork", "23"), ("thread", "24"), ("fork", "25"), ("thread", "26"),
+    ("fork", "27"), ("thread", "28"), ("fork", "29"), ("thread", "30"), ("fork", "31"), ("thread", "32"),
+    ("fork", "33"), ("thread", "34"), ("fork", "35"), ("thread", "36"), ("fork", "37"), ("thread", "38"),
+    ("fork", "39"), ("thread", "40"), ("fork", "41"), ("thread", "42"), ("fork", "43"), ("thread", "44"),
+    ("fork", "45"), ("thread", "46"), ("fork", "47"), ("thread", "48"), ("fork", "49"), ("thread", "50"),
+    ("fork", "51"), ("thread", "52"), ("fork", "53"), ("thread", "54"), ("fork", "55"), ("thread", "56"),
+    ("fork", "57"), ("thread", "58"), ("fork", "59"), ("thread", "60"), ("fork", "61"), ("thread", "62"),
+    ("fork", "63"), ("thread", "64"),
+    ("thread", "error 22 EINVAL"),
+    ("fork", "error 22 EINVAL"),
+    ("hello 1000 1000", "error 22 EINVAL"),
+    ("exit", "ok"),
+    ("hello 1000 1000", "65"),
+];
+
+/// What is revoked or expired is found and refused. A head that grants no SEARCH is not searched.
+#[rattlefmt::skip]
+const REFUSED: [(&str, &str); 13] = [
+    ("hello 1000 1000", "1"),
+    ("newring a @u", "5"),
+    ("newring b @u", "6"),
+    ("timeout 5 9", "ok"),
+    ("revoke 6", "ok"),
+    ("moment 8", "ok"),
+    ("search @u keyring a", "5"),
+    ("search @u keyring b", "error 128 EKEYREVOKED"),
+    ("moment 9", "ok"),
+    ("search @u keyring a", "error 127 EKEYEXPIRED"),
+    ("newring c @u", "7"),
+    ("setperm 7 37370000", "ok"),
+    ("search 7 user k", "error 13 EACCES"),
+];
+
+/// A key that its process keyring links is possessed by a process, and not by another.
+#[rattlefmt::skip]
+const POSSESSED: [(&str, &str); 7] = [
+    ("hello 1000 1000", "1"),
+    ("id @p create", "5"),
+    ("add user k x @p", "6"),
+    ("print 6", "x"),
+    ("fork", "2"),
+    ("context 2", "ok"),
+    ("print 6", "error 13 EACCES"),
+];
+
 /// The two keyrings of the uid take the last serials. The refusals of an ask still come before ENOSPC.
 #[rattlefmt::skip]
 const LAST_SERIALS: [(&str, &str); 12] = [
@@ -189,12 +241,15 @@ const ONE_SERIAL: [(&str, &str); 5] = [
 ];
 
 /// Each script with the first serial of its store, and its status.
-const SCRIPTS: [(u32, &[(&str, &str)], u8); 10] = [
+const SCRIPTS: [(u32, &[(&str, &str)], u8); 13] = [
     (3, &PROCESSES, 1),
     (3, &CURRENT, 0),
+    (3, &FULL, 1),
     (3, &SESSIONS, 1),
     (3, &BY_WHOM, 1),
     (3, &NEAREST, 0),
+    (3, &REFUSED, 1),
+    (3, &POSSESSED, 1),
     (3, &DEPTH, 1),
     (3, &DESTINATIONS, 1),
     (3, &COUNTS_AS_MADE, 1),

@@ -87,6 +87,26 @@ const INVALIDATED: [(&str, &str); 10] = [
     ("rlist @u", "5"),
 ];
 
+/// Keys that go at once: their removal records come by rising serial, whatever the filter, and the watches of other keys
+/// stay.
+#[rattlefmt::skip]
+const DROPPED: [(&str, &str); 14] = [
+    ("hello 1000 1000", "1"),
+    ("newring box @u", "5"),
+    ("add user a x 5", "6"),
+    ("add user b x 5", "7"),
+    ("add user c x @u", "8"),
+    ("open 4", "1"),
+    ("filter 1 1:0:0:2", "ok"),
+    ("watch 7 1 1", "ok"),
+    ("watch 8 1 2", "ok"),
+    ("watch 6 1 3", "ok"),
+    ("clear 5", "ok"),
+    ("readq 1 64", "0000000010030000060000000000000000000000100100000700000000000000"),
+    ("watch 8 1 off", "ok"),
+    ("readq 1 64", "00000000100200000800000000000000"),
+];
+
 /// A filter passes updated notes alone, and every removal record. Capacities are from 1 to 512.
 #[rattlefmt::skip]
 const FILTERED: [(&str, &str); 13] = [
@@ -150,8 +170,9 @@ const REFUSED: [(&str, &str); 19] = [
 ];
 
 /// Each script with its status.
-const SCRIPTS: [(&[(&str, &str)], u8); 8] = [
+const SCRIPTS: [(&[(&str, &str)], u8); 9] = [
     (&UPDATED_AND_DROPPED, 0),
+    (&DROPPED, 0),
     (&SET_AND_ENDED, 1),
     (&FULL, 1),
     (&FULL_AT_ONCE, 0),
