@@ -1,4 +1,4 @@
-use Rattle.std.proofs.Common.{◌≡◌, ◌++◌}
+use Rattle.std.proofs.Common.{◌++◌}
 use Rattle.std.specs.Int.{w32, to_le_bytes}
 use Rattle.krs_wire.specs.Bodies.{groups_field}
 use Rattle.krs_wire.proofs.PutLemmas.{then_put, long_behind}
