@@ -1,4 +1,4 @@
-ghost use Rattle.std.specs.Prelude.{◌≡◌, ◌+◌, ◌<◌, None, false, [], length};
+ghost use Rattle.std.specs.Prelude.{◌≡◌, ◌+◌, ◌^◌, ◌<◌, None, false, [], length};
 ghost use Rattle.std.specs.Prelude.{IfOk, IfErr, OnOk, OnErr, option_copied};
 ghost use Rattle.std.specs.List.Sorted.{IsStrictlySortedBy};
 ghost use Rattle.std.specs.Map.{keys_of};
@@ -140,17 +140,9 @@ impl KeyTable {
         if serial >= LAST_SERIAL {
             return Err(Errno::ENOSPC);
         }
-        put_in(&mut self.keys, &mut self.sessions, serial, first)?;
-        match put_in(&mut self.keys, &mut self.sessions, serial + 1, second) {
-            Ok(()) => {
-                self.next += 2;
-                Ok(Serial::new(serial))
-            }
-            Err(error) => {
-                let _ = take_out(&mut self.keys, &mut self.sessions, self.next);
-                Err(error)
-            }
-        }
+        put_two(&mut self.keys, &mut self.sessions, serial, first, second)?;
+        self.next += 2;
+        Ok(Serial::new(serial))
     }
 
     /// One more key, under the next serial, which a keyring links under this name, and the serial that this displaces:
@@ -262,6 +254,36 @@ fn put_in(
     }
     keys.put(serial, key);
     Ok(())
+}
+
+/// Two new keys, at a serial and the next one. A refusal leaves what is there: ENOMEM.
+fn put_two(
+    keys: &mut PlacedKeys,
+    sessions: &mut Sessions,
+    serial: u32,
+    first: Key,
+    second: Key,
+) -> Result<(), Errno>
+    requires placed { ArePlaced keys.old }
+    requires sessions { AreSessions sessions.old (by_place keys.old) }
+    requires fits { serial + 1 < 2 ^ 32 }
+    requires absent { at (by_place keys.old) serial ≡ None }
+    requires absent_next { at (by_place keys.old) (serial + 1) ≡ None }
+    ensures placed { ArePlaced keys.new }
+    ensures sessions { AreSessions sessions.new (by_place keys.new) }
+    ensures ok { OnOk result
+        (by_place keys.new ≡ put (put (by_place keys.old) serial first) (serial + 1) second) }
+    ensures error { IfErr result (λ e. e ≡ Errno.ENOMEM) }
+    ensures err { OnErr result (by_place keys.new ≡ by_place keys.old) }
+{
+    put_in(keys, sessions, serial, first)?;
+    match put_in(keys, sessions, serial + 1, second) {
+        Ok(()) => Ok(()),
+        Err(error) => {
+            let _ = take_out(keys, sessions, serial);
+            Err(error)
+        }
+    }
 }
 
 /// Takes out the key at a serial, which is listed no more, and answers it.
