@@ -1,6 +1,6 @@
 -- What `World::step` answers, on the machine as it is seen: a step that was made, one that isn't possible, and one that
 -- is refused.
-use Rattle.std.proofs.Common.{◌≡◌, ◌≢◌, ◌⊎◌, ℕ, ◌<◌, ◌≤◌, true, false, List, length, get_or, Option, Some, None}
+use Rattle.std.proofs.Common.{◌≡◌, ◌≢◌, ◌⊎◌, ℕ, ◌+◌, ◌<◌, ◌≤◌, true, false, List, length, get_or, Option, Some, None}
 use Rattle.std.proofs.Common.{refl, sym, ap, ◌∙◌, subst, arith, take}
 use mathlib.Core.Option.{some, some-injective}
 use lib.ListN.{get_elem?}
@@ -98,6 +98,10 @@ loads_not w store out serving log lanes i x k at is n outside = (
   subst (λ (z : World). (p : Part) (other : World) → get_elem? z.seats i ≡ some p → StepsAs z i p (Load n) other → ⊥) is
       (no_load store out serving log lanes i x k at n outside),
 )
+
+-- a number that can't be raised
+pub greatest : (n : ℕ) → (n + 1 < 18446744073709551616 → ⊥) → 18446744073709551615 ≤ n
+greatest n not = omega arith
 
 -- a take that would raise a number that is the greatest already
 pub take_full : (w : World) (store : State) (out : Option ℕ) (serving : Option Service) (log : List Event) (lanes : List Lane) (i : ℕ) (x : Lane)

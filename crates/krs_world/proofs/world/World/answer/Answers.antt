@@ -1,6 +1,5 @@
-use Rattle.std.proofs.Common.{rules, arith, ◌≡◌, ◌<◌, ℕ, List, [], ◌∷◌, ◌++◌, set, ap, sym, ◌∙◌}
+use Rattle.std.proofs.Common.{◌≡◌, ◌<◌, ℕ, List, ◌∷◌, ◌++◌, set, ap, sym, ◌∙◌, []}
 use Rattle.std.proofs.Common.{subst, Some, length, length-set}
-use Rattle.std.specs.Prelude.{vec_len}
 use lib.ListN.{get_elem?}
 use mathlib.Core.Option.{some}
 use Rattle.krs_model.specs.History.{event_of}
@@ -16,39 +15,42 @@ use Rattle.krs_world.proofs.AnsweredMoves.{answers_at}
 use Rattle.krs_world.proofs.Answering.{lane_here, moves, serves_none, answer_refused}
 use Rattle.krs_world.proofs.world.World.answer.Goals as goal
 
+one_call : (a b : Service) → Some a ≡ Some b → a ≡ b
+one_call a b is = cc
+
 pub returns-in_default-serving-clause-moved : goal.returns-in_default-serving-clause-moved
 returns-in_default-serving-clause-moved c = let w = c.self.inside in
     serves_none c.args.self.now w.store w.out w.serving w.log.items w.lanes.items c.args.lane c.self.view_is c.in_default-serving.is
 
 pub returns-in_default-copy-clause-refused : goal.returns-in_default-copy-clause-refused
 returns-in_default-copy-clause-refused c = let w = c.self.inside in
-    let same : c.in-Some.holder ≡ c.args.lane = search rules in
-    let here : w.out ≡ Some c.args.lane = c.in-Some.is ∙ ap (λ (n : ℕ). Some n) same in
+    let here : w.out ≡ Some c.args.lane = c.in-Some.is ∙ ap (λ (n : ℕ). Some n) c.if-holder-lane.false in
     let h = out_at w.store w.out w.serving w.log.items w.lanes.items c.args.lane c.self.invariant here in let x = h.0 in
     let at : get_elem? w.lanes.items c.args.lane ≡ some x = h.1 in
-    let refused = answer_refused c.args.self.now w.store w.out w.serving w.log.items w.lanes.items c.args.lane x c.in-Some-serving.call c.self.invariant at c.self.view_is here
-    c.in-Some-serving.is in (search rules, refused.1)
+    answer_refused c.args.self.now w.store w.out w.serving w.log.items w.lanes.items c.args.lane x c.in-Some-serving.call c.self.invariant at c.self.view_is here
+    c.in-Some-serving.is
 
 pub returns-in_default-reserve-clause-refused : goal.returns-in_default-reserve-clause-refused
 returns-in_default-reserve-clause-refused c = let w = c.self.inside in
-    let same : c.in-Some.holder ≡ c.args.lane = search rules in
-    let here : w.out ≡ Some c.args.lane = c.in-Some.is ∙ ap (λ (n : ℕ). Some n) same in
+    let here : w.out ≡ Some c.args.lane = c.in-Some.is ∙ ap (λ (n : ℕ). Some n) c.if-holder-lane.false in
     let h = out_at w.store w.out w.serving w.log.items w.lanes.items c.args.lane c.self.invariant here in let x = h.0 in
     let at : get_elem? w.lanes.items c.args.lane ≡ some x = h.1 in
     let refused = answer_refused c.args.self.now w.store w.out w.serving w.log.items w.lanes.items c.args.lane x c.in-Some-serving.call c.self.invariant at c.self.view_is here
-    c.in-Some-serving.is in (search rules, refused.1)
+    c.in-Some-serving.is in (
+      ap (λ (l : List Event). world_of w.store w.out w.serving l w.lanes.items) c.reserve.ensures.items
+          ∙ c.self.view_is,
+      refused.1,
+    )
 
 pub index_mut-seat-requires : goal.index_mut-seat-requires
 index_mut-seat-requires c = let w = c.self.inside in
-    let same : c.in-Some.holder ≡ c.args.lane = search rules in
-    let here : w.out ≡ Some c.args.lane = c.in-Some.is ∙ ap (λ (n : ℕ). Some n) same in
+    let here : w.out ≡ Some c.args.lane = c.in-Some.is ∙ ap (λ (n : ℕ). Some n) c.if-holder-lane.false in
     let within : c.args.lane < length w.lanes.items = out_within w.store w.out w.serving w.log.items w.lanes.items c.args.lane c.self.invariant here in
-    let size : vec_len w.lanes ≡ length w.lanes.items = search rules in omega arith
+    subst (λ (n : ℕ). c.args.lane < n) (sym w.lanes.ok.0) within
 
 pub invariant_of-self-in_default-push : goal.invariant_of-self-in_default-push
 invariant_of-self-in_default-push c = let w = c.self.inside in let x = c.index_mut-seat.result.now in
-    let same : c.in-Some.holder ≡ c.args.lane = search rules in
-    let here : w.out ≡ Some c.args.lane = c.in-Some.is ∙ ap (λ (n : ℕ). Some n) same in
+    let here : w.out ≡ Some c.args.lane = c.in-Some.is ∙ ap (λ (n : ℕ). Some n) c.if-holder-lane.false in
     let within : c.args.lane < length w.lanes.items = out_within w.store w.out w.serving w.log.items w.lanes.items c.args.lane c.self.invariant here in
     let at : get_elem? w.lanes.items c.args.lane ≡ some x =
     lane_here w.lanes.items c.args.lane x within c.index_mut-seat.ensures.value in
@@ -58,8 +60,7 @@ invariant_of-self-in_default-push c = let w = c.self.inside in let x = c.index_m
 
 pub returns-in_default-push-clause-refused : goal.returns-in_default-push-clause-refused
 returns-in_default-push-clause-refused c = let w = c.self.inside in let x = c.index_mut-seat.result.now in
-    let same : c.in-Some.holder ≡ c.args.lane = search rules in
-    let here : w.out ≡ Some c.args.lane = c.in-Some.is ∙ ap (λ (n : ℕ). Some n) same in
+    let here : w.out ≡ Some c.args.lane = c.in-Some.is ∙ ap (λ (n : ℕ). Some n) c.if-holder-lane.false in
     let within : c.args.lane < length w.lanes.items = out_within w.store w.out w.serving w.log.items w.lanes.items c.args.lane c.self.invariant here in
     let at : get_elem? w.lanes.items c.args.lane ≡ some x =
     lane_here w.lanes.items c.args.lane x within c.index_mut-seat.ensures.value in
@@ -77,12 +78,11 @@ index_mut-requires c = let w = c.self.inside in
     let k = c.self.invariant.served c.in-Some-serving.call c.in-Some-serving.is in
     let inside : c.in-Some-serving.call.lane < length w.lanes.items =
     in_bounds w.lanes.items c.in-Some-serving.call.lane k.0 k.1 in
-    let size : vec_len w.lanes ≡ length w.lanes.items = search rules in omega arith
+    subst (λ (n : ℕ). c.in-Some-serving.call.lane < n) (sym w.lanes.ok.0) inside
 
 pub invariant_of-self-2 : goal.invariant_of-self-2
 invariant_of-self-2 c = let w = c.self.inside in let x = c.index_mut-seat.result.now in
-    let same : c.in-Some.holder ≡ c.args.lane = search rules in
-    let here : w.out ≡ Some c.args.lane = c.in-Some.is ∙ ap (λ (n : ℕ). Some n) same in
+    let here : w.out ≡ Some c.args.lane = c.in-Some.is ∙ ap (λ (n : ℕ). Some n) c.if-holder-lane.false in
     let within : c.args.lane < length w.lanes.items = out_within w.store w.out w.serving w.log.items w.lanes.items c.args.lane c.self.invariant here in
     let at : get_elem? w.lanes.items c.args.lane ≡ some x =
     lane_here w.lanes.items c.args.lane x within c.index_mut-seat.ensures.value in
@@ -90,7 +90,7 @@ invariant_of-self-2 c = let w = c.self.inside in let x = c.index_mut-seat.result
     let serves : w.serving ≡ Some call = c.in-Some-serving.is in
     let reply = c.apply-reply.result in
     let both : Some c.in-Some-take.call ≡ Some call = sym c.in-Some-take.is ∙ (c.take.ensures.value ∙ serves) in
-    let same_call : c.in-Some-take.call ≡ call = cc in
+    let same_call : c.in-Some-take.call ≡ call = one_call c.in-Some-take.call call both in
     let step : Step w.store (event_of call.lane call.moment call.ask reply) c.apply-reply.new.self =
     subst (λ (v : Service). Step w.store (event_of call.lane v.moment v.ask reply) c.apply-reply.new.self) same_call
     c.apply-reply.ensures.step in
@@ -98,7 +98,7 @@ invariant_of-self-2 c = let w = c.self.inside in let x = c.index_mut-seat.result
     ≡ w.log.items ++ event_of call.lane call.moment call.ask reply ∷ [] =
     c.push_reserved.ensures.items
     ∙ (λ j. c.reserve.ensures.items j ++ event_of call.lane (same_call j).moment (c.in-Ok.ensures j) reply ∷ []) in
-    let counted : c.len.result ≡ length c.reserve.new.self.items = search rules in
+    let counted : c.len.result ≡ length c.reserve.new.self.items = c.len.ensures ∙ c.reserve.new.self.ok.0 in
     let size : c.len.result ≡ length w.log.items = counted ∙ ap length c.reserve.ensures.items in
     let y : Lane = record x { checked = c.push.new.self; done = c.is_done-seat.result } in
     let k = c.self.invariant.served call serves in
@@ -106,7 +106,8 @@ invariant_of-self-2 c = let w = c.self.inside in let x = c.index_mut-seat.result
     let long : length (set w.lanes.items c.args.lane y) ≡ length w.lanes.items =
     length-set w.lanes.items c.args.lane y in
     let there : get_elem? (set w.lanes.items c.args.lane y) call.lane ≡ some c.index_mut.result.now =
-    lane_here (set w.lanes.items c.args.lane y) call.lane c.index_mut.result.now (omega arith)
+    lane_here (set w.lanes.items c.args.lane y) call.lane c.index_mut.result.now
+    (subst (λ (n : ℕ). call.lane < n) (sym long) inside)
     c.index_mut.ensures.value in
     (answers_at w.store w.out w.serving w.log.items w.lanes.items c.args.lane x c.self.invariant at call reply
     c.push.new.self c.is_done-seat.result c.index_mut.result.now here serves c.in-Ok-push.ensures.items c.is_done-seat.ensures there
@@ -115,8 +116,7 @@ invariant_of-self-2 c = let w = c.self.inside in let x = c.index_mut-seat.result
 
 pub returns-clause-moved : goal.returns-clause-moved
 returns-clause-moved c = let w = c.self.inside in let x = c.index_mut-seat.result.now in
-    let same : c.in-Some.holder ≡ c.args.lane = search rules in
-    let here : w.out ≡ Some c.args.lane = c.in-Some.is ∙ ap (λ (n : ℕ). Some n) same in
+    let here : w.out ≡ Some c.args.lane = c.in-Some.is ∙ ap (λ (n : ℕ). Some n) c.if-holder-lane.false in
     let within : c.args.lane < length w.lanes.items = out_within w.store w.out w.serving w.log.items w.lanes.items c.args.lane c.self.invariant here in
     let at : get_elem? w.lanes.items c.args.lane ≡ some x =
     lane_here w.lanes.items c.args.lane x within c.index_mut-seat.ensures.value in
@@ -124,7 +124,7 @@ returns-clause-moved c = let w = c.self.inside in let x = c.index_mut-seat.resul
     let serves : w.serving ≡ Some call = c.in-Some-serving.is in
     let reply = c.apply-reply.result in
     let both : Some c.in-Some-take.call ≡ Some call = sym c.in-Some-take.is ∙ (c.take.ensures.value ∙ serves) in
-    let same_call : c.in-Some-take.call ≡ call = cc in
+    let same_call : c.in-Some-take.call ≡ call = one_call c.in-Some-take.call call both in
     let step : Step w.store (event_of call.lane call.moment call.ask reply) c.apply-reply.new.self =
     subst (λ (v : Service). Step w.store (event_of call.lane v.moment v.ask reply) c.apply-reply.new.self) same_call
     c.apply-reply.ensures.step in
@@ -132,7 +132,7 @@ returns-clause-moved c = let w = c.self.inside in let x = c.index_mut-seat.resul
     ≡ w.log.items ++ event_of call.lane call.moment call.ask reply ∷ [] =
     c.push_reserved.ensures.items
     ∙ (λ j. c.reserve.ensures.items j ++ event_of call.lane (same_call j).moment (c.in-Ok.ensures j) reply ∷ []) in
-    let counted : c.len.result ≡ length c.reserve.new.self.items = search rules in
+    let counted : c.len.result ≡ length c.reserve.new.self.items = c.len.ensures ∙ c.reserve.new.self.ok.0 in
     let size : c.len.result ≡ length w.log.items = counted ∙ ap length c.reserve.ensures.items in
     let y : Lane = record x { checked = c.push.new.self; done = c.is_done-seat.result } in
     let k = c.self.invariant.served call serves in
@@ -140,7 +140,8 @@ returns-clause-moved c = let w = c.self.inside in let x = c.index_mut-seat.resul
     let long : length (set w.lanes.items c.args.lane y) ≡ length w.lanes.items =
     length-set w.lanes.items c.args.lane y in
     let there : get_elem? (set w.lanes.items c.args.lane y) call.lane ≡ some c.index_mut.result.now =
-    lane_here (set w.lanes.items c.args.lane y) call.lane c.index_mut.result.now (omega arith)
+    lane_here (set w.lanes.items c.args.lane y) call.lane c.index_mut.result.now
+    (subst (λ (n : ℕ). call.lane < n) (sym long) inside)
     c.index_mut.ensures.value in
     moves c.args.self.now _ w.store w.out w.serving w.log.items w.lanes.items c.args.lane x Answer c.self.view_is at
     (answers_at w.store w.out w.serving w.log.items w.lanes.items c.args.lane x c.self.invariant at call reply

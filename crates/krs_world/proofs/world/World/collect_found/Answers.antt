@@ -1,5 +1,6 @@
-use Rattle.std.proofs.Common.{rules, ◌≡◌, ◌<◌, ◌≤◌, List, sym}
+use Rattle.std.proofs.Common.{◌≡◌, ◌<◌, ◌≤◌, List, sym}
 use Rattle.std.proofs.Common.{subst, length}
+use borrow.Author.Tests.{true-ltb}
 use lib.ListN.{get_elem?}
 use mathlib.Core.Option.{some}
 use Rattle.krs_world.specs.declared.lane.Lane.{Lane}
@@ -19,7 +20,7 @@ returns-in_default c = let w = c.self.inside in
 
 pub returns : goal.returns
 returns c = let w = c.self.inside in let x = c.in-Some.seat.now in
-    let within : c.args.lane < length c.deref.result.now = search rules in
+    let within : c.args.lane < length c.deref.result.now = true-ltb _ _ c.in-Some.ensures.lookup.0 in
     let at : get_elem? w.lanes.items c.args.lane ≡ some x =
     lane_at w.lanes.items c.deref.result.now c.args.lane x c.deref.ensures.value within c.in-Some.ensures.lookup.1 in
     elim c.match-matches.branch [

@@ -1,5 +1,6 @@
-use Rattle.std.proofs.Common.{rules, ◌≡◌, ◌<◌, ◌≤◌, ℕ, List, ap, sym, ◌∙◌}
+use Rattle.std.proofs.Common.{◌≡◌, ◌<◌, ◌≤◌, ℕ, List, ap, sym, ◌∙◌}
 use Rattle.std.proofs.Common.{subst, Some, length}
+use borrow.Author.Tests.{true-ltb}
 use lib.ListN.{get_elem?}
 use mathlib.Core.Option.{some, some-injective}
 use Rattle.krs_world.specs.declared.lane.Lane.{Lane}
@@ -23,12 +24,11 @@ returns-in_default-get c = let w = c.self.inside in
 
 pub returns-in_default-slot : goal.returns-in_default-slot
 returns-in_default-slot c = let w = c.self.inside in
-    let same : c.in-Some.holder ≡ c.args.lane = search rules in
-    let here : w.out ≡ Some c.args.lane = c.in-Some.is ∙ ap (λ (n : ℕ). Some n) same in
+    let here : w.out ≡ Some c.args.lane = c.in-Some.is ∙ ap (λ (n : ℕ). Some n) (sym c.if-lane-holder.false) in
     let h = out_at w.store w.out w.serving w.log.items w.lanes.items c.args.lane c.self.invariant here in let x = h.0 in
     let at : get_elem? w.lanes.items c.args.lane ≡ some x = h.1 in
     let z = c.in-Some-get.posted.now in
-    let inside : c.args.other < length c.deref.result.now = search rules in
+    let inside : c.args.other < length c.deref.result.now = true-ltb _ _ c.in-Some-get.ensures.lookup.0 in
     let there : get_elem? w.lanes.items c.args.other ≡ some z =
     lane_at w.lanes.items c.deref.result.now c.args.other z c.deref.ensures.value inside
     c.in-Some-get.ensures.lookup.1 in
@@ -39,11 +39,10 @@ returns-in_default-slot c = let w = c.self.inside in
 
 pub invariant_of-self : goal.invariant_of-self
 invariant_of-self c = let w = c.self.inside in
-    let same : c.in-Some.holder ≡ c.args.lane = search rules in
-    let here : w.out ≡ Some c.args.lane = c.in-Some.is ∙ ap (λ (n : ℕ). Some n) same in
+    let here : w.out ≡ Some c.args.lane = c.in-Some.is ∙ ap (λ (n : ℕ). Some n) (sym c.if-lane-holder.false) in
     let h = out_at w.store w.out w.serving w.log.items w.lanes.items c.args.lane c.self.invariant here in let x = h.0 in
     let at : get_elem? w.lanes.items c.args.lane ≡ some x = h.1 in
-    let inside : c.args.other < length c.deref.result.now = search rules in
+    let inside : c.args.other < length c.deref.result.now = true-ltb _ _ c.in-Some-get.ensures.lookup.0 in
     let t = lanes_same w.lanes.items c.deref.result.now c.args.other c.in-Some-get.posted.now c.index_mut.result.now
     c.deref.ensures.value inside c.in-Some-get.ensures.lookup.1 c.index_mut.ensures.value in
     let is : c.index_mut.result.now.slot ≡ slots.Posted c.in-Posted-replace.moment c.in-Posted-replace.ask =
@@ -54,11 +53,10 @@ invariant_of-self c = let w = c.self.inside in
 
 pub returns : goal.returns
 returns c = let w = c.self.inside in
-    let same : c.in-Some.holder ≡ c.args.lane = search rules in
-    let here : w.out ≡ Some c.args.lane = c.in-Some.is ∙ ap (λ (n : ℕ). Some n) same in
+    let here : w.out ≡ Some c.args.lane = c.in-Some.is ∙ ap (λ (n : ℕ). Some n) (sym c.if-lane-holder.false) in
     let h = out_at w.store w.out w.serving w.log.items w.lanes.items c.args.lane c.self.invariant here in let x = h.0 in
     let at : get_elem? w.lanes.items c.args.lane ≡ some x = h.1 in
-    let inside : c.args.other < length c.deref.result.now = search rules in
+    let inside : c.args.other < length c.deref.result.now = true-ltb _ _ c.in-Some-get.ensures.lookup.0 in
     let t = lanes_same w.lanes.items c.deref.result.now c.args.other c.in-Some-get.posted.now c.index_mut.result.now
     c.deref.ensures.value inside c.in-Some-get.ensures.lookup.1 c.index_mut.ensures.value in
     let is : c.index_mut.result.now.slot ≡ slots.Posted c.in-Posted-replace.moment c.in-Posted-replace.ask =

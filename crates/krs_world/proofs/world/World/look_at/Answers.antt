@@ -1,6 +1,6 @@
-use Rattle.std.proofs.Common.{rules, arith, ◌≡◌, ◌<◌, ◌≤◌, ℕ, List, ap, ◌∙◌}
+use Rattle.std.proofs.Common.{◌≡◌, ◌<◌, ◌≤◌, ℕ, List, ap, ◌∙◌, sym}
 use Rattle.std.proofs.Common.{subst, Some, Bool, true, false, cond, ◌==◌, length}
-use Rattle.std.specs.Prelude.{vec_len}
+use borrow.Author.Tests.{true-ltb}
 use lib.ListN.{get_elem?}
 use mathlib.Core.Option.{some}
 use Rattle.krs_world.specs.declared.lane.Lane.{Lane}
@@ -19,12 +19,11 @@ returns-in_default-get-clause-moved c = let w = c.self.inside in
 
 pub returns-in-Posted-clause-moved : goal.returns-in-Posted-clause-moved
 returns-in-Posted-clause-moved c = let w = c.self.inside in
-    let same : c.in-Some.holder ≡ c.args.lane = search rules in
-    let here : w.out ≡ Some c.args.lane = c.in-Some.is ∙ ap (λ (n : ℕ). Some n) same in
+    let here : w.out ≡ Some c.args.lane = c.in-Some.is ∙ ap (λ (n : ℕ). Some n) c.if-holder-lane.false in
     let h = out_at w.store w.out w.serving w.log.items w.lanes.items c.args.lane c.self.invariant here in let x = h.0 in
     let at : get_elem? w.lanes.items c.args.lane ≡ some x = h.1 in
     let z = c.in-Some-get.posted.now in
-    let inside : c.args.other < length c.deref.result.now = search rules in
+    let inside : c.args.other < length c.deref.result.now = true-ltb _ _ c.in-Some-get.ensures.lookup.0 in
     let there : get_elem? w.lanes.items c.args.other ≡ some z =
     lane_at w.lanes.items c.deref.result.now c.args.other z c.deref.ensures.value inside
     c.in-Some-get.ensures.lookup.1 in
@@ -33,15 +32,13 @@ returns-in-Posted-clause-moved c = let w = c.self.inside in
 
 pub index_mut-seat-requires : goal.index_mut-seat-requires
 index_mut-seat-requires c = let w = c.self.inside in
-    let same : c.in-Some.holder ≡ c.args.lane = search rules in
-    let here : w.out ≡ Some c.args.lane = c.in-Some.is ∙ ap (λ (n : ℕ). Some n) same in
+    let here : w.out ≡ Some c.args.lane = c.in-Some.is ∙ ap (λ (n : ℕ). Some n) c.if-holder-lane.false in
     let within : c.args.lane < length w.lanes.items = out_within w.store w.out w.serving w.log.items w.lanes.items c.args.lane c.self.invariant here in
-    let size : vec_len w.lanes ≡ length w.lanes.items = search rules in omega arith
+    subst (λ (n : ℕ). c.args.lane < n) (sym w.lanes.ok.0) within
 
 pub invariant_of-self : goal.invariant_of-self
 invariant_of-self c = let w = c.self.inside in let x = c.index_mut-seat.result.now in
-    let same : c.in-Some.holder ≡ c.args.lane = search rules in
-    let here : w.out ≡ Some c.args.lane = c.in-Some.is ∙ ap (λ (n : ℕ). Some n) same in
+    let here : w.out ≡ Some c.args.lane = c.in-Some.is ∙ ap (λ (n : ℕ). Some n) c.if-holder-lane.false in
     let within : c.args.lane < length w.lanes.items = out_within w.store w.out w.serving w.log.items w.lanes.items c.args.lane c.self.invariant here in
     let at : get_elem? w.lanes.items c.args.lane ≡ some x =
     lane_here w.lanes.items c.args.lane x within c.index_mut-seat.ensures.value in
@@ -49,13 +46,12 @@ invariant_of-self c = let w = c.self.inside in let x = c.index_mut-seat.result.n
 
 pub returns-in_default-push-clause-refused : goal.returns-in_default-push-clause-refused
 returns-in_default-push-clause-refused c = let w = c.self.inside in let x = c.index_mut-seat.result.now in
-    let same : c.in-Some.holder ≡ c.args.lane = search rules in
-    let here : w.out ≡ Some c.args.lane = c.in-Some.is ∙ ap (λ (n : ℕ). Some n) same in
+    let here : w.out ≡ Some c.args.lane = c.in-Some.is ∙ ap (λ (n : ℕ). Some n) c.if-holder-lane.false in
     let within : c.args.lane < length w.lanes.items = out_within w.store w.out w.serving w.log.items w.lanes.items c.args.lane c.self.invariant here in
     let at : get_elem? w.lanes.items c.args.lane ≡ some x =
     lane_here w.lanes.items c.args.lane x within c.index_mut-seat.ensures.value in
     let z = c.in-Some-get.posted.now in
-    let inside : c.args.other < length c.deref.result.now = search rules in
+    let inside : c.args.other < length c.deref.result.now = true-ltb _ _ c.in-Some-get.ensures.lookup.0 in
     let there : get_elem? w.lanes.items c.args.other ≡ some z =
     lane_at w.lanes.items c.deref.result.now c.args.other z c.deref.ensures.value inside
     c.in-Some-get.ensures.lookup.1 in
@@ -65,13 +61,12 @@ returns-in_default-push-clause-refused c = let w = c.self.inside in let x = c.in
 
 pub invariant_of-self-2 : goal.invariant_of-self-2
 invariant_of-self-2 c = let w = c.self.inside in let x = c.index_mut-seat.result.now in
-    let same : c.in-Some.holder ≡ c.args.lane = search rules in
-    let here : w.out ≡ Some c.args.lane = c.in-Some.is ∙ ap (λ (n : ℕ). Some n) same in
+    let here : w.out ≡ Some c.args.lane = c.in-Some.is ∙ ap (λ (n : ℕ). Some n) c.if-holder-lane.false in
     let within : c.args.lane < length w.lanes.items = out_within w.store w.out w.serving w.log.items w.lanes.items c.args.lane c.self.invariant here in
     let at : get_elem? w.lanes.items c.args.lane ≡ some x =
     lane_here w.lanes.items c.args.lane x within c.index_mut-seat.ensures.value in
     let z = c.in-Some-get.posted.now in
-    let inside : c.args.other < length c.deref.result.now = search rules in
+    let inside : c.args.other < length c.deref.result.now = true-ltb _ _ c.in-Some-get.ensures.lookup.0 in
     let there : get_elem? w.lanes.items c.args.other ≡ some z =
     lane_at w.lanes.items c.deref.result.now c.args.other z c.deref.ensures.value inside
     c.in-Some-get.ensures.lookup.1 in
@@ -81,13 +76,12 @@ invariant_of-self-2 c = let w = c.self.inside in let x = c.index_mut-seat.result
 
 pub returns-clause-moved : goal.returns-clause-moved
 returns-clause-moved c = let w = c.self.inside in let x = c.index_mut-seat.result.now in
-    let same : c.in-Some.holder ≡ c.args.lane = search rules in
-    let here : w.out ≡ Some c.args.lane = c.in-Some.is ∙ ap (λ (n : ℕ). Some n) same in
+    let here : w.out ≡ Some c.args.lane = c.in-Some.is ∙ ap (λ (n : ℕ). Some n) c.if-holder-lane.false in
     let within : c.args.lane < length w.lanes.items = out_within w.store w.out w.serving w.log.items w.lanes.items c.args.lane c.self.invariant here in
     let at : get_elem? w.lanes.items c.args.lane ≡ some x =
     lane_here w.lanes.items c.args.lane x within c.index_mut-seat.ensures.value in
     let z = c.in-Some-get.posted.now in
-    let inside : c.args.other < length c.deref.result.now = search rules in
+    let inside : c.args.other < length c.deref.result.now = true-ltb _ _ c.in-Some-get.ensures.lookup.0 in
     let there : get_elem? w.lanes.items c.args.other ≡ some z =
     lane_at w.lanes.items c.deref.result.now c.args.other z c.deref.ensures.value inside
     c.in-Some-get.ensures.lookup.1 in

@@ -1,5 +1,6 @@
-use Rattle.std.proofs.Common.{rules, ◌≡◌, ◌<◌, ◌≤◌, List, ap, sym, ◌∙◌}
+use Rattle.std.proofs.Common.{◌≡◌, ◌<◌, ◌≤◌, List, ap, sym, ◌∙◌}
 use Rattle.std.proofs.Common.{subst, length}
+use borrow.Author.Tests.{true-ltb}
 use lib.ListN.{get_elem?}
 use mathlib.Core.Option.{some}
 use Rattle.krs_world.specs.declared.lane.Lane.{Lane}
@@ -17,7 +18,7 @@ returns-in_default c = let w = c.self.inside in
 
 pub returns-in_default-slot : goal.returns-in_default-slot
 returns-in_default-slot c = let w = c.self.inside in let x = c.in-Some.seat.now in
-    let within : c.args.lane < length c.deref.result.now = search rules in
+    let within : c.args.lane < length c.deref.result.now = true-ltb _ _ c.in-Some.ensures.lookup.0 in
     let at : get_elem? w.lanes.items c.args.lane ≡ some x =
     lane_at w.lanes.items c.deref.result.now c.args.lane x c.deref.ensures.value within c.in-Some.ensures.lookup.1 in
     moves_not c.args.self.now w.store w.out w.serving w.log.items w.lanes.items c.args.lane (Post c.args.moment c.args.ask) c.self.view_is
@@ -25,7 +26,7 @@ returns-in_default-slot c = let w = c.self.inside in let x = c.in-Some.seat.now 
 
 pub invariant_of-self : goal.invariant_of-self
 invariant_of-self c = let w = c.self.inside in let x = c.index_mut-seat.result.now in
-    let within : c.args.lane < length c.deref.result.now = search rules in
+    let within : c.args.lane < length c.deref.result.now = true-ltb _ _ c.in-Some.ensures.lookup.0 in
     let t = lanes_same w.lanes.items c.deref.result.now c.args.lane c.in-Some.seat.now x c.deref.ensures.value within
     c.in-Some.ensures.lookup.1 c.index_mut-seat.ensures.value in
     let at : get_elem? w.lanes.items c.args.lane ≡ some x = t.0 in
@@ -34,7 +35,7 @@ invariant_of-self c = let w = c.self.inside in let x = c.index_mut-seat.result.n
 
 pub returns : goal.returns
 returns c = let w = c.self.inside in let x = c.index_mut-seat.result.now in
-    let within : c.args.lane < length c.deref.result.now = search rules in
+    let within : c.args.lane < length c.deref.result.now = true-ltb _ _ c.in-Some.ensures.lookup.0 in
     let t = lanes_same w.lanes.items c.deref.result.now c.args.lane c.in-Some.seat.now x c.deref.ensures.value within
     c.in-Some.ensures.lookup.1 c.index_mut-seat.ensures.value in
     let at : get_elem? w.lanes.items c.args.lane ≡ some x = t.0 in

@@ -1,12 +1,13 @@
-use Rattle.std.proofs.Common.{rules, arith, ◌≡◌, ◌<◌, ℕ, [], ◌∷◌, ◌++◌, ap, sym, ◌∙◌}
-use Rattle.std.proofs.Common.{Some, length}
-use Rattle.std.specs.Prelude.{vec_len}
+use Rattle.std.proofs.Common.{◌≡◌, ◌<◌, ℕ, List, ◌∷◌, ◌++◌, ap, sym, ◌∙◌, []}
+use Rattle.std.proofs.Common.{subst, Some, length}
 use lib.ListN.{get_elem?}
 use mathlib.Core.Option.{some, some-injective}
+use Rattle.krs_types.specs.declared.event.Event.{Event}
 use Rattle.krs_model.specs.History.{event_of}
 use Rattle.krs_world.specs.declared.lane.Lane.{Lane}
 use Rattle.krs_world.specs.declared.lane.Slot.TheVariants as slots
 use Rattle.krs_world.specs.declared.step.Kind.TheVariants.{Put}
+use Rattle.krs_world.specs.Kept.{world_of}
 use Rattle.krs_world.proofs.KeptHistory.{out_within}
 use Rattle.krs_world.proofs.Moves.{puts_at, no_put}
 use Rattle.krs_world.proofs.Answering.{lane_here, moves, moves_not, busy, no_memory}
@@ -20,16 +21,14 @@ returns-in_default-serving-clause-moved c = let w = c.self.inside in
 
 pub index-requires : goal.index-requires
 index-requires c = let w = c.self.inside in
-    let same : c.in-Some.holder ≡ c.args.lane = search rules in
-    let here : w.out ≡ Some c.args.lane = c.in-Some.is ∙ ap (λ (n : ℕ). Some n) same in
+    let here : w.out ≡ Some c.args.lane = c.in-Some.is ∙ ap (λ (n : ℕ). Some n) c.if-holder-lane.false in
     let within : c.args.lane < length w.lanes.items =
     out_within w.store w.out w.serving w.log.items w.lanes.items c.args.lane c.self.invariant here in
-    let size : vec_len w.lanes ≡ length w.lanes.items = search rules in omega arith
+    subst (λ (n : ℕ). c.args.lane < n) (sym w.lanes.ok.0) within
 
 pub returns-in_default-slot-clause-moved : goal.returns-in_default-slot-clause-moved
 returns-in_default-slot-clause-moved c = let w = c.self.inside in let x = c.index.result.now in
-    let same : c.in-Some.holder ≡ c.args.lane = search rules in
-    let here : w.out ≡ Some c.args.lane = c.in-Some.is ∙ ap (λ (n : ℕ). Some n) same in
+    let here : w.out ≡ Some c.args.lane = c.in-Some.is ∙ ap (λ (n : ℕ). Some n) c.if-holder-lane.false in
     let within : c.args.lane < length w.lanes.items =
     out_within w.store w.out w.serving w.log.items w.lanes.items c.args.lane c.self.invariant here in
     let at : get_elem? w.lanes.items c.args.lane ≡ some x =
@@ -40,40 +39,38 @@ returns-in_default-slot-clause-moved c = let w = c.self.inside in let x = c.inde
 
 pub returns-in_default-copy-clause-refused : goal.returns-in_default-copy-clause-refused
 returns-in_default-copy-clause-refused c = let w = c.self.inside in let x = c.index.result.now in
-    let same : c.in-Some.holder ≡ c.args.lane = search rules in
-    let here : w.out ≡ Some c.args.lane = c.in-Some.is ∙ ap (λ (n : ℕ). Some n) same in
+    let here : w.out ≡ Some c.args.lane = c.in-Some.is ∙ ap (λ (n : ℕ). Some n) c.if-holder-lane.false in
     let within : c.args.lane < length w.lanes.items =
     out_within w.store w.out w.serving w.log.items w.lanes.items c.args.lane c.self.invariant here in
     let at : get_elem? w.lanes.items c.args.lane ≡ some x =
     lane_here w.lanes.items c.args.lane x within c.index.ensures in
-    let refused = no_memory c.args.self.now w.store w.out w.serving w.log.items w.lanes.items c.args.lane x
-    (c.args.moment, c.args.ask) c.self.invariant at c.self.view_is here c.in-None.is c.in-Empty.is in
-    (search rules, refused.1)
+    no_memory c.args.self.now w.store w.out w.serving w.log.items w.lanes.items c.args.lane x
+    (c.args.moment, c.args.ask) c.self.invariant at c.self.view_is here c.in-None.is c.in-Empty.is
 
 pub returns-in_default-reserve-clause-refused : goal.returns-in_default-reserve-clause-refused
 returns-in_default-reserve-clause-refused c = let w = c.self.inside in let x = c.index.result.now in
-    let same : c.in-Some.holder ≡ c.args.lane = search rules in
-    let here : w.out ≡ Some c.args.lane = c.in-Some.is ∙ ap (λ (n : ℕ). Some n) same in
+    let here : w.out ≡ Some c.args.lane = c.in-Some.is ∙ ap (λ (n : ℕ). Some n) c.if-holder-lane.false in
     let within : c.args.lane < length w.lanes.items =
     out_within w.store w.out w.serving w.log.items w.lanes.items c.args.lane c.self.invariant here in
     let at : get_elem? w.lanes.items c.args.lane ≡ some x =
     lane_here w.lanes.items c.args.lane x within c.index.ensures in
     let refused = no_memory c.args.self.now w.store w.out w.serving w.log.items w.lanes.items c.args.lane x
-    (c.args.moment, c.args.ask) c.self.invariant at c.self.view_is here c.in-None.is c.in-Empty.is in
-    (search rules, refused.1)
+    (c.args.moment, c.args.ask) c.self.invariant at c.self.view_is here c.in-None.is c.in-Empty.is in (
+      ap (λ (l : List Event). world_of w.store w.out w.serving l w.lanes.items) c.reserve.ensures.items
+          ∙ c.self.view_is,
+      refused.1,
+    )
 
 pub index_mut-seat-requires : goal.index_mut-seat-requires
 index_mut-seat-requires c = let w = c.self.inside in
-    let same : c.in-Some.holder ≡ c.args.lane = search rules in
-    let here : w.out ≡ Some c.args.lane = c.in-Some.is ∙ ap (λ (n : ℕ). Some n) same in
+    let here : w.out ≡ Some c.args.lane = c.in-Some.is ∙ ap (λ (n : ℕ). Some n) c.if-holder-lane.false in
     let within : c.args.lane < length w.lanes.items =
     out_within w.store w.out w.serving w.log.items w.lanes.items c.args.lane c.self.invariant here in
-    let size : vec_len w.lanes ≡ length w.lanes.items = search rules in omega arith
+    subst (λ (n : ℕ). c.args.lane < n) (sym w.lanes.ok.0) within
 
 pub invariant_of-self-2 : goal.invariant_of-self-2
 invariant_of-self-2 c = let w = c.self.inside in let x = c.index_mut-seat.result.now in
-    let same : c.in-Some.holder ≡ c.args.lane = search rules in
-    let here : w.out ≡ Some c.args.lane = c.in-Some.is ∙ ap (λ (n : ℕ). Some n) same in
+    let here : w.out ≡ Some c.args.lane = c.in-Some.is ∙ ap (λ (n : ℕ). Some n) c.if-holder-lane.false in
     let within : c.args.lane < length w.lanes.items =
     out_within w.store w.out w.serving w.log.items w.lanes.items c.args.lane c.self.invariant here in
     let at : get_elem? w.lanes.items c.args.lane ≡ some x =
@@ -82,7 +79,8 @@ invariant_of-self-2 c = let w = c.self.inside in let x = c.index_mut-seat.result
     let same_lane : first ≡ x = some-injective first x
     (sym (lane_here w.lanes.items c.args.lane first within c.index.ensures) ∙ at) in
     let idle : x.slot ≡ slots.Empty = ap (λ (z : Lane). z.slot) (sym same_lane) ∙ c.in-Empty.is in
-    let size : c.len-seat.result ≡ length c.push_reserved.new.self.items = search rules in
+    let size : c.len-seat.result ≡ length c.push_reserved.new.self.items =
+    c.len-seat.ensures ∙ c.push_reserved.new.self.ok.0 in
     let log : c.push_reserved.new.self.items ≡ w.log.items ++ event_of c.args.lane c.args.moment c.args.ask
     c.apply-reply.result ∷ [] =
     c.push_reserved.ensures.items
@@ -94,8 +92,7 @@ invariant_of-self-2 c = let w = c.self.inside in let x = c.index_mut-seat.result
 
 pub returns-clause-moved : goal.returns-clause-moved
 returns-clause-moved c = let w = c.self.inside in let x = c.index_mut-seat.result.now in
-    let same : c.in-Some.holder ≡ c.args.lane = search rules in
-    let here : w.out ≡ Some c.args.lane = c.in-Some.is ∙ ap (λ (n : ℕ). Some n) same in
+    let here : w.out ≡ Some c.args.lane = c.in-Some.is ∙ ap (λ (n : ℕ). Some n) c.if-holder-lane.false in
     let within : c.args.lane < length w.lanes.items =
     out_within w.store w.out w.serving w.log.items w.lanes.items c.args.lane c.self.invariant here in
     let at : get_elem? w.lanes.items c.args.lane ≡ some x =
@@ -104,7 +101,8 @@ returns-clause-moved c = let w = c.self.inside in let x = c.index_mut-seat.resul
     let same_lane : first ≡ x = some-injective first x
     (sym (lane_here w.lanes.items c.args.lane first within c.index.ensures) ∙ at) in
     let idle : x.slot ≡ slots.Empty = ap (λ (z : Lane). z.slot) (sym same_lane) ∙ c.in-Empty.is in
-    let size : c.len-seat.result ≡ length c.push_reserved.new.self.items = search rules in
+    let size : c.len-seat.result ≡ length c.push_reserved.new.self.items =
+    c.len-seat.ensures ∙ c.push_reserved.new.self.ok.0 in
     let log : c.push_reserved.new.self.items ≡ w.log.items ++ event_of c.args.lane c.args.moment c.args.ask
     c.apply-reply.result ∷ [] =
     c.push_reserved.ensures.items

@@ -1,6 +1,5 @@
-use Rattle.std.proofs.Common.{rules, arith, ◌≡◌, ◌<◌, ℕ, ap, ◌∙◌}
+use Rattle.std.proofs.Common.{◌≡◌, ◌<◌, ℕ, ap, ◌∙◌, sym, subst}
 use Rattle.std.proofs.Common.{Some, None, length}
-use Rattle.std.specs.Prelude.{vec_len}
 use lib.ListN.{get_elem?}
 use mathlib.Core.Option.{some}
 use Rattle.krs_world.specs.declared.step.Kind.TheVariants.{Put}
@@ -15,31 +14,28 @@ returns-in_default-serving c = let w = c.self.inside in
 
 pub index_mut-seat-requires : goal.index_mut-seat-requires
 index_mut-seat-requires c = let w = c.self.inside in
-    let same : c.in-Some.holder ≡ c.args.lane = search rules in
-    let here : w.out ≡ Some c.args.lane = c.in-Some.is ∙ ap (λ (n : ℕ). Some n) same in
+    let here : w.out ≡ Some c.args.lane = c.in-Some.is ∙ ap (λ (n : ℕ). Some n) c.if-holder-lane.false in
     let within : c.args.lane < length w.lanes.items =
     out_within w.store w.out w.serving w.log.items w.lanes.items c.args.lane c.self.invariant here in
-    let size : vec_len w.lanes ≡ length w.lanes.items = search rules in omega arith
+    subst (λ (n : ℕ). c.args.lane < n) (sym w.lanes.ok.0) within
 
 pub invariant_of-self : goal.invariant_of-self
 invariant_of-self c = let w = c.self.inside in let x = c.index_mut-seat.result.now in
-    let same : c.in-Some.holder ≡ c.args.lane = search rules in
-    let here : w.out ≡ Some c.args.lane = c.in-Some.is ∙ ap (λ (n : ℕ). Some n) same in
+    let here : w.out ≡ Some c.args.lane = c.in-Some.is ∙ ap (λ (n : ℕ). Some n) c.if-holder-lane.false in
     let within : c.args.lane < length w.lanes.items =
     out_within w.store w.out w.serving w.log.items w.lanes.items c.args.lane c.self.invariant here in
     let at : get_elem? w.lanes.items c.args.lane ≡ some x =
     lane_here w.lanes.items c.args.lane x within c.index_mut-seat.ensures.value in
-    let size : c.len-seat.result ≡ length w.log.items = search rules in
+    let size : c.len-seat.result ≡ length w.log.items = c.len-seat.ensures ∙ w.log.ok.0 in
     (puts_none w.store w.out w.serving w.log.items w.lanes.items c.args.lane x c.self.invariant at c.len-seat.result here c.in-None.is size).0
 
 pub returns : goal.returns
 returns c = let w = c.self.inside in let x = c.index_mut-seat.result.now in
-    let same : c.in-Some.holder ≡ c.args.lane = search rules in
-    let here : w.out ≡ Some c.args.lane = c.in-Some.is ∙ ap (λ (n : ℕ). Some n) same in
+    let here : w.out ≡ Some c.args.lane = c.in-Some.is ∙ ap (λ (n : ℕ). Some n) c.if-holder-lane.false in
     let within : c.args.lane < length w.lanes.items =
     out_within w.store w.out w.serving w.log.items w.lanes.items c.args.lane c.self.invariant here in
     let at : get_elem? w.lanes.items c.args.lane ≡ some x =
     lane_here w.lanes.items c.args.lane x within c.index_mut-seat.ensures.value in
-    let size : c.len-seat.result ≡ length w.log.items = search rules in
+    let size : c.len-seat.result ≡ length w.log.items = c.len-seat.ensures ∙ w.log.ok.0 in
     moves c.args.self.now _ w.store w.out w.serving w.log.items w.lanes.items c.args.lane x (Put None) c.self.view_is at
     (puts_none w.store w.out w.serving w.log.items w.lanes.items c.args.lane x c.self.invariant at c.len-seat.result here c.in-None.is size).1

@@ -1,13 +1,14 @@
-use Rattle.std.proofs.Common.{rules, arith, ◌≡◌, ◌+◌, ◌<◌, ◌≤◌, List, refl, ap, ◌∙◌}
+use Rattle.std.proofs.Common.{◌≡◌, ◌+◌, ◌<◌, ◌≤◌, List, refl, ap, ◌∙◌}
 use Rattle.std.proofs.Common.{subst}
 use Rattle.std.proofs.Common.{length}
+use borrow.Author.Tests.{true-ltb}
 use lib.ListN.{get_elem?}
 use mathlib.Core.Option.{some}
 use Rattle.krs_world.specs.declared.lane.Lane.{Lane}
 use Rattle.krs_world.specs.declared.step.Kind.TheVariants.{Take}
 use Rattle.krs_world.proofs.world.World.take.Goals as goal
 use Rattle.krs_world.proofs.Moves.{takes}
-use Rattle.krs_world.proofs.Answering.{unseated, lane_at, lanes_same, moves, take_full}
+use Rattle.krs_world.proofs.Answering.{unseated, lane_at, lanes_same, moves, take_full, greatest}
 
 pub returns-in_default-get-clause-moved : goal.returns-in_default-get-clause-moved
 returns-in_default-get-clause-moved c = let w = c.self.inside in
@@ -20,35 +21,34 @@ returns-in_default-get-clause-moved c = let w = c.self.inside in
 
 pub returns-in_default-checked_add-clause-refused : goal.returns-in_default-checked_add-clause-refused
 returns-in_default-checked_add-clause-refused c = let w = c.self.inside in let x = c.in-Some.seat.now in
-    let within : c.args.lane < length c.deref.result.now = search rules in
+    let within : c.args.lane < length c.deref.result.now = true-ltb _ _ c.in-Some.ensures.lookup.0 in
     let at : get_elem? w.lanes.items c.args.lane ≡ some x =
     lane_at w.lanes.items c.deref.result.now c.args.lane x c.deref.ensures.value within c.in-Some.ensures.lookup.1 in
-    let full : 18446744073709551615 ≤ x.taken =
-    first_of (omega (arith, c.in_default-checked_add.ensures), search rules, grind arith) in
+    let full : 18446744073709551615 ≤ x.taken = greatest x.taken c.in_default-checked_add.ensures in
     take_full c.args.self.now w.store w.out w.serving w.log.items w.lanes.items c.args.lane x at c.self.view_is c.in-None.is full
 
 pub invariant_of-self : goal.invariant_of-self
 invariant_of-self c = let w = c.self.inside in let x = c.index_mut-seat.result.now in
-    let within : c.args.lane < length c.deref.result.now = search rules in
+    let within : c.args.lane < length c.deref.result.now = true-ltb _ _ c.in-Some.ensures.lookup.0 in
     let t = lanes_same w.lanes.items c.deref.result.now c.args.lane c.in-Some.seat.now x c.deref.ensures.value within
     c.in-Some.ensures.lookup.1 c.index_mut-seat.ensures.value in
     let at : get_elem? w.lanes.items c.args.lane ≡ some x = t.0 in
-    let size : c.len-seat.result ≡ length w.log.items = search rules in
+    let size : c.len-seat.result ≡ length w.log.items = c.len-seat.ensures ∙ w.log.ok.0 in
     let same : c.in-Some.seat.now ≡ x = t.1 in
-    let old : c.in-Some-checked_add.taken ≡ c.in-Some.seat.now.taken + 1 = search rules in
+    let old : c.in-Some-checked_add.taken ≡ c.in-Some.seat.now.taken + 1 = c.in-Some-checked_add.ensures.1 in
     let more : c.in-Some-checked_add.taken ≡ x.taken + 1 = old ∙ ap (λ (z : Lane). z.taken + 1) same in
     (takes w.store w.out w.serving w.log.items w.lanes.items c.args.lane x c.self.invariant at c.len-seat.result c.in-Some-checked_add.taken c.clear.new.self
     c.in-None.is size more c.clear.ensures.items).0
 
 pub returns-clause-moved : goal.returns-clause-moved
 returns-clause-moved c = let w = c.self.inside in let x = c.index_mut-seat.result.now in
-    let within : c.args.lane < length c.deref.result.now = search rules in
+    let within : c.args.lane < length c.deref.result.now = true-ltb _ _ c.in-Some.ensures.lookup.0 in
     let t = lanes_same w.lanes.items c.deref.result.now c.args.lane c.in-Some.seat.now x c.deref.ensures.value within
     c.in-Some.ensures.lookup.1 c.index_mut-seat.ensures.value in
     let at : get_elem? w.lanes.items c.args.lane ≡ some x = t.0 in
-    let size : c.len-seat.result ≡ length w.log.items = search rules in
+    let size : c.len-seat.result ≡ length w.log.items = c.len-seat.ensures ∙ w.log.ok.0 in
     let same : c.in-Some.seat.now ≡ x = t.1 in
-    let old : c.in-Some-checked_add.taken ≡ c.in-Some.seat.now.taken + 1 = search rules in
+    let old : c.in-Some-checked_add.taken ≡ c.in-Some.seat.now.taken + 1 = c.in-Some-checked_add.ensures.1 in
     let more : c.in-Some-checked_add.taken ≡ x.taken + 1 = old ∙ ap (λ (z : Lane). z.taken + 1) same in
     moves c.args.self.now _ w.store w.out w.serving w.log.items w.lanes.items c.args.lane x Take c.self.view_is at
     (takes w.store w.out w.serving w.log.items w.lanes.items c.args.lane x c.self.invariant at c.len-seat.result c.in-Some-checked_add.taken c.clear.new.self
