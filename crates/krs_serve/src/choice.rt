@@ -1,10 +1,10 @@
-ghost use Rattle.std.specs.Prelude.{◌≡◌, IfOk, IfErr, OnErr, ℕ, List, Option, option_map, map, string_bytes};
+ghost use Rattle.std.specs.Prelude.{◌≡◌, IfOk, IfErr, OnErr, ℕ, List, Option, Some, option_map, map, false, string_bytes};
 ghost use Rattle.std.specs.IoError.{error_kind};
 ghost use Rattle.std.specs.Vec.Iter.{into_iter_items};
-ghost use Rattle.clap.specs.Words.{FailsBy, kind_of, fault_of, found_of, app_of};
+ghost use Rattle.clap.specs.Words.{FailsBy, kind_of, fault_of, found_of, app_of, new_rule, rule_of};
 ghost use Rattle.krs_serve.specs.declared.choice.Choice.TheVariants.{Memory};
 ghost use Rattle.krs_serve.specs.Choice.{IsUnread, Tells, LeadsTo, choice_by};
-ghost use Rattle.krs_serve.specs.CommandLine.{Gives, Spells, daemon};
+ghost use Rattle.krs_serve.specs.CommandLine.{Gives, Spells, daemon, socket_rule, lanes_rule, accept_rule};
 
 use crate::options::Options;
 use clap::error::ErrorKind;
@@ -123,30 +123,54 @@ fn options_of(alloc: Global, matches: &ArgMatches<'_>) -> Result<Option<Options>
     Ok(Options::new(path.to_string(alloc)?, lanes, accept))
 }
 
+/// An option that is written `--NAME`, with one value.
+fn option_named<'a>(alloc: Global, name: &'a str, value_name: &'a str) -> Arg<'a>
+    ensures rule { rule_of result
+        ≡ record (new_rule name.entry.now) { long = Some name.entry.now; value_names = 1 } }
+    ensures local { result.global ≡ false }
+{
+    Arg::new(alloc, name).long(name).value_name(value_name)
+}
+
+/// `--socket PATH`.
+fn socket_option<'a>(alloc: Global) -> Arg<'a>
+    ensures rule { rule_of result ≡ socket_rule }
+    ensures local { result.global ≡ false }
+{
+    option_named(alloc, SOCKET, "PATH")
+        .required(true)
+        .help(SOCKET_HELP)
+}
+
+/// `--lanes L`.
+fn lanes_option<'a>(alloc: Global) -> Arg<'a>
+    ensures rule { rule_of result ≡ lanes_rule }
+    ensures local { result.global ≡ false }
+{
+    option_named(alloc, LANES, "L")
+        .value_parser(value_parser!(u32).range(1..=256))
+        .default_value("16")
+        .help(LANES_HELP)
+}
+
+/// `--accept N`.
+fn accept_option<'a>(alloc: Global) -> Arg<'a>
+    ensures rule { rule_of result ≡ accept_rule }
+    ensures local { result.global ≡ false }
+{
+    option_named(alloc, ACCEPT, "N")
+        .value_parser(value_parser!(u32))
+        .help(ACCEPT_HELP)
+}
+
 fn command_line<'a>(alloc: Global) -> Result<Command<'a>, AllocError>
     ensures { IfOk result (λ command. app_of command ≡ daemon) }
 {
-    let socket = Arg::new(alloc, SOCKET)
-        .long(SOCKET)
-        .value_name("PATH")
-        .required(true)
-        .help(SOCKET_HELP);
-    let lanes = Arg::new(alloc, LANES)
-        .long(LANES)
-        .value_name("L")
-        .value_parser(value_parser!(u32).range(1..=256))
-        .default_value("16")
-        .help(LANES_HELP);
-    let accept = Arg::new(alloc, ACCEPT)
-        .long(ACCEPT)
-        .value_name("N")
-        .value_parser(value_parser!(u32))
-        .help(ACCEPT_HELP);
     Command::new(alloc, "keyretaind")
         .version("0.1.0")
         .about(ABOUT)
         .after_help(STATUSES)
-        .arg(socket)?
-        .arg(lanes)?
-        .arg(accept)
+        .arg(socket_option(alloc))?
+        .arg(lanes_option(alloc))?
+        .arg(accept_option(alloc))
 }

@@ -145,5 +145,8 @@ pub fn listen<R: Clock + Files + Net + RandomSource + Threads + Wait + Sync, W: 
 /// What the store hashes names from: the system's random source, since the daemon's clients are strangers. Where it
 /// fails, what every store of one's own has.
 fn seed(rt: &impl RandomSource) -> Seed {
-    RandomState::new(rt).map_or(Seed::Fixed, Seed::Random)
+    match RandomState::new(rt) {
+        Ok(state) => Seed::Random(state),
+        Err(_) => Seed::Fixed,
+    }
 }
