@@ -1,7 +1,6 @@
-mod contexts;
 mod filters;
 mod holders;
+mod links;
 mod records;
 mod rings;
 mod values;
-mod watches;

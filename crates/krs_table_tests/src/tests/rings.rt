@@ -6,6 +6,9 @@ use krs_types::{Errno, KeyEvent, Record};
 use std::process::Abort;
 use std::test::Fail;
 
+/// What `take` tells of a loss.
+const LOSS: u32 = u32::MAX;
+
 fn note(key: u32) -> Record
     ensures { is_loss result ≡ false }
 {
@@ -17,8 +20,73 @@ fn note(key: u32) -> Record
     }
 }
 
+fn post(ring: &mut NoteRing, key: u32) {
+    ring.post(note(key));
+}
+
+/// Takes the first record, and tells the key of a note, or that it is a loss.
+fn take(ring: &mut NoteRing) -> Option<u32> {
+    let first = ring.first();
+    let taken = ring.take();
+    match taken {
+        Some(Record::Key { key, .. }) if first == taken => Some(key),
+        Some(Record::Loss) if first == taken => Some(LOSS),
+        _ => None,
+    }
+}
+
+/// The keys of the notes that come to a ring, and what is taken then.
+type Row<'a> = (&'a [u32], &'a [Option<u32>]);
+
+/// Three notes come to a ring of one record: the first waits, and one loss stands for the other two.
+const ONE: [Row<'static>; 1] = [(&[5, 6, 7], &[Some(5), Some(LOSS), None])];
+
+/// A loss takes no room, stays behind the record that it was marked at, and is told again for later drops.
+#[rattlefmt::skip]
+const TWO: [Row<'static>; 3] = [
+    (&[1, 2, 3], &[Some(1)]),
+    (&[4, 5], &[Some(2)]),
+    (&[6], &[Some(LOSS), Some(4), Some(LOSS), Some(6), None]),
+];
+
+fn check_rows(rt: &impl Abort, ring: &mut NoteRing, rows: &[Row<'_>]) {
+    for (posted, taken) in rows {
+        for key in *posted {
+            post(ring, *key);
+        }
+        for wanted in *taken {
+            assert!(rt; take(ring) == *wanted, "{posted:?}");
+        }
+    }
+}
+
 #[test]
-fn a_ring_holds_1_to_512_records(rt: HostRuntime) {
+fn a_loss_keeps_its_place(rt: HostRuntime) -> Result<(), Fail> {
+    for (capacity, rows) in [(1, ONE.as_slice()), (2, TWO.as_slice())] {
+        let mut ring = NoteRing::new(rt.alloc(), capacity)?;
+        check_rows(&rt, &mut ring, rows);
+    }
+    Ok(())
+}
+
+/// One note more than a ring keeps comes to it.
+fn check_full(rt: &impl Abort, ring: &mut NoteRing, capacity: u32) {
+    for key in 0..capacity {
+        post(ring, key);
+    }
+    post(ring, capacity);
+    for key in 0..capacity {
+        assert!(rt; take(ring) == Some(key), "{key} of {capacity}");
+    }
+    assert!(rt;
+        take(ring) == Some(LOSS) && take(ring).is_none(),
+        "{capacity}"
+    );
+}
+
+/// At its edge a ring keeps exactly as many records as were asked for, and those are 1 to 512.
+#[test]
+fn a_ring_keeps_1_to_512_records(rt: HostRuntime) {
     for (capacity, good) in &[
         (0, false),
         (1, true),
@@ -29,68 +97,11 @@ fn a_ring_holds_1_to_512_records(rt: HostRuntime) {
         (u32::MAX, false),
     ] {
         match NoteRing::new(rt.alloc(), *capacity) {
-            Ok(ring) => assert!(rt; *good && ring.first() == None, "of {capacity}"),
-            Err(error) => assert!(rt; error == Errno::EINVAL && !*good, "of {capacity}"),
+            Ok(mut ring) => {
+                assert!(rt; *good, "{capacity}");
+                check_full(&rt, &mut ring, *capacity);
+            }
+            Err(error) => assert!(rt; error == Errno::EINVAL && !*good, "{capacity}"),
         }
     }
-}
-
-/// Three updates come to a ring of one record: the first waits, and one loss stands for the other two.
-#[test]
-fn a_ring_tells_of_drops_once(rt: HostRuntime) -> Result<(), Fail> {
-    let mut ring = NoteRing::new(rt.alloc(), 1)?;
-    for key in [5, 6, 7] {
-        ring.post(note(key));
-    }
-    for next in [Some(note(5)), Some(Record::Loss), None] {
-        assert_eq!(rt; ring.first(), next);
-        assert_eq!(rt; ring.take(), next);
-    }
-    Ok(())
-}
-
-/// A loss takes no room, stays behind the record that it was marked at, and is told again for later drops.
-#[test]
-fn a_loss_keeps_its_place(rt: HostRuntime) -> Result<(), Fail> {
-    let mut ring = NoteRing::new(rt.alloc(), 2)?;
-    for key in [1, 2, 3] {
-        ring.post(note(key));
-    }
-    assert_eq!(rt; ring.take(), Some(note(1)));
-    for key in [4, 5] {
-        ring.post(note(key));
-    }
-    assert_eq!(rt; ring.take(), Some(note(2)));
-    ring.post(Record::Removal { watch: 0, id: 6 });
-    for next in [
-        Some(Record::Loss),
-        Some(note(4)),
-        Some(Record::Loss),
-        Some(Record::Removal { watch: 0, id: 6 }),
-        None,
-    ] {
-        assert_eq!(rt; ring.take(), next);
-    }
-    Ok(())
-}
-
-fn check_capacity(rt: &impl Abort, ring: &mut NoteRing, capacity: u32) {
-    for key in 0..=capacity {
-        ring.post(note(key));
-    }
-    for key in 0..capacity {
-        assert_eq!(rt; ring.take(), Some(note(key)), "of {capacity}");
-    }
-    assert_eq!(rt; ring.take(), Some(Record::Loss), "of {capacity}");
-    assert_eq!(rt; ring.take(), None, "of {capacity}");
-}
-
-/// At its edge a ring keeps exactly as many records as were asked for.
-#[test]
-fn a_ring_keeps_its_capacity(rt: HostRuntime) -> Result<(), Fail> {
-    for capacity in &[1, 2, 511, 512] {
-        let mut ring = NoteRing::new(rt.alloc(), *capacity)?;
-        check_capacity(&rt, &mut ring, *capacity);
-    }
-    Ok(())
 }

@@ -1,3 +1,0 @@
-mod keys;
-mod links;
-mod walks;
