@@ -14,7 +14,7 @@ use Rattle.krs_session.specs.declared.ended.Ended.{Ended}
 use Rattle.krs_session.specs.declared.ended.Ended.TheVariants.{Closed, Wire, Read, Write, Memory, Turns}
 use Rattle.krs_session.specs.Events.{asks_of, asks_in, replies_of, session_text}
 use Rattle.krs_session.specs.Session.{AreFirst, ServesBytes}
-use Rattle.krs_session.specs.Serving.{Asked, PieceServes, FeedsMore, Served, Finished}
+use Rattle.krs_session.specs.Serving.{Asked, Wrote, StopsBy, PieceEndsBy, PieceServes, FeedsMore, Served, Finished}
 use Rattle.krs_session.proofs.JoinLemmas.{Joins, asked_joins, front_joins, text_joins}
 
 pub refused_more : (old : End) (piece : List ℕ) (fault : WireFault) → fault_of old ≡ None → Refuses old piece fault
@@ -28,6 +28,44 @@ pub refused_fault : (old : End) (piece : List ℕ) (fault : WireFault) → fault
     → (fault ≡ faults.Memory → ⊥) → Refuses old piece fault → Feeds old piece [] (bad fault)
 refused_fault (rest left) piece fault n other r = r.0 other
 refused_fault (bad f) piece fault n other r = absurd cc
+
+-- what a piece led to where something stopped the writing
+pub stopped_serves : {W : Type 0} (took : W → List ℕ → W → Type 0) (w0 w1 : W) (f0 f1 : End) (piece : List ℕ)
+    (frames : List Framed) (text : List ℕ) (stop : Ended) → Feeds f0 piece frames f1
+    → Wrote took w0 w1 text (Some stop) → PieceServes took w0 w1 f0 f1 piece frames text (Some stop)
+stopped_serves took w0 w1 f0 f1 piece frames text Write fed wrote = (fed, wrote)
+stopped_serves took w0 w1 f0 f1 piece frames text Memory fed wrote = inl (fed, wrote)
+stopped_serves took w0 w1 f0 f1 piece frames text Closed fed wrote = absurd wrote
+stopped_serves took w0 w1 f0 f1 piece frames text (Wire fault) fed wrote = absurd wrote
+stopped_serves took w0 w1 f0 f1 piece frames text Read fed wrote = absurd wrote
+stopped_serves took w0 w1 f0 f1 piece frames text Turns fed wrote = absurd wrote
+
+pub stopped_ends : (old new : ℕ) (stop : Ended) → StopsBy old new (Some stop) → PieceEndsBy old new (Some stop)
+stopped_ends old new Write by = by
+stopped_ends old new Memory by = by
+stopped_ends old new Closed by = absurd by
+stopped_ends old new (Wire fault) by = absurd by
+stopped_ends old new Read by = absurd by
+stopped_ends old new Turns by = absurd by
+
+pub stopped_unwired : (old new : ℕ) (stop : Ended) → StopsBy old new (Some stop)
+    → Some stop ≡ Some (Wire faults.Memory) → ⊥
+stopped_unwired old new Write by is = cc
+stopped_unwired old new Memory by is = cc
+stopped_unwired old new Closed by is = by
+stopped_unwired old new (Wire fault) by is = by
+stopped_unwired old new Read by is = by
+stopped_unwired old new Turns by is = by
+
+fault_behind : (f : End) (fault : WireFault) → fault_of f ≡ Some fault → f ≡ bad fault
+fault_behind (rest left) fault is = absurd cc
+fault_behind (bad other) fault is = cc
+
+-- the frames of a piece with a fault behind them
+pub faulty_feeds : (f0 f1 : End) (piece : List ℕ) (frames : List Framed) (fault : WireFault)
+    → fault_of f1 ≡ Some fault → Feeds f0 piece frames f1 → Feeds f0 piece frames (bad fault)
+faulty_feeds f0 f1 piece frames fault is fed =
+    subst (λ (f : End). Feeds f0 piece frames f) (fault_behind f1 fault is) fed
 
 -- the session so far, where nothing has ended it
 pub record SoFar {R S C W : Type 0} (gave : R → List ℕ → R → Type 0) (leads : S → List Event → S → Type 0)

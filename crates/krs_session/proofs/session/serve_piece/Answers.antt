@@ -1,5 +1,6 @@
-use Rattle.std.proofs.Common.{[], refl, inr}
-use Rattle.krs_session.proofs.PieceLemmas.{refused_fault, refused_more}
+use Rattle.std.proofs.Common.{[], refl, sym, inr}
+use Rattle.krs_session.proofs.PieceLemmas.{refused_fault, refused_more, faulty_feeds}
+use Rattle.krs_session.proofs.PieceLemmas.{stopped_serves, stopped_ends, stopped_unwired}
 use Rattle.krs_session.proofs.session.serve_piece.Goals as goal
 
 pub returns-in-Memory-clause-served : goal.returns-in-Memory-clause-served
@@ -22,3 +23,51 @@ returns-in_default-clause-served g c = record {
     g.met.W.Sink.starts _,
   );
 }
+
+pub returns-in_default-clause-not_wire : goal.returns-in_default-clause-not_wire
+returns-in_default-clause-not_wire g c = λ is. c.in_default.not-Memory (cc is)
+
+pub returns-in-Some-clause-served : goal.returns-in-Some-clause-served
+returns-in-Some-clause-served g c =
+    let e = c.in-Some.ensures.answers in
+    record {
+      frames = c.in-Ok.frames.items;
+      events = e.events;
+      order = e.order;
+      asked = e.asked;
+      served = stopped_serves g.W.Sink.took _ _ _ _ _ _ _ c.in-Some.stop c.in-Ok.ensures.frames e.wrote;
+    }
+
+pub returns-in-Some-clause-count : goal.returns-in-Some-clause-count
+returns-in-Some-clause-count g c = stopped_ends _ _ c.in-Some.stop c.in-Some.ensures.count
+
+pub returns-in-Some-clause-not_wire : goal.returns-in-Some-clause-not_wire
+returns-in-Some-clause-not_wire g c = stopped_unwired _ _ c.in-Some.stop c.in-Some.ensures.count
+
+pub returns-in-None-fault-clause-served : goal.returns-in-None-fault-clause-served
+returns-in-None-fault-clause-served g c =
+    let e = c.in-None.ensures.answers in
+    record {
+      frames = c.in-Ok.frames.items;
+      events = e.events;
+      order = e.order;
+      asked = e.asked;
+      served = (c.in-Ok.ensures.frames, sym c.in-None-fault.ensures, e.wrote);
+    }
+
+pub returns-in-Some-fault-clause-served : goal.returns-in-Some-fault-clause-served
+returns-in-Some-fault-clause-served g c =
+    let e = c.in-None.ensures.answers in
+    record {
+      frames = c.in-Ok.frames.items;
+      events = e.events;
+      order = e.order;
+      asked = e.asked;
+      served = (
+        faulty_feeds _ _ _ _ c.in-Some-fault.fault (sym c.in-Some-fault.ensures) c.in-Ok.ensures.frames,
+        e.wrote,
+      );
+    }
+
+pub returns-in-Some-fault-clause-not_wire : goal.returns-in-Some-fault-clause-not_wire
+returns-in-Some-fault-clause-not_wire g c = λ is. c.in-Ok.ensures.no_memory (cc (c.in-Some-fault.ensures, is))
