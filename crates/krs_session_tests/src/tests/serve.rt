@@ -1,22 +1,18 @@
-//! Many sessions at once over memory, and a daemon whose path is there already. Its clients are tried by
-//! `tests/service`, on the built programs.
+//! Many sessions at once over memory. The daemon and its clients are tried by `tests/service`, on the built programs.
 ghost use Rattle.std.specs.Prelude.{◌≡◌, All, IfOk};
 ghost use Rattle.krs_session.specs.Over.{over_reads, over_empties, over_failures};
 
 use krs_desk::Desk;
-use krs_serve::{Entry, Options, Voice, listen, run_sessions};
+use krs_serve::{Entry, run_sessions};
 use krs_session::{Clock, Ended, Failed, Gate, Over, Point, Sink};
 use krs_store::Store;
 use std::alloc::{AllocError, Global};
-use std::io::ErrorKind;
-use std::net::Net;
-use std::os::unix::net::UnixStream;
 use std::sync::atomic::{AtomicU64, Ordering};
 use std::sync::{Mutex, Wait};
 use std::test::*;
 use std::thread::Threads;
 use std::time::Duration;
-use std::{env, fs, process, thread, time};
+use std::{thread, time};
 
 // HELLO 1000 1000 without groups.
 const HELLO: [u8; 24] = [
@@ -162,7 +158,9 @@ fn serve_at_once<R: Threads + Wait + Sync, G: Gate + Sync>(
     if seats.len() != list.len() {
         return Err(Fail::new("not a seat for each"));
     }
-    let ends = run_sessions(rt, alloc, list, &desk, seats, gate, 99).map_err(|_| AllocError)?;
+    let Ok(ends) = run_sessions(rt, alloc, list, &desk, seats, gate, 99) else {
+        return Err(Fail::new("no memory"));
+    };
     let mut written = Vec::new(alloc);
     for text in &texts {
         written.push(Vec::from_slice(alloc, text.lock(rt).as_slice())?)?;
@@ -170,30 +168,41 @@ fn serve_at_once<R: Threads + Wait + Sync, G: Gate + Sync>(
     Ok((ends, written))
 }
 
-// Each session of 256 has a context of its own.
-#[test]
-fn sessions_run_at_once(rt: HostRuntime) -> Result<(), Fail> {
-    for count in [1, 2, 256] {
-        let inputs = [HELLO.as_slice(), HELLO.as_slice()];
-        let (ends, texts) = serve_at_once(&rt, rt.alloc(), count, inputs, &Open)?;
-        assert_eq!(rt; ends.len(), count as usize, "{count}");
-        assert!(rt; ends.iter().all(|ended| *ended == Ended::Closed), "{count}");
-        assert!(rt; are_each_once(rt.alloc(), &texts, count)?, "{count}");
+/// Whether all were closed.
+fn are_closed(ends: &[Ended]) -> bool {
+    for ended in ends {
+        if *ended != Ended::Closed {
+            return false;
+        }
     }
-    Ok(())
+    true
 }
 
-// Every second session of 256 is cut in the middle of its frame: it writes nothing, and takes no context from others.
+/// Whether the texts at even places are there, and those at odd places if `odd` says so.
+fn are_written(texts: &[Vec<u8>], odd: bool) -> bool {
+    let (mut is_there, mut next) = (true, odd);
+    for text in texts {
+        if text.is_empty() == is_there {
+            return false;
+        }
+        (is_there, next) = (next, is_there);
+    }
+    true
+}
+
+// Each session of 256 has a context of its own. Where every second one is cut in the middle of its frame, it writes
+// nothing, and takes no context from others.
 #[test]
-fn cut_sessions_write_nothing(rt: HostRuntime) -> Result<(), Fail> {
-    let inputs = [HELLO.as_slice(), HALF_A_HELLO.as_slice()];
-    let (ends, texts) = serve_at_once(&rt, rt.alloc(), 256, inputs, &Open)?;
-    assert!(rt; ends.iter().all(|ended| *ended == Ended::Closed));
-    assert!(rt; are_each_once(rt.alloc(), &texts, 128)?);
-    let mut is_cut = false;
-    for text in &texts {
-        assert!(rt; text.is_empty() == is_cut);
-        is_cut = !is_cut;
+fn sessions_run_at_once(rt: HostRuntime) -> Result<(), Fail> {
+    let all = [HELLO.as_slice(), HELLO.as_slice()];
+    let half = [HELLO.as_slice(), HALF_A_HELLO.as_slice()];
+    for (count, inputs, greeted) in [(1, all, 1), (2, all, 2), (256, all, 256), (256, half, 128)] {
+        let (ends, texts) = serve_at_once(&rt, rt.alloc(), count, inputs, &Open)?;
+        let is_right = ends.len() == count as usize
+            && are_closed(&ends)
+            && are_written(&texts, greeted == count)
+            && are_each_once(rt.alloc(), &texts, greeted)?;
+        assert!(rt; is_right, "{greeted} of {count}");
     }
     Ok(())
 }
@@ -261,49 +270,13 @@ fn sessions_are_served_side_by_side(rt: HostRuntime) -> Result<(), Fail> {
     let gate = gate_of(&rt);
     let inputs = [HELLO_AND_READ.as_slice(), HELLO_AND_READ.as_slice()];
     let (ends, texts) = serve_at_once(&rt, rt.alloc(), 2, inputs, &gate)?;
-    assert!(rt; ends.iter().all(|ended| *ended == Ended::Closed));
-    assert_eq!(rt; gate.late.load(Ordering::SeqCst), 0);
-    assert!(rt;
-        texts
-            .first()
-            .is_some_and(|text| text.as_slice() == CONTEXT_2_AND_ESRCH.as_slice())
-    );
-    assert!(rt;
-        texts
-            .last()
-            .is_some_and(|text| text.as_slice() == CONTEXT_1_AND_ENOKEY.as_slice())
-    );
-    Ok(())
-}
-
-/// A path where nothing stands yet.
-fn path_of(rt: &HostRuntime, name: &str) -> Result<String, Fail> {
-    let id = process::id(rt.process());
-    let name = format!(in rt.alloc(); "keyretaind-{id}-{name}.sock")?;
-    let path = env::temp_dir(rt)?.join(rt.alloc(), name.as_str())?;
-    Ok(path.into_string())
-}
-
-/// Whether nothing stands at the path.
-fn is_gone<R: Net>(rt: &R, path: &str) -> bool {
-    UnixStream::connect(rt, path).is_err_and(|error| error.kind() == ErrorKind::NotFound)
-}
-
-#[test]
-fn a_path_that_is_there_is_not_bound(rt: HostRuntime) -> Result<(), Fail> {
-    let alloc = rt.alloc();
-    let path = path_of(&rt, "there")?;
-    let options = Options::new(path, 16, Some(0)).ok_or("no options")?;
-    let path = options.path.as_str();
-    fs::write(&rt, path, b"")?;
-    let mut printed = Voice::new(Vec::new(alloc));
-    assert_eq!(rt; listen(&rt, alloc, &options, &mut printed), 3);
-    assert_eq!(rt; printed.writer().as_slice(), b"error: socket\n".as_slice());
-    fs::remove_file(&rt, path)?;
-    let mut printed = Voice::new(Vec::new(alloc));
-    assert_eq!(rt; listen(&rt, alloc, &options, &mut printed), 0);
-    let wanted = format!(in alloc; "listening {path}\nserved 0\n")?;
-    assert_eq!(rt; printed.writer().as_slice(), wanted.as_bytes());
-    assert!(rt; is_gone(&rt, path));
+    let is_right = match texts.as_slice() {
+        [first, last] => {
+            first.as_slice() == CONTEXT_2_AND_ESRCH.as_slice()
+                && last.as_slice() == CONTEXT_1_AND_ENOKEY.as_slice()
+        }
+        _ => false,
+    };
+    assert!(rt; is_right && are_closed(&ends) && gate.late.load(Ordering::SeqCst) == 0);
     Ok(())
 }

@@ -8,7 +8,6 @@ ghost use Rattle.krs_desk.specs.Sitting.{IsIdleAt};
 mod fakes;
 mod growths;
 mod joined;
-mod shared;
 
 use fakes::{Bites, Chair, Rising, Table, Then, Watching, chair_of, reader_of, watches, writer_of};
 use krs_desk::{Desk, Seat};
@@ -16,7 +15,7 @@ use krs_desk_tests::one_seat;
 use krs_session::*;
 use krs_store::Store;
 use krs_wire::WireFault;
-use std::alloc::Global;
+use std::alloc::{AllocError, Global};
 use std::process::Abort;
 use std::sync::Wait;
 use std::test::*;
@@ -35,6 +34,25 @@ const REPLIES: [u8; 34] = [
     8, 0, 0, 0, 0, 0, 0, 0, 5, 0, 0, 0, //
     6, 0, 0, 0, 0, 0, 0, 0, 0x73, 0x33,
 ];
+
+// The asks one by one.
+const HELLO: [u8; 24] = [
+    0x14, 0, 0, 0, 1, 0, 0, 1, 0, 0, 0, 0, 0xe8, 3, 0, 0, 0xe8, 3, 0, 0, 0, 0, 0, 0,
+];
+
+const ADD: [u8; 35] = [
+    0x1f, 0, 0, 0, 1, 0, 6, 1, 1, 0, 0, 0, 4, 0, 0x75, 0x73, 0x65, 0x72, 5, 0, 0x61, 0x6c, 0x70,
+    0x68, 0x61, 2, 0, 0, 0, 0x73, 0x33, 0xfc, 0xff, 0xff, 0xff,
+];
+
+const READ: [u8; 16] = [0x0c, 0, 0, 0, 1, 0, 0x0b, 0, 1, 0, 0, 0, 5, 0, 0, 0];
+
+// Context 1 and serial 5; context 2 and ESRCH.
+const ADDED: [u8; 24] = [
+    8, 0, 0, 0, 0, 0, 0, 0, 1, 0, 0, 0, 8, 0, 0, 0, 0, 0, 0, 0, 5, 0, 0, 0,
+];
+
+const CONTEXT_2_AND_ESRCH: [u8; 20] = [8, 0, 0, 0, 0, 0, 0, 0, 2, 0, 0, 0, 4, 0, 0, 0, 3, 0, 0, 0];
 
 // In context 1, behind HELLO and ADD: UPDATE of 5 to `s4`; CHOWN of 5 to uid 1000, the gid left; SETPERM of 5 to
 // 3f010001; SET_TIMEOUT of 5 to 10 seconds; READ of 5; REVOKE of 5; READ of 5.
@@ -122,7 +140,12 @@ const NOTED: [u8; 92] = [
     4, 0, 0, 0, 11, 0, 0, 0, 4, 0, 0, 0, 0, 0, 0, 0, 4, 0, 0, 0, 9, 0, 0, 0,
 ];
 
-#[derive(Drop)]
+// HELLO, and the length 7 in the same piece.
+const HELLO_AND_7: [u8; 28] = [
+    0x14, 0, 0, 0, 1, 0, 0, 1, 0, 0, 0, 0, 0xe8, 3, 0, 0, 0xe8, 3, 0, 0, 0, 0, 0, 0, 7, 0, 0, 0,
+];
+
+#[derive(Clone, Copy)]
 struct Case<'a> {
     name: &'a str,
     stream: &'a [u8],
@@ -138,19 +161,14 @@ struct Case<'a> {
     calls: u32,
 }
 
-// A session over the ends of a case, and what `run` tells of it there where it was closed: no bytes but those of the
-// stream, and no moments but those of the clock.
+// A session over the ends of a case.
 fn converse_in_pieces(
     rt: &impl Abort,
     alloc: Global,
     case: &Case<'_>,
     seat: &mut Chair,
     gate: &Watching,
-) -> (Bites, Ended)
-    ensures { result.1 ≡ Ended.Closed
-        → (events : List Event) × (last : Event)
-        × Conversed case.now.stream.now result.0.text.items events last }
-{
+) -> (Bites, Ended) {
     let (next, later, then) = case.reads;
     let mut reader = reader_of(case.stream, next, later, then);
     let (most, room, then) = case.writes;
@@ -170,101 +188,96 @@ fn converse_in_pieces(
     (writer, ended)
 }
 
-fn check(rt: &impl Abort, alloc: Global, case: &Case<'_>) {
+// Whether LEAVE was asked once and last, and each ask passed the gate twice, at a second of its own.
+fn has_left(case: &Case<'_>, seat: &Chair, gate: &Watching) -> bool {
+    let is_last = seat.leaves == 1 && seat.late == 0;
+    let is_all = seat.asked == case.asked && seat.moment == 99 + u64::from(case.asked);
+    let has_passed = gate.asked.get() == case.asked && gate.answered.get() == case.asked;
+    is_last && is_all && has_passed && gate.wrong.get() == 0
+}
+
+fn is_as_told(rt: &impl Abort, alloc: Global, case: &Case<'_>) -> bool {
     let mut seat = chair_of(alloc, 7, 1);
     let gate = watches(7);
     let (writer, ended) = converse_in_pieces(rt, alloc, case, &mut seat, &gate);
-    let name = case.name;
-    assert_eq!(rt; ended, case.ended, "{name}");
-    assert_eq!(rt; seat.asked, case.asked, "{name}");
-    assert_eq!(rt; (seat.leaves, seat.late), (1, 0), "{name}");
-    assert_eq!(rt; seat.moment, 99 + u64::from(case.asked), "{name}");
-    assert_eq!(rt;
-        (gate.asked.get(), gate.answered.get()),
-        (case.asked, case.asked),
-        "{name}"
-    );
-    assert_eq!(rt; gate.wrong.get(), 0, "{name}");
-    assert_eq!(rt; writer.calls, case.calls, "{name}");
-    assert_eq!(rt;
-        Some(writer.text.as_slice()),
-        REPLIES.get(..case.written),
-        "{name}"
-    );
+    let (written, _) = REPLIES.split_at(case.written.min(REPLIES.len()));
+    let is_written = writer.calls == case.calls && writer.text.as_slice() == written;
+    is_written && ended == case.ended && has_left(case, &seat, &gate)
+}
+
+fn check(rt: &impl Abort, alloc: Global, case: &Case<'_>) {
+    let is_right = is_as_told(rt, alloc, case);
+    let (name, asked, written) = (case.name, case.asked, case.written);
+    assert!(rt; is_right, "{name}: {asked} asks, {written} bytes");
 }
 
 const ALL: (usize, usize, Then) = (4096, 4096, Then::GivesNone);
 
-#[test]
-fn asks_in_any_two_pieces_are_answered_alike(rt: HostRuntime) -> Result<(), Fail> {
-    for first in 1..=ASKS.len() {
-        let mut reader = reader_of(&ASKS, first, ASKS.len(), Then::GivesNone);
-        let mut writer = Over::new(Vec::new(rt.alloc()));
-        let (desk, mut seat) = one_seat(rt.alloc(), Store::new(rt.alloc())).ok_or("no desk")?;
-        let mut clock = Rising { at: 100 };
-        let gate = watches(0);
-        let ended = run(
-            &rt,
-            rt.alloc(),
-            &mut reader,
-            &mut writer,
-            &desk,
-            &mut seat,
-            &mut clock,
-            &gate,
-            99,
-        );
-        assert_eq!(rt; ended, Ended::Closed, "cut at {first}");
-        let text = writer.into_inner();
-        assert_eq!(rt; text.as_slice(), REPLIES.as_slice(), "cut at {first}");
-        assert_eq!(rt; gate.answered.get(), 4, "cut at {first}");
-    }
-    Ok(())
-}
+const BYTES: (usize, usize, Then) = (1, 1, Then::GivesNone);
+
+const BAD_LENGTH: Ended = Ended::Wire(WireFault::BadLength);
+
+#[rattlefmt::skip]
+const CASES: [Case<'static>; 19] = [
+    Case { name: "one read", stream: &ASKS, reads: ALL, writes: ALL,
+        turns: 99, ended: Ended::Closed, asked: 4, written: 34, calls: 1 },
+    Case { name: "a read for each ask", stream: &ASKS, reads: (24, 35, Then::GivesNone), writes: ALL,
+        turns: 99, ended: Ended::Closed, asked: 4, written: 34, calls: 3 },
+    // The replies are written before the fault is told.
+    Case { name: "HELLO and length 7", stream: &HELLO_AND_7, reads: ALL, writes: ALL,
+        turns: 99, ended: BAD_LENGTH, asked: 2, written: 12, calls: 1 },
+    Case { name: "HELLO and length 7, not written", stream: &HELLO_AND_7, reads: ALL, writes: (4096, 0, Then::Fails),
+        turns: 99, ended: Ended::Write, asked: 2, written: 0, calls: 1 },
+    Case { name: "byte by byte", stream: &ASKS, reads: BYTES, writes: ALL,
+        turns: 99, ended: Ended::Closed, asked: 4, written: 34, calls: 3 },
+    Case { name: "three bytes a write", stream: &ASKS, reads: ALL, writes: (3, 4096, Then::GivesNone),
+        turns: 99, ended: Ended::Closed, asked: 4, written: 34, calls: 12 },
+    Case { name: "length 7", stream: &[7, 0, 0, 0], reads: ALL, writes: ALL,
+        turns: 99, ended: BAD_LENGTH, asked: 1, written: 0, calls: 0 },
+    Case { name: "length 65537", stream: &[1, 0, 1, 0], reads: BYTES, writes: ALL,
+        turns: 99, ended: BAD_LENGTH, asked: 1, written: 0, calls: 0 },
+    Case { name: "length 65537 at once", stream: &[1, 0, 1, 0], reads: ALL, writes: ALL,
+        turns: 99, ended: BAD_LENGTH, asked: 1, written: 0, calls: 0 },
+    Case { name: "version 2", stream: &[8, 0, 0, 0, 2, 0, 3, 1, 1, 0, 0, 0], reads: ALL, writes: ALL,
+        turns: 99, ended: Ended::Wire(WireFault::BadVersion), asked: 1, written: 0, calls: 0 },
+    Case { name: "operation 31", stream: &[8, 0, 0, 0, 1, 0, 31, 0, 0, 0, 0, 0], reads: ALL, writes: ALL,
+        turns: 99, ended: Ended::Wire(WireFault::BadOp), asked: 1, written: 0, calls: 0 },
+    Case { name: "EXEC with a body", stream: &[9, 0, 0, 0, 1, 0, 3, 1, 1, 0, 0, 0, 0], reads: ALL, writes: ALL,
+        turns: 99, ended: Ended::Wire(WireFault::BadBody), asked: 1, written: 0, calls: 0 },
+    Case { name: "GET_ID, create 2", stream: &[13, 0, 0, 0, 1, 0, 0, 0, 1, 0, 0, 0, 0xfc, 0xff, 0xff, 0xff, 2],
+        reads: ALL, writes: ALL,
+        turns: 99, ended: Ended::Wire(WireFault::BadBody), asked: 1, written: 0, calls: 0 },
+    Case { name: "five bytes of HELLO", stream: &ASKS, reads: BYTES, writes: ALL,
+        turns: 5, ended: Ended::Turns, asked: 1, written: 0, calls: 0 },
+    Case { name: "a read fails", stream: &ASKS, reads: (24, 51, Then::Fails), writes: ALL,
+        turns: 99, ended: Ended::Read, asked: 4, written: 34, calls: 2 },
+    Case { name: "a write fails", stream: &ASKS, reads: ALL, writes: (4096, 20, Then::Fails),
+        turns: 99, ended: Ended::Write, asked: 4, written: 20, calls: 2 },
+    Case { name: "a write takes none", stream: &ASKS, reads: (24, 35, Then::GivesNone), writes: (5, 5, Then::GivesNone),
+        turns: 99, ended: Ended::Write, asked: 2, written: 5, calls: 2 },
+    Case { name: "two turns", stream: &ASKS, reads: (24, 35, Then::GivesNone), writes: ALL,
+        turns: 2, ended: Ended::Turns, asked: 3, written: 24, calls: 2 },
+    Case { name: "no turns", stream: &ASKS, reads: ALL, writes: ALL,
+        turns: 0, ended: Ended::Turns, asked: 1, written: 0, calls: 0 },
+];
 
 #[test]
-#[rattlefmt::skip]
 fn each_end_is_told_and_leave_is_asked_last(rt: HostRuntime) {
-    let closed = Then::GivesNone;
-    let fails = Then::Fails;
-    let bad = Ended::Wire(WireFault::BadLength);
-    let cases = [
-        Case { name: "byte by byte", stream: &ASKS, reads: (1, 1, closed), writes: ALL,
-            turns: 99, ended: Ended::Closed, asked: 4, written: 34, calls: 3 },
-        Case { name: "three bytes a write", stream: &ASKS, reads: ALL, writes: (3, 4096, closed),
-            turns: 99, ended: Ended::Closed, asked: 4, written: 34, calls: 12 },
-        Case { name: "mid-frame", stream: &ASKS[..70], reads: ALL, writes: ALL,
-            turns: 99, ended: Ended::Closed, asked: 3, written: 24, calls: 1 },
-        Case { name: "length 7", stream: &[7, 0, 0, 0], reads: ALL, writes: ALL,
-            turns: 99, ended: bad, asked: 1, written: 0, calls: 0 },
-        Case { name: "length 65537", stream: &[1, 0, 1, 0], reads: (1, 1, closed), writes: ALL,
-            turns: 99, ended: bad, asked: 1, written: 0, calls: 0 },
-        Case { name: "length 65537 at once", stream: &[1, 0, 1, 0], reads: ALL, writes: ALL,
-            turns: 99, ended: bad, asked: 1, written: 0, calls: 0 },
-        Case { name: "version 2", stream: &[8, 0, 0, 0, 2, 0, 3, 1, 1, 0, 0, 0], reads: ALL, writes: ALL,
-            turns: 99, ended: Ended::Wire(WireFault::BadVersion), asked: 1, written: 0, calls: 0 },
-        Case { name: "operation 31", stream: &[8, 0, 0, 0, 1, 0, 31, 0, 0, 0, 0, 0], reads: ALL, writes: ALL,
-            turns: 99, ended: Ended::Wire(WireFault::BadOp), asked: 1, written: 0, calls: 0 },
-        Case { name: "EXEC with a body", stream: &[9, 0, 0, 0, 1, 0, 3, 1, 1, 0, 0, 0, 0], reads: ALL, writes: ALL,
-            turns: 99, ended: Ended::Wire(WireFault::BadBody), asked: 1, written: 0, calls: 0 },
-        Case { name: "GET_ID, create 2", stream: &[13, 0, 0, 0, 1, 0, 0, 0, 1, 0, 0, 0, 0xfc, 0xff, 0xff, 0xff, 2],
-            reads: ALL, writes: ALL,
-            turns: 99, ended: Ended::Wire(WireFault::BadBody), asked: 1, written: 0, calls: 0 },
-        Case { name: "five bytes of HELLO", stream: &ASKS, reads: (1, 1, closed), writes: ALL,
-            turns: 5, ended: Ended::Turns, asked: 1, written: 0, calls: 0 },
-        Case { name: "a read fails", stream: &ASKS, reads: (24, 51, fails), writes: ALL,
-            turns: 99, ended: Ended::Read, asked: 4, written: 34, calls: 2 },
-        Case { name: "a write fails", stream: &ASKS, reads: ALL, writes: (4096, 20, fails),
-            turns: 99, ended: Ended::Write, asked: 4, written: 20, calls: 2 },
-        Case { name: "a write takes none", stream: &ASKS, reads: (24, 35, closed), writes: (5, 5, closed),
-            turns: 99, ended: Ended::Write, asked: 2, written: 5, calls: 2 },
-        Case { name: "two turns", stream: &ASKS, reads: (24, 35, closed), writes: ALL,
-            turns: 2, ended: Ended::Turns, asked: 3, written: 24, calls: 2 },
-        Case { name: "no turns", stream: &ASKS, reads: ALL, writes: ALL,
-            turns: 0, ended: Ended::Turns, asked: 1, written: 0, calls: 0 },
-    ];
-    for case in &cases {
+    for case in &CASES {
         check(&rt, rt.alloc(), case);
+    }
+}
+
+// An empty text with room for a few replies, for which memory may be refused once.
+fn with_room(alloc: Global) -> Vec<u8>
+    ensures { result.items ≡ [] }
+{
+    match Vec::with_capacity(alloc, 64) {
+        Ok(text) => text,
+        Err(_) => match Vec::with_capacity(alloc, 64) {
+            Ok(text) => text,
+            Err(_) => Vec::new(alloc),
+        },
     }
 }
 
@@ -285,7 +298,7 @@ fn converse<R: Wait>(
     ensures session { (frames : List Framed) × (calls : List Event) × GainsSession seat.old frames calls seat.new }
 {
     let mut reader = Over::new(input);
-    let mut writer = Over::new(Vec::new(alloc));
+    let mut writer = Over::new(with_room(alloc));
     let mut clock = Rising { at: 100 };
     a_session_is_its_asks_and_leave::<Over<&[u8]>, Over<Vec<u8>>, Rising>();
     let ended = run(
@@ -302,53 +315,63 @@ fn converse<R: Wait>(
     (writer.into_inner(), ended)
 }
 
-#[test]
-fn a_session_over_memory_is_answered(rt: HostRuntime) -> Result<(), Fail> {
-    let (desk, mut seat) = one_seat(rt.alloc(), Store::new(rt.alloc())).ok_or("no desk")?;
-    let gate = watches(0);
-    let (text, ended) = converse(&rt, rt.alloc(), &ASKS, &desk, &mut seat, &gate);
-    assert_eq!(rt; ended, Ended::Closed);
-    assert_eq!(rt; text.as_slice(), REPLIES.as_slice());
-    assert!(rt; desk.close(seat).is_ok());
-    Ok(())
+// What a session is sent, and what it writes.
+#[rattlefmt::skip]
+const SESSIONS: [([&[u8]; 3], [&[u8]; 2]); 5] = [
+    ([&ASKS, &[], &[]], [&REPLIES, &[]]),
+    ([&HELLO, &ADD, &CHANGES], [&ADDED, &CHANGED]),
+    ([&HELLO, &ADD, &CONTEXTS], [&ADDED, &CAME_AND_WENT]),
+    ([&HELLO, &ADD, &KEYRINGS], [&ADDED, &ATTACHED]),
+    ([&HELLO, &ADD, &QUEUES], [&ADDED, &NOTED]),
+];
+
+fn together(alloc: Global, parts: &[&[u8]]) -> Result<Vec<u8>, AllocError> {
+    let mut text = Vec::new(alloc);
+    for part in parts {
+        text.extend_from_slice(part)?;
+    }
+    Ok(text)
 }
 
-// A session of HELLO, ADD and these asks, and the replies to them behind those to HELLO and ADD.
-fn check_replies<R: Abort + Wait>(
+// Whether a session that is sent these asks is closed with these replies.
+fn is_answered<R: Wait>(
     rt: &R,
     alloc: Global,
-    asks: &[u8],
-    wanted: &[u8],
-) -> Result<(), Fail> {
-    let mut stream = Vec::from_slice(alloc, &ASKS[..59])?;
-    stream.extend_from_slice(asks)?;
-    let mut replies = Vec::from_slice(alloc, &REPLIES[..24])?;
-    replies.extend_from_slice(wanted)?;
-    let (desk, mut seat) = one_seat(alloc, Store::new(alloc)).ok_or("no desk")?;
-    let gate = watches(0);
-    let (text, ended) = converse(rt, alloc, &stream, &desk, &mut seat, &gate);
-    assert_eq!(rt; ended, Ended::Closed);
-    assert_eq!(rt; text.as_slice(), replies.as_slice());
-    assert!(rt; desk.close(seat).is_ok());
+    desk: &Desk,
+    seat: &mut Seat,
+    asks: &[&[u8]],
+    replies: &[&[u8]],
+) -> Result<bool, AllocError>
+    requires { IsIdleAt desk.now seat.old }
+    ensures { IsIdleAt desk.now seat.new }
+{
+    let (stream, wanted) = (together(alloc, asks)?, together(alloc, replies)?);
+    let (text, ended) = converse(rt, alloc, &stream, desk, seat, &watches(0));
+    Ok(ended == Ended::Closed && text.as_slice() == wanted.as_slice())
+}
+
+// Each session is on the seat of a new desk.
+#[test]
+fn sessions_over_memory_are_answered(rt: HostRuntime) -> Result<(), Fail> {
+    for (place, (asks, replies)) in SESSIONS.iter().enumerate() {
+        let (desk, mut seat) = one_seat(rt.alloc(), Store::new(rt.alloc())).ok_or("no desk")?;
+        assert!(rt;
+            is_answered(&rt, rt.alloc(), &desk, &mut seat, asks, replies)?,
+            "{place}"
+        );
+        assert!(rt; desk.close(seat).is_ok());
+    }
     Ok(())
 }
 
+// HELLO and ADD, and then a session of HELLO and READ in context 1: it has a new context, and the first one's is gone.
 #[test]
-fn keys_are_changed(rt: HostRuntime) -> Result<(), Fail> {
-    check_replies(&rt, rt.alloc(), &CHANGES, &CHANGED)
-}
-
-#[test]
-fn contexts_come_and_go(rt: HostRuntime) -> Result<(), Fail> {
-    check_replies(&rt, rt.alloc(), &CONTEXTS, &CAME_AND_WENT)
-}
-
-#[test]
-fn keyrings_are_attached_and_keys_invalidated(rt: HostRuntime) -> Result<(), Fail> {
-    check_replies(&rt, rt.alloc(), &KEYRINGS, &ATTACHED)
-}
-
-#[test]
-fn queues_are_opened_read_and_closed(rt: HostRuntime) -> Result<(), Fail> {
-    check_replies(&rt, rt.alloc(), &QUEUES, &NOTED)
+fn one_seat_serves_two_sessions(rt: HostRuntime) -> Result<(), Fail> {
+    let alloc = rt.alloc();
+    let (desk, mut seat) = one_seat(alloc, Store::new(alloc)).ok_or("no desk")?;
+    assert!(rt; is_answered(&rt, alloc, &desk, &mut seat, &[&HELLO, &ADD], &[&ADDED])?);
+    let replies = [CONTEXT_2_AND_ESRCH.as_slice()];
+    assert!(rt; is_answered(&rt, alloc, &desk, &mut seat, &[&HELLO, &READ], &replies)?);
+    assert!(rt; desk.close(seat).is_ok());
+    Ok(())
 }

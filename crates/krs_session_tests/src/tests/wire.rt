@@ -1,62 +1,37 @@
-use krs_types::{Blob, Caller, Groups, Op, Reply};
-use krs_wire::{decode_reply, encode_reply};
-use std::alloc::{AllocError, Global};
-use std::process::Abort;
-use std::test::Fail;
+use krs_store_asks::{Want, is_wanted};
+use krs_types::Op;
+use krs_wire::{WireFault, decode_reply, encode_reply};
+use std::alloc::Global;
 
 mod asks;
 mod faults;
 mod pieces;
 mod replies;
-mod streams;
 
-// The replies to accepted asks: nothing, and the serial or context 5.
+// READ of 5 in context 1.
+const READ: [u8; 16] = [0x0c, 0, 0, 0, 1, 0, 0x0b, 0, 1, 0, 0, 0, 5, 0, 0, 0];
+
+// The reply of nothing.
 const NOTHING: [u8; 8] = [4, 0, 0, 0, 0, 0, 0, 0];
 
-const FIVE: [u8; 12] = [8, 0, 0, 0, 0, 0, 0, 0, 5, 0, 0, 0];
-
-fn hello(alloc: Global) -> Op {
-    Op::Hello(Caller {
-        uid: 1000,
-        gid: 1000,
-        groups: Groups::new(Vec::new(alloc)),
-    })
+/// Whether a reply to this ask is spelled so: the frame is read as the reply, which is spelled as the frame, and no
+/// reply is in the frame without its last byte.
+fn is_reply(alloc: Global, op: &Op, want: Want<'_>, frame: &[u8]) -> Result<bool, WireFault> {
+    let Some((found, len)) = decode_reply(alloc, op, frame)? else {
+        return Ok(false);
+    };
+    let Some((_, part)) = frame.split_last() else {
+        return Ok(false);
+    };
+    let again = encode_reply(alloc, &found)?;
+    let is_same = len == frame.len() && again.as_slice() == frame;
+    Ok(is_same && is_wanted(&found, want) && decode_reply(alloc, op, part)?.is_none())
 }
 
-fn join(alloc: Global, name: &[u8]) -> Result<Op, AllocError> {
-    let name = Blob::from_slice(alloc, name)?;
-    Ok(Op::Join { name })
-}
-
-fn search_into_6(alloc: Global) -> Result<Op, AllocError> {
-    Ok(Op::Search {
-        head: -3,
-        type_name: Blob::from_slice(alloc, b"user")?,
-        desc: Blob::from_slice(alloc, b"alpha")?,
-        dest: 6,
-    })
-}
-
-fn request(alloc: Global) -> Result<Op, AllocError> {
-    Ok(Op::Request {
-        type_name: Blob::from_slice(alloc, b"user")?,
-        desc: Blob::from_slice(alloc, b"alpha")?,
-        dest: 0,
-    })
-}
-
-fn check_reply(
-    rt: &impl Abort,
-    alloc: Global,
-    op: &Op,
-    reply: &Reply,
-    frame: &[u8],
-) -> Result<(), Fail> {
-    assert_eq!(rt; encode_reply(alloc, reply)?.as_slice(), frame);
-    let (found, len) = decode_reply(alloc, op, frame)?.ok_or("no reply")?;
-    assert_eq!(rt; len, frame.len());
-    assert_eq!(rt; encode_reply(alloc, &found)?.as_slice(), frame);
-    let (_, part) = frame.split_last().ok_or("no bytes")?;
-    assert!(rt; decode_reply(alloc, op, part)?.is_none(), "{frame:?}");
-    Ok(())
+/// Whether these bytes, as a reply to this ask, have this fault.
+fn is_fault(alloc: Global, op: &Op, bytes: &[u8], fault: WireFault) -> bool {
+    match decode_reply(alloc, op, bytes) {
+        Err(found) => found == fault,
+        Ok(_) => false,
+    }
 }

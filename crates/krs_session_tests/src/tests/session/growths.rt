@@ -4,13 +4,13 @@ ghost use Rattle.std.specs.Prelude.{◌≡◌, All, IfOk};
 ghost use Rattle.krs_desk.specs.Sitting.{IsIdleAt};
 ghost use Rattle.krs_session.specs.Over.{over_reads, over_empties, over_failures};
 
-use super::ASKS;
 use super::fakes::watches;
+use super::{ASKS, HELLO, converse, with_room};
 use crate::tests::serve::{Open, Still};
 use krs_desk::{Desk, Seat};
 use krs_desk_tests::{one_seat, two_seats};
 use krs_serve::{Entry, run_sessions};
-use krs_session::{Ended, Keeper, Over, run};
+use krs_session::{Ended, Keeper, Over};
 use krs_store::Store;
 use krs_store_asks::{Want, add, hello, is_wanted, number_of, read};
 use krs_types::{Answer, Ask, Errno, Op, Reply};
@@ -37,21 +37,19 @@ const REPLIES: [&[u8]; 4] = [
     ],
 ];
 
-/// An empty text with room for all replies.
-fn with_room(alloc: Global) -> Result<Vec<u8>, AllocError> {
-    match Vec::with_capacity(alloc, 64) {
-        Ok(text) => Ok(text),
-        Err(_) => Vec::with_capacity(alloc, 64),
-    }
-}
-
 /// Whether this is what a session writes that ended so.
 fn is_written(text: &[u8], ended: Ended) -> bool {
-    match ended {
-        Ended::Closed => REPLIES.iter().any(|replies| *replies == text),
-        Ended::Memory => REPLIES.iter().any(|replies| replies.starts_with(text)),
-        _ => false,
+    for replies in &REPLIES {
+        let is_right = match ended {
+            Ended::Closed => *replies == text,
+            Ended::Memory => replies.starts_with(text),
+            _ => false,
+        };
+        if is_right {
+            return true;
+        }
     }
+    false
 }
 
 // ENOMEM stands in the place of a reply, and the later ones are those of a store on which that ask did nothing; or the
@@ -60,26 +58,13 @@ fn is_written(text: &[u8], ended: Ended) -> bool {
 fn a_session_tells_of_a_refused_growth_or_ends(rt: HostRuntime) -> Result<(), Fail> {
     let alloc = rt.alloc();
     let (desk, mut seat) = one_seat(alloc, Store::new(alloc)).ok_or("no desk")?;
-    let mut writer = Over::new(with_room(alloc)?);
     let gate = watches(0);
-    let ended = run(
-        &rt,
-        alloc,
-        &mut Over::new(ASKS.as_slice()),
-        &mut writer,
-        &desk,
-        &mut seat,
-        &mut Still,
-        &gate,
-        99,
-    );
-    let text = writer.into_inner();
-    assert!(rt; is_written(&text, ended), "{text:?}");
-    assert_eq!(rt;
-        (gate.asked.get(), gate.wrong.get()),
-        (gate.answered.get(), 0)
-    );
-    let mut store = desk.close(seat).map_err(|_| "the turn is out")?;
+    let (text, ended) = converse(&rt, alloc, &ASKS, &desk, &mut seat, &gate);
+    let has_passed = gate.asked.get() == gate.answered.get() && gate.wrong.get() == 0;
+    assert!(rt; has_passed && is_written(&text, ended), "{text:?}");
+    let Ok(mut store) = desk.close(seat) else {
+        return Err(Fail::new("the turn is out"));
+    };
     assert!(rt; is_wanted(&store.apply(0, 0, read(1, 5)), Want::Refused(Errno::ESRCH)));
     Ok(())
 }
@@ -103,11 +88,14 @@ fn reply_at(alloc: Global, desk: &Desk, seat: &mut Seat, place: u8) -> Result<Re
         Ok(ask) => ask,
         Err(_) => ask_at(alloc, place)?,
     };
-    let reply = match desk.try_call(seat, 0, ask) {
+    let replied = match desk.try_call(seat, 0, ask) {
         Ok(Err(Errno::ENOMEM)) => desk.try_call(seat, 0, ask_at(alloc, place)?),
         replied => replied,
     };
-    reply.map_err(|_| Fail::new("an ask came back"))
+    match replied {
+        Ok(reply) => Ok(reply),
+        Err(_) => Err(Fail::new("an ask came back")),
+    }
 }
 
 // Every call by `try_call` on one thread: no ask comes back. What is done again after a refused growth, of `open` or of
@@ -116,17 +104,14 @@ fn reply_at(alloc: Global, desk: &Desk, seat: &mut Seat, place: u8) -> Result<Re
 fn one_thread_is_never_handed_an_ask_back(rt: HostRuntime) -> Result<(), Fail> {
     let alloc = rt.alloc();
     let (desk, mut first, mut second) = two_seats(alloc, Store::new(alloc)).ok_or("no desk")?;
-    assert_eq!(rt; number_of(&reply_at(alloc, &desk, &mut first, 0)?), 1);
-    assert_eq!(rt; number_of(&reply_at(alloc, &desk, &mut first, 1)?), 5);
+    let context = number_of(&reply_at(alloc, &desk, &mut first, 0)?);
+    let serial = number_of(&reply_at(alloc, &desk, &mut first, 1)?);
     desk.meet(&mut first, &mut second);
-    assert_eq!(rt; number_of(&reply_at(alloc, &desk, &mut second, 2)?), 2);
-    assert!(rt; is_wanted(&reply_at(alloc, &desk, &mut second, 3)?, Want::Bytes(b"s3")));
-    assert!(rt;
-        is_wanted(
-            &reply_at(alloc, &desk, &mut second, 4)?,
-            Want::Refused(Errno::ESRCH)
-        )
-    );
+    let other = number_of(&reply_at(alloc, &desk, &mut second, 2)?);
+    assert!(rt; (context, serial, other) == (1, 5, 2));
+    let is_read = is_wanted(&reply_at(alloc, &desk, &mut second, 3)?, Want::Bytes(b"s3"));
+    let gone = Want::Refused(Errno::ESRCH);
+    assert!(rt; is_read && is_wanted(&reply_at(alloc, &desk, &mut second, 4)?, gone));
     Ok(())
 }
 
@@ -178,8 +163,8 @@ fn two_sessions(
     let mut list = Vec::with_capacity(alloc, 2)?;
     'sessions: for _session in 0..2 {
         list.push(Entry {
-            reader: Over::new(&ASKS[..24]),
-            writer: Over::new(with_room(alloc)?),
+            reader: Over::new(HELLO.as_slice()),
+            writer: Over::new(with_room(alloc)),
             clock: Still,
         })?;
     }

@@ -1,206 +1,137 @@
 //! Every ask, as its frame and its reply spell it.
-ghost use Rattle.std.specs.Prelude.{◌≤◌, length};
-
-use super::streams::{
-    CHANGES, CLOSED, CONTEXTS, ENDINGS, FILTERS, KEYRINGS, OPENED, QUEUE_READ, SEARCHES, STREAM,
-    WATCHES,
-};
-use super::{FIVE, NOTHING, check_reply, hello, join, request, search_into_6};
-use krs_types::{Answer, Ask, Blob, Body, FilterEntries, FilterEntry, Op, Reply};
-use krs_wire::encode_ask;
-use std::alloc::{AllocError, Global};
-use std::process::Abort;
+use super::{NOTHING, READ, is_fault, is_reply};
+use krs_store_asks::Want;
+use krs_types::{Ask, Op};
+use krs_wire::{Feed, WireFault, encode_ask};
+use std::alloc::Global;
 use std::test::Fail;
 
-fn add(alloc: Global) -> Result<Op, AllocError> {
-    Ok(Op::Add {
-        type_name: Blob::from_slice(alloc, b"user")?,
-        desc: Blob::from_slice(alloc, b"alpha")?,
-        payload: Blob::from_slice(alloc, b"s3")?,
-        ring: -4,
-    })
+// Serial or context 5.
+const FIVE: [u8; 12] = [8, 0, 0, 0, 0, 0, 0, 0, 5, 0, 0, 0];
+
+const THREE_BYTES: [u8; 11] = [7, 0, 0, 0, 0, 0, 0, 0, 1, 0, 0];
+
+const PAYLOAD: [u8; 10] = [6, 0, 0, 0, 0, 0, 0, 0, 0x73, 0x33];
+
+// An updated note of watch 9 of key 5, and a loss.
+const RECORDS: [u8; 24] = [
+    1, 0, 0, 1, 16, 9, 0, 0, 5, 0, 0, 0, 0, 0, 0, 0, 0, 0, 0, 1, 8, 0, 0, 0,
+];
+
+const RECORDS_FRAME: [u8; 32] = [
+    28, 0, 0, 0, 0, 0, 0, 0, 1, 0, 0, 1, 16, 9, 0, 0, 5, 0, 0, 0, 0, 0, 0, 0, //
+    0, 0, 0, 1, 8, 0, 0, 0,
+];
+
+// A refusal by a number that is no errno, and one with a byte behind it.
+const NO_ERRNO: [u8; 8] = [4, 0, 0, 0, 4, 0, 0, 0];
+
+const LONG_REFUSAL: [u8; 9] = [5, 0, 0, 0, 126, 0, 0, 0, 1];
+
+/// An accepted ask's reply, the frame of it, and two frames that are no reply to the ask.
+type Form = (Want<'static>, &'static [u8], [&'static [u8]; 2]);
+
+const DONE: Form = (Want::Nothing, &NOTHING, [&FIVE, &THREE_BYTES]);
+
+const NUMBER: Form = (Want::Number(5), &FIVE, [&NOTHING, &THREE_BYTES]);
+
+const S3: Form = (Want::Bytes(b"s3"), &PAYLOAD, [&NO_ERRNO, &LONG_REFUSAL]);
+
+const NOTES: Form = (
+    Want::Bytes(&RECORDS),
+    &RECORDS_FRAME,
+    [&NO_ERRNO, &LONG_REFUSAL],
+);
+
+// Frames of every ask, what they say and in which context, and the reply.
+#[rattlefmt::skip]
+static ASKS: [(&[u8], &str, Form); 30] = [
+    (&[0x14, 0, 0, 0, 1, 0, 0, 1, 0, 0, 0, 0, 0xe8, 3, 0, 0, 0xe8, 3, 0, 0, 0, 0, 0, 0],
+        "0 Hello(Caller { uid: 1000, gid: 1000, groups: Groups { gids: [] } })", NUMBER),
+    (&[0x1f, 0, 0, 0, 1, 0, 6, 1, 1, 0, 0, 0, 4, 0, 0x75, 0x73, 0x65, 0x72, 5, 0, 0x61, 0x6c, 0x70, 0x68, 0x61,
+        2, 0, 0, 0, 0x73, 0x33, 0xfc, 0xff, 0xff, 0xff],
+        "1 Add { type_name: Blob { bytes: [117, 115, 101, 114] }, desc: Blob { bytes: [97, 108, 112, 104, 97] }, \
+        payload: Blob { bytes: [115, 51] }, ring: -4 }", NUMBER),
+    (&READ, "1 Read { id: 5 }", S3),
+    (&[0x12, 0, 0, 0, 1, 0, 2, 0, 1, 0, 0, 0, 5, 0, 0, 0, 2, 0, 0, 0, 0x73, 0x34],
+        "1 Update { id: 5, payload: Blob { bytes: [115, 52] } }", DONE),
+    (&[0x0c, 0, 0, 0, 1, 0, 3, 0, 1, 0, 0, 0, 0xfc, 0xff, 0xff, 0xff], "1 Revoke { id: -4 }", DONE),
+    (&[0x14, 0, 0, 0, 1, 0, 4, 0, 1, 0, 0, 0, 5, 0, 0, 0, 0xe8, 3, 0, 0, 0xff, 0xff, 0xff, 0xff],
+        "1 Chown { id: 5, uid: 1000, gid: 4294967295 }", DONE),
+    (&[0x10, 0, 0, 0, 1, 0, 5, 0, 1, 0, 0, 0, 5, 0, 0, 0, 1, 0, 1, 0x3f], "1 SetPerm { id: 5, mask: 1057030145 }", DONE),
+    (&[0x10, 0, 0, 0, 1, 0, 0x0f, 0, 1, 0, 0, 0, 5, 0, 0, 0, 10, 0, 0, 0], "1 SetTimeout { id: 5, seconds: 10 }", DONE),
+    (&[0x10, 0, 0, 0, 1, 0, 8, 0, 1, 0, 0, 0, 6, 0, 0, 0, 5, 0, 0, 0], "1 Link { key: 6, ring: 5 }", DONE),
+    (&[0x10, 0, 0, 0, 1, 0, 9, 0, 1, 0, 0, 0, 5, 0, 0, 0, 0xfc, 0xff, 0xff, 0xff],
+        "1 Unlink { key: 5, ring: -4 }", DONE),
+    (&[0x0c, 0, 0, 0, 1, 0, 7, 0, 1, 0, 0, 0, 5, 0, 0, 0], "1 Clear { id: 5 }", DONE),
+    (&[0x0d, 0, 0, 0, 1, 0, 0, 0, 1, 0, 0, 0, 0xff, 0xff, 0xff, 0xff, 1], "1 GetId { id: -1, create: true }", NUMBER),
+    (&[0x0d, 0, 0, 0, 1, 0, 0, 0, 1, 0, 0, 0, 5, 0, 0, 0, 0], "1 GetId { id: 5, create: false }", NUMBER),
+    (&[0x0a, 0, 0, 0, 1, 0, 1, 0, 1, 0, 0, 0, 0, 0], "1 Join { name: Blob { bytes: [] } }", NUMBER),
+    (&[0x0b, 0, 0, 0, 1, 0, 1, 0, 1, 0, 0, 0, 1, 0, 0x73], "1 Join { name: Blob { bytes: [115] } }", NUMBER),
+    (&[8, 0, 0, 0, 1, 0, 1, 1, 1, 0, 0, 0], "1 Thread", NUMBER),
+    (&[8, 0, 0, 0, 1, 0, 2, 1, 1, 0, 0, 0], "1 Fork", NUMBER),
+    (&[0x1d, 0, 0, 0, 1, 0, 0x0a, 0, 1, 0, 0, 0, 0xfd, 0xff, 0xff, 0xff, 4, 0, 0x75, 0x73, 0x65, 0x72,
+        5, 0, 0x61, 0x6c, 0x70, 0x68, 0x61, 6, 0, 0, 0],
+        "1 Search { head: -3, type_name: Blob { bytes: [117, 115, 101, 114] }, \
+        desc: Blob { bytes: [97, 108, 112, 104, 97] }, dest: 6 }", NUMBER),
+    (&[0x19, 0, 0, 0, 1, 0, 7, 1, 1, 0, 0, 0, 4, 0, 0x75, 0x73, 0x65, 0x72, 5, 0, 0x61, 0x6c, 0x70, 0x68, 0x61,
+        0, 0, 0, 0],
+        "1 Request { type_name: Blob { bytes: [117, 115, 101, 114] }, \
+        desc: Blob { bytes: [97, 108, 112, 104, 97] }, dest: 0 }", NUMBER),
+    (&[0x0c, 0, 0, 0, 1, 0, 0x15, 0, 1, 0, 0, 0, 6, 0, 0, 0], "1 Invalidate { id: 6 }", DONE),
+    (&[0x0c, 0, 0, 0, 1, 0, 0x15, 0, 1, 0, 0, 0, 0xfc, 0xff, 0xff, 0xff], "1 Invalidate { id: -4 }", DONE),
+    (&[8, 0, 0, 0, 1, 0, 3, 1, 1, 0, 0, 0], "1 Exec", DONE),
+    (&[8, 0, 0, 0, 1, 0, 4, 1, 1, 0, 0, 0], "1 Exit", DONE),
+    (&[0x14, 0, 0, 0, 1, 0, 0x20, 0, 1, 0, 0, 0, 5, 0, 0, 0, 1, 0, 0, 0, 9, 0, 0, 0],
+        "1 Watch { id: 5, queue: 1, watch: 9 }", DONE),
+    (&[0x14, 0, 0, 0, 1, 0, 0x20, 0, 1, 0, 0, 0, 0xfc, 0xff, 0xff, 0xff, 1, 0, 0, 0, 0xff, 0xff, 0xff, 0xff],
+        "1 Watch { id: -4, queue: 1, watch: -1 }", DONE),
+    (&[0x0c, 0, 0, 0, 1, 0, 8, 1, 1, 0, 0, 0, 8, 0, 0, 0], "1 OpenQueue { capacity: 8 }", NUMBER),
+    (&[0x10, 0, 0, 0, 1, 0, 9, 1, 1, 0, 0, 0, 1, 0, 0, 0, 0, 0, 0, 0],
+        "1 SetFilter { queue: 1, entries: FilterEntries { entries: [] } }", DONE),
+    (&[0x3c, 0, 0, 0, 1, 0, 9, 1, 1, 0, 0, 0, 1, 0, 0, 0, 1, 0, 0, 0, 1, 0, 0, 0, 0, 5, 0, 0, 0, 0xff, 0, 0,
+        2, 0, 0, 0, 0, 0, 0, 0x80, 3, 0, 0, 0, 4, 0, 0, 0, 5, 0, 0, 0, 6, 0, 0, 0, 7, 0, 0, 0, 8, 0, 0, 0],
+        "1 SetFilter { queue: 1, entries: FilterEntries { entries: [FilterEntry { note_type: 1, info_filter: 1280, \
+        info_mask: 65280, subtypes: [2, 2147483648, 3, 4, 5, 6, 7, 8] }] } }", DONE),
+    (&[0x10, 0, 0, 0, 1, 0, 0x0a, 1, 1, 0, 0, 0, 1, 0, 0, 0, 0x40, 0, 0, 0], "1 ReadQueue { queue: 1, room: 64 }", NOTES),
+    (&[0x0c, 0, 0, 0, 1, 0, 0x0b, 1, 1, 0, 0, 0, 1, 0, 0, 0], "1 CloseQueue { queue: 1 }", DONE),
+];
+
+pub(super) fn asks() -> &'static [(&'static [u8], &'static str, Form)] {
+    &ASKS
 }
 
-fn in_context_1(op: Op) -> Ask {
-    Ask { context: 1, op }
+/// Whether the ask is spelled so in words and in bytes.
+fn is_ask(alloc: Global, ask: &Ask, text: &str, frame: &[u8]) -> Result<bool, WireFault> {
+    let (context, op) = (ask.context, &ask.op);
+    let told = format!(in alloc; "{context} {op:?}")?;
+    Ok(told.as_str() == text && encode_ask(alloc, ask)?.as_slice() == frame)
 }
 
-fn bytes_of(alloc: Global, bytes: &[u8]) -> Result<Reply, AllocError>
-    requires { length bytes.now ≤ 262140 }
-{
-    Ok(Ok(Answer::Bytes(Body::new(Vec::from_slice(alloc, bytes)?))))
+/// Whether the reply to the ask has this form alone.
+fn is_answered(alloc: Global, op: &Op, form: Form) -> Result<bool, WireFault> {
+    let (want, frame, [one, other]) = form;
+    let bad = WireFault::BadBody;
+    Ok(
+        is_reply(alloc, op, want, frame)?
+            && is_fault(alloc, op, one, bad)
+            && is_fault(alloc, op, other, bad),
+    )
 }
 
-fn check_asks(
-    rt: &impl Abort,
-    alloc: Global,
-    asks: &[Ask],
-    stream: &[u8],
-    reply: &Reply,
-    frame: &[u8],
-) -> Result<(), Fail> {
-    let mut text = Vec::new(alloc);
-    for ask in asks {
-        text.extend_from_slice(&encode_ask(alloc, ask)?)?;
-        check_reply(rt, alloc, &ask.op, reply, frame)?;
+/// Whether the frame is read as one ask, which is spelled and answered so.
+fn is_spelled(alloc: Global, frame: &[u8], text: &str, form: Form) -> Result<bool, WireFault> {
+    let frames = Feed::new(alloc).feed(frame)?;
+    let [framed] = frames.as_slice() else {
+        return Ok(false);
+    };
+    Ok(is_ask(alloc, &framed.ask, text, frame)? && is_answered(alloc, &framed.ask.op, form)?)
+}
+
+#[test]
+fn each_ask_is_spelled(rt: HostRuntime) -> Result<(), Fail> {
+    for (frame, text, form) in asks() {
+        assert!(rt; is_spelled(rt.alloc(), frame, text, *form)?, "{text}");
     }
-    assert_eq!(rt; text.as_slice(), stream);
     Ok(())
-}
-
-// Asks that are answered with nothing, and the stream that they are.
-fn check_changes(rt: &impl Abort, alloc: Global, asks: &[Ask], stream: &[u8]) -> Result<(), Fail> {
-    check_asks(rt, alloc, asks, stream, &Ok(Answer::Nothing), &NOTHING)
-}
-
-// Asks that are answered with a serial or a context, and the stream that they are.
-fn check_numbers(rt: &impl Abort, alloc: Global, asks: &[Ask], stream: &[u8]) -> Result<(), Fail> {
-    check_asks(rt, alloc, asks, stream, &Ok(Answer::Number(5)), &FIVE)
-}
-
-#[test]
-fn hello_add_and_read_are_spelled(rt: HostRuntime) -> Result<(), Fail> {
-    let alloc = rt.alloc();
-    let (front, read) = STREAM.split_at(59);
-    let (hello_frame, add_frame) = front.split_at(24);
-    let ask = Ask {
-        context: 0,
-        op: hello(alloc),
-    };
-    check_numbers(&rt, alloc, &[ask], hello_frame)?;
-    check_numbers(&rt, alloc, &[in_context_1(add(alloc)?)], add_frame)?;
-    let payload = bytes_of(alloc, b"s3")?;
-    let reply = [6, 0, 0, 0, 0, 0, 0, 0, 0x73, 0x33];
-    let ask = in_context_1(Op::Read { id: 5 });
-    check_asks(&rt, alloc, &[ask], read, &payload, &reply)
-}
-
-#[test]
-fn changes_of_keys_are_spelled(rt: HostRuntime) -> Result<(), Fail> {
-    let payload = Blob::from_slice(rt.alloc(), b"s4")?;
-    let (mask, gid) = (0x3f01_0001, 4_294_967_295);
-    let uid = 1000;
-    let asks = [
-        in_context_1(Op::Update { id: 5, payload }),
-        in_context_1(Op::Revoke { id: -4 }),
-        in_context_1(Op::Chown { id: 5, uid, gid }),
-        in_context_1(Op::SetPerm { id: 5, mask }),
-        in_context_1(Op::SetTimeout { id: 5, seconds: 10 }),
-    ];
-    check_changes(&rt, rt.alloc(), &asks, &CHANGES)
-}
-
-#[test]
-fn changes_of_keyrings_are_spelled(rt: HostRuntime) -> Result<(), Fail> {
-    let asks = [
-        in_context_1(Op::Link { key: 6, ring: 5 }),
-        in_context_1(Op::Unlink { key: 5, ring: -4 }),
-        in_context_1(Op::Clear { id: 5 }),
-    ];
-    check_changes(&rt, rt.alloc(), &asks, &KEYRINGS)
-}
-
-#[test]
-fn ids_and_contexts_are_spelled(rt: HostRuntime) -> Result<(), Fail> {
-    let (get, create) = (5, -1);
-    let unnamed = join(rt.alloc(), b"")?;
-    let named = join(rt.alloc(), b"s")?;
-    let asks = [
-        in_context_1(Op::GetId {
-            id: -1,
-            create: true,
-        }),
-        in_context_1(Op::GetId {
-            id: 5,
-            create: false,
-        }),
-        in_context_1(unnamed),
-        in_context_1(named),
-        in_context_1(Op::Thread),
-        in_context_1(Op::Fork),
-    ];
-    check_numbers(&rt, rt.alloc(), &asks, &CONTEXTS)
-}
-
-#[test]
-fn searches_are_spelled(rt: HostRuntime) -> Result<(), Fail> {
-    let search = search_into_6(rt.alloc())?;
-    let request = request(rt.alloc())?;
-    let asks = [in_context_1(search), in_context_1(request)];
-    check_numbers(&rt, rt.alloc(), &asks, &SEARCHES)
-}
-
-#[test]
-fn ends_of_keys_and_contexts_are_spelled(rt: HostRuntime) -> Result<(), Fail> {
-    let asks = [
-        in_context_1(Op::Invalidate { id: 6 }),
-        in_context_1(Op::Invalidate { id: -4 }),
-        in_context_1(Op::Exec),
-        in_context_1(Op::Exit),
-    ];
-    check_changes(&rt, rt.alloc(), &asks, &ENDINGS)
-}
-
-#[test]
-fn watches_are_spelled(rt: HostRuntime) -> Result<(), Fail> {
-    let asks = [
-        in_context_1(Op::Watch {
-            id: 5,
-            queue: 1,
-            watch: 9,
-        }),
-        in_context_1(Op::Watch {
-            id: -4,
-            queue: 1,
-            watch: -1,
-        }),
-    ];
-    check_changes(&rt, rt.alloc(), &asks, &WATCHES)
-}
-
-#[test]
-fn an_opened_queue_is_spelled(rt: HostRuntime) -> Result<(), Fail> {
-    let asks = [in_context_1(Op::OpenQueue { capacity: 8 })];
-    check_numbers(&rt, rt.alloc(), &asks, &OPENED)
-}
-
-#[test]
-fn filters_are_spelled(rt: HostRuntime) -> Result<(), Fail> {
-    let none = FilterEntries::new(Vec::new(rt.alloc()));
-    let entry = FilterEntry {
-        note_type: 1,
-        info_filter: 0x500,
-        info_mask: 0xff00,
-        subtypes: [2, 0x8000_0000, 3, 4, 5, 6, 7, 8],
-    };
-    let one = FilterEntries::new([entry].to_vec(rt.alloc())?);
-    let asks = [
-        in_context_1(Op::SetFilter {
-            queue: 1,
-            entries: none,
-        }),
-        in_context_1(Op::SetFilter {
-            queue: 1,
-            entries: one,
-        }),
-    ];
-    check_changes(&rt, rt.alloc(), &asks, &FILTERS)
-}
-
-#[test]
-fn records_of_a_queue_are_spelled(rt: HostRuntime) -> Result<(), Fail> {
-    // An updated note of watch 9 of key 5, and a loss.
-    let reply = [
-        28, 0, 0, 0, 0, 0, 0, 0, 1, 0, 0, 1, 16, 9, 0, 0, 5, 0, 0, 0, 0, 0, 0, 0, //
-        0, 0, 0, 1, 8, 0, 0, 0,
-    ];
-    let records = bytes_of(rt.alloc(), &reply[8..])?;
-    let asks = [in_context_1(Op::ReadQueue { queue: 1, room: 64 })];
-    check_asks(&rt, rt.alloc(), &asks, &QUEUE_READ, &records, &reply)
-}
-
-#[test]
-fn a_closed_queue_is_spelled(rt: HostRuntime) -> Result<(), Fail> {
-    let asks = [in_context_1(Op::CloseQueue { queue: 1 })];
-    check_changes(&rt, rt.alloc(), &asks, &CLOSED)
 }

@@ -1,14 +1,13 @@
 //! Frames with a fault.
-use super::streams::{FILTERS, STREAM};
+use super::READ;
 use krs_wire::{Feed, WireFault};
-use std::alloc::Global;
-use std::process::Abort;
+use std::alloc::{AllocError, Global};
 use std::test::Fail;
 
 // Frames with a fault: lengths, versions and operations, and then bodies that are too short or too long, or whose
 // create byte is neither 0 nor 1.
 #[rattlefmt::skip]
-const FAULTS: [(&[u8], WireFault); 24] = [
+const FAULTS: [(&[u8], WireFault); 39] = [
     (&[7, 0, 0, 0], WireFault::BadLength),
     (&[1, 0, 1, 0], WireFault::BadLength),
     (&[8, 0, 0, 0, 2, 0, 5, 1, 0, 0, 0, 0], WireFault::BadVersion),
@@ -34,12 +33,7 @@ const FAULTS: [(&[u8], WireFault); 24] = [
     (&[9, 0, 0, 0, 1, 0, 4, 1, 0, 0, 0, 0, 0], WireFault::BadBody),
     (&[8, 0, 0, 0, 1, 0, 21, 0, 0, 0, 0, 0], WireFault::BadBody),
     (&[16, 0, 0, 0, 1, 0, 21, 0, 0, 0, 0, 0, 5, 0, 0, 0, 5, 0, 0, 0], WireFault::BadBody),
-];
-
-// The same of asks of queues: bodies that are too short or too long, and counts of entries that do not agree with
-// them.
-#[rattlefmt::skip]
-const QUEUE_FAULTS: [(&[u8], WireFault); 11] = [
+    // Of asks of queues: bodies that are too short or too long, and counts of entries that do not agree with them.
     (&[16, 0, 0, 0, 1, 0, 32, 0, 0, 0, 0, 0, 5, 0, 0, 0, 1, 0, 0, 0], WireFault::BadBody),
     (&[21, 0, 0, 0, 1, 0, 32, 0, 0, 0, 0, 0, 5, 0, 0, 0, 1, 0, 0, 0, 9, 0, 0, 0, 0], WireFault::BadBody),
     (&[10, 0, 0, 0, 1, 0, 8, 1, 0, 0, 0, 0, 8, 0], WireFault::BadBody),
@@ -51,58 +45,58 @@ const QUEUE_FAULTS: [(&[u8], WireFault); 11] = [
     (&[12, 0, 0, 0, 1, 0, 10, 1, 0, 0, 0, 0, 1, 0, 0, 0], WireFault::BadBody),
     (&[8, 0, 0, 0, 1, 0, 11, 1, 0, 0, 0, 0], WireFault::BadBody),
     (&[8, 0, 0, 0, 1, 0, 12, 1, 0, 0, 0, 0], WireFault::BadOp),
+    // Counts of 0, 2 and 4294967295 with the bytes of one entry, and a count of 1 with a byte less.
+    (&[0x3c, 0, 0, 0, 1, 0, 9, 1, 1, 0, 0, 0, 1, 0, 0, 0, 0, 0, 0, 0, 1, 0, 0, 0, 0, 5, 0, 0, 0, 0xff, 0, 0,
+        2, 0, 0, 0, 0, 0, 0, 0x80, 3, 0, 0, 0, 4, 0, 0, 0, 5, 0, 0, 0, 6, 0, 0, 0, 7, 0, 0, 0, 8, 0, 0, 0],
+        WireFault::BadBody),
+    (&[0x3c, 0, 0, 0, 1, 0, 9, 1, 1, 0, 0, 0, 1, 0, 0, 0, 2, 0, 0, 0, 1, 0, 0, 0, 0, 5, 0, 0, 0, 0xff, 0, 0,
+        2, 0, 0, 0, 0, 0, 0, 0x80, 3, 0, 0, 0, 4, 0, 0, 0, 5, 0, 0, 0, 6, 0, 0, 0, 7, 0, 0, 0, 8, 0, 0, 0],
+        WireFault::BadBody),
+    (&[0x3c, 0, 0, 0, 1, 0, 9, 1, 1, 0, 0, 0, 1, 0, 0, 0, 0xff, 0xff, 0xff, 0xff, 1, 0, 0, 0, 0, 5, 0, 0, 0, 0xff, 0, 0,
+        2, 0, 0, 0, 0, 0, 0, 0x80, 3, 0, 0, 0, 4, 0, 0, 0, 5, 0, 0, 0, 6, 0, 0, 0, 7, 0, 0, 0, 8, 0, 0, 0],
+        WireFault::BadBody),
+    (&[0x3b, 0, 0, 0, 1, 0, 9, 1, 1, 0, 0, 0, 1, 0, 0, 0, 1, 0, 0, 0, 1, 0, 0, 0, 0, 5, 0, 0, 0, 0xff, 0, 0,
+        2, 0, 0, 0, 0, 0, 0, 0x80, 3, 0, 0, 0, 4, 0, 0, 0, 5, 0, 0, 0, 6, 0, 0, 0, 7, 0, 0, 0, 8, 0, 0],
+        WireFault::BadBody),
 ];
 
-// Counts of 0, 1, 2 and 4294967295 with the bytes of one entry: only 1 agrees with them.
-#[test]
-fn a_filter_has_as_many_entries_as_it_counts(rt: HostRuntime) -> Result<(), Fail> {
-    let (_, frame) = FILTERS.split_at(20);
-    for count in [0, 2, 4_294_967_295_u32] {
-        let mut bytes = Vec::from_slice(rt.alloc(), &frame[..16])?;
-        bytes.extend_from_slice(&count.to_le_bytes())?;
-        bytes.extend_from_slice(&frame[20..])?;
-        check_fault(&rt, rt.alloc(), &bytes, WireFault::BadBody);
-    }
-    let mut short = Vec::from_slice(rt.alloc(), &[0x3b, 0, 0, 0])?;
-    short.extend_from_slice(&frame[4..63])?;
-    check_fault(&rt, rt.alloc(), &short, WireFault::BadBody);
-    Ok(())
-}
-
-#[test]
-fn faults_of_queue_asks_are_told(rt: HostRuntime) {
-    for (bytes, fault) in QUEUE_FAULTS {
-        check_fault(&rt, rt.alloc(), bytes, fault);
+/// Whether the piece is answered with this fault.
+fn is_refused(feed: &mut Feed, piece: &[u8], fault: WireFault) -> bool {
+    match feed.feed(piece) {
+        Err(found) => found == fault,
+        Ok(_) => false,
     }
 }
 
-// A fault is the answer where no good frame stands before it.
-fn check_fault(rt: &impl Abort, alloc: Global, bytes: &[u8], fault: WireFault) {
-    let mut feed = Feed::new(alloc);
-    assert_eq!(rt; feed.feed(bytes).err(), Some(fault), "{bytes:?}");
+/// Whether there is one frame in the piece, and this fault behind it.
+fn is_last(feed: &mut Feed, piece: &[u8], fault: WireFault) -> bool {
+    let is_one = match feed.feed(piece) {
+        Ok(frames) => frames.len() == 1,
+        Err(_) => false,
+    };
+    match feed.fault() {
+        Some(found) => is_one && found == fault,
+        None => false,
+    }
 }
 
-// Behind a good frame it shows afterwards, and is what later pieces are answered with.
-fn check_later_fault(
-    rt: &impl Abort,
-    alloc: Global,
-    bytes: &[u8],
-    fault: WireFault,
-) -> Result<(), Fail> {
-    let mut text = Vec::from_slice(alloc, &STREAM[59..])?;
+/// Whether the fault is the answer where no good frame stands before it. Behind a good frame it shows afterwards, and
+/// is what later pieces are answered with.
+fn is_told(alloc: Global, bytes: &[u8], fault: WireFault) -> Result<bool, AllocError> {
+    let mut text = Vec::from_slice(alloc, &READ)?;
     text.extend_from_slice(bytes)?;
     let mut feed = Feed::new(alloc);
-    assert_eq!(rt; feed.feed(&text)?.len(), 1, "{bytes:?}");
-    assert_eq!(rt; feed.fault(), Some(fault), "{bytes:?}");
-    assert_eq!(rt; feed.feed(&STREAM).err(), Some(fault), "{bytes:?}");
-    Ok(())
+    Ok(
+        is_refused(&mut Feed::new(alloc), bytes, fault)
+            && is_last(&mut feed, &text, fault)
+            && is_refused(&mut feed, &READ, fault),
+    )
 }
 
 #[test]
 fn faults_are_told_at_once_and_from_then_on(rt: HostRuntime) -> Result<(), Fail> {
-    for (bytes, fault) in FAULTS {
-        check_fault(&rt, rt.alloc(), bytes, fault);
-        check_later_fault(&rt, rt.alloc(), bytes, fault)?;
+    for (bytes, fault) in &FAULTS {
+        assert!(rt; is_told(rt.alloc(), bytes, *fault)?, "{bytes:?}");
     }
     Ok(())
 }

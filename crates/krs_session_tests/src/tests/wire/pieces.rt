@@ -1,44 +1,61 @@
 //! Streams that come in pieces.
-use super::streams::STREAMS;
-use krs_wire::{Feed, Framed, WireFault, encode_ask};
-use std::alloc::Global;
+use super::asks::asks;
+use krs_wire::{Feed, WireFault, encode_ask};
+use std::alloc::{AllocError, Global};
 use std::test::Fail;
 
-// The frames of these asks, one after the other.
-fn frames_of(alloc: Global, frames: &[Framed], text: &mut Vec<u8>) -> Result<(), WireFault> {
-    for framed in frames {
-        let frame = encode_ask(alloc, &framed.ask)?;
-        text.extend_from_slice(&frame)?;
+/// The frames of all asks, one after the other.
+fn all_frames(alloc: Global) -> Result<Vec<u8>, AllocError> {
+    let mut stream = Vec::new(alloc);
+    for (frame, _, _) in asks() {
+        stream.extend_from_slice(frame)?;
+    }
+    Ok(stream)
+}
+
+/// Takes a piece, and spells its asks behind the text.
+fn spell(
+    alloc: Global,
+    feed: &mut Feed,
+    piece: &[u8],
+    text: &mut Vec<u8>,
+) -> Result<(), WireFault> {
+    let frames = feed.feed(piece)?;
+    for framed in &frames {
+        text.extend_from_slice(&encode_ask(alloc, &framed.ask)?)?;
     }
     Ok(())
 }
 
+/// What is spelled of a stream that comes cut there.
+fn spelled_in_two(alloc: Global, stream: &[u8], cut: usize) -> Result<Vec<u8>, WireFault> {
+    let (mut feed, mut text) = (Feed::new(alloc), Vec::new(alloc));
+    let (front, back) = stream.split_at(cut.min(stream.len()));
+    spell(alloc, &mut feed, front, &mut text)?;
+    spell(alloc, &mut feed, back, &mut text)?;
+    match feed.fault() {
+        Some(fault) => Err(fault),
+        None => Ok(text),
+    }
+}
+
 #[test]
 fn a_stream_in_any_two_pieces_is_one_stream(rt: HostRuntime) -> Result<(), Fail> {
-    for stream in STREAMS {
-        for cut in 0..=stream.len() {
-            let (front, back) = stream.split_at(cut);
-            let mut feed = Feed::new(rt.alloc());
-            let mut text = Vec::new(rt.alloc());
-            frames_of(rt.alloc(), &feed.feed(front)?, &mut text)?;
-            frames_of(rt.alloc(), &feed.feed(back)?, &mut text)?;
-            assert_eq!(rt; text.as_slice(), stream, "cut at {cut}");
-            assert_eq!(rt; feed.fault(), None);
-        }
+    let stream = all_frames(rt.alloc())?;
+    for cut in 0..=stream.len() {
+        let text = spelled_in_two(rt.alloc(), &stream, cut)?;
+        assert!(rt; text.as_slice() == stream.as_slice(), "cut at {cut}");
     }
     Ok(())
 }
 
 #[test]
 fn a_stream_byte_by_byte_is_one_stream(rt: HostRuntime) -> Result<(), Fail> {
-    for stream in STREAMS {
-        let mut feed = Feed::new(rt.alloc());
-        let mut text = Vec::new(rt.alloc());
-        for byte in stream {
-            frames_of(rt.alloc(), &feed.feed(&[*byte])?, &mut text)?;
-        }
-        assert_eq!(rt; text.as_slice(), stream);
-        assert_eq!(rt; feed.fault(), None);
+    let (mut feed, mut text) = (Feed::new(rt.alloc()), Vec::new(rt.alloc()));
+    let stream = all_frames(rt.alloc())?;
+    for byte in &stream {
+        spell(rt.alloc(), &mut feed, &[*byte], &mut text)?;
     }
+    assert!(rt; text.as_slice() == stream.as_slice() && feed.fault().is_none());
     Ok(())
 }
