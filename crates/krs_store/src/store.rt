@@ -90,13 +90,6 @@ impl Store {
         }
     }
 
-    /// The clock is at least at this moment from now on, in seconds. Nothing else changes.
-    pub fn raise(&mut self, moment: u64)
-        ensures { self.new ≡ raised self.old moment }
-    {
-        self.tables.raise(moment);
-    }
-
     /// A law of every store: what holds of it between two asks.
     pub fn is_sound(&self)
         ensures { IsSound self.now }

@@ -1,5 +1,5 @@
 -- A posted call stands behind all that its seat had seen as it was posted.
-use Rattle.std.proofs.Common.{◌≡◌, ℕ, List, [], ◌∷◌, ◌++◌, Some, refl, sym, ap, ◌∙◌, subst, append_assoc}
+use Rattle.std.proofs.Common.{◌≡◌, ℕ, List, ◌∷◌, ◌++◌, refl, sym, ap, ◌∙◌, subst, append_assoc}
 use mathlib.Core.Option.{some}
 use lib.ListN.{get_elem?}
 use Rattle.krs_types.specs.declared.event.Event.{Event}
@@ -8,10 +8,9 @@ use Rattle.krs_model.specs.History.{event_of}
 use Rattle.krs_world.specs.declared.view.Cell.TheVariants.{Answered}
 use Rattle.krs_world.specs.declared.view.Part.{Part}
 use Rattle.krs_world.specs.declared.step.Kind.TheVariants.{Collect}
-use Rattle.krs_world.specs.declared.step.WorldStep.{WorldStep}
 use Rattle.krs_world.specs.Knowing.{one, collected}
 use Rattle.krs_world.specs.History.{Fits, StandsAfter}
-use Rattle.krs_world.specs.World.{World, new_world, Runs, StepsAs, IsHistory, IsOneHistory, cell_of}
+use Rattle.krs_world.specs.World.{World, new_world, IsOneHistory, cell_of}
 use Rattle.krs_world.specs.Order.{KeepsPostedOrder}
 use Rattle.krs_world.proofs.Keeping.{prefix_trans, set_at}
 use Rattle.krs_world.proofs.Worlds.{get_map, history_is, step_as, runs_keep, cell_at}

@@ -10,10 +10,12 @@ use Rattle.krs_types.specs.declared.errno.Errno.TheVariants.{ENOMEM}
 use Rattle.krs_types.specs.declared.ask.Answer.{Answer}
 use Rattle.krs_types.specs.declared.ask.Ask.{Ask}
 use Rattle.krs_types.specs.declared.ask.Op.{Op}
+use Rattle.krs_types.specs.declared.ask.Op.TheVariants.{OpenQueue}
 use Rattle.krs_types.specs.declared.event.Event.{Event}
 use Rattle.krs_types.specs.Growth.{grows}
 use Rattle.krs_model.specs.State.{State, raised}
 use Rattle.krs_model.specs.Outcome.{Outcome}
+use Rattle.krs_model.specs.Asks.Watching.{open_queue, opened}
 use Rattle.krs_model.specs.Step.{Step, Ends, LacksMemory, outcome_of}
 use Rattle.krs_model.specs.History.{event_of}
 use Rattle.krs_model.proofs.History.Steps.{refusal_stays}
@@ -63,6 +65,14 @@ answered_else old new other event reply step differs memory found replayed = ⊎
     (λ (s : Step old event other). differs (sym (only_reply old other new event
     (event_of event.lane event.moment event.ask reply) refl refl refl s step found memory)))
     (λ (t : FoundNoMemory event × (other ≡ raised old event.moment)). found t.0) replayed
+
+-- a queue of no records is refused in every store
+pub none_held : (old new : State) (lane moment context : ℕ) (reply : Result Answer Errno)
+    → Step old (event_of lane moment (record { context = context; op = OpenQueue 0 }) reply) new
+    → new ≡ raised old moment
+unfolding Step open_queue opened
+none_held old new lane moment context (Ok answer) step = absurd (let is = step.meant in cc)
+none_held old new lane moment context (Err e) step = step.1
 
 -- an event leads to one state
 stays : (old new : State) (event : Event) → Step old event new → FoundNoMemory event → new ≡ raised old event.moment

@@ -1,5 +1,5 @@
 use Rattle.krs_world.proofs.Orders.{only_grows}
-use Rattle.krs_world.proofs.law.the_history_only_grows.Goals as goal
+use Rattle.krs_world.proofs.laws.the_history_only_grows.Goals as goal
 
 pub returns : goal.returns
 returns c = only_grows
