@@ -6,10 +6,10 @@ use Rattle.krs_desk.specs.Sitting.{Sitting, EndsIn}
 use Rattle.krs_desk.specs.Seated.{Me, sitting_of}
 use Rattle.krs_desk.specs.Helping.{Had}
 
--- it ends a legal list that begins with what the seat had seen
+-- it ends a legal list that begins with what the seat had seen, and has its calls
 pub ends_in :
     (table : TableId) (m n : Me) (s : Sitting) (store : State) → sitting_of table m ≡ s → Had m n store
     → EndsIn s store
 ends_in table m n s store view had =
     subst (λ (z : Sitting). EndsIn z store) view
-    record { log = had.log; legal = had.found.legal; seen = had.found.seen }
+    record { log = had.log; legal = had.found.legal; seen = had.found.seen; own = had.found.mine }

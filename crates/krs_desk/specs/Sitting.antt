@@ -81,8 +81,8 @@ pub record Collects (s : Sitting) (reply : Result Answer Errno) (t : Sitting) : 
 abbrev pub HasItsCalls : Sitting → Type 0
 HasItsCalls s = s.part.flight ≡ None → events_of s.part.lane s.part.seen ≡ s.part.mine
 
--- Two seats met: both have seen one list, which is legal from the one opening state, begins with what either had seen,
--- and has just the calls of each. Nothing else that they know has changed.
+-- Two seats met: both have seen one list, which is legal from the first one's opening state, begins with what either had
+-- seen, and has just the calls of each. That opening state is then both's; nothing else that they know has changed.
 pub record Meets (s t new_s new_t : Sitting) : Type 0 where
   pub opening : (new_s.opening ≡ s.opening) × (new_t.opening ≡ s.opening)
   pub log : List Event
@@ -93,8 +93,10 @@ pub record Meets (s t new_s new_t : Sitting) : Type 0 where
   pub second : Begins t.part.seen log
   pub own : HasItsCalls new_s × HasItsCalls new_t
 
--- the store is the end of a legal list, which begins with what the seat had seen
+-- the store is the end of a legal list, which begins with what the seat had seen, and has just the seat's own calls,
+-- where none is in flight
 pub record EndsIn (s : Sitting) (store : State) : Type 0 where
   pub log : List Event
   pub legal : IsLegal s.opening log store
   pub seen : Begins s.part.seen log
+  pub own : s.part.flight ≡ None → events_of s.part.lane log ≡ s.part.mine

@@ -133,8 +133,7 @@ impl Desk {
     }
 
     /// Asks the store in a turn of its own, after each call that is posted. Where the turn is taken again and again it
-    /// posts the call, and helps or waits until it is answered. Whoever has the turn answers all calls that are posted.
-    /// For a seat that has no call in flight.
+    /// posts the call, and helps or waits until it is answered.
     pub fn call<R: Wait>(&self, rt: &R, seat: &mut Seat, moment: u64, ask: Ask) -> Reply
         requires table { seat.old.table ≡ self.now }
         requires idle { seat.old.part.flight ≡ None }

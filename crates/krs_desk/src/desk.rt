@@ -127,8 +127,8 @@ impl Desk {
         reply
     }
 
-    /// Asks the store, where the turn is free. The ask comes back where it is found taken. For a seat that has no call
-    /// in flight.
+    /// Asks the store, where the turn is free, and answers no posted call. The ask comes back where the turn is found
+    /// taken.
     pub fn try_call(&self, seat: &mut Seat, moment: u64, ask: Ask) -> Result<Reply, Ask>
         requires table { seat.old.table ≡ self.now }
         requires idle { seat.old.part.flight ≡ None }

@@ -1,4 +1,4 @@
-//! Whoever has the turn answers all calls that are posted.
+//! A turn of `call` or `help` answers the calls that it finds posted.
 ghost use Rattle.std.specs.Prelude.{◌≡◌, ◌≢◌, ◌+◌, ◌≤◌, ◌<◌, [], IfOk, IfErr};
 ghost use Rattle.atomic_table.specs.Table.{rest};
 ghost use Rattle.krs_model.specs.History.{event_of};

@@ -1,6 +1,6 @@
 //! A store that any number of threads share, each by a seat of its own. There is one history of all calls: each reply
 //! is the sequential store's at one point of it, and a contract sees a seat as what it knows of that history. A call
-//! may be posted, and is then answered by whoever has the turn.
+//! may be posted, and is then answered in a turn of `call` or `help`.
 #![tactic(auto)]
 
 mod calling;

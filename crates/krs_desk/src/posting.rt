@@ -9,7 +9,7 @@ use crate::seat::Seat;
 use krs_types::{Ask, Reply};
 
 impl Desk {
-    /// Leaves a call for whoever has the turn. For a seat that has no call in flight.
+    /// Leaves a call to be answered in a turn of `call` or `help`.
     pub fn post(&self, seat: &mut Seat, moment: u64, ask: Ask)
         requires table { seat.old.table ≡ self.now }
         requires idle { seat.old.part.flight ≡ None }
@@ -22,8 +22,7 @@ impl Desk {
         seat.idle = false;
     }
 
-    /// The reply to the call in flight, where it was answered. If there is none, the seat is as it was, and its own
-    /// help has not seen the call answered.
+    /// The reply to the call in flight, where it was answered.
     pub fn collect(&self, seat: &mut Seat) -> Option<Reply>
         requires table { seat.old.table ≡ self.now }
         ensures table { seat.new.table ≡ seat.old.table }

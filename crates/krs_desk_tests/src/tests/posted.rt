@@ -1,4 +1,4 @@
-//! Calls that are posted: one seat posts, and whoever has the turn answers.
+//! Calls that are posted: one seat posts, and another answers in a turn of `help` or `call`.
 ghost use Rattle.std.specs.Prelude.{◌≡◌};
 ghost use Rattle.krs_desk.specs.Sitting.{IsIdleAt};
 
@@ -68,6 +68,17 @@ fn one_turn_answers_all_that_is_posted(rt: HostRuntime) -> Result<(), Fail> {
     assert!(rt; desk.help(&mut third) == Helped::Took(2));
     assert!(rt; gives(desk.collect(&mut first), 5));
     assert!(rt; gives(desk.collect(&mut second), 2));
+    Ok(())
+}
+
+// A call in a turn of its own answers what another lane has posted, before its own ask.
+#[test]
+fn a_call_answers_what_is_posted(rt: HostRuntime) -> Result<(), Fail> {
+    let alloc = rt.alloc();
+    let (desk, mut first, mut second) = two_seats(alloc, Store::new(alloc)).ok_or("no desk")?;
+    assert_eq!(rt; post_first(&rt, alloc, &desk, &mut first, b"a")?, 1);
+    assert_eq!(rt; number_of(&desk.call(&rt, &mut second, 0, hello(alloc, 1000))), 2);
+    assert!(rt; gives(desk.collect(&mut first), 5));
     Ok(())
 }
 
