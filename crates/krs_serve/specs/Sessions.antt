@@ -4,16 +4,7 @@ use Rattle.krs_types.specs.declared.event.Event.{Event}
 use Rattle.krs_wire.specs.declared.fault.WireFault.TheVariants.{Memory}
 use Rattle.krs_session.specs.declared.ended.Ended.{Ended}
 use Rattle.krs_session.specs.declared.ended.Ended.TheVariants.{Wire}
-use Rattle.krs_session.specs.Session.{Session, Counts, EndsBy}
-
--- what a reader and a writer have counted
-abbrev pub counts_of : {R W : Type 0} → (R → ℕ) → (R → ℕ) → (R → ℕ) → (W → ℕ) → R → W → Counts
-counts_of reads empties failed_reads failed_writes reader writer = record {
-  reads = reads reader;
-  empties = empties reader;
-  failed_reads = failed_reads reader;
-  failed_writes = failed_writes writer;
-}
+use Rattle.krs_session.specs.Session.{Session, EndsBy, counts_of}
 
 -- From this reader, seat, clock and writer a session of so many reads at most ended so, whatever it left of them. Its
 -- events are what its frames ask, in order, and then LEAVE. Why it ended is what its ends counted.

@@ -6,7 +6,8 @@ use krs_session::Clock;
 use std::io;
 use std::time::{SystemTime, UNIX_EPOCH};
 
-/// The system's clock in whole seconds since 1970: its last answer where it fails, and 0 where there was none.
+/// The system's clock in whole seconds since 1970: its last answer where it fails, and 0 where there was none. Profile,
+/// server's clock.
 #[derive(Drop)]
 pub struct SystemClock<'r, R> {
     rt: &'r R,

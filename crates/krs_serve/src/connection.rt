@@ -2,8 +2,7 @@ ghost use Rattle.std.specs.Prelude.{◌≡◌, ◌<◌, ◌≤◌, ◌+◌, ◌-
 ghost use Rattle.krs_types.specs.declared.event.Event.{Event};
 ghost use Rattle.krs_wire.specs.declared.framed.Framed.{Framed};
 ghost use Rattle.krs_session.specs.Leads.{Leads, GainsSession};
-ghost use Rattle.krs_session.specs.Session.{Session, EndsBy};
-ghost use Rattle.krs_serve.specs.Sessions.{counts_of};
+ghost use Rattle.krs_session.specs.Session.{Session, EndsBy, counts_of};
 
 use crate::{OpenGate, Sitting, SystemClock};
 use krs_session::{Clock, Ended, Over, Sink, Source, a_session_is_its_asks_and_leave, run};

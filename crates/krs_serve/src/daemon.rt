@@ -104,6 +104,14 @@ fn connections_for(accept: Option<u32>) -> u64
     }
 }
 
+/// Binds the path. An empty one the system would take for a name of its own choice, which no folder protects.
+fn bound(rt: &(impl Files + Net), path: &str) -> Option<UnixListener> {
+    if path.is_empty() {
+        return None;
+    }
+    UnixListener::bind(rt, path).ok()
+}
+
 /// Serves connections on a new store as the options say, and answers the status: docs/FORMAT.md, "The daemon,
 /// keyretaind". The memory for its seats and its lines is had before the path is bound.
 pub fn listen<R: Clock + Files + Net + RandomSource + Threads + Wait + Sync, W: Write>(
@@ -125,7 +133,7 @@ pub fn listen<R: Clock + Files + Net + RandomSource + Threads + Wait + Sync, W: 
         output.say(OUT_OF_MEMORY);
         return 1;
     };
-    let Ok(listener) = UnixListener::bind(rt, path) else {
+    let Some(listener) = bound(rt, path) else {
         output.say(NOT_BOUND);
         return 3;
     };

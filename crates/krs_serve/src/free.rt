@@ -3,7 +3,7 @@ ghost use Rattle.std.specs.Prelude.{◌≡◌, ◌<◌, ◌++◌, ◌∷◌, [],
 use crate::Sitting;
 use std::sync::{Condvar, Mutex, Wait};
 
-/// The seats on which no worker sits.
+/// The seats on which no connection is served.
 #[derive(Drop)]
 pub struct FreeSeats<'d> {
     seats: Mutex<Vec<Sitting<'d>>>,

@@ -1,4 +1,4 @@
-//! The daemon: connections of a socket, each in a worker of its own, on the seats of one desk.
+//! The daemon: connections of a socket, each in a thread of its own, on the seats of one desk.
 #![tactic(auto)]
 
 mod choice;

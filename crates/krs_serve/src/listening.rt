@@ -20,8 +20,8 @@ pub enum Accepted {
     Failed,
 }
 
-/// Accepts so many connections and serves each in a worker of its own, on a free seat that it waits for. Where no
-/// worker can be started the connection is served before the next accept.
+/// Accepts so many connections and serves each in a thread of its own, on a free seat that it waits for. Where no
+/// thread can be started the connection is served before the next accept.
 fn accept_each<'s, 'd, E, R: Threads + Wait + Clock + Sync>(
     rt: &'s R,
     alloc: Global,
@@ -36,8 +36,8 @@ fn accept_each<'s, 'd, E, R: Threads + Wait + Clock + Sync>(
             free.give(rt, sitting);
             return Accepted::Failed;
         };
-        let worker = move || free.give(rt, serve_connection(rt, alloc, stream, sitting));
-        if let Err(refused) = scope.spawn(worker) {
+        let serving = move || free.give(rt, serve_connection(rt, alloc, stream, sitting));
+        if let Err(refused) = scope.spawn(serving) {
             (refused.value)();
         }
     }

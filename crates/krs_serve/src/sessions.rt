@@ -17,7 +17,7 @@ pub struct Entry<R: Drop, W: Drop, C: Drop> {
     pub clock: C,
 }
 
-/// Serves many connections at once, each in a worker of its own and on the seat of its place, and answers how they
+/// Serves many connections at once, each in a thread of its own and on the seat of its place, and answers how they
 /// ended, in the order of the list. Where no thread can be made for a connection it is served after another one. Where
 /// memory is refused, every session that began has ended, with its LEAVE asked.
 pub fn run_sessions<
@@ -82,7 +82,7 @@ fn jobs_of<E: Drop, S: Drop>(
     Ok(jobs)
 }
 
-/// Serves each of these in a worker of its own.
+/// Serves each of these in a thread of its own.
 fn serve_jobs<
     H: Threads + Sync,
     R: Source + Send + Drop,

@@ -13,8 +13,9 @@ use Rattle.krs_wire.specs.Feeding.{Feeds, Refuses, fault_of}
 use Rattle.krs_session.specs.declared.ended.Ended.{Ended}
 use Rattle.krs_session.specs.declared.ended.Ended.TheVariants.{Closed, Wire, Read, Write, Memory, Turns}
 use Rattle.krs_session.specs.Events.{asks_of, asks_in, replies_of, session_text}
-use Rattle.krs_session.specs.Session.{AreFirst, ServesBytes}
-use Rattle.krs_session.specs.Serving.{Asked, Wrote, StopsBy, PieceEndsBy, PieceServes, FeedsMore, Served, Finished}
+use Rattle.krs_session.specs.Session.{AreFirst, ServesBytes, Counts, EndsBy, counted}
+use Rattle.krs_session.specs.Serving.{Asked, Wrote, StopsBy, PieceEndsBy, TurnEndsBy, PieceServes, FeedsMore, Served}
+use Rattle.krs_session.specs.Serving.{Finished}
 use Rattle.krs_session.proofs.JoinLemmas.{Joins, asked_joins, front_joins, text_joins}
 
 pub refused_more : (old : End) (piece : List ℕ) (fault : WireFault) → fault_of old ≡ None → Refuses old piece fault
@@ -47,6 +48,30 @@ stopped_ends old new Closed by = absurd by
 stopped_ends old new (Wire fault) by = absurd by
 stopped_ends old new Read by = absurd by
 stopped_ends old new Turns by = absurd by
+
+-- what is counted as a session ends is so whatever number of reads came before
+counted_on : (first before : Counts) (reads : ℕ) (ended : Ended) → before ≡ record first { reads = before.reads }
+    → record (counted before ended) { reads = reads } ≡ record (counted first ended) { reads = reads }
+counted_on first before reads Closed same = ap (λ (c : Counts). record (counted c Closed) { reads = reads }) same
+counted_on first before reads Read same = ap (λ (c : Counts). record (counted c Read) { reads = reads }) same
+counted_on first before reads Write same = ap (λ (c : Counts). record (counted c Write) { reads = reads }) same
+counted_on first before reads Memory same = ap (λ (c : Counts). record c { reads = reads }) same
+counted_on first before reads Turns same = ap (λ (c : Counts). record c { reads = reads }) same
+counted_on first before reads (Wire fault) same = ap (λ (c : Counts). record c { reads = reads }) same
+
+-- what ends a turn ends the session, where beside reads nothing was counted before it
+pub turn_ends : (turns : ℕ) (first before after : Counts) (ended : Ended) → TurnEndsBy before after (Some ended)
+    → before.empties ≡ first.empties → before.failed_reads ≡ first.failed_reads
+    → before.failed_writes ≡ first.failed_writes → EndsBy turns first after ended
+turn_ends turns first before after ended by empties reads writes = record {
+  only = by.0 ∙ counted_on first before after.reads ended (λ i. record {
+    reads = before.reads;
+    empties = empties i;
+    failed_reads = reads i;
+    failed_writes = writes i;
+  });
+  over = λ is. absurd (by.1 is);
+}
 
 pub stopped_unwired : (old new : ℕ) (stop : Ended) → StopsBy old new (Some stop)
     → Some stop ≡ Some (Wire faults.Memory) → ⊥

@@ -1,5 +1,5 @@
 -- What the parts of a session did: relations between what its ends, its seat and its clock were before and after.
-use Rattle.std.specs.Prelude.{◌≡◌, ◌+◌, ◌*◌, ◌<◌, ◌≤◌, length, ℕ, List, [], ◌++◌, ◌⊎◌, Option, Some, None}
+use Rattle.std.specs.Prelude.{◌≡◌, ◌≢◌, ◌+◌, ◌*◌, ◌≤◌, length, ℕ, List, [], ◌++◌, ◌⊎◌, Option, Some, None}
 use Rattle.krs_types.specs.declared.event.Event.{Event}
 use Rattle.krs_wire.specs.declared.framed.Framed.{Framed}
 use Rattle.krs_wire.specs.Frame.{End, rest, bad, Frames}
@@ -7,7 +7,7 @@ use Rattle.krs_wire.specs.Feeding.{Feeds, fault_of}
 use Rattle.krs_session.specs.declared.ended.Ended.{Ended}
 use Rattle.krs_session.specs.declared.ended.Ended.TheVariants.{Closed, Wire, Read, Write, Memory, Turns}
 use Rattle.krs_session.specs.Events.{asks_of, asks_in, moments_of, replies_of, session_text, AllOfLane}
-use Rattle.krs_session.specs.Session.{TookFront, ServesBytes, Counts}
+use Rattle.krs_session.specs.Session.{TookFront, ServesBytes, Counts, counted}
 
 -- the seat's new events: its lane's, at the clock's answers in order
 pub record Asked {S C : Type 0} (leads : S → List Event → S → Type 0) (ticked : C → List ℕ → C → Type 0) (lane : ℕ)
@@ -118,17 +118,10 @@ PieceEndsBy old new (Some Closed) = ⊥
 PieceEndsBy old new (Some Read) = ⊥
 PieceEndsBy old new (Some Turns) = ⊥
 
--- what ends a turn, by what the ends had counted before it and after it
+-- what ends a turn, by what the ends had counted before it and after it: beside reads just that
 abbrev pub TurnEndsBy : Counts → Counts → Option Ended → Type 0
-TurnEndsBy before after None =
-    (after.empties ≡ before.empties) × (after.failed_reads ≡ before.failed_reads)
-    × (after.failed_writes ≡ before.failed_writes)
-TurnEndsBy before after (Some Closed) = before.empties < after.empties
-TurnEndsBy before after (Some Read) = before.failed_reads < after.failed_reads
-TurnEndsBy before after (Some Write) = before.failed_writes < after.failed_writes
-TurnEndsBy before after (Some Memory) = Unit {0}
-TurnEndsBy before after (Some (Wire fault)) = Unit {0}
-TurnEndsBy before after (Some Turns) = ⊥
+TurnEndsBy before after None = after ≡ record before { reads = after.reads }
+TurnEndsBy before after (Some ended) = (after ≡ record (counted before ended) { reads = after.reads }) × (ended ≢ Turns)
 
 -- a whole session but for its LEAVE; a read gives at most 4096 bytes
 pub record Finished {R S C W : Type 0} (gave : R → List ℕ → R → Type 0) (leads : S → List Event → S → Type 0)

@@ -1,5 +1,5 @@
 -- What a whole session did: docs/FORMAT.md, "A connection".
-use Rattle.std.specs.Prelude.{◌≡◌, ◌+◌, ◌*◌, ◌<◌, ◌≤◌, length, ℕ, List, [], ◌∷◌, ◌++◌, ◌⊎◌}
+use Rattle.std.specs.Prelude.{◌≡◌, ◌+◌, ◌*◌, ◌≤◌, length, ℕ, List, [], ◌∷◌, ◌++◌, ◌⊎◌}
 use Rattle.krs_types.specs.declared.event.Event.{Event}
 use Rattle.krs_types.specs.declared.ask.Ask.{Ask}
 use Rattle.krs_types.specs.declared.ask.Op.TheVariants.{Leave}
@@ -69,11 +69,26 @@ pub record Counts : Type 0 where
   pub failed_reads : ℕ
   pub failed_writes : ℕ
 
--- why a session ended, by what its ends had counted before it and after it
-abbrev pub EndsBy : ℕ → Counts → Counts → Ended → Type 0
-EndsBy turns before after Turns = after.reads ≡ before.reads + turns
-EndsBy turns before after Closed = before.empties < after.empties
-EndsBy turns before after Read = before.failed_reads < after.failed_reads
-EndsBy turns before after Write = before.failed_writes < after.failed_writes
-EndsBy turns before after Memory = Unit {0}
-EndsBy turns before after (Wire fault) = Unit {0}
+-- what a reader and a writer have counted
+abbrev pub counts_of : {R W : Type 0} → (R → ℕ) → (R → ℕ) → (R → ℕ) → (W → ℕ) → R → W → Counts
+counts_of reads empties failed_reads failed_writes reader writer = record {
+  reads = reads reader;
+  empties = empties reader;
+  failed_reads = failed_reads reader;
+  failed_writes = failed_writes writer;
+}
+
+-- what is counted beside reads where a session ends so: what ended it, where its ends did
+abbrev pub counted : Counts → Ended → Counts
+counted before Closed = record before { empties = before.empties + 1 }
+counted before Read = record before { failed_reads = before.failed_reads + 1 }
+counted before Write = record before { failed_writes = before.failed_writes + 1 }
+counted before Memory = before
+counted before Turns = before
+counted before (Wire fault) = before
+
+-- Why a session ended, by what its ends had counted before it and after it: beside reads just what ended it, and all
+-- turns where these are over.
+pub record EndsBy (turns : ℕ) (before after : Counts) (ended : Ended) : Type 0 where
+  pub only : after ≡ record (counted before ended) { reads = after.reads }
+  pub over : ended ≡ Turns → after.reads ≡ before.reads + turns

@@ -1,7 +1,7 @@
 // A session: turns of one read each, and LEAVE.
 ghost use Rattle.std.specs.Prelude.{◌≡◌, ◌≢◌, ◌<◌, ◌≤◌, ◌+◌, ◌-◌, ◌^◌, ℕ, List, length};
 ghost use Rattle.krs_wire.specs.Feeding.{fault_of};
-ghost use Rattle.krs_session.specs.Session.{Session, EndsBy};
+ghost use Rattle.krs_session.specs.Session.{Session, EndsBy, counts_of};
 ghost use Rattle.krs_session.specs.Serving.{Served, PieceEndsBy, TurnEndsBy, Finished};
 
 use crate::asking::{Setting, answer_all, ask_one};
@@ -10,7 +10,7 @@ use krs_types::{Ask, Op};
 use krs_wire::{Feed, WireFault};
 use std::alloc::Global;
 
-/// How many bytes a turn reads at most.
+/// How many bytes a turn reads at most: docs/FORMAT.md, "A connection".
 const READ_SIZE: usize = 4096;
 
 /// Cuts a piece of the stream, asks what its frames ask, and writes the replies. What ends the session is the answer.
@@ -69,17 +69,9 @@ fn turn<H, R: Source, W: Sink, S, D: Keeper<S, H>, C: Clock, G: Gate>(
         × Served D.leads C.ticked W.took (D.lane_of seat.old)
         seat.old seat.new clock.old clock.new writer.old writer.new feed.old feed.new bytes result }
     ensures reads { R.reads reader.new ≡ R.reads reader.old + 1 }
-    ensures count { TurnEndsBy (record {
-      reads = R.reads reader.old;
-      empties = R.empties reader.old;
-      failed_reads = R.failures reader.old;
-      failed_writes = W.failures writer.old;
-    }) (record {
-      reads = R.reads reader.new;
-      empties = R.empties reader.new;
-      failed_reads = R.failures reader.new;
-      failed_writes = W.failures writer.new;
-    }) result }
+    ensures count { TurnEndsBy
+        (counts_of R.reads R.empties R.failures W.failures reader.old writer.old)
+        (counts_of R.reads R.empties R.failures W.failures reader.new writer.new) result }
     ensures not_wire { result ≢ Some (Ended.Wire WireFault.Memory) }
     ensures ready { D.ready setting.now.desk.now seat.new }
     ensures lane { D.lane_of seat.new ≡ D.lane_of seat.old }
@@ -112,17 +104,9 @@ fn serve<H, R: Source, W: Sink, S, D: Keeper<S, H>, C: Clock, G: Gate>(
     ensures finished { Finished R.gave D.leads C.ticked W.took (D.lane_of seat.old)
         (R.reads reader.new - R.reads reader.old)
         reader.old reader.new seat.old seat.new clock.old clock.new writer.old writer.new result }
-    ensures count { EndsBy turns (record {
-      reads = R.reads reader.old;
-      empties = R.empties reader.old;
-      failed_reads = R.failures reader.old;
-      failed_writes = W.failures writer.old;
-    }) (record {
-      reads = R.reads reader.new;
-      empties = R.empties reader.new;
-      failed_reads = R.failures reader.new;
-      failed_writes = W.failures writer.new;
-    }) result }
+    ensures count { EndsBy turns
+        (counts_of R.reads R.empties R.failures W.failures reader.old writer.old)
+        (counts_of R.reads R.empties R.failures W.failures reader.new writer.new) result }
     ensures bounded { R.reads reader.new ≤ R.reads reader.old + turns }
     ensures not_wire { result ≢ Ended.Wire WireFault.Memory }
     ensures ready { D.ready setting.now.desk.now seat.new }
@@ -169,17 +153,9 @@ pub fn run<H, R: Source, W: Sink, S, D: Keeper<S, H>, C: Clock, G: Gate>(
         (D.lane_of seat.old) (R.reads reader.new - R.reads reader.old) result }
 
     // Why it ended, by the counts of its ends, and how many reads it made at most, however it ended.
-    ensures count { EndsBy turns (record {
-      reads = R.reads reader.old;
-      empties = R.empties reader.old;
-      failed_reads = R.failures reader.old;
-      failed_writes = W.failures writer.old;
-    }) (record {
-      reads = R.reads reader.new;
-      empties = R.empties reader.new;
-      failed_reads = R.failures reader.new;
-      failed_writes = W.failures writer.new;
-    }) result }
+    ensures count { EndsBy turns
+        (counts_of R.reads R.empties R.failures W.failures reader.old writer.old)
+        (counts_of R.reads R.empties R.failures W.failures reader.new writer.new) result }
     ensures bounded { R.reads reader.new ≤ R.reads reader.old + turns }
     ensures not_wire { result ≢ Ended.Wire WireFault.Memory }
     ensures ready { D.ready desk.now seat.new }

@@ -8,7 +8,7 @@ use crate::{Ended, Failed, Sink};
 use krs_types::Reply;
 use krs_wire::append_reply;
 
-/// The replies that are held are written before the next ask from so many bytes on.
+/// The replies that are held are written before the next ask from so many bytes on: docs/FORMAT.md, "A connection".
 const FLUSH_SIZE: usize = 65_536;
 
 /// Writes all the bytes, or as many as the writer took before it failed.

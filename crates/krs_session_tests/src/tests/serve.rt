@@ -139,7 +139,7 @@ fn entries_of<'a, R: Wait>(
     Ok(list)
 }
 
-/// As many sessions at one desk, each in a worker of its own: how they ended, and what each wrote.
+/// As many sessions at one desk, each in a thread of its own: how they ended, and what each wrote.
 fn serve_at_once<R: Threads + Wait + Sync, G: Gate + Sync>(
     rt: &R,
     alloc: Global,

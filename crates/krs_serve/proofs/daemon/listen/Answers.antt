@@ -9,8 +9,8 @@ returns-in_default g c = inl (c.say.ensures, refl)
 pub returns-in_default-2 : goal.returns-in_default-2
 returns-in_default-2 g c = inl (c.say-in_default-2.ensures, refl)
 
-pub returns-in_default-bind : goal.returns-in_default-bind
-returns-in_default-bind g c = inr (inl (c.say-in_default-bind.ensures, refl))
+pub returns-in_default-bound : goal.returns-in_default-bound
+returns-in_default-bound g c = inr (inl (c.say-in_default-bound.ensures, refl))
 
 pub returns-in-All : goal.returns-in-All
 returns-in-All g c = inr (inr (

@@ -1,6 +1,7 @@
 use Rattle.std.proofs.Common.{ap, ◌∙◌, refl, arith}
 use Rattle.krs_wire.specs.Feeding.{fault_of}
-use Rattle.krs_session.proofs.PieceLemmas.{so_far_none, so_far_more, so_far_ends}
+use Rattle.krs_session.specs.Session.{Counts}
+use Rattle.krs_session.proofs.PieceLemmas.{so_far_none, so_far_more, so_far_ends, turn_ends}
 use Rattle.krs_session.proofs.session.serve.Goals as goal
 
 pub loop-made-init : goal.loop-made-init
@@ -37,9 +38,14 @@ loop-made-preserved g c =
           _ _ _ _ _ _ _ _ _ _ _ _ _ _ _ _ _ e.served.0 i.unfailed i.state e.served.1 e.served.2 i.lane e.served.3;
       unfailed = e.served.3.served.1;
       reads = omega (arith, e.reads, i.reads);
-      empties = e.count.0 ∙ i.empties;
-      read_failures = e.count.1 ∙ i.read_failures;
-      failures = e.count.2 ∙ i.failures;
+      empties = ap (λ (n : Counts). n.empties) e.count ∙ i.empties;
+      read_failures = ap (λ (n : Counts). n.failed_reads) e.count ∙ i.read_failures;
+      failures = ap (λ (n : Counts). n.failed_writes) e.count ∙ i.failures;
       ready = e.ready;
       lane = e.lane ∙ i.lane;
     }
+
+pub returns-in-Some-clause-count : goal.returns-in-Some-clause-count
+returns-in-Some-clause-count g c =
+    let i = c.loop-made.invariant in
+    turn_ends _ _ _ _ c.in-Some.ended c.in-Some.ensures.count i.empties i.read_failures i.failures
