@@ -78,7 +78,8 @@ try_remote_scripts() {
   runs_script 'remote script: an ask that fits no frame' 2 $'usage\n' "add user a $(printf '%070000d' 0) @u"
   runs_script 'remote script: an empty line and a comment' 0 $'4\n' '' '# one' 'hello 1000 1000'
   prints 'remote script: a uid with script' 2 $'usage\n' --socket "$path" --uid 1 script </dev/null
-  for word in 'hello 1 1' 'context 1' 'moment 1' script frobnicate 'print' 'print x'; do
+  prints 'single call: words that look like options' 0 $'14\n' --socket "$path" add user -k --help @u </dev/null
+  for word in 'hello 1 1' 'context 1' 'moment 1' script frobnicate 'print' 'print x' 'id @u --uid 1'; do
     # shellcheck disable=SC2086 # these are words
     calls "single call: $word" 2 $'usage\n' $word
   done
@@ -109,6 +110,7 @@ try_paths() {
   is_refused 'a daemon on a file' "$path"
   is_refused 'a daemon in no folder' "$dir/none/krs.sock"
   is_refused 'a path that is too long' "$dir/$(printf '%0120d' 0)"
+  is_refused 'an empty path' ''
   start --accept 1
   is_refused 'a second daemon' "$path"
   is 'the path after a second daemon' there "$(path_state)"

@@ -204,6 +204,7 @@ fn command_line<'a>(alloc: Global) -> Result<Command<'a>, AllocError> {
     let words = Arg::new(alloc, WORDS)
         .action(ArgAction::Append)
         .num_args(0..)
+        .trailing_var_arg(true)
         .help(WORDS_HELP);
     Command::new(alloc, "keyretain")
         .version("0.1.0")
