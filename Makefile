@@ -1,4 +1,4 @@
-# The toolchain's command `rt` is on PATH; building and testing need nothing else but a shell.
+# The toolchain's command `rt` is on PATH. README.md says what else is needed.
 
 PREFIX = /usr/local
 DESTDIR =
