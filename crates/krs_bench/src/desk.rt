@@ -1,11 +1,10 @@
 //! Times calls of one thread and of many at one desk. Processor time is the shell's to tell, by `time`.
 ghost use Rattle.krs_desk.specs.Sitting.{IsIdleAt};
 
-use crate::ops::hello;
 use anyhow::{Result, bail};
 use krs_desk::{Desk, Seat};
 use krs_store::Store;
-use krs_types::{Answer, Ask, Op};
+use krs_types::{Answer, Ask, Caller, Groups, Op};
 use std::alloc::Global;
 use std::io::Print;
 use std::rt::Clock;
@@ -29,7 +28,7 @@ const ASKS: u32 = 1_000_000;
 /// How a thread has its asks served.
 #[derive(Clone, Copy)]
 enum Way {
-    /// By `call`: it posts, and whoever has the turn serves.
+    /// By `call`: in a turn of its own, which answers what is posted too; it posts only where the turn stays taken.
     Call,
     /// By `try_call` until the turn is had: each serves its own, and lets others go first meanwhile.
     Turns,
@@ -82,10 +81,16 @@ fn read(context: u32) -> Ask {
     }
 }
 
+/// HELLO of a uid.
 fn greeting(alloc: Global) -> Ask {
+    let groups = Groups::new(Vec::new(alloc));
     Ask {
         context: 0,
-        op: hello(alloc, 1000),
+        op: Op::Hello(Caller {
+            uid: 1000,
+            gid: 1000,
+            groups,
+        }),
     }
 }
 

@@ -1,11 +1,11 @@
 //! What asks cost in stores that have little and much.
 
 use crate::operation::OPERATIONS;
-use crate::stock::{Scene, accept, fill};
+use crate::stock::{Scene, accept, fill, filling};
 use crate::timing::{Plan, accepted, in_store, planned, run, stock};
 use anyhow::Result;
 use krs_store::Store;
-use krs_types::{Fault, Op};
+use krs_types::{Ask, Fault, Op};
 use std::io::Print;
 use std::rt::Clock;
 use std::time::{Duration, Instant};
@@ -60,7 +60,8 @@ fn print_table<R: AllocGlobal + Clock + Print>(
     rt: &R,
     mut stores: Vec<(Store, u32)>,
 ) -> Result<()> {
-    for (name, operation) in OPERATIONS {
+    for operation in OPERATIONS {
+        let name = operation.word();
         print!(rt; "{name:<10}")?;
         for (store, links) in &mut stores {
             let plan = Plan {
@@ -78,9 +79,10 @@ fn print_table<R: AllocGlobal + Clock + Print>(
 
 /// What an ADD costs while a keyring is filled with so many links, and what LEAVE costs for each of its keys.
 pub fn print_fill<R: AllocGlobal + Clock + Print>(rt: &R, links: u32) -> Result<()> {
+    let asks = accepted(filling(rt.alloc(), links))?;
     let mut store = Store::new(rt.alloc());
     let start = Instant::now(rt)?;
-    accepted(fill(&mut store, rt.alloc(), links))?;
+    accepted(fill(&mut store, asks))?;
     let filled = start.elapsed(rt)?;
     let start = Instant::now(rt)?;
     accepted(leave(&mut store))?;
@@ -92,7 +94,8 @@ pub fn print_fill<R: AllocGlobal + Clock + Print>(rt: &R, links: u32) -> Result<
 
 /// LEAVE of client 0.
 fn leave(store: &mut Store) -> Result<(), Fault> {
-    Ok(accept(store, 0, 0, Op::Leave)?)
+    let (context, op) = (0, Op::Leave);
+    Ok(accept(store, 0, Ask { context, op })?)
 }
 
 /// The nanoseconds of one of so many.
@@ -103,8 +106,8 @@ fn share(took: Duration, count: u32) -> u64 {
 
 /// Makes the rounds of an operation, for `bench/instructions` to count.
 pub fn count_rounds<R: AllocGlobal + Print>(rt: &R, name: &str, links: u32) -> Result<()> {
-    for (word, operation) in OPERATIONS {
-        if name == word {
+    for operation in OPERATIONS {
+        if name == operation.word() {
             let mut store = stock(rt, Scene::linking(links))?;
             let plan = Plan {
                 operation,

@@ -4,8 +4,8 @@
 
 mod desk;
 mod growth;
+mod lines;
 mod operation;
-mod ops;
 mod round;
 mod session;
 mod stock;
@@ -52,6 +52,7 @@ of an ask, or of two, in the store, and through a session over memory: the media
   growth    a table of all operations in stores with little and with much; or where the keyring has COUNT links
   desk      READ at a desk: one thread by try_call, and 1, 2, 4, 8 and 16 threads that call for a second
   count     makes an operation a hundred times, for bench/instructions
+  all       all operations, fill and growth
 ";
 
 fn main(rt: HostRuntime) -> Result<()> {
@@ -70,7 +71,7 @@ fn main(rt: HostRuntime) -> Result<()> {
     if name == "growth" || is_all {
         print_growth(&rt, second.parse().ok())?;
     }
-    if name == "desk" || is_all {
+    if name == "desk" {
         print_desk(&rt)?;
     }
     if !is_operation && name != "fill" && name != "growth" && name != "desk" {
@@ -86,9 +87,9 @@ fn print_operations<R: AllocGlobal + Clock + Print + Wait>(
     links: Option<u32>,
 ) -> Result<bool> {
     let mut is_there = false;
-    for (word, operation) in OPERATIONS {
-        if name == word || name == "all" {
-            print_rows(rt, word, operation, links)?;
+    for operation in OPERATIONS {
+        if name == operation.word() || name == "all" {
+            print_rows(rt, operation, links)?;
             is_there = true;
         }
     }
@@ -98,22 +99,20 @@ fn print_operations<R: AllocGlobal + Clock + Print + Wait>(
 /// The row of a count, or those of all.
 fn print_rows<R: AllocGlobal + Clock + Print + Wait>(
     rt: &R,
-    name: &str,
     operation: Operation,
     links: Option<u32>,
 ) -> Result<()> {
     if let Some(links) = links {
-        return print_row(rt, name, operation, links);
+        return print_row(rt, operation, links);
     }
     for links in COUNTS {
-        print_row(rt, name, operation, links)?;
+        print_row(rt, operation, links)?;
     }
     Ok(())
 }
 
 fn print_row<R: AllocGlobal + Clock + Print + Wait>(
     rt: &R,
-    name: &str,
     operation: Operation,
     links: u32,
 ) -> Result<()> {
@@ -124,6 +123,7 @@ fn print_row<R: AllocGlobal + Clock + Print + Wait>(
     };
     let mut store = stock(rt, Scene::linking(links))?;
     let took = in_store(rt, &mut store, plan)?;
+    let name = operation.word();
     print!(rt; "{name} with {links} links: {took} ns")?;
     // A session is one client's.
     if operation.client() == 0 {

@@ -1,8 +1,8 @@
 //! Stores to time asks on.
 
-use crate::ops::{USER, USER_SESSION, add, add_ring, hello, id_of, join, watched};
+use crate::lines::{Marks, read_ask, serial_at};
 use krs_store::Store;
-use krs_types::{Ask, Errno, Fault, Op};
+use krs_types::{Ask, Errno, Fault};
 use std::alloc::Global;
 
 /// The place, behind the linked keys, of the first key of client 2.
@@ -36,76 +36,99 @@ impl Scene {
     }
 }
 
+/// The spare key, the watched one and the small keyring of context 1, and two queues; context 2, of another uid, with
+/// a key and a keyring; context 3, which joined a keyring by a name; and context 4: each ask with its context.
+const FURNITURE: [(u32, &str); 12] = [
+    (1, "add user NEW DATA @us"),
+    (1, "add user WATCHED-DESC DATA @us"),
+    (1, "newring key-2 @us"),
+    (1, "open 16"),
+    (1, "open 16"),
+    (1, "watch WATCHED 1 1"),
+    (0, "hello 2000 2000"),
+    (2, "add user key-0 DATA @u"),
+    (2, "newring key-1 @u"),
+    (0, "hello 1000 1000"),
+    (3, "join shared"),
+    (0, "hello 1000 1000"),
+];
+
 /// A store whose client 0 has in context 1 the links of the scene, and in contexts 1 to 4 what else is asked about.
 pub fn stocked(alloc: Global, scene: Scene) -> Result<Store, Fault> {
     let mut store = Store::new(alloc);
-    fill(&mut store, alloc, scene.links)?;
-    furnish(&mut store, alloc, scene.links)?;
-    add_apart(&mut store, alloc)?;
-    add_joined(&mut store, alloc)?;
-    add_others(&mut store, alloc, scene)?;
-    add_contexts(&mut store, alloc, scene.contexts)?;
+    furnish(&mut store, alloc, scene)?;
     Ok(store)
 }
 
-/// Context 1, and the keys of its user keyring.
-pub fn fill(store: &mut Store, alloc: Global, links: u32) -> Result<(), Fault> {
-    accept_in(store, 0, hello(alloc, 1000))?;
+/// All that a scene has.
+fn furnish(store: &mut Store, alloc: Global, scene: Scene) -> Result<(), Fault> {
+    fill(store, filling(alloc, scene.links)?)?;
+    let marks = Marks::at(scene.links, 0);
+    for (context, line) in FURNITURE {
+        accept(store, 0, read_ask(alloc, &marks, context, line)?)?;
+    }
+    add_others(store, alloc, scene)?;
+    watch_others(store, alloc, scene)?;
+    add_contexts(store, alloc, scene.contexts)
+}
+
+/// The asks for context 1, and for the keys of its user keyring.
+pub fn filling(alloc: Global, links: u32) -> Result<Vec<Ask>, Fault> {
+    let mut asks = Vec::new(alloc);
+    asks.push(read_ask(alloc, &Marks::at(links, 0), 0, "hello 1000 1000")?)?;
     for place in 0..links {
-        accept_in(store, 1, add(alloc, place, USER)?)?;
+        let marks = Marks::at(links, place);
+        asks.push(read_ask(alloc, &marks, 1, "add user DESC DATA @u")?)?;
+    }
+    Ok(asks)
+}
+
+/// Client 0 makes these asks, and is accepted.
+pub fn fill(store: &mut Store, asks: Vec<Ask>) -> Result<(), Fault> {
+    for ask in asks {
+        accept(store, 0, ask)?;
     }
     Ok(())
 }
 
-/// The spare key, the watched one and the small keyring of context 1, and two queues.
-fn furnish(store: &mut Store, alloc: Global, links: u32) -> Result<(), Fault> {
-    accept_in(store, 1, add(alloc, links, USER_SESSION)?)?;
-    accept_in(store, 1, add(alloc, links.saturating_add(1), USER_SESSION)?)?;
-    accept_in(store, 1, add_ring(alloc, 2, USER_SESSION)?)?;
-    let (id, queue, watch) = (watched(links), 1, 1);
-    for _ in 0..2u32 {
-        accept_in(store, 1, Op::OpenQueue { capacity: 16 })?;
-    }
-    Ok(accept_in(store, 1, Op::Watch { id, queue, watch })?)
-}
-
-/// Context 2, of another uid, with a key and a keyring in its user keyring.
-fn add_apart(store: &mut Store, alloc: Global) -> Result<(), Fault> {
-    accept_in(store, 0, hello(alloc, 2000))?;
-    accept_in(store, 2, add(alloc, 0, USER)?)?;
-    Ok(accept_in(store, 2, add_ring(alloc, 1, USER)?)?)
-}
-
-/// Context 3, which joined a keyring by a name, and context 4.
-fn add_joined(store: &mut Store, alloc: Global) -> Result<(), Fault> {
-    accept_in(store, 0, hello(alloc, 1000))?;
-    accept_in(store, 3, join(alloc, b"shared")?)?;
-    Ok(accept_in(store, 0, hello(alloc, 1000))?)
-}
-
-/// Context 5, of client 2, with keyrings of keys, and a queue that watches some.
+/// Context 5, of client 2, with keyrings of keys.
 fn add_others(store: &mut Store, alloc: Global, scene: Scene) -> Result<(), Fault> {
-    accept(store, 2, 0, hello(alloc, 3000))?;
-    let first = scene.links.saturating_add(OTHERS);
+    let marks = Marks::at(scene.links, 0);
+    accept(store, 2, read_ask(alloc, &marks, 0, "hello 3000 3000")?)?;
     for place in 0..scene.others {
-        let (ring_place, key_place) = (place / IN_RING, place % IN_RING);
-        let ring = first.saturating_add(ring_place.saturating_mul(IN_RING));
-        if key_place == 0 {
-            accept(store, 2, 5, add_ring(alloc, ring_place, USER)?)?;
-        } else {
-            accept(store, 2, 5, add(alloc, key_place, id_of(ring))?)?;
-        }
+        accept(store, 2, other_key(alloc, scene.links, place)?)?;
     }
-    watch_others(store, first, scene.watches)
+    Ok(())
 }
 
-/// A queue of client 2 that watches so many of its keys.
-fn watch_others(store: &mut Store, first: u32, watches: u32) -> Result<(), Fault> {
-    accept(store, 2, 0, Op::OpenQueue { capacity: 16 })?;
-    for place in 0..watches {
-        let id = id_of(first.saturating_add(place));
-        let (queue, watch) = (3, 1);
-        accept(store, 2, 5, Op::Watch { id, queue, watch })?;
+/// The ask for a key of client 2, or for one of its keyrings, which stands before its keys.
+fn other_key(alloc: Global, links: u32, place: u32) -> Result<Ask, Fault> {
+    let (ring_place, key_place) = (place / IN_RING, place % IN_RING);
+    if key_place == 0 {
+        let marks = Marks::at(links, ring_place);
+        return read_ask(alloc, &marks, 5, "newring DESC @u");
+    }
+    let mut marks = Marks::at(links, key_place);
+    marks.serial = serial_at(other_place(links, ring_place.saturating_mul(IN_RING)));
+    read_ask(alloc, &marks, 5, "add user DESC DATA MADE")
+}
+
+/// The place, among all keys, of a key of client 2.
+fn other_place(links: u32, place: u32) -> u32 {
+    links.saturating_add(OTHERS).saturating_add(place)
+}
+
+/// A queue of client 2 that watches some of its keys.
+fn watch_others(store: &mut Store, alloc: Global, scene: Scene) -> Result<(), Fault> {
+    let links = scene.links;
+    accept(
+        store,
+        2,
+        read_ask(alloc, &Marks::at(links, 0), 0, "open 16")?,
+    )?;
+    for place in 0..scene.watches {
+        let marks = Marks::at(links, other_place(links, place));
+        accept(store, 2, read_ask(alloc, &marks, 5, "watch KEY 3 1")?)?;
     }
     Ok(())
 }
@@ -113,18 +136,14 @@ fn watch_others(store: &mut Store, first: u32, watches: u32) -> Result<(), Fault
 /// So many contexts of client 3.
 fn add_contexts(store: &mut Store, alloc: Global, contexts: u32) -> Result<(), Fault> {
     for _ in 0..contexts {
-        accept(store, 3, 0, hello(alloc, 4000))?;
+        let marks = Marks::at(0, 0);
+        accept(store, 3, read_ask(alloc, &marks, 0, "hello 4000 4000")?)?;
     }
     Ok(())
 }
 
-/// Client 0 asks, and is accepted.
-fn accept_in(store: &mut Store, context: u32, op: Op) -> Result<(), Errno> {
-    accept(store, 0, context, op)
-}
-
 /// A client asks, and is accepted.
-pub fn accept(store: &mut Store, client: u32, context: u32, op: Op) -> Result<(), Errno> {
-    let _ = store.apply(client, 0, Ask { context, op })?;
+pub fn accept(store: &mut Store, client: u32, ask: Ask) -> Result<(), Errno> {
+    let _ = store.apply(client, 0, ask)?;
     Ok(())
 }

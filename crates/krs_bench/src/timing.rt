@@ -59,7 +59,7 @@ pub fn stock<R: AllocGlobal>(rt: &R, scene: Scene) -> Result<Store> {
 pub fn planned<R: AllocGlobal>(rt: &R, store: &mut Store, plan: Plan) -> Result<Vec<Turn>> {
     let alloc = rt.alloc();
     let next = accepted(next_numbers(store, alloc, plan.links))?;
-    Ok(turns(alloc, plan.operation, plan.links, next, plan.rounds)?)
+    accepted(turns(alloc, plan.operation, next, plan.rounds))
 }
 
 /// Asks a store, and is accepted.
