@@ -9,7 +9,7 @@ abbrev pub is_over : ℕ → Option ℕ → Bool
 is_over clock None = false
 is_over clock (Some end) = nat_le end clock
 
--- neither revoked nor expired
+-- neither revoked nor expired: keyctl(2), "ERRORS", EKEYREVOKED and EKEYEXPIRED
 abbrev pub is_alive : ℕ → Key → Bool
 is_alive clock key = not key.revoked && not (is_over clock key.expiry)
 

@@ -1,10 +1,11 @@
 -- What the laws say of the definitions, in a form of this project's own: keyrings(7), "Possession", "Access rights"
 -- and "Searching for keys"; request_key(2); keyctl(2), KEYCTL_LINK, "EDEADLK"; profile, whole records.
-use Rattle.std.specs.Prelude.{◌≡◌, ◌≢◌, ◌<◌, ◌≤◌, ℕ, List, [], ◌∷◌, true, false, ◌⊎◌, Some, Result, Ok, Err, slice_get}
+use Rattle.std.specs.Prelude.{◌≡◌, ◌≢◌, ◌<◌, ◌≤◌, ℕ, List, [], ◌∷◌, Bool, true, false, ◌⊎◌, Some, Result, Ok, Err}
+use Rattle.std.specs.Prelude.{slice_get}
 use Rattle.krs_types.specs.declared.caller.Caller.{Caller}
 use Rattle.krs_types.specs.declared.context.Context.{Context}
 use Rattle.krs_types.specs.declared.errno.Errno.{Errno}
-use Rattle.krs_types.specs.declared.errno.Errno.TheVariants.{ENOKEY}
+use Rattle.krs_types.specs.declared.errno.Errno.TheVariants.{ENOKEY, EKEYREVOKED, EKEYEXPIRED, EACCES}
 use Rattle.krs_types.specs.declared.name.Name.{Name}
 use Rattle.krs_types.specs.declared.note.Record.{Record}
 use Rattle.krs_types.specs.declared.ask.Answer.{Answer}
@@ -19,12 +20,16 @@ use Rattle.krs_model.specs.Notes.Front.{IsLongestFront}
 use Rattle.krs_model.specs.Levels.{level, is_in}
 use Rattle.krs_model.specs.Possession.{attached, followed_in, possessed}
 use Rattle.krs_model.specs.Reach.{Reaches}
-use Rattle.krs_model.specs.Search.{Searcher, entered, is_answer, or_next}
+use Rattle.krs_model.specs.Search.{Searcher, entered, is_answer, is_revoked, is_expired, is_denied, or_next}
 
 -- it is attached, or linked by a possessed keyring that is alive and may be searched
 abbrev pub ComesByLinks : State → Context → ℕ → Type 0
 ComesByLinks s c k =
     (is_in k (attached s c) ≡ true) ⊎ ((j : ℕ) × (possessed s c j ≡ true) × (is_in k (followed_in s c j) ≡ true))
+
+-- it is in one of the levels 0 to 7 of what is attached and of the links that are followed: profile, search depth
+abbrev pub IsWithinReach : State → Context → ℕ → Type 0
+IsWithinReach s c k = (n : ℕ) × (n ≤ 7) × (is_in k (level (followed_in s c) (attached s c) n) ≡ true)
 
 -- the user's byte for the owner, else the group's for one of its group, else the others'
 pub record IsOneByte (mask uid gid : ℕ) (caller : Caller) (rights : ℕ) : Type 0 where
@@ -56,6 +61,21 @@ pub record IsFirstAnswer (by : Searcher) (head : ℕ) (name : Name) (serial : �
 -- nothing in the levels 0 to 7 is an answer
 abbrev pub HasNoAnswer : Searcher → ℕ → Name → Type 0
 HasNoAnswer by head name = (n i other : ℕ) → n ≤ 7 → StandsAt by head n i other → is_answer by name other ≡ false
+
+-- some key of the levels 0 to 7 meets this test
+abbrev pub IsMet : Searcher → ℕ → (ℕ → Bool) → Type 0
+IsMet by head test =
+    (depth : ℕ) × (place : ℕ) × (serial : ℕ) × (depth ≤ 7) × StandsAt by head depth place serial × (test serial ≡ true)
+
+-- of the faults that the matches of the levels 0 to 7 call for, the first: one was revoked, one has expired, one lacks
+-- SEARCH; or there is none. Profile, fault of a search
+pub record IsFault (by : Searcher) (head : ℕ) (name : Name) (error : Errno) : Type 0 where
+  pub revoked : IsMet by head (is_revoked by name) → error ≡ EKEYREVOKED
+  pub expired : ¬ IsMet by head (is_revoked by name) → IsMet by head (is_expired by name) → error ≡ EKEYEXPIRED
+  pub denied : ¬ IsMet by head (is_revoked by name) → ¬ IsMet by head (is_expired by name)
+      → IsMet by head (is_denied by name) → error ≡ EACCES
+  pub none : ¬ IsMet by head (is_revoked by name) → ¬ IsMet by head (is_expired by name)
+      → ¬ IsMet by head (is_denied by name) → error ≡ ENOKEY
 
 -- the searches from these heads, one after the other
 abbrev pub in_turn : (ℕ → Result ℕ Errno) → List ℕ → Result ℕ Errno

@@ -21,7 +21,6 @@ pub mod Lists
 pub mod Table
 pub mod Levels
 pub mod Outcome
-pub mod Joined
 -- What laws say of the definitions: what holds between asks, and of every history. No definition of an ask cites them.
 pub mod Sound
 pub mod Orderly
@@ -30,4 +29,5 @@ pub mod Usable
 pub mod Ordering
 pub mod Receiving
 pub mod Revocation
+pub mod Joined
 pub mod Laws

@@ -14,7 +14,7 @@ abbrev pub process_ring : State → ℕ → Option ℕ
 process_ring s process = unwrap_or (at s.processes process) None
 
 -- the thread, process and session keyring of a context whose process has this keyring, where there are any:
--- keyrings(7), "Possession", (2) and (3)
+-- keyrings(7), "Possession", (2)
 abbrev pub attached_with : Context → Option ℕ → List ℕ
 attached_with c ring = option_to_list c.thread ++ (option_to_list ring ++ option_to_list c.session)
 
@@ -32,7 +32,7 @@ links_of_content (Links serials) = serials
 abbrev pub is_followed : ℕ → Caller → Key → Bool
 is_followed clock caller key = is_alive clock key && has_all (rights_on key caller true) SEARCH
 
--- the links that the possessor of a keyring follows: keyrings(7), "Possession", (4)
+-- the links that the possessor of a keyring follows: keyrings(7), "Possession", (3) and (4)
 abbrev pub followed : ℕ → Caller → Option Key → List ℕ
 followed clock caller None = []
 followed clock caller (Some key) = if is_followed clock caller key then links_of_content key.content else []

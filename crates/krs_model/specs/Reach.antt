@@ -16,7 +16,7 @@ pub data Reaches (links : ℕ → List ℕ) : ℕ → ℕ → Type 0 where
 abbrev pub IsAcyclic : (ℕ → List ℕ) → Type 0
 IsAcyclic links = (k : ℕ) → Reaches links k k → ⊥
 
--- the links of the keys of a table
+-- what the key at a serial links
 abbrev pub links_of_key_at : Table Key → ℕ → List ℕ
 links_of_key_at keys serial = links_of_key (at keys serial)
 

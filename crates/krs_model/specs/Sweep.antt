@@ -26,12 +26,12 @@ uid_roots es = flat_map (λ e. option_to_list e.1.user ++ option_to_list e.1.ses
 abbrev pub roots : State → List ℕ
 roots s = context_roots s.contexts ++ (process_roots s.processes ++ uid_roots s.uids)
 
--- what is linked by the key at a serial
+-- what a key links, where there is one
 abbrev pub links_of_key : Option Key → List ℕ
 links_of_key None = []
 links_of_key (Some key) = links_of_content key.content
 
--- attached, or linked by a held key
+-- attached, or linked by a held key: keyrings(7), "Anchoring keys"
 pub data IsHeld (keys : Table Key) (attached : List ℕ) : ℕ → Type 0 where
   Attached : (k : ℕ) → is_in k attached ≡ true → IsHeld keys attached k
   Linked : (j k : ℕ) → IsHeld keys attached j → is_in k (links_of_key (at keys j)) ≡ true → IsHeld keys attached k

@@ -16,7 +16,7 @@ ghost use Rattle.krs_model.specs.Table.{Table, at, IsBelow, Rises};
 ghost use Rattle.krs_model.specs.State.{State, Key, Queue, raised, starting_at};
 ghost use Rattle.krs_model.specs.Queues.{Queues, queues_of};
 ghost use Rattle.krs_model.specs.Possession.{attached, possessed};
-ghost use Rattle.krs_model.specs.Lookup.{context_of, look_up};
+ghost use Rattle.krs_model.specs.Lookup.{context_of, look_up, serial_of};
 ghost use Rattle.krs_model.specs.Usable.{IsUsable};
 ghost use Rattle.krs_model.specs.Sweep.{IsSweep, IsSwept, PicksHeld};
 ghost use Rattle.krs_model.specs.Reach.{closes, links_of_key_at, IsAcyclic};
@@ -35,13 +35,14 @@ ghost use Rattle.krs_model.specs.Notes.Telling.{ended_by};
 ghost use Rattle.krs_model.specs.Asks.Joining.{join};
 ghost use Rattle.krs_model.specs.Asks.Watching.{read_queue};
 ghost use Rattle.krs_model.specs.Joined.{JoinsLeast};
-ghost use Rattle.krs_model.specs.Laws.{ComesByLinks, IsOneByte, ClosesCycle};
-ghost use Rattle.krs_model.specs.Laws.{IsFirstAnswer, HasNoAnswer, in_turn, ReadsFront};
+ghost use Rattle.krs_model.specs.Laws.{ComesByLinks, IsWithinReach, IsOneByte, ClosesCycle};
+ghost use Rattle.krs_model.specs.Laws.{IsFirstAnswer, HasNoAnswer, IsFault, in_turn, ReadsFront};
 
 /// A possessed key is an attached keyring, or is linked by a possessed keyring that may be searched: keyrings(7),
-/// "Possession".
+/// "Possession". Just the keys of the levels 0 to 7 are possessed: profile, search depth.
 pub fn possession_comes_by_links()
-    ensures { (s : State) (c : Context) (k : ℕ) → possessed s c k ≡ true → ComesByLinks s c k }
+    ensures links { (s : State) (c : Context) (k : ℕ) → possessed s c k ≡ true → ComesByLinks s c k }
+    ensures levels { (s : State) (c : Context) (k : ℕ) → (possessed s c k ≡ true) ↔ (IsWithinReach s c k) }
 {}
 
 /// Without possession the rights are those of one byte alone: the user's, the group's or the others'. keyrings(7),
@@ -51,9 +52,12 @@ pub fn rights_come_from_one_byte()
         → IsOneByte mask uid gid caller (granted mask uid gid caller false) }
 {}
 
-/// What a look-up for a right finds was not revoked, has not expired, and grants the right.
+/// What a look-up for a right finds is the key that the id names, which was not revoked, has not expired, and grants the
+/// right.
 pub fn look_ups_find_usable_keys()
-    ensures { (s : State) (c : Context) (id : ℤ) (want : Want) (found : ℕ × Key)
+    ensures named { (s : State) (c : Context) (id : ℤ) (want : Want) (found : ℕ × Key)
+        → look_up s c id want ≡ Ok found → serial_of s c id ≡ Ok found.0 }
+    ensures usable { (s : State) (c : Context) (id : ℤ) (want : Want) (found : ℕ × Key)
         → look_up s c id want ≡ Ok found → IsUsable s c want found }
 {}
 
@@ -68,9 +72,9 @@ pub fn a_sweep_is_one_state()
     ensures { (old a b : State) → IsSweep old a → IsSweep old b → a ≡ b }
 {}
 
-/// Sweeping a state that has been swept changes nothing.
+/// A state that has been swept is its own sweep.
 pub fn a_swept_state_stays()
-    ensures { (s new : State) → IsSwept s → IsSweep s new → new ≡ s }
+    ensures { (s : State) → IsSwept s → IsSweep s s }
 {}
 
 /// What a sweep leaves has been swept.
@@ -104,12 +108,15 @@ pub fn cycles_are_reach()
 {}
 
 /// A search finds the match that is alive and grants SEARCH at the least level, and in that level at the first place;
-/// it refuses where there is none. keyrings(7), "Searching for keys"; profile, order of a search.
+/// it refuses where there is none, with the first fault that a match calls for. keyrings(7), "Searching for keys";
+/// profile, order of a search; profile, fault of a search.
 pub fn searches_go_by_levels()
     ensures found { (s : State) (c : Context) (head : ℕ) (name : Name) (serial : ℕ)
         → found s c head name ≡ Ok serial → IsFirstAnswer (searcher_of s c) head name serial }
     ensures refused { (s : State) (c : Context) (head : ℕ) (name : Name) (error : Errno)
         → found s c head name ≡ Err error → HasNoAnswer (searcher_of s c) head name }
+    ensures fault { (s : State) (c : Context) (head : ℕ) (name : Name) (error : Errno)
+        → found s c head name ≡ Err error → IsFault (searcher_of s c) head name error }
 {}
 
 /// A request is a search from the thread, the process and the session keyring in turn: the first answer, else the

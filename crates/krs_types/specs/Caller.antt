@@ -17,7 +17,8 @@ unchanged = 4294967295
 abbrev pub no_id : ℕ
 no_id = 4294967295
 
--- at most 32 groups, and neither the uid nor the gid nor a group is 4294967295: profile, believed caller
+-- at most 32 groups (profile, limits), and neither the uid nor the gid nor a group is 4294967295: profile, believed
+-- caller
 abbrev pub caller_check : Caller → Result (Unit {0}) Errno
 caller_check c =
     if nat_lt 32 (length c.groups) ||

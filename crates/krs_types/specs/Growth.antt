@@ -1,4 +1,4 @@
--- Which asks may find no memory: docs/FORMAT.md, "The asks".
+-- Which asks may find no memory: docs/FORMAT.md, "Asks that take no memory".
 use Rattle.std.specs.Prelude.{ℤ, pos, negsuc, zero, suc, Bool, true, false, not}
 use Rattle.krs_types.specs.declared.ask.Op.{Op}
 use Rattle.krs_types.specs.declared.ask.Op.TheVariants.{Hello, Thread, Fork, Exec, GetId, Join, Search, Request, Add}

@@ -48,13 +48,14 @@ same_kind Keyring Logon = false
 abbrev pub described : List ℕ → Result (Unit {0}) Errno
 described desc = if is_bad_text 4095 desc then Err EINVAL else Ok tt
 
--- a logon key's has a service before its first colon; a keyring's does not begin with a dot: profile, logon prefix
+-- a logon key's has a service before its first colon (profile, logon prefix); a keyring's does not begin with a dot:
+-- add_key(2), "EPERM"
 abbrev pub described_as : Kind → List ℕ → Result (Unit {0}) Errno
 described_as User desc = Ok tt
 described_as Logon desc = if list_any (λ b. b == 58) desc && not (begins_with desc 58) then Ok tt else Err EINVAL
 described_as Keyring desc = if begins_with desc 46 then Err EPERM else Ok tt
 
--- a payload has 1 to 32767 bytes; a keyring is made with none
+-- a payload has 1 to 32767 bytes; a keyring is made with none: keyrings(7), "Key types"
 abbrev pub paid : Kind → List ℕ → Result (Unit {0}) Errno
 paid User payload = if nat_le 1 (length payload) && nat_le (length payload) 32767 then Ok tt else Err EINVAL
 paid Logon payload = if nat_le 1 (length payload) && nat_le (length payload) 32767 then Ok tt else Err EINVAL

@@ -58,7 +58,8 @@ class_byte mask uid gid caller =
     else if is_of_group caller gid then group_byte mask
     else other_byte mask
 
--- the rights on a key of this mask, uid and gid: the possessor's byte where it is possessed, and that one byte
+-- the rights on a key of this mask, uid and gid: the possessor's byte where it is possessed, and that one byte:
+-- keyrings(7), "Access rights"
 abbrev pub granted : ℕ → ℕ → ℕ → Caller → Bool → ℕ
 granted mask uid gid caller possessed =
     bit_or (if possessed then possessor_byte mask else 0) (class_byte mask uid gid caller)

@@ -66,8 +66,8 @@ impl Caller {
         gid == self.gid || has(self.groups.as_slice(), gid)
     }
 
-    /// EINVAL where it names more than 32 groups, or 4294967295 as its uid, its gid or a group. Profile, believed
-    /// caller.
+    /// EINVAL where it names more than 32 groups, or 4294967295 as its uid, its gid or a group. Profile, limits;
+    /// profile, believed caller.
     pub fn check(&self) -> Result<(), Errno>
         ensures { result ≡ caller_check self.now }
     {

@@ -34,7 +34,7 @@ impl Serial {
     }
 }
 
-/// What an ask's key id names: keyctl(2), "key IDs".
+/// What an ask's key id names: keyctl(2), KEYCTL_GET_KEYRING_ID.
 #[derive(Clone, Copy, Debug, PartialEq, Eq)]
 pub enum KeyId {
     Serial(Serial),

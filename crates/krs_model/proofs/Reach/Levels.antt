@@ -1,6 +1,6 @@
 -- Laws of levels.
-use Rattle.std.proofs.Common.{◌≡◌, ℕ, zero, suc, ◌+◌, ◌==◌, ◌||◌, List, [], ◌∷◌, ◌++◌, Bool, true, false, flat_map}
-use Rattle.std.proofs.Common.{refl, arith, add-one, sym, ◌⊎◌, inl, inr, ⊎_elim}
+use Rattle.std.proofs.Common.{◌≡◌, ℕ, zero, suc, ◌+◌, ◌-◌, ◌<◌, ◌==◌, ◌||◌, List, [], ◌∷◌, ◌++◌, Bool, true, false, flat_map}
+use Rattle.std.proofs.Common.{refl, arith, add-one, sym, subst, ◌⊎◌, inl, inr, ⊎_elim}
 use Rattle.std.proofs.lemmas.Bool.{true≢false}
 use Rattle.std.proofs.lemmas.Bool.Decides.{nat_tests}
 use Rattle.std.proofs.lemmas.List.Folds.{list_any-append}
@@ -79,3 +79,22 @@ unfolding levels
 levels_on links heads k n zero h = simp unary_clauses h
 levels_on links heads k n (suc m) h = simp unary_clauses
     (in_left k (levels links heads (n + m)) (level links heads (n + m)) (levels_on links heads k n m h))
+
+-- what is in the first n levels is in one of them
+pub in_level : (links : ℕ → List ℕ) (heads : List ℕ) (k n : ℕ) → is_in k (levels links heads n) ≡ true
+    → (m : ℕ) × (m < n) × (is_in k (level links heads m) ≡ true)
+unfolding levels
+in_level links heads k zero h = absurd (true≢false (sym h))
+in_level links heads k (suc n) h =
+    ⊎_elim (λ before. let r = in_level links heads k n before in (r.0, omega (arith, r.1), r.2))
+    (λ last. (n, omega arith, last))
+    (in_one k (levels links heads n) (level links heads n) h)
+
+-- what is in one of the first n levels is in them
+pub of_level : (links : ℕ → List ℕ) (heads : List ℕ) (k m n : ℕ) → m < n → is_in k (level links heads m) ≡ true
+    → is_in k (levels links heads n) ≡ true
+of_level links heads k m n below h =
+    let here : is_in k (levels links heads (m + 1)) ≡ true =
+    rw (levels_more links heads m) (in_right k (levels links heads m) (level links heads m) h) in
+    let all : m + 1 + (n - (m + 1)) ≡ n = omega arith in
+    subst (λ (x : ℕ). is_in k (levels links heads x) ≡ true) all (levels_on links heads k (m + 1) (n - (m + 1)) here)

@@ -3,11 +3,12 @@ use Rattle.std.proofs.Common.{◌≡◌, ◌⊎◌, ◌<◌, ◌≤◌, ℕ, zer
 use Rattle.std.proofs.Common.{Option, None, Some, Ok, Err, refl, ap, ◌∙◌, sym, inl, inr, ⊎_elim, arith}
 use Rattle.std.specs.List.{find, list_any, flat_map, slice_get}
 use Rattle.std.specs.Option.{option_or}
-use Rattle.std.proofs.lemmas.Bool.{cases_lt}
+use Rattle.std.proofs.lemmas.Bool.{cases_lt, true≢false}
 use Rattle.std.proofs.lemmas.Option.{none-some, same_Some}
 use Rattle.std.proofs.lemmas.List.Folds.{find-append, list_any-append}
 use Rattle.krs_types.specs.declared.context.Context.{Context}
 use Rattle.krs_types.specs.declared.errno.Errno.{Errno}
+use Rattle.krs_types.specs.declared.errno.Errno.TheVariants.{ENOKEY, EKEYREVOKED, EKEYEXPIRED, EACCES}
 use Rattle.krs_types.specs.declared.name.Name.{Name}
 use Rattle.krs_types.specs.Refusing.{or_refuse}
 use Rattle.krs_model.specs.State.{State}
@@ -16,7 +17,7 @@ use Rattle.krs_model.specs.Levels.{level, levels}
 use Rattle.krs_model.specs.Search.{Searcher, searcher_of, entered, searched, is_answer, is_revoked, is_expired}
 use Rattle.krs_model.specs.Search.{is_denied, fault, fault_among, sought, found_by, found, requested, weightier}
 use Rattle.krs_model.specs.Search.{or_next}
-use Rattle.krs_model.specs.Laws.{IsBefore, IsFirstAnswer, HasNoAnswer, in_turn}
+use Rattle.krs_model.specs.Laws.{IsBefore, IsFirstAnswer, HasNoAnswer, IsMet, IsFault, in_turn}
 
 -- the weightier of two faults is that of the matches of both
 faults_join : (r e d r2 e2 d2 : Bool) → weightier (fault r e d) (fault r2 e2 d2) ≡ fault (r || r2) (e || e2) (d || d2)
@@ -215,3 +216,94 @@ refused_has_none s c head name error h n i other le at =
     let less : n < 8 = omega arith in
     none_above (is_answer by name) (entered by) (head ∷ []) 8 n i other
     (refused_none _ error (find (is_answer by name) (searched by head)) h) less at
+
+-- where one passes, one is found
+any_found : (p : ℕ → Bool) (xs : List ℕ) → list_any p xs ≡ true → (k : ℕ) × (find p xs ≡ Some k)
+any_found p [] h = absurd (true≢false (sym h))
+any_found p (x ∷ xs) h =
+    elim (p x) as (λ b. (b || list_any p xs) ≡ true → (k : ℕ) × (cond b (Some x) (find p xs) ≡ Some k)) [
+      | true ↦ λ e. (x, refl)
+      | false ↦ λ e. any_found p xs e
+    ] h
+
+-- where none passes, none is found
+none_found : (p : ℕ → Bool) (xs : List ℕ) → list_any p xs ≡ false → find p xs ≡ None
+none_found p [] h = refl
+none_found p (x ∷ xs) h =
+    elim (p x) as (λ b. (b || list_any p xs) ≡ false → cond b (Some x) (find p xs) ≡ None) [
+      | true ↦ λ e. absurd (true≢false e)
+      | false ↦ λ e. none_found p xs e
+    ] h
+
+-- a test is met in the levels just where one of their keys passes
+any_met : (by : Searcher) (head : ℕ) (p : ℕ → Bool) → list_any p (searched by head) ≡ true → IsMet by head p
+unfolding searched
+any_met by head p h =
+    let k = any_found p (searched by head) h in
+    let r = least_passes p (entered by) (head ∷ []) 8 k.0 k.1 in
+    (r.depth, r.place, k.0, omega (arith, r.bound), r.stands, r.passes)
+
+met_any : (by : Searcher) (head : ℕ) (p : ℕ → Bool) → IsMet by head p → list_any p (searched by head) ≡ true
+unfolding searched
+met_any by head p (depth, place, serial, bound, stands, passes) =
+    elim (list_any p (searched by head)) as (λ b. list_any p (searched by head) ≡ b → b ≡ true) [
+      | true ↦ λ e. refl
+      | false ↦ λ e. absurd (true≢false (sym passes ∙ none_above p (entered by) (head ∷ []) 8 depth place serial
+          (none_found p (searched by head) e) (omega (arith, bound)) stands))
+    ] refl
+
+unmet : (by : Searcher) (head : ℕ) (p : ℕ → Bool) → (IsMet by head p → ⊥) → list_any p (searched by head) ≡ false
+unmet by head p never =
+    elim (list_any p (searched by head)) as (λ b. list_any p (searched by head) ≡ b → b ≡ false) [
+      | true ↦ λ e. absurd (never (any_met by head p e))
+      | false ↦ λ e. refl
+    ] refl
+
+-- which fault it is, by which of the three are there
+revoked_fault : (r e d : Bool) → r ≡ true → fault r e d ≡ EKEYREVOKED
+revoked_fault true e d h = refl
+revoked_fault false e d h = absurd (true≢false (sym h))
+
+expired_fault : (r e d : Bool) → r ≡ false → e ≡ true → fault r e d ≡ EKEYEXPIRED
+expired_fault true e d h i = absurd (true≢false h)
+expired_fault false true d h i = refl
+expired_fault false false d h i = absurd (true≢false (sym i))
+
+denied_fault : (r e d : Bool) → r ≡ false → e ≡ false → d ≡ true → fault r e d ≡ EACCES
+denied_fault true e d h i j = absurd (true≢false h)
+denied_fault false true d h i j = absurd (true≢false i)
+denied_fault false false true h i j = refl
+denied_fault false false false h i j = absurd (true≢false (sym j))
+
+no_fault : (r e d : Bool) → r ≡ false → e ≡ false → d ≡ false → fault r e d ≡ ENOKEY
+no_fault true e d h i j = absurd (true≢false h)
+no_fault false true d h i j = absurd (true≢false i)
+no_fault false false true h i j = absurd (true≢false j)
+no_fault false false false h i j = refl
+
+refused_with : (e f : Errno) (o : Option ℕ) → or_refuse e o ≡ Err f → e ≡ f
+refused_with e f None h = cc
+refused_with e f (Some x) h = cc
+
+pub refused_faults : (s : State) (c : Context) (head : ℕ) (name : Name) (error : Errno) → found s c head name ≡ Err error
+    → IsFault (searcher_of s c) head name error
+unfolding found possessed
+refused_faults s c head name error h =
+    let by = searcher_of s c in
+    let revoked = list_any (is_revoked by name) (searched by head) in
+    let expired = list_any (is_expired by name) (searched by head) in
+    let denied = list_any (is_denied by name) (searched by head) in
+    let is : error ≡ fault revoked expired denied =
+    sym (refused_with _ error (find (is_answer by name) (searched by head)) h) in
+    record {
+      revoked = λ met. is ∙ revoked_fault revoked expired denied (met_any by head (is_revoked by name) met);
+      expired = λ never met. is
+          ∙ expired_fault revoked expired denied (unmet by head (is_revoked by name) never)
+          (met_any by head (is_expired by name) met);
+      denied = λ never nor met. is
+          ∙ denied_fault revoked expired denied (unmet by head (is_revoked by name) never)
+          (unmet by head (is_expired by name) nor) (met_any by head (is_denied by name) met);
+      none = λ never nor neither. is
+          ∙ no_fault revoked expired denied (unmet by head (is_revoked by name) never)
+          (unmet by head (is_expired by name) nor) (unmet by head (is_denied by name) neither);
+    }

@@ -45,7 +45,8 @@ uid_ring prefix links c = record {
   content = Links links;
 }
 
--- the first context of a uid makes its user keyring, then its user-session keyring, which links it
+-- the first context of a uid makes its user keyring, then its user-session keyring, which links it:
+-- user-keyring(7), user-session-keyring(7)
 abbrev pub with_uid : State → Caller → Option UidRings → State
 with_uid s c (Some rings) = s
 with_uid s c None = record s {

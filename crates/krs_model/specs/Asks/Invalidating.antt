@@ -26,7 +26,8 @@ context_without serial c = record c { thread = detached serial c.thread; session
 abbrev pub rings_without : ℕ → UidRings → UidRings
 rings_without serial rings = record { user = detached serial rings.user; session = detached serial rings.session }
 
--- no keyring links the key, and nothing attaches it: the sweep takes it, and what it alone held
+-- no keyring links the key, and nothing attaches it: the sweep takes it, and what it alone held. Profile, invalidated
+-- at once
 abbrev pub invalidated : State → ℕ → State
 invalidated s serial = record s {
   keys = map_values (without_link serial) s.keys;

@@ -31,7 +31,8 @@ calls before [] = []
 calls before (Posted note ∷ moves) = record { note = note; taken_before = before } ∷ calls before moves
 calls before (Took note ∷ moves) = calls (before + room_of note) moves
 
--- a call is kept where those kept before it, less those taken before it, are fewer than the capacity
+-- a call is kept where those kept before it, less those taken before it, are fewer than the capacity: profile, exact
+-- rings
 abbrev pub is_kept : ℕ → ℕ → Call → Bool
 is_kept capacity kept call = nat_lt (kept - call.taken_before) capacity
 

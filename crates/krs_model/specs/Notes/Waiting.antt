@@ -28,7 +28,7 @@ ends_with_loss (note ∷ next ∷ notes) = ends_with_loss (next ∷ notes)
 abbrev pub with_loss : List Record → List Record
 with_loss waiting = if ends_with_loss waiting then waiting else waiting ++ Loss ∷ []
 
--- what waits once a record came: the record last where there is room, else a loss in its place
+-- what waits once a record came: the record last where there is room, else a loss in its place. Profile, exact rings
 abbrev pub after_post : ℕ → Record → List Record → List Record
 after_post capacity note waiting =
     if nat_lt (total_room waiting) capacity then waiting ++ note ∷ [] else with_loss waiting

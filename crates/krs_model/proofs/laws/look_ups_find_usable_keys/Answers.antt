@@ -1,5 +1,9 @@
 use Rattle.krs_model.proofs.Lookups.Laws.{look_up_usable}
+use Rattle.krs_model.proofs.Lookups.Serials.{found_serial}
 use Rattle.krs_model.proofs.laws.look_ups_find_usable_keys.Goals as goal
 
-pub returns : goal.returns
-returns c = look_up_usable
+pub returns-clause-named : goal.returns-clause-named
+returns-clause-named c = found_serial
+
+pub returns-clause-usable : goal.returns-clause-usable
+returns-clause-usable c = look_up_usable
