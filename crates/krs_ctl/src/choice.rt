@@ -54,7 +54,7 @@ Commands of a script, with what an accepted one prints:
   chown KEY UID                 another owner of a key: ok
   chgrp KEY GID                 another group of a key: ok
   setperm KEY MASK              another permission mask of a key, in hexadecimal: ok
-  timeout KEY SECONDS           when a key's time is over, in seconds from now, never for 0: ok
+  timeout KEY SECONDS           lets a key expire after so many seconds, never for 0: ok
   link KEY RING                 one more link in a keyring: ok
   unlink KEY RING               one link less in a keyring: ok
   search RING TYPE DESC [RING]  a key found from a keyring on, and linked to the other one: its serial
@@ -68,11 +68,12 @@ Commands of a script, with what an accepted one prints:
 
 KEY and RING are a serial, or @t, @p, @s, @u, @us for the thread, process, session, user and user-session
 keyring. DATA is the word's bytes or, after `hex:`, the bytes that pairs of hexadecimal digits spell. Bytes
-that do not all print are shown as `:hex:` and digits. ENTRY is `type:info_filter:info_mask:subtypes`, four
+that aren't all printable are shown as `:hex:` and digits. ENTRY is `type:info_filter:info_mask:subtypes`, four
 hexadecimal numbers. Empty lines and lines that begin with `#` are skipped. Over a socket there is no `moment`, as
 the server has its own clock; a single command is none of `hello`, `context` and `moment`, and has a new context of
 --uid and --gid, which ends with it.
-A refused command prints its error, as `error 126 ENOKEY`; one that is none prints `usage` and ends the script.
+A refused command prints its error, as `error 126 ENOKEY`; a line that is no command prints `usage` and ends the
+script.
 
 Example, a key that is made and read back:
   printf 'hello 1000 1000\nadd user alpha s3 @u\nprint 5\n' | keyretain script

@@ -24,8 +24,10 @@ pub struct Key {
     pub uid: u32,
     pub gid: u32,
     pub perm: Perm,
+    /// In seconds since the epoch; none: never.
     pub expiry: Option<u64>,
     pub revoked: bool,
+    /// JOIN made it: profile, joining by name.
     pub joined: bool,
     pub content: Content,
 }

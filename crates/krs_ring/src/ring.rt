@@ -65,7 +65,7 @@ impl NoteRing {
         Ok(NoteRing { slots, owed: false })
     }
 
-    /// A number of bytes that all that waits fits in.
+    /// An upper bound of the bytes of all that waits.
     pub fn byte_bound(&self) -> usize
         ensures value { result ≡ 24 * total_room self.now.waiting + 8 }
         ensures bound { result ≤ 12296 }

@@ -17,7 +17,10 @@ pub struct Place {
 
 impl Place {
     /// Before the first line.
-    pub fn start(alloc: Global) -> Place {
+    pub fn start(alloc: Global) -> Place
+        ensures number { result.number ≡ 0 }
+        ensures line { result.line.items ≡ [] }
+    {
         Place {
             number: 0,
             line: Vec::new(alloc),

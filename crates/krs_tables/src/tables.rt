@@ -173,7 +173,7 @@ impl Tables {
         Links::new(self.alloc, self.seed)
     }
 
-    /// Room for walks over so many keys more: it is made before the keys are.
+    /// Room for walks over so many keys more: it is made before the keys are. No clause can say so: it lies in cells.
     pub fn make_walk_room(&self, more: usize) -> Result<(), AllocError> {
         self.walker.room_for(self.keys.len().saturating_add(more))
     }

@@ -3,10 +3,7 @@ ghost use Rattle.std.specs.Prelude.{◌≡◌, ◌≤◌, [], length, vec_len, I
 use std::alloc::{AllocError, Global};
 use std::marker::Model;
 
-/// How many bytes a reply carries at most: profile, limits.
-pub const MAX_BODY: usize = 262_140;
-
-/// The bytes of a payload that a key keeps, or of an answer: 262140 at most.
+/// The bytes of a payload that a key keeps, or of an answer: 262140 at most. Profile, limits.
 #[derive(Debug, Drop)]
 pub struct Body {
     bytes: Vec<u8>,

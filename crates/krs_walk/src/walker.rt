@@ -28,7 +28,7 @@ impl Walker {
         }
     }
 
-    /// Makes room for walks over a table of that many keys.
+    /// Makes room for walks over a table of that many keys. No clause can say that there is room then: it lies in cells.
     pub fn room_for(&self, keys: usize) -> Result<(), AllocError> {
         self.grow(&self.rings, keys)?;
         self.grow(&self.held, keys)?;

@@ -76,8 +76,7 @@ impl NoteQueue {
         }
     }
 
-    /// The bytes of the longest front of records that fits the room. It is taken: EAGAIN, ENOBUFS,
-    /// ENOMEM.
+    /// Takes the longest front of records that fits the room, and answers its bytes: EAGAIN, ENOBUFS, ENOMEM.
     pub(crate) fn read(&mut self, alloc: Global, room: usize) -> Result<Body, Fault>
         ensures { ReadsQueue room self.old result self.new }
     {

@@ -123,8 +123,7 @@ impl WatchQueues {
         Ok(())
     }
 
-    /// The bytes of the longest front of records that fits the room. It is taken: EBADF, EAGAIN,
-    /// ENOBUFS, ENOMEM.
+    /// Takes the longest front of records that fits the room, and answers its bytes: EBADF, EAGAIN, ENOBUFS, ENOMEM.
     #[tactic(auto, unfolding(krs_model::specs::Asks::Watching::read_out))]
     pub fn read(&mut self, client: u32, number: u32, room: u32) -> Result<Body, Fault>
         ensures { LeadsQueues self.old result self.new (read_out self.old client number room) }

@@ -83,7 +83,7 @@ fn write_whole<W: Write>(writer: &mut W, bytes: &[u8]) -> Result<(), Stop>
     Err(Stop::Printing)
 }
 
-/// Writes as much of these bytes, of which there are some, as the writer takes at once: what is left of them.
+/// Writes the front of these bytes, which aren't empty, as far as the writer takes it at once; answers the rest.
 fn write_piece<'a, W: Write>(writer: &mut W, bytes: &'a [u8]) -> Result<&'a [u8], Stop>
     ensures ok { IfOk result (λ rest. WritesSome (W.contents writer.old) (W.contents writer.new)
         bytes.now rest.now) }

@@ -77,7 +77,10 @@ fn a_call_answers_what_is_posted(rt: HostRuntime) -> Result<(), Fail> {
     let alloc = rt.alloc();
     let (desk, mut first, mut second) = two_seats(alloc, Store::new(alloc)).ok_or("no desk")?;
     assert_eq!(rt; post_first(&rt, alloc, &desk, &mut first, b"a")?, 1);
-    assert_eq!(rt; number_of(&desk.call(&rt, &mut second, 0, hello(alloc, 1000))), 2);
+    assert_eq!(rt;
+        number_of(&desk.call(&rt, &mut second, 0, hello(alloc, 1000))),
+        2
+    );
     assert!(rt; gives(desk.collect(&mut first), 5));
     Ok(())
 }
