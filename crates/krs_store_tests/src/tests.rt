@@ -5,8 +5,14 @@ use std::process::Abort;
 
 mod adding;
 mod clients;
+mod filters;
 mod full;
 mod joining;
+mod links;
+mod nested;
+mod records;
+mod rings;
+mod values;
 mod world;
 
 /// Makes an ask, behind a call that promises nothing: a test knows nothing of a store but what it answers.

@@ -18,7 +18,9 @@ fn ask_at(alloc: Global, step: u8) -> Result<Ask, AllocError> {
             key: 65_541,
             ring: 5,
         })),
-        _ => Ok(read(1, 6)),
+        5 => Ok(read(1, 6)),
+        6 => Ok(change(Op::Unlink { key: 5, ring: -4 })),
+        _ => Ok(read(1, 7)),
     }
 }
 
@@ -37,6 +39,12 @@ const FULL: [Row<'static>; 4] = [
     (3, Want::Number(65_541), "a key elsewhere"),
     (4, Want::Nothing, "its link"),
     (5, Want::Refused(Errno::ENOKEY), "the key that was displaced"),
+];
+
+#[rattlefmt::skip]
+const GONE: [Row<'static>; 2] = [
+    (6, Want::Nothing, "the keyring's only link"),
+    (7, Want::Refused(Errno::ENOKEY), "a key that it alone links"),
 ];
 
 fn check_rows(
@@ -84,7 +92,7 @@ fn check_full(rt: &impl Abort, alloc: Global, store: &mut Store) -> Result<(), F
     check_rows(rt, alloc, store, &FULL)?;
     let links = reply(store, 0, 9, read(1, 5));
     assert!(rt; gives_all_links(&links), "the keyring is not read");
-    Ok(())
+    Ok(check_rows(rt, alloc, store, &GONE)?)
 }
 
 // A keyring with as many links as one may have takes no new name: keyctl(2), KEYCTL_LINK, "ENFILE". A link of an equal

@@ -1,0 +1,12 @@
+use Rattle.std.proofs.Common.{rules}
+use Rattle.std.proofs.lemmas.Int.{ints}
+use Rattle.krs_model.specs.Asks.Reading.{read}
+use Rattle.krs_key_asks.proofs.reading.read.Goals as goal
+
+pub returns-in_err-copy-in-User-Payload : goal.returns-in_err-copy-in-User-Payload
+unfolding read
+returns-in_err-copy-in-User-Payload c = search (ints, rules)
+
+pub returns-in_ok-copy-in-User-Payload : goal.returns-in_ok-copy-in-User-Payload
+unfolding read
+returns-in_ok-copy-in-User-Payload c = search (ints, rules)

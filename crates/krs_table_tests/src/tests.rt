@@ -1,6 +1,0 @@
-mod filters;
-mod holders;
-mod links;
-mod records;
-mod rings;
-mod values;
