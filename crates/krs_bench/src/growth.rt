@@ -1,6 +1,6 @@
 //! What asks cost in stores that have little and much.
 
-use crate::operation::OPERATIONS;
+use crate::operation::operations;
 use crate::stock::{Scene, accept, fill, filling};
 use crate::timing::{Plan, accepted, in_store, planned, run, stock};
 use anyhow::Result;
@@ -42,15 +42,15 @@ pub fn print_growth<R: AllocGlobal + Clock + Print>(rt: &R, links: Option<u32>) 
         rt.print("\n")?;
         return print_table(rt, stores);
     }
-    for (name, links, others, watches, contexts) in SCENES {
+    for (name, links, others, watches, contexts) in &SCENES {
         print!(rt; "{name:>10}")?;
         let scene = Scene {
-            links,
-            others,
-            watches,
-            contexts,
+            links: *links,
+            others: *others,
+            watches: *watches,
+            contexts: *contexts,
         };
-        stores.push((stock(rt, scene)?, links))?;
+        stores.push((stock(rt, scene)?, *links))?;
     }
     rt.print("\n")?;
     print_table(rt, stores)
@@ -60,12 +60,12 @@ fn print_table<R: AllocGlobal + Clock + Print>(
     rt: &R,
     mut stores: Vec<(Store, u32)>,
 ) -> Result<()> {
-    for operation in OPERATIONS {
+    for operation in operations() {
         let name = operation.word();
         print!(rt; "{name:<10}")?;
         for (store, links) in &mut stores {
             let plan = Plan {
-                operation,
+                operation: *operation,
                 links: *links,
                 rounds: ROUNDS,
             };
@@ -106,16 +106,16 @@ fn share(took: Duration, count: u32) -> u64 {
 
 /// Makes the rounds of an operation, for `bench/instructions` to count.
 pub fn count_rounds<R: AllocGlobal + Print>(rt: &R, name: &str, links: u32) -> Result<()> {
-    for operation in OPERATIONS {
+    for operation in operations() {
         if name == operation.word() {
             let mut store = stock(rt, Scene::linking(links))?;
             let plan = Plan {
-                operation,
+                operation: *operation,
                 links,
                 rounds: ROUNDS,
             };
             let turns = planned(rt, &mut store, plan)?;
-            run(&mut store, operation, turns)?;
+            run(&mut store, *operation, turns)?;
             println!(rt; "{ROUNDS} rounds")?;
         }
     }

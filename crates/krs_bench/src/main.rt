@@ -14,7 +14,7 @@ mod timing;
 use anyhow::Result;
 use desk::print_desk;
 use growth::{count_rounds, print_fill, print_growth};
-use operation::{OPERATIONS, Operation};
+use operation::{Operation, operations};
 use std::env;
 use std::io::Print;
 use std::rt::Clock;
@@ -87,9 +87,9 @@ fn print_operations<R: AllocGlobal + Clock + Print + Wait>(
     links: Option<u32>,
 ) -> Result<bool> {
     let mut is_there = false;
-    for operation in OPERATIONS {
+    for operation in operations() {
         if name == operation.word() || name == "all" {
-            print_rows(rt, operation, links)?;
+            print_rows(rt, *operation, links)?;
             is_there = true;
         }
     }

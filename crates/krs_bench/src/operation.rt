@@ -8,7 +8,7 @@ pub struct Operation(&'static str, u32, u32, &'static str, &'static str);
 /// The operations. A uid of 4294967295 leaves the owner, and the mask leaves the possessor all rights and the user VIEW.
 /// All notes of keys pass the filter. Of `session` the keyring of the round before drops.
 #[rattlefmt::skip]
-pub const OPERATIONS: [Operation; 28] = [
+static OPERATIONS: [Operation; 28] = [
     Operation("read", 0, 1, "print KEY", ""),
     Operation("list", 0, 1, "rlist @u", ""),
     Operation("describe", 0, 1, "rdescribe KEY", ""),
@@ -38,6 +38,11 @@ pub const OPERATIONS: [Operation; 28] = [
     Operation("session", 0, 4, "join", ""),
     Operation("leave", 1, 0, "hello 1000 1000", "leave"),
 ];
+
+/// All operations. No other function names their table, as the proof of each that does reads all of it.
+pub fn operations() -> &'static [Operation] {
+    &OPERATIONS
+}
 
 impl Operation {
     /// The word on the command line.

@@ -64,8 +64,8 @@ pub fn stocked(alloc: Global, scene: Scene) -> Result<Store, Fault> {
 fn furnish(store: &mut Store, alloc: Global, scene: Scene) -> Result<(), Fault> {
     fill(store, filling(alloc, scene.links)?)?;
     let marks = Marks::at(scene.links, 0);
-    for (context, line) in FURNITURE {
-        accept(store, 0, read_ask(alloc, &marks, context, line)?)?;
+    for (context, line) in &FURNITURE {
+        accept(store, 0, read_ask(alloc, &marks, *context, line)?)?;
     }
     add_others(store, alloc, scene)?;
     watch_others(store, alloc, scene)?;
