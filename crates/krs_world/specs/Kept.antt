@@ -1,12 +1,16 @@
 -- How the machine is kept: one store, one list of all calls, the call that is being served, and for each lane a slot,
 -- and numbers and lengths of that list.
-use Rattle.std.specs.Prelude.{◌≡◌, ℕ, ◌≤◌, true, false, Bool, cond, List, [], Option, Some, None, map, length, take}
+use Rattle.std.specs.Prelude.{◌≡◌, ℕ, ◌≤◌, true, false, Bool, cond, List, [], ◌∷◌, ◌++◌, Option, Some, None, Result, map, length, take}
 use mathlib.Core.Option as maybe
 use mathlib.Core.Option.{some}
 use lib.ListN.{get_elem?}
+use Rattle.krs_types.specs.declared.ask.Ask.{Ask}
+use Rattle.krs_types.specs.declared.ask.Answer.{Answer}
+use Rattle.krs_types.specs.declared.errno.Errno.{Errno}
 use Rattle.krs_types.specs.declared.event.Event.{Event}
 use Rattle.krs_model.specs.State.{State, starting_at}
-use Rattle.krs_model.specs.History.{IsLegal}
+use Rattle.krs_model.specs.Step.{Step}
+use Rattle.krs_model.specs.History.{IsLegal, event_of}
 use Rattle.krs_world.specs.declared.view.Cell.{Cell}
 use Rattle.krs_world.specs.declared.view.Cell.TheVariants as cells
 use Rattle.krs_world.specs.declared.view.Flight.{Flight}
@@ -130,3 +134,9 @@ has_reply Empty = false
 has_reply (Posted moment ask) = false
 has_reply Serving = false
 has_reply (Answered place) = true
+
+-- a store answered an ask of this lane at this moment, and the call was appended to the list
+abbrev pub Serves : State → List Event → (lane moment : ℕ) → Ask → State → List Event → Type 0
+Serves store log lane moment ask next longer =
+    (reply : Result Answer Errno) × Step store (event_of lane moment ask reply) next
+    × (longer ≡ log ++ event_of lane moment ask reply ∷ [])

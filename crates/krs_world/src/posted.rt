@@ -5,8 +5,8 @@ ghost use Rattle.krs_world.specs.World.{MovesBy, RefusedBy};
 
 use crate::Service;
 use crate::lane::{Slot, is_done};
-use crate::world::World;
-use krs_types::{Ask, Errno, Event};
+use crate::world::{World, serve};
+use krs_types::{Ask, Errno};
 use std::mem;
 
 impl World {
@@ -128,13 +128,14 @@ impl World {
         let Some(call) = self.serving.take() else {
             unreachable!()
         };
-        let reply = self.store.apply(other, call.moment, call.ask);
-        self.log.push_reserved(Event {
-            lane: other,
-            moment: call.moment,
-            ask: copy,
-            reply,
-        });
+        serve(
+            &mut self.store,
+            &mut self.log,
+            other,
+            call.moment,
+            call.ask,
+            copy,
+        );
         Ok(true)
     }
 

@@ -1,5 +1,6 @@
 //! The machine: it runs the steps, and a contract sees what every seat knows.
-ghost use Rattle.std.specs.Prelude.{◌≡◌, ◌≤◌, Some, None, IfOk, IfErr};
+ghost use Rattle.std.specs.Prelude.{◌≡◌, ◌<◌, ◌≤◌, Some, None, IfOk, IfErr, vec_len, vec_capacity};
+ghost use Rattle.krs_world.specs.Kept.{Serves};
 ghost use Rattle.krs_world.specs.declared.step.Kind.TheVariants.{Take, TakeFound, Put, Load};
 ghost use Rattle.krs_world.specs.World.{new_world, MovesBy, RefusedBy};
 
@@ -177,13 +178,7 @@ impl World {
         let Ok(()) = self.log.reserve(1) else {
             return Err(Errno::ENOMEM);
         };
-        let reply = self.store.apply(lane, moment, ask);
-        self.log.push_reserved(Event {
-            lane,
-            moment,
-            ask: copy,
-            reply,
-        });
+        serve(&mut self.store, &mut self.log, lane, moment, ask, copy);
         let seat = &mut self.lanes[at];
         seat.seen = self.log.len();
         seat.holding = false;
@@ -208,4 +203,26 @@ impl World {
         self.lanes[at].seen = seen;
         true
     }
+}
+
+/// Has the store answer an ask, and appends the call to the list, which has room for it, with a copy of the ask.
+pub(crate) fn serve(
+    store: &mut Store,
+    log: &mut Vec<Event>,
+    lane: u32,
+    moment: u64,
+    ask: Ask,
+    copy: Ask,
+)
+    requires room { vec_len log.old < vec_capacity log.old }
+    requires copy { copy ≡ ask }
+    ensures { Serves store.old log.old.items lane moment ask store.new log.new.items }
+{
+    let reply = store.apply(lane, moment, ask);
+    log.push_reserved(Event {
+        lane,
+        moment,
+        ask: copy,
+        reply,
+    });
 }

@@ -80,6 +80,13 @@ index_mut-requires c = let w = c.self.inside in
     in_bounds w.lanes.items c.in-Some-serving.call.lane k.0 k.1 in
     subst (λ (n : ℕ). c.in-Some-serving.call.lane < n) (sym w.lanes.ok.0) inside
 
+pub serve-requires-clause-copy : goal.serve-requires-clause-copy
+serve-requires-clause-copy c =
+    let both : Some c.in-Some-take.call ≡ Some c.in-Some-serving.call =
+    sym c.in-Some-take.is ∙ (c.take.ensures.value ∙ c.in-Some-serving.is) in
+    let same_call = one_call c.in-Some-take.call c.in-Some-serving.call both in
+    c.in-Ok.ensures ∙ ap (λ (v : Service). v.ask) (sym same_call)
+
 pub invariant_of-self-2 : goal.invariant_of-self-2
 invariant_of-self-2 c = let w = c.self.inside in let x = c.index_mut-seat.result.now in
     let here : w.out ≡ Some c.args.lane = c.in-Some.is ∙ ap (λ (n : ℕ). Some n) c.if-holder-lane.false in
@@ -88,16 +95,15 @@ invariant_of-self-2 c = let w = c.self.inside in let x = c.index_mut-seat.result
     lane_here w.lanes.items c.args.lane x within c.index_mut-seat.ensures.value in
     let call = c.in-Some-serving.call in
     let serves : w.serving ≡ Some call = c.in-Some-serving.is in
-    let reply = c.apply-reply.result in
+    let reply = c.serve.ensures.0 in
     let both : Some c.in-Some-take.call ≡ Some call = sym c.in-Some-take.is ∙ (c.take.ensures.value ∙ serves) in
     let same_call : c.in-Some-take.call ≡ call = one_call c.in-Some-take.call call both in
-    let step : Step w.store (event_of call.lane call.moment call.ask reply) c.apply-reply.new.self =
-    subst (λ (v : Service). Step w.store (event_of call.lane v.moment v.ask reply) c.apply-reply.new.self) same_call
-    c.apply-reply.ensures.step in
-    let longer : c.push_reserved.new.self.items
-    ≡ w.log.items ++ event_of call.lane call.moment call.ask reply ∷ [] =
-    c.push_reserved.ensures.items
-    ∙ (λ j. c.reserve.ensures.items j ++ event_of call.lane (same_call j).moment (c.in-Ok.ensures j) reply ∷ []) in
+    let step : Step w.store (event_of call.lane call.moment call.ask reply) c.serve.new.store =
+    subst (λ (v : Service). Step w.store (event_of call.lane v.moment v.ask reply) c.serve.new.store) same_call
+    c.serve.ensures.1 in
+    let longer : c.serve.new.log.items ≡ w.log.items ++ event_of call.lane call.moment call.ask reply ∷ [] =
+    c.serve.ensures.2
+    ∙ (λ j. c.reserve.ensures.items j ++ event_of call.lane (same_call j).moment (same_call j).ask reply ∷ []) in
     let counted : c.len.result ≡ length c.reserve.new.self.items = c.len.ensures ∙ c.reserve.new.self.ok.0 in
     let size : c.len.result ≡ length w.log.items = counted ∙ ap length c.reserve.ensures.items in
     let y : Lane = record x { checked = c.push.new.self; done = c.is_done-seat.result } in
@@ -111,7 +117,7 @@ invariant_of-self-2 c = let w = c.self.inside in let x = c.index_mut-seat.result
     c.index_mut.ensures.value in
     (answers_at w.store w.out w.serving w.log.items w.lanes.items c.args.lane x c.self.invariant at call reply
     c.push.new.self c.is_done-seat.result c.index_mut.result.now here serves c.in-Ok-push.ensures.items c.is_done-seat.ensures there
-    c.apply-reply.new.self c.take.new.self c.push_reserved.new.self.items c.len.result step c.take.ensures.after longer
+    c.serve.new.store c.take.new.self c.serve.new.log.items c.len.result step c.take.ensures.after longer
     size).0
 
 pub returns-clause-moved : goal.returns-clause-moved
@@ -122,16 +128,15 @@ returns-clause-moved c = let w = c.self.inside in let x = c.index_mut-seat.resul
     lane_here w.lanes.items c.args.lane x within c.index_mut-seat.ensures.value in
     let call = c.in-Some-serving.call in
     let serves : w.serving ≡ Some call = c.in-Some-serving.is in
-    let reply = c.apply-reply.result in
+    let reply = c.serve.ensures.0 in
     let both : Some c.in-Some-take.call ≡ Some call = sym c.in-Some-take.is ∙ (c.take.ensures.value ∙ serves) in
     let same_call : c.in-Some-take.call ≡ call = one_call c.in-Some-take.call call both in
-    let step : Step w.store (event_of call.lane call.moment call.ask reply) c.apply-reply.new.self =
-    subst (λ (v : Service). Step w.store (event_of call.lane v.moment v.ask reply) c.apply-reply.new.self) same_call
-    c.apply-reply.ensures.step in
-    let longer : c.push_reserved.new.self.items
-    ≡ w.log.items ++ event_of call.lane call.moment call.ask reply ∷ [] =
-    c.push_reserved.ensures.items
-    ∙ (λ j. c.reserve.ensures.items j ++ event_of call.lane (same_call j).moment (c.in-Ok.ensures j) reply ∷ []) in
+    let step : Step w.store (event_of call.lane call.moment call.ask reply) c.serve.new.store =
+    subst (λ (v : Service). Step w.store (event_of call.lane v.moment v.ask reply) c.serve.new.store) same_call
+    c.serve.ensures.1 in
+    let longer : c.serve.new.log.items ≡ w.log.items ++ event_of call.lane call.moment call.ask reply ∷ [] =
+    c.serve.ensures.2
+    ∙ (λ j. c.reserve.ensures.items j ++ event_of call.lane (same_call j).moment (same_call j).ask reply ∷ []) in
     let counted : c.len.result ≡ length c.reserve.new.self.items = c.len.ensures ∙ c.reserve.new.self.ok.0 in
     let size : c.len.result ≡ length w.log.items = counted ∙ ap length c.reserve.ensures.items in
     let y : Lane = record x { checked = c.push.new.self; done = c.is_done-seat.result } in
@@ -146,5 +151,5 @@ returns-clause-moved c = let w = c.self.inside in let x = c.index_mut-seat.resul
     moves c.args.self.now _ w.store w.out w.serving w.log.items w.lanes.items c.args.lane x Answer c.self.view_is at
     (answers_at w.store w.out w.serving w.log.items w.lanes.items c.args.lane x c.self.invariant at call reply
     c.push.new.self c.is_done-seat.result c.index_mut.result.now here serves c.in-Ok-push.ensures.items c.is_done-seat.ensures there
-    c.apply-reply.new.self c.take.new.self c.push_reserved.new.self.items c.len.result step c.take.ensures.after longer
+    c.serve.new.store c.take.new.self c.serve.new.log.items c.len.result step c.take.ensures.after longer
     size).1

@@ -79,16 +79,14 @@ invariant_of-self-2 c = let w = c.self.inside in let x = c.index_mut-seat.result
     let same_lane : first ≡ x = some-injective first x
     (sym (lane_here w.lanes.items c.args.lane first within c.index.ensures) ∙ at) in
     let idle : x.slot ≡ slots.Empty = ap (λ (z : Lane). z.slot) (sym same_lane) ∙ c.in-Empty.is in
-    let size : c.len-seat.result ≡ length c.push_reserved.new.self.items =
-    c.len-seat.ensures ∙ c.push_reserved.new.self.ok.0 in
-    let log : c.push_reserved.new.self.items ≡ w.log.items ++ event_of c.args.lane c.args.moment c.args.ask
-    c.apply-reply.result ∷ [] =
-    c.push_reserved.ensures.items
-    ∙ (λ j. c.reserve.ensures.items j ++ event_of c.args.lane c.args.moment (c.in-Ok.ensures j) c.apply-reply.result ∷
-    []) in
+    let size : c.len-seat.result ≡ length c.serve.new.log.items = c.len-seat.ensures ∙ c.serve.new.log.ok.0 in
+    let reply = c.serve.ensures.0 in
+    let log : c.serve.new.log.items ≡ w.log.items ++ event_of c.args.lane c.args.moment c.args.ask reply ∷ [] =
+    c.serve.ensures.2
+    ∙ ap (λ (l : List Event). l ++ event_of c.args.lane c.args.moment c.args.ask reply ∷ []) c.reserve.ensures.items in
     (puts_at w.store w.out w.serving w.log.items w.lanes.items c.args.lane x c.self.invariant at c.len-seat.result
-    (c.args.moment, c.args.ask) c.apply-reply.result c.apply-reply.new.self
-    c.push_reserved.new.self.items here c.in-None.is idle c.apply-reply.ensures.step log size).0
+    (c.args.moment, c.args.ask) reply c.serve.new.store
+    c.serve.new.log.items here c.in-None.is idle c.serve.ensures.1 log size).0
 
 pub returns-clause-moved : goal.returns-clause-moved
 returns-clause-moved c = let w = c.self.inside in let x = c.index_mut-seat.result.now in
@@ -101,15 +99,13 @@ returns-clause-moved c = let w = c.self.inside in let x = c.index_mut-seat.resul
     let same_lane : first ≡ x = some-injective first x
     (sym (lane_here w.lanes.items c.args.lane first within c.index.ensures) ∙ at) in
     let idle : x.slot ≡ slots.Empty = ap (λ (z : Lane). z.slot) (sym same_lane) ∙ c.in-Empty.is in
-    let size : c.len-seat.result ≡ length c.push_reserved.new.self.items =
-    c.len-seat.ensures ∙ c.push_reserved.new.self.ok.0 in
-    let log : c.push_reserved.new.self.items ≡ w.log.items ++ event_of c.args.lane c.args.moment c.args.ask
-    c.apply-reply.result ∷ [] =
-    c.push_reserved.ensures.items
-    ∙ (λ j. c.reserve.ensures.items j ++ event_of c.args.lane c.args.moment (c.in-Ok.ensures j) c.apply-reply.result ∷
-    []) in
+    let size : c.len-seat.result ≡ length c.serve.new.log.items = c.len-seat.ensures ∙ c.serve.new.log.ok.0 in
+    let reply = c.serve.ensures.0 in
+    let log : c.serve.new.log.items ≡ w.log.items ++ event_of c.args.lane c.args.moment c.args.ask reply ∷ [] =
+    c.serve.ensures.2
+    ∙ ap (λ (l : List Event). l ++ event_of c.args.lane c.args.moment c.args.ask reply ∷ []) c.reserve.ensures.items in
     moves c.args.self.now _ w.store w.out w.serving w.log.items w.lanes.items c.args.lane x
     (Put (Some (c.args.moment, c.args.ask))) c.self.view_is at
     (puts_at w.store w.out w.serving w.log.items w.lanes.items c.args.lane x c.self.invariant at c.len-seat.result
-    (c.args.moment, c.args.ask) c.apply-reply.result c.apply-reply.new.self
-    c.push_reserved.new.self.items here c.in-None.is idle c.apply-reply.ensures.step log size).1
+    (c.args.moment, c.args.ask) reply c.serve.new.store
+    c.serve.new.log.items here c.in-None.is idle c.serve.ensures.1 log size).1
