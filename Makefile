@@ -13,28 +13,23 @@ PROGRAMS = keyretain keyretaind
 
 .PHONY: build run test wrong-bodies check-man install uninstall bench bench-instructions measure
 
-# Proves and builds the programs.
+# Proves and builds the programs, crate by crate, as many side by side as there are processors. It may be ended at any
+# time, and then goes on where it was.
 build:
+	tools/build $(PROGRAMS)
 	mkdir -p bin
-	for program in $(PROGRAMS); do \
-	  (cd crates/$$program && rt run -- --version >/dev/null) && \
-	  install -m 755 crates/$$program/out/$$program bin/ || exit 1; \
-	done
+	for program in $(PROGRAMS); do install -m 755 crates/$$program/out/$$program bin/ || exit 1; done
 
 # Starts a daemon, adds a key through it, and reads it back.
 run: build
 	contrib/first-run
 
-# Proves everything from nothing, runs the tests, runs some again with each allocation refused in turn, and tries the
-# programs that were built so over real sockets.
+# Proves everything from nothing, runs the tests, has each wrong body refused by itself, runs the tests of memory with
+# each allocation refused in turn, and tries the programs that were built so over real sockets.
 test:
-	rt ci
-	mkdir -p bin
-	for program in $(PROGRAMS); do install -m 755 crates/$$program/out/$$program bin/ || exit 1; done
-	tests/growths
-	tests/service
+	tests/gate
 
-# Tries each wrong body by itself, where the gate tries those of one file together. Takes hours.
+# Has each wrong body refused by itself, over what earlier builds kept.
 wrong-bodies:
 	tests/wrong-bodies
 
@@ -66,14 +61,14 @@ uninstall:
 
 # Nanoseconds per ask, on one processor where taskset is there to pin it; then threads at one desk, on all processors.
 bench:
-	cd crates/krs_bench && rt run >/dev/null
+	tools/build krs_bench
 	cd crates/krs_bench && $$(command -v taskset >/dev/null && echo taskset -c 0) out/krs_bench all
 	cd crates/krs_bench && out/krs_bench desk
 
 # Instructions of each ask, with 10 and with 1,000 links. Wants valgrind.
 bench-instructions:
 	@command -v valgrind >/dev/null || { echo 'make bench-instructions wants valgrind, which is not there' >&2; exit 1; }
-	cd crates/krs_bench && rt run >/dev/null
+	tools/build krs_bench
 	bench/instructions
 
 # Asks a second of the daemon over its socket, beside an echo server and a plain server in C. Wants a C compiler.
