@@ -1,4 +1,4 @@
-# The toolchain's command `rt` is on PATH. README.md says what else is needed.
+# The toolchain's command `rt` is on PATH; TOOLCHAIN has its logic. README.md says what else is needed.
 
 PREFIX = /usr/local
 DESTDIR =
@@ -16,6 +16,7 @@ PROGRAMS = keyretain keyretaind
 # Proves and builds the programs, crate by crate, as many side by side as there are processors. It may be ended at any
 # time, and then goes on where it was.
 build:
+	@tools/check-toolchain
 	tools/build $(PROGRAMS)
 	mkdir -p bin
 	for program in $(PROGRAMS); do install -m 755 crates/$$program/out/$$program bin/ || exit 1; done
@@ -27,6 +28,7 @@ run: build
 # Proves everything from nothing, runs the tests, has each wrong body refused by itself, runs the tests of memory with
 # each allocation refused in turn, and tries the programs that were built so over real sockets.
 test:
+	@tools/check-toolchain
 	tests/gate
 
 # Has each wrong body refused by itself, over what earlier builds kept.
