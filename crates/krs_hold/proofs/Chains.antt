@@ -44,7 +44,7 @@ falls_true c h =
       )
     ] h
 
-falls_false : (c : Count) → falls c ≡ false → c.holders ≡ 1 → c.waiting ≡ true
+pub falls_false : (c : Count) → falls c ≡ false → c.holders ≡ 1 → c.waiting ≡ true
 falls_false c h one =
     let t : (c.holders == 1) ≡ true = grind (arith, nat_tests) in
     elim c.waiting as (λ w. ((c.holders == 1) && not w) ≡ false → w ≡ true) [
@@ -52,11 +52,11 @@ falls_false c h one =
       | false ↦ λ g. absurd (true≢false (subst (λ b. (b && true) ≡ false) t g))
     ] h
 
-lowered_stays :
+pub lowered_stays :
     (first : Option ℕ) (c : Count) → falls c ≡ false → lowered first c ≡ record c { holders = c.holders - 1 }
 lowered_stays first c h = rw h refl
 
-lowered_falls :
+pub lowered_falls :
     (first : Option ℕ) (c : Count) → falls c ≡ true
     → lowered first c ≡ record { holders = 0; waiting = true; next = first }
 lowered_falls first c h = rw h refl

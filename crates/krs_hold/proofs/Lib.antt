@@ -2,6 +2,7 @@ pub mod Places
 pub mod Times
 pub mod Gathered
 pub mod Chains
+pub mod Emptied
 pub mod Exact
 pub mod Anchoring
 pub mod Steps

@@ -1,5 +1,5 @@
 -- The counts as they are kept, and which of them wait for a look.
-use Rattle.std.specs.Prelude.{◌≡◌, ℕ, ◌+◌, ◌-◌, ◌*◌, ◌==◌, ◌&&◌, List, [], ◌∷◌, Bool, true, false, not, cond}
+use Rattle.std.specs.Prelude.{◌≡◌, ℕ, ◌+◌, ◌-◌, ◌*◌, ◌==◌, ◌&&◌, List, [], ◌∷◌, Bool, true, false, not, nat_lt, cond}
 use Rattle.std.specs.Prelude.{Option, None, Some, IsSome, filter}
 use Rattle.krs_hold.specs.declared.counts.Count.{Count}
 use Rattle.krs_model.specs.Table.{Table, at, alter, map_values}
@@ -46,12 +46,21 @@ abbrev pub falls_at : Option Count → Bool
 falls_at None = false
 falls_at (Some c) = falls c
 
+-- the count of a key that nothing holds, before the first of the chain
+abbrev pub unheld : Option ℕ → Count
+unheld first = record { holders = 0; waiting = true; next = first }
+
 -- one holder less: a count that comes to 0 goes before the first of the chain
 abbrev pub lowered : Option ℕ → Count → Count
-lowered first c = cond (falls c) (record { holders = 0; waiting = true; next = first }) (record c {
-  holders =
-      c.holders - 1;
-})
+lowered first c = cond (falls c) (unheld first) (record c { holders = c.holders - 1 })
+
+-- it has holders, and does not wait
+abbrev pub empties : Count → Bool
+empties c = nat_lt 0 c.holders && not c.waiting
+
+-- no holder any more: a count that comes to 0 goes before the first of the chain
+abbrev pub emptied : Option ℕ → Count → Count
+emptied first c = cond (empties c) (unheld first) (record c { holders = 0 })
 
 -- the counts, and the first of the chain
 pub record Chained : Type 0 where

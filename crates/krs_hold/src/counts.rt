@@ -6,7 +6,7 @@ ghost use Rattle.krs_links.specs.Links.{serials};
 ghost use Rattle.krs_keys.specs.Hashed.{by_serial};
 ghost use Rattle.krs_keys.specs.Keys.{named_links_of_content};
 ghost use Rattle.krs_hold.specs.Chain.{holders_at, next_at, falls_at, lowered, raised, rested};
-ghost use Rattle.krs_hold.specs.Chain.{gone, gone_all};
+ghost use Rattle.krs_hold.specs.Chain.{gone, gone_all, unheld};
 
 use krs_keys::Content;
 use krs_links::Links;
@@ -24,7 +24,7 @@ pub struct Count {
 }
 
 impl Count {
-    ghost use Rattle.krs_hold.specs.Chain.{falls};
+    ghost use Rattle.krs_hold.specs.Chain.{falls, lowered, empties, emptied};
 
     /// Whether it has its last holder, and does not wait.
     fn falls(&self) -> bool
@@ -32,23 +32,43 @@ impl Count {
     {
         self.holders == 1 && !self.waiting
     }
-}
 
-/// Another count in the place of the one that is there.
-fn set(counts: &mut HashMap<u32, Count>, serial: u32, count: Count)
-    ensures { by_serial counts.new.entries ≡ alter (by_serial counts.old.entries) serial (λ c. count) }
-{
-    match counts.get_mut(&serial) {
-        Some(slot) => *slot = count,
-        None => {}
+    /// One holder less, where this is the count of that key. The first of the chain is answered.
+    fn lower(&mut self, first: Option<u32>, serial: u32) -> Option<u32>
+        ensures count { self.new ≡ lowered first self.old }
+        ensures first { result ≡ cond (falls self.old) (Some serial) first }
+    {
+        if self.falls() {
+            *self = waiting_before(first);
+            return Some(serial);
+        }
+        self.holders = self.holders.saturating_sub(1);
+        first
+    }
+
+    /// No holder any more, where this is the count of that key. The first of the chain is answered.
+    fn empty(&mut self, first: Option<u32>, serial: u32) -> Option<u32>
+        ensures count { self.new ≡ emptied first self.old }
+        ensures first { result ≡ cond (empties self.old) (Some serial) first }
+    {
+        if self.holders > 0 && !self.waiting {
+            *self = waiting_before(first);
+            return Some(serial);
+        }
+        self.holders = 0;
+        first
     }
 }
 
-/// The count of a key.
-fn count_at(counts: &HashMap<u32, Count>, serial: u32) -> Option<Count>
-    ensures { result ≡ at (by_serial counts.now.entries) serial }
+/// A count of a key that nothing holds, before the first of the chain.
+fn waiting_before(first: Option<u32>) -> Count
+    ensures { result ≡ unheld first }
 {
-    counts.get(&serial).copied()
+    Count {
+        holders: 0,
+        waiting: true,
+        next: first,
+    }
 }
 
 /// Takes out the count of a key.
@@ -63,7 +83,7 @@ pub(crate) fn forget(counts: &mut HashMap<u32, Count>, serial: u32)
 pub(crate) fn holders(counts: &HashMap<u32, Count>, serial: u32) -> u64
     ensures { result ≡ holders_at (at (by_serial counts.now.entries) serial) }
 {
-    match count_at(counts, serial) {
+    match counts.get(&serial) {
         Some(count) => count.holders,
         None => 0,
     }
@@ -74,14 +94,8 @@ pub(crate) fn raise(counts: &mut HashMap<u32, Count>, serial: u32)
     requires { holders_at (at (by_serial counts.old.entries) serial) < 2 ^ 64 - 1 }
     ensures { by_serial counts.new.entries ≡ alter (by_serial counts.old.entries) serial raised }
 {
-    match count_at(counts, serial) {
-        Some(count) => {
-            let more = Count {
-                holders: count.holders + 1,
-                ..count
-            };
-            set(counts, serial, more);
-        }
+    match counts.get_mut(&serial) {
+        Some(count) => count.holders += 1,
         None => {}
     }
 }
@@ -95,25 +109,8 @@ pub(crate) fn let_go(
     ensures counts { by_serial counts.new.entries ≡ alter (by_serial counts.old.entries) serial (lowered first) }
     ensures first { result ≡ cond (falls_at (at (by_serial counts.old.entries) serial)) (Some serial) first }
 {
-    match count_at(counts, serial) {
-        Some(count) => {
-            if count.falls() {
-                let last = Count {
-                    holders: 0,
-                    waiting: true,
-                    next: first,
-                };
-                set(counts, serial, last);
-                Some(serial)
-            } else {
-                let less = Count {
-                    holders: count.holders.saturating_sub(1),
-                    ..count
-                };
-                set(counts, serial, less);
-                first
-            }
-        }
+    match counts.get_mut(&serial) {
+        Some(count) => count.lower(first, serial),
         None => first,
     }
 }
@@ -150,21 +147,20 @@ pub(crate) fn let_go_links(
     }
 }
 
-/// So many holders less. The first of the chain is answered.
-pub(crate) fn let_go_times(
+/// Each holder of a key less. The first of the chain is answered.
+pub(crate) fn let_go_whole(
     counts: &mut HashMap<u32, Count>,
-    mut first: Option<u32>,
+    first: Option<u32>,
     serial: u32,
-    mut left: u64,
 ) -> Option<u32>
     ensures { gone_all (record { counts = by_serial counts.old.entries; first = first })
-        (replicate left serial) ≡ record { counts = by_serial counts.new.entries; first = result } }
+        (replicate (holders_at (at (by_serial counts.old.entries) serial)) serial)
+        ≡ record { counts = by_serial counts.new.entries; first = result } }
 {
-    while left > 0 {
-        first = let_go(counts, first, serial);
-        left -= 1;
+    match counts.get_mut(&serial) {
+        Some(count) => count.empty(first, serial),
+        None => first,
     }
-    first
 }
 
 /// Takes the first out of the chain. The one after it is answered.
@@ -172,13 +168,9 @@ pub(crate) fn rest(counts: &mut HashMap<u32, Count>, serial: u32) -> Option<u32>
     ensures counts { by_serial counts.new.entries ≡ alter (by_serial counts.old.entries) serial rested }
     ensures next { result ≡ next_at (at (by_serial counts.old.entries) serial) }
 {
-    match count_at(counts, serial) {
+    match counts.get_mut(&serial) {
         Some(count) => {
-            let rested = Count {
-                waiting: false,
-                ..count
-            };
-            set(counts, serial, rested);
+            count.waiting = false;
             count.next
         }
         None => None,

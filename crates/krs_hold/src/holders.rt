@@ -12,7 +12,7 @@ ghost use Rattle.krs_hold.specs.Tally.{AreExact};
 ghost use Rattle.krs_hold.specs.Taken.{taken_at};
 
 use crate::cascade::sweep;
-use crate::counts::{Count, holders, let_go, let_go_links, let_go_times, raise};
+use crate::counts::{Count, holders, let_go, let_go_links, let_go_whole, raise};
 use krs_keys::{Change, Content, KeySet, KeyTable};
 use krs_types::{Errno, Serial};
 use std::alloc::Global;
@@ -115,8 +115,7 @@ impl Holders {
         ensures { self.new
             ≡ all_less (replicate (number_at self.old serial) serial) self.old }
     {
-        let left = holders(&self.counts, serial.number());
-        self.first = let_go_times(&mut self.counts, self.first, serial.number(), left);
+        self.first = let_go_whole(&mut self.counts, self.first, serial.number());
     }
 
     /// Lets go of all that a key links.

@@ -1,32 +1,25 @@
-use Rattle.std.proofs.Common.{◌-◌, Bool, true, Option, ℕ, cond, ap, sym, ◌∙◌}
-use Rattle.krs_model.proofs.Tables.Changes.{alter_none}
-use Rattle.krs_hold.proofs.Places.{alter_to}
-use Rattle.krs_hold.specs.declared.counts.Count.{Count}
-use Rattle.krs_hold.specs.Chain.{lowered}
-use Rattle.krs_keys.specs.Hashed.{by_serial}
+use Rattle.std.proofs.Common.{Some, cond, ap, sym, ◌∙◌}
+use Rattle.krs_keys.proofs.HashedLemmas.{at_by_serial, by_serial_written, by_serial_absent}
+use Rattle.krs_hold.specs.Chain.{falls_at, lowered}
 use Rattle.krs_hold.proofs.counts.let_go.Goals as goal
 
-pick : Option ℕ → Count → Bool → Count
-pick first d b = cond b (record { holders = 0; waiting = true; next = first }) (record d { holders = d.holders - 1 })
+pub returns-in-Some-clause-counts : goal.returns-in-Some-clause-counts
+returns-in-Some-clause-counts c =
+    by_serial_written c.args.counts.now.entries _ c.args.serial (lowered c.args.first) c.in-Some.count.now
+    c.lower.new.self c.in-Some.ensures.value c.lower.ensures.count (c.get_mut.follows.holds c.lower.new.self).0
 
-pub returns-then-falls-clause-counts : goal.returns-then-falls-clause-counts
-unfolding pick
-returns-then-falls-clause-counts c =
-    c.set.ensures
-    ∙ alter_to (by_serial c.args.counts.now.entries) c.args.serial (lowered c.args.first) c.in-Some.count _
-    (sym c.in-Some.ensures)
-    (ap (pick c.args.first c.in-Some.count) (sym c.falls.ensures ∙ c.if-falls.true))
-
-pub returns-else-falls-clause-counts : goal.returns-else-falls-clause-counts
-unfolding pick
-returns-else-falls-clause-counts c =
-    c.set-else-falls.ensures
-    ∙ alter_to (by_serial c.args.counts.now.entries) c.args.serial (lowered c.args.first) c.in-Some.count _
-    (sym c.in-Some.ensures)
-    (ap (pick c.args.first c.in-Some.count) (sym c.falls.ensures ∙ c.if-falls.false)
-    ∙ ap (λ n. record c.in-Some.count { holders = n }) (sym c.saturating_sub.ensures))
+pub returns-in-Some-clause-first : goal.returns-in-Some-clause-first
+returns-in-Some-clause-first c =
+    c.lower.ensures.first
+    ∙ ap (λ o. cond (falls_at o) (Some c.args.serial) c.args.first)
+    (c.in-Some.ensures.value ∙ sym (at_by_serial c.args.counts.now.entries c.args.serial))
 
 pub returns-in-None-clause-counts : goal.returns-in-None-clause-counts
 returns-in-None-clause-counts c =
-    sym (alter_none (by_serial c.args.counts.now.entries) c.args.serial (lowered c.args.first)
-    (sym c.in-None.ensures))
+    by_serial_absent c.args.counts.now.entries _ c.args.serial (lowered c.args.first) c.in-None.ensures.value
+    (ap (λ m. m.entries) c.get_mut.follows.holds-at-none)
+
+pub returns-in-None-clause-first : goal.returns-in-None-clause-first
+returns-in-None-clause-first c =
+    ap (λ o. cond (falls_at o) (Some c.args.serial) c.args.first)
+    (c.in-None.ensures.value ∙ sym (at_by_serial c.args.counts.now.entries c.args.serial))

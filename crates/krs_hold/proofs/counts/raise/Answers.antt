@@ -1,15 +1,23 @@
-use Rattle.std.proofs.Common.{sym, ◌∙◌, refl}
-use Rattle.krs_model.proofs.Tables.Changes.{alter_none}
-use Rattle.krs_hold.proofs.Places.{alter_to}
-use Rattle.krs_hold.specs.Chain.{raised}
+use Rattle.std.proofs.Common.{◌≡◌, ap, sym, ◌∙◌, refl, arith}
+use Rattle.krs_keys.proofs.HashedLemmas.{at_by_serial, by_serial_written, by_serial_absent}
 use Rattle.krs_keys.specs.Hashed.{by_serial}
+use Rattle.krs_model.specs.Table.{at}
+use Rattle.krs_hold.specs.Chain.{holders_at, raised}
 use Rattle.krs_hold.proofs.counts.raise.Goals as goal
+
+pub overflow_add-count : goal.overflow_add-count
+overflow_add-count c =
+    let here : c.in-Some.count.now.holders ≡ holders_at (at (by_serial c.args.counts.now.entries) c.args.serial) =
+    ap holders_at (c.in-Some.ensures.value ∙ sym (at_by_serial c.args.counts.now.entries c.args.serial)) in
+    let room = c.requires in
+    omega (arith, here, room)
 
 pub returns-in-Some : goal.returns-in-Some
 returns-in-Some c =
-    c.set.ensures ∙ alter_to (by_serial c.args.counts.now.entries) c.args.serial raised c.in-Some.count _
-    (sym c.in-Some.ensures) refl
+    by_serial_written c.args.counts.now.entries _ c.args.serial raised c.in-Some.count.now _ c.in-Some.ensures.value
+    refl (c.get_mut.follows.holds _).0
 
 pub returns-in-None : goal.returns-in-None
 returns-in-None c =
-    sym (alter_none (by_serial c.args.counts.now.entries) c.args.serial raised (sym c.in-None.ensures))
+    by_serial_absent c.args.counts.now.entries _ c.args.serial raised c.in-None.ensures.value
+    (ap (λ m. m.entries) c.get_mut.follows.holds-at-none)

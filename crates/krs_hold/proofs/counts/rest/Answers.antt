@@ -1,15 +1,22 @@
-use Rattle.std.proofs.Common.{sym, ◌∙◌, refl}
-use Rattle.krs_model.proofs.Tables.Changes.{alter_none}
-use Rattle.krs_hold.proofs.Places.{alter_to}
-use Rattle.krs_hold.specs.Chain.{rested}
-use Rattle.krs_keys.specs.Hashed.{by_serial}
+use Rattle.std.proofs.Common.{ap, sym, ◌∙◌, refl}
+use Rattle.krs_keys.proofs.HashedLemmas.{at_by_serial, by_serial_written, by_serial_absent}
+use Rattle.krs_hold.specs.Chain.{next_at, rested}
 use Rattle.krs_hold.proofs.counts.rest.Goals as goal
 
 pub returns-in-Some-clause-counts : goal.returns-in-Some-clause-counts
 returns-in-Some-clause-counts c =
-    c.set.ensures ∙ alter_to (by_serial c.args.counts.now.entries) c.args.serial rested c.in-Some.count _
-    (sym c.in-Some.ensures) refl
+    by_serial_written c.args.counts.now.entries _ c.args.serial rested c.in-Some.count.now _ c.in-Some.ensures.value
+    refl (c.get_mut.follows.holds _).0
+
+pub returns-in-Some-clause-next : goal.returns-in-Some-clause-next
+returns-in-Some-clause-next c =
+    ap next_at (c.in-Some.ensures.value ∙ sym (at_by_serial c.args.counts.now.entries c.args.serial))
 
 pub returns-in-None-clause-counts : goal.returns-in-None-clause-counts
 returns-in-None-clause-counts c =
-    sym (alter_none (by_serial c.args.counts.now.entries) c.args.serial rested (sym c.in-None.ensures))
+    by_serial_absent c.args.counts.now.entries _ c.args.serial rested c.in-None.ensures.value
+    (ap (λ m. m.entries) c.get_mut.follows.holds-at-none)
+
+pub returns-in-None-clause-next : goal.returns-in-None-clause-next
+returns-in-None-clause-next c =
+    ap next_at (c.in-None.ensures.value ∙ sym (at_by_serial c.args.counts.now.entries c.args.serial))
