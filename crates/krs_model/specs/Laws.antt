@@ -17,7 +17,7 @@ use Rattle.krs_model.specs.State.{State, Queue}
 use Rattle.krs_model.specs.Queues.{queue_of}
 use Rattle.krs_model.specs.Notes.Bytes.{bytes_of_all}
 use Rattle.krs_model.specs.Notes.Front.{IsLongestFront}
-use Rattle.krs_model.specs.Levels.{level, is_in}
+use Rattle.krs_model.specs.Levels.{level, search_depth, is_in}
 use Rattle.krs_model.specs.Possession.{attached, followed_in, possessed}
 use Rattle.krs_model.specs.Reach.{Reaches}
 use Rattle.krs_model.specs.Search.{Searcher, entered, is_answer, is_revoked, is_expired, is_denied, or_next}
@@ -27,9 +27,10 @@ abbrev pub ComesByLinks : State → Context → ℕ → Type 0
 ComesByLinks s c k =
     (is_in k (attached s c) ≡ true) ⊎ ((j : ℕ) × (possessed s c j ≡ true) × (is_in k (followed_in s c j) ≡ true))
 
--- it is in one of the levels 0 to 7 of what is attached and of the links that are followed: profile, search depth
+-- it is in one of the levels 0 to `search_depth` of what is attached and of the links that are followed: profile,
+-- search depth
 abbrev pub IsWithinReach : State → Context → ℕ → Type 0
-IsWithinReach s c k = (n : ℕ) × (n ≤ 7) × (is_in k (level (followed_in s c) (attached s c) n) ≡ true)
+IsWithinReach s c k = (n : ℕ) × (n ≤ search_depth) × (is_in k (level (followed_in s c) (attached s c) n) ≡ true)
 
 -- the user's byte for the owner, else the group's for one of its group, else the others'
 pub record IsOneByte (mask uid gid : ℕ) (caller : Caller) (rights : ℕ) : Type 0 where
@@ -49,26 +50,28 @@ StandsAt by head depth place serial = slice_get (level (entered by) (head ∷ []
 abbrev pub IsBefore : ℕ → ℕ → ℕ → ℕ → Type 0
 IsBefore n i depth place = (n < depth) ⊎ ((n ≡ depth) × (i < place))
 
--- an answer of the levels 0 to 7, and what stands before it is none
+-- an answer of the levels 0 to `search_depth`, and what stands before it is none
 pub record IsFirstAnswer (by : Searcher) (head : ℕ) (name : Name) (serial : ℕ) : Type 0 where
   pub answer : is_answer by name serial ≡ true
   pub depth : ℕ
   pub place : ℕ
-  pub bound : depth ≤ 7
+  pub bound : depth ≤ search_depth
   pub stands : StandsAt by head depth place serial
   pub first : (n i other : ℕ) → IsBefore n i depth place → StandsAt by head n i other → is_answer by name other ≡ false
 
--- nothing in the levels 0 to 7 is an answer
+-- nothing in the levels 0 to `search_depth` is an answer
 abbrev pub HasNoAnswer : Searcher → ℕ → Name → Type 0
-HasNoAnswer by head name = (n i other : ℕ) → n ≤ 7 → StandsAt by head n i other → is_answer by name other ≡ false
+HasNoAnswer by head name = (n i other : ℕ) → n ≤ search_depth → StandsAt by head n i other
+    → is_answer by name other ≡ false
 
--- some key of the levels 0 to 7 meets this test
+-- some key of the levels 0 to `search_depth` meets this test
 abbrev pub IsMet : Searcher → ℕ → (ℕ → Bool) → Type 0
 IsMet by head test =
-    (depth : ℕ) × (place : ℕ) × (serial : ℕ) × (depth ≤ 7) × StandsAt by head depth place serial × (test serial ≡ true)
+    (depth : ℕ) × (place : ℕ) × (serial : ℕ) × (depth ≤ search_depth) × StandsAt by head depth place serial
+    × (test serial ≡ true)
 
--- of the faults that the matches of the levels 0 to 7 call for, the first: one was revoked, one has expired, one lacks
--- SEARCH; or there is none. Profile, fault of a search
+-- of the faults that the matches of the levels 0 to `search_depth` call for, the first: one was revoked, one has
+-- expired, one lacks SEARCH; or there is none. Profile, fault of a search
 pub record IsFault (by : Searcher) (head : ℕ) (name : Name) (error : Errno) : Type 0 where
   pub revoked : IsMet by head (is_revoked by name) → error ≡ EKEYREVOKED
   pub expired : ¬ IsMet by head (is_revoked by name) → IsMet by head (is_expired by name) → error ≡ EKEYEXPIRED

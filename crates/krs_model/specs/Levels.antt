@@ -13,6 +13,10 @@ unfoldable pub levels : (ℕ → List ℕ) → List ℕ → ℕ → List ℕ
 levels links heads zero = []
 levels links heads (suc n) = levels links heads n ++ level links heads n
 
+-- how many links a walk goes along at most: profile, search depth
+abbrev pub search_depth : ℕ
+search_depth = 7
+
 -- the serial is one of these
 abbrev pub is_in : ℕ → List ℕ → Bool
 is_in serial serials = list_any (λ k. k == serial) serials

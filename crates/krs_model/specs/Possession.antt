@@ -1,5 +1,5 @@
 -- Which keys a context possesses: keyrings(7), "Possession".
-use Rattle.std.specs.Prelude.{ℕ, ◌&&◌, List, [], ◌++◌, Bool, true, Option, None, Some, if◌then◌else◌}
+use Rattle.std.specs.Prelude.{ℕ, suc, ◌&&◌, List, [], ◌++◌, Bool, true, Option, None, Some, if◌then◌else◌}
 use Rattle.std.specs.Option.{option_to_list, unwrap_or}
 use Rattle.krs_types.specs.declared.context.Context.{Context}
 use Rattle.krs_types.specs.declared.caller.Caller.{Caller}
@@ -7,7 +7,7 @@ use Rattle.krs_types.specs.Rights.{has_all, SEARCH}
 use Rattle.krs_model.specs.Table.{Table, at}
 use Rattle.krs_model.specs.State.{State, Key, Content, Payload, Links}
 use Rattle.krs_model.specs.Access.{is_alive, rights_on}
-use Rattle.krs_model.specs.Levels.{levels, is_in}
+use Rattle.krs_model.specs.Levels.{levels, search_depth, is_in}
 
 -- the process keyring of a process
 abbrev pub process_ring : State → ℕ → Option ℕ
@@ -46,11 +46,11 @@ abbrev pub followed_in : State → Context → ℕ → List ℕ
 followed_in s c serial = followed_at s.keys s.clock c.caller serial
 
 -- possessed among these keys, at this time, by a context whose process has this keyring: attached, or linked along at
--- most seven followed keyrings, whatever rights the key itself grants. Profile, search depth; profile, possession
--- without rights
+-- most `search_depth` followed keyrings, whatever rights the key itself grants. Profile, search depth; profile,
+-- possession without rights
 abbrev pub possessed_with : Table Key → ℕ → Context → Option ℕ → ℕ → Bool
 possessed_with keys clock c ring serial =
-    is_in serial (levels (followed_at keys clock c.caller) (attached_with c ring) 8)
+    is_in serial (levels (followed_at keys clock c.caller) (attached_with c ring) (suc search_depth))
 
 -- possessed by a context of a store: keyrings(7), "Possession"
 unfoldable pub possessed : State → Context → ℕ → Bool

@@ -39,6 +39,10 @@ abbrev pub is_some_in : List ℕ → Bool
 is_some_in [] = false
 is_some_in (k ∷ serials) = true
 
+-- a keyring can't be linked that begins a chain of so many links of nested keyrings: profile, nesting depth
+abbrev pub nesting_depth : ℕ
+nesting_depth = 6
+
 -- from the key a chain of that many links of nested keyrings hangs down: profile, nesting depth
 unfoldable pub has_chain : Table Key → ℕ → ℕ → Bool
 has_chain keys serial count = is_some_in (level (nested_in keys) (serial ∷ []) count)

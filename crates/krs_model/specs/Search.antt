@@ -1,6 +1,6 @@
 -- Which key a search finds: keyctl(2), KEYCTL_SEARCH; request_key(2); keyrings(7), "Searching for keys".
-use Rattle.std.specs.Prelude.{ℕ, ◌&&◌, List, [], ◌∷◌, Bool, false, not, nat_lt, Option, None, Some, Result, Ok, Err}
-use Rattle.std.specs.Prelude.{if◌then◌else◌, find, flat_map}
+use Rattle.std.specs.Prelude.{ℕ, suc, ◌&&◌, List, [], ◌∷◌, Bool, false, not, nat_lt, Option, None, Some, Result, Ok}
+use Rattle.std.specs.Prelude.{Err, if◌then◌else◌, find, flat_map}
 use Rattle.std.specs.List.{list_any}
 use Rattle.krs_types.specs.declared.caller.Caller.{Caller}
 use Rattle.krs_types.specs.declared.context.Context.{Context}
@@ -12,7 +12,7 @@ use Rattle.krs_types.specs.Rights.{has_all, SEARCH}
 use Rattle.krs_model.specs.Table.{Table, at}
 use Rattle.krs_model.specs.State.{State, Key}
 use Rattle.krs_model.specs.Access.{is_alive, is_over, rights_on}
-use Rattle.krs_model.specs.Levels.{levels}
+use Rattle.krs_model.specs.Levels.{levels, search_depth}
 use Rattle.krs_model.specs.Linking.{is_named}
 use Rattle.krs_model.specs.Possession.{attached_with, links_of_content, possessed, possessed_with, process_ring}
 
@@ -54,9 +54,9 @@ abbrev pub entered : Searcher → ℕ → List ℕ
 entered by serial = open_links by serial (at by.keys serial)
 
 -- the keys that a search comes to, level by level, with their repeats: the head, and what is linked along at most
--- seven entered keyrings. Profile, search depth; profile, head may be the answer
+-- `search_depth` entered keyrings. Profile, search depth; profile, head may be the answer
 unfoldable pub searched : Searcher → ℕ → List ℕ
-searched by head = levels (entered by) (head ∷ []) 8
+searched by head = levels (entered by) (head ∷ []) (suc search_depth)
 
 -- a key of that name, its type and its description, of which this holds
 abbrev pub is_match : Name → (Key → Bool) → Option Key → Bool

@@ -39,7 +39,7 @@ ghost use Rattle.krs_model.specs.Laws.{ComesByLinks, IsWithinReach, IsOneByte, C
 ghost use Rattle.krs_model.specs.Laws.{IsFirstAnswer, HasNoAnswer, IsFault, in_turn, ReadsFront};
 
 /// A possessed key is an attached keyring, or is linked by a possessed keyring that may be searched: keyrings(7),
-/// "Possession". Just the keys of the levels 0 to 7 are possessed: profile, search depth.
+/// "Possession". Just the keys of the levels 0 to `search_depth` are possessed: profile, search depth.
 pub fn possession_comes_by_links()
     ensures links { (s : State) (c : Context) (k : ℕ) → possessed s c k ≡ true → ComesByLinks s c k }
     ensures levels { (s : State) (c : Context) (k : ℕ) → (possessed s c k ≡ true) ↔ (IsWithinReach s c k) }

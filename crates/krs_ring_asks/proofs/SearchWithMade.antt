@@ -19,7 +19,7 @@ use Rattle.krs_model.specs.Table.{at}
 use Rattle.krs_model.specs.State.{State, Key}
 use Rattle.krs_model.specs.Access.{rights_on}
 use Rattle.krs_model.specs.Possession.{possessed, attached}
-use Rattle.krs_model.specs.Reach.{has_chain}
+use Rattle.krs_model.specs.Reach.{has_chain, nesting_depth}
 use Rattle.krs_model.specs.Laws.{in_turn}
 use Rattle.krs_model.specs.Linking.{ring_links, linking}
 use Rattle.krs_model.specs.Lookup.{context_of, look_up}
@@ -128,7 +128,7 @@ asked special s number c dest name new =
 -- the link of a key in the keyring that is made
 abbrev new_link : State → State → ℕ → Key → Outcome
 new_link s t serial key =
-    unless (has_chain s.keys serial 6) ELOOP >>= (λ nests.
+    unless (has_chain s.keys serial nesting_depth) ELOOP >>= (λ nests.
     within_serials s (Ok (changed t s.next_serial (linking t.keys (name_of key) serial), Number serial)))
 
 by_chain :
@@ -142,7 +142,8 @@ by_chain s t serial key false = refl
 
 by_key :
     (s t : State) (c : Context) (ring : ℕ × Key) (serial : ℕ) (o : Option Key)
-    → ((key : Key) → linked_into t ring (serial, key) ≡ (unless (has_chain s.keys serial 6) ELOOP >>= (λ nests.
+    → ((key : Key) → linked_into t ring (serial, key)
+    ≡ (unless (has_chain s.keys serial nesting_depth) ELOOP >>= (λ nests.
     Ok (changed t s.next_serial (linking t.keys (name_of key) serial)))))
     → within_serials s (or_refuse ENOKEY o >>= (λ key. if_linkable s c serial key >>= (λ l.
     linked_into t ring l >>= (λ new. Ok (new, Number serial)))))
@@ -155,7 +156,7 @@ by_key s t c ring serial (Some key) into =
     as (λ b. within_serials s (cond b (Ok (serial, key)) (Err EACCES) >>= goes)
     ≡ (cond b (Ok key) (Err EACCES) >>= (λ (k : Key). new_link s t serial key))) [
       | true ↦ ap (λ (r : Result State Errno). within_serials s (r >>= (λ new. Ok (new, Number serial)))) (into key)
-          ∙ by_chain s t serial key (has_chain s.keys serial 6)
+          ∙ by_chain s t serial key (has_chain s.keys serial nesting_depth)
       | false ↦ refl
     ]
 

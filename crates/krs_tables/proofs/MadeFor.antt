@@ -25,7 +25,7 @@ use Rattle.krs_model.specs.Levels.{is_in}
 use Rattle.krs_model.specs.Possession.{attached, process_ring}
 use Rattle.krs_model.specs.Lookup.{context_of, attachment, user_ring, user_session_ring, serial_of, look_up}
 use Rattle.krs_model.specs.Linking.{linking}
-use Rattle.krs_model.specs.Reach.{has_chain}
+use Rattle.krs_model.specs.Reach.{has_chain, nesting_depth}
 use Rattle.krs_model.specs.Making.{made_for, thread_to, special_ring, within_serials}
 use Rattle.krs_model.specs.Asks.Adding.{Place, Made, admitted, new_key, made, added, added_serial, added_in, add}
 use Rattle.krs_model.specs.Asks.Changing.{changed}
@@ -333,7 +333,7 @@ link_linking special s client number c key ring found new own coming is =
     let there = (look_up_usable s c key (Granted LINK) found is).there in
     let other : found.0 ≢ n = λ e.
     none-some found.1 (sym (ap (λ (k : ℕ). at s.keys k) e ∙ new.fit.none) ∙ there) in
-    let nests : Result (Unit {0}) Errno = unless (has_chain s.keys found.0 6) ELOOP in
+    let nests : Result (Unit {0}) Errno = unless (has_chain s.keys found.0 nesting_depth) ELOOP in
     let into : State = changed t n (linking t.keys (name_of found.1) found.0) in
     let linking : link s client number key ring ≡ (nests >>= (λ x. within_serials s (Ok (into, Nothing)))) =
     link_to_other special s client number c key ring new own coming

@@ -22,7 +22,7 @@ use Rattle.krs_model.specs.Sweep.{roots, context_roots, process_roots, uid_roots
 use Rattle.krs_model.specs.Linking.{linking}
 use Rattle.krs_model.specs.Making.{thread_to, special_ring, with_thread, with_process, within_serials}
 use Rattle.krs_model.specs.Lookup.{context_of}
-use Rattle.krs_model.specs.Reach.{has_chain}
+use Rattle.krs_model.specs.Reach.{has_chain, nesting_depth}
 use Rattle.krs_model.specs.Sound as standing
 use Rattle.krs_model.specs.Asks.Changing.{changed}
 use Rattle.krs_model.specs.Asks.Linked.{name_of}
@@ -318,7 +318,7 @@ ring_linking Process s number c keys name k =
 pub linking_done :
     (special : Special) (s new : model.State) (client number k : ℕ) (c : Context) (maker : Maker) (key : model.Key)
     (answer : Answer) → context_of s client number ≡ Ok c → maker ≡ maker_of number c → at s.keys k ≡ Some key
-    → has_chain s.keys k 6 ≡ false → s.next_serial ≤ 2147483647 → new ≡ ring_at special maker (k ∷ []) s
+    → has_chain s.keys k nesting_depth ≡ false → s.next_serial ≤ 2147483647 → new ≡ ring_at special maker (k ∷ []) s
     → linking_made special s client number k answer ≡ Ok (new, answer)
 linking_done special s new client number k c maker key answer own e there short few is =
     let t = with_ring special s number c in
@@ -331,7 +331,7 @@ linking_done special s new client number k c maker key answer own e there short 
 -- it is accepted where the key nests no keyring too deep and a serial is left
 pub linking_accepted :
     (special : Special) (s : model.State) (client number k : ℕ) (c : Context) (key : model.Key) (answer : Answer)
-    → context_of s client number ≡ Ok c → at s.keys k ≡ Some key → has_chain s.keys k 6 ≡ false
+    → context_of s client number ≡ Ok c → at s.keys k ≡ Some key → has_chain s.keys k nesting_depth ≡ false
     → s.next_serial ≤ 2147483647 → IsOk (linking_made special s client number k answer)
 linking_accepted special s client number k c key answer own there short few =
     let maker = maker_of number c in

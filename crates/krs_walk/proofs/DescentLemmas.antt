@@ -8,7 +8,7 @@ use Rattle.std.proofs.lemmas.List.{append-nil}
 use Rattle.krs_types.specs.declared.errno.Errno.{Errno}
 use Rattle.krs_types.specs.declared.name.Name.{Name}
 use Rattle.krs_model.specs.Table.{at}
-use Rattle.krs_model.specs.Levels.{level, levels}
+use Rattle.krs_model.specs.Levels.{level, levels, search_depth}
 use Rattle.krs_model.specs.Outcome.{Is}
 use Rattle.krs_model.specs.Reach.{is_ring}
 use Rattle.krs_model.specs.Search.{Searcher, entered, searched, sought, found_by, or_next}
@@ -59,26 +59,27 @@ depth_stays by name head serial n (suc m) h =
     ∙ ap (λ (q : Result ℕ Errno). or_next q (sought by name (links_at by (n + m) head)))
     (depth_stays by name head serial n m h))
 
--- all are seven
+-- all of them
 depth_found : (by : Searcher) (name : Name) (head : ℕ) → OnlyRingsLink by.keys
-    → found_by by head name ≡ to_depth by name head 7
+    → found_by by head name ≡ to_depth by name head search_depth
 unfolding searched to_depth
 depth_found by name head only =
-    ap (sought by name) (levels_unrolled (entered by) (head ∷ []) 7)
+    ap (sought by name) (levels_unrolled (entered by) (head ∷ []) search_depth)
     ∙ ap (λ (zs : List ℕ). sought by name (head ∷ zs))
-    (levels_rings (λ k. is_ring (at by.keys k)) (entered by) (head ∷ []) 7 (rings_alone by only))
+    (levels_rings (λ k. is_ring (at by.keys k)) (entered by) (head ∷ []) search_depth (rings_alone by only))
 
 pub depth_finds : (by : Searcher) (name : Name) (head n : ℕ) (fault : Errno) (serial : ℕ) → OnlyRingsLink by.keys
-    → to_depth by name head n ≡ Err fault → n < 7
+    → to_depth by name head n ≡ Err fault → n < search_depth
     → Ok serial ≡ or_next (Err fault) (sought by name (links_at by n head)) → found_by by head name ≡ Ok serial
 depth_finds by name head n fault serial only before lt h =
-    let rest : n + 1 + (6 - n) ≡ 7 = omega arith in
+    let rest : n + 1 + (search_depth - (n + 1)) ≡ search_depth = omega arith in
     depth_found by name head only
     ∙ (ap (to_depth by name head) (sym rest)
-    ∙ depth_stays by name head serial (n + 1) (6 - n) (depth_goes_on by name head n fault (Ok serial) before h))
+    ∙ depth_stays by name head serial (n + 1) (search_depth - (n + 1))
+    (depth_goes_on by name head n fault (Ok serial) before h))
 
 pub depth_fails : (by : Searcher) (name : Name) (head n : ℕ) (fault : Errno) → OnlyRingsLink by.keys
-    → to_depth by name head n ≡ Err fault → n ≡ 7 → found_by by head name ≡ Err fault
+    → to_depth by name head n ≡ Err fault → n ≡ search_depth → found_by by head name ≡ Err fault
 depth_fails by name head n fault only before all =
     depth_found by name head only ∙ (ap (to_depth by name head) (sym all) ∙ before)
 

@@ -15,7 +15,7 @@ use Rattle.krs_types.specs.declared.errno.Errno.TheVariants.{ENOKEY}
 use Rattle.krs_types.specs.declared.name.Name.{Name}
 use Rattle.krs_model.specs.Table.{at}
 use Rattle.krs_model.specs.State.{Key, State}
-use Rattle.krs_model.specs.Levels.{level, levels, is_in}
+use Rattle.krs_model.specs.Levels.{level, levels, is_in, search_depth}
 use Rattle.krs_model.specs.Search.{found_with, requested_with}
 use Rattle.krs_model.specs.Possession.{links_of_content, possessed, process_ring}
 use Rattle.krs_model.specs.Reach.{is_ring}
@@ -145,16 +145,16 @@ first_of by head = head ∷ entered by head
 -- what a search comes to, by the links of the keyrings that it enters below its head
 found_in_rings : (by : Searcher) (head : ℕ) (name : Name) → OnlyRingsLink by.keys
     → found_by by head name ≡ sought by name (first_of by head
-    ++ flat_map (entered by) (levels (entered_rings by) (entered_rings by head) 6))
+    ++ flat_map (entered by) (levels (entered_rings by) (entered_rings by head) (search_depth - 1)))
 unfolding searched
 found_in_rings by head name only =
-    ap (sought by name) (levels_unrolled (entered by) (head ∷ []) 7)
+    ap (sought by name) (levels_unrolled (entered by) (head ∷ []) search_depth)
     ∙ (ap (λ (zs : List ℕ). sought by name (head ∷ zs)) (levels_rings (λ k. is_ring (at by.keys k)) (entered by)
-    (head ∷ []) 7 (rings_alone by only))
+    (head ∷ []) search_depth (rings_alone by only))
     ∙ (ap (λ (zs : List ℕ). sought by name (head ∷ flat_map (entered by) zs))
-    (levels_below (entered_rings by) (head ∷ []) 6)
+    (levels_below (entered_rings by) (head ∷ []) (search_depth - 1))
     ∙ ap (λ (zs : List ℕ). sought by name (first_of by head ++ flat_map (entered by)
-    (levels (entered_rings by) zs 6))) (append-nil (entered_rings by head))))
+    (levels (entered_rings by) zs (search_depth - 1)))) (append-nil (entered_rings by head))))
 
 -- a search that has visited the keyrings above the nth level below its head: they have this fault
 pub record IsSeek (by : Searcher) (name : Name) (head n start : ℕ) (all : List ℕ) (fault : Errno) : Type 0 where
@@ -250,26 +250,27 @@ answer_stays by name head serial n (suc m) h =
     (answer_stays by name head serial n m h)))))
 
 pub seek_finds : (by : Searcher) (name : Name) (head n start : ℕ) (all : List ℕ) (fault : Errno) (serial : ℕ)
-    → OnlyRingsLink by.keys → IsSeek by name head n start all fault → n < 6 →
+    → OnlyRingsLink by.keys → IsSeek by name head n start all fault → n < search_depth - 1 →
     Ok serial ≡ or_next (Err fault) (sought by name (flat_map (entered by) (drop start all)))
     → found_by by head name ≡ Ok serial
 unfolding to_level
 seek_finds by name head n start all fault serial only s lt h =
-    let rest : n + 1 + (5 - n) ≡ 6 = omega arith in
+    let rest : n + 1 + (search_depth - (n + 2)) ≡ search_depth - 1 = omega arith in
     let here : to_level by name head (n + 1) ≡ Ok serial =
     sym (sought_once by name (entered by) (first_of by head) (levels (entered_rings by)
     (entered_rings by head) (n + 1)))
     ∙ (ap (λ (zs : List ℕ). sought by name (first_of by head ++ flat_map (entered by) zs)) (sym s.whole)
     ∙ seek_all by name head n start all fault (Ok serial) s h) in
     found_in_rings by head name only ∙ (ap (to_level by name head) (sym rest)
-    ∙ answer_stays by name head serial (n + 1) (5 - n) here)
+    ∙ answer_stays by name head serial (n + 1) (search_depth - (n + 2)) here)
 
 pub seek_fails : (by : Searcher) (name : Name) (head n start : ℕ) (all : List ℕ) (fault : Errno)
-    → OnlyRingsLink by.keys → IsSeek by name head n start all fault → n ≡ 6 → found_by by head name ≡ Err fault
+    → OnlyRingsLink by.keys → IsSeek by name head n start all fault → n ≡ search_depth - 1
+    → found_by by head name ≡ Err fault
 unfolding to_level
-seek_fails by name head n start all fault only s six =
+seek_fails by name head n start all fault only s last =
     found_in_rings by head name only
-    ∙ (ap (to_level by name head) (sym six)
+    ∙ (ap (to_level by name head) (sym last)
     ∙ (sym (sought_once by name (entered by) (first_of by head) (levels (entered_rings by) (entered_rings by head) n))
     ∙ (ap (λ (zs : List ℕ). sought by name (first_of by head ++ flat_map (entered by) zs)) (sym s.before)
     ∙ s.passed)))
@@ -279,10 +280,10 @@ pub head_finds : (by : Searcher) (name : Name) (head : ℕ) (serial : ℕ) → s
     → found_by by head name ≡ Ok serial
 unfolding searched
 head_finds by name head serial h =
-    ap (sought by name) (levels_unrolled (entered by) (head ∷ []) 7)
-    ∙ (sought_append by name (head ∷ []) (flat_map (entered by) (levels (entered by) (head ∷ []) 7))
+    ap (sought by name) (levels_unrolled (entered by) (head ∷ []) search_depth)
+    ∙ (sought_append by name (head ∷ []) (flat_map (entered by) (levels (entered by) (head ∷ []) search_depth))
     ∙ ap (λ (r : Result ℕ Errno). or_next r (sought by name (flat_map (entered by)
-    (levels (entered by) (head ∷ []) 7)))) h)
+    (levels (entered by) (head ∷ []) search_depth)))) h)
 
 -- searches from three keyrings, one behind the other
 pub found_in_turn : (by : Searcher) (name : Name) (a b d : List ℕ) (first second third : Result ℕ Errno) →

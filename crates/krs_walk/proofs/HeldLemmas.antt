@@ -5,7 +5,7 @@ use Rattle.std.proofs.lemmas.List.{take_at}
 use Rattle.krs_types.specs.declared.context.Context.{Context}
 use Rattle.krs_model.specs.Table.{Table, at}
 use Rattle.krs_model.specs.State.{Key}
-use Rattle.krs_model.specs.Levels.{level, levels, is_in}
+use Rattle.krs_model.specs.Levels.{level, levels, is_in, search_depth}
 use Rattle.krs_model.specs.Possession.{attached_with, followed_at, possessed_with}
 use Rattle.krs_model.specs.Reach.{is_ring}
 use Rattle.krs_model.proofs.Reach.Levels.{levels_more}
@@ -100,7 +100,7 @@ begun_held s h next held l m b e =
     (e ∙ ap (λ zs. join zs (attached_with s.context.now s.process_ring)) (none_seen s h held l))
 
 -- the next
-pub next_held : (s : Search) (h next : HeldRings) → AreHeld s h → (h.levels ≡ 0 → ⊥) → h.levels < 8
+pub next_held : (s : Search) (h next : HeldRings) → AreHeld s h → (h.levels ≡ 0 → ⊥) → h.levels ≤ search_depth
     → next.levels ≡ h.levels + 1 → next.start ≡ length h.seen →
     next.seen ≡ join h.seen (flat_map (followed_rings (shown s.keys.now.keys) s.clock s.context.now.caller)
     (drop h.start h.seen)) → AreHeld s next
@@ -120,20 +120,20 @@ next_held s h next held not_none few l b e =
           ∙ (held.walked ∙ ap (λ (z : ℕ). join [] (held_to s z)) same));
     }
 
--- a keyring is possessed that is in the first eight levels of followed keyrings
+-- a keyring is possessed that is in the levels 0 to `search_depth` of followed keyrings
 pub ring_possessed : (keys : Table Key) (clock : ℕ) (c : Context) (ring : Option ℕ) (serial : ℕ) → OnlyRingsLink keys
     → is_ring (at keys serial) ≡ true →
     possessed_with keys clock c ring serial ≡ is_in serial (levels (followed_rings keys clock c.caller)
-    (attached_with c ring) 8)
+    (attached_with c ring) (suc search_depth))
 ring_possessed keys clock c ring serial only is =
     let passes = λ (k : ℕ). is_ring (at keys k) in
     let f = followed_at keys clock c.caller in
     let heads = attached_with c ring in
     same_tests (possessed_with keys clock c ring serial) (is_in serial
-    (levels (followed_rings keys clock c.caller) heads 8))
-    (λ m. levels_rings passes f heads 8 serial (λ j k n. only j k
+    (levels (followed_rings keys clock c.caller) heads (suc search_depth)))
+    (λ m. levels_rings passes f heads (suc search_depth) serial (λ j k n. only j k
     (followed_linked clock c.caller (at keys j) k n)) is m)
-    (λ m. levels_fewer (followed_rings keys clock c.caller) f heads 8 serial (rings_fewer passes f) m)
+    (λ m. levels_fewer (followed_rings keys clock c.caller) f heads (suc search_depth) serial (rings_fewer passes f) m)
 
 -- one that was walked
 pub held_possessed : (s : Search) (h : HeldRings) (ring : ℕ) → AreHeld s h → OnlyRingsLink (shown s.keys.now.keys)
@@ -142,12 +142,12 @@ pub held_possessed : (s : Search) (h : HeldRings) (ring : ℕ) → AreHeld s h �
 held_possessed s h ring held only is m =
     ring_possessed (shown s.keys.now.keys) s.clock s.context.now s.process_ring ring only is
     ∙ levels_up (followed_rings (shown s.keys.now.keys) s.clock s.context.now.caller)
-    (attached_with s.context.now s.process_ring) ring h.levels 8 held.bound
+    (attached_with s.context.now s.process_ring) ring h.levels (suc search_depth) held.bound
     (sym (in_joined h.seen (held_to s h.levels) ring held.walked) ∙ m)
 
 -- one that is in no level
 pub not_possessed : (s : Search) (h : HeldRings) (ring : ℕ) → AreHeld s h → OnlyRingsLink (shown s.keys.now.keys)
-    → is_ring (at (shown s.keys.now.keys) ring) ≡ true → h.levels ≡ 8 → is_in ring h.seen ≡ false →
+    → is_ring (at (shown s.keys.now.keys) ring) ≡ true → h.levels ≡ suc search_depth → is_in ring h.seen ≡ false →
     possessed_with (shown s.keys.now.keys) s.clock s.context.now s.process_ring ring ≡ false
 not_possessed s h ring held only is all m =
     ring_possessed (shown s.keys.now.keys) s.clock s.context.now s.process_ring ring only is

@@ -11,7 +11,7 @@ use Rattle.krs_types.specs.declared.context.Context.{Context}
 use Rattle.krs_types.specs.Name.{same_name}
 use Rattle.krs_model.specs.Table.{Table, at}
 use Rattle.krs_model.specs.State as model
-use Rattle.krs_model.specs.Levels.{level, levels, is_in}
+use Rattle.krs_model.specs.Levels.{level, levels, is_in, search_depth}
 use Rattle.krs_model.specs.Possession.{attached_with, followed_at, is_followed, possessed_with, followed, links_of_content}
 use Rattle.krs_model.specs.Reach.{is_ring}
 use Rattle.krs_model.specs.Sweep.{links_of_key}
@@ -111,13 +111,13 @@ followed_linked clock caller (Some key) k m =
       | false ↦ λ n. absurd (in_none k n)
     ] m
 
--- a key is possessed that is attached, or that a followed keyring of the first seven levels links
+-- a key is possessed that is attached, or that a followed keyring of the first `search_depth` levels links
 pub possession_splits : (keys : Table model.Key) (clock : ℕ) (c : Context) (ring : Option ℕ) (serial : ℕ)
     → OnlyRingsLink keys →
     possessed_with keys clock c ring serial ≡ (is_in serial (attached_with c ring)
     || is_linked keys clock c ring serial)
 possession_splits keys clock c ring serial only =
-    levels_split (λ k. is_ring (at keys k)) (followed_at keys clock c.caller) (attached_with c ring) 7 serial
+    levels_split (λ k. is_ring (at keys k)) (followed_at keys clock c.caller) (attached_with c ring) search_depth serial
     (λ j k m. only j k (followed_linked clock c.caller (at keys j) k m))
 
 -- a key whose links are followed
@@ -199,7 +199,7 @@ pub absent_linked : (keys : Table Key) (clock : ℕ) (c : Context) (ring : Optio
     → at keys serial ≡ None → is_linked (shown keys) clock c ring serial ≡ false
 absent_linked keys clock c ring serial fit none =
     none_any (λ j. is_in serial (followed_at (shown keys) clock c.caller j))
-    (levels (followed_rings (shown keys) clock c.caller) (attached_with c ring) 7)
+    (levels (followed_rings (shown keys) clock c.caller) (attached_with c ring) search_depth)
     (λ j. absent_followed keys clock c.caller j serial (at keys j) refl fit none)
 
 -- a followed keyring links a key where it links that key's name

@@ -4,7 +4,7 @@ use Rattle.std.proofs.Common.{drop, get_or, refl, ap, ◌∙◌, sym, append_ass
 use Rattle.std.proofs.lemmas.List.{take_at, drop_all, drop_more, get_or_append_left, length-append, take-append-drop}
 use Rattle.std.proofs.lemmas.List.Folds.{list_any-append}
 use Rattle.std.specs.List.{flat_map, list_any}
-use Rattle.krs_model.specs.Levels.{level, levels}
+use Rattle.krs_model.specs.Levels.{levels}
 use Rattle.krs_walk.specs.Lists.{join}
 use Rattle.krs_walk.proofs.ListsLemmas.{fresh, join_fresh, join_append, any_join, any_at, or_right}
 use Rattle.krs_walk.proofs.LevelsLemmas.{IsAt, at_heads, at_next}

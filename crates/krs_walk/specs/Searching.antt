@@ -1,9 +1,9 @@
 -- What the search goes by, over the keys of the definitions.
-use Rattle.std.specs.Prelude.{◌≡◌, ◌≤◌, ◌-◌, ℕ, Bool, List, [], ◌∷◌, length, take, filter, flat_map, Result, Ok}
+use Rattle.std.specs.Prelude.{◌≡◌, ◌≤◌, ◌-◌, ℕ, suc, Bool, List, [], ◌∷◌, length, take, filter, flat_map, Result, Ok}
 use Rattle.std.specs.Prelude.{Err}
 use Rattle.krs_types.specs.declared.errno.Errno.{Errno}
 use Rattle.krs_model.specs.Table.{at}
-use Rattle.krs_model.specs.Levels.{level, levels}
+use Rattle.krs_model.specs.Levels.{level, levels, search_depth}
 use Rattle.krs_model.specs.Reach.{is_ring}
 use Rattle.krs_model.specs.Search.{Searcher, searcher_with, entered, or_next, searched, sought}
 use Rattle.krs_keys.specs.Keys.{shown}
@@ -65,7 +65,7 @@ held_to s n =
 
 -- as many levels were walked as it says, the last of them from `start` on
 pub record AreHeld (s : Search) (h : HeldRings) : Type 0 where
-  pub bound : h.levels ≤ 8
+  pub bound : h.levels ≤ suc search_depth
   pub within : h.start ≤ length h.seen
   pub walked : h.seen ≡ join [] (held_to s h.levels)
   pub before : take h.start h.seen ≡ join [] (held_to s (h.levels - 1))

@@ -9,18 +9,18 @@ use Rattle.krs_types.specs.declared.errno.Errno.TheVariants.{ELOOP}
 use Rattle.krs_model.specs.Table.{Table, at}
 use Rattle.krs_walk.specs.Lists.{join}
 use Rattle.krs_model.specs.State.{Key}
-use Rattle.krs_model.specs.Levels.{levels, is_in}
+use Rattle.krs_model.specs.Levels.{levels, is_in, search_depth}
 use Rattle.krs_model.specs.Possession.{attached_with, followed_at}
-use Rattle.krs_model.specs.Reach.{is_ring, has_chain, nested_in}
+use Rattle.krs_model.specs.Reach.{is_ring, has_chain, nested_in, nesting_depth}
 
 -- the longest chain of nested keyrings that hangs down from the key has that many links: profile, nesting depth
 pub record IsHeight (keys : Table Key) (key height : ℕ) : Type 0 where
   pub chain : has_chain keys key height ≡ true
   pub longest : has_chain keys key (height + 1) ≡ false
 
--- why a height is not told: the chain has 6 links or more. keyctl(2), KEYCTL_LINK, "ELOOP"
+-- why a height is not told: the chain has `nesting_depth` links or more. keyctl(2), KEYCTL_LINK, "ELOOP"
 abbrev pub IsTooDeep : Table Key → ℕ → Errno → Type 0
-IsTooDeep keys key errno = (errno ≡ ELOOP) × (has_chain keys key 6 ≡ true)
+IsTooDeep keys key errno = (errno ≡ ELOOP) × (has_chain keys key nesting_depth ≡ true)
 
 -- the keyring is in the first levels of nested keyrings from a key
 abbrev pub is_nested_within : Table Key → ℕ → ℕ → ℕ → Bool
@@ -43,10 +43,10 @@ is_linked_within keys clock caller serial depth k =
 abbrev pub with_next : Table Key → ℕ → Caller → ℕ → List ℕ → List ℕ
 with_next keys clock caller start seen = join seen (flat_map (followed_rings keys clock caller) (drop start seen))
 
--- a followed keyring of the first seven levels links it
+-- a followed keyring of the first `search_depth` levels links it
 abbrev pub is_linked : Table Key → ℕ → Context → Option ℕ → ℕ → Bool
 is_linked keys clock c ring serial = list_any (follows_link_to keys clock c.caller serial)
-    (levels (followed_rings keys clock c.caller) (attached_with c ring) 7)
+    (levels (followed_rings keys clock c.caller) (attached_with c ring) search_depth)
 
 -- this serial was found
 abbrev pub is_found : ℕ → Option ℕ → Bool

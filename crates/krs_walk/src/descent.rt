@@ -9,10 +9,7 @@ ghost use Rattle.krs_walk.specs.Searching.{sought_behind, sought_in};
 use crate::keyrings::rings_in;
 use crate::search::Search;
 use krs_keys::Key;
-use krs_types::{Errno, Serial};
-
-/// How many levels of keyrings are entered, of which the head is the first: profile, search depth.
-const LEVELS: u8 = 7;
+use krs_types::{Errno, SEARCH_DEPTH, Serial};
 
 /// A search level by level from the head down, with no list of what was seen, so that it may come to a keyring more
 /// than once. It takes no memory.
@@ -25,7 +22,7 @@ impl Search<'_> {
         ensures { result ≡ found_by (searcher_for self.now) head self.now.name.now }
     {
         let mut fault = fault;
-        for level in 0..LEVELS {
+        for level in 0..SEARCH_DEPTH {
             match self.find_at(head, level, fault) {
                 Ok(serial) => return Ok(serial),
                 Err(more) => fault = more,

@@ -1,5 +1,5 @@
 ghost use Rattle.std.specs.Prelude.{◌≡◌, ◌<◌, [], false, flat_map, IfOk, IfErr, OnOk};
-ghost use Rattle.krs_model.specs.Reach.{has_chain, nested_in};
+ghost use Rattle.krs_model.specs.Reach.{has_chain, nested_in, nesting_depth};
 ghost use Rattle.krs_keys.specs.Keys.{shown, AreFit};
 ghost use Rattle.krs_walk.specs.Lists.{join};
 ghost use Rattle.krs_walk.specs.Walks.{IsHeight, IsTooDeep};
@@ -8,20 +8,17 @@ use crate::keyrings::rings_of;
 use crate::visits::NoRoom;
 use crate::{Visits, Walker};
 use krs_keys::KeyTable;
-use krs_types::{Errno, Serial};
+use krs_types::{Errno, NESTING_DEPTH, Serial};
 use std::mem;
 
-/// Keyrings are nested along fewer links than these: profile, nesting depth.
-const DEEP: u32 = 6;
-
 impl Walker {
-    /// The most links in a chain of nested keyrings from this key; ELOOP where that is 6 or more. keyctl(2),
-    /// KEYCTL_LINK, "ELOOP"; profile, nesting depth.
+    /// The most links in a chain of nested keyrings from this key; ELOOP where that is `NESTING_DEPTH` or more.
+    /// keyctl(2), KEYCTL_LINK, "ELOOP"; profile, nesting depth.
     pub fn height_of(&self, keys: &KeyTable, key: Serial) -> Result<u32, Errno>
         requires fit { AreFit keys.now.keys }
         ensures height { IfOk result (λ n. IsHeight (shown keys.now.keys) key n) }
-        ensures bound { IfOk result (λ n. n < 6) }
-        ensures shallow { OnOk result (has_chain (shown keys.now.keys) key 6 ≡ false) }
+        ensures bound { IfOk result (λ n. n < nesting_depth) }
+        ensures shallow { OnOk result (has_chain (shown keys.now.keys) key nesting_depth ≡ false) }
         ensures error { IfErr result (λ errno. IsTooDeep (shown keys.now.keys) key errno) }
     {
         if rings_of(keys, key).is_empty() {
@@ -37,8 +34,8 @@ impl Walker {
     fn height_by_layers(&self, keys: &KeyTable, key: Serial) -> Result<Result<u32, Errno>, NoRoom>
         requires fit { AreFit keys.now.keys }
         ensures height { IfOk result (λ r. IfOk r (λ n. IsHeight (shown keys.now.keys) key n)) }
-        ensures bound { IfOk result (λ r. IfOk r (λ n. n < 6)) }
-        ensures shallow { IfOk result (λ r. OnOk r (has_chain (shown keys.now.keys) key 6 ≡ false)) }
+        ensures bound { IfOk result (λ r. IfOk r (λ n. n < nesting_depth)) }
+        ensures shallow { IfOk result (λ r. OnOk r (has_chain (shown keys.now.keys) key nesting_depth ≡ false)) }
         ensures error { IfOk result (λ r. IfErr r (λ errno. IsTooDeep (shown keys.now.keys) key errno)) }
     {
         let mut layer = self.take(&self.rings);
@@ -60,12 +57,12 @@ fn height_by_layers(
     requires fit { AreFit keys.now.keys }
     requires layer { layer.old ≡ [] }
     ensures height { IfOk result (λ r. IfOk r (λ n. IsHeight (shown keys.now.keys) key n)) }
-    ensures bound { IfOk result (λ r. IfOk r (λ n. n < 6)) }
-    ensures shallow { IfOk result (λ r. OnOk r (has_chain (shown keys.now.keys) key 6 ≡ false)) }
+    ensures bound { IfOk result (λ r. IfOk r (λ n. n < nesting_depth)) }
+    ensures shallow { IfOk result (λ r. OnOk r (has_chain (shown keys.now.keys) key nesting_depth ≡ false)) }
     ensures error { IfOk result (λ r. IfErr r (λ errno. IsTooDeep (shown keys.now.keys) key errno)) }
 {
     layer.join(&[key])?;
-    for height in 0..DEEP {
+    for height in 0..NESTING_DEPTH {
         next_layer(keys, layer, next)?;
         if next.is_empty() {
             return Ok(Ok(height));
@@ -93,11 +90,11 @@ fn next_layer(keys: &KeyTable, layer: &Visits, next: &mut Visits) -> Result<(), 
 fn height_by_chains(keys: &KeyTable, key: Serial) -> Result<u32, Errno>
     requires fit { AreFit keys.now.keys }
     ensures height { IfOk result (λ n. IsHeight (shown keys.now.keys) key n) }
-    ensures bound { IfOk result (λ n. n < 6) }
-    ensures shallow { OnOk result (has_chain (shown keys.now.keys) key 6 ≡ false) }
+    ensures bound { IfOk result (λ n. n < nesting_depth) }
+    ensures shallow { OnOk result (has_chain (shown keys.now.keys) key nesting_depth ≡ false) }
     ensures error { IfErr result (λ errno. IsTooDeep (shown keys.now.keys) key errno) }
 {
-    for height in 0..DEEP {
+    for height in 0..NESTING_DEPTH {
         if !has_chain(keys, key, height + 1) {
             return Ok(height);
         }

@@ -1,22 +1,20 @@
-ghost use Rattle.std.specs.Prelude.{◌≡◌, ◌<◌, ◌+◌, [], true, IfOk, OnOk};
+ghost use Rattle.std.specs.Prelude.{◌≡◌, ◌≤◌, ◌+◌, [], true, IfOk, OnOk};
 ghost use Rattle.krs_model.specs.Table.{at};
 ghost use Rattle.krs_model.specs.Reach.{is_ring};
 ghost use Rattle.krs_keys.specs.Keys.{shown, AreFit};
 ghost use Rattle.krs_walk.specs.declared.search.Search as search;
 ghost use Rattle.krs_keys.specs.Keys.{OnlyRingsLink};
 ghost use Rattle.krs_walk.specs.Searching.{is_held, AreHeld};
+ghost use Rattle.krs_model.specs.Levels.{search_depth};
 
 use crate::Visits;
 use crate::possession::{is_attached, join_attached, next_level};
 use crate::search::Search;
 use crate::visits::NoRoom;
-use krs_types::Serial;
-
-/// How many levels of keyrings are possessed: profile, search depth.
-const LEVELS: u8 = 8;
+use krs_types::{SEARCH_DEPTH, Serial};
 
 /// The keyrings that a context possesses, as far as they were asked for: those of the first levels,
-/// each once.
+/// each once. Those of level `SEARCH_DEPTH` are the last.
 #[derive(Drop)]
 pub(crate) struct HeldRings {
     seen: Visits,
@@ -55,7 +53,7 @@ impl HeldRings {
             return Ok(true);
         }
         'walk: while !self.seen.has(ring) {
-            if self.levels == LEVELS {
+            if self.levels > SEARCH_DEPTH {
                 return Ok(false);
             }
             self.walk_on(search)?;
@@ -67,7 +65,7 @@ impl HeldRings {
     fn walk_on(&mut self, search: &Search<'_>) -> Result<(), NoRoom>
         requires fit { AreFit search.now.keys.now.keys }
         requires held { AreHeld search.now self.old }
-        requires more { self.old.levels < 8 }
+        requires more { self.old.levels ≤ search_depth }
         ensures held { OnOk result (AreHeld search.now self.new) }
         ensures one { OnOk result (self.new.levels ≡ self.old.levels + 1) }
     {

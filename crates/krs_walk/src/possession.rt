@@ -15,13 +15,10 @@ use crate::visits::NoRoom;
 use crate::{Visits, Walker};
 use bitflags::Flags;
 use krs_keys::{Content, Key, KeyTable};
-use krs_types::{Caller, Context, Name, Rights, Serial};
+use krs_types::{Caller, Context, Name, Rights, SEARCH_DEPTH, Serial};
 
-/// How many levels of keyrings are asked for a key: profile, search depth.
-const LEVELS: u8 = 7;
-
-/// So many of them are asked first, with no list of what was seen: a key is mostly linked by an attached keyring, or by
-/// one that it links, as the session keyring links the user keyring.
+/// So many levels of keyrings are asked first, with no list of what was seen: a key is mostly linked by an attached
+/// keyring, or by one that it links, as the session keyring links the user keyring.
 const NEAR_LEVELS: u8 = 2;
 
 impl Walker {
@@ -48,7 +45,7 @@ impl Walker {
         }
     }
 
-    /// Whether a followed keyring of the first seven levels links a key.
+    /// Whether a followed keyring of the first `SEARCH_DEPTH` levels links a key.
     fn is_linked(
         &self,
         keys: &KeyTable,
@@ -76,7 +73,15 @@ impl Walker {
         match self.is_linked_below(keys, context, process_ring, clock, key, serial) {
             Ok(linked) => linked,
             Err(NoRoom) => {
-                is_linked_within_reach(keys, context, &process_ring, clock, key, serial, LEVELS)
+                is_linked_within_reach(
+                    keys,
+                    context,
+                    &process_ring,
+                    clock,
+                    key,
+                    serial,
+                    SEARCH_DEPTH,
+                )
             }
         }
     }
@@ -104,8 +109,8 @@ impl Walker {
     }
 }
 
-/// Whether a followed keyring of the first seven levels links a key, where none of the near levels does, which are not
-/// asked again. It has an empty list for the keyrings.
+/// Whether a followed keyring of the first `SEARCH_DEPTH` levels links a key, where none of the near levels does, which
+/// are not asked again. It has an empty list for the keyrings.
 fn is_linked_below(
     keys: &KeyTable,
     context: &Context,
@@ -125,7 +130,7 @@ fn is_linked_below(
     join_attached(seen, context, process_ring)?;
     let below = next_level(keys, &context.caller, clock, seen, 0)?;
     let mut start = next_level(keys, &context.caller, clock, seen, below)?;
-    for level in NEAR_LEVELS..LEVELS {
+    for level in NEAR_LEVELS..SEARCH_DEPTH {
         let _ = level;
         if level_links(keys, &context.caller, clock, seen, start, key, serial) {
             return Ok(true);

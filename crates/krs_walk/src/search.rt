@@ -20,10 +20,7 @@ use crate::keyrings::rings_in;
 use crate::visits::NoRoom;
 use crate::{Visits, Walker};
 use krs_keys::{Content, Key, KeyTable};
-use krs_types::{Context, Errno, Name, Serial};
-
-/// How many levels of keyrings are entered below the head: profile, search depth.
-const LEVELS: u8 = 6;
+use krs_types::{Context, Errno, Name, SEARCH_DEPTH, Serial};
 
 /// A search: among which keys, by which context, its process's keyring, when, and for what.
 #[derive(Clone, Copy)]
@@ -181,7 +178,7 @@ impl Search<'_> {
             Err(linked) => linked,
         };
         let mut start = 0usize;
-        for level in 0..LEVELS {
+        for level in 0..SEARCH_DEPTH - 1 {
             let _ = level;
             let end = seen.len();
             match self.visit_level(held, seen, start, fault)? {

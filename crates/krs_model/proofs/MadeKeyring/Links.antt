@@ -17,7 +17,7 @@ use Rattle.krs_model.specs.Table.{Table, at}
 use Rattle.krs_model.specs.State.{State, Key}
 use Rattle.krs_model.specs.Access.{rights_on}
 use Rattle.krs_model.specs.Possession.{possessed}
-use Rattle.krs_model.specs.Reach.{has_chain}
+use Rattle.krs_model.specs.Reach.{has_chain, nesting_depth}
 use Rattle.krs_model.specs.Search.{found}
 use Rattle.krs_model.specs.Search.{requested}
 use Rattle.krs_model.specs.Linking.{linking, link_named, ring_links}
@@ -48,14 +48,14 @@ pub linked_into_new :
     (s t : State) (c d : Context) (desc before after : List ℕ) (found : ℕ × Key) → HasMade s c t d desc before after
     → AllLinked s.keys → at s.keys s.next_serial ≡ None → found.0 ≢ s.next_serial
     → linked_into t (s.next_serial, special_ring desc c.caller) found
-    ≡ (unless (has_chain s.keys found.0 6) ELOOP >>= (λ nests.
+    ≡ (unless (has_chain s.keys found.0 nesting_depth) ELOOP >>= (λ nests.
     Ok (changed t s.next_serial (linking t.keys (name_of found.1) found.0))))
 linked_into_new s t c d desc before after found made linked none other =
     let n = s.next_serial in
     let ring = special_ring desc c.caller in
     let into : State = changed t n (linking t.keys (name_of found.1) found.0) in
     let left : Result State Errno = Ok into in
-    let nests : nestable t.keys n found.0 ≡ unless (has_chain s.keys found.0 6) ELOOP =
+    let nests : nestable t.keys n found.0 ≡ unless (has_chain s.keys found.0 nesting_depth) ELOOP =
     ap (λ (es : Table Key). nestable es n found.0) made.keys
     ∙ nestable_other s.keys n found.0 ring linked none refl other in
     after_room (nestable t.keys n found.0) left ∙ ap (λ (r : Result (Unit {0}) Errno). r >>= (λ x. left)) nests

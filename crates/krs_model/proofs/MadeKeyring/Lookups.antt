@@ -22,7 +22,7 @@ use Rattle.krs_types.specs.Refusing.{◌>>=◌, or_refuse}
 use Rattle.krs_model.specs.Table.{Table, at, put}
 use Rattle.krs_model.specs.State.{State, Key}
 use Rattle.krs_model.specs.Access.{is_alive, is_over, rights_on}
-use Rattle.krs_model.specs.Levels.{level, levels, is_in}
+use Rattle.krs_model.specs.Levels.{level, levels, is_in, search_depth}
 use Rattle.krs_model.specs.Possession.{attached, links_of_content, followed, followed_in, possessed}
 use Rattle.krs_model.specs.Lookup.{attachment, serial_of, if_usable, look_up}
 use Rattle.krs_model.specs.Making.{special_ring}
@@ -102,11 +102,11 @@ unfolding possessed
 possessed_other s t c d desc before after k made none other =
     let n = s.next_serial in
     let empty : followed_in s c n ≡ [] = ap (followed s.clock c.caller) none in
-    ap (λ (links : ℕ → List ℕ). is_in k (levels links (attached t d) 8))
+    ap (λ (links : ℕ → List ℕ). is_in k (levels links (attached t d) (suc search_depth)))
     (same_followed s t c d desc before after made none)
-    ∙ (ap (λ (heads : List ℕ). is_in k (levels (followed_in s c) heads 8)) made.is
-    ∙ (levels_further (followed_in s c) before after n k 8 empty (not_equal n k other)
-    ∙ ap (λ (heads : List ℕ). is_in k (levels (followed_in s c) heads 8)) (sym made.was)))
+    ∙ (ap (λ (heads : List ℕ). is_in k (levels (followed_in s c) heads (suc search_depth))) made.is
+    ∙ (levels_further (followed_in s c) before after n k (suc search_depth) empty (not_equal n k other)
+    ∙ ap (λ (heads : List ℕ). is_in k (levels (followed_in s c) heads (suc search_depth))) (sym made.was)))
 
 -- the new keyring is possessed
 pub possessed_new :
@@ -118,7 +118,7 @@ possessed_new s t c d desc before after made =
     let new : is_in n (n ∷ after) ≡ true = rw (same_is n n refl) refl in
     let head : is_in n (attached t d) ≡ true =
     ap (is_in n) made.is ∙ in_right n before (n ∷ after) new in
-    heads_first (followed_in t d) (attached t d) 7 n head
+    heads_first (followed_in t d) (attached t d) search_depth n head
 
 serial_by :
     (s t : State) (c d : Context) (named : Result KeyId Errno) → ((id : KeyId) → StandsFor s c t d id)

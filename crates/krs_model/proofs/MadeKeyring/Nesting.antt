@@ -13,7 +13,7 @@ use Rattle.krs_model.specs.State.{Key}
 use Rattle.krs_model.specs.Levels.{level, levels, is_in}
 use Rattle.krs_model.specs.Possession.{links_of_content}
 use Rattle.krs_model.specs.Sweep.{links_of_key}
-use Rattle.krs_model.specs.Reach.{links_of_key_at, closes, is_ring, nested_in, is_some_in, has_chain}
+use Rattle.krs_model.specs.Reach.{links_of_key_at, closes, is_ring, nested_in, is_some_in, has_chain, nesting_depth}
 use Rattle.krs_model.specs.Sound.{AllLinked}
 use Rattle.krs_model.specs.Asks.Linked.{unless, nestable, linked}
 use Rattle.krs_model.proofs.Reach.Levels.{same_is, levels_linked}
@@ -102,16 +102,16 @@ closes_self es n v =
 -- another key is nested in the new keyring where no chain is too long
 pub nestable_other :
     (es : Table Key) (n k : ℕ) (v : Key) → AllLinked es → at es n ≡ None → links_of_content v.content ≡ [] → k ≢ n
-    → nestable (put es n v) n k ≡ unless (has_chain es k 6) ELOOP
+    → nestable (put es n v) n k ≡ unless (has_chain es k nesting_depth) ELOOP
 unfolding nestable
 nestable_other es n k v linked none empty other =
-    let chain : Result (Unit {0}) Errno = unless (has_chain (put es n v) k 6) ELOOP in
+    let chain : Result (Unit {0}) Errno = unless (has_chain (put es n v) k nesting_depth) ELOOP in
     ap (λ (b : Bool). unless b EDEADLK >>= (λ acyclic. chain)) (closes_other es n k v linked none empty other)
-    ∙ ap (λ (b : Bool). unless b ELOOP) (same_chain es n k 6 v linked none empty)
+    ∙ ap (λ (b : Bool). unless b ELOOP) (same_chain es n k nesting_depth v linked none empty)
 
 -- the new keyring is not nested in itself
 pub nestable_self : (es : Table Key) (n : ℕ) (v : Key) → nestable (put es n v) n n ≡ Err EDEADLK
 unfolding nestable
 nestable_self es n v =
-    let chain : Result (Unit {0}) Errno = unless (has_chain (put es n v) n 6) ELOOP in
+    let chain : Result (Unit {0}) Errno = unless (has_chain (put es n v) n nesting_depth) ELOOP in
     ap (λ (b : Bool). unless b EDEADLK >>= (λ acyclic. chain)) (closes_self es n v)

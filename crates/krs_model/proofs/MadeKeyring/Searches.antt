@@ -16,7 +16,7 @@ use Rattle.krs_types.specs.Refusing.{or_refuse}
 use Rattle.krs_model.specs.Table.{Table, at}
 use Rattle.krs_model.specs.State.{State, Key}
 use Rattle.krs_model.specs.Access.{is_alive, is_over, rights_on}
-use Rattle.krs_model.specs.Levels.{level, levels, is_in}
+use Rattle.krs_model.specs.Levels.{level, levels, is_in, search_depth}
 use Rattle.krs_model.specs.Possession.{attached, process_ring, links_of_content, possessed}
 use Rattle.krs_model.specs.Sweep.{links_of_key, process_roots}
 use Rattle.krs_model.specs.Search.{Searcher, searcher_of, grants_search, is_open, open_links, entered, searched}
@@ -151,16 +151,17 @@ pub searched_others :
 unfolding searched
 searched_others by n head linked none other k h =
     ⊎_elim (λ (i : is_in k (head ∷ []) ≡ true). λ e. other (sym (only_in k head i) ∙ e))
-    (λ (r : (j : ℕ) × (is_in j (levels (entered by) (head ∷ []) 8) ≡ true) × (is_in k (entered by j) ≡ true)).
+    (λ (r : (j : ℕ) × (is_in j (levels (entered by) (head ∷ []) (suc search_depth)) ≡ true)
+    × (is_in k (entered by j) ≡ true)).
     linked_other by.keys n r.0 k linked none (entered_linked by r.0 k (at by.keys r.0) r.2))
-    (levels_linked (entered by) (head ∷ []) 8 k h)
+    (levels_linked (entered by) (head ∷ []) (suc search_depth) k h)
 
 same_searched :
     (s t : State) (c d : Context) (desc before after : List ℕ) → HasMade s c t d desc before after
     → at s.keys s.next_serial ≡ None → searched (searcher_of t d) ≡ searched (searcher_of s c)
 unfolding searched
 same_searched s t c d desc before after made none =
-    let from : (ℕ → List ℕ) → ℕ → List ℕ = λ links head. levels links (head ∷ []) 8 in
+    let from : (ℕ → List ℕ) → ℕ → List ℕ = λ links head. levels links (head ∷ []) (suc search_depth) in
     ap from (same_entered s t c d desc before after made none)
 
 -- a search from another key finds what it did
@@ -225,7 +226,7 @@ levels_alone links n (suc m) empty =
 
 searched_new : (by : Searcher) (n : ℕ) → at by.keys n ≡ None → searched by n ≡ n ∷ []
 unfolding searched
-searched_new by n none = levels_alone (entered by) n 7 (ap (open_links by n) none)
+searched_new by n none = levels_alone (entered by) n search_depth (ap (open_links by n) none)
 
 one_sought :
     (named : Bool) (n : ℕ)

@@ -13,7 +13,7 @@ use Rattle.krs_types.specs.Refusing.{◌>>=◌}
 use Rattle.krs_model.specs.Table.{Table, at}
 use Rattle.krs_model.specs.State.{Key}
 use Rattle.krs_model.specs.Levels.{levels, is_in}
-use Rattle.krs_model.specs.Reach.{links_of_key_at, closes, has_chain}
+use Rattle.krs_model.specs.Reach.{links_of_key_at, closes, has_chain, nesting_depth}
 use Rattle.krs_model.specs.Sound.{AllLinked}
 use Rattle.krs_model.specs.Asks.Linked.{nestable, unless}
 use Rattle.krs_model.proofs.Tables.Changes.{same_at}
@@ -56,4 +56,5 @@ pub nests_opens :
     (keys : Table Key) (ring serial : ℕ) (x : Unit {0}) → nestable keys ring serial ≡ Ok x
     → closes keys serial ring ≡ false
 unfolding nestable
-nests_opens keys ring serial x h = opens (closes keys serial ring) (unless (has_chain keys serial 6) ELOOP) x h
+nests_opens keys ring serial x h =
+    opens (closes keys serial ring) (unless (has_chain keys serial nesting_depth) ELOOP) x h

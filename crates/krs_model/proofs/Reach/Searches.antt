@@ -13,7 +13,7 @@ use Rattle.krs_types.specs.declared.name.Name.{Name}
 use Rattle.krs_types.specs.Refusing.{or_refuse}
 use Rattle.krs_model.specs.State.{State}
 use Rattle.krs_model.specs.Possession.{attached, possessed}
-use Rattle.krs_model.specs.Levels.{level, levels}
+use Rattle.krs_model.specs.Levels.{level, levels, search_depth}
 use Rattle.krs_model.specs.Search.{Searcher, searcher_of, entered, searched, is_answer, is_revoked, is_expired}
 use Rattle.krs_model.specs.Search.{is_denied, fault, fault_among, sought, found_by, found, requested, weightier}
 use Rattle.krs_model.specs.Search.{or_next}
@@ -197,7 +197,7 @@ pub found_is_first : (s : State) (c : Context) (head : ℕ) (name : Name) (seria
 unfolding found searched possessed
 found_is_first s c head name serial h =
     let by = searcher_of s c in
-    let r = least_passes (is_answer by name) (entered by) (head ∷ []) 8 serial
+    let r = least_passes (is_answer by name) (entered by) (head ∷ []) (suc search_depth) serial
     (found_first _ (find (is_answer by name) (searched by head)) serial h) in
     record {
       answer = r.passes;
@@ -213,8 +213,8 @@ pub refused_has_none : (s : State) (c : Context) (head : ℕ) (name : Name) (err
 unfolding found searched possessed
 refused_has_none s c head name error h n i other le at =
     let by = searcher_of s c in
-    let less : n < 8 = omega arith in
-    none_above (is_answer by name) (entered by) (head ∷ []) 8 n i other
+    let less : n < suc search_depth = omega arith in
+    none_above (is_answer by name) (entered by) (head ∷ []) (suc search_depth) n i other
     (refused_none _ error (find (is_answer by name) (searched by head)) h) less at
 
 -- where one passes, one is found
@@ -240,7 +240,7 @@ any_met : (by : Searcher) (head : ℕ) (p : ℕ → Bool) → list_any p (search
 unfolding searched
 any_met by head p h =
     let k = any_found p (searched by head) h in
-    let r = least_passes p (entered by) (head ∷ []) 8 k.0 k.1 in
+    let r = least_passes p (entered by) (head ∷ []) (suc search_depth) k.0 k.1 in
     (r.depth, r.place, k.0, omega (arith, r.bound), r.stands, r.passes)
 
 met_any : (by : Searcher) (head : ℕ) (p : ℕ → Bool) → IsMet by head p → list_any p (searched by head) ≡ true
@@ -248,8 +248,8 @@ unfolding searched
 met_any by head p (depth, place, serial, bound, stands, passes) =
     elim (list_any p (searched by head)) as (λ b. list_any p (searched by head) ≡ b → b ≡ true) [
       | true ↦ λ e. refl
-      | false ↦ λ e. absurd (true≢false (sym passes ∙ none_above p (entered by) (head ∷ []) 8 depth place serial
-          (none_found p (searched by head) e) (omega (arith, bound)) stands))
+      | false ↦ λ e. absurd (true≢false (sym passes ∙ none_above p (entered by) (head ∷ []) (suc search_depth) depth place
+          serial (none_found p (searched by head) e) (omega (arith, bound)) stands))
     ] refl
 
 unmet : (by : Searcher) (head : ℕ) (p : ℕ → Bool) → (IsMet by head p → ⊥) → list_any p (searched by head) ≡ false

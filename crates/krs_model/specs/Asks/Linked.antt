@@ -13,7 +13,7 @@ use Rattle.krs_model.specs.State.{State, Key, Content, Payload, Links}
 use Rattle.krs_model.specs.Levels.{is_in}
 use Rattle.krs_model.specs.Lookup.{context_of, serial_of, look_up}
 use Rattle.krs_model.specs.Linking.{ring_links, link_named, linking, has_room}
-use Rattle.krs_model.specs.Reach.{closes, has_chain}
+use Rattle.krs_model.specs.Reach.{closes, has_chain, nesting_depth}
 use Rattle.krs_model.specs.Making.{made_for, within_serials}
 use Rattle.krs_model.specs.Asks.Changing.{changed}
 use Rattle.krs_model.specs.Outcome.{Outcome}
@@ -30,7 +30,7 @@ unless bad error = if bad then Err error else Ok tt
 unfoldable pub nestable : Table Key → ℕ → ℕ → Result (Unit {0}) Errno
 nestable keys ring serial = do
   acyclic ← unless (closes keys serial ring) EDEADLK
-  unless (has_chain keys serial 6) ELOOP
+  unless (has_chain keys serial nesting_depth) ELOOP
 
 -- The keyring of this serial and these links may link the key: the link closes no cycle and nests no keyring too deep,
 -- and the keyring has room. EDEADLK, ELOOP and ENFILE come in this order: KEYCTL_LINK, "ERRORS"; profile, full keyrings

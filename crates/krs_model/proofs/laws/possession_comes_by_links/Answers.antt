@@ -1,15 +1,16 @@
-use Rattle.std.proofs.Common.{arith}
+use Rattle.std.proofs.Common.{suc, arith}
+use Rattle.krs_model.specs.Levels.{search_depth}
 use Rattle.krs_model.specs.Possession.{followed_in, attached, possessed}
 use Rattle.krs_model.proofs.Reach.Levels.{levels_linked, in_level, of_level}
 use Rattle.krs_model.proofs.laws.possession_comes_by_links.Goals as goal
 
 pub returns-clause-links : goal.returns-clause-links
 unfolding possessed
-returns-clause-links c = λ s x k h. levels_linked (followed_in s x) (attached s x) 8 k h
+returns-clause-links c = λ s x k h. levels_linked (followed_in s x) (attached s x) (suc search_depth) k h
 
 pub returns-clause-levels : goal.returns-clause-levels
 unfolding possessed
 returns-clause-levels c = λ s x k. (
-  λ h. let r = in_level (followed_in s x) (attached s x) k 8 h in (r.0, omega (arith, r.1), r.2),
-  λ r. of_level (followed_in s x) (attached s x) k r.0 8 (omega (arith, r.1)) r.2,
+  λ h. let r = in_level (followed_in s x) (attached s x) k (suc search_depth) h in (r.0, omega (arith, r.1), r.2),
+  λ r. of_level (followed_in s x) (attached s x) k r.0 (suc search_depth) (omega (arith, r.1)) r.2,
 )

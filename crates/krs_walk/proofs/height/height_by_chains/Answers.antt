@@ -1,4 +1,5 @@
 use Rattle.std.proofs.Common.{◌+◌, refl, sym, ◌∙◌, arith}
+use Rattle.krs_model.specs.Reach.{nesting_depth}
 use Rattle.krs_keys.specs.Keys.{shown}
 use Rattle.krs_walk.proofs.DepthLemmas.{no_chain}
 use Rattle.krs_walk.proofs.HeightLemmas.{none_longer}
@@ -9,5 +10,5 @@ loop-height-init c = no_chain (shown c.args.keys.now.keys) c.args.key 0 refl
 
 pub returns-then-not-has_chain-clause-shallow : goal.returns-then-not-has_chain-clause-shallow
 returns-then-not-has_chain-clause-shallow c =
-    none_longer (shown c.args.keys.now.keys) c.args.key (c.loop-height.height + 1) 6 (omega arith)
+    none_longer (shown c.args.keys.now.keys) c.args.key (c.loop-height.height + 1) nesting_depth (omega arith)
     (sym c.has_chain.ensures ∙ c.if-not-has_chain.true)

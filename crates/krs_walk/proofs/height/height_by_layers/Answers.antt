@@ -1,5 +1,5 @@
 use Rattle.std.proofs.Common.{◌≡◌, ◌==◌, ◌+◌, [], ◌∷◌, true, length, refl, ap, ◌∙◌, arith, subst, sym}
-use Rattle.krs_model.specs.Reach.{nested_in, has_chain}
+use Rattle.krs_model.specs.Reach.{nested_in, has_chain, nesting_depth}
 use Rattle.krs_keys.specs.Keys.{shown}
 use Rattle.krs_walk.specs.Lists.{join}
 use Rattle.krs_walk.proofs.HeightLemmas.{layer_starts, layer_next, layer_chain, layer_ends, none_longer}
@@ -40,9 +40,9 @@ pub returns-clause-error : goal.returns-clause-error
 returns-clause-error c =
     let keys = shown c.args.keys.now.keys in
     let l = c.loop-height in
-    let six : l.height ≡ 6 = omega arith in (
+    let last : l.height ≡ nesting_depth = omega arith in (
       refl,
-      subst (λ (z : _). has_chain keys c.args.key z ≡ true) six
+      subst (λ (z : _). has_chain keys c.args.key z ≡ true) last
           (layer_chain keys c.args.key l.height l.layer l.invariant.layer l.invariant.some),
     )
 
@@ -53,6 +53,6 @@ returns-then-is_empty-clause-shallow c =
     let next =
     layer_next (nested_in keys) (c.args.key ∷ []) l.height l.layer c.next_layer.new.next l.invariant.layer
     c.in_ok-next_layer.ensures in
-    none_longer keys c.args.key (l.height + 1) 6 (omega arith)
+    none_longer keys c.args.key (l.height + 1) nesting_depth (omega arith)
     (layer_ends keys c.args.key (l.height + 1) c.next_layer.new.next next
     (sym c.is_empty.ensures ∙ c.if-is_empty.true))

@@ -1,6 +1,6 @@
 use Rattle.std.proofs.Common.{◌≡◌, ◌≤◌, ◌+◌, ℕ, length, drop, Bool, false, ap, sym, subst, ◌∙◌, arith}
 use Rattle.std.specs.List.{flat_map, list_any}
-use Rattle.krs_model.specs.Levels.{levels, is_in}
+use Rattle.krs_model.specs.Levels.{levels, is_in, search_depth}
 use Rattle.krs_model.specs.Possession.{followed_at, attached_with}
 use Rattle.krs_keys.specs.Keys.{shown}
 use Rattle.krs_walk.specs.Lists.{join}
@@ -47,7 +47,7 @@ returns-then-level_links c =
     λ k. is_in c.args.serial (followed_at (shown c.args.keys.now.keys) c.args.clock c.args.context.now.caller k) in
     let rings = followed_rings (shown c.args.keys.now.keys) c.args.clock c.args.context.now.caller in
     let heads = attached_with c.args.context.now c.args.process_ring in
-    sym (search_finds test rings heads c.loop-level.level 7 c.loop-level.start c.loop-level.seen
+    sym (search_finds test rings heads c.loop-level.level search_depth c.loop-level.start c.loop-level.seen
     c.loop-level.invariant (omega arith)
     (sym c.level_links.ensures ∙ c.if-level_links.true))
 
@@ -57,5 +57,5 @@ returns c =
     λ k. is_in c.args.serial (followed_at (shown c.args.keys.now.keys) c.args.clock c.args.context.now.caller k) in
     let rings = followed_rings (shown c.args.keys.now.keys) c.args.clock c.args.context.now.caller in
     let heads = attached_with c.args.context.now c.args.process_ring in
-    let seven : c.loop-level.level ≡ 7 = omega arith in
-    sym (subst (λ (n : ℕ). list_any test (levels rings heads n) ≡ false) seven c.loop-level.invariant.not_yet)
+    let last : c.loop-level.level ≡ search_depth = omega arith in
+    sym (subst (λ (n : ℕ). list_any test (levels rings heads n) ≡ false) last c.loop-level.invariant.not_yet)

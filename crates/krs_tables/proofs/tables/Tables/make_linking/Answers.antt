@@ -1,7 +1,7 @@
 use Rattle.std.proofs.Common.{◌≡◌, ◌∙◌, Some, ap, refl, sym, subst, false, Bor}
 use Rattle.std.specs.Option.{option_map}
 use Rattle.krs_model.specs.State.{State}
-use Rattle.krs_model.specs.Reach.{has_chain}
+use Rattle.krs_model.specs.Reach.{has_chain, nesting_depth}
 use Rattle.krs_model.specs.Table.{at}
 use Rattle.krs_model.specs.Asks.Linked.{name_of}
 use Rattle.krs_keys.specs.declared.key.Key.{Key}
@@ -18,8 +18,9 @@ make_ring-requires-clause-place c =
 pub returns : goal.returns
 returns c =
     let s = c.args.self.now in
-    let short : has_chain s.keys c.args.serial 6 ≡ false =
-    subst (λ (t : State). has_chain t.keys c.args.serial 6 ≡ false) c.self.view_is c.in_ok-_height.ensures.shallow in
+    let short : has_chain s.keys c.args.serial nesting_depth ≡ false =
+    subst (λ (t : State). has_chain t.keys c.args.serial nesting_depth ≡ false) c.self.view_is
+    c.in_ok-_height.ensures.shallow in
     let there : at s.keys c.args.serial ≡ Some (seen c.in_ok-key.key.now) =
     sym c.key.ensures.value ∙ ap (option_map (λ (k : Bor Key). seen k.now)) c.in_ok-key.ensures.ok_part in
     linking_done c.args.special s c.make_ring.new.self c.args.client c.args.number c.args.serial
@@ -30,8 +31,9 @@ returns c =
 pub returns-in_err-links : goal.returns-in_err-links
 returns-in_err-links c =
     let s = c.args.self.now in
-    let short : has_chain s.keys c.args.serial 6 ≡ false =
-    subst (λ (t : State). has_chain t.keys c.args.serial 6 ≡ false) c.self.view_is c.in_ok-_height.ensures.shallow in
+    let short : has_chain s.keys c.args.serial nesting_depth ≡ false =
+    subst (λ (t : State). has_chain t.keys c.args.serial nesting_depth ≡ false) c.self.view_is
+    c.in_ok-_height.ensures.shallow in
     let there : at s.keys c.args.serial ≡ Some (seen c.in_ok-key.key.now) =
     sym c.key.ensures.value ∙ ap (option_map (λ (k : Bor Key). seen k.now)) c.in_ok-key.ensures.ok_part in
     wanting_as s s _ _ c.from_residual-in_err-links.ensures.1
@@ -42,8 +44,9 @@ returns-in_err-links c =
 pub returns-in_err-make_ring : goal.returns-in_err-make_ring
 returns-in_err-make_ring c =
     let s = c.args.self.now in
-    let short : has_chain s.keys c.args.serial 6 ≡ false =
-    subst (λ (t : State). has_chain t.keys c.args.serial 6 ≡ false) c.self.view_is c.in_ok-_height.ensures.shallow in
+    let short : has_chain s.keys c.args.serial nesting_depth ≡ false =
+    subst (λ (t : State). has_chain t.keys c.args.serial nesting_depth ≡ false) c.self.view_is
+    c.in_ok-_height.ensures.shallow in
     let there : at s.keys c.args.serial ≡ Some (seen c.in_ok-key.key.now) =
     sym c.key.ensures.value ∙ ap (option_map (λ (k : Bor Key). seen k.now)) c.in_ok-key.ensures.ok_part in
     wanting_as _ _ _ _ c.from_residual-in_err-make_ring.ensures.1

@@ -1,13 +1,15 @@
-use Rattle.std.proofs.Common.{sym, ◌∙◌}
+use Rattle.std.proofs.Common.{sym, ◌∙◌, arith}
 use Rattle.krs_keys.specs.Keys.{shown}
 use Rattle.krs_walk.proofs.PossessionLemmas.{head_possessed}
 use Rattle.krs_walk.proofs.HeldLemmas.{held_possessed, not_possessed}
 use Rattle.krs_walk.proofs.held.HeldRings.has.Goals as goal
 
-pub returns-then-self-eq-LEVELS-clause-has : goal.returns-then-self-eq-LEVELS-clause-has
-returns-then-self-eq-LEVELS-clause-has c =
+pub returns-then-self-gt-SEARCH_DEPTH-clause-has : goal.returns-then-self-gt-SEARCH_DEPTH-clause-has
+returns-then-self-gt-SEARCH_DEPTH-clause-has c =
+    let bound = c.walk.invariant.bound in
+    let more = c.if-self-gt-SEARCH_DEPTH.true in
     sym (not_possessed c.args.search.now c.walk.self c.args.ring c.walk.invariant c.requires.only c.requires.ring
-    c.if-self-eq-LEVELS.true (sym c.has.ensures ∙ c.walk-test.true))
+    (omega (arith, bound, more)) (sym c.has.ensures ∙ c.walk-test.true))
 
 pub returns-clause-has : goal.returns-clause-has
 returns-clause-has c =

@@ -1,6 +1,6 @@
 use Rattle.std.proofs.Common.{◌≡◌, [], length, sym, ◌∙◌, arith}
 use Rattle.std.proofs.lemmas.List.{nil_from_length}
-use Rattle.krs_model.specs.Reach.{nested_in}
+use Rattle.krs_model.specs.Reach.{nested_in, nesting_depth}
 use Rattle.krs_keys.specs.Keys.{shown}
 use Rattle.krs_walk.proofs.ListsLemmas.{is_same}
 use Rattle.krs_walk.proofs.HeightLemmas.{leaf_height, none_longer}
@@ -18,4 +18,4 @@ returns-then-is_empty-clause-shallow c =
     let leaf : nested_in keys c.args.key ≡ [] =
     sym c.rings_of.ensures ∙ nil_from_length c.rings_of.result.now
     (is_same (length c.rings_of.result.now) 0 (sym c.is_empty.ensures ∙ c.if-is_empty.true)) in
-    none_longer keys c.args.key 1 6 (omega arith) (leaf_height keys c.args.key leaf).longest
+    none_longer keys c.args.key 1 nesting_depth (omega arith) (leaf_height keys c.args.key leaf).longest
