@@ -9,6 +9,7 @@ pub mod HashedLemmas
 pub mod PlacesLemmas
 pub mod AfterChanges
 pub mod RingsLemmas
+pub mod RingCount
 pub mod SessionsLemmas
 pub mod LinkPlaces
 pub mod LeastJoinable

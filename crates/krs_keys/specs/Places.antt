@@ -1,6 +1,6 @@
 -- Keys by place: what each place holds, the place of each serial, and the serials of the keyrings.
 use Rattle.std.specs.Prelude.{◌≡◌, ℕ, ◌≤◌, List, [], ◌∷◌, Bool, false, nat_eq, nat_lt, true, Option, None, Some}
-use Rattle.std.specs.Prelude.{IsSome, cond, slice_index_or}
+use Rattle.std.specs.Prelude.{IsSome, cond, filter, slice_index_or}
 use Rattle.std.specs.List.{list_any}
 use Rattle.std.specs.Map.{lookup}
 use Rattle.std.specs.Option.{option_map}
@@ -43,6 +43,10 @@ by_place placed = in_slots placed.slots.slots placed.places.entries
 abbrev pub is_keyring : Option Key → Bool
 is_keyring None = false
 is_keyring (Some key) = same_kind key.name.kind Keyring
+
+-- the keyrings among the keys
+abbrev pub keyrings_in : Table Key → Table Key
+keyrings_in keys = filter (λ e. is_keyring (at keys e.0)) keys
 
 -- each serial's place holds a key, no two serials have one place, and no place holds a key that no serial finds
 pub record HavePlaces (slots : List (Option Key)) (places : List (ℕ × ℕ)) : Type 0 where

@@ -1,4 +1,4 @@
-ghost use Rattle.std.specs.Prelude.{◌≡◌, ◌≢◌, Some, false, slice_get, IfSome, IfNone, IfOk, IfErr, OnOk, OnErr};
+ghost use Rattle.std.specs.Prelude.{◌≡◌, ◌≢◌, Some, false, slice_get, IfSome, IfNone, IfOk, IfErr, OnOk, OnErr, IsOk, IsSome};
 ghost use Rattle.krs_links.specs.Links.{serial_named, serials, is_refused, link_error};
 ghost use Rattle.krs_keys.specs.Keys.{with_entry, without_link_at, named_links_of_content, seen};
 ghost use Rattle.krs_keys.specs.Changes.{changed};
@@ -155,6 +155,7 @@ impl Key {
         ensures ok { OnOk result (self.new ≡ with_entry name serial self.old) }
         ensures displaced { IfOk result (λ old. old ≡ serial_named (named_links_of_content self.old.content) name) }
         ensures room { OnOk result (is_refused (named_links_of_content self.old.content) name ≡ false) }
+        ensures in_place { IsSome (serial_named (named_links_of_content self.old.content) name) → IsOk result }
         ensures error { IfErr result (λ e. e ≡ link_error (named_links_of_content self.old.content) name) }
         ensures err { OnErr result (self.new ≡ self.old) }
     {

@@ -1,5 +1,5 @@
 ghost use Rattle.std.specs.Prelude.{◌≡◌, ◌+◌, ◌^◌, ◌<◌, None, false, [], length};
-ghost use Rattle.std.specs.Prelude.{IfOk, IfErr, OnOk, OnErr, option_copied};
+ghost use Rattle.std.specs.Prelude.{IfOk, IfErr, OnOk, OnErr, IsOk, IsSome, option_copied};
 ghost use Rattle.std.specs.List.Sorted.{IsStrictlySortedBy};
 ghost use Rattle.std.specs.Map.{keys_of};
 ghost use Rattle.std.specs.Ordering.{nat_cmp};
@@ -11,7 +11,7 @@ ghost use Rattle.krs_keys.specs.Changes.{changed};
 ghost use Rattle.krs_keys.specs.Table.{with_key, with_linked_key, AreLeft};
 ghost use Rattle.krs_keys.specs.Table.{insert_error, IsLinkError, IsLinkedError};
 ghost use Rattle.krs_keys.specs.Keys.{joinable_in};
-ghost use Rattle.krs_keys.specs.Places.{by_place, ArePlaced};
+ghost use Rattle.krs_keys.specs.Places.{by_place, keyrings_in, ArePlaced};
 ghost use Rattle.krs_keys.specs.Sessions.{AreSessions};
 
 use crate::placed::PlacedKeys;
@@ -81,6 +81,13 @@ impl KeyTable {
         ensures ordered { IsStrictlySortedBy nat_cmp (keys_of self.now.keys) }
     {
         self.keys.len()
+    }
+
+    /// How many keyrings there are.
+    pub fn ring_count(&self) -> usize
+        ensures { result ≡ length (keyrings_in self.now.keys) }
+    {
+        self.keys.ring_count()
     }
 
     /// The key at a serial.
@@ -178,7 +185,8 @@ impl KeyTable {
         }
     }
 
-    /// One more link in a keyring, and the serial that it displaces: ENFILE, ENOMEM.
+    /// One more link in a keyring, and the serial that it displaces: ENFILE, ENOMEM. It takes no memory where it displaces
+    /// one.
     pub fn link(
         &mut self,
         ring: Serial,
@@ -189,6 +197,7 @@ impl KeyTable {
         ensures ok { OnOk result (self.new
             ≡ record self.old { keys = alter self.old.keys ring (with_entry name serial) }) }
         ensures room { OnOk result (is_refused (named_links_of_key_at self.old.keys ring) name ≡ false) }
+        ensures in_place { IsSome (displaced_at self.old.keys ring name) → IsOk result }
         ensures error { IfErr result (λ e. e ≡ link_error (named_links_of_key_at self.old.keys ring) name) }
         ensures err { OnErr result (self.new ≡ self.old) }
     {

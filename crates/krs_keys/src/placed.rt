@@ -1,13 +1,13 @@
 //! The keys, each at a place that it keeps.
 ghost use Rattle.std.specs.Prelude.{◌≡◌, ℕ, ◌+◌, [], None, false, length};
-ghost use Rattle.std.specs.Prelude.{IfOk, IfErr, OnOk, OnErr, option_copied};
+ghost use Rattle.std.specs.Prelude.{IfOk, IfErr, OnOk, OnErr, IsOk, IsSome, option_copied};
 ghost use Rattle.krs_links.specs.Links.{has_link, is_refused, link_error};
 ghost use Rattle.krs_model.specs.Asks.Joining.{is_joinable};
 ghost use Rattle.krs_model.specs.Table.{at, put, without, alter, map_values};
 ghost use Rattle.krs_keys.specs.Changes.{changed};
 ghost use Rattle.krs_keys.specs.Keys.{with_entry, without_key, displaced_at, named_links_of_key_at, seen};
 ghost use Rattle.krs_keys.specs.Keys.{joinable_in, AreFit, AreOfKind};
-ghost use Rattle.krs_keys.specs.Places.{by_place, place_of, is_sooner, passes, ArePlaced, HaveRoom};
+ghost use Rattle.krs_keys.specs.Places.{by_place, keyrings_in, place_of, is_sooner, passes, ArePlaced, HaveRoom};
 ghost use Rattle.krs_keys.specs.Sessions.{AreSessions};
 
 use crate::sessions::Sessions;
@@ -48,6 +48,14 @@ impl PlacedKeys {
         ensures { result ≡ length (by_place self.now) }
     {
         self.places.len()
+    }
+
+    /// How many keyrings there are.
+    pub(crate) fn ring_count(&self) -> usize
+        requires { ArePlaced self.now }
+        ensures { result ≡ length (keyrings_in (by_place self.now)) }
+    {
+        self.rings.len()
     }
 
     /// The key at a serial.
@@ -125,6 +133,7 @@ impl PlacedKeys {
         ensures displaced { IfOk result (λ old. old ≡ displaced_at (by_place self.old) ring name) }
         ensures ok { OnOk result (by_place self.new ≡ alter (by_place self.old) ring (with_entry name serial)) }
         ensures room { OnOk result (is_refused (named_links_of_key_at (by_place self.old) ring) name ≡ false) }
+        ensures in_place { IsSome (displaced_at (by_place self.old) ring name) → IsOk result }
         ensures error { IfErr result (λ e. e ≡ link_error (named_links_of_key_at (by_place self.old) ring) name) }
         ensures err { OnErr result (by_place self.new ≡ by_place self.old) }
     {

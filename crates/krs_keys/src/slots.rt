@@ -1,6 +1,6 @@
 //! What stands at a place, and which keyrings are listed.
 ghost use Rattle.std.specs.Prelude.{◌≡◌, ℕ, ◌+◌, ◌≤◌, Some, false, nat_eq, cond, slice_get, option_copied};
-ghost use Rattle.std.specs.Prelude.{IfSome, IfNone, IfOk, IfErr, OnOk, OnErr};
+ghost use Rattle.std.specs.Prelude.{IfSome, IfNone, IfOk, IfErr, OnOk, OnErr, IsOk, IsSome};
 ghost use Rattle.indexmap.specs.IndexSet.{spare};
 ghost use Rattle.krs_links.specs.Links.{has_link, serials, is_refused, link_error};
 ghost use Rattle.krs_model.specs.Table.{at, alter, map_values};
@@ -36,6 +36,7 @@ pub(crate) fn link(
     ensures displaced { IfOk result (λ old. old ≡ displaced_by name (held slots.old.slots place)) }
     ensures ok { OnOk result (IsChangedAt place (with_entry name serial) slots.old.slots slots.new.slots) }
     ensures room { OnOk result (is_refused (named_links_of_key (held slots.old.slots place)) name ≡ false) }
+    ensures in_place { IsSome (displaced_by name (held slots.old.slots place)) → IsOk result }
     ensures error { IfErr result (λ e. e ≡ link_error (named_links_of_key (held slots.old.slots place)) name) }
     ensures err { OnErr result (IsChangedAt place (λ key. key) slots.old.slots slots.new.slots) }
 {

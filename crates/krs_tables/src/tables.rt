@@ -173,9 +173,11 @@ impl Tables {
         Links::new(self.alloc, self.seed)
     }
 
-    /// Room for walks over so many keys more: it is made before the keys are. No clause can say so: it lies in cells.
+    /// Room for walks over the keyrings and so many keys more, which may be keyrings: it is made before the keys are. No
+    /// clause can say so: it lies in cells.
     pub fn make_walk_room(&self, more: usize) -> Result<(), AllocError> {
-        self.walker.room_for(self.keys.len().saturating_add(more))
+        self.walker
+            .room_for(self.keys.ring_count().saturating_add(more))
     }
 
     /// The clock is at least at this moment from now on.

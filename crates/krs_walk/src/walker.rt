@@ -28,17 +28,18 @@ impl Walker {
         }
     }
 
-    /// Makes room for walks over a table of that many keys. No clause can say that there is room then: it lies in cells.
-    pub fn room_for(&self, keys: usize) -> Result<(), AllocError> {
-        self.grow(&self.rings, keys)?;
-        self.grow(&self.held, keys)?;
-        self.grow(&self.followed, keys)
+    /// Makes room for walks over that many keyrings: what a walk lists are keyrings, each once. No clause can say that
+    /// there is room then: it lies in cells.
+    pub fn room_for(&self, rings: usize) -> Result<(), AllocError> {
+        self.grow(&self.rings, rings)?;
+        self.grow(&self.held, rings)?;
+        self.grow(&self.followed, rings)
     }
 
     /// Makes room in one list.
-    fn grow(&self, list: &Cell<Visits>, keys: usize) -> Result<(), AllocError> {
+    fn grow(&self, list: &Cell<Visits>, rings: usize) -> Result<(), AllocError> {
         let mut visits = self.take(list);
-        let grown = visits.make_room(keys);
+        let grown = visits.make_room(rings);
         list.set(visits);
         grown
     }

@@ -1,4 +1,5 @@
-use Rattle.std.proofs.Common.{◌≡◌, None, ◌∙◌, ap, refl, sym, subst}
+use Rattle.std.proofs.Common.{◌≡◌, Option, None, ◌∙◌, ap, refl, sym, subst}
+use Rattle.std.specs.Option.{IsSome}
 use Rattle.krs_links.specs.Links.{is_refused, link_error}
 use Rattle.krs_model.specs.Table.{Table, at}
 use Rattle.krs_model.proofs.Tables.Changes.{alter_none}
@@ -58,6 +59,10 @@ pub returns-in-Some-clause-room : goal.returns-in-Some-clause-room
 returns-in-Some-clause-room c =
     on_ok c.link.result (λ h. ap (λ o. is_refused (named_links_of_key o) c.args.name) (here c) ∙ h)
     c.link.ensures.room
+
+pub returns-in-Some-clause-in_place : goal.returns-in-Some-clause-in_place
+returns-in-Some-clause-in_place c = λ displaced.
+    c.link.ensures.in_place (subst (λ (o : Option Key). IsSome (displaced_by c.args.name o)) (here c) displaced)
 
 pub returns-in-Some-clause-error : goal.returns-in-Some-clause-error
 returns-in-Some-clause-error c =
