@@ -1,4 +1,4 @@
-ghost use Rattle.std.specs.Prelude.{◌≡◌, ◌≢◌, None, Some, Ok, Err, IsSome, IfSome, IfOk, OnOk, OnErr};
+ghost use Rattle.std.specs.Prelude.{◌≡◌, ◌≢◌, ◌<◌, ◌-◌, ◌^◌, None, Some, Ok, Err, IsOk, IsSome, IfSome, IfOk, OnOk, OnErr};
 ghost use Rattle.krs_types.specs.declared.fault.Fault.TheVariants.{Memory};
 ghost use Rattle.krs_model.specs.Outcome.{Leads, Is};
 ghost use Rattle.krs_model.specs.Table.{at};
@@ -10,12 +10,13 @@ ghost use Rattle.krs_model.specs.Asks.Changing.{changed};
 ghost use Rattle.krs_model.specs.Asks.Linked.{link, unlink, clear, nestable};
 ghost use Rattle.krs_keys.specs.Keys.{seen};
 ghost use Rattle.krs_links.specs.Links.{serials};
-ghost use Rattle.krs_tables.specs.Linked.{name_in, room_in, Puts, Takes};
+ghost use Rattle.krs_tables.specs.Holding.{holders_in};
+ghost use Rattle.krs_tables.specs.Linked.{name_in, room_in, displaced_in, Puts, Takes};
 ghost use Rattle.krs_tables.specs.Specials.{Makes, is_coming};
 
 use krs_keys::{Change, Content, Key};
 use krs_links::Links;
-use krs_tables::{Special, Tables};
+use krs_tables::{Special, Tables, check_room};
 use krs_types::{Answer, Errno, Fault, KeyId, Name, Rights, Serial, Want};
 use std::alloc::AllocError;
 
@@ -176,7 +177,8 @@ fn check_full(tables: &Tables, ring: Serial, name: &Name) -> Result<(), Errno>
     Ok(())
 }
 
-/// A link in a keyring that has room for it. Where memory is wanting, nothing has changed.
+/// A link in a keyring that has room for it. Where memory is wanting, nothing has changed. It takes none where it
+/// displaces a link; then all that may be wanting is room in the key's count of holders.
 fn put_named(
     tables: &mut Tables,
     ring: Serial,
@@ -187,11 +189,11 @@ fn put_named(
     requires ring { IsKeyringAt tables.old ring }
     requires room { room_in tables.old.keys ring name ≡ Ok tt }
     ensures ok { OnOk result (tables.new ≡ changed tables.old ring (linking tables.old.keys name serial)) }
+    ensures in_place { holders_in tables.old serial < 2 ^ 64 - 1
+        → IsSome (displaced_in tables.old.keys ring name) → IsOk result }
     ensures err { OnErr result (tables.new ≡ tables.old) }
 {
-    if !tables.holders.has_room(serial, 1) {
-        return Err(AllocError);
-    }
+    check_room(&tables.holders, &Some(serial))?;
     match tables.keys.link(ring, name, serial) {
         Ok(displaced) => {
             tables.holders.hold(serial);

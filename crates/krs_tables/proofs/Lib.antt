@@ -2,6 +2,7 @@ pub mod Grants
 pub mod Definitions
 pub mod Links
 pub mod OwedHolders
+pub mod CountRoom
 pub mod Owners
 pub mod MadeKeyrings
 pub mod MadeFor

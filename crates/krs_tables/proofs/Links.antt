@@ -23,7 +23,7 @@ use Rattle.krs_keys.specs.declared.key.Key.{Key}
 use Rattle.krs_keys.specs.declared.key.Content.{Content}
 use Rattle.krs_keys.specs.declared.key.Content.TheVariants.{Payload, Links}
 use Rattle.krs_keys.specs.Keys.{named_links_of_content, seen, seen_content, shown, name_at, named_links_of_key, named_links_of_key_at, AreNamed}
-use Rattle.krs_keys.specs.Keys.{AreFit, IsOfKind, AreOfKind, with_entry, entered}
+use Rattle.krs_keys.specs.Keys.{AreFit, IsOfKind, AreOfKind, with_entry, entered, displaced_at, displaced_by}
 use Rattle.krs_keys.proofs.LinkNames.{fit_alter, named_linked, ring_named}
 use Rattle.krs_keys.proofs.KeysLemmas.{serials-content, found_named, seen-with_entry}
 use Rattle.krs_tables.specs.declared.tables.Tables.TheInside.{Inside}
@@ -31,7 +31,7 @@ use Rattle.std.specs.Int.{w32, to_le_bytes}
 use Rattle.krs_model.specs.Asks.Reading.{serial_bytes}
 use Rattle.krs_model.specs.Asks.Adding.{IsKeyringAt}
 use Rattle.krs_tables.specs.View.{state_of}
-use Rattle.krs_tables.specs.Linked.{name_in, room_in}
+use Rattle.krs_tables.specs.Linked.{name_in, room_in, displaced_in}
 
 name_shown : (o : Option Key) (name : Name) → option_map name_of (option_map seen o) ≡ Some name
     → option_map (λ (k : Key). k.name) o ≡ Some name
@@ -107,6 +107,18 @@ room_told es ring name fit =
     ap (λ zs. has_room zs (link_named (shown es) name zs)) same
     ∙ (ap (has_room (serials links)) (found_named es name links (ring_named es ring fit))
     ∙ room_by links name (serial_named links name) refl)
+
+displaced_named : (o : Option Key) (name : Name) → serial_named (named_links_of_key o) name ≡ displaced_by name o
+displaced_named None name = refl
+displaced_named (Some key) name = refl
+
+-- what it would displace, by the names that the links have
+pub displaced_told : (es : Table Key) (ring : ℕ) (name : Name) → AreFit es
+    → displaced_in (shown es) ring name ≡ displaced_at es ring name
+displaced_told es ring name fit =
+    ap (link_named (shown es) name) (links_shown es ring)
+    ∙ (found_named es name (named_links_of_key_at es ring) (ring_named es ring fit)
+    ∙ displaced_named (at es ring) name)
 
 keyring_content : (kind : Kind) (content : Content) (links : List ℕ) → IsOfKind kind content
     → seen_content content ≡ model.Links links → same_kind kind Keyring ≡ true

@@ -1,14 +1,20 @@
 -- One attachment more.
-use Rattle.std.specs.Prelude.{ℕ, ◌-◌, ◌<◌, ◌^◌, ◌++◌, List, [], Option, None, Some}
+use Rattle.std.specs.Prelude.{ℕ, ◌+◌, ◌-◌, ◌<◌, ◌^◌, ◌++◌, List, [], Option, None, Some}
 use Rattle.std.specs.Option.{option_to_list}
 use Rattle.krs_types.specs.declared.context.UidRings.{UidRings}
 use Rattle.krs_model.specs.Table.{Table}
-use Rattle.krs_hold.specs.Tally.{number_at, one_more}
+use Rattle.krs_model.specs.State.{State}
+use Rattle.krs_model.specs.Sweep.{roots}
+use Rattle.krs_hold.specs.Tally.{number_at, one_more, times, all_links}
 
 -- one more may hold what it has
 abbrev pub HasRoom : Table ℕ → Option ℕ → Type 0
 HasRoom numbers None = Unit {0}
 HasRoom numbers (Some k) = number_at numbers k < 2 ^ 64 - 1
+
+-- how many links and attachments of a store hold a key: keyrings(7), "Anchoring keys"
+abbrev pub holders_in : State → ℕ → ℕ
+holders_in s serial = times serial (roots s) + times serial (all_links s.keys)
 
 -- what it has is held once more
 abbrev pub more_of : Option ℕ → Table ℕ → Table ℕ

@@ -22,6 +22,10 @@ name_in s serial = option_map name_of (at s.keys serial)
 abbrev pub room_in : Table Key → ℕ → Name → Result (Unit {0}) Errno
 room_in keys ring name = has_room (links_of_key_at keys ring) (link_named keys name (links_of_key_at keys ring))
 
+-- what a link of that name in the keyring would displace: profile, place of a link
+abbrev pub displaced_in : Table Key → ℕ → Name → Option ℕ
+displaced_in keys ring name = link_named keys name (links_of_key_at keys ring)
+
 -- the keyring links the key, where there is room, and then memory; else nothing has changed
 abbrev pub Puts : State → Result (Unit {0}) Fault → State → ℕ → Name → ℕ → Type 0
 Puts old (Ok done) new ring name serial =

@@ -1,18 +1,21 @@
-use Rattle.std.proofs.Common.{◌≡◌, ℕ, ap, sym, ◌∙◌, subst, Some}
+use Rattle.std.proofs.Common.{◌≡◌, ◌<◌, ◌-◌, ◌^◌, ℕ, ap, sym, ◌∙◌, subst, true≢false, Option, Some}
+use Rattle.std.specs.Option.{IsSome}
 use Rattle.krs_model.specs.State.{State}
 use Rattle.krs_model.specs.Linking.{linking}
 use Rattle.krs_model.specs.Asks.Changing.{changed}
 use Rattle.krs_keys.specs.Keys.{shown}
 use Rattle.krs_keys.proofs.KindsLemmas.{kinds_alter, linked_kind}
 use Rattle.krs_tables.specs.View.{state_of}
-use Rattle.krs_tables.specs.Linked.{name_in}
+use Rattle.krs_tables.specs.Linked.{name_in, displaced_in}
+use Rattle.krs_tables.specs.Holding.{holders_in}
+use Rattle.krs_tables.proofs.CountRoom.{room_told}
 use Rattle.std.specs.Option.{option_to_list}
 use Rattle.krs_model.specs.Table.{Table}
 use Rattle.krs_model.specs.Sweep.{roots}
 use Rattle.krs_model.specs.Asks.Adding.{IsKeyringAt}
 use Rattle.krs_hold.specs.Tally.{AreExact, all_less}
 use Rattle.krs_tables.proofs.OwedHolders.{linked_tallied}
-use Rattle.krs_tables.proofs.Links.{name_kept, fit_linked, shown_linked}
+use Rattle.krs_tables.proofs.Links.{name_kept, fit_linked, shown_linked, displaced_told}
 use Rattle.krs_ring_asks.proofs.linking.put_named.Goals as goal
 
 pub invariant_of-tables : goal.invariant_of-tables
@@ -41,3 +44,18 @@ returns-in-Ok-clause-ok c =
     ∙ (ap (λ zs. record (state_of s) { keys = zs }) (shown_linked es c.args.ring c.args.serial c.args.name
     c.tables.invariant.fit)
     ∙ ap (λ (t : State). changed t c.args.ring (linking t.keys c.args.name c.args.serial)) c.tables.view_is)
+
+pub returns-in_err-check_room-clause-in_place : goal.returns-in_err-check_room-clause-in_place
+returns-in_err-check_room-clause-in_place c = λ few displaced.
+    let here : holders_in (state_of c.tables.inside) c.args.serial < 2 ^ 64 - 1 =
+    subst (λ (s : State). holders_in s c.args.serial < 2 ^ 64 - 1) (sym c.tables.view_is) few in
+    absurd (true≢false (sym (c.in_err-check_room.ensures.room
+    (room_told c.tables.inside c.args.serial c.tables.invariant here))))
+
+pub returns-in-Err-clause-in_place : goal.returns-in-Err-clause-in_place
+returns-in-Err-clause-in_place c = λ few displaced.
+    let es = c.tables.inside.keys.keys in
+    let here : IsSome (displaced_in (shown es) c.args.ring c.args.name) =
+    subst (λ (s : State). IsSome (displaced_in s.keys c.args.ring c.args.name)) (sym c.tables.view_is) displaced in
+    absurd (true≢false (sym (c.in-Err.ensures.in_place
+    (subst (λ (o : Option ℕ). IsSome o) (displaced_told es c.args.ring c.args.name c.tables.invariant.fit) here))))

@@ -5,11 +5,6 @@ use Rattle.krs_hold.specs.Tally.{AreExact}
 use Rattle.krs_hold.proofs.Tallies.{tallied_with}
 use Rattle.krs_tables.proofs.holding.make_room.Goals as goal
 
-pub returns-then-not-has_room-clause-exact : goal.returns-then-not-has_room-clause-exact
-returns-then-not-has_room-clause-exact c = λ keys a h.
-    subst (λ (zs : Table ℕ). AreExact keys zs a) (sym c.in-Ok.ensures.ok)
-    (tallied_with (shown keys) a [] c.args.holders.now c.args.serial h)
-
 pub returns-clause-exact : goal.returns-clause-exact
 returns-clause-exact c = λ keys a h.
     subst (λ (zs : Table ℕ). AreExact keys zs a) (sym c.in-Ok.ensures.ok)

@@ -19,7 +19,7 @@ hold_of-requires c =
     let are = subst (λ (t : State). AreLinksTo t c.args.links c.args.linked) (sym c.self.view_is) c.requires.links in
     room_beside s c.args.links c.args.linked c.new-ring.result c.make_room.new.holders c.hold.new.self
     c.next.ensures.unused are (c.new-ring.ensures ∙ c.next.ensures.value) c.in_ok-make_room.ensures.ok c.hold.ensures
-    c.in_ok-check_room.ensures
+    c.in_ok-check_room.ensures.ok
 
 pub invariant_of-self-in-Ok : goal.invariant_of-self-in-Ok
 invariant_of-self-in-Ok c =

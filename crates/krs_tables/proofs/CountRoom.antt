@@ -1,0 +1,13 @@
+-- Room in a count of holders, by the links and attachments of a store.
+use Rattle.std.proofs.Common.{◌≡◌, ℕ, ◌+◌, ◌-◌, ◌<◌, ◌^◌, [], arith}
+use Rattle.krs_model.specs.Sweep.{roots}
+use Rattle.krs_keys.specs.Keys.{shown}
+use Rattle.krs_hold.specs.Tally.{number_at, times, all_links}
+use Rattle.krs_tables.specs.declared.tables.Tables.TheInside.{Inside}
+use Rattle.krs_tables.specs.Holding.{holders_in}
+use Rattle.krs_tables.specs.View.{state_of, IsConsistent}
+
+pub room_told : (s : Inside) (k : ℕ) → IsConsistent s → holders_in (state_of s) k < 2 ^ 64 - 1
+    → number_at s.holders k < 2 ^ 64 - 1
+room_told s k sound few =
+    let exact : number_at s.holders k ≡ 0 + holders_in (state_of s) k = sound.tallied.exact k in omega (arith, exact, few)
