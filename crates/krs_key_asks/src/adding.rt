@@ -10,7 +10,7 @@ ghost use Rattle.krs_tables.specs.Making.{adding_in};
 
 use krs_keys::{Change, Content, Key, LAST_SERIAL};
 use krs_links::Links;
-use krs_tables::Tables;
+use krs_tables::{Tables, check_room};
 use krs_types::{
     Answer, Blob, Body, Context, Desc, Errno, Fault, Kind, Name, Perm, Rights, Serial, Want,
 };
@@ -119,9 +119,7 @@ fn make(
     let Ok(()) = tables.holders.made(serial) else {
         return Err(AllocError);
     };
-    if !tables.holders.has_room(serial, 1) {
-        return Err(AllocError);
-    }
+    check_room(&tables.holders, &Some(serial))?;
     match tables.keys.insert_linked(ring, link, key) {
         Ok(displaced) => {
             tables.holders.hold(serial);

@@ -28,8 +28,8 @@ room_sound s numbers k sound e = record {
       (tallied_with (shown s.keys.keys) (roots (state_of s)) [] s.holders k sound.tallied);
 }
 
-pub invariant_of-tables-then-not-has_room : goal.invariant_of-tables-then-not-has_room
-invariant_of-tables-then-not-has_room c =
+pub invariant_of-tables-in_err-check_room : goal.invariant_of-tables-in_err-check_room
+invariant_of-tables-in_err-check_room c =
     room_sound c.tables.inside c.made.new.self c.new-serial.result c.tables.invariant c.in-Ok.ensures.ok
 
 pub invariant_of-tables-in-Err : goal.invariant_of-tables-in-Err
