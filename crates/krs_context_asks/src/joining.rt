@@ -1,14 +1,16 @@
-ghost use Rattle.std.specs.Prelude.{◌≡◌, ◌≤◌, length, Some, Ok, IfOk, OnOk, IfSome, IsSome};
+ghost use Rattle.std.specs.Prelude.{◌≡◌, ◌≢◌, ◌≤◌, ◌<◌, ◌^◌, ◌-◌, length, Some, Ok, Err, IfOk, OnOk, IfSome, IsSome};
+ghost use Rattle.krs_types.specs.declared.fault.Fault.TheVariants.{Memory};
 ghost use Rattle.std.specs.Option.{option_map};
 ghost use Rattle.krs_model.specs.Table.{at};
 ghost use Rattle.krs_model.specs.Outcome.{Leads};
 ghost use Rattle.krs_types.specs.declared.ask.Answer.TheVariants.{Number};
 ghost use Rattle.krs_model.specs.Asks.Joining.{join, joinable, session_named, joined_to};
 ghost use Rattle.krs_keys.specs.Keys.{seen};
+ghost use Rattle.krs_tables.specs.Holding.{holders_in};
 ghost use Rattle.krs_context_asks.specs.Joined.{joined_ring, session_key, joined_anew, session_in, IsEmptyRing};
 
 use krs_keys::{Content, Key};
-use krs_tables::{Tables, make_room};
+use krs_tables::{Tables, check_room, make_room};
 use krs_types::{Answer, Blob, Caller, Desc, Errno, Fault, Kind, Name, Perm, Serial};
 use std::alloc::AllocError;
 
@@ -85,7 +87,8 @@ fn joinable(tables: &Tables, caller: &Caller, name: &[u8]) -> Option<Serial>
     tables.keys.joinable(name, caller, tables.clock)
 }
 
-/// A keyring that is there becomes the session keyring of a context, which lets go of the one that it had.
+/// A keyring that is there becomes the session keyring of a context, which lets go of the one that it had. It takes no
+/// memory: what may be wanting is room in the keyring's count of holders.
 fn join_found(
     tables: &mut Tables,
     number: u32,
@@ -94,11 +97,10 @@ fn join_found(
 ) -> Result<Answer, Fault>
     requires own { session_in tables.old number ≡ Some left }
     requires there { IsSome (at tables.old.keys ring) }
-    ensures { Leads tables.old result tables.new (Ok (joined_to tables.old number ring, Number ring)) }
+    ensures step { Leads tables.old result tables.new (Ok (joined_to tables.old number ring, Number ring)) }
+    ensures room { holders_in tables.old ring < 2 ^ 64 - 1 → result ≢ Err Memory }
 {
-    if !tables.holders.has_room(ring, 1) {
-        return Err(Fault::Memory);
-    }
+    check_room(&tables.holders, &Some(ring))?;
     tables.contexts.attach_session(number, ring);
     tables.holders.hold(ring);
     tables.holders.let_go_of(left);

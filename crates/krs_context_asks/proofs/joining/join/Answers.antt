@@ -28,7 +28,7 @@ returns-in-Some c =
     subst (λ (meant : Outcome). Leads s c.join_found.result c.join_found.new.tables meant)
     (sym (join_finds s c.args.client c.args.number c.in-Some.ring c.args.name own c.in_ok-context.ensures
     named found))
-    c.join_found.ensures
+    c.join_found.ensures.step
 
 pub returns-in_ok-key-in-None : goal.returns-in_ok-key-in-None
 returns-in_ok-key-in-None c =

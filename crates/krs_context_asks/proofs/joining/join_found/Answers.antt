@@ -1,4 +1,4 @@
-use Rattle.std.proofs.Common.{◌≡◌, ℕ, Some, ap, sym, ◌∙◌, subst}
+use Rattle.std.proofs.Common.{◌≡◌, ◌<◌, ◌-◌, ◌^◌, ℕ, Some, ap, sym, ◌∙◌, subst, true≢false}
 use Rattle.std.specs.Option.{option_to_list, IsSome}
 use Rattle.krs_model.specs.Table.{Table, at}
 use Rattle.krs_model.specs.State.{State}
@@ -9,6 +9,8 @@ use Rattle.krs_hold.specs.Tally.{AreExact, one_more, all_less}
 use Rattle.krs_ctx.specs.Anchors.{Anchors, anchored}
 use Rattle.krs_context_asks.specs.Joined.{session_in}
 use Rattle.krs_tables.specs.View.{state_of}
+use Rattle.krs_tables.specs.Holding.{holders_in}
+use Rattle.krs_tables.proofs.CountRoom.{room_told}
 use Rattle.krs_context_asks.proofs.JoinedHolders.{joined_tallied}
 use Rattle.krs_context_asks.proofs.joining.join_found.Goals as goal
 
@@ -35,3 +37,9 @@ invariant_of-tables c =
           (joined_tallied (shown keys) base number ring left c.tables.inside.holders own
           (c.tables.invariant.tallied.counted ring there) c.tables.invariant.tallied));
     }
+
+pub returns-in_err-check_room-clause-room : goal.returns-in_err-check_room-clause-room
+returns-in_err-check_room-clause-room c = λ few memory.
+    let here : holders_in (state_of c.tables.inside) c.args.ring < 2 ^ 64 - 1 =
+    subst (λ (s : State). holders_in s c.args.ring < 2 ^ 64 - 1) (sym c.tables.view_is) few in
+    true≢false (sym (c.in_err-check_room.ensures.room (room_told c.tables.inside c.args.ring c.tables.invariant here)))
