@@ -2,7 +2,7 @@
 use Rattle.std.proofs.Common.{◌≡◌, ℕ, ◌+◌, ◌^◌, ◌<◌, ◌≤◌, Bool, true, false, cond, eqb, ltb, List, [], ◌∷◌, ◌++◌}
 use Rattle.std.proofs.Common.{length, take, drop, Option, Some, None, Result, Ok, Err, refl, sym, ap, subst, ◌∙◌}
 use Rattle.std.proofs.Common.{append_assoc, arith, inl, inr, length-append}
-use Rattle.std.specs.Prelude.{IfOk, IfSome, find}
+use Rattle.std.specs.Prelude.{IfOk, IfSome, IsOk, find}
 use Rattle.std.specs.Int.{w32, to_le_bytes}
 use Rattle.std.proofs.lemmas.Bool.{ltb-false, le-ltb, eqb-true}
 use Rattle.std.proofs.lemmas.List.{take_at, take-append-drop, length-take}
@@ -18,7 +18,7 @@ use Rattle.krs_wire.specs.declared.shape.Shape.TheVariants as shapes
 use Rattle.krs_wire.specs.Field.{number, nothing, whole}
 use Rattle.krs_wire.specs.Faulting.{or_bad_body, after, GivesRead}
 use Rattle.krs_wire.specs.Reply.{status_of, body_of, reply_frame, errno_of, HasShape, accepted, refused, answer_of}
-use Rattle.krs_wire.specs.Reply.{error_of, reply_by, reply_in, reply_front, is_bad_reply_length}
+use Rattle.krs_wire.specs.Reply.{error_of, reply_by, reply_in, reply_front, is_bad_reply_length, IsFound}
 use Rattle.krs_wire.proofs.CaseLemmas.{chosen, or_false, ok_body}
 use Rattle.krs_wire.proofs.FieldLemmas.{IsBytes, IsBytes-take, wide32, number_exact, whole_again, whole_takes}
 use Rattle.krs_wire.proofs.FieldLemmas.{nothing_exact}
@@ -262,3 +262,16 @@ only_by shape bytes r reply more has e g =
     ap (reply_front shape) e ∙ reply_again shape reply more has
     ∙ ap (λ (n : ℕ). whole_reply (reply, n)) (sym (frame_length reply)) in
     subst (λ (x : Result (Option (Result Answer Errno × ℕ)) WireFault). GivesRead (λ y. y) r x) again g
+
+-- a whole reply stands at the front where what stands behind its length says one
+pub found_after : (n : ℕ) (r : Result (Result Answer Errno) WireFault) → IsOk r
+    → IsFound (after (λ reply. Ok (Some (reply, n))) r)
+found_after n (Ok reply) ok = tt
+found_after n (Err fault) ok = absurd cc
+
+pub found_in : (shape : Shape) (read : Option (ℕ × List ℕ)) (n : ℕ) (bytes : List ℕ) → read ≡ Some (n, bytes) → 4 ≤ n
+    → n ≤ 262144 → n ≤ length bytes → IsOk (reply_by shape ((number w32).read (take n bytes)))
+    → IsFound (reply_in shape read)
+unfolding reply_in
+found_in shape read n bytes is low high long ok =
+    rw (is, le-ltb n 4 low, le-ltb 262144 n high, le-ltb (length bytes) n long) (found_after (4 + n) _ ok)

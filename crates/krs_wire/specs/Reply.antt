@@ -121,6 +121,12 @@ reply_in shape (Some (n, bytes)) =
 abbrev pub reply_front : Shape → List ℕ → Result (Option (Result Answer Errno × ℕ)) WireFault
 reply_front shape bytes = reply_in shape ((number w32).read bytes)
 
+-- a whole reply stands at the front
+abbrev pub IsFound : Result (Option (Result Answer Errno × ℕ)) WireFault → Type 0
+IsFound (Ok (Some found)) = Unit {0}
+IsFound (Ok None) = ⊥
+IsFound (Err fault) = ⊥
+
 -- the first bytes, so many, are the frame of this reply, which is an error or an answer of the kind
 abbrev pub IsAtFront : Shape → List ℕ → Result Answer Errno × ℕ → Type 0
 IsAtFront shape bytes found = (take found.1 bytes ≡ reply_frame found.0) × HasShape shape found.0

@@ -1,4 +1,4 @@
-ghost use Rattle.std.specs.Prelude.{◌≡◌, ◌≤◌, ◌<◌, ◌^◌, ◌++◌, [], ◌∷◌, length, drop, vec_len, IfOk, IfErr, OnOk};
+ghost use Rattle.std.specs.Prelude.{◌≡◌, ◌≤◌, ◌<◌, ◌-◌, ◌^◌, ◌++◌, [], ◌∷◌, length, drop, vec_len, IfOk, IfErr, OnOk};
 ghost use Rattle.std.specs.Int.{w16, w32, to_le_bytes};
 ghost use Rattle.std.specs.List.{flat_map, AllByRecursion};
 ghost use Rattle.krs_wire.specs.Bodies.{number_of_op, body_of_op, FitsOp, id_field, text_field, blob_field};
@@ -92,6 +92,7 @@ fn put_text(out: &mut Vec<u8>, text: &Blob) -> Result<(), WireFault>
     ensures ok { OnOk result (out.new.items ≡ out.old.items ++ text_field.spell text.now) }
     ensures fits { OnOk result (length text.now < 65536) }
     ensures long { IfErr result (IsTooLong 65536 text.now) }
+    ensures refused { 65535 < length text.now → result ≡ Err WireFault.BadLength }
 {
     let bytes = text.as_slice();
     if bytes.len() > 65535 {
@@ -106,6 +107,7 @@ fn put_blob(out: &mut Vec<u8>, blob: &Blob) -> Result<(), WireFault>
     ensures ok { OnOk result (out.new.items ≡ out.old.items ++ blob_field.spell blob.now) }
     ensures fits { OnOk result (length blob.now ≤ 65536) }
     ensures long { IfErr result (IsTooLong 65537 blob.now) }
+    ensures refused { 65536 < length blob.now → result ≡ Err WireFault.BadLength }
 {
     let bytes = blob.as_slice();
     if bytes.len() > MAX_LENGTH {
@@ -133,6 +135,7 @@ fn put_groups(out: &mut Vec<u8>, groups: &Groups) -> Result<(), WireFault>
     ensures ok { OnOk result (out.new.items ≡ out.old.items ++ groups_field.spell groups.now) }
     ensures fits { OnOk result (groups_field.Fits groups.now) }
     ensures long { IfErr result (IsTooLong 65536 (groups_field.spell groups.now)) }
+    ensures refused { 65536 < length groups.now → result ≡ Err WireFault.BadLength }
 {
     let numbers = groups.as_slice();
     if numbers.len() > MAX_LENGTH {
@@ -283,6 +286,7 @@ fn put_entries(out: &mut Vec<u8>, entries: &FilterEntries) -> Result<(), WireFau
     ensures ok { OnOk result (out.new.items ≡ out.old.items ++ entries_field.spell entries.now) }
     ensures fits { OnOk result (entries_field.Fits entries.now) }
     ensures long { IfErr result (IsTooLong 65536 (entries_field.spell entries.now)) }
+    ensures refused { 65536 < length entries.now → result ≡ Err WireFault.BadLength }
 {
     let lines = entries.as_slice();
     if lines.len() > MAX_LENGTH {
@@ -374,6 +378,23 @@ fn set_length(out: &mut Vec<u8>, len: u32)
     LittleEndian::write_u32(out, len);
 }
 
+/// What stands behind four bytes, with its length over these: BadLength where that is above 65536.
+fn with_length(out: Vec<u8>) -> Result<Vec<u8>, WireFault>
+    requires { 4 ≤ vec_len out }
+    ensures frame { IfOk result (λ v. v.items ≡ to_le_bytes w32 (length out.items - 4) ++ drop 4 out.items) }
+    ensures fits { OnOk result (length out.items ≤ 65540) }
+    ensures long { 65540 < length out.items → result ≡ Err WireFault.BadLength }
+    ensures fault { IfErr result (λ fault. (fault ≡ WireFault.BadLength) × (65540 < length out.items)) }
+{
+    let mut out = out;
+    let len = out.len() - 4;
+    if len > MAX_LENGTH {
+        return Err(WireFault::BadLength);
+    }
+    set_length(&mut out, len as u32);
+    Ok(out)
+}
+
 /// The frame of an ask: BadLength where its length would be above 65536.
 pub fn encode_ask(alloc: Global, ask: &Ask) -> Result<Vec<u8>, WireFault>
     ensures frame { IfOk result (λ v. v.items ≡ ask_frame ask.now) }
@@ -385,10 +406,5 @@ pub fn encode_ask(alloc: Global, ask: &Ask) -> Result<Vec<u8>, WireFault>
     let mut out = Vec::new(alloc);
     put_u32(&mut out, 0)?;
     put_ask(&mut out, ask)?;
-    let len = out.len() - 4;
-    if len > MAX_LENGTH {
-        return Err(WireFault::BadLength);
-    }
-    set_length(&mut out, len as u32);
-    Ok(out)
+    with_length(out)
 }

@@ -1,5 +1,5 @@
 // The fields of frames, each read from the front of the bytes, which the reader answers with what follows it.
-ghost use Rattle.std.specs.Prelude.{◌≡◌, ◌==◌, length, if◌then◌else◌};
+ghost use Rattle.std.specs.Prelude.{◌≡◌, ◌==◌, IfErr, length, if◌then◌else◌};
 ghost use Rattle.std.specs.Int.{w16, w32};
 ghost use Rattle.krs_wire.specs.Bodies.{id_field, text_field, blob_field, groups_field, entry_field, entries_field};
 ghost use Rattle.krs_wire.specs.Field.{flag, number, many_read, repeated};
@@ -21,7 +21,8 @@ pub(crate) fn u16_at(bytes: &[u8]) -> Result<(u16, &[u8]), WireFault>
 }
 
 pub(crate) fn u32_at(bytes: &[u8]) -> Result<(u32, &[u8]), WireFault>
-    ensures { GivesRead (λ x. (x.0, x.1.now)) result (or_bad_body ((number w32).read bytes.now)) }
+    ensures read { GivesRead (λ x. (x.0, x.1.now)) result (or_bad_body ((number w32).read bytes.now)) }
+    ensures fault { IfErr result (λ fault. fault ≡ WireFault.BadBody) }
 {
     if bytes.len() < 4 {
         return Err(WireFault::BadBody);

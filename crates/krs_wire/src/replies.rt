@@ -1,9 +1,9 @@
-ghost use Rattle.std.specs.Prelude.{◌≡◌, ◌≤◌, ◌++◌, IfOk, IfErr, IfSome, OnOk, OnErr, length};
+ghost use Rattle.std.specs.Prelude.{◌≡◌, ◌≤◌, ◌++◌, IfOk, IfErr, IfSome, IsOk, OnOk, OnErr, length};
 ghost use Rattle.std.specs.Int.{w32, to_le_bytes};
 ghost use Rattle.krs_wire.specs.Faulting.{GivesRead};
 ghost use Rattle.krs_wire.specs.Field.{number};
 ghost use Rattle.krs_wire.specs.Reply.{answer_of, frame_of, reply_by, reply_front, reply_frame, shape_of, Finds};
-ghost use Rattle.krs_wire.specs.Reply.{IsAtFront};
+ghost use Rattle.krs_wire.specs.Reply.{IsAtFront, IsFound};
 
 use crate::fields::{ended, u32_at};
 use crate::{Shape, WireFault};
@@ -67,7 +67,8 @@ pub fn encode_reply(alloc: Global, reply: &Reply) -> Result<Vec<u8>, WireFault>
 
 fn answer_at(alloc: Global, shape: Shape, body: &[u8]) -> Result<Reply, WireFault>
     requires { length body.now ≤ 262140 }
-    ensures { GivesRead (λ reply. reply) result (answer_of shape body.now) }
+    ensures read { GivesRead (λ reply. reply) result (answer_of shape body.now) }
+    ensures memory { result ≡ Err WireFault.Memory → IsOk (answer_of shape body.now) }
 {
     match shape {
         Shape::Nothing => ended(Ok(Answer::Nothing), body),
@@ -84,7 +85,9 @@ fn answer_at(alloc: Global, shape: Shape, body: &[u8]) -> Result<Reply, WireFaul
 
 fn reply_at(alloc: Global, shape: Shape, frame: &[u8]) -> Result<Reply, WireFault>
     requires { length frame.now ≤ 262144 }
-    ensures { GivesRead (λ reply. reply) result (reply_by shape ((number w32).read frame.now)) }
+    ensures read { GivesRead (λ reply. reply) result (reply_by shape ((number w32).read frame.now)) }
+    ensures memory { result ≡ Err WireFault.Memory
+        → IsOk (reply_by shape ((number w32).read frame.now)) }
 {
     let (status, body) = u32_at(frame)?;
     if status == 0 {
@@ -98,7 +101,8 @@ fn reply_at(alloc: Global, shape: Shape, frame: &[u8]) -> Result<Reply, WireFaul
 
 #[tactic(auto, unfolding(crate::specs::Reply::reply_in))]
 fn front_reply(alloc: Global, op: &Op, bytes: &[u8]) -> Result<Option<(Reply, usize)>, WireFault>
-    ensures { GivesRead (λ found. found) result (reply_front (shape_of op.now) bytes.now) }
+    ensures read { GivesRead (λ found. found) result (reply_front (shape_of op.now) bytes.now) }
+    ensures memory { result ≡ Err WireFault.Memory → IsFound (reply_front (shape_of op.now) bytes.now) }
 {
     if bytes.len() < 4 {
         return Ok(None);
@@ -124,6 +128,9 @@ pub fn decode_reply(
     bytes: &[u8],
 ) -> Result<Option<(Reply, usize)>, WireFault>
     ensures exact { GivesRead (λ found. found) result (reply_front (shape_of op.now) bytes.now) }
+
+    // Memory can be wanting only for a reply that stands there whole, so that each other fault is told.
+    ensures memory { result ≡ Err WireFault.Memory → IsFound (reply_front (shape_of op.now) bytes.now) }
 
     // What is found is spelled so.
     ensures found { IfOk result (λ o. IfSome o (IsAtFront (shape_of op.now) bytes.now)) }

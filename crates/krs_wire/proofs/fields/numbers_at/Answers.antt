@@ -9,7 +9,7 @@ pub loop-preserved : goal.loop-preserved
 loop-preserved c =
     let next =
     many_on (number w32) c.loop.numbers.items c.args.count c.loop.counter c.loop.rest.now c.in-Ok.number
-    c.in-Ok.after.now _ c.loop-test.true c.in-Ok.ensures c.loop.invariant in
+    c.in-Ok.after.now _ c.loop-test.true c.in-Ok.ensures.read c.loop.invariant in
     let pushed : c.push.new.self.items ≡ c.loop.numbers.items ++ c.in-Ok.number ∷ [] = search rules in
     subst (λ (xs : List ℕ). with_front xs (many_read (number w32) (c.args.count - (c.loop.counter + 1))
     c.in-Ok.after.now) ≡ many_read (number w32) c.args.count c.args.bytes.now) (sym pushed) next
@@ -22,4 +22,4 @@ returns c =
 pub returns-in-Err : goal.returns-in-Err
 returns-in-Err c =
     λ other. many_ends (number w32) c.loop.numbers.items c.args.count c.loop.counter c.loop.rest.now c.in-Err.fault _
-    c.loop-test.true (c.in-Err.ensures other) c.loop.invariant
+    c.loop-test.true (c.in-Err.ensures.read other) c.loop.invariant

@@ -13,7 +13,7 @@ loop-place-preserved c =
     let lt : place < length words = rw c.loop-place.invariant.0 c.loop-place-test.true in
     let next =
     many_on (number w32) (take place words) 8 place c.loop-place.rest.now c.in-Ok.word c.in-Ok.after.now _
-    c.loop-place-test.true c.in-Ok.ensures c.loop-place.invariant.1 in (
+    c.loop-place-test.true c.in-Ok.ensures.read c.loop-place.invariant.1 in (
       length-set words place c.in-Ok.word ∙ c.loop-place.invariant.0,
       subst (λ (xs : List ℕ). with_front xs (many_read (number w32) (8 - (place + 1)) c.in-Ok.after.now)
           ≡ many_read (number w32) 8 c.args.bytes.now) (sym (take_more_set words place c.in-Ok.word lt)) next,
@@ -32,4 +32,4 @@ returns c =
 pub returns-in-Err : goal.returns-in-Err
 returns-in-Err c =
     λ other. many_ends (number w32) (take c.loop-place.place c.loop-place.words) 8 c.loop-place.place
-    c.loop-place.rest.now c.in-Err.fault _ c.loop-place-test.true (c.in-Err.ensures other) c.loop-place.invariant.1
+    c.loop-place.rest.now c.in-Err.fault _ c.loop-place-test.true (c.in-Err.ensures.read other) c.loop-place.invariant.1
