@@ -1,5 +1,9 @@
-"""The frames of asks and replies as docs/FORMAT.md has them, sections 1, 4 and 6; for attacks.py."""
+"""The frames of asks and replies as docs/FORMAT.md has them, sections 1, 4 and 6; for attacks.py.
+
+asks.py FORMAT: prints where this table of the asks and that of the document differ."""
+import re
 import struct
+import sys
 
 
 def frame(operation, context, body=b""):
@@ -103,6 +107,33 @@ ASKS = {
 }
 
 
+# What the document writes for the forms of fields and the kinds of answers.
+FORMS = {"u8": "flag", "i32": "u32", **{form: form for form in ("id", "u32", "text", "blob", "groups", "entries")}}
+COUNTED = {"groups": "count `u32`, then that many groups `u32`",
+           "entries": "count `u32`, then that many entries of 44 bytes"}
+ANSWERS = {"serial": "number", "context": "number", "queue": "number", "nothing": "nothing", "bytes": "bytes"}
+
+
+def documented(document):
+    """The asks of docs/FORMAT.md by their numbers: the fields of the body, and the kind of answer."""
+    asks = {}
+    for row in re.finditer(r"^\| (\d+) \| \[\w+\]\(#\S+\) \| \w+ \| (\w+) \|", document, re.M):
+        body = re.search(rf"^### {row[1]} \w+\n\n- \*\*Body\*\*: (.*?)\n- ", document, re.M | re.S)
+        words = " ".join(body[1].split()) if body else "no body"
+        for form, counted in COUNTED.items():
+            words = words.replace(counted, f"`{form}`")
+        asks[int(row[1])] = [FORMS[word] for word in re.findall(r"`(\w+)`", words) if word in FORMS], ANSWERS[row[2]]
+    return asks
+
+
+def differences(document):
+    there = documented(document)
+    here = {number: (ask.fields, ask.answer) for number, ask in ASKS.items()}
+    for number in sorted(there.keys() | here.keys()):
+        if there.get(number) != here.get(number):
+            yield f"{number}: the document has {there.get(number)}, asks.py {here.get(number)}"
+
+
 def status_without_context(operation, fields):
     """The status of an ask whose client has no such context, and no queue: 0 where it is accepted all the same."""
     if operation == 256:
@@ -123,3 +154,8 @@ def is_reply(operation, got):
     if status:
         return status in STATUSES and not body
     return {"number": len(body) == 4, "nothing": not body, "bytes": True}[ASKS[operation].answer]
+
+
+if __name__ == "__main__":
+    with open(sys.argv[1], encoding="utf-8") as opened:
+        print(*differences(opened.read()), sep="\n", end="")

@@ -11,14 +11,7 @@ attack() {
   is "$1" "$2" "$(python3 -B "$top/tests/service.d/attacks.py" "$path" "$3" "$4" 2>/dev/null)"
 }
 
-# What the daemon holds: threads and descriptors; and its memory.
-held() {
-  local threads=("/proc/$daemon/task"/*) descriptors=("/proc/$daemon/fd"/*)
-  echo "${#threads[@]} threads, ${#descriptors[@]} descriptors"
-}
-
-holds() { [ "$(held)" = "$1" ]; }
-
+# The memory that the daemon holds.
 resident() {
   local name size _
   while read -r name size _; do
@@ -57,6 +50,8 @@ after_attacks() {
 # The wanted numbers are those of the connections, and of the answers to others that are named.
 try_attacks() {
   local holding memory
+  is 'the asks of the attacks are those of docs/FORMAT.md' '' \
+    "$(python3 -B "$top/tests/service.d/asks.py" "$top/docs/FORMAT.md" 2>&1)"
   before_attacks 16
   attack 'connections that end in mid-frame' 10000 cut-short 10000
   has_grown_little '10000 connections' "$left_by_many"

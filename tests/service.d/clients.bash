@@ -44,15 +44,17 @@ is_left() {
   [[ $(timeout "$patience" "$keyretain" --socket "$path" --uid 1000 print 8 2>/dev/null </dev/null) == *ENOKEY ]]
 }
 
-# one_by_one NAME: a second client waits until the first has ended
+# one_by_one NAME: a second client is not accepted, and waits, until the first has ended
 one_by_one() {
-  local waiting
+  local waiting holding
   open_client first
   answers first 'hello 1000 1000' 1
+  holding=$(held)
   apart "$keyretain" --socket "$path" --uid 1000 --gid 1000 rdescribe @u >"$dir/waits" 2>/dev/null </dev/null &
   waiting=$!
   sleep 0.5
   is "$1: the second client waits" '' "$(<"$dir/waits")"
+  is "$1: the second client is not accepted" "$holding" "$(held)"
   answers first 'id @u' 3
   close_client first 0
   finish "$waiting"
@@ -67,11 +69,57 @@ try_one_lane() {
 
 # A daemon with room for no thread's stack serves a connection itself, before it accepts the next.
 try_no_threads() {
-  local program=$keyretaind keyretaind=$dir/without-threads
-  printf '#!%s\nulimit -Ss 8192 && ulimit -Sv 10000 && exec %q "$@"\n' "$BASH" "$program" >"$keyretaind"
-  chmod +x "$keyretaind"
+  limited without-threads '-Ss 8192 && ulimit -Sv 10000'
+  local keyretaind=$dir/without-threads
   start --lanes 4 --accept 2
   one_by_one 'no threads'
+}
+
+# A daemon that may have so few files that an accept fails. It says so at once, serves those that it has accepted to
+# their ends, and then ends, without its path.
+try_failed_accept() {
+  local n
+  limited with-few-files '-Sn 12'
+  local keyretaind=$dir/with-few-files
+  start --lanes 32
+  open_client first
+  answers first 'hello 1000 1000' 1
+  for n in {1..12}; do open_client "more$n"; done
+  until_true has_told_accept
+  is 'a failed accept is told at once' "listening $path"$'\nerror: accept' "$(<"$log")"
+  is 'the path while others are served' there "$(path_state)"
+  answers first 'add user alpha a @u' 5
+  for n in {1..12}; do close_client "more$n" 0; done
+  close_client first 0
+  finish "$daemon"
+  is 'after a failed accept: the status' 3 "$status"
+  is 'after a failed accept: what is printed' "listening $path"$'\nerror: accept' "$(<"$log")"
+  is 'after a failed accept: the path is gone' gone "$(path_state)"
+}
+
+has_told_accept() { [[ $(<"$log") == *accept ]]; }
+
+# A daemon whose output takes nothing more: its path goes before it says that it has served.
+try_full_output() {
+  local end line
+  runs=$((runs + 1))
+  path=$dir/$runs.sock log=$dir/$runs.pipe
+  mkfifo "$log"
+  exec {end}<>"$log"
+  apart "$keyretaind" --socket "$path" --accept 1 >"$log" 2>/dev/null </dev/null &
+  daemon=$!
+  IFS= read -r -t "$patience" line <&"$end"
+  is 'full output: it listens' "listening $path" "$line"
+  timeout 1 tr '\0' x </dev/zero >"$log"
+  calls 'full output: a call' 0 $'3\n' id @u
+  until_true test ! -e "$path"
+  is 'full output: the path is gone' gone "$(path_state)"
+  is 'full output: it has not ended' 1 "$(has_ended "$daemon"; echo $?)"
+  IFS= read -r -t "$patience" line <&"$end"
+  is 'full output: it says that it has served' 'served 1' "${line//x/}"
+  finish "$daemon"
+  is 'full output: its status' 0 "$status"
+  exec {end}>&-
 }
 
 # A client that is killed: what it had ends, and its lane serves the next.

@@ -25,7 +25,7 @@ try_script() {
   else
     skipped 'output that can not be written: no /dev/full'
   fi
-  is 'script: --version' 0 "$("$keyretain" --version >/dev/null 2>&1; echo $?)"
+  is 'script: --version' $'keyretain 0.1.0\nstatus 0' "$("$keyretain" --version 2>/dev/null; echo "status $?")"
   is 'script: --help' 0 "$("$keyretain" --help >/dev/null 2>&1; echo $?)"
 }
 
@@ -50,8 +50,9 @@ try_words() {
     is "daemon: words '${words//$dir\//}'" 2 "$(timeout "$patience" "$keyretaind" $words >/dev/null 2>&1; echo $?)"
   done
   is 'daemon: no path after bad words' gone "$(path_state)"
-  is 'daemon: --version' 0 "$("$keyretaind" --version >/dev/null 2>&1; echo $?)"
-  is 'daemon: --help' 0 "$("$keyretaind" --help >/dev/null 2>&1; echo $?)"
+  is 'daemon: --version' $'keyretaind 0.1.0\nstatus 0' "$("$keyretaind" --version 2>/dev/null; echo "status $?")"
+  is 'daemon: --help' "$(<"$top/tests/service.d/keyretaind.help")"$'\nstatus 0' \
+    "$("$keyretaind" --help 2>/dev/null; echo "status $?")"
 }
 
 try_nobody() {
@@ -76,6 +77,7 @@ try_remote_scripts() {
   runs_script 'remote script: moment is no command' 2 $'3\nusage\n' 'hello 1000 1000' 'moment 1' 'print 5'
   prints 'remote script: no lines' 0 '' --socket "$path" script </dev/null
   runs_script 'remote script: an ask that fits no frame' 2 $'usage\n' "add user a $(printf '%070000d' 0) @u"
+  runs_script 'remote script: a text that fits no frame' 2 $'usage\n' "join $(printf '%065536d' 0)"
   runs_script 'remote script: an empty line and a comment' 0 $'4\n' '' '# one' 'hello 1000 1000'
   prints 'remote script: a uid with script' 2 $'usage\n' --socket "$path" --uid 1 script </dev/null
   prints 'single call: words that look like options' 0 $'14\n' --socket "$path" add user -k --help @u </dev/null

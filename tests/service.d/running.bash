@@ -85,6 +85,20 @@ is_served() {
 
 path_state() { if [ -e "$path" ]; then echo there; else echo gone; fi; }
 
+# What the daemon holds: threads and descriptors.
+held() {
+  local threads=("/proc/$daemon/task"/*) descriptors=("/proc/$daemon/fd"/*)
+  echo "${#threads[@]} threads, ${#descriptors[@]} descriptors"
+}
+
+holds() { [ "$(held)" = "$1" ]; }
+
+# limited NAME LIMIT: a program that is the daemon within a limit of ulimit
+limited() {
+  printf '#!%s\nulimit %s && exec %q "$@"\n' "$BASH" "$2" "$keyretaind" >"$dir/$1"
+  chmod +x "$dir/$1"
+}
+
 # kill_daemon SIGNAL: ends a daemon that would go on
 kill_daemon() {
   kill "-$1" "$daemon"
