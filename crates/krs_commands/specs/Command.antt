@@ -1,5 +1,5 @@
 -- The commands of a client, a row each: docs/FORMAT.md, "Commands".
-use Rattle.std.specs.Prelude.{ℕ, ℤ, pos, Bool, true, false, if◌then◌else◌, List, [], ◌∷◌, find, bytes_eq, codes}
+use Rattle.std.specs.Prelude.{◌≡◌, ℕ, ℤ, pos, Bool, true, false, if◌then◌else◌, List, [], ◌∷◌, find, bytes_eq, codes}
 use Rattle.std.specs.Prelude.{Option, None, Some}
 use Rattle.krs_types.specs.Caller.{unchanged}
 use Rattle.krs_types.specs.declared.ask.Op.{Op}
@@ -62,6 +62,10 @@ command_names =
 -- the command of a first word
 abbrev pub name_of_word : List ℕ → Option CommandName
 name_of_word word = find (λ name. bytes_eq (spelling name) word) command_names
+
+-- each command is that of its first word
+abbrev pub HaveTheirWords : Type 0
+HaveTheirWords = (name : CommandName) → name_of_word (spelling name) ≡ Some name
 
 -- `hello UID GID [GROUP ..]`
 abbrev pub hello_of : List (List ℕ) → Option Command

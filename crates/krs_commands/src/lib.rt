@@ -7,8 +7,10 @@ mod contexts;
 mod entry;
 mod keyrings;
 mod keys;
+mod laws;
 mod name;
 mod queues;
 
 pub use command::{Command, parse};
+pub use laws::each_command_has_its_word;
 pub use name::CommandName;
