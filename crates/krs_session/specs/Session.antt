@@ -1,5 +1,5 @@
 -- What a whole session did: docs/FORMAT.md, "A connection".
-use Rattle.std.specs.Prelude.{◌≡◌, ◌+◌, ◌*◌, ◌≤◌, length, ℕ, List, [], ◌∷◌, ◌++◌, ◌⊎◌}
+use Rattle.std.specs.Prelude.{◌≡◌, ◌+◌, ◌*◌, ◌^◌, ◌<◌, ◌≤◌, length, ℕ, List, [], ◌∷◌, ◌++◌, ◌⊎◌}
 use Rattle.krs_types.specs.declared.event.Event.{Event}
 use Rattle.krs_types.specs.declared.ask.Ask.{Ask}
 use Rattle.krs_types.specs.declared.ask.Op.TheVariants.{Leave}
@@ -77,6 +77,12 @@ counts_of reads empties failed_reads failed_writes reader writer = record {
   failed_reads = failed_reads reader;
   failed_writes = failed_writes writer;
 }
+
+-- There is room in the counts for a session of so many turns: for a read each, and for one more of each other count.
+abbrev pub HaveRoom : ℕ → Counts → Type 0
+HaveRoom turns counts =
+    (counts.reads + turns < 2 ^ 64) × (counts.empties < 18446744073709551615)
+    × (counts.failed_reads < 18446744073709551615) × (counts.failed_writes < 18446744073709551615)
 
 -- what is counted beside reads where a session ends so: what ended it, where its ends did
 abbrev pub counted : Counts → Ended → Counts

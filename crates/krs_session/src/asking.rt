@@ -1,5 +1,5 @@
 // The asks of a session.
-ghost use Rattle.std.specs.Prelude.{◌≡◌, ◌<◌, [], ◌∷◌};
+ghost use Rattle.std.specs.Prelude.{◌≡◌, ◌<◌, [], ◌∷◌, Some, None};
 ghost use Rattle.krs_types.specs.declared.event.Event.{Event};
 ghost use Rattle.krs_session.specs.Events.{reply_text};
 ghost use Rattle.krs_session.specs.Serving.{Asked, Answers, Holds, PendingNext, StopsBy, StopsNext};
@@ -57,6 +57,9 @@ fn answer_one<H, W: Sink, S, D: Keeper<S, H>, C: Clock, G: Gate>(
         × PendingNext W.took writer.old writer.new out.old.items out.new.items
         (reply_text framed event.reply) stop result }
     ensures count { StopsNext (W.failures writer.old) (W.failures writer.new) stop result }
+
+    // Where it ends for memory, the replies that were held before are written.
+    ensures memory { stop ≡ None → result ≡ Some Ended.Memory → W.took writer.old out.old.items writer.new }
     ensures ready { D.ready setting.now.desk.now seat.new }
     ensures lane { D.lane_of seat.new ≡ D.lane_of seat.old }
 {

@@ -1,7 +1,7 @@
 // A session: turns of one read each, and LEAVE.
-ghost use Rattle.std.specs.Prelude.{◌≡◌, ◌≢◌, ◌<◌, ◌≤◌, ◌+◌, ◌-◌, ◌^◌, ℕ, List, length};
+ghost use Rattle.std.specs.Prelude.{◌≡◌, ◌≢◌, ◌<◌, ◌≤◌, ◌+◌, ◌-◌, ℕ, List, length};
 ghost use Rattle.krs_wire.specs.Feeding.{fault_of};
-ghost use Rattle.krs_session.specs.Session.{Session, EndsBy, counts_of};
+ghost use Rattle.krs_session.specs.Session.{Session, EndsBy, HaveRoom, counts_of};
 ghost use Rattle.krs_session.specs.Serving.{Served, PieceEndsBy, TurnEndsBy, Finished};
 
 use crate::asking::{Setting, answer_all, ask_one};
@@ -12,6 +12,14 @@ use std::alloc::Global;
 
 /// How many bytes a turn reads at most: docs/FORMAT.md, "A connection".
 const READ_SIZE: usize = 4096;
+
+/// What a session keeps from turn to turn: the reading end, room for what is read, and for replies that wait.
+#[derive(Drop)]
+struct Held {
+    feed: Feed,
+    room: [u8; READ_SIZE],
+    out: Vec<u8>,
+}
 
 /// Cuts a piece of the stream, asks what its frames ask, and writes the replies. What ends the session is the answer.
 fn serve_piece<H, W: Sink, S, D: Keeper<S, H>, C: Clock, G: Gate>(
@@ -51,23 +59,18 @@ fn serve_piece<H, W: Sink, S, D: Keeper<S, H>, C: Clock, G: Gate>(
 /// One read, and what it leads to.
 fn turn<H, R: Source, W: Sink, S, D: Keeper<S, H>, C: Clock, G: Gate>(
     setting: &Setting<'_, H, D, G>,
-    feed: &mut Feed,
-    room: &mut [u8; READ_SIZE],
-    out: &mut Vec<u8>,
+    held: &mut Held,
     reader: &mut R,
     writer: &mut W,
     seat: &mut S,
     clock: &mut C,
 ) -> Option<Ended>
-    requires unfailed { fault_of feed.old ≡ None }
+    requires unfailed { fault_of held.old.feed ≡ None }
     requires ready { D.ready setting.now.desk.now seat.old }
-    requires failures { W.failures writer.old < u64.MAX }
-    requires reads { R.reads reader.old < u64.MAX }
-    requires empties { R.empties reader.old < u64.MAX }
-    requires read_failures { R.failures reader.old < u64.MAX }
+    requires room { HaveRoom 1 (counts_of R.reads R.empties R.failures W.failures reader.old writer.old) }
     ensures served { (bytes : List ℕ) × R.gave reader.old bytes reader.new × (length bytes ≤ 4096)
         × Served D.leads C.ticked W.took (D.lane_of seat.old)
-        seat.old seat.new clock.old clock.new writer.old writer.new feed.old feed.new bytes result }
+        seat.old seat.new clock.old clock.new writer.old writer.new held.old.feed held.new.feed bytes result }
     ensures reads { R.reads reader.new ≡ R.reads reader.old + 1 }
     ensures count { TurnEndsBy
         (counts_of R.reads R.empties R.failures W.failures reader.old writer.old)
@@ -76,13 +79,22 @@ fn turn<H, R: Source, W: Sink, S, D: Keeper<S, H>, C: Clock, G: Gate>(
     ensures ready { D.ready setting.now.desk.now seat.new }
     ensures lane { D.lane_of seat.new ≡ D.lane_of seat.old }
 {
-    match reader.read(room) {
+    match reader.read(&mut held.room) {
         Err(_) => Some(Ended::Read),
         Ok(n) => {
             if n == 0 {
                 return Some(Ended::Closed);
             }
-            serve_piece(setting, feed, out, &room[..n], writer, seat, clock)
+            let piece = &held.room[..n];
+            serve_piece(
+                setting,
+                &mut held.feed,
+                &mut held.out,
+                piece,
+                writer,
+                seat,
+                clock,
+            )
         }
     }
 }
@@ -97,10 +109,7 @@ fn serve<H, R: Source, W: Sink, S, D: Keeper<S, H>, C: Clock, G: Gate>(
     turns: u64,
 ) -> Ended
     requires ready { D.ready setting.now.desk.now seat.old }
-    requires failures { W.failures writer.old < u64.MAX }
-    requires reads { R.reads reader.old + turns < 2 ^ 64 }
-    requires empties { R.empties reader.old < u64.MAX }
-    requires read_failures { R.failures reader.old < u64.MAX }
+    requires room { HaveRoom turns (counts_of R.reads R.empties R.failures W.failures reader.old writer.old) }
     ensures finished { Finished R.gave D.leads C.ticked W.took (D.lane_of seat.old)
         (R.reads reader.new - R.reads reader.old)
         reader.old reader.new seat.old seat.new clock.old clock.new writer.old writer.new result }
@@ -112,14 +121,13 @@ fn serve<H, R: Source, W: Sink, S, D: Keeper<S, H>, C: Clock, G: Gate>(
     ensures ready { D.ready setting.now.desk.now seat.new }
     ensures lane { D.lane_of seat.new ≡ D.lane_of seat.old }
 {
-    let mut feed = Feed::new(setting.alloc);
-    let mut room = [0u8; READ_SIZE];
-    let mut out = Vec::new(setting.alloc);
+    let mut held = Held {
+        feed: Feed::new(setting.alloc),
+        room: [0u8; READ_SIZE],
+        out: Vec::new(setting.alloc),
+    };
     for made in 0..turns {
-        let ended = turn(
-            setting, &mut feed, &mut room, &mut out, reader, writer, seat, clock,
-        );
-        if let Some(ended) = ended {
+        if let Some(ended) = turn(setting, &mut held, reader, writer, seat, clock) {
             return ended;
         }
     }
@@ -142,10 +150,7 @@ pub fn run<H, R: Source, W: Sink, S, D: Keeper<S, H>, C: Clock, G: Gate>(
     turns: u64,
 ) -> Ended
     requires ready { D.ready desk.now seat.old }
-    requires reads { R.reads reader.old + turns < 2 ^ 64 }
-    requires empties { R.empties reader.old < u64.MAX }
-    requires read_failures { R.failures reader.old < u64.MAX }
-    requires failures { W.failures writer.old < u64.MAX }
+    requires room { HaveRoom turns (counts_of R.reads R.empties R.failures W.failures reader.old writer.old) }
     ensures session { Session (λ bytes. R.gave reader.old bytes reader.new)
         (λ events. D.leads seat.old events seat.new)
         (λ moments. C.ticked clock.old moments clock.new)
