@@ -1,3 +1,4 @@
 mod SessionsLemmas
 mod DaemonLemmas
 mod CommandLineLemmas
+mod EndLemmas

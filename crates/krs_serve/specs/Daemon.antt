@@ -1,5 +1,5 @@
 -- What the daemon prints and answers: docs/FORMAT.md, "The daemon, keyretaind".
-use Rattle.std.specs.Prelude.{ℕ, ◌≡◌, ◌⊎◌, ◌++◌, List, Option, Some, None, codes, string_bytes}
+use Rattle.std.specs.Prelude.{ℕ, ◌≡◌, ◌+◌, ◌<◌, ◌⊎◌, ◌++◌, List, Option, Some, None, codes, string_bytes}
 use Rattle.std.specs.Fmt.{decimal}
 use Rattle.krs_serve.specs.Saying.{Heard, Says}
 use Rattle.krs_serve.specs.declared.choice.Choice.{Choice}
@@ -21,10 +21,25 @@ abbrev pub connections_of : Option ℕ → ℕ
 connections_of None = 18446744073709551615
 connections_of (Some connections) = connections
 
+-- How the accepting of so many connections ended, by what the acceptor had counted before it and after it: all of them
+-- were accepted and no accept failed, or one failed, which ended it before that.
+abbrev pub AcceptsBy : ℕ → ℕ → ℕ → ℕ → ℕ → Accepted → Type 0
+AcceptsBy connections accepted0 accepted1 failures0 failures1 All =
+    (accepted1 ≡ accepted0 + connections) × (failures1 ≡ failures0)
+AcceptsBy connections accepted0 accepted1 failures0 failures1 Failed =
+    (accepted1 < accepted0 + connections) × (failures1 ≡ failures0 + 1)
+
 -- a failed accept is told, and nothing else is printed while connections are accepted
 abbrev pub TellsAccepted : Accepted → Heard → Heard → Type 0
 TellsAccepted All old new = new ≡ old
 TellsAccepted Failed old new = Says old new (codes "error: accept\n")
+
+-- what it prints at its end, and its status, by what its acceptor counted: all connections were accepted, or an accept
+-- failed
+abbrev pub EndsAs : ℕ → ℕ → ℕ → Heard → Heard → ℕ → Type 0
+EndsAs connections accepted failures old new status =
+    (AcceptsBy connections 0 accepted 0 failures All × Says old new (served_line connections) × (status ≡ 0))
+    ⊎ (AcceptsBy connections 0 accepted 0 failures Failed × Says old new (codes "error: accept\n") × (status ≡ 3))
 
 -- what it prints at its end, and its status: its last connection was served, or an accept failed
 abbrev pub Ends : ℕ → Heard → Heard → ℕ → Type 0

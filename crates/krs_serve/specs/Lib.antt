@@ -1,3 +1,4 @@
+pub mod Accepting
 pub mod Clock
 pub mod CommandLine
 pub mod Choice

@@ -1,17 +1,18 @@
-ghost use Rattle.std.specs.Prelude.{◌≡◌, All, IfOk, IfErr, map, string_bytes};
+ghost use Rattle.std.specs.Prelude.{◌≡◌, [], All, IfOk, IfErr, OnErr, map, string_bytes};
 ghost use Rattle.std.specs.IoError.{error_kind};
 ghost use Rattle.std.specs.Vec.Iter.{into_iter_items};
 ghost use Rattle.krs_model.specs.State.{starting_at};
 ghost use Rattle.krs_desk.specs.Sitting.{IsIdleAt, fresh_seats};
 ghost use Rattle.krs_serve.specs.declared.choice.Choice.{Choice as ChoiceIs};
 ghost use Rattle.krs_serve.specs.Choice.{IsUnread, LeadsTo};
-ghost use Rattle.krs_serve.specs.Daemon.{Answers, Serves, connections_of};
+ghost use Rattle.krs_serve.specs.Accepting.{accepted_by, failed_at};
+ghost use Rattle.krs_serve.specs.Daemon.{Answers, EndsAs, Serves, connections_of, served_line};
 ghost use Rattle.krs_serve.specs.Saying.{heard};
 
 use crate::choice::{Choice, choose};
 use crate::listening::{Accepted, accept_all};
 use crate::saying::{Lines, NOT_BOUND, OUT_OF_MEMORY, USAGE, Voice};
-use crate::{FreeSeats, Options, seated};
+use crate::{FreeSeats, Options, SocketAcceptor, seated};
 use krs_desk::{Desk, Refused, Seat};
 use krs_store::{Seed, Store};
 use std::alloc::Global;
@@ -91,7 +92,8 @@ fn opened(
     ensures own { IfOk result (λ d. All (IsIdleAt d.0) d.1.items) }
     ensures empty { IfOk result (λ d. All (λ seat. seat.opening ≡ starting_at 3) d.1.items) }
 {
-    Desk::open(alloc, options.lanes, Store::seeded(alloc, seed(rt)))
+    let seed = seed_of(RandomState::new(rt));
+    Desk::open(alloc, options.lanes, Store::seeded(alloc, seed))
 }
 
 /// How many connections are accepted before it ends.
@@ -105,11 +107,40 @@ fn connections_for(accept: Option<u32>) -> u64
 }
 
 /// Binds the path. An empty one the system would take for a name of its own choice, which no folder protects.
-fn bound(rt: &(impl Files + Net), path: &str) -> Option<UnixListener> {
+fn bound(rt: &(impl Files + Net), path: &str) -> Option<UnixListener>
+    ensures { path.now ≡ [] → result ≡ None }
+{
     if path.is_empty() {
         return None;
     }
     UnixListener::bind(rt, path).ok()
+}
+
+/// Accepts and serves so many connections, takes the path away, and tells how that ended. It gives back what counted
+/// the connections.
+fn serve_all<'l, 'd, R: Clock + Files + Threads + Wait + Sync, W: Write>(
+    rt: &R,
+    alloc: Global,
+    listener: &'l UnixListener,
+    free: &FreeSeats<'d>,
+    connections: u64,
+    path: &str,
+    lines: &Lines,
+    output: &mut Voice<W>,
+) -> (u8, SocketAcceptor<'l>)
+    requires { string_bytes lines.now.served ≡ served_line connections }
+    ensures { EndsAs connections (accepted_by result.1) (failed_at result.1)
+        (heard W.contents output.old) (heard W.contents output.new) result.0 }
+{
+    let (accepted, acceptor) = accept_all(rt, alloc, listener, free, connections, output);
+    let _ = fs::remove_file(rt, path);
+    match accepted {
+        Accepted::All => {
+            output.say(lines.served.as_str());
+            (0, acceptor)
+        }
+        Accepted::Failed => (3, acceptor),
+    }
 }
 
 /// Serves connections on a new store as the options say, and answers the status: docs/FORMAT.md, "The daemon,
@@ -139,21 +170,26 @@ pub fn listen<R: Clock + Files + Net + RandomSource + Threads + Wait + Sync, W: 
     };
     let free = FreeSeats::new(sittings);
     output.say(lines.listening.as_str());
-    let accepted = accept_all(rt, alloc, &listener, &free, connections, output);
-    let _ = fs::remove_file(rt, path);
-    match accepted {
-        Accepted::All => {
-            output.say(lines.served.as_str());
-            0
-        }
-        Accepted::Failed => 3,
-    }
+    let (status, _acceptor) = serve_all(
+        rt,
+        alloc,
+        &listener,
+        &free,
+        connections,
+        path,
+        &lines,
+        output,
+    );
+    status
 }
 
 /// What the store hashes names from: the system's random source, since the daemon's clients are strangers. Where it
 /// fails, what every store of one's own has.
-fn seed(rt: &impl RandomSource) -> Seed {
-    match RandomState::new(rt) {
+fn seed_of<E: Drop>(source: Result<RandomState, E>) -> Seed
+    ensures random { IfOk source (λ state. result ≡ Seed.Random state) }
+    ensures fixed { OnErr source (result ≡ Seed.Fixed) }
+{
+    match source {
         Ok(state) => Seed::Random(state),
         Err(_) => Seed::Fixed,
     }

@@ -1,10 +1,12 @@
 //! The daemon: connections of a socket, each in a thread of its own, on the seats of one desk.
 #![tactic(auto)]
 
+mod acceptor;
 mod choice;
 mod clock;
 mod connection;
 mod daemon;
+mod entry;
 mod free;
 mod gate;
 mod listening;
@@ -13,12 +15,14 @@ mod saying;
 mod sessions;
 mod sitting;
 
+pub use acceptor::{Acceptor, SocketAcceptor};
 pub use clock::SystemClock;
 pub use connection::serve_connection;
 pub use daemon::{listen, run_daemon};
+pub use entry::{Entry, serve_entry};
 pub use free::FreeSeats;
 pub use gate::OpenGate;
 pub use options::Options;
 pub use saying::Voice;
-pub use sessions::{Entry, run_sessions};
+pub use sessions::run_sessions;
 pub use sitting::{Sitting, seated};

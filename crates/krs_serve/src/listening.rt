@@ -1,11 +1,13 @@
-ghost use Rattle.krs_serve.specs.Daemon.{TellsAccepted};
+ghost use Rattle.std.specs.Prelude.{◌≡◌, ◌<◌, ◌+◌, ◌^◌};
+ghost use Rattle.krs_serve.specs.Accepting.{accepted_by, failed_at};
+ghost use Rattle.krs_serve.specs.Daemon.{AcceptsBy, TellsAccepted};
 ghost use Rattle.krs_serve.specs.Saying.{heard};
 
 use crate::saying::{NOT_ACCEPTED, Voice};
-use crate::{FreeSeats, serve_connection};
+use crate::{Acceptor, FreeSeats, Sitting, SocketAcceptor, serve_connection};
 use std::alloc::Global;
 use std::io::Write;
-use std::os::unix::net::UnixListener;
+use std::os::unix::net::{UnixListener, UnixStream};
 use std::sync::Wait;
 use std::thread;
 use std::thread::{Scope, Threads};
@@ -20,55 +22,70 @@ pub enum Accepted {
     Failed,
 }
 
-/// Accepts so many connections and serves each in a thread of its own, on a free seat that it waits for. Where no
-/// thread can be started the connection is served before the next accept.
-fn accept_each<'s, 'd, E, R: Threads + Wait + Clock + Sync>(
+/// Serves a connection in a thread of its own, which gives its seat back. Where no thread can be started it is served
+/// at once.
+fn serve_apart<'s, 'd, E, R: Threads + Wait + Clock + Sync>(
     rt: &'s R,
     alloc: Global,
-    listener: &UnixListener,
+    free: &'s FreeSeats<'d>,
+    stream: UnixStream,
+    sitting: Sitting<'d>,
+    scope: &'s Scope<'s, E>,
+) {
+    let serving = move || free.give(rt, serve_connection(rt, alloc, stream, sitting));
+    if let Err(refused) = scope.spawn(serving) {
+        (refused.value)();
+    }
+}
+
+/// Accepts so many connections, each for a free seat that it waits for, and has each served. A failed accept is told
+/// at once, and nothing is accepted after it.
+fn accept_each<'s, 'd, E, A: Acceptor<UnixStream>, R: Threads + Wait + Clock + Sync, W: Write>(
+    rt: &'s R,
+    alloc: Global,
+    acceptor: &mut A,
     free: &'s FreeSeats<'d>,
     connections: u64,
+    output: &mut Voice<W>,
     scope: &'s Scope<'s, E>,
-) -> Accepted {
-    for _ in 0..connections {
+) -> Accepted
+    requires accepted { A.accepted acceptor.old + connections < 2 ^ 64 }
+    requires failures { A.failures acceptor.old < u64.MAX }
+    ensures count { AcceptsBy connections (A.accepted acceptor.old) (A.accepted acceptor.new)
+        (A.failures acceptor.old) (A.failures acceptor.new) result }
+    ensures told { TellsAccepted result (heard W.contents output.old) (heard W.contents output.new) }
+{
+    'accepts: for made in 0..connections {
         let sitting = free.take(rt);
-        let Ok((stream, _)) = listener.accept() else {
-            free.give(rt, sitting);
-            return Accepted::Failed;
-        };
-        let serving = move || free.give(rt, serve_connection(rt, alloc, stream, sitting));
-        if let Err(refused) = scope.spawn(serving) {
-            (refused.value)();
+        match acceptor.accept(&sitting) {
+            Ok(stream) => serve_apart(rt, alloc, free, stream, sitting, scope),
+            Err(_) => {
+                output.say(NOT_ACCEPTED);
+                free.give(rt, sitting);
+                return Accepted::Failed;
+            }
         }
     }
     Accepted::All
 }
 
-/// Tells a failed accept, and nothing else.
-fn tell<W: Write>(accepted: Accepted, output: &mut Voice<W>)
-    ensures { TellsAccepted accepted (heard W.contents output.old) (heard W.contents output.new) }
-{
-    match accepted {
-        Accepted::All => {}
-        Accepted::Failed => output.say(NOT_ACCEPTED),
-    }
-}
-
-/// Accepts so many connections. A failed accept is told at once; what was accepted is served to its end either way.
-pub fn accept_all<'d, R: Threads + Wait + Clock + Sync, W: Write>(
+/// Accepts so many connections, and gives back what counted them. A failed accept is told at once; what was accepted is
+/// served to its end either way.
+pub fn accept_all<'l, 'd, R: Threads + Wait + Clock + Sync, W: Write>(
     rt: &R,
     alloc: Global,
-    listener: &UnixListener,
+    listener: &'l UnixListener,
     free: &FreeSeats<'d>,
     connections: u64,
     output: &mut Voice<W>,
-) -> Accepted
-    ensures { TellsAccepted result (heard W.contents output.old) (heard W.contents output.new) }
+) -> (Accepted, SocketAcceptor<'l>)
+    ensures count { AcceptsBy connections 0 (accepted_by result.1) 0 (failed_at result.1) result.0 }
+    ensures told { TellsAccepted result.0 (heard W.contents output.old) (heard W.contents output.new) }
 {
-    let (accepted, _output) = thread::scope(thread::scope_env(), rt, move |scope| {
-        let accepted = accept_each(rt, alloc, listener, free, connections, scope);
-        tell(accepted, output);
-        (accepted, output)
+    let (accepted, acceptor, _output) = thread::scope(thread::scope_env(), rt, move |scope| {
+        let mut acceptor = SocketAcceptor::new(listener);
+        let accepted = accept_each(rt, alloc, &mut acceptor, free, connections, output, scope);
+        (accepted, acceptor, output)
     });
-    accepted
+    (accepted, acceptor)
 }

@@ -1,21 +1,15 @@
-ghost use Rattle.std.specs.Prelude.{◌≡◌, ◌<◌, ◌+◌, ◌^◌, ℕ, All, IfOk, IfErr, vec_len, slice_index_or};
+ghost use Rattle.std.specs.Prelude.{◌≡◌, ◌<◌, ℕ, All, IfOk, IfErr, vec_len, slice_index_or};
 ghost use Rattle.std.specs.List.{AllZip, zip};
 ghost use Rattle.krs_types.specs.declared.errno.Errno.TheVariants.{ENOMEM};
+ghost use Rattle.krs_session.specs.Session.{HaveRoom, counts_of};
 ghost use Rattle.krs_serve.specs.Sessions.{EndsSession};
 
-use krs_session::{Clock, Ended, Gate, Keeper, Sink, Source, run};
+use crate::{Entry, serve_entry};
+use krs_session::{Clock, Ended, Gate, Keeper, Sink, Source};
 use krs_types::Errno;
 use std::alloc::{AllocError, Global};
 use std::thread;
 use std::thread::Threads;
-
-/// One connection: its two ends, and the clock of its asks.
-#[derive(Drop)]
-pub struct Entry<R: Drop, W: Drop, C: Drop> {
-    pub reader: R,
-    pub writer: W,
-    pub clock: C,
-}
 
 /// Serves many connections at once, each in a thread of its own and on the seat of its place, and answers how they
 /// ended, in the order of the list. Where no thread can be made for a connection it is served after another one. Where
@@ -39,10 +33,8 @@ pub fn run_sessions<
 ) -> Result<Vec<Ended>, Errno>
     requires places { vec_len seats ≡ vec_len list }
     requires ready { All (λ seat. D.ready desk.now seat) seats.items }
-    requires reads { All (λ entry. R.reads entry.reader + turns < 2 ^ 64) list.items }
-    requires empties { All (λ entry. R.empties entry.reader < u64.MAX) list.items }
-    requires read_failures { All (λ entry. R.failures entry.reader < u64.MAX) list.items }
-    requires failures { All (λ entry. W.failures entry.writer < u64.MAX) list.items }
+    requires room { All (λ entry. HaveRoom turns
+        (counts_of R.reads R.empties R.failures W.failures entry.reader entry.writer)) list.items }
     ensures one_each { IfOk result (λ ends. vec_len ends ≡ vec_len list) }
     ensures in_order { IfOk result (λ ends. AllZip
         (λ job ended. EndsSession R.gave D.leads C.ticked W.took D.lane_of
@@ -99,9 +91,8 @@ fn serve_jobs<
     gate: &G,
     turns: u64,
 ) -> Result<Vec<Ended>, AllocError>
-    requires { All (λ job. D.ready desk.now job.1 × (R.reads job.0.reader + turns < 2 ^ 64)
-        × (R.empties job.0.reader < u64.MAX) × (R.failures job.0.reader < u64.MAX)
-        × (W.failures job.0.writer < u64.MAX)) jobs.items }
+    requires { All (λ job. D.ready desk.now job.1 × HaveRoom turns
+        (counts_of R.reads R.empties R.failures W.failures job.0.reader job.0.writer)) jobs.items }
     ensures len { IfOk result (λ ends. vec_len ends ≡ vec_len jobs) }
     ensures each { IfOk result (λ ends. (i : ℕ) (d : _) (e : _) → i < vec_len jobs
         → EndsSession R.gave D.leads C.ticked W.took D.lane_of
@@ -125,29 +116,13 @@ fn serve_one<
     G: Gate,
 >(rt: &H, alloc: Global, job: (Entry<R, W, C>, S), desk: &D, gate: &G, turns: u64) -> Ended
     requires ready { D.ready desk.now job.1 }
-    requires reads { R.reads job.0.reader + turns < 2 ^ 64 }
-    requires empties { R.empties job.0.reader < u64.MAX }
-    requires read_failures { R.failures job.0.reader < u64.MAX }
-    requires failures { W.failures job.0.writer < u64.MAX }
+    requires room { HaveRoom turns
+        (counts_of R.reads R.empties R.failures W.failures job.0.reader job.0.writer) }
     ensures { EndsSession R.gave D.leads C.ticked W.took D.lane_of
         R.reads R.empties R.failures W.failures turns
         job.0.reader job.1 job.0.clock job.0.writer result }
 {
-    let (entry, mut seat) = job;
-    let Entry {
-        mut reader,
-        mut writer,
-        mut clock,
-    } = entry;
-    run(
-        rt,
-        alloc,
-        &mut reader,
-        &mut writer,
-        desk,
-        &mut seat,
-        &mut clock,
-        gate,
-        turns,
-    )
+    let (connection, seat) = job;
+    let (_seat, ended) = serve_entry(rt, alloc, connection, desk, seat, gate, turns);
+    ended
 }

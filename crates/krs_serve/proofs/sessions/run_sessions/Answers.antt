@@ -15,10 +15,7 @@ serve_jobs-requires-after_bounds g c κs within = λ k d lt.
     let in_seats : k < length seats = omega (arith, in_list, same) in
     rw (c.in-Ok.ensures, get_or-zip list seats k d in_list in_seats) (
       c.requires.ready k d.1 in_seats,
-      c.requires.reads k d.0 in_list,
-      c.requires.empties k d.0 in_list,
-      c.requires.read_failures k d.0 in_list,
-      c.requires.failures k d.0 in_list,
+      c.requires.room k d.0 in_list,
     )
 
 pub returns-in-Ok-serve_jobs-clause-one_each : goal.returns-in-Ok-serve_jobs-clause-one_each

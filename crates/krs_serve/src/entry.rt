@@ -1,0 +1,62 @@
+ghost use Rattle.std.specs.Prelude.{◌≡◌};
+ghost use Rattle.krs_session.specs.Session.{HaveRoom, counts_of};
+ghost use Rattle.krs_serve.specs.Sessions.{ServesEntry};
+
+use krs_session::{Clock, Ended, Gate, Keeper, Sink, Source, run};
+use std::alloc::Global;
+
+/// One connection: its two ends, and the clock of its asks.
+#[derive(Drop)]
+pub struct Entry<R: Drop, W: Drop, C: Drop> {
+    pub reader: R,
+    pub writer: W,
+    pub clock: C,
+}
+
+/// Serves one connection to its end, and gives its seat back with why it ended. The daemon's threads serve each
+/// connection by this, and so does `run_sessions`.
+pub fn serve_entry<
+    H,
+    R: Source + Drop,
+    W: Sink + Drop,
+    C: Clock + Drop,
+    S,
+    D: Keeper<S, H>,
+    G: Gate,
+>(
+    rt: &H,
+    alloc: Global,
+    connection: Entry<R, W, C>,
+    desk: &D,
+    seat: S,
+    gate: &G,
+    turns: u64,
+) -> (S, Ended)
+    requires ready { D.ready desk.now seat }
+    requires room { HaveRoom turns
+        (counts_of R.reads R.empties R.failures W.failures connection.reader connection.writer) }
+    ensures session { ServesEntry R.gave D.leads C.ticked W.took D.lane_of
+        R.reads R.empties R.failures W.failures turns
+        connection.reader seat connection.clock connection.writer result.0 result.1 }
+    ensures ready { D.ready desk.now result.0 }
+    ensures lane { D.lane_of result.0 ≡ D.lane_of seat }
+{
+    let Entry {
+        mut reader,
+        mut writer,
+        mut clock,
+    } = connection;
+    let mut seat = seat;
+    let ended = run(
+        rt,
+        alloc,
+        &mut reader,
+        &mut writer,
+        desk,
+        &mut seat,
+        &mut clock,
+        gate,
+        turns,
+    );
+    (seat, ended)
+}
