@@ -6,6 +6,7 @@ use krs_desk::Desk;
 use krs_serve::{Entry, run_sessions};
 use krs_session::{Clock, Ended, Failed, Gate, Over, Point, Sink};
 use krs_store::Store;
+use krs_wire::WireFault;
 use std::alloc::{AllocError, Global};
 use std::sync::atomic::{AtomicU64, Ordering};
 use std::sync::{Mutex, Wait};
@@ -21,6 +22,11 @@ const HELLO: [u8; 24] = [
 
 // The first half of it.
 const HALF_A_HELLO: [u8; 12] = [0x14, 0, 0, 0, 1, 0, 0, 1, 0, 0, 0, 0];
+
+// HELLO, and the length 7 in the same piece.
+const HELLO_AND_7: [u8; 28] = [
+    0x14, 0, 0, 0, 1, 0, 0, 1, 0, 0, 0, 0, 0xe8, 3, 0, 0, 0xe8, 3, 0, 0, 0, 0, 0, 0, 7, 0, 0, 0,
+];
 
 // HELLO, and READ of 5 in context 1; the replies to a session that has context 1, and to one that has context 2.
 const HELLO_AND_READ: [u8; 40] = [
@@ -139,13 +145,15 @@ fn entries_of<'a, R: Wait>(
     Ok(list)
 }
 
-/// As many sessions at one desk, each in a thread of its own: how they ended, and what each wrote.
+/// As many sessions at one desk, each in a thread of its own and of so many reads at most: how they ended, and what each
+/// wrote.
 fn serve_at_once<R: Threads + Wait + Sync, G: Gate + Sync>(
     rt: &R,
     alloc: Global,
     count: u32,
     inputs: [&'static [u8]; 2],
     gate: &G,
+    turns: u64,
 ) -> Result<(Vec<Ended>, Vec<Vec<u8>>), Fail> {
     let mut texts = Vec::new(alloc);
     for _ in 0..count {
@@ -158,7 +166,7 @@ fn serve_at_once<R: Threads + Wait + Sync, G: Gate + Sync>(
     if seats.len() != list.len() {
         return Err(Fail::new("not a seat for each"));
     }
-    let Ok(ends) = run_sessions(rt, alloc, list, &desk, seats, gate, 99) else {
+    let Ok(ends) = run_sessions(rt, alloc, list, &desk, seats, gate, turns) else {
         return Err(Fail::new("no memory"));
     };
     let mut written = Vec::new(alloc);
@@ -197,13 +205,24 @@ fn sessions_run_at_once(rt: HostRuntime) -> Result<(), Fail> {
     let all = [HELLO.as_slice(), HELLO.as_slice()];
     let half = [HELLO.as_slice(), HALF_A_HELLO.as_slice()];
     for (count, inputs, greeted) in [(1, all, 1), (2, all, 2), (256, all, 256), (256, half, 128)] {
-        let (ends, texts) = serve_at_once(&rt, rt.alloc(), count, inputs, &Open)?;
+        let (ends, texts) = serve_at_once(&rt, rt.alloc(), count, inputs, &Open, 99)?;
         let is_right = ends.len() == count as usize
             && are_closed(&ends)
             && are_written(&texts, greeted == count)
             && are_each_once(rt.alloc(), &texts, greeted)?;
         assert!(rt; is_right, "{greeted} of {count}");
     }
+    Ok(())
+}
+
+// How each session ended is told, and no other end: one at a fault of its stream, the other with its turns over.
+#[test]
+fn each_of_many_ends_is_told(rt: HostRuntime) -> Result<(), Fail> {
+    let inputs = [HELLO_AND_7.as_slice(), HELLO.as_slice()];
+    let (ends, texts) = serve_at_once(&rt, rt.alloc(), 4, inputs, &Open, 1)?;
+    let (faulty, over) = (Ended::Wire(WireFault::BadLength), Ended::Turns);
+    assert!(rt; ends.as_slice() == [faulty, over, faulty, over].as_slice());
+    assert!(rt; are_written(&texts, true) && are_each_once(rt.alloc(), &texts, 4)?);
     Ok(())
 }
 
@@ -269,7 +288,7 @@ impl<'a, R: time::Clock + Wait> Gate for Crossed<'a, R> {
 fn sessions_are_served_side_by_side(rt: HostRuntime) -> Result<(), Fail> {
     let gate = gate_of(&rt);
     let inputs = [HELLO_AND_READ.as_slice(), HELLO_AND_READ.as_slice()];
-    let (ends, texts) = serve_at_once(&rt, rt.alloc(), 2, inputs, &gate)?;
+    let (ends, texts) = serve_at_once(&rt, rt.alloc(), 2, inputs, &gate, 99)?;
     let is_right = match texts.as_slice() {
         [first, last] => {
             first.as_slice() == CONTEXT_2_AND_ESRCH.as_slice()

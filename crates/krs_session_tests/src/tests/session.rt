@@ -145,6 +145,19 @@ const HELLO_AND_7: [u8; 28] = [
     0x14, 0, 0, 0, 1, 0, 0, 1, 0, 0, 0, 0, 0xe8, 3, 0, 0, 0xe8, 3, 0, 0, 0, 0, 0, 0, 7, 0, 0, 0,
 ];
 
+// HELLO; CLEAR of 5 in context 1; READ of 5 in context 1.
+const HELLO_CLEAR_AND_READ: [u8; 56] = [
+    0x14, 0, 0, 0, 1, 0, 0, 1, 0, 0, 0, 0, 0xe8, 3, 0, 0, 0xe8, 3, 0, 0, 0, 0, 0, 0, //
+    0x0c, 0, 0, 0, 1, 0, 7, 0, 1, 0, 0, 0, 5, 0, 0, 0, //
+    0x0c, 0, 0, 0, 1, 0, 0x0b, 0, 1, 0, 0, 0, 5, 0, 0, 0,
+];
+
+// Context 1; ENOMEM; `s3`.
+const WITHOUT_MEMORY: [u8; 30] = [
+    8, 0, 0, 0, 0, 0, 0, 0, 1, 0, 0, 0, 4, 0, 0, 0, 0x0c, 0, 0, 0, 6, 0, 0, 0, 0, 0, 0, 0, 0x73,
+    0x33,
+];
+
 #[derive(Clone, Copy)]
 struct Case<'a> {
     name: &'a str,
@@ -266,6 +279,27 @@ fn each_end_is_told_and_leave_is_asked_last(rt: HostRuntime) {
     for case in &CASES {
         check(&rt, rt.alloc(), case);
     }
+}
+
+// A reply of ENOMEM is a reply as any other, and the session goes on.
+#[test]
+fn a_refusal_for_memory_is_a_reply(rt: HostRuntime) {
+    let case = Case {
+        name: "a refusal for memory",
+        stream: &HELLO_CLEAR_AND_READ,
+        reads: ALL,
+        writes: ALL,
+        turns: 99,
+        ended: Ended::Closed,
+        asked: 4,
+        written: 30,
+        calls: 1,
+    };
+    let mut seat = chair_of(rt.alloc(), 7, 1);
+    let gate = watches(7);
+    let (writer, ended) = converse_in_pieces(&rt, rt.alloc(), &case, &mut seat, &gate);
+    let is_answered = writer.text.as_slice() == WITHOUT_MEMORY.as_slice();
+    assert!(rt; is_answered && ended == Ended::Closed && has_left(&case, &seat, &gate));
 }
 
 // An empty text with room for a few replies, for which memory may be refused once.

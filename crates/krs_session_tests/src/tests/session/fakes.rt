@@ -184,7 +184,7 @@ impl Gate for Watching {
     }
 }
 
-/// A desk that replies to HELLO, ADD, READ and LEAVE as a new store would.
+/// A desk that replies to HELLO, ADD, READ and LEAVE as a new store would, and to CLEAR as if it had no memory.
 #[derive(Drop)]
 pub(super) struct Table;
 
@@ -246,6 +246,7 @@ impl<R> Keeper<Chair, R> for Table {
                 Ok(bytes) => Ok(Answer::Bytes(bytes)),
                 Err(_) => Err(Errno::ENOMEM),
             },
+            Op::Clear { .. } => Err(Errno::ENOMEM),
             Op::Leave => {
                 seat.leaves = seat.leaves.wrapping_add(1);
                 Ok(Answer::Nothing)
