@@ -1,0 +1,160 @@
+/* wire.c: the frames of keyretain-protocol(7). All numbers are little-endian. */
+#include "wire.h"
+
+#include <errno.h>
+#include <string.h>
+
+#include "keyretain.h"
+
+const struct kr_ask_form kr_ask_forms[] = {
+    { KR_GET_ID, "GET_ID", KR_NUMBER, { KR_ID, KR_U8 } },
+    { KR_JOIN, "JOIN", KR_NUMBER, { KR_TEXT } },
+    { KR_UPDATE, "UPDATE", KR_NOTHING, { KR_ID, KR_BLOB } },
+    { KR_REVOKE, "REVOKE", KR_NOTHING, { KR_ID } },
+    { KR_CHOWN, "CHOWN", KR_NOTHING, { KR_ID, KR_U32, KR_U32 } },
+    { KR_SETPERM, "SETPERM", KR_NOTHING, { KR_ID, KR_U32 } },
+    { KR_DESCRIBE, "DESCRIBE", KR_BYTES, { KR_ID } },
+    { KR_CLEAR, "CLEAR", KR_NOTHING, { KR_ID } },
+    { KR_LINK, "LINK", KR_NOTHING, { KR_ID, KR_ID } },
+    { KR_UNLINK, "UNLINK", KR_NOTHING, { KR_ID, KR_ID } },
+    { KR_SEARCH, "SEARCH", KR_NUMBER, { KR_ID, KR_TEXT, KR_TEXT, KR_ID } },
+    { KR_READ, "READ", KR_BYTES, { KR_ID } },
+    { KR_SET_TIMEOUT, "SET_TIMEOUT", KR_NOTHING, { KR_ID, KR_U32 } },
+    { KR_INVALIDATE, "INVALIDATE", KR_NOTHING, { KR_ID } },
+    { KR_RESTRICT_KEYRING, "RESTRICT_KEYRING", KR_NOTHING, { KR_ID, KR_TEXT } },
+    { KR_MOVE, "MOVE", KR_NOTHING, { KR_ID, KR_ID, KR_ID, KR_U32 } },
+    { KR_WATCH, "WATCH", KR_NOTHING, { KR_ID, KR_U32, KR_I32 } },
+    { KR_HELLO, "HELLO", KR_NUMBER, { KR_U32, KR_U32, KR_GROUPS } },
+    { KR_THREAD, "THREAD", KR_NUMBER, { KR_END } },
+    { KR_FORK, "FORK", KR_NUMBER, { KR_END } },
+    { KR_EXEC, "EXEC", KR_NOTHING, { KR_END } },
+    { KR_EXIT, "EXIT", KR_NOTHING, { KR_END } },
+    { KR_LEAVE, "LEAVE", KR_NOTHING, { KR_END } },
+    { KR_ADD, "ADD", KR_NUMBER, { KR_TEXT, KR_TEXT, KR_BLOB, KR_ID } },
+    { KR_REQUEST, "REQUEST", KR_NUMBER, { KR_TEXT, KR_TEXT, KR_ID } },
+    { KR_OPEN_QUEUE, "OPEN_QUEUE", KR_NUMBER, { KR_U32 } },
+    { KR_SET_FILTER, "SET_FILTER", KR_NOTHING, { KR_U32, KR_ENTRIES } },
+    { KR_READ_QUEUE, "READ_QUEUE", KR_BYTES, { KR_U32, KR_U32 } },
+    { KR_CLOSE_QUEUE, "CLOSE_QUEUE", KR_NOTHING, { KR_U32 } },
+};
+const size_t kr_ask_form_count = sizeof kr_ask_forms / sizeof *kr_ask_forms;
+
+#define STATUS(number, error) { number, #error, error }
+const struct kr_status kr_statuses[] = {
+    STATUS(1, EPERM), STATUS(2, ENOENT), STATUS(3, ESRCH), STATUS(9, EBADF), STATUS(11, EAGAIN), STATUS(12, ENOMEM),
+    STATUS(13, EACCES), STATUS(16, EBUSY), STATUS(17, EEXIST), STATUS(19, ENODEV), STATUS(20, ENOTDIR),
+    STATUS(22, EINVAL), STATUS(23, ENFILE), STATUS(28, ENOSPC), STATUS(35, EDEADLK), STATUS(40, ELOOP),
+    STATUS(57, EBADSLT), STATUS(95, EOPNOTSUPP), STATUS(105, ENOBUFS), STATUS(126, ENOKEY),
+    STATUS(127, EKEYEXPIRED), STATUS(128, EKEYREVOKED),
+};
+const size_t kr_status_count = sizeof kr_statuses / sizeof *kr_statuses;
+
+const struct kr_ask_form *kr_ask_form(unsigned operation) {
+    for (size_t i = 0; i < kr_ask_form_count; i++)
+        if (kr_ask_forms[i].operation == operation) return &kr_ask_forms[i];
+    return NULL;
+}
+
+/* ---- Asks ---- */
+
+/* Where the next byte goes. Once something doesn't fit nothing more is put. */
+struct writer {
+    uint8_t *out;
+    size_t length;
+    bool fits;
+};
+
+static bool has_room(struct writer *writer, size_t length) {
+    writer->fits = writer->fits && length <= KR_ASK_ROOM - writer->length;
+    return writer->fits;
+}
+
+static void put_number(struct writer *writer, uint64_t number, size_t width) {
+    if (!has_room(writer, width)) return;
+    for (size_t i = 0; i < width; i++) writer->out[writer->length++] = (uint8_t)(number >> 8 * i);
+}
+
+/* A count of this width, then that many bytes. */
+static void put_bytes(struct writer *writer, const struct kr_field *field, size_t width) {
+    if (width == 2 && field->count > UINT16_MAX) writer->fits = false;
+    put_number(writer, field->count, width);
+    if (!has_room(writer, field->count) || field->count == 0) return;
+    memcpy(writer->out + writer->length, field->items, field->count);
+    writer->length += field->count;
+}
+
+/* A count, then that many items, each of this many numbers. */
+static void put_items(struct writer *writer, const struct kr_field *field, size_t numbers) {
+    const uint32_t *items = field->items;
+    put_number(writer, field->count, 4);
+    if (field->count > KR_ASK_ROOM) writer->fits = false;
+    for (size_t i = 0; writer->fits && i < field->count * numbers; i++) put_number(writer, items[i], 4);
+}
+
+static void put_field(struct writer *writer, enum kr_field_form form, const struct kr_field *field) {
+    switch (form) {
+    case KR_U8: put_number(writer, field->number, 1); break;
+    case KR_TEXT: put_bytes(writer, field, 2); break;
+    case KR_BLOB: put_bytes(writer, field, 4); break;
+    case KR_GROUPS: put_items(writer, field, 1); break;
+    case KR_ENTRIES: put_items(writer, field, sizeof(struct kr_entry) / sizeof(uint32_t)); break;
+    default: put_number(writer, field->number, 4);
+    }
+}
+
+size_t kr_encode_ask(uint8_t *out, int version, uint64_t tag, const struct kr_ask_form *form, uint32_t context,
+                     const struct kr_field *fields) {
+    struct writer writer = { .out = out, .fits = true };
+    put_number(&writer, 0, 4);
+    put_number(&writer, (uint64_t)version, 2);
+    put_number(&writer, form->operation, 2);
+    put_number(&writer, context, 4);
+    if (version >= 2) put_number(&writer, tag, 8);
+    for (size_t i = 0; form->fields[i] != KR_END; i++) put_field(&writer, form->fields[i], &fields[i]);
+    if (!writer.fits) return 0;
+    size_t length = writer.length;
+    writer.length = 0;
+    put_number(&writer, length - 4, 4);
+    return length;
+}
+
+/* ---- Replies ---- */
+
+uint32_t kr_get_u32(const uint8_t *at) {
+    return at[0] | (uint32_t)at[1] << 8 | (uint32_t)at[2] << 16 | (uint32_t)at[3] << 24;
+}
+
+static uint64_t get_u64(const uint8_t *at) { return kr_get_u32(at) | (uint64_t)kr_get_u32(at + 4) << 32; }
+
+enum kr_decoded kr_decode_reply(const uint8_t *in, size_t length, int version, struct kr_reply *reply) {
+    size_t head = version >= 2 ? 16 : 8, longest = version >= 2 ? KR_REPLY_ROOM : KR_REPLY_ROOM - 8;
+    if (length < 4) return KR_PARTIAL;
+    reply->frame_length = 4 + (size_t)kr_get_u32(in);
+    if (reply->frame_length < head || reply->frame_length > longest) return KR_MALFORMED;
+    if (length < reply->frame_length) return KR_PARTIAL;
+    reply->status = kr_get_u32(in + 4);
+    reply->tag = version >= 2 ? get_u64(in + 8) : 0;
+    reply->body = in + head;
+    reply->length = reply->frame_length - head;
+    return KR_WHOLE;
+}
+
+static bool is_error(uint32_t status, int *error) {
+    for (size_t i = 0; i < kr_status_count; i++) {
+        if (kr_statuses[i].number == status) {
+            *error = kr_statuses[i].error;
+            return true;
+        }
+    }
+    return false;
+}
+
+bool kr_reply_fits(const struct kr_reply *reply, const struct kr_ask_form *form, int *error) {
+    *error = 0;
+    if (reply->status != 0) return reply->length == 0 && is_error(reply->status, error);
+    switch (form->answer) {
+    case KR_NOTHING: return reply->length == 0;
+    case KR_NUMBER: return reply->length == 4;
+    default: return true;
+    }
+}

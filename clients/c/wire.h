@@ -1,0 +1,86 @@
+/* wire.h: the frames of keyretain-protocol(7), without a socket. */
+#ifndef KEYRETAIN_WIRE_H
+#define KEYRETAIN_WIRE_H
+
+#include <stdbool.h>
+#include <stddef.h>
+#include <stdint.h>
+
+/* The versions that are spoken: the newest is tried first, and the oldest where the daemon doesn't understand it. */
+enum { KR_OLDEST_VERSION = 1, KR_NEWEST_VERSION = 2 };
+
+/* The longest frames, with the four bytes of their length. A reply is longest in version 2. */
+enum { KR_ASK_ROOM = 4 + 65536, KR_REPLY_ROOM = 4 + 262152 };
+
+/* The numbers up to 32 are those of keyctl(2). */
+enum kr_operation {
+    KR_GET_ID = 0, KR_JOIN = 1, KR_UPDATE = 2, KR_REVOKE = 3, KR_CHOWN = 4, KR_SETPERM = 5, KR_DESCRIBE = 6,
+    KR_CLEAR = 7, KR_LINK = 8, KR_UNLINK = 9, KR_SEARCH = 10, KR_READ = 11, KR_SET_TIMEOUT = 15, KR_INVALIDATE = 21,
+    KR_RESTRICT_KEYRING = 29, KR_MOVE = 30, KR_WATCH = 32, KR_HELLO = 256, KR_THREAD = 257, KR_FORK = 258,
+    KR_EXEC = 259, KR_EXIT = 260, KR_LEAVE = 261, KR_ADD = 262, KR_REQUEST = 263, KR_OPEN_QUEUE = 264,
+    KR_SET_FILTER = 265, KR_READ_QUEUE = 266, KR_CLOSE_QUEUE = 267
+};
+
+/* The fields of bodies. GROUPS are a count and as many numbers, ENTRIES a count and as many entries of a filter. */
+enum kr_field_form { KR_END, KR_ID, KR_U8, KR_U32, KR_I32, KR_TEXT, KR_BLOB, KR_GROUPS, KR_ENTRIES };
+
+enum kr_answer_form { KR_NOTHING, KR_NUMBER, KR_BYTES };
+
+enum { KR_FIELDS = 4 };
+
+/* What an ask's body holds, and what its answer is. */
+struct kr_ask_form {
+    enum kr_operation operation;
+    const char *name;
+    enum kr_answer_form answer;
+    enum kr_field_form fields[KR_FIELDS + 1];
+};
+
+/* The table of asks, in number order. */
+extern const struct kr_ask_form kr_ask_forms[];
+extern const size_t kr_ask_form_count;
+
+/* The error numbers of replies, and what they are called here. */
+struct kr_status {
+    uint32_t number;
+    const char *name;
+    int error;
+};
+extern const struct kr_status kr_statuses[];
+extern const size_t kr_status_count;
+
+/* One field's value: a number, or bytes, groups or entries with how many there are. */
+struct kr_field {
+    uint32_t number;
+    const void *items;
+    size_t count;
+};
+
+/* NULL for a number of no ask. */
+const struct kr_ask_form *kr_ask_form(unsigned operation);
+
+/* Puts an ask's frame at `out`, which has KR_ASK_ROOM bytes, and answers its length; 0 where it fits no frame. In
+ * version 1 the tag is left out. */
+size_t kr_encode_ask(uint8_t *out, int version, uint64_t tag, const struct kr_ask_form *form, uint32_t context,
+                     const struct kr_field *fields);
+
+/* A reply's frame in pieces. The tag is 0 in version 1. */
+struct kr_reply {
+    size_t frame_length;
+    uint32_t status;
+    uint64_t tag;
+    const uint8_t *body;
+    size_t length;
+};
+
+enum kr_decoded { KR_PARTIAL, KR_WHOLE, KR_MALFORMED };
+
+/* Reads the first reply of these bytes. KR_PARTIAL: more bytes are wanted. */
+enum kr_decoded kr_decode_reply(const uint8_t *in, size_t length, int version, struct kr_reply *reply);
+
+/* Whether this reply is one to an ask of this form; then *error is errno's number for its status, or 0. */
+bool kr_reply_fits(const struct kr_reply *reply, const struct kr_ask_form *form, int *error);
+
+uint32_t kr_get_u32(const uint8_t *at);
+
+#endif
