@@ -1,0 +1,310 @@
+/* keyutils.c: the functions of libkeyutils 1.6.3. */
+#include "keyutils.h"
+
+#include <errno.h>
+#include <stdarg.h>
+#include <stdbool.h>
+#include <stdio.h>
+#include <stdlib.h>
+#include <string.h>
+
+#include "syscalls.h"
+#include "wire.h"
+
+/* Programs copy both, so that their lengths are part of the interface. */
+const char keyutils_version_string[] = "keyutils-1.6.3";
+const char keyutils_build_string[] = "2022-12-18";
+
+static long fail(int error) {
+    errno = error;
+    return -1;
+}
+
+#define CALL(call, ...) key_call(call, (struct arguments){ { __VA_ARGS__ } })
+
+/* An argument as the system call has it: an id is widened by its sign. */
+static unsigned long word(long number) { return (unsigned long)number; }
+
+static unsigned long address(const void *at) { return (unsigned long)at; }
+
+/* ---- System calls: weak, as in libkeyutils, so that a C library may have them ---- */
+
+__attribute__((weak)) key_serial_t add_key(const char *type, const char *description, const void *payload,
+                                           size_t length, key_serial_t ring) {
+    return (key_serial_t)CALL(CALL_ADD_KEY, address(type), address(description), address(payload), length, word(ring));
+}
+
+__attribute__((weak)) key_serial_t request_key(const char *type, const char *description, const char *callout,
+                                               key_serial_t destination) {
+    return (key_serial_t)CALL(CALL_REQUEST_KEY, address(type), address(description), word(destination),
+                              address(callout));
+}
+
+__attribute__((weak)) long keyctl(int command, ...) {
+    struct arguments arguments = { { 0 } };
+    va_list list;
+    va_start(list, command);
+    for (int i = 0; i < 4; i++) arguments.at[i] = va_arg(list, unsigned long);
+    va_end(list);
+    if (command < 0 || command >= CALL_ADD_KEY) return fail(EOPNOTSUPP);
+    return key_call(command, arguments);
+}
+
+/* ---- Commands ---- */
+
+key_serial_t keyctl_get_keyring_ID(key_serial_t id, int create) {
+    return (key_serial_t)CALL(KEYCTL_GET_KEYRING_ID, word(id), word(create));
+}
+
+key_serial_t keyctl_join_session_keyring(const char *name) {
+    return (key_serial_t)CALL(KEYCTL_JOIN_SESSION_KEYRING, address(name));
+}
+
+long keyctl_update(key_serial_t id, const void *payload, size_t length) {
+    return CALL(KEYCTL_UPDATE, word(id), address(payload), length);
+}
+
+long keyctl_revoke(key_serial_t id) { return CALL(KEYCTL_REVOKE, word(id)); }
+
+long keyctl_chown(key_serial_t id, uid_t uid, gid_t gid) { return CALL(KEYCTL_CHOWN, word(id), uid, gid); }
+
+long keyctl_setperm(key_serial_t id, key_perm_t mask) { return CALL(KEYCTL_SETPERM, word(id), mask); }
+
+long keyctl_describe(key_serial_t id, char *buffer, size_t room) {
+    return CALL(KEYCTL_DESCRIBE, word(id), address(buffer), room);
+}
+
+long keyctl_clear(key_serial_t ring) { return CALL(KEYCTL_CLEAR, word(ring)); }
+
+long keyctl_link(key_serial_t id, key_serial_t ring) { return CALL(KEYCTL_LINK, word(id), word(ring)); }
+
+long keyctl_unlink(key_serial_t id, key_serial_t ring) { return CALL(KEYCTL_UNLINK, word(id), word(ring)); }
+
+long keyctl_search(key_serial_t ring, const char *type, const char *description, key_serial_t destination) {
+    return CALL(KEYCTL_SEARCH, word(ring), address(type), address(description), word(destination));
+}
+
+long keyctl_read(key_serial_t id, char *buffer, size_t room) {
+    return CALL(KEYCTL_READ, word(id), address(buffer), room);
+}
+
+long keyctl_instantiate(key_serial_t id, const void *payload, size_t length, key_serial_t ring) {
+    return CALL(KEYCTL_INSTANTIATE, word(id), address(payload), length, word(ring));
+}
+
+long keyctl_negate(key_serial_t id, unsigned timeout, key_serial_t ring) {
+    return CALL(KEYCTL_NEGATE, word(id), timeout, word(ring));
+}
+
+long keyctl_set_reqkey_keyring(int choice) { return CALL(KEYCTL_SET_REQKEY_KEYRING, word(choice)); }
+
+long keyctl_set_timeout(key_serial_t id, unsigned seconds) { return CALL(KEYCTL_SET_TIMEOUT, word(id), seconds); }
+
+long keyctl_assume_authority(key_serial_t id) { return CALL(KEYCTL_ASSUME_AUTHORITY, word(id)); }
+
+long keyctl_get_security(key_serial_t id, char *buffer, size_t room) {
+    return CALL(KEYCTL_GET_SECURITY, word(id), address(buffer), room);
+}
+
+long keyctl_session_to_parent(void) { return CALL(KEYCTL_SESSION_TO_PARENT, 0); }
+
+long keyctl_reject(key_serial_t id, unsigned timeout, unsigned error, key_serial_t ring) {
+    return CALL(KEYCTL_REJECT, word(id), timeout, error, word(ring));
+}
+
+long keyctl_instantiate_iov(key_serial_t id, const struct iovec *payload, unsigned count, key_serial_t ring) {
+    return CALL(KEYCTL_INSTANTIATE_IOV, word(id), address(payload), count, word(ring));
+}
+
+long keyctl_invalidate(key_serial_t id) { return CALL(KEYCTL_INVALIDATE, word(id)); }
+
+long keyctl_get_persistent(uid_t uid, key_serial_t id) { return CALL(KEYCTL_GET_PERSISTENT, uid, word(id)); }
+
+long keyctl_restrict_keyring(key_serial_t ring, const char *type, const char *restriction) {
+    return CALL(KEYCTL_RESTRICT_KEYRING, word(ring), address(type), address(restriction));
+}
+
+long keyctl_move(key_serial_t id, key_serial_t from, key_serial_t to, unsigned flags) {
+    return CALL(KEYCTL_MOVE, word(id), word(from), word(to), flags);
+}
+
+long keyctl_capabilities(unsigned char *buffer, size_t room) {
+    return CALL(KEYCTL_CAPABILITIES, address(buffer), room);
+}
+
+long keyctl_watch_key(key_serial_t id, int pipe, int watch) {
+    return CALL(KEYCTL_WATCH_KEY, word(id), word(pipe), word(watch));
+}
+
+/* ---- Commands on keys of other types, which are not there: EOPNOTSUPP ---- */
+
+long keyctl_dh_compute(key_serial_t private_key, key_serial_t prime, key_serial_t base, char *buffer, size_t room) {
+    (void)prime, (void)base;
+    return CALL(KEYCTL_DH_COMPUTE, word(private_key), address(buffer), room);
+}
+
+long keyctl_dh_compute_kdf(key_serial_t private_key, key_serial_t prime, key_serial_t base, char *hash, char *info,
+                           size_t info_length, char *buffer, size_t room) {
+    (void)hash, (void)info, (void)info_length;
+    return keyctl_dh_compute(private_key, prime, base, buffer, room);
+}
+
+int keyctl_dh_compute_alloc(key_serial_t private_key, key_serial_t prime, key_serial_t base, void **buffer) {
+    (void)buffer;
+    return (int)keyctl_dh_compute(private_key, prime, base, NULL, 0);
+}
+
+long keyctl_pkey_query(key_serial_t id, const char *info, struct keyctl_pkey_query *result) {
+    return CALL(KEYCTL_PKEY_QUERY, word(id), 0, address(info), address(result));
+}
+
+long keyctl_pkey_encrypt(key_serial_t id, const char *info, const void *data, size_t data_length, void *out,
+                         size_t out_length) {
+    (void)data_length, (void)out_length;
+    return CALL(KEYCTL_PKEY_ENCRYPT, word(id), address(info), address(data), address(out));
+}
+
+long keyctl_pkey_decrypt(key_serial_t id, const char *info, const void *data, size_t data_length, void *out,
+                         size_t out_length) {
+    (void)data_length, (void)out_length;
+    return CALL(KEYCTL_PKEY_DECRYPT, word(id), address(info), address(data), address(out));
+}
+
+long keyctl_pkey_sign(key_serial_t id, const char *info, const void *data, size_t data_length, void *out,
+                      size_t out_length) {
+    (void)data_length, (void)out_length;
+    return CALL(KEYCTL_PKEY_SIGN, word(id), address(info), address(data), address(out));
+}
+
+long keyctl_pkey_verify(key_serial_t id, const char *info, const void *data, size_t data_length,
+                        const void *signature, size_t signature_length) {
+    (void)data_length, (void)signature_length;
+    return CALL(KEYCTL_PKEY_VERIFY, word(id), address(info), address(data), address(signature));
+}
+
+/* ---- Answers in memory of their own ---- */
+
+enum { FIRST_ROOM = 255 };
+
+/* The answer to a command into a buffer that is large enough, with a null byte after it; its length, or -1. The first
+ * buffer does for most keys, so that one ask does, where the kernel's library always makes two. */
+static long read_all(int command, key_serial_t id, char **buffer) {
+    size_t room = FIRST_ROOM;
+    for (;;) {
+        char *bytes = malloc(room + 1);
+        if (!bytes) return -1;
+        long length = CALL(command, word(id), address(bytes), room);
+        if (length >= 0 && (size_t)length <= room) {
+            bytes[length] = '\0';
+            *buffer = bytes;
+            return length;
+        }
+        free(bytes);
+        if (length < 0) return -1;
+        room = (size_t)length;
+    }
+}
+
+/* A text's length doesn't count the null byte that it ends with. */
+static int read_text(int command, key_serial_t id, char **buffer) {
+    long length = read_all(command, id, buffer);
+    return length < 0 ? -1 : (int)length - 1;
+}
+
+int keyctl_describe_alloc(key_serial_t id, char **buffer) { return read_text(KEYCTL_DESCRIBE, id, buffer); }
+
+int keyctl_get_security_alloc(key_serial_t id, char **buffer) { return read_text(KEYCTL_GET_SECURITY, id, buffer); }
+
+int keyctl_read_alloc(key_serial_t id, void **buffer) {
+    char *bytes;
+    long length = read_all(KEYCTL_READ, id, &bytes);
+    if (length >= 0) *buffer = bytes;
+    return (int)length;
+}
+
+/* ---- Scans ---- */
+
+/* How deep libkeyutils goes. */
+enum { DEEPEST = 800, SERIAL_WIDTH = 4 };
+
+struct scan {
+    recursive_key_scanner_t scanner;
+    void *data;
+};
+
+static int scan_key(const struct scan *scan, key_serial_t parent, key_serial_t key, int depth);
+
+static int scan_links(const struct scan *scan, key_serial_t ring, int depth) {
+    void *links;
+    int length = keyctl_read_alloc(ring, &links), found = 0;
+    if (length < 0) return 0;
+    for (const uint8_t *at = links; length >= SERIAL_WIDTH; at += SERIAL_WIDTH, length -= SERIAL_WIDTH)
+        found += scan_key(scan, ring, (key_serial_t)kr_get_u32(at), depth + 1);
+    free(links);
+    return found;
+}
+
+/* What a keyring links is seen before the keyring itself. */
+static int scan_key(const struct scan *scan, key_serial_t parent, key_serial_t key, int depth) {
+    char *description = NULL;
+    int found = 0;
+    if (depth > DEEPEST) return 0;
+    int length = keyctl_describe_alloc(key, &description);
+    if (length > 0 && strncmp(description, "keyring;", 8) == 0) found = scan_links(scan, key, depth);
+    found += scan->scanner(parent, key, description, length, scan->data);
+    free(description);
+    return found;
+}
+
+int recursive_key_scan(key_serial_t key, recursive_key_scanner_t scanner, void *data) {
+    const struct scan scan = { scanner, data };
+    return scan_key(&scan, 0, key, 0);
+}
+
+int recursive_session_key_scan(recursive_key_scanner_t scanner, void *data) {
+    key_serial_t session = keyctl_get_keyring_ID(KEY_SPEC_SESSION_KEYRING, 0);
+    return session > 0 ? recursive_key_scan(session, scanner, data) : 0;
+}
+
+struct wanted {
+    const char *type, *description;
+    key_serial_t found;
+};
+
+/* The description, which stands behind four semicolons, of a key of this type; else NULL. */
+static const char *description_of_type(const char *text, const char *type) {
+    size_t length = strlen(type);
+    if (strncmp(text, type, length) != 0 || text[length] != ';') return NULL;
+    for (int i = 0; text && i < 4; i++) {
+        text = strchr(text, ';');
+        if (text) text++;
+    }
+    return text;
+}
+
+static int look_at_key(key_serial_t parent, key_serial_t key, char *text, int length, void *data) {
+    struct wanted *wanted = data;
+    (void)parent;
+    if (length < 0 || wanted->found) return 0;
+    const char *description = description_of_type(text, wanted->type);
+    if (description && strcmp(description, wanted->description) == 0) wanted->found = key;
+    return 0;
+}
+
+/* libkeyutils looks through /proc/keys for what request_key(2) doesn't find. Here what this process's session and user
+ * keyrings reach is looked through. */
+static key_serial_t find_in_keyrings(const char *type, const char *description) {
+    struct wanted wanted = { type, description, 0 };
+    for (key_serial_t head = KEY_SPEC_SESSION_KEYRING; head >= KEY_SPEC_USER_SESSION_KEYRING && !wanted.found; head--)
+        if (keyctl_get_keyring_ID(head, 0) > 0) recursive_key_scan(head, look_at_key, &wanted);
+    return wanted.found;
+}
+
+key_serial_t find_key_by_type_and_desc(const char *type, const char *description, key_serial_t destination) {
+    key_serial_t found = request_key(type, description, NULL, destination);
+    int error = errno;
+    if (found >= 0 || error == ENOMEM || error == ENOSYS) return found;
+    found = find_in_keyrings(type, description);
+    if (found == 0) return (key_serial_t)fail(error);
+    return destination != 0 && keyctl_link(found, destination) < 0 ? -1 : found;
+}

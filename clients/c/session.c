@@ -1,0 +1,115 @@
+/* session.c: sessions that other processes find. A keyring of JOIN is found by its name, so the name says which one is
+ * meant, and the serial whether it is still the same one. */
+#define _GNU_SOURCE
+#include "session.h"
+
+#include <errno.h>
+#include <stdio.h>
+#include <stdlib.h>
+#include <string.h>
+#include <sys/random.h>
+#include <unistd.h>
+
+#include "connection.h"
+
+enum { USER_MAY_SEARCH = 0x00080000, ANYBODY_MAY_SEARCH = 0x00080808, DECIMAL = 10 };
+
+/* ---- Identity ---- */
+
+/* The first groups of more than the daemon takes. */
+static int first_groups(struct kr_identity *identity) {
+    int count = getgroups(0, NULL);
+    gid_t *all = count > 0 ? calloc((size_t)count, sizeof *all) : NULL;
+    if (!all) return 0;
+    count = getgroups(count, all);
+    if (count > KR_GROUPS_MAX) count = KR_GROUPS_MAX;
+    for (int i = 0; i < count; i++) identity->groups[i] = all[i];
+    free(all);
+    return count;
+}
+
+void kr_own_identity(struct kr_identity *identity) {
+    _Static_assert(sizeof(gid_t) == sizeof identity->groups[0], "groups are 32 bits wide");
+    memset(identity, 0, sizeof *identity);
+    identity->uid = geteuid();
+    identity->gid = getegid();
+    int count = getgroups(KR_GROUPS_MAX, identity->groups);
+    if (count < 0) count = first_groups(identity);
+    identity->count = count > 0 ? (uint32_t)count : 0;
+}
+
+int64_t kr_hello_as(struct kr *connection, const struct kr_identity *identity) {
+    return kr_hello(connection, identity->uid, identity->gid, identity->count, identity->groups);
+}
+
+/* ---- Names ---- */
+
+bool kr_parse_session(struct kr_session *session, const char *text) {
+    char *end;
+    long serial = strtol(text, &end, DECIMAL);
+    bool has_serial = *text >= '1' && *text <= '9' && *end == ':' && serial > 0 && serial <= INT32_MAX;
+    const char *name = has_serial ? end + 1 : text;
+    size_t length = strlen(name);
+    if (length == 0 || length >= sizeof session->name) return false;
+    session->serial = has_serial ? (int32_t)serial : 0;
+    memcpy(session->name, name, length + 1);
+    return true;
+}
+
+int kr_export_session(const struct kr_session *session) {
+    char text[sizeof session->name + 16];
+    snprintf(text, sizeof text, "%d:%s", (int)session->serial, session->name);
+    return setenv(KR_SESSION_VARIABLE, text, 1);
+}
+
+int kr_make_session_name(struct kr_session *session) {
+    uint64_t random[2];
+    if (getrandom(random, sizeof random, 0) != (ssize_t)sizeof random) return -1;
+    session->serial = 0;
+    snprintf(session->name, sizeof session->name, "_ses.%016llx%016llx", (unsigned long long)random[0],
+             (unsigned long long)random[1]);
+    return 0;
+}
+
+/* ---- Keyrings ---- */
+
+struct attributes {
+    unsigned owner, mask;
+};
+
+/* 0; 1 where the daemon doesn't tell; -1 where the connection fails. */
+static int read_attributes(struct kr *connection, uint32_t context, int32_t ring, struct attributes *attributes) {
+    const struct kr_field fields[] = { { .number = (uint32_t)ring } };
+    struct kr_answer answer = kr_ask(connection, KR_DESCRIBE, context, fields);
+    char head[64] = "";
+    if (answer.length < 0) return kr_is_broken(connection) ? -1 : 1;
+    memcpy(head, answer.bytes, (size_t)answer.length < sizeof head ? (size_t)answer.length : sizeof head - 1);
+    return sscanf(head, "keyring;%u;%*u;%x;", &attributes->owner, &attributes->mask) == 2 ? 0 : 1;
+}
+
+/* JOIN by name finds a keyring only where the caller may search it. A new one doesn't let its user do so, as the
+ * kernel's doesn't, and would be lost to the next process: so its user is given that right. */
+static int let_user_search(struct kr *connection, uint32_t context, int32_t ring) {
+    struct attributes attributes;
+    int known = read_attributes(connection, context, ring, &attributes);
+    if (known != 0) return known < 0 ? -1 : 0;
+    if (attributes.owner != geteuid() || attributes.mask & USER_MAY_SEARCH) return 0;
+    return kr_setperm(connection, context, ring, attributes.mask | USER_MAY_SEARCH);
+}
+
+int32_t kr_begin_session(struct kr *connection, uint32_t context, const char *name) {
+    int32_t ring = kr_join(connection, context, name);
+    return ring < 0 || let_user_search(connection, context, ring) < 0 ? -1 : ring;
+}
+
+/* A daemon that was started anew gives the same serials again. So it isn't enough that the serial is the session's: one
+ * that JOIN has just made is known by lacking the right to search, without which JOIN would not have found it. */
+int kr_enter_session(struct kr *connection, uint32_t context, const struct kr_session *session) {
+    struct attributes attributes;
+    int32_t ring = kr_join(connection, context, session->name);
+    if (ring < 0) return -1;
+    if (ring != session->serial) return 1;
+    int known = read_attributes(connection, context, ring, &attributes);
+    if (known < 0) return -1;
+    return known == 0 && (attributes.mask & ANYBODY_MAY_SEARCH) == 0;
+}

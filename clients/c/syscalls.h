@@ -1,0 +1,16 @@
+/* syscalls.h: add_key(2), request_key(2) and keyctl(2) on keyretaind. */
+#ifndef KEYRETAIN_SYSCALLS_H
+#define KEYRETAIN_SYSCALLS_H
+
+/* The commands of keyctl(2), and behind them the two other system calls. */
+enum { CALL_ADD_KEY = 256, CALL_REQUEST_KEY };
+
+/* The arguments of a system call as the kernel sees them. */
+struct arguments {
+    unsigned long at[5];
+};
+
+/* Answers what the system call would, or -1 with errno. */
+long key_call(int call, struct arguments arguments);
+
+#endif
