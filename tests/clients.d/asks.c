@@ -1,0 +1,156 @@
+/* asks PATH VERSION MODE: calls of libkeyretain against the server of frames.py, with what they answer.
+ * all: each function once. late: calls that are interrupted or out of patience, whose replies come late. one: a call
+ * that is answered, and one more. fork: a call in a child. */
+#define _GNU_SOURCE
+#include <errno.h>
+#include <inttypes.h>
+#include <signal.h>
+#include <stdio.h>
+#include <stdlib.h>
+#include <string.h>
+#include <sys/time.h>
+#include <sys/wait.h>
+#include <unistd.h>
+
+#include "keyretain.h"
+
+static struct kr *connection;
+
+static void say(const char *what, int64_t answer) {
+    if (answer < 0)
+        printf("%s: %s%s\n", what, strerrorname_np(errno), kr_is_broken(connection) ? ", broken" : "");
+    else
+        printf("%s: %" PRId64 "\n", what, answer);
+    fflush(stdout);
+}
+
+static void say_bytes(const char *what, int64_t length, const char *buffer) {
+    say(what, length);
+    if (length >= 0) printf("%s: %s\n", what, buffer);
+}
+
+static void ask_contexts(void) {
+    const uint32_t groups[] = { 7, 8, 9 };
+    say("hello", kr_hello(connection, 1000, 1001, 3, groups));
+    say("thread", kr_thread(connection, 2));
+    say("fork", kr_fork(connection, 3));
+    say("exec", kr_exec(connection, 4));
+    say("exit", kr_exit(connection, 5));
+    say("leave", kr_leave(connection));
+}
+
+static void ask_keys(void) {
+    char buffer[64] = "untouched";
+    say("get_id", kr_get_id(connection, 6, -1, 5));
+    say("join", kr_join(connection, 7, "name"));
+    say("join", kr_join(connection, 7, NULL));
+    say("update", kr_update(connection, 8, 11, "new", 3));
+    say("revoke", kr_revoke(connection, 9, 12));
+    say("chown", kr_chown(connection, 10, 13, 14, UINT32_MAX));
+    say("setperm", kr_setperm(connection, 11, 15, 0x3f010000));
+    say_bytes("describe", kr_describe(connection, 12, 16, buffer, 2), buffer);
+    say_bytes("describe", kr_describe(connection, 12, 16, buffer, sizeof buffer), buffer);
+    memset(buffer, 0, sizeof buffer);
+    say_bytes("read", kr_read(connection, 13, 17, buffer, sizeof buffer), buffer);
+    say("read", kr_read(connection, 13, 17, NULL, 0));
+    say("set_timeout", kr_set_timeout(connection, 14, 18, 60));
+    say("invalidate", kr_invalidate(connection, 15, 19));
+    say("add", kr_add(connection, 16, "user", "alpha", "s3", 2, -4));
+    say("add", kr_add(connection, 16, "keyring", "ring", NULL, 0, -4));
+    say("request", kr_request(connection, 17, "user", "alpha", 0));
+}
+
+static void ask_rings(void) {
+    say("clear", kr_clear(connection, 18, 20));
+    say("link", kr_link(connection, 19, 21, 22));
+    say("unlink", kr_unlink(connection, 20, 23, 24));
+    say("search", kr_search(connection, 21, -3, "logon", "a:b", 25));
+    say("restrict_keyring", kr_restrict_keyring(connection, 22, 26, NULL));
+    say("move", kr_move(connection, 23, 27, 28, -2, 1));
+}
+
+static void ask_queues(void) {
+    const struct kr_entry entry = { 1, 2, 3, { 4, 5, 6, 7, 8, 9, 10, 11 } };
+    char buffer[64] = "";
+    say("open_queue", kr_open_queue(connection, 8));
+    say("watch", kr_watch(connection, 24, 29, 30, -1));
+    say("set_filter", kr_set_filter(connection, 31, 1, &entry));
+    say_bytes("read_queue", kr_read_queue(connection, 32, buffer, sizeof buffer), buffer);
+    say("close_queue", kr_close_queue(connection, 33));
+}
+
+static void ask_what_fits_no_frame(void) {
+    static char longest[65537];
+    memset(longest, 'a', sizeof longest - 1);
+    say("a name of 65536 bytes", kr_join(connection, 1, longest));
+    say("a payload of 65536 bytes", kr_update(connection, 1, 5, longest, 65536));
+}
+
+static void ask_all(void) {
+    ask_contexts();
+    ask_keys();
+    ask_rings();
+    ask_queues();
+    ask_what_fits_no_frame();
+}
+
+static void on_alarm(int signal) { (void)signal; }
+
+/* The server keeps the replies to the asks that revoke, and sends them before that to the next one. */
+static void ask_late(void) {
+    struct sigaction action = { .sa_handler = on_alarm };
+    struct itimerval soon = { .it_value.tv_usec = 50000 };
+    sigaction(SIGALRM, &action, NULL);
+    say("hello", kr_hello(connection, 1, 1, 0, NULL));
+    kr_set_interruptible(connection, 1);
+    setitimer(ITIMER_REAL, &soon, NULL);
+    say("interrupted", kr_revoke(connection, 1, 5));
+    say("the next", kr_get_id(connection, 1, -4, 0));
+    kr_set_interruptible(connection, 0);
+    kr_set_patience(connection, 50);
+    say("out of patience", kr_revoke(connection, 1, 6));
+    say("out of patience again", kr_revoke(connection, 1, 7));
+    kr_set_patience(connection, 5000);
+    say("the next", kr_get_id(connection, 1, -4, 0));
+}
+
+/* A signal whose handler returns doesn't end a call unless that was asked for. */
+static void ask_restarted(void) {
+    struct sigaction action = { .sa_handler = on_alarm };
+    struct itimerval often = { .it_value.tv_usec = 20000, .it_interval.tv_usec = 20000 };
+    say("hello", kr_hello(connection, 1, 1, 0, NULL));
+    sigaction(SIGALRM, &action, NULL);
+    setitimer(ITIMER_REAL, &often, NULL);
+    say("signals", kr_clear(connection, 1, 5));
+}
+
+static void ask_one(void) {
+    say("one", kr_get_id(connection, 1, -4, 0));
+    say("one more", kr_get_id(connection, 1, -4, 0));
+}
+
+static void ask_in_child(void) {
+    say("hello", kr_hello(connection, 1, 1, 0, NULL));
+    pid_t child = fork();
+    if (child == 0) {
+        say("in the child", kr_get_id(connection, 1, -4, 0));
+        kr_close(connection);
+        exit(0);
+    }
+    waitpid(child, NULL, 0);
+    say("in the parent", kr_get_id(connection, 1, -4, 0));
+}
+
+int main(int count, char **words) {
+    static const struct {
+        const char *name;
+        void (*run)(void);
+    } modes[] = { { "all", ask_all }, { "late", ask_late }, { "restarted", ask_restarted },
+                  { "one", ask_one }, { "fork", ask_in_child } };
+    if (count != 4 || !(connection = kr_open_version(words[1], atoi(words[2])))) return 2;
+    for (size_t i = 0; i < sizeof modes / sizeof *modes; i++)
+        if (strcmp(words[3], modes[i].name) == 0) modes[i].run();
+    printf("version %d\n", kr_frame_version(connection));
+    kr_close(connection);
+    return 0;
+}

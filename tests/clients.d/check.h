@@ -1,0 +1,32 @@
+/* check.h: a line for each check that fails, for the tests of libkeyutils.so.1. */
+#ifndef KEYRETAIN_CHECK_H
+#define KEYRETAIN_CHECK_H
+
+#include <errno.h>
+#include <stdbool.h>
+#include <stdio.h>
+#include <string.h>
+
+static int failed_checks, passed_checks;
+
+static inline bool check(const char *what, bool holds) {
+    int error = errno;
+    if (holds)
+        __atomic_add_fetch(&passed_checks, 1, __ATOMIC_SEQ_CST);
+    else
+        printf("fails: %s (errno %d, %s)\n", what, error, strerror(error));
+    if (!holds) __atomic_add_fetch(&failed_checks, 1, __ATOMIC_SEQ_CST);
+    fflush(stdout);
+    return holds;
+}
+
+/* Whether a call was refused with this error. */
+static inline bool refused(long answer, int error) { return answer == -1 && errno == error; }
+
+static inline int conclude(const char *name) {
+    printf("%s: %d passed, %d failed\n", name, passed_checks, failed_checks);
+    fflush(stdout);
+    return failed_checks != 0;
+}
+
+#endif

@@ -1,0 +1,205 @@
+"""frames.py ASKS: runs the program ASKS (asks.c) against servers that are made for it, and compares what it sends and
+what it prints with what is wanted. Prints a line for each difference, and last how many were compared."""
+import os
+import socket
+import struct
+import subprocess
+import sys
+import tempfile
+import threading
+import time
+
+sys.path.insert(0, os.path.join(os.path.dirname(__file__), "../../clients/python"))
+sys.dont_write_bytecode = True
+import keyretain
+
+program, compared, different = sys.argv[1], 0, 0
+
+
+def compare(what, wanted, got):
+    global compared, different
+    compared += 1
+    if wanted != got:
+        different += 1
+        print(f"differs: {what}: wanted {wanted!r}, got {got!r}")
+
+
+def reply(version, tag, status=0, body=b""):
+    rest = struct.pack("<I", status) + (struct.pack("<Q", tag) if version == 2 else b"") + body
+    return struct.pack("<I", len(rest)) + rest
+
+
+class Server(threading.Thread):
+    """Takes connections one after the other and answers each ask by `answer(version, tag, name, values)`: bytes, or
+    None to end the connection. `asked` has what came."""
+
+    def __init__(self, path, answer, versions):
+        super().__init__(daemon=True)
+        self.answer, self.versions, self.asked = answer, versions, []
+        self.listener = socket.socket(socket.AF_UNIX)
+        self.listener.bind(path)
+        self.listener.listen(8)
+        self.start()
+
+    def run(self):
+        while True:
+            with self.listener.accept()[0] as end:
+                try:
+                    self.serve(end)
+                except OSError:
+                    pass
+
+    def serve(self, end):
+        while head := end.recv(4, socket.MSG_WAITALL):
+            rest = end.recv(struct.unpack("<I", head)[0], socket.MSG_WAITALL)
+            version, number, context = struct.unpack_from("<HHI", rest)
+            if version not in self.versions:
+                return
+            tag = struct.unpack_from("<Q", rest, 8)[0] if version == 2 else None
+            name = keyretain.name_of(number)
+            values = keyretain.decode_body(name, rest[16 if version == 2 else 8:])
+            self.asked.append((name, context, values))
+            answered = self.answer(version, tag, name, values)
+            if answered is None:
+                return
+            end.sendall(answered)
+
+
+def run(mode, version, answer, versions=(1, 2)):
+    """What the program prints, and what the server was asked."""
+    with tempfile.TemporaryDirectory(prefix="keyretain.") as folder:
+        path = folder + "/sock"
+        server = Server(path, answer, versions)
+        printed = subprocess.run([program, path, str(version), mode], stdout=subprocess.PIPE, timeout=30).stdout
+        return printed.decode(errors="replace").splitlines(), server.asked
+
+
+def plain(version, tag, name, values):
+    """As a daemon that knows every key: numbers are 77, bytes are their ask's name."""
+    body = {"number": struct.pack("<I", 77), "nothing": b"", "bytes": name.encode()}[keyretain.ASKS[name].answer]
+    return reply(version, tag, 0, body)
+
+
+FILTER = (1, 2, 3, 4, 5, 6, 7, 8, 9, 10, 11)
+ALL_ASKED = [
+    ("HELLO", 0, [1000, 1001, [7, 8, 9]]), ("THREAD", 2, []), ("FORK", 3, []), ("EXEC", 4, []), ("EXIT", 5, []),
+    ("LEAVE", 0, []), ("GET_ID", 6, [-1, 1]), ("JOIN", 7, [b"name"]), ("JOIN", 7, [b""]),
+    ("UPDATE", 8, [11, b"new"]), ("REVOKE", 9, [12]), ("CHOWN", 10, [13, 14, 0xFFFFFFFF]),
+    ("SETPERM", 11, [15, 0x3F010000]), ("DESCRIBE", 12, [16]), ("DESCRIBE", 12, [16]), ("READ", 13, [17]),
+    ("READ", 13, [17]), ("SET_TIMEOUT", 14, [18, 60]), ("INVALIDATE", 15, [19]),
+    ("ADD", 16, [b"user", b"alpha", b"s3", -4]), ("ADD", 16, [b"keyring", b"ring", b"", -4]),
+    ("REQUEST", 17, [b"user", b"alpha", 0]), ("CLEAR", 18, [20]), ("LINK", 19, [21, 22]), ("UNLINK", 20, [23, 24]),
+    ("SEARCH", 21, [-3, b"logon", b"a:b", 25]), ("RESTRICT_KEYRING", 22, [26, b""]), ("MOVE", 23, [27, 28, -2, 1]),
+    ("OPEN_QUEUE", 0, [8]), ("WATCH", 24, [29, 30, -1]), ("SET_FILTER", 0, [31, [FILTER]]),
+    ("READ_QUEUE", 0, [32, 64]), ("CLOSE_QUEUE", 0, [33]),
+]
+
+
+def wanted_lines(version):
+    lines, described = [], 0
+    for name, _, values in ALL_ASKED:
+        form, word = keyretain.ASKS[name].answer, name.lower()
+        length = len(name)
+        lines.append(f"{word}: " + {"number": "77", "nothing": "0", "bytes": str(length)}[form])
+        if name == "DESCRIBE":
+            described += 1
+            lines.append("describe: " + ("untouched" if described == 1 else "DESCRIBEd"))
+        elif form == "bytes" and lines[-2] != "read: READ":
+            lines.append(f"{word}: {name}")
+    return [*lines, "a name of 65536 bytes: EINVAL", "a payload of 65536 bytes: EINVAL", f"version {version}"]
+
+
+def try_all():
+    for asked_version, versions, version in ((1, (1, 2), 1), (2, (1, 2), 2), (0, (1, 2), 2), (0, (1,), 1)):
+        printed, asked = run("all", asked_version, plain, versions)
+        what = f"every ask, version {asked_version}, a server of {versions}:"
+        compare(f"{what} what is sent", ALL_ASKED, asked)
+        compare(f"{what} what is printed", wanted_lines(version), printed)
+
+
+def try_late():
+    """Replies to REVOKE come late; each call has its own answer all the same."""
+    for version in keyretain.VERSIONS:
+        kept = []
+
+        def answer(_, tag, name, values):
+            if name == "REVOKE":
+                kept.append(reply(version, tag, 126 if values == [5] else 0))
+                return b""
+            sent = b"".join(kept) + plain(version, tag, name, values)
+            kept.clear()
+            return sent
+
+        printed, _ = run("late", version, answer)
+        compare(f"late replies, version {version}",
+                ["hello: 77", "interrupted: EINTR", "the next: 77", "out of patience: ETIMEDOUT",
+                 "out of patience again: ETIMEDOUT", "the next: 77", f"version {version}"], printed)
+
+
+def try_restarted():
+    def answer(version, tag, name, values):
+        if name == "CLEAR":
+            time.sleep(0.2)
+        return plain(version, tag, name, values)
+
+    compare("signals that end no call", ["hello: 77", "signals: 0", "version 2"], run("restarted", 2, answer)[0])
+
+
+def try_child():
+    compare("a call in a child",
+            ["hello: 77", "in the child: ECONNRESET, broken", "in the parent: 77", "version 2"],
+            run("fork", 2, plain)[0])
+
+
+def try_statuses():
+    for version in keyretain.VERSIONS:
+        for status, name in keyretain.STATUSES.items():
+            printed, _ = run("one", version, lambda _, tag, *__: reply(version, tag, status))
+            compare(f"status {status}", [f"one: {name}", f"one more: {name}", f"version {version}"],
+                    [line.replace("ENOTSUP", "EOPNOTSUPP") for line in printed])
+
+
+def try_broken():
+    """Replies that are none, and servers that go: an error once, and then that the connection is lost."""
+    four = b"\1\0\0\0"
+    for version in keyretain.VERSIONS:
+        cases = {
+            "the end": (None, "ECONNRESET"),
+            "no status": (lambda tag: reply(version, tag, 7), "EPROTO"),
+            "an error with a body": (lambda tag: reply(version, tag, 1, b"x"), "EPROTO"),
+            "no number": (lambda tag: reply(version, tag, 0, b""), "EPROTO"),
+            "a long number": (lambda tag: reply(version, tag, 0, four + b"\0"), "EPROTO"),
+            "a short length": (lambda tag: b"\3\0\0\0" + bytes(20), "EPROTO"),
+            "a great length": (lambda tag: b"\x09\0\4\0" + bytes(20), "EPROTO"),
+            "two replies": (lambda tag: reply(version, tag, 0, four) * 2, "EPROTO"),
+        }
+        if version == 2:
+            cases["another tag"] = (lambda tag: reply(version, tag + 1, 0, four), "EPROTO")
+            cases["a tag of 0"] = (lambda tag: reply(version, 0, 0, four), "EPROTO")
+            cases["a tag's low half"] = (lambda tag: reply(version, tag + (1 << 32), 0, four), "EPROTO")
+        for case, (spell, error) in cases.items():
+            printed, _ = run("one", version, lambda _, tag, *__: spell and spell(tag))
+            compare(f"{case}, version {version}",
+                    [f"one: {error}, broken", "one more: ECONNRESET, broken"], printed[:2])
+
+
+def try_python():
+    """The same asks by the Python client."""
+    for version, versions in ((1, (1, 2)), (2, (1, 2)), (None, (1, 2)), (None, (1,))):
+        with tempfile.TemporaryDirectory(prefix="keyretain.") as folder:
+            server = Server(folder + "/sock", plain, versions)
+            with keyretain.Client(folder + "/sock", version, timeout=20) as client:
+                answers = [client.ask(name, context, *values) for name, context, values in ALL_ASKED]
+                spoken = client.version
+        what = f"the Python client, version {version}, a server of {versions}:"
+        wanted = {"number": 77, "nothing": None}
+        compare(f"{what} its version", version or versions[-1], spoken)
+        compare(f"{what} what is sent", ALL_ASKED, server.asked)
+        compare(f"{what} the answers", [wanted.get(keyretain.ASKS[name].answer, name.encode())
+                                        for name, _, _ in ALL_ASKED], answers)
+
+
+for case in (try_python, try_all, try_late, try_restarted, try_child, try_statuses, try_broken):
+    case()
+print(f"{compared} compared, {different} different")
+sys.exit(different != 0)
