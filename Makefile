@@ -6,12 +6,13 @@ BINDIR = $(PREFIX)/bin
 SBINDIR = $(PREFIX)/sbin
 MANDIR = $(PREFIX)/share/man
 UNITDIR = $(PREFIX)/lib/systemd/system
+USERUNITDIR = $(PREFIX)/lib/systemd/user
 SYSUSERSDIR = $(PREFIX)/lib/sysusers.d
 COMPLETIONDIR = $(PREFIX)/share/bash-completion/completions
 
 PROGRAMS = keyretain keyretaind
 
-.PHONY: build run test wrong-bodies check-man install uninstall bench bench-instructions measure
+.PHONY: build clients run test wrong-bodies check-man check-keyutils install uninstall bench bench-instructions measure
 
 # Proves and builds the programs, crate by crate, as many side by side as there are processors. It may be ended at any
 # time, and then goes on where it was.
@@ -21,12 +22,16 @@ build:
 	mkdir -p bin
 	for program in $(PROGRAMS); do install -m 755 crates/$$program/out/$$program bin/ || exit 1; done
 
+# Builds the C clients. Wants a C compiler.
+clients:
+	$(MAKE) -C clients/c PREFIX="$(PREFIX)"
+
 # Starts a daemon, adds a key through it, and reads it back.
 run: build
 	contrib/first-run
 
 # Proves everything from nothing, runs the tests, has each wrong body refused by itself, runs the tests of memory with
-# each allocation refused in turn, and tries the programs that were built so over real sockets.
+# each allocation refused in turn, and tries the programs that were built so and the clients over real sockets.
 test:
 	@tools/check-toolchain
 	tests/gate
@@ -39,7 +44,12 @@ wrong-bodies:
 check-man:
 	tests/man-pages
 
-# Puts what `make build` made, the man pages, the systemd unit and the bash completion in their folders.
+# Runs the tests of keyutils, whose unpacked source is in SUITE, with the system's keyctl(1) on keyretaind.
+check-keyutils: build
+	tests/keyutils-suite $(SUITE)
+
+# Puts what `make build` made, the man pages, the systemd units, the bash completion, and what `make clients` made if it
+# was run, in their folders.
 install:
 	@for program in $(PROGRAMS); do test -x bin/$$program || { echo 'run make build first' >&2; exit 1; }; done
 	install -d $(DESTDIR)$(BINDIR) $(DESTDIR)$(SBINDIR) $(DESTDIR)$(UNITDIR) $(DESTDIR)$(SYSUSERSDIR) \
@@ -54,8 +64,16 @@ install:
 	chmod 644 $(DESTDIR)$(UNITDIR)/keyretaind.service
 	install -m 644 contrib/systemd/keyretain.conf $(DESTDIR)$(SYSUSERSDIR)/
 	install -m 644 contrib/bash-completion/keyretain contrib/bash-completion/keyretaind $(DESTDIR)$(COMPLETIONDIR)/
+	install -d $(DESTDIR)$(USERUNITDIR)
+	sed '/^ExecStart=/s|@sbindir@|$(SBINDIR)|' contrib/systemd/user/keyretaind.service \
+	  >$(DESTDIR)$(USERUNITDIR)/keyretaind.service
+	chmod 644 $(DESTDIR)$(USERUNITDIR)/keyretaind.service
+	@if [ -d clients/c/build ]; then $(MAKE) -C clients/c install PREFIX="$(PREFIX)" DESTDIR="$(DESTDIR)"; \
+	  else echo 'the C clients are not installed: make clients builds them'; fi
 
 uninstall:
+	$(MAKE) -C clients/c uninstall PREFIX="$(PREFIX)" DESTDIR="$(DESTDIR)"
+	rm -f $(DESTDIR)$(USERUNITDIR)/keyretaind.service
 	rm -f $(DESTDIR)$(BINDIR)/keyretain $(DESTDIR)$(SBINDIR)/keyretaind $(DESTDIR)$(MANDIR)/man1/keyretain.1 \
 	  $(DESTDIR)$(MANDIR)/man7/keyretain-protocol.7 $(DESTDIR)$(MANDIR)/man8/keyretaind.8 \
 	  $(DESTDIR)$(UNITDIR)/keyretaind.service $(DESTDIR)$(SYSUSERSDIR)/keyretain.conf \
