@@ -25,7 +25,8 @@ struct kr {
     pid_t owner;
     bool broken, interruptible;
     int patience; /* milliseconds, or -1 */
-    int version;  /* of the frames; 0 while it isn't known */
+    int version;  /* of the frames: the newest, until a daemon has ended the connection for it */
+    bool is_version_known;
     uint64_t asked, answered;
     size_t out_start, out_end; /* the bytes of `out` that have not been sent */
     size_t in_length;          /* the bytes of `in` that have come: whole replies and a part of one */
@@ -132,14 +133,18 @@ static int connect_socket(struct kr *connection) {
 
 struct kr *kr_open_version(const char *path, int version) {
     char default_path[KR_DEFAULT_PATH_ROOM];
-    if (version < 0 || version > KR_NEWEST_VERSION) return fail(EINVAL), NULL;
+    if (version < 0 || version > KR_NEWEST_VERSION) {
+        errno = EINVAL;
+        return NULL;
+    }
     if (!path && kr_default_path(default_path, sizeof default_path) < 0) return NULL;
     path = path ? path : default_path;
     struct kr *connection = calloc(1, sizeof *connection);
     if (!connection) return NULL;
     connection->owner = getpid();
     connection->patience = -1;
-    connection->version = version;
+    connection->version = version == 0 ? KR_NEWEST_VERSION : version;
+    connection->is_version_known = version != 0;
     connection->address.sun_family = AF_UNIX;
     size_t length = strlen(path);
     if (length < sizeof connection->address.sun_path) {
@@ -271,6 +276,7 @@ static int receive_reply(struct kr *connection, struct kr_reply *reply) {
         uint64_t number = number_of(connection, reply);
         if (number == 0) return break_off(connection, EPROTO);
         connection->answered = number;
+        connection->is_version_known = true;
         if (number == connection->asked) break;
         drop(connection, reply->frame_length);
     }
@@ -284,13 +290,18 @@ static int exchange(struct kr *connection, const struct kr_ask_form *form, uint3
     return receive_reply(connection, reply);
 }
 
-/* The first ask, in the newest version. A daemon that doesn't understand it ends the connection without a reply, and
- * has carried nothing out: then the same is asked in the oldest version, on a new connection. */
-static int first_exchange(struct kr *connection, const struct kr_ask_form *form, uint32_t context,
-                          const struct kr_field *fields, struct kr_reply *reply) {
-    connection->version = KR_NEWEST_VERSION;
+/* Whether the connection has ended before any reply, which is how a daemon answers frames of a version that it doesn't
+ * understand. It has carried nothing out then. */
+static bool may_be_too_new(const struct kr *connection) {
+    return connection->broken && errno == ECONNRESET && !connection->is_version_known && connection->in_length == 0 &&
+           connection->version != KR_OLDEST_VERSION;
+}
+
+/* While the version isn't known an ask may have to be made again in the oldest, on a new connection. */
+static int exchange_in_some_version(struct kr *connection, const struct kr_ask_form *form, uint32_t context,
+                                    const struct kr_field *fields, struct kr_reply *reply) {
     int result = exchange(connection, form, context, fields, reply);
-    if (result == 0 || !connection->broken || errno != ECONNRESET || connection->in_length != 0) return result;
+    if (result == 0 || !may_be_too_new(connection)) return result;
     close_socket(connection);
     connection->version = KR_OLDEST_VERSION;
     if (connect_socket(connection) < 0) return fail(ECONNRESET);
@@ -303,8 +314,7 @@ static int exchange_here(struct kr *connection, const struct kr_ask_form *form, 
     kr_wipe(connection);
     if (connection->broken || connection->owner != getpid() || !is_ours(connection))
         return break_off(connection, ECONNRESET);
-    if (connection->version == 0) return first_exchange(connection, form, context, fields, reply);
-    return exchange(connection, form, context, fields, reply);
+    return exchange_in_some_version(connection, form, context, fields, reply);
 }
 
 struct kr_answer kr_ask(struct kr *connection, enum kr_operation operation, uint32_t context,

@@ -15,6 +15,8 @@ typedef uint32_t key_perm_t;
 typedef int (*recursive_key_scanner_t)(key_serial_t parent, key_serial_t key, char *description, int length,
                                        void *data);
 
+extern const char keyutils_version_string[], keyutils_build_string[];
+
 /* add_key(2), request_key(2), keyctl(2) */
 key_serial_t add_key(const char *type, const char *description, const void *payload, size_t length,
                      key_serial_t ring);

@@ -1,6 +1,7 @@
 /* asks PATH VERSION MODE: calls of libkeyretain against the server of frames.py, with what they answer.
- * all: each function once. late: calls that are interrupted or out of patience, whose replies come late. one: a call
- * that is answered, and one more. fork: a call in a child. */
+ * all: each function once. late: calls that are interrupted or out of patience, whose replies come late. first: the same
+ * of the first call. restarted: signals that end no call. one: a call that is answered, and one more. fork: a call in a
+ * child. */
 #define _GNU_SOURCE
 #include <errno.h>
 #include <inttypes.h>
@@ -114,6 +115,18 @@ static void ask_late(void) {
     say("the next", kr_get_id(connection, 1, -4, 0));
 }
 
+/* An interrupted call before the version of the frames is known. */
+static void ask_first(void) {
+    struct sigaction action = { .sa_handler = on_alarm };
+    struct itimerval soon = { .it_value.tv_usec = 50000 };
+    sigaction(SIGALRM, &action, NULL);
+    kr_set_interruptible(connection, 1);
+    setitimer(ITIMER_REAL, &soon, NULL);
+    say("interrupted", kr_hello(connection, 1, 1, 0, NULL));
+    say("the next", kr_hello(connection, 1, 1, 0, NULL));
+    say("another", kr_get_id(connection, 1, -4, 0));
+}
+
 /* A signal whose handler returns doesn't end a call unless that was asked for. */
 static void ask_restarted(void) {
     struct sigaction action = { .sa_handler = on_alarm };
@@ -145,7 +158,7 @@ int main(int count, char **words) {
     static const struct {
         const char *name;
         void (*run)(void);
-    } modes[] = { { "all", ask_all }, { "late", ask_late }, { "restarted", ask_restarted },
+    } modes[] = { { "all", ask_all }, { "late", ask_late }, { "first", ask_first }, { "restarted", ask_restarted },
                   { "one", ask_one }, { "fork", ask_in_child } };
     if (count != 4 || !(connection = kr_open_version(words[1], atoi(words[2])))) return 2;
     for (size_t i = 0; i < sizeof modes / sizeof *modes; i++)

@@ -54,6 +54,7 @@ class Server(threading.Thread):
             rest = end.recv(struct.unpack("<I", head)[0], socket.MSG_WAITALL)
             version, number, context = struct.unpack_from("<HHI", rest)
             if version not in self.versions:
+                time.sleep(0.2)  # so that a call can be interrupted before it sees the end
                 return
             tag = struct.unpack_from("<Q", rest, 8)[0] if version == 2 else None
             name = keyretain.name_of(number)
@@ -136,6 +137,18 @@ def try_late():
                  "out of patience again: ETIMEDOUT", "the next: 77", f"version {version}"], printed)
 
 
+def try_first():
+    """A first call that is interrupted, to a server of the old version and to one of both."""
+    def answer(version, tag, name, values):
+        time.sleep(0.2 if version == 2 else 0)
+        return plain(version, tag, name, values)
+
+    for versions in ((1,), (1, 2)):
+        compare(f"an interrupted first call, a server of {versions}",
+                ["interrupted: EINTR", "the next: 77", "another: 77", f"version {versions[-1]}"],
+                run("first", 0, answer, versions)[0])
+
+
 def try_restarted():
     def answer(version, tag, name, values):
         if name == "CLEAR":
@@ -199,7 +212,7 @@ def try_python():
                                         for name, _, _ in ALL_ASKED], answers)
 
 
-for case in (try_python, try_all, try_late, try_restarted, try_child, try_statuses, try_broken):
+for case in (try_python, try_all, try_late, try_first, try_restarted, try_child, try_statuses, try_broken):
     case()
 print(f"{compared} compared, {different} different")
 sys.exit(different != 0)

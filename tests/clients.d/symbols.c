@@ -6,8 +6,6 @@
 #include "check.h"
 #include "keyutils.h"
 
-extern const char keyutils_version_string[], keyutils_build_string[];
-
 static const struct {
     const char *version, *names;
 } symbols[] = {
