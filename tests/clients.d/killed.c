@@ -23,6 +23,7 @@ static void be_killed(key_serial_t key) {
     pthread_t killer;
     char buffer[8];
     check("stop the daemon", kill(daemon_process, SIGSTOP) == 0);
+    usleep(300000); /* its threads may run on for a little */
     pthread_create(&killer, NULL, kill_soon, NULL);
     check("killed in mid-call", refused(keyctl_read(key, buffer, sizeof buffer), ECONNRESET));
     pthread_join(killer, NULL);
