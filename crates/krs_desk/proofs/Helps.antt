@@ -18,7 +18,7 @@ use Rattle.krs_model.specs.History.{IsLegal, event_of}
 use Rattle.krs_model.proofs.History.Legal.{legal_more}
 use Rattle.krs_world.specs.declared.view.Flight.{Flight}
 use Rattle.krs_world.specs.declared.view.Part.{Part}
-use Rattle.krs_world.specs.Knowing.{taken, grabbed, answered, looked_at, put_none}
+use Rattle.krs_world.specs.Knowing.{events_of, taken, grabbed, answered, looked_at, put_none}
 use Rattle.krs_desk.specs.declared.place.Place.{Place}
 use Rattle.krs_desk.specs.declared.place.Place.TheVariants.{Empty, Home, Asked, Replied}
 use Rattle.krs_desk.specs.Parts.{sat, hand_of}
@@ -356,16 +356,22 @@ pub brought_is :
     (m w : Me) (slots : ℕ) → HoldsAll m → brings_told (step slots 0 1 0 none) m 1 w
     → w ≡ (sat (opening m) (put_none (part m) (held_of (part m).holding)), rest m.1)
 brought_is m w slots h told =
-    told h.log h.held
+    (told h.log h.held).0
     ∙ ap (λ l. (sat (opening m) (put_none (part m) l), rest m.1)) (sym (ap held_of h.held))
+
+pub brought_mine :
+    (m w : Me) (slots : ℕ) → HoldsAll m → brings_told (step slots 0 1 0 none) m 1 w → (part m).flight ≡ None
+    → events_of (part m).lane (held_of (part m).holding) ≡ (part m).mine
+brought_mine m w slots h told quiet =
+    ap (λ l. events_of (part m).lane (held_of l)) h.held ∙ (told h.log h.held).1 quiet
 
 -- what the caller is told
 helped_part :
     (table desk : TableId) (m : Me) (log : List Event) (q : Part) (count : ℕ) (next : State) → (part m).lane < lanes_of desk
     → Begins (part m).seen log → Progress (opening m) (taken (part m) log) count (lanes_of desk) q next
-    → (c : List (ℕ × Place))
+    → (q.flight ≡ None → events_of q.lane (held_of q.holding) ≡ q.mine) → (c : List (ℕ × Place))
     → Helps desk (sitting_of table m) count (sitting_of table (sat (opening m) (put_none q (held_of q.holding)), c))
-helped_part table desk m log q count next within seen g c =
+helped_part table desk m log q count next within seen g own c =
     let all : held_of q.holding ≡ log ++ g.events = ap held_of g.holds in record {
       same_table = refl;
       opening = refl;
@@ -382,14 +388,16 @@ helped_part table desk m log q count next within seen g c =
       done = λ has. g.done within has;
       flight = g.flight;
       mine = g.mine;
+      own = own;
     }
 
 pub helped :
     (table same_table desk : TableId) (m n k w : Me) (s : Sitting) (count : ℕ) → sitting_of table m ≡ s
     → same_table ≡ table → (part m).lane < lanes_of desk → (h : Holds m n) → Goes n count (lanes_of desk) k
     → w ≡ (sat (opening k) (put_none (part k) (held_of (part k).holding)), rest k.1)
+    → ((part k).flight ≡ None → events_of (part k).lane (held_of (part k).holding) ≡ (part k).mine)
     → Helps desk s count (sitting_of same_table w)
-helped table same_table desk m n k w s count view same within h g is =
+helped table same_table desk m n k w s count view same within h g is own =
     let open_is : opening n ≡ opening m = ap opening h.has in
     let open_k : opening k ≡ opening m = ap opening g.1 ∙ open_is in
     let p_is : part n ≡ taken (part m) h.log = ap part h.has in
@@ -398,7 +406,7 @@ helped table same_table desk m n k w s count view same within h g is =
     let w_is : w ≡ (sat (opening m) (put_none (part k) (held_of (part k).holding)), rest k.1) =
     is ∙ ap (λ (z : State). (sat z (put_none (part k) (held_of (part k).holding)), rest k.1)) open_k in
     subst (λ (z : Sitting × Sitting). Helps desk z.0 count z.1) (λ i. (view i, sitting_of (sym same i) (sym w_is i)))
-    (helped_part table desk m h.log (part k) count g.0 within h.found.seen going (rest k.1))
+    (helped_part table desk m h.log (part k) count g.0 within h.found.seen going own (rest k.1))
 
 pub helped_seated :
     (lane : ℕ) (idle : Bool) (m n k w : Me) (count lanes : ℕ) → IsSeated lane idle m → (h : Holds m n)

@@ -19,12 +19,13 @@ use Rattle.krs_world.proofs.Seating as seating
 use Rattle.krs_world.proofs.Lifting as lifting
 use Rattle.krs_desk.specs.declared.place.Place.{Place}
 use Rattle.krs_desk.specs.declared.sight.Sight.{Sight}
-use Rattle.krs_desk.specs.Parts.{sight, sat, spent, views_of, IsLaid, IsLaidBy, kept_of, given_of, given_laid}
+use Rattle.krs_desk.specs.Parts.{hand_of, sight, sat, spent, views_of, IsLaid, IsLaidBy, kept_of, given_of, given_laid}
 use Rattle.krs_desk.specs.Parts.{kept_sight, given_sight, both_sights, settled_sight}
 use Rattle.krs_desk.specs.Rule.{IsVacant, InOneOrder}
-use Rattle.krs_desk.specs.Told.{Found, looks_told}
-use Rattle.krs_desk.specs.Seated.{Me}
-use Rattle.krs_desk.proofs.Steps.{Table, turn, unmoved, views_set, view_at, laid_set}
+use Rattle.krs_desk.specs.Told.{Found, looks_told, checks_told}
+use Rattle.krs_desk.specs.Seated.{Me, part}
+use Rattle.krs_desk.specs.Seated.{opening}
+use Rattle.krs_desk.proofs.Steps.{Table, turn, unmoved, views_set, view_at, laid_set, sat_lies}
 
 -- what a view that isn't spent has for the opening state is the key
 pub opening_is :
@@ -227,6 +228,32 @@ settles_at key a b q c id other m n is is' empty =
     (settles key a b q id other empty)
 
 -- Looks.
+
+-- a look of one lane's token, which tells that its opening is the key
+pub checks_at :
+    (key : State) (slots id : ℕ) (m : Me) → m ≡ (sat (opening m) (part m), hand_of (part m).flight (part m).lane)
+    → Allows (InOneOrder key) slots id m 0 (λ n. n) (checks_told key (step slots 0 0 0 none) m)
+checks_at key slots id m is =
+    let a : State = opening m in
+    let p : Part = part m in
+    let c : List (ℕ × Place) = hand_of p.flight p.lane in
+    subst (λ (z : Me). Allows (InOneOrder key) slots id z 0 (λ n. n) (checks_told key (step slots 0 0 0 none) z))
+    (sym is)
+    (λ s r len at small.
+    let views : List View = views_of s.views in
+    let e : a ≡ key = opening_is key a (One p) false s id r at (λ e. cc) in
+    let h : OneHistory a (turn s) r.home r.cell views =
+    subst (λ (k : State). OneHistory k (turn s) r.home r.cell views) (sym e) r.history in
+    let here : get_elem? views id ≡ some (one a p) = view_at s.views id (sat a p) at in
+    let k = law.own a views id p here (turn s) r.home r.cell h in (
+      sat a p,
+      keeps,
+      tt,
+      unmoved key s r 0 id (sat a p) c (λ lane lies. sat_lies (IsVacant s.homes r.cell) a p lane lies)
+          (subst (λ (b : State). OneHistory b (turn s) r.home r.cell (set views id (one a p))) e
+          (law.stays a views id p here (turn s) r.home r.cell h p refl refl (λ e. e) k)),
+      (refl, e),
+    ))
 
 abbrev pub pair : State → Part → Part → Sight
 pair a p q = sight (view a (Two p q)) false

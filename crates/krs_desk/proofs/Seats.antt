@@ -86,11 +86,12 @@ met_seated lane idle a m n log last seated sound is legal =
 
 meets :
     (k l k' l' : TableId) (m n : Me) (log : List Event) (last : State) → Found (opening m) (part m) log last
-    → Found (opening m) (part n) log last
+    → Found (opening m) (part n) log last → opening n ≡ opening m
     → Meets (sitting_of k m) (sitting_of l n) (sitting_of k' (sat (opening m) (loaded (part m) log), m.1))
     (sitting_of l' (sat (opening m) (loaded (part n) log), n.1))
-meets k l k' l' m n log last f g = record {
+meets k l k' l' m n log last f g one = record {
   opening = (refl, refl);
+  kept = sym one;
   log = log;
   seen = (refl, refl);
   last = last;
@@ -102,9 +103,9 @@ meets k l k' l' m n log last f g = record {
 
 pub meets_at :
     (k l k' l' : TableId) (m n m' n' : Me) (s t : Sitting) → sitting_of k m ≡ s → sitting_of l n ≡ t
-    → SeeOneList m n m' n' → Meets s t (sitting_of k' m') (sitting_of l' n')
-meets_at k l k' l' m n m' n' s t view view' sees =
+    → SeeOneList m n m' n' → opening n ≡ opening m → Meets s t (sitting_of k' m') (sitting_of l' n')
+meets_at k l k' l' m n m' n' s t view view' sees one =
     subst (λ (z : Sitting × Sitting). Meets z.0 z.1 (sitting_of k' m') (sitting_of l' n')) (λ i. (view i, view' i))
     (subst (λ (z : Me × Me). Meets (sitting_of k m) (sitting_of l n) (sitting_of k' z.0) (sitting_of l' z.1))
     (λ i. (sym sees.first i, sym sees.second i))
-    (meets k l k' l' m n sees.log sees.last sees.founds.0 sees.founds.1))
+    (meets k l k' l' m n sees.log sees.last sees.founds.0 sees.founds.1 one))

@@ -20,7 +20,7 @@ use Rattle.krs_world.specs.declared.view.Cell.{Cell}
 use Rattle.krs_world.specs.declared.view.Cell.TheVariants as cells
 use Rattle.krs_world.specs.declared.view.Part.{Part}
 use Rattle.krs_world.specs.declared.view.View.{View}
-use Rattle.krs_world.specs.Knowing.{one, service, grabbed, answered, looked_at, put_none}
+use Rattle.krs_world.specs.Knowing.{events_of, one, service, grabbed, answered, looked_at, put_none}
 use Rattle.krs_world.proofs.Keeping as law
 use Rattle.krs_world.proofs.Serving as serving
 use Rattle.krs_desk.specs.declared.place.Place.{Place}
@@ -210,13 +210,21 @@ brings_allowed a slots id p c store log held idle legal s r len at small =
     let views : List View = views_of s.views in
     let is : get_elem? views id ≡ some (one a p) = view_at s.views id (sat a p) at in
     let t = law.puts_none a views id p is x r.home r.cell log store r.history held idle legal in
+    let k = law.own a views id p is x r.home r.cell r.history in
+    let mine : p.flight ≡ None → events_of p.lane log ≡ p.mine =
+    λ quiet. ap (events_of p.lane) (k.holding log held).whole
+        ∙ law.idle_mine p r.history.log (r.cell p.lane) quiet k.fits in
     let w : Sight = sat a (put_none p log) in (
       w,
       gives,
       tt,
       subst (λ b. InOneOrder a (stepped s 0 (either b 0 x) id ((0, Home store) ∷ c) w gives)) (sym (eq-eqb x 1 t.0))
           (moved_home a s r 0 (some (Home store)) (Some store) id a (put_none p log) refl t.1),
-      λ log' held'. let el : log ≡ log' = cc in λ i. (sat a (put_none p (el i)), c),
+      λ log' held'.
+          let el : log ≡ log' = cc in (
+            (λ i. (sat a (put_none p (el i)), c)),
+            λ quiet. ap (events_of p.lane) (sym el) ∙ mine quiet,
+          ),
     )
 
 -- The same, of a token as it comes.

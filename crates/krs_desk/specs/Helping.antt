@@ -18,7 +18,7 @@ use Rattle.krs_desk.specs.declared.place.Place.TheVariants.{Empty, Home}
 use Rattle.krs_desk.specs.Parts.{sat, hand_of}
 use Rattle.krs_desk.specs.Told.{Found}
 use Rattle.krs_desk.specs.Seated.{Me, part, opening}
-use Rattle.krs_desk.specs.Sitting.{Sitting, missed_by}
+use Rattle.krs_desk.specs.Sitting.{Sitting, missed_by, HasItsCalls}
 
 -- the numbers below this one, in order
 abbrev pub below : ℕ → List ℕ
@@ -31,7 +31,8 @@ lanes_of table = table.words - 1
 
 -- The seat had the turn. It has now seen the list that it left, which is legal from the opening state: what it found,
 -- which begins with all that it had seen, and then the events of the calls that it answered. It looked at each lane's
--- cell once, in order. If a call of its own is in flight, that one is answered.
+-- cell once, in order. If a call of its own is in flight, that one is answered; else the list has just the seat's calls
+-- of its lane.
 pub record Helps (desk : TableId) (s : Sitting) (count : ℕ) (t : Sitting) : Type 0 where
   pub same_table : t.table ≡ s.table
   pub opening : t.opening ≡ s.opening
@@ -48,6 +49,7 @@ pub record Helps (desk : TableId) (s : Sitting) (count : ℕ) (t : Sitting) : Ty
   pub done : s.part.flight ≢ None → t.part.done ≡ true
   pub flight : t.part.flight ≡ s.part.flight
   pub mine : t.part.mine ≡ s.part.mine
+  pub own : HasItsCalls t
 
 -- how a try to help ended
 abbrev pub HasHelped : TableId → Sitting → Helped → Sitting → Type 0

@@ -81,10 +81,11 @@ pub record Collects (s : Sitting) (reply : Result Answer Errno) (t : Sitting) : 
 abbrev pub HasItsCalls : Sitting → Type 0
 HasItsCalls s = s.part.flight ≡ None → events_of s.part.lane s.part.seen ≡ s.part.mine
 
--- Two seats met: both have seen one list, which is legal from the first one's opening state, begins with what either had
--- seen, and has just the calls of each. That opening state is then both's; nothing else that they know has changed.
+-- Two seats met: both have seen one list, which is legal from the opening state, begins with what either had seen, and
+-- has just the calls of each. The opening state was one and the same; nothing else that they know has changed.
 pub record Meets (s t new_s new_t : Sitting) : Type 0 where
   pub opening : (new_s.opening ≡ s.opening) × (new_t.opening ≡ s.opening)
+  pub kept : new_t.opening ≡ t.opening
   pub log : List Event
   pub seen : (new_s.part ≡ loaded s.part log) × (new_t.part ≡ loaded t.part log)
   pub last : State

@@ -54,10 +54,12 @@ puts_told events step m found n =
     (log : List Event) (event : Event) → (part m).holding ≡ Some log → events ≡ event ∷ []
     → (n ≡ (sat (opening m) (put_own (part m) log event), rest m.1)) × (events_of (part m).lane log ≡ (part m).mine)
 
--- the list that was held is seen
+-- the list that was held is seen; it had the lane's calls, where none is in flight
 abbrev pub brings_told : Step Place → Known → ℕ → Known → Type 0
 brings_told step m found n =
-    (log : List Event) → (part m).holding ≡ Some log → n ≡ (sat (opening m) (put_none (part m) log), rest m.1)
+    (log : List Event) → (part m).holding ≡ Some log
+    → (n ≡ (sat (opening m) (put_none (part m) log), rest m.1))
+    × ((part m).flight ≡ None → events_of (part m).lane log ≡ (part m).mine)
 
 -- the call in the lane's slot is in flight
 abbrev pub posts_told : Step Place → Known → ℕ → Known → Type 0
@@ -124,6 +126,10 @@ looks_told step m found n =
 -- the slot of a lane that was just dealt
 abbrev pub picks_told : Step Place → Known → ℕ → Known → Type 0
 picks_told step m found n = n ≡ (sight m.0.view false, (step.word, Empty) ∷ m.1)
+
+-- the state of the store at the opening is this one
+abbrev pub checks_told : State → Step Place → Known → ℕ → Known → Type 0
+checks_told key step m found n = (n ≡ m) × (opening m ≡ key)
 
 abbrev pub opens_told : Step Place → Known → ℕ → Known → Type 0
 opens_told step m found n = n ≡ (spent (opening m), m.1)

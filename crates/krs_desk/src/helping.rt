@@ -1,8 +1,8 @@
 //! A turn of `call` or `help` answers the calls that it finds posted.
-ghost use Rattle.std.specs.Prelude.{◌≡◌, ◌≢◌, ◌+◌, ◌≤◌, ◌<◌, [], IfOk, IfErr};
+ghost use Rattle.std.specs.Prelude.{◌≡◌, ◌≢◌, ◌+◌, ◌≤◌, ◌<◌, [], IfOk, IfErr, None};
 ghost use Rattle.atomic_table.specs.Table.{rest};
 ghost use Rattle.krs_model.specs.History.{event_of};
-ghost use Rattle.krs_world.specs.Knowing.{missed, put_none};
+ghost use Rattle.krs_world.specs.Knowing.{events_of, missed, put_none};
 ghost use Rattle.krs_desk.specs.Parts.{sat};
 ghost use Rattle.krs_desk.specs.Seated.{IsResting, part, opening, is_free};
 ghost use Rattle.krs_desk.specs.Helping.{HasHelped, Had, HoldsAll, IsBehind, ServesBehind, Goes, ServesLane};
@@ -138,6 +138,9 @@ impl Desk {
               (put_none (part token.old.me) (held_of (part token.old.me).holding)),
           rest token.old.me.1,
         ) }
+        ensures mine { (part token.old.me).flight ≡ None
+            → events_of (part token.old.me).lane (held_of (part token.old.me).holding)
+            ≡ (part token.old.me).mine }
     {
         self.table.shared.compare_exchange::<Brings>(token, 0, 1, 0);
         self.wake_all();

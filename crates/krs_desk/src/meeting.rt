@@ -1,11 +1,26 @@
 //! Two seats learn that they share the history.
-ghost use Rattle.std.specs.Prelude.{◌≡◌};
+ghost use Rattle.std.specs.Prelude.{◌≡◌, ◌<◌};
 ghost use Rattle.krs_desk.specs.Sitting.{Meets};
-ghost use Rattle.krs_desk.specs.Seated.{IsResting, SeeOneList};
+ghost use Rattle.krs_desk.specs.Seated.{IsResting, SeeOneList, opening};
 
 use crate::desk::Desk;
-use crate::plays::{Cut, Glue, Looks, Settle, Token};
+use crate::note::Opened;
+use crate::plays::{Board, Checks, Cut, Glue, Looks, Settle, Token};
 use crate::seat::Seat;
+use std::marker::Brand;
+
+// A look at the turn, which tells that the token's opening is the desk's.
+fn check<O: Opened>(table: &Board, token: &mut Token)
+    requires table { token.old.table_id ≡ table.now.shared.table_id }
+    requires words { 0 < table.now.shared.table_id.words }
+    requires key { O.opening ≡ table.now.shared.key.value }
+    requires rests { IsResting token.old.me }
+    ensures table { token.new.table_id ≡ token.old.table_id }
+    ensures same { token.new.me ≡ token.old.me }
+    ensures opening { opening token.old.me ≡ O.opening }
+{
+    table.shared.load::<Checks<O>>(token, 0);
+}
 
 impl Desk {
     // A look for both lanes at once.
@@ -23,12 +38,25 @@ impl Desk {
         shared.join_seat::<Settle>(second, back);
     }
 
+    // The same, and the openings of both are the desk's.
+    fn look_as_one(&self, first: &mut Token, second: &mut Token)
+        requires table { (first.old.table_id ≡ self.now) × (second.old.table_id ≡ self.now) }
+        requires rest { IsResting first.old.me × IsResting second.old.me }
+        ensures table { (first.new.table_id ≡ self.now) × (second.new.table_id ≡ self.now) }
+        ensures seen { SeeOneList first.old.me second.old.me first.new.me second.new.me }
+        ensures openings { opening second.old.me ≡ opening first.old.me }
+    {
+        check::<Brand>(&self.table, first);
+        check::<Brand>(&self.table, second);
+        self.look(first, second);
+    }
+
     /// Both seats have then seen one list, which begins with what each had seen.
     pub fn meet(&self, first: &mut Seat, second: &mut Seat)
         requires table { (first.old.table ≡ self.now) × (second.old.table ≡ self.now) }
         ensures table { (first.new.table ≡ self.now) × (second.new.table ≡ self.now) }
         ensures met { Meets first.old second.old first.new second.new }
     {
-        self.look(&mut first.token, &mut second.token);
+        self.look_as_one(&mut first.token, &mut second.token);
     }
 }

@@ -25,3 +25,16 @@ impl Added for Brand {
 
     ghost events = { [] };
 }
+
+/// The state of the store that a desk was opened with. Each call of a program picks it.
+pub(crate) trait Opened {
+    ghost use Rattle.krs_model.specs.State.{State};
+
+    ghost opening: { State };
+}
+
+impl Opened for Brand {
+    ghost use Rattle.krs_model.specs.State.{starting_at};
+
+    ghost opening = { starting_at 3 };
+}

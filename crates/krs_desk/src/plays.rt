@@ -1,9 +1,10 @@
 //! The rule of the table, and what each step on it tells.
 ghost use Rattle.krs_desk.specs.Told.{takes_told, puts_told, looks_told, opens_told, picks_told};
 ghost use Rattle.krs_desk.specs.Told.{posts_told, collects_told, glances_told, grabs_told, answers_told, brings_told};
+ghost use Rattle.krs_desk.specs.Told.{checks_told};
 ghost use Rattle.krs_desk.specs.Parts.{kept_sight, given_sight};
 
-use crate::note::Added;
+use crate::note::{Added, Opened};
 use crate::place::Place;
 use crate::sight::Sight;
 use atomic_table::{Join, Play, Split, Table, TableRule};
@@ -84,6 +85,15 @@ pub(crate) struct Brings;
 
 impl Play<Place, Sight> for Brings {
     ghost then = { brings_told };
+}
+
+// A token's opening is the desk's.
+pub(crate) struct Checks<O> {
+    opening: PhantomData<O>,
+}
+
+impl<O: Opened> Play<Place, Sight> for Checks<O> {
+    ghost then = { checks_told O.opening };
 }
 
 // A token of two lanes sees the history so far.

@@ -34,4 +34,4 @@ returns-clause-helped c =
     c.serve_all-answered.new.token.me c.bring.new.token.me c.args.seat.now _ c.seat.view_is (search rules)
     (within seat.lane seat.idle seat.token.me seat.token.table_id c.args.self.now c.seat.invariant.0 c.seat.invariant.1
     (ap (λ (s : Sitting). s.table) c.seat.view_is ∙ c.requires.table)) (c.take.ensures.had c.if-take-ne0.false)
-    c.serve_all-answered.ensures.gone c.bring.ensures.brought
+    c.serve_all-answered.ensures.gone c.bring.ensures.brought c.bring.ensures.mine
