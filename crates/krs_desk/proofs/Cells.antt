@@ -19,7 +19,7 @@ use Rattle.krs_world.proofs.Keeping as law
 use Rattle.krs_desk.specs.declared.sight.Sight.{Sight}
 use Rattle.krs_desk.specs.Parts.{sat, views_of, IsLaid, IsLaidBy}
 use Rattle.krs_desk.specs.Rule.{IsAtHome, CellIs, IsVacant, InOneOrder}
-use Rattle.krs_desk.proofs.Steps.{Table, Slot, turn, views_set, view_at, laid_set, sat_lies}
+use Rattle.krs_desk.proofs.Steps.{Table, Slot, turn, views_set, view_at, laid_set, still_housed, sat_lies}
 
 -- a lane that is laid for another token is another lane
 apart_of :
@@ -43,12 +43,12 @@ lies_apart a s r id p at j lane v not e is =
 -- a step on the word and the slot of a lane, for which no other token is laid a slot
 pub moved_cell :
     (a : State) (s : Table) (r : InOneOrder a s) (lane n : ℕ) (x : Slot) (c : Cell) (id : ℕ) (b : State) (q : Part)
-    → lane + 1 < length s.homes → CellIs n (some x) c
+    → lane + 1 < length s.homes → q.lane + 1 < length s.words → CellIs n (some x) c
     → ((j l : ℕ) (v : Sight) → j ≢ id → get_elem? s.views j ≡ some v → IsLaid l v → l ≢ lane)
     → OneHistory a (turn s) r.home (celled r.cell lane c) (set (views_of s.views) id (one b q))
     → InOneOrder a
     record { words = set s.words (lane + 1) n; homes = set s.homes (lane + 1) x; views = set s.views id (sat b q) }
-moved_cell a s r lane n x c id b q room is apart h = let wide = r.wide in
+moved_cell a s r lane n x c id b q room fits is apart h = let wide = r.wide in
     let homes' = set s.homes (lane + 1) x in let words' : List ℕ = set s.words (lane + 1) n in
     let P : ℕ → Type 0 = IsVacant homes' (celled r.cell lane c) in record {
       wide = length-set s.words (lane + 1) n ∙ (r.wide ∙ sym (length-set s.homes (lane + 1) x));
@@ -80,6 +80,7 @@ moved_cell a s r lane n x c id b q room is apart h = let wide = r.wide in
             λ lt. set_else s.homes (lane + 1) (l + 1) x (λ e. other (omega arith))
                 ∙ was.1 (subst (λ (k : ℕ). l + 1 < k) (length-set s.homes (lane + 1) x) lt),
           ));
+      housed = still_housed s (lane + 1) n id (sat b q) fits r.housed;
       history =
           subst (λ (z : ℕ × List View). OneHistory a z.0 r.home (celled r.cell lane c) z.1)
           (λ i. (

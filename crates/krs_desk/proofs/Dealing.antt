@@ -3,7 +3,7 @@ use Rattle.std.proofs.Common.{◌≡◌, ℕ, zero, suc, ◌+◌, ◌<◌, false
 use Rattle.std.proofs.Common.{Some, refl, sym, ap, ◌∙◌, subst, All, arith, add-one}
 use Rattle.std.specs.Prelude.{map, replicate}
 use Rattle.std.proofs.lemmas.List.Elements.{All-nil, All-push, All-same}
-use mathlib.Core.Option.{none, some}
+use mathlib.Core.Option.{none, some, some-injective, some-ne-none}
 use mathlib.Core.Logic.{dite}
 use native.Mathlib.Decide.{ℕ_discrete}
 use lib.ListN.{get_elem?}
@@ -21,7 +21,8 @@ use Rattle.krs_world.proofs.Keeping as law
 use Rattle.krs_world.proofs.Seating as seating
 use Rattle.krs_desk.specs.declared.place.Place.{Place}
 use Rattle.krs_desk.specs.declared.place.Place.TheVariants.{Empty, Home}
-use Rattle.krs_desk.specs.Parts.{sight, sat, dealt, spent, views_of, hand_of}
+use Rattle.krs_desk.specs.declared.sight.Sight.{Sight}
+use Rattle.krs_desk.specs.Parts.{sight, sat, dealt, spent, views_of, hand_of, AreHoused}
 use Rattle.krs_desk.specs.Rule.{CellIs, InOneOrder, first_sight, AreZero}
 use Rattle.krs_desk.specs.Told.{picks_told, opens_told}
 use Rattle.krs_desk.specs.Sitting.{Sitting, IsIdleAt, fresh_seat, fresh_seats}
@@ -45,6 +46,11 @@ homes_count : (n : ℕ) → length (map some (replicate n Empty)) ≡ n
 homes_count zero = refl
 homes_count (suc n) = ap suc (homes_count n)
 
+-- the token that deals the others stands for no lane yet
+first_housed : (n : ℕ) (a : State) (j : ℕ) (v : Sight) → get_elem? (first_sight a ∷ []) j ≡ some v → AreHoused n v
+first_housed n a zero v e = subst (AreHoused n) (some-injective (first_sight a) v e) tt
+first_housed n a (suc j) v e = absurd (some-ne-none v (sym e))
+
 begins :
     (a : State) (lanes : ℕ) (ws : List ℕ) → length ws ≡ lanes + 1 → get_or ws 0 0 ≡ 2 → AreZero ws
     → InOneOrder a
@@ -60,6 +66,7 @@ begins a lanes ws wide two zeros = let count = homes_count lanes in record {
     refl,
     λ lt. after_first (some (Home a)) (map some (replicate lanes Empty)) lane ∙ empties lanes lane (omega arith),
   );
+  housed = λ j v e. first_housed (length ws) a j v e;
   history =
       subst (λ (n : ℕ). OneHistory a n (Some a) (λ _. cells.Empty) (view a (Opening 0) ∷ [])) (sym two)
       (seating.begins a);
@@ -90,7 +97,7 @@ opens_at key a n slots id m is =
       spent a,
       keeps,
       tt,
-      moved key s r 0 id (spent a) (λ lane no. absurd no)
+      moved key s r 0 id (spent a) (λ lane no. absurd no) tt
           (subst (λ (b : State). OneHistory b 0 r.home r.cell (set views id (view a Spent))) e h),
       refl,
     ))
@@ -121,7 +128,8 @@ picked a slots id lane room s r len at small =
       sat a p,
       takes (lane + 1) Empty,
       free.1 (omega arith),
-      moved_cell a s r lane (get_or s.words (lane + 1) 0) none cells.Empty id a p (omega arith) word
+      moved_cell a s r lane (get_or s.words (lane + 1) 0) none cells.Empty id a p (omega arith)
+          (let wide = r.wide in omega arith) word
           (λ j l v not e lies. lies_apart a s r id p is j l v not e lies)
           (subst (λ (c : ℕ → Cell). OneHistory a (turn s) r.home c (set views id (one a p)))
           (sym (same_cells r.cell lane free.0)) h),

@@ -19,13 +19,14 @@ use Rattle.krs_world.proofs.Seating as seating
 use Rattle.krs_world.proofs.Lifting as lifting
 use Rattle.krs_desk.specs.declared.place.Place.{Place}
 use Rattle.krs_desk.specs.declared.sight.Sight.{Sight}
+use Rattle.krs_desk.specs.Parts.{AreHoused, AreHousedBy}
 use Rattle.krs_desk.specs.Parts.{hand_of, sight, sat, spent, views_of, IsLaid, IsLaidBy, kept_of, given_of, given_laid}
 use Rattle.krs_desk.specs.Parts.{kept_sight, given_sight, both_sights, settled_sight}
 use Rattle.krs_desk.specs.Rule.{IsVacant, InOneOrder}
 use Rattle.krs_desk.specs.Told.{Found, looks_told, checks_told}
 use Rattle.krs_desk.specs.Seated.{Me, part}
 use Rattle.krs_desk.specs.Seated.{opening}
-use Rattle.krs_desk.proofs.Steps.{Table, turn, unmoved, views_set, view_at, laid_set, sat_lies}
+use Rattle.krs_desk.proofs.Steps.{Table, turn, unmoved, views_set, view_at, laid_set, housed_set, sat_lies}
 
 -- what a view that isn't spent has for the opening state is the key
 pub opening_is :
@@ -63,15 +64,23 @@ views_cut :
     (l : List Sight) (i : ℕ) (x y : Sight) → views_of (set l i x ++ y ∷ []) ≡ set (views_of l) i x.view ++ y.view ∷ []
 views_cut l i x y = views_snoc (set l i x) y ∙ ap (λ k. k ++ y.view ∷ []) (views_set l i x)
 
+-- what is left of a token stands for lanes that it stood for
+kept_housed : (n : ℕ) (st : Standing) (laid : Bool) → AreHousedBy n laid st → AreHousedBy n false (kept_of st)
+kept_housed n Spent laid was = tt
+kept_housed n (One p) laid was = tt
+kept_housed n (Two p q) laid was = was.0
+kept_housed n (Opening lane) laid was = tt
+
 -- a split, by the law of the one history
 cuts :
     (key a : State) (st : Standing) (laid : Bool) (id : ℕ) → st ≢ Spent
+    → ((n : ℕ) → AreHousedBy n laid st → AreHousedBy n (given_laid st) (given_of st))
     → ((turn : ℕ) (home : Option State) (cell : ℕ → Cell) (views : List View)
     → OneHistory a turn home cell views → get_elem? views id ≡ some (view a st)
     → OneHistory a turn home cell (set views id (view a (kept_of st)) ++ view a (given_of st) ∷ []))
     → Splits (InOneOrder key) id (sight (view a st) laid) (kept_sight (sight (view a st) laid))
     (given_sight (sight (view a st) laid))
-cuts key a st laid id unspent by s r at =
+cuts key a st laid id unspent gives by s r at =
     let v : Sight = sight (view a st) laid in
     let x : Sight = kept_sight v in
     let y : Sight = given_sight v in
@@ -93,6 +102,14 @@ cuts key a st laid id unspent by s r at =
           (λ (new : (y ≡ w) × (j ≡ length (set s.views id x))). given_lies P st laid lane was
           (subst (IsLaid lane) (sym new.0) lies))
           (law.at_snoc (set s.views id x) y w j is);
+      housed = λ j w is.
+          let n : ℕ = length s.words in
+          let had : AreHousedBy n laid st = r.housed id v at in
+          ⊎_elim
+          (λ (old : get_elem? (set s.views id x) j ≡ some w). housed_set n s.views id x (kept_housed n st laid had)
+          r.housed j w old)
+          (λ (new : (y ≡ w) × (j ≡ length (set s.views id x))). subst (AreHoused n) new.0 (gives n had))
+          (law.at_snoc (set s.views id x) y w j is);
       history =
           subst (λ (z : State × List View). OneHistory z.0 (turn s) r.home r.cell z.1)
           (λ i. (e i, sym (views_cut s.views id x y) i))
@@ -100,11 +117,10 @@ cuts key a st laid id unspent by s r at =
     }
 
 pub cuts_one :
-    (key a : State) (p : Part) (laid : Bool) (id : ℕ) → p.holding ≡ None
-    → Splits (InOneOrder key) id (sight (one a p) laid) (kept_sight (sight (one a p) laid))
-    (given_sight (sight (one a p) laid))
-cuts_one key a p laid id empty =
-    cuts key a (One p) laid id (λ e. cc)
+    (key a : State) (p : Part) (id : ℕ) → p.holding ≡ None
+    → Splits (InOneOrder key) id (sat a p) (kept_sight (sat a p)) (given_sight (sat a p))
+cuts_one key a p id empty =
+    cuts key a (One p) false id (λ e. cc) (λ n h. h)
     (λ turn home cell views o at. lifting.lifts a turn home cell views id p o at empty)
 
 pub cuts_two :
@@ -112,7 +128,7 @@ pub cuts_two :
     → Splits (InOneOrder key) id (sight (view a (Two p q)) laid) (kept_sight (sight (view a (Two p q)) laid))
     (given_sight (sight (view a (Two p q)) laid))
 cuts_two key a p q laid id =
-    cuts key a (Two p q) laid id (λ e. cc)
+    cuts key a (Two p q) laid id (λ e. cc) (λ n h. h.1)
     (λ turn home cell views o at. joining.parts a turn home cell views id p q o at)
 
 pub cuts_deal :
@@ -120,7 +136,7 @@ pub cuts_deal :
     → Splits (InOneOrder key) id (sight (view a (Opening n)) laid) (kept_sight (sight (view a (Opening n)) laid))
     (given_sight (sight (view a (Opening n)) laid))
 cuts_deal key a n laid id =
-    cuts key a (Opening n) laid id (λ e. cc)
+    cuts key a (Opening n) laid id (λ e. cc) (λ words h. refl)
     (λ turn home cell views o at. seating.deals a turn home cell views id n o at)
 
 pub cuts_of :
@@ -141,9 +157,10 @@ views_twice l i j x y = views_set (set l i x) j y ∙ ap (λ k. set k j y.view) 
 joined :
     (key : State) (s : Table) (r : InOneOrder key s) (id other : ℕ) (x y : Sight)
     → ((lane : ℕ) → IsLaid lane x → ⊥) → ((lane : ℕ) → IsLaid lane y → ⊥)
+    → AreHoused (length s.words) x → AreHoused (length s.words) y
     → OneHistory key (turn s) r.home r.cell (set (set (views_of s.views) id x.view) other y.view)
     → InOneOrder key record { words = s.words; homes = s.homes; views = set (set s.views id x) other y }
-joined key s r id other x y no_x no_y h =
+joined key s r id other x y no_x no_y fits_x fits_y h =
     let P : ℕ → Type 0 = IsVacant s.homes r.cell in
     record {
       wide = r.wide;
@@ -156,6 +173,9 @@ joined key s r id other x y no_x no_y h =
           laid_set P (set s.views id x) other y (λ lane is. absurd (no_y lane is))
           (λ j lane v _ e is. laid_set P s.views id x (λ l on. absurd (no_x l on))
           (λ i l u not got on. r.laid i l u got on) j lane v e is);
+      housed =
+          housed_set (length s.words) (set s.views id x) other y fits_y
+          (housed_set (length s.words) s.views id x fits_x r.housed);
       history = subst (OneHistory key (turn s) r.home r.cell) (sym (views_twice s.views id other x y)) h;
     }
 
@@ -185,6 +205,7 @@ glues key a b p q id other p_holds q_holds s r at apart at' =
     joining.joins a (starting_at 3) (turn s) r.home r.cell views id other p q from
     (view_at s.views id (sat a p) at) apart here p_holds q_holds in
     joined key s r id other (both_sights (sat a p) (sat b q)) (spent (starting_at 3)) (λ lane is. is) (λ lane is. is)
+    (r.housed id (sat a p) at, r.housed other (sat b q) is_there) tt
     (subst
     (λ (k : State). OneHistory k (turn s) r.home r.cell
     (set (set views id (view a (Two p q))) other (view (starting_at 3) Spent))) e h)
@@ -212,7 +233,7 @@ settles key a b q id other empty s r at apart at' =
     lifting.settles key (starting_at 3) (turn s) r.home r.cell views id other q (view a Spent) r.history
     (view_at s.views id (spent a) at) refl apart there empty in
     joined key s r id other (sat b q) (spent (starting_at 3))
-    (λ lane is. let no : false ≡ true = is.0 in cc) (λ lane is. is)
+    (λ lane is. let no : false ≡ true = is.0 in cc) (λ lane is. is) (r.housed other (sat b q) is_there) tt
     (subst
     (λ (k : State). OneHistory key (turn s) r.home r.cell
     (set (set views id (one k q)) other (view (starting_at 3) Spent))) (sym f) h)
@@ -250,6 +271,7 @@ checks_at key slots id m is =
       keeps,
       tt,
       unmoved key s r 0 id (sat a p) c (λ lane lies. sat_lies (IsVacant s.homes r.cell) a p lane lies)
+          (r.housed id (sat a p) at)
           (subst (λ (b : State). OneHistory b (turn s) r.home r.cell (set views id (one a p))) e
           (law.stays a views id p here (turn s) r.home r.cell h p refl refl (λ e. e) k)),
       (refl, e),
@@ -274,7 +296,7 @@ looks_at key a p q c slots id m is =
       w,
       keeps,
       tt,
-      unmoved key s r 0 id w c (λ lane no. absurd no)
+      unmoved key s r 0 id w c (λ lane no. absurd no) (r.housed id (pair a p q) at)
           (subst (λ (b : State). OneHistory b (turn s) r.home r.cell (set views id w.view)) e
           (joining.looks a (turn s) r.home r.cell views id p q h here)),
       (

@@ -49,7 +49,7 @@ posts_allowed a slots id p m ask idle room s r len at small =
       gives,
       tt,
       moved_cell a s r p.lane 1 (some (Asked m ask)) (cells.Posted m ask) id a (posted p m ask) (omega arith)
-          (refl, refl) (λ j l v not e lies. lies_apart a s r id p is j l v not e lies)
+          (r.housed id (sat a p) at) (refl, refl) (λ j l v not e lies. lies_apart a s r id p is j l v not e lies)
           (posting.posts a views id p is (turn s) r.home r.cell r.history m ask idle),
       λ m' ask' same.
           let head : ◌≡◌ {A = ℕ × Place} (p.lane + 1, Asked m ask) (p.lane + 1, Asked m' ask') = cc in
@@ -151,7 +151,8 @@ collects_allowed a slots id p c room s r len at small =
       t.4,
       subst (λ b. InOneOrder a (stepped s (lane + 1) (either b 0 x) id c w (takes (lane + 1) (Replied t.2))))
           (sym (eq-eqb x 3 hit))
-          (moved_cell a s r lane 0 none cells.Empty id a (collected p log e) (omega arith) refl
+          (moved_cell a s r lane 0 none cells.Empty id a (collected p log e) (omega arith)
+          (r.housed id (sat a p) at) refl
           (λ j l v not e lies. lies_apart a s r id p is j l v not e lies)
           (posting.collects a views id p is (turn s) r.home r.cell r.history t.0 t.1 t.2 log t.3 k.seen
           (law.prefix_self log) (subst (Begins (p.mine ++ e ∷ [])) (sym fit.2) (law.prefix_self (p.mine ++ e ∷ []))))),
@@ -181,6 +182,7 @@ collects_allowed a slots id p c room s r len at small =
       tt,
       subst (λ b. InOneOrder a (stepped s (lane + 1) (either b 0 x) id c (sat a p) keeps)) (sym (ne_eqb x 3 miss))
           (unmoved a s r (lane + 1) id (sat a p) c (λ l lies. sat_lies (IsVacant s.homes r.cell) a p l lies)
+          (r.housed id (sat a p) at)
           (law.stays a views id p is (turn s) r.home r.cell r.history p refl refl (λ e. e) k)),
       (
         (λ hit. absurd (miss hit)),

@@ -1,5 +1,5 @@
 -- The steps of a holder that answers posted calls keep the rule of the table.
-use Rattle.std.proofs.Common.{◌≡◌, ◌≢◌, ℕ, ◌+◌, ◌<◌, ◌&&◌, eqb, Bool, true, false, List, ◌∷◌}
+use Rattle.std.proofs.Common.{◌≡◌, ◌≢◌, ℕ, ◌+◌, ◌<◌, ◌&&◌, eqb, Bool, true, false, List, ◌∷◌, length}
 use Rattle.std.proofs.Common.{get_or, Some, None, Result, ⊎_elim, refl, sym, ap, ◌∙◌, subst, arith, eq-eqb}
 use Rattle.std.proofs.Common.{ne_eqb}
 use mathlib.Core.Option.{none, some}
@@ -59,14 +59,14 @@ finished x lane own = (eqb x 3) && (eqb lane own)
 -- the cell was looked at, and is not posted
 looked :
     (a : State) (s : Table) (r : InOneOrder a s) (id : ℕ) (p : Part) (c : List (ℕ × Place)) (lane : ℕ)
-    → get_elem? (views_of s.views) id ≡ some (one a p)
+    → get_elem? (views_of s.views) id ≡ some (one a p) → p.lane + 1 < length s.words
     → InOneOrder a (stepped s (lane + 1) (get_or s.words (lane + 1) 0) id c
     (sat a (looked_at p lane (finished (get_or s.words (lane + 1) 0) lane p.lane))) keeps)
-looked a s r id p c lane is =
+looked a s r id p c lane is fits =
     let x : ℕ = get_or s.words (lane + 1) 0 in
     let b : Bool = finished x lane p.lane in
     unmoved a s r (lane + 1) id (sat a (looked_at p lane b)) c
-    (λ l lies. sat_lies (IsVacant s.homes r.cell) a (looked_at p lane b) l lies)
+    (λ l lies. sat_lies (IsVacant s.homes r.cell) a (looked_at p lane b) l lies) fits
     (serving.looks_at a (views_of s.views) id p is (turn s) r.home r.cell lane b r.history
     (λ yes. let two = both_true (eqb x 3) (eqb lane p.lane) yes in
     let t = answered_of x (get_elem? s.homes (lane + 1)) (r.cell lane) (r.cells lane) (tested x 3 two.0) in
@@ -105,6 +105,7 @@ glances_allowed a slots id p c lane log held idle s r len at small =
       keeps,
       tt,
       unmoved a s r (lane + 1) id (sat a p) c (λ l lies. sat_lies (IsVacant s.homes r.cell) a p l lies)
+          (r.housed id (sat a p) at)
           (law.stays a views id p is (turn s) r.home r.cell r.history p refl refl (λ e. e) k),
       λ lane' word. ((λ _. refl), λ not. absurd (not hit)),
     ))
@@ -112,7 +113,7 @@ glances_allowed a slots id p c lane log held idle s r len at small =
       sat a (looked_at p lane (finished x lane p.lane)),
       keeps,
       tt,
-      looked a s r id p c lane is,
+      looked a s r id p c lane is (r.housed id (sat a p) at),
       λ lane' word.
           let e : lane ≡ lane' = omega arith in (
             (λ hit. absurd (miss hit)),
@@ -141,7 +142,8 @@ grabs_allowed a slots id p c lane log held idle room s r len at small =
       t.3,
       subst (λ b. InOneOrder a (stepped s (lane + 1) (either b 2 x) id c w (takes (lane + 1) (Asked t.0 t.1))))
           (sym (eq-eqb x 1 hit))
-          (moved_cell a s r lane 2 none (cells.Serving t.0 t.1) id a (grabbed p lane t.0 t.1) (omega arith) refl
+          (moved_cell a s r lane 2 none (cells.Serving t.0 t.1) id a (grabbed p lane t.0 t.1) (omega arith)
+          (r.housed id (sat a p) at) refl
           (λ j l v not e lies same. let free = r.laid j l v e lies in
           let no : cells.Posted t.0 t.1 ≡ cells.Empty = sym t.2 ∙ (ap r.cell (sym same) ∙ free.0) in cc)
           (serving.grabs a views id p is (turn s) r.home r.cell log lane t.0 t.1 r.history held idle t.2)),
@@ -157,7 +159,7 @@ grabs_allowed a slots id p c lane log held idle room s r len at small =
       tt,
       subst
           (λ d. InOneOrder a (stepped s (lane + 1) (either d 2 x) id c (sat a (looked_at p lane (finished x lane p.lane)))
-          keeps)) (sym (ne_eqb x 1 miss)) (looked a s r id p c lane is),
+          keeps)) (sym (ne_eqb x 1 miss)) (looked a s r id p c lane is (r.housed id (sat a p) at)),
       λ lane' word.
           let e : lane ≡ lane' = omega arith in (
             (λ hit. absurd (miss hit)),
@@ -186,7 +188,7 @@ answers_allowed a slots id p c lane m ask reply log last next held serves legal 
       gives,
       tt,
       moved_cell a s r lane 3 (some (Replied reply)) (cells.Answered m ask reply) id a
-          (answered p log (event_of lane m ask reply)) (omega arith) (refl, refl)
+          (answered p log (event_of lane m ask reply)) (omega arith) (r.housed id (sat a p) at) (refl, refl)
           (λ j l v not e lies same. let free = r.laid j l v e lies in
           let no : cells.Serving m ask ≡ cells.Empty = sym was ∙ (ap r.cell (sym same) ∙ free.0) in cc)
           (serving.answers a views id p is (turn s) r.home r.cell log lane m ask reply last next r.history held serves
@@ -219,7 +221,8 @@ brings_allowed a slots id p c store log held idle legal s r len at small =
       gives,
       tt,
       subst (λ b. InOneOrder a (stepped s 0 (either b 0 x) id ((0, Home store) ∷ c) w gives)) (sym (eq-eqb x 1 t.0))
-          (moved_home a s r 0 (some (Home store)) (Some store) id a (put_none p log) refl t.1),
+          (moved_home a s r 0 (some (Home store)) (Some store) id a (put_none p log) (r.housed id (sat a p) at) refl
+          t.1),
       λ log' held'.
           let el : log ≡ log' = cc in (
             (λ i. (sat a (put_none p (el i)), c)),

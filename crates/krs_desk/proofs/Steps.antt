@@ -1,5 +1,6 @@
 -- The steps of a call keep the rule of the table: taking the turn, finding it out, and giving it back.
 use Rattle.std.proofs.Common.{◌≡◌, ◌≢◌, ℕ, zero, suc, ◌+◌, ◌<◌, eqb, true, false, List, [], ◌∷◌, get_or, set}
+use Rattle.std.proofs.Common.{length}
 use Rattle.std.proofs.Common.{Option, Some, None, ⊎_elim, refl, sym, ap, ◌∙◌, subst, arith, eq-eqb, ne_eqb, length-set}
 use Rattle.std.proofs.Common.{get_or-set_same, get_or-set_other}
 use mathlib.Core.Option.{none, some, some-injective, some-ne-none}
@@ -26,7 +27,7 @@ use Rattle.krs_world.proofs.Keeping as law
 use Rattle.krs_desk.specs.declared.place.Place.{Place}
 use Rattle.krs_desk.specs.declared.place.Place.TheVariants.{Home}
 use Rattle.krs_desk.specs.declared.sight.Sight.{Sight}
-use Rattle.krs_desk.specs.Parts.{sat, views_of, IsLaid, hand_of}
+use Rattle.krs_desk.specs.Parts.{sat, views_of, IsLaid, AreHoused, hand_of}
 use Rattle.krs_desk.specs.Rule.{IsAtHome, CellIs, IsVacant, InOneOrder}
 use Rattle.krs_desk.specs.Told.{takes_told, puts_told}
 use Rattle.krs_desk.specs.Seated.{Me, opening, part, HoldsBefore}
@@ -65,15 +66,24 @@ laid_set P views id w mine others j lane v e is =
 pub sat_lies : (P : ℕ → Type 0) (a : State) (p : Part) (lane : ℕ) → IsLaid lane (sat a p) → P lane
 sat_lies P a p lane is = absurd (let no : false ≡ true = is.0 in cc)
 
+-- what a step's token stands for has its word, and so have all others
+pub housed_set :
+    (n : ℕ) (views : List Sight) (id : ℕ) (w : Sight) → AreHoused n w
+    → ((j : ℕ) (v : Sight) → get_elem? views j ≡ some v → AreHoused n v)
+    → (j : ℕ) (v : Sight) → get_elem? (set views id w) j ≡ some v → AreHoused n v
+housed_set n views id w mine others j v e =
+    ⊎_elim (λ (t : (j ≡ id) × (w ≡ v)). subst (AreHoused n) t.1 mine)
+    (λ (t : (j ≢ id) × (get_elem? views j ≡ some v)). others j v t.1) (law.at_set views id j w v e)
+
 -- Words and slots.
 
 -- a step that changes no word and no slot
 pub unmoved :
     (a : State) (s : Table) (r : InOneOrder a s) (i id : ℕ) (w : Sight) (c : List (ℕ × Place))
-    → ((lane : ℕ) → IsLaid lane w → IsVacant s.homes r.cell lane)
+    → ((lane : ℕ) → IsLaid lane w → IsVacant s.homes r.cell lane) → AreHoused (length s.words) w
     → OneHistory a (turn s) r.home r.cell (set (views_of s.views) id w.view)
     → InOneOrder a (stepped s i (get_or s.words i 0) id c w keeps)
-unmoved a s r i id w c lies h =
+unmoved a s r i id w c lies fits h =
     subst (λ (ws : List ℕ). InOneOrder a record { words = ws; homes = s.homes; views = set s.views id w })
     (sym (set-get_or s.words i 0))
     record {
@@ -85,6 +95,7 @@ unmoved a s r i id w c lies h =
       cells = r.cells;
       laid =
           laid_set (IsVacant s.homes r.cell) s.views id w lies (λ j lane v not e is. r.laid j lane v e is);
+      housed = housed_set (length s.words) s.views id w fits r.housed;
       history = subst (OneHistory a (turn s) r.home r.cell) (sym (views_set s.views id w)) h;
     }
 
@@ -98,13 +109,22 @@ cells_stay s n homes cell was same l =
     subst (λ (z : ℕ × maybe.Option Slot). CellIs z.0 z.1 (cell l))
     (λ i. (sym (get_or-set_other s.words 0 (l + 1) n 0 (λ e. omega arith)) i, sym (same l) i)) (was l)
 
+-- a step on a word leaves the number of words
+pub still_housed :
+    (s : Table) (i n id : ℕ) (w : Sight) → AreHoused (length s.words) w
+    → ((j : ℕ) (v : Sight) → get_elem? s.views j ≡ some v → AreHoused (length s.words) v)
+    → (j : ℕ) (v : Sight) → get_elem? (set s.views id w) j ≡ some v → AreHoused (length (set s.words i n)) v
+still_housed s i n id w fits was j v e =
+    subst (λ (k : ℕ). AreHoused k v) (sym (length-set s.words i n))
+    (housed_set (length s.words) s.views id w fits was j v e)
+
 -- a step on the turn that leaves the slots
 pub moved :
     (a : State) (s : Table) (r : InOneOrder a s) (n id : ℕ) (w : Sight)
-    → ((lane : ℕ) → IsLaid lane w → IsVacant s.homes r.cell lane)
+    → ((lane : ℕ) → IsLaid lane w → IsVacant s.homes r.cell lane) → AreHoused (length s.words) w
     → OneHistory a n r.home r.cell (set (views_of s.views) id w.view)
     → InOneOrder a record { words = set s.words 0 n; homes = s.homes; views = set s.views id w }
-moved a s r n id w lies h = record {
+moved a s r n id w lies fits h = record {
   wide = length-set s.words 0 n ∙ r.wide;
   any = subst (λ (k : ℕ). 0 < k) (sym (length-set s.words 0 n)) r.any;
   home = r.home;
@@ -112,6 +132,7 @@ moved a s r n id w lies h = record {
   cell = r.cell;
   cells = cells_stay s n s.homes r.cell r.cells (λ l. refl);
   laid = laid_set (IsVacant s.homes r.cell) s.views id w lies (λ j lane v not e is. r.laid j lane v e is);
+  housed = still_housed s 0 n id w fits r.housed;
   history =
       subst (λ (z : ℕ × List View). OneHistory a z.0 r.home r.cell z.1)
       (λ i. (sym (get_or-set_same s.words 0 n 0 r.any) i, sym (views_set s.views id w) i)) h;
@@ -129,9 +150,10 @@ vacant_still homes cell x lane v = (
 -- a step on the turn, and on the first slot
 pub moved_home :
     (a : State) (s : Table) (r : InOneOrder a s) (n : ℕ) (x : Slot) (home : Option State) (id : ℕ) (b : State) (q : Part)
-    → IsAtHome home (some x) → OneHistory a n home r.cell (set (views_of s.views) id (one b q))
+    → q.lane + 1 < length s.words → IsAtHome home (some x)
+    → OneHistory a n home r.cell (set (views_of s.views) id (one b q))
     → InOneOrder a record { words = set s.words 0 n; homes = set s.homes 0 x; views = set s.views id (sat b q) }
-moved_home a s r n x home id b q at h = let wide = r.wide in let any = r.any in record {
+moved_home a s r n x home id b q fits at h = let wide = r.wide in let any = r.any in record {
   wide = length-set s.words 0 n ∙ (r.wide ∙ sym (length-set s.homes 0 x));
   any = subst (λ (k : ℕ). 0 < k) (sym (length-set s.words 0 n)) r.any;
   home = home;
@@ -142,6 +164,7 @@ moved_home a s r n x home id b q at h = let wide = r.wide in let any = r.any in 
       laid_set (IsVacant (set s.homes 0 x) r.cell) s.views id (sat b q)
       (λ lane is. sat_lies (IsVacant (set s.homes 0 x) r.cell) b q lane is)
       (λ j lane v not e is. vacant_still s.homes r.cell x lane (r.laid j lane v e is));
+  housed = still_housed s 0 n id (sat b q) fits r.housed;
   history =
       subst (λ (z : ℕ × List View). OneHistory a z.0 home r.cell z.1)
       (λ i. (sym (get_or-set_same s.words 0 n 0 r.any) i, sym (views_set s.views id (sat b q)) i)) h;
@@ -171,7 +194,7 @@ takes_allowed a slots id p c empty s r len at small =
       slot,
       subst (λ b. InOneOrder a (stepped s 0 (either b 1 x) id c w (takes 0 (Home h.last))))
           (sym (eq-eqb x 0 free))
-          (moved_home a s r 1 none None id a (taken p h.log) refl
+          (moved_home a s r 1 none None id a (taken p h.log) (r.housed id (sat a p) at) refl
           (law.takes a views id p is r.home r.cell h empty)),
       (
         (λ _. (
@@ -194,6 +217,7 @@ takes_allowed a slots id p c empty s r len at small =
       tt,
       subst (λ b. InOneOrder a (stepped s 0 (either b 1 x) id c w keeps)) (sym (ne_eqb x 0 out))
           (unmoved a s r 0 id w c (λ lane is. sat_lies (IsVacant s.homes r.cell) a (missed p) lane is)
+          (r.housed id (sat a p) at)
           (law.misses a views id p is x r.home r.cell r.history)),
       ((λ free. absurd (out free)), λ _. refl),
     ))
@@ -219,7 +243,8 @@ puts_allowed a slots id p store c e log last held legal unserving idle does lane
       gives,
       tt,
       subst (λ b. InOneOrder a (stepped s 0 (either b 0 x) id ((0, Home store) ∷ c) w gives)) (sym (eq-eqb x 1 t.0))
-          (moved_home a s r 0 (some (Home store)) (Some store) id a (put_own p log e) refl t.1),
+          (moved_home a s r 0 (some (Home store)) (Some store) id a (put_own p log e) (r.housed id (sat a p) at) refl
+          t.1),
       λ log' e' held' said'.
           let same_log : log ≡ log' = cc in
           let same_event : e ≡ e' = cc in (

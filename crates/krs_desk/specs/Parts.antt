@@ -1,5 +1,5 @@
 -- The lanes that a token stands for, and how joining and splitting tokens changes them. The form is this project's own.
-use Rattle.std.specs.Prelude.{◌≡◌, ◌≤◌, ℕ, ◌+◌, Bool, true, false, List, [], ◌∷◌, Option, Some, None, map}
+use Rattle.std.specs.Prelude.{◌≡◌, ◌≤◌, ◌<◌, ℕ, ◌+◌, Bool, true, false, List, [], ◌∷◌, Option, Some, None, map}
 use Rattle.krs_model.specs.State.{State}
 use Rattle.krs_world.specs.declared.view.Flight.{Flight}
 use Rattle.krs_world.specs.declared.view.Part.{Part}
@@ -39,6 +39,22 @@ IsLaidBy lane laid (Opening n) = n ≤ lane
 
 abbrev pub IsLaid : ℕ → Sight → Type 0
 IsLaid lane s = IsLaidBy lane s.laid s.view.stands
+
+-- The lane has a word and a slot. One that was just dealt, whose slot its seat has not taken yet, may have neither, and
+-- has done nothing.
+abbrev pub IsHoused : ℕ → Bool → Part → Type 0
+IsHoused words true p = p ≡ fresh p.lane
+IsHoused words false p = p.lane + 1 < words
+
+-- so it is of each lane that a token stands for
+abbrev pub AreHousedBy : ℕ → Bool → Standing → Type 0
+AreHousedBy words laid Spent = Unit {0}
+AreHousedBy words laid (One p) = IsHoused words laid p
+AreHousedBy words laid (Two p q) = (p.lane + 1 < words) × (q.lane + 1 < words)
+AreHousedBy words laid (Opening n) = Unit {0}
+
+abbrev pub AreHoused : ℕ → Sight → Type 0
+AreHoused words s = AreHousedBy words s.laid s.view.stands
 
 -- the slots that a seat has: its lane's, unless a call of its own is in flight
 abbrev pub hand_of : Option Flight → ℕ → List (ℕ × Place)

@@ -13,7 +13,7 @@ use Rattle.krs_world.specs.History.{OneHistory}
 use Rattle.krs_desk.specs.declared.place.Place.{Place}
 use Rattle.krs_desk.specs.declared.place.Place.TheVariants.{Empty, Home, Asked, Replied}
 use Rattle.krs_desk.specs.declared.sight.Sight.{Sight}
-use Rattle.krs_desk.specs.Parts.{sight, views_of, IsLaid}
+use Rattle.krs_desk.specs.Parts.{sight, views_of, IsLaid, AreHoused}
 
 -- the first slot has the store that is at home, and is empty where none is
 abbrev pub IsAtHome : Option State → maybe.Option (maybe.Option Place) → Type 0
@@ -43,6 +43,8 @@ pub record InOneOrder (opening : State) (s : table.State Place Sight) : Type 0 w
   pub cells : (lane : ℕ) → CellIs (slice_index s.words (lane + 1)) (get_elem? s.homes (lane + 1)) (cell lane)
   -- what a token is to pick up lies there
   pub laid : (j lane : ℕ) (v : Sight) → get_elem? s.views j ≡ some v → IsLaid lane v → IsVacant s.homes cell lane
+  -- each lane that has done anything has a word of its own: no seat stands for a lane beyond the words
+  pub housed : (j : ℕ) (v : Sight) → get_elem? s.views j ≡ some v → AreHoused (length s.words) v
   pub history : OneHistory opening (slice_index s.words 0) home cell (views_of s.views)
 
 -- what is known of the first token, which deals the others

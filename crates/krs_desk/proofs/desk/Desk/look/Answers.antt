@@ -12,7 +12,7 @@ split_seat-other-requires c =
       search rules,
       search rules,
       cuts_of _ _ _ (sat (opening n) (part n)) (ap (λ k. k.0) c.requires.rest.1.0)
-          (cuts_one _ _ _ _ _ c.requires.rest.1.1),
+          (cuts_one _ _ _ _ c.requires.rest.1.1),
     )
 
 pub join_seat-requires : goal.join_seat-requires
