@@ -68,6 +68,12 @@ pub waits_helped :
     → HasHelped desk t how u → Waits desk s moment ask u
 waits_helped desk s t u moment ask how w h = helped_on desk s t u moment ask how w h
 
+-- nothing is changed where no reply was collected
+pub waits_still :
+    (desk : TableId) (s t u : Sitting) (moment : ℕ) (ask : Ask) → Waits desk s moment ask t → u ≡ t
+    → Waits desk s moment ask u
+waits_still desk s t u moment ask w same = subst (Waits desk s moment ask) (sym same) w
+
 same_flight :
     (moment moment' : ℕ) (ask ask' : Ask) (before before' : List Event)
     → Some (flight moment ask before) ≡ Some (flight moment' ask' before')

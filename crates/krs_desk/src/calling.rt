@@ -123,6 +123,9 @@ impl Desk {
     {
         self.post(seat, moment, ask);
         for _ in rt.forever() {
+            if let Some(reply) = self.collect(seat) {
+                return reply;
+            }
             let _helped = self.help(seat);
             if let Some(reply) = self.collect(seat) {
                 return reply;
