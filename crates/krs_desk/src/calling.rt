@@ -11,27 +11,27 @@ use std::sync::Wait;
 use std::sync::atomic::Ordering;
 use std::{hint, thread};
 
-// So often a call tries to have the turn before it is posted.
-const TRIES: u32 = 16;
+// So often a call tries to have the turn before it is posted, and so often a posted call looks at its cell and the turn
+// before it sleeps.
+const TRIES: u32 = 40;
 
-// So often it lets other threads go first after a try that isn't its first. Whoever has the turn can then take it again
-// for its next call: where the turn goes to another processor, the memory of the store must follow. After the first try
-// it does so once: mostly the turn is given back at once.
-const YIELDS_BETWEEN: u32 = 8;
+// So long a call pauses after its first try, and at most. After each try it pauses twice as long. Mostly the turn is
+// given back at once; where it isn't, whoever has it can take it again for its next call: where the turn goes to another
+// processor, the memory of the store must follow. It never yields its processor, which the scheduler takes as leave to
+// run the others' whole slices first.
+const FIRST_PAUSE: u32 = 4;
 
-// So often a posted call looks at its own cell, then lets other threads go first between two looks, and then looks at
-// the turn as well, before it sleeps.
+const LONGEST_PAUSE: u32 = 512;
+
+// So often a posted call looks at its own cell alone before that.
 const LOOKS: u32 = 16;
 
-const QUIET_YIELDS: u32 = 16;
-
-const YIELDS: u32 = 1_000;
-
-// Lets other threads go first, so often.
-fn pause(yields: u32) {
-    for _ in 0..yields {
-        thread::yield_now();
+// Pauses, and tells how long to pause next.
+fn pause(spins: u32) -> u32 {
+    for _ in 0..spins {
+        hint::spin_loop();
     }
+    spins.saturating_mul(2).min(LONGEST_PAUSE)
 }
 
 impl Desk {
@@ -64,12 +64,6 @@ impl Desk {
             }
             hint::spin_loop();
         }
-        for _ in 0..QUIET_YIELDS {
-            thread::yield_now();
-            if self.is_answered(lane) {
-                return;
-            }
-        }
     }
 
     // Waits until the turn was free or the lane's call answered, or for a while.
@@ -77,11 +71,12 @@ impl Desk {
         requires { lane + 1 < self.now.words }
     {
         self.wait_for_answer(lane);
-        for _ in 0..YIELDS {
+        let mut spins = FIRST_PAUSE;
+        for _ in 0..TRIES {
             if self.is_worth_a_try(lane) {
                 return;
             }
-            thread::yield_now();
+            spins = pause(spins);
         }
         self.sleepers.fetch_add(1, Ordering::SeqCst);
         self.table.shared.park(rt, 0, 1);
@@ -146,7 +141,7 @@ impl Desk {
         ensures looked { HasLooked self.now seat.old seat.new }
     {
         let mut ask = ask;
-        let mut yields = 1;
+        let mut spins = FIRST_PAUSE;
         for _ in 0..TRIES {
             if self.is_free() {
                 ask = match self.call_in_turn(seat, moment, ask) {
@@ -154,8 +149,7 @@ impl Desk {
                     Err(back) => back,
                 };
             }
-            pause(yields);
-            yields = YIELDS_BETWEEN;
+            spins = pause(spins);
         }
         self.call_by_post(rt, seat, moment, ask)
     }
