@@ -74,10 +74,10 @@ impl Desk {
         ensures table { token.new.table_id ≡ token.old.table_id }
         ensures served { Serves token.old.me (event_of lane moment ask result) token.new.me }
     {
-        let Place::Home(store) = token.slot_mut(&self.table.shared, 0) else {
+        let Place::Home(home) = token.slot_mut(&self.table.shared, 0) else {
             unreachable!()
         };
-        store.apply(lane, moment, ask)
+        home.apply(lane, moment, ask)
     }
 
     // Brings the store home, with one event more, and wakes a thread that waits for the turn.

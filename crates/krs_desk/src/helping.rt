@@ -49,10 +49,10 @@ impl Desk {
         if turn != 0 {
             return Err(turn);
         }
-        let Place::Home(store) = self.table.shared.exchange(token, 0, Place::Empty) else {
+        let Place::Home(home) = self.table.shared.exchange(token, 0, Place::Empty) else {
             unreachable!()
         };
-        Ok(store)
+        Ok(home.into_inner())
     }
 
     // Asks the store that the token has behind the slot that it took last.

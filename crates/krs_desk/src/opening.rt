@@ -7,6 +7,7 @@ ghost use Rattle.krs_desk.specs.declared.place.Place.TheVariants.{Empty, Home};
 ghost use Rattle.krs_desk.specs.Rule.{AreZero, first_sight};
 ghost use Rattle.krs_desk.specs.Sitting.{IsIdleAt, fresh_seats};
 
+use crate::boxed::BoxedStore;
 use crate::desk::Desk;
 use crate::place::Place;
 use crate::plays::{Board, Cut, Opens, Picks, Token};
@@ -99,7 +100,8 @@ impl Desk {
         };
         store.is_sound();
         let about = Snapshot::of(&store);
-        slots.push_reserved(Place::Home(store));
+        let home = BoxedStore::new(alloc, store)?;
+        slots.push_reserved(Place::Home(home));
         for _ in 0..count {
             slots.push_reserved(Place::Empty);
         }
@@ -135,10 +137,10 @@ impl Desk {
             )),
             Err(refused) => {
                 let mut back = refused.slots;
-                let Place::Home(store) = mem::replace(&mut back[0], Place::Empty) else {
+                let Place::Home(home) = mem::replace(&mut back[0], Place::Empty) else {
                     unreachable!()
                 };
-                Err(store)
+                Err(home.into_inner())
             }
         }
     }

@@ -1,12 +1,12 @@
 //! What a slot of the table holds.
-use krs_store::Store;
+use crate::boxed::BoxedStore;
 use krs_types::{Ask, Reply};
 
 /// In the first slot the store, while it is at home. In a lane's slot an ask that was posted, or its reply.
 #[derive(Drop)]
 pub enum Place {
     Empty,
-    Home(Store),
+    Home(BoxedStore),
     Asked(u64, Ask),
     Replied(Reply),
 }
