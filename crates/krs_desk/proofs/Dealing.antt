@@ -26,6 +26,8 @@ use Rattle.krs_desk.specs.Parts.{sight, sat, dealt, spent, views_of, hand_of, Ar
 use Rattle.krs_desk.specs.Rule.{CellIs, InOneOrder, first_sight, AreZero}
 use Rattle.krs_desk.specs.Told.{picks_told, opens_told}
 use Rattle.krs_desk.specs.Sitting.{Sitting, IsIdleAt, fresh_seat, fresh_seats}
+use Rattle.krs_desk.specs.Moves as move
+use Rattle.krs_desk.specs.Moves.{moved_told, stored_told}
 use Rattle.krs_desk.specs.Seated.{Me}
 use Rattle.krs_desk.proofs.Steps.{Slot, turn, moved, view_at}
 use Rattle.krs_desk.proofs.Cells.{lies_apart, moved_cell}
@@ -82,10 +84,10 @@ begins_at a lanes ws vs slots same is wide two zeros =
 -- the turn is freed
 pub opens_at :
     (key a : State) (n : ℕ) (slots id : ℕ) (m : Me) → m ≡ (sight (view a (Opening n)) false, [])
-    → Allows (InOneOrder key) slots id m 0 (λ _. 0) (λ _. opens_told (step slots 0 0 0 none) m 0)
+    → Allows (InOneOrder key) slots id m 0 (λ _. 0) (λ _. stored_told opens_told (step slots 0 0 0 none) m 0)
 opens_at key a n slots id m is =
     subst
-    (λ (z : Me). Allows (InOneOrder key) slots id z 0 (λ _. 0) (λ _. opens_told (step slots 0 0 0 none) z 0))
+    (λ (z : Me). Allows (InOneOrder key) slots id z 0 (λ _. 0) (λ _. stored_told opens_told (step slots 0 0 0 none) z 0))
     (sym is)
     (λ s r len at small.
     let views : List View = views_of s.views in
@@ -99,7 +101,7 @@ opens_at key a n slots id m is =
       tt,
       moved key s r 0 id (spent a) (λ lane no. absurd no) tt
           (subst (λ (b : State). OneHistory b 0 r.home r.cell (set views id (view a Spent))) e h),
-      refl,
+      (refl, (refl, refl)),
     ))
 
 -- an empty cell stays empty
@@ -114,7 +116,7 @@ same_cells cell lane empty =
 picked :
     (a : State) (slots id lane : ℕ) → lane + 1 < slots
     → Allows (InOneOrder a) slots id (dealt a (fresh lane), []) (lane + 1) (λ n. n)
-    (λ n. picks_told (step slots (lane + 1) 0 0 none) (dealt a (fresh lane), []) n)
+    (λ n. moved_told picks_told (step slots (lane + 1) 0 0 none) (dealt a (fresh lane), []) n)
 picked a slots id lane room s r len at small =
     let p : Part = fresh lane in
     let views : List View = views_of s.views in
@@ -133,16 +135,16 @@ picked a slots id lane room s r len at small =
           (λ j l v not e lies. lies_apart a s r id p is j l v not e lies)
           (subst (λ (c : ℕ → Cell). OneHistory a (turn s) r.home c (set views id (one a p)))
           (sym (same_cells r.cell lane free.0)) h),
-      refl,
+      (refl, (refl, (move.stays, tt, refl))),
     )
 
 pub picks_at :
     (key a : State) (slots id lane : ℕ) (m : Me) → m ≡ (dealt a (fresh lane), []) → lane + 1 < slots
-    → Allows (InOneOrder key) slots id m (lane + 1) (λ n. n) (picks_told (step slots (lane + 1) 0 0 none) m)
+    → Allows (InOneOrder key) slots id m (lane + 1) (λ n. n) (moved_told picks_told (step slots (lane + 1) 0 0 none) m)
 picks_at key a slots id lane m is room =
     subst
     (λ (z : Me).
-    Allows (InOneOrder key) slots id z (lane + 1) (λ n. n) (picks_told (step slots (lane + 1) 0 0 none) z))
+    Allows (InOneOrder key) slots id z (lane + 1) (λ n. n) (moved_told picks_told (step slots (lane + 1) 0 0 none) z))
     (sym is)
     (λ s r len at small.
     let e : a ≡ key = opening_is key a (One (fresh lane)) true s id r at (λ e. cc) in

@@ -24,6 +24,8 @@ use Rattle.krs_desk.specs.Parts.{hand_of, sight, sat, spent, views_of, IsLaid, I
 use Rattle.krs_desk.specs.Parts.{kept_sight, given_sight, both_sights, settled_sight}
 use Rattle.krs_desk.specs.Rule.{IsVacant, InOneOrder}
 use Rattle.krs_desk.specs.Told.{Found, looks_told, checks_told}
+use Rattle.krs_desk.specs.Moves as move
+use Rattle.krs_desk.specs.Moves.{moved_told}
 use Rattle.krs_desk.specs.Seated.{Me, part}
 use Rattle.krs_desk.specs.Seated.{opening}
 use Rattle.krs_desk.proofs.Steps.{Table, turn, unmoved, views_set, view_at, laid_set, housed_set, sat_lies}
@@ -253,12 +255,12 @@ settles_at key a b q c id other m n is is' empty =
 -- a look of one lane's token, which tells that its opening is the key
 pub checks_at :
     (key : State) (slots id : ℕ) (m : Me) → m ≡ (sat (opening m) (part m), hand_of (part m).flight (part m).lane)
-    → Allows (InOneOrder key) slots id m 0 (λ n. n) (checks_told key (step slots 0 0 0 none) m)
+    → Allows (InOneOrder key) slots id m 0 (λ n. n) (moved_told (checks_told key) (step slots 0 0 0 none) m)
 checks_at key slots id m is =
     let a : State = opening m in
     let p : Part = part m in
     let c : List (ℕ × Place) = hand_of p.flight p.lane in
-    subst (λ (z : Me). Allows (InOneOrder key) slots id z 0 (λ n. n) (checks_told key (step slots 0 0 0 none) z))
+    subst (λ (z : Me). Allows (InOneOrder key) slots id z 0 (λ n. n) (moved_told (checks_told key) (step slots 0 0 0 none) z))
     (sym is)
     (λ s r len at small.
     let views : List View = views_of s.views in
@@ -274,7 +276,7 @@ checks_at key slots id m is =
           (r.housed id (sat a p) at)
           (subst (λ (b : State). OneHistory b (turn s) r.home r.cell (set views id (one a p))) e
           (law.stays a views id p here (turn s) r.home r.cell h p refl refl (λ e. e) k)),
-      (refl, e),
+      ((refl, e), (refl, (move.stays, tt, refl))),
     ))
 
 abbrev pub pair : State → Part → Part → Sight
@@ -282,9 +284,9 @@ pair a p q = sight (view a (Two p q)) false
 
 pub looks_at :
     (key a : State) (p q : Part) (c : List (ℕ × Place)) (slots id : ℕ) (m : Me) → m ≡ (pair a p q, c)
-    → Allows (InOneOrder key) slots id m 0 (λ n. n) (looks_told (step slots 0 0 0 none) m)
+    → Allows (InOneOrder key) slots id m 0 (λ n. n) (moved_told looks_told (step slots 0 0 0 none) m)
 looks_at key a p q c slots id m is =
-    subst (λ (z : Me). Allows (InOneOrder key) slots id z 0 (λ n. n) (looks_told (step slots 0 0 0 none) z)) (sym is)
+    subst (λ (z : Me). Allows (InOneOrder key) slots id z 0 (λ n. n) (moved_told looks_told (step slots 0 0 0 none) z)) (sym is)
     (λ s r len at small.
     let views : List View = views_of s.views in
     let e : a ≡ key = opening_is key a (Two p q) false s id r at (λ e. cc) in
@@ -300,19 +302,22 @@ looks_at key a p q c slots id m is =
           (subst (λ (b : State). OneHistory b (turn s) r.home r.cell (set views id w.view)) e
           (joining.looks a (turn s) r.home r.cell views id p q h here)),
       (
-        h.log,
-        h.last,
-        refl,
-        record {
-          legal = h.legal;
-          seen = k.0.seen;
-          mine = λ idle. law.idle_mine p h.log (r.cell p.lane) idle k.0.fits;
-        },
-        record {
-          legal = h.legal;
-          seen = k.1.seen;
-          mine = λ idle. law.idle_mine q h.log (r.cell q.lane) idle k.1.fits;
-        },
+        (
+          h.log,
+          h.last,
+          refl,
+          record {
+            legal = h.legal;
+            seen = k.0.seen;
+            mine = λ idle. law.idle_mine p h.log (r.cell p.lane) idle k.0.fits;
+          },
+          record {
+            legal = h.legal;
+            seen = k.1.seen;
+            mine = λ idle. law.idle_mine q h.log (r.cell q.lane) idle k.1.fits;
+          },
+        ),
+        (refl, (refl, (h.log, refl))),
       ),
     ))
 

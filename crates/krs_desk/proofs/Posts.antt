@@ -1,6 +1,6 @@
 -- Posting a call and collecting its reply keep the rule of the table, and what their callers are told.
 use Rattle.std.proofs.Common.{◌≡◌, ℕ, ◌+◌, ◌<◌, eqb, Bool, true, false, List, [], ◌∷◌, ◌++◌, get_or}
-use Rattle.std.proofs.Common.{None, Result, refl, sym, ap, ◌∙◌, subst, arith, eq-eqb, ne_eqb}
+use Rattle.std.proofs.Common.{Some, None, Result, refl, sym, ap, ◌∙◌, subst, arith, eq-eqb, ne_eqb}
 use mathlib.Core.Option.{none, some}
 use mathlib.Core.Option as maybe
 use mathlib.Core.Logic.{dite}
@@ -31,6 +31,8 @@ use Rattle.krs_desk.specs.Parts.{sat, views_of, hand_of}
 use Rattle.krs_desk.specs.Rule.{CellIs, IsVacant, InOneOrder}
 use Rattle.krs_desk.specs.Told.{posts_told, collects_told, Gathers}
 use Rattle.krs_desk.specs.Sitting.{Sitting, posted_by, Collects}
+use Rattle.krs_desk.specs.Moves as move
+use Rattle.krs_desk.specs.Moves.{moved_told, stored_told}
 use Rattle.krs_desk.specs.Seated.{Me, opening, part, sitting_of, IsSeated}
 use Rattle.krs_desk.proofs.Steps.{Slot, turn, unmoved, view_at, sat_lies, any_key}
 use Rattle.krs_desk.proofs.Cells.{lies_apart, moved_cell}
@@ -41,7 +43,7 @@ use Rattle.krs_desk.proofs.Seats.{own_slot}
 posts_allowed :
     (a : State) (slots id : ℕ) (p : Part) (m : ℕ) (ask : Ask) → p.flight ≡ None → p.lane + 1 < slots
     → Allows (InOneOrder a) slots id (sat a p, (p.lane + 1, Asked m ask) ∷ []) (p.lane + 1) (λ _. 1)
-    (λ _. posts_told (step slots (p.lane + 1) 1 0 none) (sat a p, (p.lane + 1, Asked m ask) ∷ []) 1)
+    (λ _. stored_told posts_told (step slots (p.lane + 1) 1 0 none) (sat a p, (p.lane + 1, Asked m ask) ∷ []) 1)
 posts_allowed a slots id p m ask idle room s r len at small =
     let views : List View = views_of s.views in
     let is : get_elem? views id ≡ some (one a p) = view_at s.views id (sat a p) at in (
@@ -51,18 +53,21 @@ posts_allowed a slots id p m ask idle room s r len at small =
       moved_cell a s r p.lane 1 (some (Asked m ask)) (cells.Posted m ask) id a (posted p m ask) (omega arith)
           (r.housed id (sat a p) at) (refl, refl) (λ j l v not e lies. lies_apart a s r id p is j l v not e lies)
           (posting.posts a views id p is (turn s) r.home r.cell r.history m ask idle),
-      λ m' ask' same.
-          let head : ◌≡◌ {A = ℕ × Place} (p.lane + 1, Asked m ask) (p.lane + 1, Asked m' ask') = cc in
-          let said : Asked m ask ≡ Asked m' ask' = ap (λ (q : ℕ × Place). q.1) head in
-          let em : m ≡ m' = cc in
-          let ea : ask ≡ ask' = cc in
-          λ i. (sat a (posted p (em i) (ea i)), []),
+      (
+        (λ m' ask' same.
+            let head : ◌≡◌ {A = ℕ × Place} (p.lane + 1, Asked m ask) (p.lane + 1, Asked m' ask') = cc in
+            let said : Asked m ask ≡ Asked m' ask' = ap (λ (q : ℕ × Place). q.1) head in
+            let em : m ≡ m' = cc in
+            let ea : ask ≡ ask' = cc in
+            λ i. (sat a (posted p (em i) (ea i)), [])),
+        (refl, (move.posts m ask, refl, refl)),
+      ),
     )
 
 pub posts_at :
     (key : State) (slots id lane : ℕ) (idle : Bool) (m n : Me) (moment : ℕ) (ask : Ask) → IsSeated lane idle m
     → (part m).flight ≡ None → n ≡ (m.0, (lane + 1, Asked moment ask) ∷ rest m.1) → lane + 1 < slots
-    → Allows (InOneOrder key) slots id n (lane + 1) (λ _. 1) (λ _. posts_told (step slots (lane + 1) 1 0 none) n 1)
+    → Allows (InOneOrder key) slots id n (lane + 1) (λ _. 1) (λ _. stored_told posts_told (step slots (lane + 1) 1 0 none) n 1)
 posts_at key slots id lane idle m n moment ask seated quiet e room =
     let a : State = opening m in
     let p : Part = part m in
@@ -72,9 +77,9 @@ posts_at key slots id lane idle m n moment ask seated quiet e room =
     e ∙ (λ i. (ap (λ (k : Me). k.0) seated.rests.0 i, (is i + 1, Asked moment ask) ∷ rest (slot i))) in
     subst
     (λ (z : ℕ × Me). Allows (InOneOrder key) slots id z.1 (z.0 + 1) (λ _. 1)
-    (λ _. posts_told (step slots (z.0 + 1) 1 0 none) z.1 1)) (λ i. (sym is i, sym now i))
+    (λ _. stored_told posts_told (step slots (z.0 + 1) 1 0 none) z.1 1)) (λ i. (sym is i, sym now i))
     (any_key key a slots id (p.lane + 1) p ((p.lane + 1, Asked moment ask) ∷ []) (λ _. 1)
-    (λ _. posts_told (step slots (p.lane + 1) 1 0 none) (sat a p, (p.lane + 1, Asked moment ask) ∷ []) 1)
+    (λ _. stored_told posts_told (step slots (p.lane + 1) 1 0 none) (sat a p, (p.lane + 1, Asked moment ask) ∷ []) 1)
     (posts_allowed a slots id p moment ask quiet (subst (λ (l : ℕ). l + 1 < slots) is room)))
 
 -- the token of a seat after its call was posted
@@ -132,7 +137,7 @@ done_of x slot (cells.Answered m ask r) log p is f d = is.0
 collects_allowed :
     (a : State) (slots id : ℕ) (p : Part) (c : List (ℕ × Place)) → p.lane + 1 < slots
     → Allows (InOneOrder a) slots id (sat a p, c) (p.lane + 1) (λ n. either (eqb n 3) 0 n)
-    (collects_told (step slots (p.lane + 1) 3 0 none) (sat a p, c))
+    (moved_told collects_told (step slots (p.lane + 1) 3 0 none) (sat a p, c))
 collects_allowed a slots id p c room s r len at small =
     let lane : ℕ = p.lane in
     let x : ℕ = get_or s.words (lane + 1) 0 in
@@ -157,23 +162,26 @@ collects_allowed a slots id p c room s r len at small =
           (posting.collects a views id p is (turn s) r.home r.cell r.history t.0 t.1 t.2 log t.3 k.seen
           (law.prefix_self log) (subst (Begins (p.mine ++ e ∷ [])) (sym fit.2) (law.prefix_self (p.mine ++ e ∷ []))))),
       (
-        (λ _. (
-          log,
-          t.0,
-          t.1,
-          t.2,
-          refl,
-          record {
-            last = r.history.last;
-            legal = r.history.legal;
-            seen = k.seen;
-            before = fit.0;
-            posted = fit.1;
-            mine = fit.2;
-            after = fit.3;
-          },
-        )),
-        λ not. absurd (not hit),
+        (
+          (λ _. (
+            log,
+            t.0,
+            t.1,
+            t.2,
+            refl,
+            record {
+              last = r.history.last;
+              legal = r.history.legal;
+              seen = k.seen;
+              before = fit.0;
+              posted = fit.1;
+              mine = fit.2;
+              after = fit.3;
+            },
+          )),
+          λ not. absurd (not hit),
+        ),
+        (refl, (move.collects log e, (refl, ap (λ (n : ℕ). Some n) hit), refl)),
       ),
     ))
     (λ miss. (
@@ -185,19 +193,22 @@ collects_allowed a slots id p c room s r len at small =
           (r.housed id (sat a p) at)
           (law.stays a views id p is (turn s) r.home r.cell r.history p refl refl (λ e. e) k)),
       (
-        (λ hit. absurd (miss hit)),
-        λ _. (
-          refl,
-          λ d. miss
-              (done_of x (get_elem? s.homes (lane + 1)) (r.cell lane) r.history.log p (r.cells lane) k.fits d),
+        (
+          (λ hit. absurd (miss hit)),
+          λ _. (
+            refl,
+            λ d. miss
+                (done_of x (get_elem? s.homes (lane + 1)) (r.cell lane) r.history.log p (r.cells lane) k.fits d),
+          ),
         ),
+        (refl, (move.stays, tt, refl)),
       ),
     ))
 
 pub collects_at :
     (key : State) (slots id lane : ℕ) (idle : Bool) (m : Me) → IsSeated lane idle m → lane + 1 < slots
     → Allows (InOneOrder key) slots id m (lane + 1) (λ n. either (eqb n 3) 0 n)
-    (collects_told (step slots (lane + 1) 3 0 none) m)
+    (moved_told collects_told (step slots (lane + 1) 3 0 none) m)
 collects_at key slots id lane idle m seated room =
     let a : State = opening m in
     let p : Part = part m in
@@ -205,9 +216,9 @@ collects_at key slots id lane idle m seated room =
     let c : List (ℕ × Place) = hand_of p.flight p.lane in
     subst
     (λ (z : ℕ × Me). Allows (InOneOrder key) slots id z.1 (z.0 + 1) (λ n. either (eqb n 3) 0 n)
-    (collects_told (step slots (z.0 + 1) 3 0 none) z.1)) (λ i. (sym is i, sym seated.rests.0 i))
+    (moved_told collects_told (step slots (z.0 + 1) 3 0 none) z.1)) (λ i. (sym is i, sym seated.rests.0 i))
     (any_key key a slots id (p.lane + 1) p c (λ n. either (eqb n 3) 0 n)
-    (collects_told (step slots (p.lane + 1) 3 0 none) (sat a p, c))
+    (moved_told collects_told (step slots (p.lane + 1) 3 0 none) (sat a p, c))
     (collects_allowed a slots id p c (subst (λ (l : ℕ). l + 1 < slots) is room)))
 
 -- the reply that was told is the one that was read

@@ -29,6 +29,8 @@ use Rattle.krs_desk.specs.declared.sight.Sight.{Sight}
 use Rattle.krs_desk.specs.Parts.{sat, views_of, hand_of}
 use Rattle.krs_desk.specs.Rule.{CellIs, IsVacant, InOneOrder}
 use Rattle.krs_desk.specs.Told.{glances_told, grabs_told, answers_told, brings_told}
+use Rattle.krs_desk.specs.Moves as move
+use Rattle.krs_desk.specs.Moves.{moved_told, stored_told}
 use Rattle.krs_desk.specs.Seated.{Me, opening, part}
 use Rattle.krs_desk.specs.Helping.{HoldsAll}
 use Rattle.krs_desk.proofs.Steps.{Table, Slot, turn, unmoved, moved_home, view_at, sat_lies, any_key}
@@ -93,7 +95,7 @@ glances_allowed :
     (a : State) (slots id : ℕ) (p : Part) (c : List (ℕ × Place)) (lane : ℕ) (log : List Event) → p.holding ≡ Some log
     → p.serving ≡ None
     → Allows (InOneOrder a) slots id (sat a p, c) (lane + 1) (λ n. n)
-    (glances_told (step slots (lane + 1) 0 0 none) (sat a p, c))
+    (moved_told glances_told (step slots (lane + 1) 0 0 none) (sat a p, c))
 glances_allowed a slots id p c lane log held idle s r len at small =
     let x : ℕ = get_or s.words (lane + 1) 0 in
     let views : List View = views_of s.views in
@@ -107,28 +109,31 @@ glances_allowed a slots id p c lane log held idle s r len at small =
       unmoved a s r (lane + 1) id (sat a p) c (λ l lies. sat_lies (IsVacant s.homes r.cell) a p l lies)
           (r.housed id (sat a p) at)
           (law.stays a views id p is (turn s) r.home r.cell r.history p refl refl (λ e. e) k),
-      λ lane' word. ((λ _. refl), λ not. absurd (not hit)),
+      ((λ lane' word. ((λ _. refl), λ not. absurd (not hit))), (refl, (move.stays, tt, refl))),
     ))
     (λ miss. (
       sat a (looked_at p lane (finished x lane p.lane)),
       keeps,
       tt,
       looked a s r id p c lane is (r.housed id (sat a p) at),
-      λ lane' word.
-          let e : lane ≡ lane' = omega arith in (
-            (λ hit. absurd (miss hit)),
-            λ _. (
-              (λ i. (sat a (looked_at p (e i) (finished x (e i) p.lane)), c)),
-              λ same has. own_answered a s r id p lane log is held idle miss (e ∙ same) has,
-            ),
-          ),
+      (
+        (λ lane' word.
+            let e : lane ≡ lane' = omega arith in (
+              (λ hit. absurd (miss hit)),
+              λ _. (
+                (λ i. (sat a (looked_at p (e i) (finished x (e i) p.lane)), c)),
+                λ same has. own_answered a s r id p lane log is held idle miss (e ∙ same) has,
+              ),
+            )),
+        (refl, (move.looks lane (finished x lane p.lane), (refl, (x, refl, miss, refl)), refl)),
+      ),
     ))
 
 grabs_allowed :
     (a : State) (slots id : ℕ) (p : Part) (c : List (ℕ × Place)) (lane : ℕ) (log : List Event) → p.holding ≡ Some log
     → p.serving ≡ None → lane + 1 < slots
     → Allows (InOneOrder a) slots id (sat a p, c) (lane + 1) (λ n. either (eqb n 1) 2 n)
-    (grabs_told (step slots (lane + 1) 1 2 none) (sat a p, c))
+    (moved_told grabs_told (step slots (lane + 1) 1 2 none) (sat a p, c))
 grabs_allowed a slots id p c lane log held idle room s r len at small =
     let x : ℕ = get_or s.words (lane + 1) 0 in
     let views : List View = views_of s.views in
@@ -147,11 +152,14 @@ grabs_allowed a slots id p c lane log held idle room s r len at small =
           (λ j l v not e lies same. let free = r.laid j l v e lies in
           let no : cells.Posted t.0 t.1 ≡ cells.Empty = sym t.2 ∙ (ap r.cell (sym same) ∙ free.0) in cc)
           (serving.grabs a views id p is (turn s) r.home r.cell log lane t.0 t.1 r.history held idle t.2)),
-      λ lane' word.
-          let e : lane ≡ lane' = omega arith in (
-            (λ _. (t.0, t.1, λ i. (sat a (grabbed p (e i) t.0 t.1), (lane + 1, Asked t.0 t.1) ∷ c))),
-            λ not. absurd (not hit),
-          ),
+      (
+        (λ lane' word.
+            let e : lane ≡ lane' = omega arith in (
+              (λ _. (t.0, t.1, λ i. (sat a (grabbed p (e i) t.0 t.1), (lane + 1, Asked t.0 t.1) ∷ c))),
+              λ not. absurd (not hit),
+            )),
+        (refl, (move.grabs lane t.0 t.1, (refl, ap (λ (n : ℕ). Some n) hit), refl)),
+      ),
     ))
     (λ miss. (
       sat a (looked_at p lane (finished x lane p.lane)),
@@ -160,14 +168,17 @@ grabs_allowed a slots id p c lane log held idle room s r len at small =
       subst
           (λ d. InOneOrder a (stepped s (lane + 1) (either d 2 x) id c (sat a (looked_at p lane (finished x lane p.lane)))
           keeps)) (sym (ne_eqb x 1 miss)) (looked a s r id p c lane is (r.housed id (sat a p) at)),
-      λ lane' word.
-          let e : lane ≡ lane' = omega arith in (
-            (λ hit. absurd (miss hit)),
-            λ _. (
-              (λ i. (sat a (looked_at p (e i) (finished x (e i) p.lane)), c)),
-              λ same has. own_answered a s r id p lane log is held idle miss (e ∙ same) has,
-            ),
-          ),
+      (
+        (λ lane' word.
+            let e : lane ≡ lane' = omega arith in (
+              (λ hit. absurd (miss hit)),
+              λ _. (
+                (λ i. (sat a (looked_at p (e i) (finished x (e i) p.lane)), c)),
+                λ same has. own_answered a s r id p lane log is held idle miss (e ∙ same) has,
+              ),
+            )),
+        (refl, (move.looks lane (finished x lane p.lane), (refl, (x, refl, miss, refl)), refl)),
+      ),
     ))
 
 answers_allowed :
@@ -176,7 +187,7 @@ answers_allowed :
     → p.serving ≡ Some (service lane m ask) → IsLegal a log last → Step last (event_of lane m ask reply) next
     → lane + 1 < slots
     → Allows (InOneOrder a) slots id (sat a p, (lane + 1, Replied reply) ∷ c) (lane + 1) (λ _. 3)
-    (λ _. answers_told (step slots (lane + 1) 3 0 none) (sat a p, (lane + 1, Replied reply) ∷ c) 3)
+    (λ _. stored_told answers_told (step slots (lane + 1) 3 0 none) (sat a p, (lane + 1, Replied reply) ∷ c) 3)
 answers_allowed a slots id p c lane m ask reply log last next held serves legal does room s r len at small =
     let views : List View = views_of s.views in
     let is : get_elem? views id ≡ some (one a p) = view_at s.views id (sat a p) at in
@@ -193,20 +204,23 @@ answers_allowed a slots id p c lane m ask reply log last next held serves legal 
           let no : cells.Serving m ask ≡ cells.Empty = sym was ∙ (ap r.cell (sym same) ∙ free.0) in cc)
           (serving.answers a views id p is (turn s) r.home r.cell log lane m ask reply last next r.history held serves
           legal does),
-      λ log' lane' m' ask' reply' held' serves' slot.
-          let el : log ≡ log' = cc in
-          let es : service lane m ask ≡ service lane' m' ask' = cc in
-          let head : ◌≡◌ {A = ℕ × Place} (lane + 1, Replied reply) (lane + 1, Replied reply') = cc in
-          let said : Replied reply ≡ Replied reply' = ap (λ (q : ℕ × Place). q.1) head in
-          let er : reply ≡ reply' = cc in
-          λ i. (sat a (answered p (el i) (event_of (es i).lane (es i).moment (es i).ask (er i))), c),
+      (
+        (λ log' lane' m' ask' reply' held' serves' slot.
+            let el : log ≡ log' = cc in
+            let es : service lane m ask ≡ service lane' m' ask' = cc in
+            let head : ◌≡◌ {A = ℕ × Place} (lane + 1, Replied reply) (lane + 1, Replied reply') = cc in
+            let said : Replied reply ≡ Replied reply' = ap (λ (q : ℕ × Place). q.1) head in
+            let er : reply ≡ reply' = cc in
+            λ i. (sat a (answered p (el i) (event_of (es i).lane (es i).moment (es i).ask (er i))), c)),
+        (refl, (move.answers log (event_of lane m ask reply), (refl, held, serves), refl)),
+      ),
     )
 
 brings_allowed :
     (a : State) (slots id : ℕ) (p : Part) (c : List (ℕ × Place)) (store : State) (log : List Event)
     → p.holding ≡ Some log → p.serving ≡ None → IsLegal a log store
     → Allows (InOneOrder a) slots id (sat a p, (0, Home store) ∷ c) 0 (λ n. either (eqb n 1) 0 n)
-    (brings_told (step slots 0 1 0 none) (sat a p, (0, Home store) ∷ c))
+    (moved_told brings_told (step slots 0 1 0 none) (sat a p, (0, Home store) ∷ c))
 brings_allowed a slots id p c store log held idle legal s r len at small =
     let x : ℕ = turn s in
     let views : List View = views_of s.views in
@@ -223,39 +237,42 @@ brings_allowed a slots id p c store log held idle legal s r len at small =
       subst (λ b. InOneOrder a (stepped s 0 (either b 0 x) id ((0, Home store) ∷ c) w gives)) (sym (eq-eqb x 1 t.0))
           (moved_home a s r 0 (some (Home store)) (Some store) id a (put_none p log) (r.housed id (sat a p) at) refl
           t.1),
-      λ log' held'.
-          let el : log ≡ log' = cc in (
-            (λ i. (sat a (put_none p (el i)), c)),
-            λ quiet. ap (events_of p.lane) (sym el) ∙ mine quiet,
-          ),
+      (
+        (λ log' held'.
+            let el : log ≡ log' = cc in (
+              (λ i. (sat a (put_none p (el i)), c)),
+              λ quiet. ap (events_of p.lane) (sym el) ∙ mine quiet,
+            )),
+        (refl, (move.puts_none log, (refl, held), refl)),
+      ),
     )
 
 -- The same, of a token as it comes.
 
 pub glances_at :
     (key : State) (slots id lane : ℕ) (m : Me) → HoldsAll m
-    → Allows (InOneOrder key) slots id m (lane + 1) (λ n. n) (glances_told (step slots (lane + 1) 0 0 none) m)
+    → Allows (InOneOrder key) slots id m (lane + 1) (λ n. n) (moved_told glances_told (step slots (lane + 1) 0 0 none) m)
 glances_at key slots id lane m h =
     let a : State = opening m in
     let p : Part = part m in
     subst
     (λ (z : Sight). Allows (InOneOrder key) slots id (z, m.1) (lane + 1) (λ n. n)
-    (glances_told (step slots (lane + 1) 0 0 none) (z, m.1))) (ap (λ (k : Me). k.0) (sym h.has))
-    (any_key key a slots id (lane + 1) p m.1 (λ n. n) (glances_told (step slots (lane + 1) 0 0 none) (sat a p, m.1))
+    (moved_told glances_told (step slots (lane + 1) 0 0 none) (z, m.1))) (ap (λ (k : Me). k.0) (sym h.has))
+    (any_key key a slots id (lane + 1) p m.1 (λ n. n) (moved_told glances_told (step slots (lane + 1) 0 0 none) (sat a p, m.1))
     (glances_allowed a slots id p m.1 lane h.log h.held h.unserving))
 
 pub grabs_at :
     (key : State) (slots id lane : ℕ) (m : Me) → HoldsAll m → lane + 1 < slots
     → Allows (InOneOrder key) slots id m (lane + 1) (λ n. either (eqb n 1) 2 n)
-    (grabs_told (step slots (lane + 1) 1 2 none) m)
+    (moved_told grabs_told (step slots (lane + 1) 1 2 none) m)
 grabs_at key slots id lane m h room =
     let a : State = opening m in
     let p : Part = part m in
     subst
     (λ (z : Sight). Allows (InOneOrder key) slots id (z, m.1) (lane + 1) (λ n. either (eqb n 1) 2 n)
-    (grabs_told (step slots (lane + 1) 1 2 none) (z, m.1))) (ap (λ (k : Me). k.0) (sym h.has))
+    (moved_told grabs_told (step slots (lane + 1) 1 2 none) (z, m.1))) (ap (λ (k : Me). k.0) (sym h.has))
     (any_key key a slots id (lane + 1) p m.1 (λ n. either (eqb n 1) 2 n)
-    (grabs_told (step slots (lane + 1) 1 2 none) (sat a p, m.1))
+    (moved_told grabs_told (step slots (lane + 1) 1 2 none) (sat a p, m.1))
     (grabs_allowed a slots id p m.1 lane h.log h.held h.unserving room))
 
 pub answers_at :
@@ -264,26 +281,26 @@ pub answers_at :
     → n ≡ (sat a (grabbed p lane m ask), (lane + 1, Replied reply) ∷ c) → p.holding ≡ Some log → IsLegal a log last
     → Step last (event_of lane m ask reply) next → lane + 1 < slots
     → Allows (InOneOrder key) slots id n (lane + 1) (λ _. 3)
-    (λ _. answers_told (step slots (lane + 1) 3 0 none) n 3)
+    (λ _. stored_told answers_told (step slots (lane + 1) 3 0 none) n 3)
 answers_at key a slots id lane m ask reply p c log last next n is held legal does room =
     let q : Part = grabbed p lane m ask in
     let d : List (ℕ × Place) = (lane + 1, Replied reply) ∷ c in
     subst
     (λ (z : Me). Allows (InOneOrder key) slots id z (lane + 1) (λ _. 3)
-    (λ _. answers_told (step slots (lane + 1) 3 0 none) z 3)) (sym is)
-    (any_key key a slots id (lane + 1) q d (λ _. 3) (λ _. answers_told (step slots (lane + 1) 3 0 none) (sat a q, d) 3)
+    (λ _. stored_told answers_told (step slots (lane + 1) 3 0 none) z 3)) (sym is)
+    (any_key key a slots id (lane + 1) q d (λ _. 3) (λ _. stored_told answers_told (step slots (lane + 1) 3 0 none) (sat a q, d) 3)
     (answers_allowed a slots id q c lane m ask reply log last next held refl legal does room))
 
 pub brings_at :
     (key : State) (slots id : ℕ) (m : Me) → HoldsAll m
-    → Allows (InOneOrder key) slots id m 0 (λ k. either (eqb k 1) 0 k) (brings_told (step slots 0 1 0 none) m)
+    → Allows (InOneOrder key) slots id m 0 (λ k. either (eqb k 1) 0 k) (moved_told brings_told (step slots 0 1 0 none) m)
 brings_at key slots id m h =
     let a : State = opening m in
     let p : Part = part m in
     let c : List (ℕ × Place) = hand_of p.flight p.lane in
     subst
-    (λ (z : Me). Allows (InOneOrder key) slots id z 0 (λ k. either (eqb k 1) 0 k) (brings_told (step slots 0 1 0 none) z))
+    (λ (z : Me). Allows (InOneOrder key) slots id z 0 (λ k. either (eqb k 1) 0 k) (moved_told brings_told (step slots 0 1 0 none) z))
     (sym h.has)
     (any_key key a slots id 0 p ((0, Home h.last) ∷ c) (λ k. either (eqb k 1) 0 k)
-    (brings_told (step slots 0 1 0 none) (sat a p, (0, Home h.last) ∷ c))
+    (moved_told brings_told (step slots 0 1 0 none) (sat a p, (0, Home h.last) ∷ c))
     (brings_allowed a slots id p c h.last h.log h.held h.unserving h.legal))

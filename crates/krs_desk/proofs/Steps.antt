@@ -30,6 +30,8 @@ use Rattle.krs_desk.specs.declared.sight.Sight.{Sight}
 use Rattle.krs_desk.specs.Parts.{sat, views_of, IsLaid, AreHoused, hand_of}
 use Rattle.krs_desk.specs.Rule.{IsAtHome, CellIs, IsVacant, InOneOrder}
 use Rattle.krs_desk.specs.Told.{takes_told, puts_told}
+use Rattle.krs_desk.specs.Moves as move
+use Rattle.krs_desk.specs.Moves.{moved_told}
 use Rattle.krs_desk.specs.Seated.{Me, opening, part, HoldsBefore}
 
 abbrev pub Table : Type 0
@@ -176,7 +178,7 @@ moved_home a s r n x home id b q fits at h = let wide = r.wide in let any = r.an
 takes_allowed :
     (a : State) (slots id : ℕ) (p : Part) (c : List (ℕ × Place)) → p.holding ≡ None
     → Allows (InOneOrder a) slots id (sat a p, c) 0 (λ n. either (eqb n 0) 1 n)
-    (takes_told (step slots 0 0 1 none) (sat a p, c))
+    (moved_told takes_told (step slots 0 0 1 none) (sat a p, c))
 takes_allowed a slots id p c empty s r len at small =
     let x : ℕ = turn s in
     let views : List View = views_of s.views in
@@ -197,17 +199,20 @@ takes_allowed a slots id p c empty s r len at small =
           (moved_home a s r 1 none None id a (taken p h.log) (r.housed id (sat a p) at) refl
           (law.takes a views id p is r.home r.cell h empty)),
       (
-        (λ _. (
-          h.log,
-          h.last,
-          refl,
-          record {
-            legal = h.legal;
-            seen = k.seen;
-            mine = λ idle. law.idle_mine p h.log (r.cell p.lane) idle k.fits;
-          },
-        )),
-        λ out. absurd (out free),
+        (
+          (λ _. (
+            h.log,
+            h.last,
+            refl,
+            record {
+              legal = h.legal;
+              seen = k.seen;
+              mine = λ idle. law.idle_mine p h.log (r.cell p.lane) idle k.fits;
+            },
+          )),
+          λ out. absurd (out free),
+        ),
+        (refl, (move.takes h.log, (refl, ap (λ (n : ℕ). Some n) free), refl)),
       ),
     ))
     (λ out.
@@ -219,7 +224,7 @@ takes_allowed a slots id p c empty s r len at small =
           (unmoved a s r 0 id w c (λ lane is. sat_lies (IsVacant s.homes r.cell) a (missed p) lane is)
           (r.housed id (sat a p) at)
           (law.misses a views id p is x r.home r.cell r.history)),
-      ((λ free. absurd (out free)), λ _. refl),
+      (((λ free. absurd (out free)), λ _. refl), (refl, (move.misses, (refl, (x, refl, out)), refl))),
     ))
 
 -- the turn is given back, with the list that was held and one event more
@@ -228,7 +233,7 @@ puts_allowed :
     (last : State) → p.holding ≡ Some log → IsLegal a log last → p.serving ≡ None → p.flight ≡ None
     → Step last e store → e.lane ≡ p.lane
     → Allows (InOneOrder a) slots id (sat a p, (0, Home store) ∷ c) 0 (λ n. either (eqb n 1) 0 n)
-    (puts_told (e ∷ []) (step slots 0 1 0 none) (sat a p, (0, Home store) ∷ c))
+    (moved_told (puts_told (e ∷ [])) (step slots 0 1 0 none) (sat a p, (0, Home store) ∷ c))
 puts_allowed a slots id p store c e log last held legal unserving idle does lane s r len at small =
     let x : ℕ = turn s in
     let views : List View = views_of s.views in
@@ -245,12 +250,15 @@ puts_allowed a slots id p store c e log last held legal unserving idle does lane
       subst (λ b. InOneOrder a (stepped s 0 (either b 0 x) id ((0, Home store) ∷ c) w gives)) (sym (eq-eqb x 1 t.0))
           (moved_home a s r 0 (some (Home store)) (Some store) id a (put_own p log e) (r.housed id (sat a p) at) refl
           t.1),
-      λ log' e' held' said'.
-          let same_log : log ≡ log' = cc in
-          let same_event : e ≡ e' = cc in (
-            ap (λ (z : List Event × Event). (sat a (put_own p z.0 z.1), c)) (λ i. (same_log i, same_event i)),
-            ap (events_of p.lane) (sym same_log) ∙ mine,
-          ),
+      (
+        (λ log' e' held' said'.
+            let same_log : log ≡ log' = cc in
+            let same_event : e ≡ e' = cc in (
+              ap (λ (z : List Event × Event). (sat a (put_own p z.0 z.1), c)) (λ i. (same_log i, same_event i)),
+              ap (events_of p.lane) (sym same_log) ∙ mine,
+            )),
+        (refl, (move.puts_own log e, (refl, held), refl)),
+      ),
     )
 
 -- the key is what every view has for the opening state
@@ -273,29 +281,29 @@ any_key key a slots id word p c f then allowed s r len at small =
 pub takes_at :
     (key : State) (slots id : ℕ) (m : Me) → m ≡ (sat (opening m) (part m), hand_of (part m).flight (part m).lane)
     → (part m).holding ≡ None
-    → Allows (InOneOrder key) slots id m 0 (λ n. either (eqb n 0) 1 n) (takes_told (step slots 0 0 1 none) m)
+    → Allows (InOneOrder key) slots id m 0 (λ n. either (eqb n 0) 1 n) (moved_told takes_told (step slots 0 0 1 none) m)
 takes_at key slots id m is empty =
     let a : State = opening m in
     let p : Part = part m in
     let c : List (ℕ × Place) = hand_of p.flight p.lane in
     subst
     (λ (z : Me).
-    Allows (InOneOrder key) slots id z 0 (λ n. either (eqb n 0) 1 n) (takes_told (step slots 0 0 1 none) z))
+    Allows (InOneOrder key) slots id z 0 (λ n. either (eqb n 0) 1 n) (moved_told takes_told (step slots 0 0 1 none) z))
     (sym is)
-    (any_key key a slots id 0 p c (λ n. either (eqb n 0) 1 n) (takes_told (step slots 0 0 1 none) (sat a p, c))
+    (any_key key a slots id 0 p c (λ n. either (eqb n 0) 1 n) (moved_told takes_told (step slots 0 0 1 none) (sat a p, c))
     (takes_allowed a slots id p c empty))
 
 pub puts_at :
     (key : State) (slots id : ℕ) (m : Me) (e : Event) (log : List Event) → HoldsBefore m log e
     → e.lane ≡ (part m).lane
-    → Allows (InOneOrder key) slots id m 0 (λ k. either (eqb k 1) 0 k) (puts_told (e ∷ []) (step slots 0 1 0 none) m)
+    → Allows (InOneOrder key) slots id m 0 (λ k. either (eqb k 1) 0 k) (moved_told (puts_told (e ∷ [])) (step slots 0 1 0 none) m)
 puts_at key slots id m e log h lane =
     let a : State = opening m in
     let p : Part = part m in
     let c : List (ℕ × Place) = (0, Home h.after) ∷ rest m.1 in
     subst
     (λ (z : Me).
-    Allows (InOneOrder key) slots id z 0 (λ k. either (eqb k 1) 0 k) (puts_told (e ∷ []) (step slots 0 1 0 none) z))
+    Allows (InOneOrder key) slots id z 0 (λ k. either (eqb k 1) 0 k) (moved_told (puts_told (e ∷ [])) (step slots 0 1 0 none) z))
     (sym h.has)
-    (any_key key a slots id 0 p c (λ k. either (eqb k 1) 0 k) (puts_told (e ∷ []) (step slots 0 1 0 none) (sat a p, c))
+    (any_key key a slots id 0 p c (λ k. either (eqb k 1) 0 k) (moved_told (puts_told (e ∷ [])) (step slots 0 1 0 none) (sat a p, c))
     (puts_allowed a slots id p h.after (rest m.1) e log h.last h.held h.legal h.unserving h.idle h.step lane))

@@ -1,6 +1,7 @@
 pub mod Parts
 pub mod Rule
 pub mod Told
+pub mod Moves
 pub mod Sitting
 pub mod Seated
 pub mod Helping

@@ -37,14 +37,14 @@ fn pause(spins: u32) -> u32 {
 impl Desk {
     // Whether nobody had the turn.
     fn is_free(&self) -> bool {
-        self.table.shared.peek(0) == 0
+        self.table.peek(0) == 0
     }
 
     // Whether the lane's call was answered.
     fn is_answered(&self, lane: u32) -> bool
         requires { lane + 1 < self.now.words }
     {
-        self.table.shared.peek(lane as usize + 1) == 3
+        self.table.peek(lane as usize + 1) == 3
     }
 
     // Whether the turn was free, or the lane's call answered.
@@ -79,7 +79,7 @@ impl Desk {
             spins = pause(spins);
         }
         self.sleepers.fetch_add(1, Ordering::SeqCst);
-        self.table.shared.park(rt, 0, 1);
+        self.table.park(rt, 0, 1);
         self.sleepers.fetch_sub(1, Ordering::SeqCst);
     }
 

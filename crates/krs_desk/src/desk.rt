@@ -11,9 +11,9 @@ ghost use Rattle.krs_desk.specs.Sitting.{Adds, missed_by};
 ghost use Rattle.krs_desk.specs.Helping.{HoldsAll, Finishes};
 ghost use Rattle.krs_desk.specs.Seated.{IsResting, Holds, Has, Serves, HoldsBefore, part, opening};
 
+use crate::board::Board;
 use crate::note::{Added, Note};
-use crate::place::Place;
-use crate::plays::{Board, Puts, Takes, Token};
+use crate::plays::{Puts, Takes, Token};
 use crate::seat::Seat;
 use krs_types::{Ask, Reply};
 use std::marker::{Brand, Model};
@@ -38,10 +38,9 @@ impl Model for Desk {
 
     ghost use Rattle.std.specs.Prelude.{◌≡◌, ◌<◌, ◌≤◌};
 
-    ghost view = { λ d. d.table.shared.table_id };
+    ghost view = { λ d. d.table.id };
 
-    ghost invariant = { λ d. (0 < d.table.shared.table_id.words) × (d.table.shared.table_id.words ≤ 257)
-        × (d.table.shared.table_id.slots ≡ d.table.shared.table_id.words) };
+    ghost invariant = { λ d. (0 < d.table.id.words) × (d.table.id.words ≤ 257) × (d.table.id.slots ≡ d.table.id.words) };
 }
 
 // By hand, so that a crate which lets a desk go needn't know what a store is made of.
@@ -64,7 +63,7 @@ impl Desk {
         ensures missed { result ≢ 0
             → token.new.me ≡ (sat (opening token.old.me) (missed (part token.old.me)), token.old.me.1) }
     {
-        self.table.shared.compare_exchange::<Takes>(token, 0, 0, 1)
+        self.table.compare_exchange::<Takes>(token, 0, 0, 1)
     }
 
     // Asks the store that the token has, which stays in its slot.
@@ -74,10 +73,7 @@ impl Desk {
         ensures table { token.new.table_id ≡ token.old.table_id }
         ensures served { Serves token.old.me (event_of lane moment ask result) token.new.me }
     {
-        let Place::Home(home) = token.slot_mut(&self.table.shared, 0) else {
-            unreachable!()
-        };
-        home.apply(lane, moment, ask)
+        self.table.serve(token, lane, moment, ask)
     }
 
     // Brings the store home, with one event more, and wakes a thread that waits for the turn.
@@ -92,17 +88,17 @@ impl Desk {
         ensures mine { (log : List Event) → (part token.old.me).holding ≡ Some log
             → events_of (part token.old.me).lane log ≡ (part token.old.me).mine }
     {
-        let shared = &self.table.shared;
-        shared.compare_exchange::<Puts<E>>(token, 0, 1, 0);
+        self.table
+            .compare_exchange::<Puts<E>>(token, 0, 1, 0);
         if self.sleepers.load(Ordering::SeqCst) > 0 {
-            shared.wake_one(0);
+            self.table.wake_one(0);
         }
     }
 
     // Wakes all that sleep on the turn: some of their calls may have been answered.
     pub(crate) fn wake_all(&self) {
         for _ in 0..self.sleepers.load(Ordering::SeqCst) {
-            self.table.shared.wake_one(0);
+            self.table.wake_one(0);
         }
     }
 

@@ -49,7 +49,7 @@ impl Desk {
         if turn != 0 {
             return Err(turn);
         }
-        let Place::Home(home) = self.table.shared.exchange(token, 0, Place::Empty) else {
+        let Place::Home(home) = self.table.exchange(token, 0, Place::Empty) else {
             unreachable!()
         };
         Ok(home.into_inner())
@@ -81,17 +81,17 @@ impl Desk {
         ensures few { result ≤ 1 }
         ensures served { ServesLane token.old.me lane result token.new.me }
     {
-        let shared = &self.table.shared;
+        let table = &self.table;
         let cell = lane as usize + 1;
-        if shared.compare_exchange::<Grabs>(token, cell, 1, 2) != 1 {
+        if table.compare_exchange::<Grabs>(token, cell, 1, 2) != 1 {
             return 0;
         }
-        let Place::Asked(moment, ask) = shared.exchange(token, cell, Place::Empty) else {
+        let Place::Asked(moment, ask) = table.exchange(token, cell, Place::Empty) else {
             unreachable!()
         };
         let reply = self.serve_behind(token, idle, lane, moment, ask);
-        drop(shared.exchange(token, cell, Place::Replied(reply)));
-        shared.store::<Answers>(token, cell, 3);
+        drop(table.exchange(token, cell, Place::Replied(reply)));
+        table.store::<Answers>(token, cell, 3);
         1
     }
 
@@ -105,7 +105,7 @@ impl Desk {
         ensures few { result ≤ 1 }
         ensures served { ServesLane token.old.me lane result token.new.me }
     {
-        if self.table.shared.load::<Glances>(token, lane as usize + 1) != 1 {
+        if self.table.load::<Glances>(token, lane as usize + 1) != 1 {
             return 0;
         }
         self.answer_lane(token, idle, lane)
@@ -142,7 +142,7 @@ impl Desk {
             → events_of (part token.old.me).lane (held_of (part token.old.me).holding)
             ≡ (part token.old.me).mine }
     {
-        self.table.shared.compare_exchange::<Brings>(token, 0, 1, 0);
+        self.table.compare_exchange::<Brings>(token, 0, 1, 0);
         self.wake_all();
     }
 

@@ -3,6 +3,7 @@
 //! may be posted, and is then answered in a turn of `call` or `help`.
 #![tactic(auto)]
 
+mod board;
 mod boxed;
 mod calling;
 mod closing;

@@ -3,23 +3,24 @@ ghost use Rattle.std.specs.Prelude.{◌≡◌, ◌<◌};
 ghost use Rattle.krs_desk.specs.Sitting.{Meets};
 ghost use Rattle.krs_desk.specs.Seated.{IsResting, SeeOneList, opening};
 
+use crate::board::Board;
 use crate::desk::Desk;
 use crate::note::Opened;
-use crate::plays::{Board, Checks, Cut, Glue, Looks, Settle, Token};
+use crate::plays::{Checks, Looks, Token};
 use crate::seat::Seat;
 use std::marker::Brand;
 
 // A look at the turn, which tells that the token's opening is the desk's.
-fn check<O: Opened>(table: &Board, token: &mut Token)
-    requires table { token.old.table_id ≡ table.now.shared.table_id }
-    requires words { 0 < table.now.shared.table_id.words }
-    requires key { O.opening ≡ table.now.shared.key.value }
+fn check<O: Opened>(board: &Board, token: &mut Token)
+    requires table { token.old.table_id ≡ board.now.id }
+    requires words { 0 < board.now.id.words }
+    requires key { O.opening ≡ board.now.key }
     requires rests { IsResting token.old.me }
     ensures table { token.new.table_id ≡ token.old.table_id }
     ensures same { token.new.me ≡ token.old.me }
     ensures opening { opening token.old.me ≡ O.opening }
 {
-    table.shared.load::<Checks<O>>(token, 0);
+    board.load::<Checks<O>>(token, 0);
 }
 
 impl Desk {
@@ -30,12 +31,12 @@ impl Desk {
         ensures table { (first.new.table_id ≡ self.now) × (second.new.table_id ≡ self.now) }
         ensures seen { SeeOneList first.old.me second.old.me first.new.me second.new.me }
     {
-        let shared = &self.table.shared;
-        let other = shared.split_seat::<Cut>(second);
-        shared.join_seat::<Glue>(first, other);
-        shared.load::<Looks>(first, 0);
-        let back = shared.split_seat::<Cut>(first);
-        shared.join_seat::<Settle>(second, back);
+        let table = &self.table;
+        let other = table.split_seat(second);
+        table.join_seat(first, other);
+        table.load::<Looks>(first, 0);
+        let back = table.split_seat(first);
+        table.settle_seat(second, back);
     }
 
     // The same, and the openings of both are the desk's.

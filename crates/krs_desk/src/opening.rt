@@ -7,12 +7,12 @@ ghost use Rattle.krs_desk.specs.declared.place.Place.TheVariants.{Empty, Home};
 ghost use Rattle.krs_desk.specs.Rule.{AreZero, first_sight};
 ghost use Rattle.krs_desk.specs.Sitting.{IsIdleAt, fresh_seats};
 
+use crate::board::Board;
 use crate::boxed::BoxedStore;
 use crate::desk::Desk;
 use crate::place::Place;
-use crate::plays::{Board, Cut, Opens, Picks, Token};
+use crate::plays::{Opens, Picks, Token};
 use crate::seat::Seat;
-use atomic_table::Table;
 use krs_store::Store;
 use std::alloc::Global;
 use std::mem;
@@ -43,17 +43,17 @@ impl Desk {
         requires room { (seats.old.items ≡ []) × (lanes ≤ vec_capacity seats.old) }
         ensures { seats.new.items ≡ fresh_seats self.now about.value lanes }
     {
-        let shared = &self.table.shared;
+        let table = &self.table;
         for lane in 0..lanes {
-            let mut token = shared.split_seat::<Cut>(&mut opener);
-            shared.load::<Picks>(&mut token, lane as usize + 1);
+            let mut token = table.split_seat(&mut opener);
+            table.load::<Picks>(&mut token, lane as usize + 1);
             seats.push_reserved(Seat {
                 lane,
                 idle: true,
                 token,
             });
         }
-        shared.store::<Opens>(&mut opener, 0, 0);
+        table.store::<Opens>(&mut opener, 0, 0);
     }
 
     /// A desk of so many lanes, 1 to 256, with a seat for each.
@@ -126,8 +126,7 @@ impl Desk {
         ensures opens { IfOk result (λ t. t.1.me ≡ (first_sight about.now.value, [])) }
         ensures store { IfErr result (λ back. back ≡ about.now.value) }
     {
-        let made: Result<(Board, Token), _> = Table::new(alloc, words.as_slice(), slots, about);
-        match made {
+        match Board::new(alloc, words.as_slice(), slots, about) {
             Ok((table, opener)) => Ok((
                 Desk {
                     table,

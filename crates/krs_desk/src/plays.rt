@@ -4,12 +4,12 @@ ghost use Rattle.krs_desk.specs.Told.{posts_told, collects_told, glances_told, g
 ghost use Rattle.krs_desk.specs.Told.{checks_told};
 ghost use Rattle.krs_desk.specs.Parts.{kept_sight, given_sight};
 
+use crate::board::Tells;
 use crate::note::{Added, Opened};
 use crate::place::Place;
 use crate::sight::Sight;
-use atomic_table::{Join, Play, Split, Table, TableRule};
+use atomic_table::{Join, Split, TableRule};
 use krs_store::Store;
-use std::alloc::Global;
 use std::marker::PhantomData;
 use std::snapshot::Snapshot;
 
@@ -24,16 +24,13 @@ impl TableRule<Place, Sight, Snapshot<Store>> for OneOrder {
     ghost first = { λ key. first_sight key.value };
 }
 
-/// The words, the store in the first slot, and a slot for each lane.
-pub type Board = Table<Place, Sight, Snapshot<Store>, OneOrder, Global>;
-
 pub type Token = atomic_table::Seat<Place, Sight>;
 
 // The turn is had, or found taken.
 pub(crate) struct Takes;
 
-impl Play<Place, Sight> for Takes {
-    ghost then = { takes_told };
+impl Tells for Takes {
+    ghost told = { takes_told };
 }
 
 // The turn is given back, and the history has one event more.
@@ -41,50 +38,50 @@ pub(crate) struct Puts<E> {
     event: PhantomData<E>,
 }
 
-impl<E: Added> Play<Place, Sight> for Puts<E> {
-    ghost then = { puts_told E.events };
+impl<E: Added> Tells for Puts<E> {
+    ghost told = { puts_told E.events };
 }
 
 // A lane's call is posted.
 pub(crate) struct Posts;
 
-impl Play<Place, Sight> for Posts {
-    ghost then = { posts_told };
+impl Tells for Posts {
+    ghost told = { posts_told };
 }
 
 // A lane's reply is taken out of its cell, or none is there.
 pub(crate) struct Collects;
 
-impl Play<Place, Sight> for Collects {
-    ghost then = { collects_told };
+impl Tells for Collects {
+    ghost told = { collects_told };
 }
 
 // The holder looks at a cell: a call is posted there, or none is.
 pub(crate) struct Glances;
 
-impl Play<Place, Sight> for Glances {
-    ghost then = { glances_told };
+impl Tells for Glances {
+    ghost told = { glances_told };
 }
 
 // The holder takes up a posted call.
 pub(crate) struct Grabs;
 
-impl Play<Place, Sight> for Grabs {
-    ghost then = { grabs_told };
+impl Tells for Grabs {
+    ghost told = { grabs_told };
 }
 
 // The holder answers the call that it serves.
 pub(crate) struct Answers;
 
-impl Play<Place, Sight> for Answers {
-    ghost then = { answers_told };
+impl Tells for Answers {
+    ghost told = { answers_told };
 }
 
 // The turn is given back, and the history is as it was held.
 pub(crate) struct Brings;
 
-impl Play<Place, Sight> for Brings {
-    ghost then = { brings_told };
+impl Tells for Brings {
+    ghost told = { brings_told };
 }
 
 // A token's opening is the desk's.
@@ -92,29 +89,29 @@ pub(crate) struct Checks<O> {
     opening: PhantomData<O>,
 }
 
-impl<O: Opened> Play<Place, Sight> for Checks<O> {
-    ghost then = { checks_told O.opening };
+impl<O: Opened> Tells for Checks<O> {
+    ghost told = { checks_told O.opening };
 }
 
 // A token of two lanes sees the history so far.
 pub(crate) struct Looks;
 
-impl Play<Place, Sight> for Looks {
-    ghost then = { looks_told };
+impl Tells for Looks {
+    ghost told = { looks_told };
 }
 
 // A new seat gets its lane's slot.
 pub(crate) struct Picks;
 
-impl Play<Place, Sight> for Picks {
-    ghost then = { picks_told };
+impl Tells for Picks {
+    ghost told = { picks_told };
 }
 
 // All seats are dealt.
 pub(crate) struct Opens;
 
-impl Play<Place, Sight> for Opens {
-    ghost then = { opens_told };
+impl Tells for Opens {
+    ghost told = { opens_told };
 }
 
 // The opener deals a lane, a token of two lanes is split, and one of one lane gives it away.

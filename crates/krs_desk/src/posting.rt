@@ -15,10 +15,10 @@ impl Desk {
         requires idle { seat.old.part.flight ≡ None }
         ensures { seat.new ≡ posted_by seat.old moment ask }
     {
-        let shared = &self.table.shared;
+        let table = &self.table;
         let cell = seat.lane as usize + 1;
-        drop(shared.exchange(&mut seat.token, cell, Place::Asked(moment, ask)));
-        shared.store::<Posts>(&mut seat.token, cell, 1);
+        drop(table.exchange(&mut seat.token, cell, Place::Asked(moment, ask)));
+        table.store::<Posts>(&mut seat.token, cell, 1);
         seat.idle = false;
     }
 
@@ -29,12 +29,12 @@ impl Desk {
         ensures some { IfSome result (λ reply. Collects seat.old reply seat.new) }
         ensures none { IfNone result ((seat.new ≡ seat.old) × (seat.old.part.done ≢ true)) }
     {
-        let shared = &self.table.shared;
+        let table = &self.table;
         let cell = seat.lane as usize + 1;
-        if shared.compare_exchange::<plays::Collects>(&mut seat.token, cell, 3, 0) != 3 {
+        if table.compare_exchange::<plays::Collects>(&mut seat.token, cell, 3, 0) != 3 {
             return None;
         }
-        let Place::Replied(reply) = shared.exchange(&mut seat.token, cell, Place::Empty) else {
+        let Place::Replied(reply) = table.exchange(&mut seat.token, cell, Place::Empty) else {
             unreachable!()
         };
         seat.idle = true;

@@ -6,5 +6,5 @@ pub load-requires : goal.load-requires
 load-requires g c = (
   search rules,
   search rules,
-  rw c.requires.key (checks_at c.args.table.now.shared.key.value _ _ c.args.token.now.me c.requires.rests.0),
+  rw c.requires.key (checks_at c.args.board.now.key _ _ c.args.token.now.me c.requires.rests.0),
 )

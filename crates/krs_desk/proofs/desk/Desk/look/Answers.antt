@@ -52,8 +52,8 @@ split_seat-back-requires c =
           (cuts_two _ _ _ _ _ _),
     )
 
-pub join_seat-requires-2 : goal.join_seat-requires-2
-join_seat-requires-2 c =
+pub settle_seat-requires : goal.settle_seat-requires
+settle_seat-requires c =
     let m = c.args.first.now.me in
     let n = c.args.second.now.me in
     let other_is = given_is _ _ n c.split_seat-other.result.me c.requires.rest.1.0 c.split_seat-other.ensures.4 in
@@ -93,8 +93,8 @@ returns-clause-seen c =
           kept_is _ _ c.load.new.seat.me c.split_seat-back.new.seat.me told.2 c.split_seat-back.ensures.2
           ∙ (λ i. (sat (opening m) (loaded (part m) told.0), (sym slots_m) i));
       second =
-          settled_is _ _ _ _ c.split_seat-other.new.seat.me c.split_seat-back.result.me c.join_seat-2.new.seat.me left_is
-          back_is c.join_seat-2.ensures.2
+          settled_is _ _ _ _ c.split_seat-other.new.seat.me c.split_seat-back.result.me c.settle_seat.new.seat.me left_is
+          back_is c.settle_seat.ensures.2
           ∙ (λ i. (sat (opening m) (loaded (part n) told.0), (sym slots_n) i));
       founds = (told.3, told.4);
     }

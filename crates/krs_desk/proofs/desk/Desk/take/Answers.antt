@@ -6,5 +6,5 @@ pub compare_exchange-requires : goal.compare_exchange-requires
 compare_exchange-requires c = (
   search rules,
   search rules,
-  takes_at c.self.inside.table.shared.key.value _ _ c.args.token.now.me c.requires.rests.0 c.requires.rests.1,
+  takes_at c.self.inside.table.key _ _ c.args.token.now.me c.requires.rests.0 c.requires.rests.1,
 )
