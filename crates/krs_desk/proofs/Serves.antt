@@ -229,7 +229,7 @@ brings_allowed a slots id p c store log held idle legal s r len at small =
     let k = law.own a views id p is x r.home r.cell r.history in
     let mine : p.flight ≡ None → events_of p.lane log ≡ p.mine =
     λ quiet. ap (events_of p.lane) (k.holding log held).whole
-        ∙ law.idle_mine p r.history.log (r.cell p.lane) quiet k.fits in
+    ∙ law.idle_mine p r.history.log (r.cell p.lane) quiet k.fits in
     let w : Sight = sat a (put_none p log) in (
       w,
       gives,

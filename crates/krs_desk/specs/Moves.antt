@@ -1,7 +1,7 @@
 -- Which steps a token may make on the table: those of the machine (krs_world), and no others. So what a lane knows of
 -- its turns is what they say of it: how often it took the turn, the history that it took it with, how often it found the
 -- turn taken, and which cells it looked at. The form is this project's own.
-use Rattle.std.specs.Prelude.{◌≡◌, ◌≢◌, ℕ, ◌+◌, ◌==◌, ◌&&◌, Bool, List, Option, Some, None}
+use Rattle.std.specs.Prelude.{◌≡◌, ◌≢◌, ℕ, ◌==◌, ◌&&◌, Bool, List, Option, Some, None}
 use Rattle.atomic_table.specs.Seated.{TableId}
 use Rattle.atomic_table.specs.Table.{Step}
 use Rattle.krs_types.specs.declared.ask.Ask.{Ask}
@@ -13,6 +13,8 @@ use Rattle.krs_world.specs.declared.view.Standing.TheVariants.{Spent, One, Two, 
 use Rattle.krs_world.specs.Knowing.{service, taken, missed, put_own, put_none, loaded}
 use Rattle.krs_world.specs.Knowing.{posted, grabbed, answered, collected, looked_at}
 use Rattle.krs_desk.specs.declared.place.Place.{Place}
+use Rattle.krs_desk.specs.declared.word.TheConstants.{TURN, FREE, POSTED, ANSWERED}
+use Rattle.krs_desk.specs.Parts.{cell_of}
 use Rattle.krs_desk.specs.Told.{Known}
 
 -- what contracts see of a table: which it is, and the state of the store as it was made
@@ -54,26 +56,26 @@ after p (looks lane finished) = looked_at p lane finished
 -- taken up where one is posted; a reply is collected where the cell was answered.
 abbrev pub IsMadeAt : ℕ → Option ℕ → Part → Move → Type 0
 IsMadeAt word found p stays = Unit {0}
-IsMadeAt word found p (takes log) = (word ≡ 0) × (found ≡ Some 0)
-IsMadeAt word found p misses = (word ≡ 0) × ((n : ℕ) × (found ≡ Some n) × (n ≢ 0))
-IsMadeAt word found p (puts_own log e) = (word ≡ 0) × (p.holding ≡ Some log)
-IsMadeAt word found p (puts_none log) = (word ≡ 0) × (p.holding ≡ Some log)
-IsMadeAt word found p (loads log) = word ≡ 0
-IsMadeAt word found p (posts moment ask) = word ≡ p.lane + 1
-IsMadeAt word found p (grabs lane moment ask) = (word ≡ lane + 1) × (found ≡ Some 1)
+IsMadeAt word found p (takes log) = (word ≡ TURN) × (found ≡ Some FREE)
+IsMadeAt word found p misses = (word ≡ TURN) × ((n : ℕ) × (found ≡ Some n) × (n ≢ FREE))
+IsMadeAt word found p (puts_own log e) = (word ≡ TURN) × (p.holding ≡ Some log)
+IsMadeAt word found p (puts_none log) = (word ≡ TURN) × (p.holding ≡ Some log)
+IsMadeAt word found p (loads log) = word ≡ TURN
+IsMadeAt word found p (posts moment ask) = word ≡ cell_of p.lane
+IsMadeAt word found p (grabs lane moment ask) = (word ≡ cell_of lane) × (found ≡ Some POSTED)
 IsMadeAt word found p (answers log e) =
-    (word ≡ e.lane + 1) × (p.holding ≡ Some log) × (p.serving ≡ Some (service e.lane e.moment e.ask))
-IsMadeAt word found p (collects log e) = (word ≡ p.lane + 1) × (found ≡ Some 3)
+    (word ≡ cell_of e.lane) × (p.holding ≡ Some log) × (p.serving ≡ Some (service e.lane e.moment e.ask))
+IsMadeAt word found p (collects log e) = (word ≡ cell_of p.lane) × (found ≡ Some ANSWERED)
 IsMadeAt word found p (looks lane finished) =
-    (word ≡ lane + 1)
-    × ((n : ℕ) × (found ≡ Some n) × (n ≢ 1) × (finished ≡ ((n == 3) && (lane == p.lane))))
+    (word ≡ cell_of lane)
+    × ((n : ℕ) × (found ≡ Some n) × (n ≢ POSTED) × (finished ≡ ((n == ANSWERED) && (lane == p.lane))))
 
 -- One lane's token makes one of these steps. A token of two lanes looks at the history for both. One that deals the
 -- others may end, and one that stands for no lane stays.
 abbrev pub IsMoved : ℕ → Option ℕ → Standing → Standing → Type 0
 IsMoved word found Spent t = t ≡ Spent
 IsMoved word found (One p) t = (move : Move) × IsMadeAt word found p move × (t ≡ One (after p move))
-IsMoved word found (Two p q) t = (word ≡ 0) × ((log : List Event) × (t ≡ Two (loaded p log) (loaded q log)))
+IsMoved word found (Two p q) t = (word ≡ TURN) × ((log : List Event) × (t ≡ Two (loaded p log) (loaded q log)))
 IsMoved word found (Opening n) t = t ≡ Spent
 
 -- it has the same state of the store at the opening after the step

@@ -40,17 +40,21 @@ IsLaidBy lane laid (Opening n) = n ≤ lane
 abbrev pub IsLaid : ℕ → Sight → Type 0
 IsLaid lane s = IsLaidBy lane s.laid s.view.stands
 
+-- the word of a lane's cell, and the slot of its ask or reply
+abbrev pub cell_of : ℕ → ℕ
+cell_of lane = lane + 1
+
 -- The lane has a word and a slot. One that was just dealt, whose slot its seat has not taken yet, may have neither, and
 -- has done nothing.
 abbrev pub IsHoused : ℕ → Bool → Part → Type 0
 IsHoused words true p = p ≡ fresh p.lane
-IsHoused words false p = p.lane + 1 < words
+IsHoused words false p = cell_of p.lane < words
 
 -- so it is of each lane that a token stands for
 abbrev pub AreHousedBy : ℕ → Bool → Standing → Type 0
 AreHousedBy words laid Spent = Unit {0}
 AreHousedBy words laid (One p) = IsHoused words laid p
-AreHousedBy words laid (Two p q) = (p.lane + 1 < words) × (q.lane + 1 < words)
+AreHousedBy words laid (Two p q) = (cell_of p.lane < words) × (cell_of q.lane < words)
 AreHousedBy words laid (Opening n) = Unit {0}
 
 abbrev pub AreHoused : ℕ → Sight → Type 0
@@ -58,7 +62,7 @@ AreHoused words s = AreHousedBy words s.laid s.view.stands
 
 -- the slots that a seat has: its lane's, unless a call of its own is in flight
 abbrev pub hand_of : Option Flight → ℕ → List (ℕ × Place)
-hand_of None lane = (lane + 1, Empty) ∷ []
+hand_of None lane = (cell_of lane, Empty) ∷ []
 hand_of (Some call) lane = []
 
 -- the lane of a token that stands for one, and the first of two

@@ -1,5 +1,5 @@
 -- The rule of the table: the one history, read on its words, its slots and the views. The form is this project's own.
-use Rattle.std.specs.Prelude.{◌≡◌, ℕ, ◌+◌, ◌<◌, false, List, Option, Some, None, length, slice_index}
+use Rattle.std.specs.Prelude.{◌≡◌, ℕ, ◌<◌, false, List, Option, Some, None, length, slice_index}
 use mathlib.Core.Option.{none, some}
 use mathlib.Core.Option as maybe
 use lib.ListN.{get_elem?}
@@ -13,7 +13,8 @@ use Rattle.krs_world.specs.History.{OneHistory}
 use Rattle.krs_desk.specs.declared.place.Place.{Place}
 use Rattle.krs_desk.specs.declared.place.Place.TheVariants.{Empty, Home, Asked, Replied}
 use Rattle.krs_desk.specs.declared.sight.Sight.{Sight}
-use Rattle.krs_desk.specs.Parts.{sight, views_of, IsLaid, AreHoused}
+use Rattle.krs_desk.specs.declared.word.TheConstants.{TURN, EMPTY, POSTED, SERVING, ANSWERED}
+use Rattle.krs_desk.specs.Parts.{cell_of, sight, views_of, IsLaid, AreHoused}
 
 -- the first slot has the store that is at home, and is empty where none is
 abbrev pub IsAtHome : Option State → maybe.Option (maybe.Option Place) → Type 0
@@ -23,29 +24,30 @@ IsAtHome (Some store) slot = slot ≡ some (some (Home store))
 -- The word of a lane, and what lies in its slot, by its cell. The slot of an empty cell is its seat's, and that of a
 -- cell that is served is the holder's.
 abbrev pub CellIs : ℕ → maybe.Option (maybe.Option Place) → Cell → Type 0
-CellIs word slot cells.Empty = word ≡ 0
-CellIs word slot (cells.Posted moment ask) = (word ≡ 1) × (slot ≡ some (some (Asked moment ask)))
-CellIs word slot (cells.Serving moment ask) = word ≡ 2
-CellIs word slot (cells.Answered moment ask reply) = (word ≡ 3) × (slot ≡ some (some (Replied reply)))
+CellIs word slot cells.Empty = word ≡ EMPTY
+CellIs word slot (cells.Posted moment ask) = (word ≡ POSTED) × (slot ≡ some (some (Asked moment ask)))
+CellIs word slot (cells.Serving moment ask) = word ≡ SERVING
+CellIs word slot (cells.Answered moment ask reply) = (word ≡ ANSWERED) × (slot ≡ some (some (Replied reply)))
 
 -- the lane's cell is empty, and its slot, where there is one, lies on the table, empty too
 abbrev pub IsVacant : List (maybe.Option Place) → (ℕ → Cell) → ℕ → Type 0
 IsVacant homes cell lane =
-    (cell lane ≡ cells.Empty) × (lane + 1 < length homes → get_elem? homes (lane + 1) ≡ some (some Empty))
+    (cell lane ≡ cells.Empty) × (cell_of lane < length homes → get_elem? homes (cell_of lane) ≡ some (some Empty))
 
--- Word 0 is the turn: 0 free, 1 out, 2 while the seats are dealt. Word 1 + i is the cell of the lane i.
+-- The first word is the turn, which `OneHistory` reads: FREE, OUT, or DEALING while the seats are dealt. Each lane has a
+-- word for its cell, and a slot. `src/word.rt` has the numbers.
 pub record InOneOrder (opening : State) (s : table.State Place Sight) : Type 0 where
   pub wide : length s.words ≡ length s.homes
   pub any : 0 < length s.words
   pub home : Option State
-  pub slot : IsAtHome home (get_elem? s.homes 0)
+  pub slot : IsAtHome home (get_elem? s.homes TURN)
   pub cell : ℕ → Cell
-  pub cells : (lane : ℕ) → CellIs (slice_index s.words (lane + 1)) (get_elem? s.homes (lane + 1)) (cell lane)
+  pub cells : (lane : ℕ) → CellIs (slice_index s.words (cell_of lane)) (get_elem? s.homes (cell_of lane)) (cell lane)
   -- what a token is to pick up lies there
   pub laid : (j lane : ℕ) (v : Sight) → get_elem? s.views j ≡ some v → IsLaid lane v → IsVacant s.homes cell lane
   -- each lane that has done anything has a word of its own: no seat stands for a lane beyond the words
   pub housed : (j : ℕ) (v : Sight) → get_elem? s.views j ≡ some v → AreHoused (length s.words) v
-  pub history : OneHistory opening (slice_index s.words 0) home cell (views_of s.views)
+  pub history : OneHistory opening (slice_index s.words TURN) home cell (views_of s.views)
 
 -- what is known of the first token, which deals the others
 abbrev pub first_sight : State → Sight
@@ -53,4 +55,4 @@ first_sight opening = sight (view opening (Opening 0)) false
 
 -- all cells are empty
 abbrev pub AreZero : List ℕ → Type 0
-AreZero words = (lane : ℕ) → slice_index words (lane + 1) ≡ 0
+AreZero words = (lane : ℕ) → slice_index words (cell_of lane) ≡ EMPTY

@@ -1,5 +1,5 @@
 -- How a seat is kept: by what its token of the table knows and holds. The form is this project's own.
-use Rattle.std.specs.Prelude.{◌≡◌, ℕ, ◌+◌, ◌<◌, Bool, true, false, List, ◌∷◌, Option, Some, None}
+use Rattle.std.specs.Prelude.{◌≡◌, ℕ, ◌<◌, Bool, true, false, List, ◌∷◌, Option, Some, None}
 use Rattle.atomic_table.specs.Seated.{TableId}
 use Rattle.atomic_table.specs.Table.{rest}
 use Rattle.krs_types.specs.declared.event.Event.{Event}
@@ -10,7 +10,7 @@ use Rattle.krs_model.specs.History.{IsLegal}
 use Rattle.krs_world.specs.declared.view.Flight.{Flight}
 use Rattle.krs_world.specs.Knowing.{taken, loaded}
 use Rattle.krs_desk.specs.declared.place.Place.TheVariants.{Home}
-use Rattle.krs_desk.specs.Parts.{sat, hand_of}
+use Rattle.krs_desk.specs.Parts.{cell_of, sat, hand_of}
 use Rattle.krs_desk.specs.Told.{Known, Found}
 pub use Rattle.krs_desk.specs.Told.{part, opening}
 use Rattle.krs_desk.specs.Sitting.{Sitting}
@@ -35,7 +35,7 @@ is_free (Some call) = false
 
 -- the lane has a word and a slot
 abbrev pub HasSlot : ℕ → TableId → Type 0
-HasSlot lane table = lane + 1 < table.words
+HasSlot lane table = cell_of lane < table.words
 
 -- what holds of a seat between two calls
 pub record IsSeated (lane : ℕ) (idle : Bool) (m : Me) : Type 0 where

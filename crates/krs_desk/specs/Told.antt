@@ -1,5 +1,5 @@
 -- What each step on the table tells the token that makes it. The form is this project's own.
-use Rattle.std.specs.Prelude.{◌≡◌, ◌≢◌, ℕ, ◌+◌, ◌==◌, ◌&&◌, true, false, List, [], ◌∷◌, ◌++◌, Some, None, Result}
+use Rattle.std.specs.Prelude.{◌≡◌, ◌≢◌, ℕ, ◌==◌, ◌&&◌, true, false, List, [], ◌∷◌, ◌++◌, Some, None, Result}
 use Rattle.atomic_table.specs.Table.{Me, Step, rest}
 use Rattle.krs_types.specs.declared.ask.Ask.{Ask}
 use Rattle.krs_types.specs.declared.ask.Answer.{Answer}
@@ -17,7 +17,8 @@ use Rattle.krs_desk.specs.declared.note.Note.{Note}
 use Rattle.krs_desk.specs.declared.place.Place.{Place}
 use Rattle.krs_desk.specs.declared.place.Place.TheVariants.{Empty, Home, Asked, Replied}
 use Rattle.krs_desk.specs.declared.sight.Sight.{Sight}
-use Rattle.krs_desk.specs.Parts.{sight, sat, spent, part_of, second_of}
+use Rattle.krs_desk.specs.declared.word.TheConstants.{FREE, POSTED, ANSWERED}
+use Rattle.krs_desk.specs.Parts.{cell_of, sight, sat, spent, part_of, second_of}
 
 -- the call that a note is of
 abbrev pub event_in : Note → Event
@@ -44,9 +45,9 @@ pub record Found (opening : State) (p : Part) (log : List Event) (last : State) 
 -- where the turn was free, the history and the store at its end; else nothing but that it was out
 abbrev pub takes_told : Step Place → Known → ℕ → Known → Type 0
 takes_told step m found n =
-    (found ≡ 0 → (log : List Event) × (last : State)
+    (found ≡ FREE → (log : List Event) × (last : State)
     × (n ≡ (sat (opening m) (taken (part m) log), (0, Home last) ∷ m.1)) × Found (opening m) (part m) log last)
-    × (found ≢ 0 → n ≡ (sat (opening m) (missed (part m)), m.1))
+    × (found ≢ FREE → n ≡ (sat (opening m) (missed (part m)), m.1))
 
 -- the list that was held has this event more; it had the lane's calls
 abbrev pub puts_told : List Event → Step Place → Known → ℕ → Known → Type 0
@@ -81,33 +82,33 @@ pub record Gathers (opening : State) (p : Part) (e : Event) (log : List Event) :
 -- where the cell was answered, its reply, and the history; else nothing, and the holder hasn't seen it answered
 abbrev pub collects_told : Step Place → Known → ℕ → Known → Type 0
 collects_told step m found n =
-    (found ≡ 3 → (log : List Event) × (moment : ℕ) × (ask : Ask) × (reply : Result Answer Errno)
+    (found ≡ ANSWERED → (log : List Event) × (moment : ℕ) × (ask : Ask) × (reply : Result Answer Errno)
     × (n ≡ (
       sat (opening m) (collected (part m) log (event_of (part m).lane moment ask reply)),
       (step.word, Replied reply) ∷ m.1,
     ))
     × Gathers (opening m) (part m) (event_of (part m).lane moment ask reply) log)
-    × (found ≢ 3 → (n ≡ m) × ((part m).done ≢ true))
+    × (found ≢ ANSWERED → (n ≡ m) × ((part m).done ≢ true))
 
 -- The holder looks at a lane's cell. Where no call is posted there, it was looked at; the holder's own, with a call in
 -- flight, is answered then.
 abbrev pub glances_told : Step Place → Known → ℕ → Known → Type 0
 glances_told step m found n =
-    (lane : ℕ) → step.word ≡ lane + 1
-    → (found ≡ 1 → n ≡ m)
-    × (found ≢ 1
-    → (n ≡ (sat (opening m) (looked_at (part m) lane ((found == 3) && (lane == (part m).lane))), m.1))
-    × (lane ≡ (part m).lane → (part m).flight ≢ None → found ≡ 3))
+    (lane : ℕ) → step.word ≡ cell_of lane
+    → (found ≡ POSTED → n ≡ m)
+    × (found ≢ POSTED
+    → (n ≡ (sat (opening m) (looked_at (part m) lane ((found == ANSWERED) && (lane == (part m).lane))), m.1))
+    × (lane ≡ (part m).lane → (part m).flight ≢ None → found ≡ ANSWERED))
 
 -- the holder takes up the call that is posted in a lane's cell; where none is, it was looked at
 abbrev pub grabs_told : Step Place → Known → ℕ → Known → Type 0
 grabs_told step m found n =
-    (lane : ℕ) → step.word ≡ lane + 1
-    → (found ≡ 1 → (moment : ℕ) × (ask : Ask)
+    (lane : ℕ) → step.word ≡ cell_of lane
+    → (found ≡ POSTED → (moment : ℕ) × (ask : Ask)
     × (n ≡ (sat (opening m) (grabbed (part m) lane moment ask), (step.word, Asked moment ask) ∷ m.1)))
-    × (found ≢ 1
-    → (n ≡ (sat (opening m) (looked_at (part m) lane ((found == 3) && (lane == (part m).lane))), m.1))
-    × (lane ≡ (part m).lane → (part m).flight ≢ None → found ≡ 3))
+    × (found ≢ POSTED
+    → (n ≡ (sat (opening m) (looked_at (part m) lane ((found == ANSWERED) && (lane == (part m).lane))), m.1))
+    × (lane ≡ (part m).lane → (part m).flight ≢ None → found ≡ ANSWERED))
 
 -- the list that is held has the event of the call that was served
 abbrev pub answers_told : Step Place → Known → ℕ → Known → Type 0

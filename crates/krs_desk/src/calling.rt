@@ -6,6 +6,7 @@ ghost use Rattle.krs_desk.specs.Helping.{HasLooked};
 
 use crate::desk::Desk;
 use crate::seat::Seat;
+use crate::word::{ANSWERED, FREE, OUT, TURN, cell_of};
 use krs_types::{Ask, Reply};
 use std::sync::Wait;
 use std::sync::atomic::Ordering;
@@ -37,14 +38,14 @@ fn pause(spins: u32) -> u32 {
 impl Desk {
     // Whether nobody had the turn.
     fn is_free(&self) -> bool {
-        self.table.peek(0) == 0
+        self.table.peek(TURN) == FREE
     }
 
     // Whether the lane's call was answered.
     fn is_answered(&self, lane: u32) -> bool
         requires { lane + 1 < self.now.words }
     {
-        self.table.peek(lane as usize + 1) == 3
+        self.table.peek(cell_of!(lane)) == ANSWERED
     }
 
     // Whether the turn was free, or the lane's call answered.
@@ -79,7 +80,7 @@ impl Desk {
             spins = pause(spins);
         }
         self.sleepers.fetch_add(1, Ordering::SeqCst);
-        self.table.park(rt, 0, 1);
+        self.table.park(rt, TURN, OUT as u32);
         self.sleepers.fetch_sub(1, Ordering::SeqCst);
     }
 
@@ -94,7 +95,7 @@ impl Desk {
         ensures looked { IfOk result (λ reply. HasLooked self.now seat.old seat.new) }
         ensures missed { IfErr result (λ back. (back ≡ ask) × (seat.new ≡ missed_by seat.old)) }
     {
-        if self.take(&mut seat.token) != 0 {
+        if self.take(&mut seat.token) != FREE {
             return Err(ask);
         }
         let answered = self.serve_all(&mut seat.token, true);

@@ -15,6 +15,7 @@ use crate::board::Board;
 use crate::note::{Added, Note};
 use crate::plays::{Puts, Takes, Token};
 use crate::seat::Seat;
+use crate::word::{FREE, OUT, TURN};
 use krs_types::{Ask, Reply};
 use std::marker::{Brand, Model};
 use std::snapshot::Snapshot;
@@ -63,7 +64,7 @@ impl Desk {
         ensures missed { result ≢ 0
             → token.new.me ≡ (sat (opening token.old.me) (missed (part token.old.me)), token.old.me.1) }
     {
-        self.table.compare_exchange::<Takes>(token, 0, 0, 1)
+        self.table.compare_exchange::<Takes>(token, TURN, FREE, OUT)
     }
 
     // Asks the store that the token has, which stays in its slot.
@@ -89,16 +90,16 @@ impl Desk {
             → events_of (part token.old.me).lane log ≡ (part token.old.me).mine }
     {
         self.table
-            .compare_exchange::<Puts<E>>(token, 0, 1, 0);
+            .compare_exchange::<Puts<E>>(token, TURN, OUT, FREE);
         if self.sleepers.load(Ordering::SeqCst) > 0 {
-            self.table.wake_one(0);
+            self.table.wake_one(TURN);
         }
     }
 
     // Wakes all that sleep on the turn: some of their calls may have been answered.
     pub(crate) fn wake_all(&self) {
         for _ in 0..self.sleepers.load(Ordering::SeqCst) {
-            self.table.wake_one(0);
+            self.table.wake_one(TURN);
         }
     }
 
@@ -133,7 +134,7 @@ impl Desk {
         ensures added { IfOk result (λ reply. Adds seat.old (event_of seat.old.part.lane moment ask reply) seat.new) }
         ensures missed { IfErr result (λ back. (back ≡ ask) × (seat.new ≡ missed_by seat.old)) }
     {
-        if self.take(&mut seat.token) != 0 {
+        if self.take(&mut seat.token) != FREE {
             return Err(ask);
         }
         Ok(self.finish(&mut seat.token, seat.lane, moment, ask))

@@ -12,6 +12,7 @@ use crate::desk::Desk;
 use crate::place::Place;
 use crate::plays::{Answers, Brings, Glances, Grabs, Token};
 use crate::seat::Seat;
+use crate::word::{ANSWERED, FREE, OUT, POSTED, SERVING, TURN, cell_of};
 use krs_store::Store;
 use krs_types::{Ask, Reply};
 
@@ -46,10 +47,10 @@ impl Desk {
             × (token.new.me ≡ (sat (opening token.old.me) (missed (part token.old.me)), token.old.me.1))) }
     {
         let turn = self.take(token);
-        if turn != 0 {
+        if turn != FREE {
             return Err(turn);
         }
-        let Place::Home(home) = self.table.exchange(token, 0, Place::Empty) else {
+        let Place::Home(home) = self.table.exchange(token, TURN, Place::Empty) else {
             unreachable!()
         };
         Ok(home.into_inner())
@@ -82,8 +83,8 @@ impl Desk {
         ensures served { ServesLane token.old.me lane result token.new.me }
     {
         let table = &self.table;
-        let cell = lane as usize + 1;
-        if table.compare_exchange::<Grabs>(token, cell, 1, 2) != 1 {
+        let cell = cell_of!(lane);
+        if table.compare_exchange::<Grabs>(token, cell, POSTED, SERVING) != POSTED {
             return 0;
         }
         let Place::Asked(moment, ask) = table.exchange(token, cell, Place::Empty) else {
@@ -91,7 +92,7 @@ impl Desk {
         };
         let reply = self.serve_behind(token, idle, lane, moment, ask);
         drop(table.exchange(token, cell, Place::Replied(reply)));
-        table.store::<Answers>(token, cell, 3);
+        table.store::<Answers>(token, cell, ANSWERED);
         1
     }
 
@@ -105,7 +106,7 @@ impl Desk {
         ensures few { result ≤ 1 }
         ensures served { ServesLane token.old.me lane result token.new.me }
     {
-        if self.table.load::<Glances>(token, lane as usize + 1) != 1 {
+        if self.table.load::<Glances>(token, cell_of!(lane)) != POSTED {
             return 0;
         }
         self.answer_lane(token, idle, lane)
@@ -142,7 +143,8 @@ impl Desk {
             → events_of (part token.old.me).lane (held_of (part token.old.me).holding)
             ≡ (part token.old.me).mine }
     {
-        self.table.compare_exchange::<Brings>(token, 0, 1, 0);
+        self.table
+            .compare_exchange::<Brings>(token, TURN, OUT, FREE);
         self.wake_all();
     }
 
@@ -154,7 +156,7 @@ impl Desk {
         ensures flight { seat.new.part.flight ≡ seat.old.part.flight }
         ensures helped { HasHelped self.now seat.old result seat.new }
     {
-        if self.take(&mut seat.token) != 0 {
+        if self.take(&mut seat.token) != FREE {
             return Helped::Busy;
         }
         let answered = self.serve_all(&mut seat.token, seat.idle);

@@ -18,6 +18,7 @@ mod plays;
 mod posting;
 mod seat;
 mod sight;
+mod word;
 
 pub use closing::Stopped;
 pub use desk::Desk;

@@ -8,6 +8,7 @@ use crate::desk::Desk;
 use crate::note::Opened;
 use crate::plays::{Checks, Looks, Token};
 use crate::seat::Seat;
+use crate::word::TURN;
 use std::marker::Brand;
 
 // A look at the turn, which tells that the token's opening is the desk's.
@@ -20,7 +21,7 @@ fn check<O: Opened>(board: &Board, token: &mut Token)
     ensures same { token.new.me ≡ token.old.me }
     ensures opening { opening token.old.me ≡ O.opening }
 {
-    board.load::<Checks<O>>(token, 0);
+    board.load::<Checks<O>>(token, TURN);
 }
 
 impl Desk {
@@ -34,7 +35,7 @@ impl Desk {
         let table = &self.table;
         let other = table.split_seat(second);
         table.join_seat(first, other);
-        table.load::<Looks>(first, 0);
+        table.load::<Looks>(first, TURN);
         let back = table.split_seat(first);
         table.settle_seat(second, back);
     }

@@ -13,6 +13,7 @@ use crate::desk::Desk;
 use crate::place::Place;
 use crate::plays::{Opens, Picks, Token};
 use crate::seat::Seat;
+use crate::word::{DEALING, FREE, TURN, cell_of};
 use krs_store::Store;
 use std::alloc::Global;
 use std::mem;
@@ -46,14 +47,14 @@ impl Desk {
         let table = &self.table;
         for lane in 0..lanes {
             let mut token = table.split_seat(&mut opener);
-            table.load::<Picks>(&mut token, lane as usize + 1);
+            table.load::<Picks>(&mut token, cell_of!(lane));
             seats.push_reserved(Seat {
                 lane,
                 idle: true,
                 token,
             });
         }
-        table.store::<Opens>(&mut opener, 0, 0);
+        table.store::<Opens>(&mut opener, TURN, FREE);
     }
 
     /// A desk of so many lanes, 1 to 256, with a seat for each.
@@ -91,7 +92,7 @@ impl Desk {
         let Ok(mut words) = Vec::from_elem(alloc, 0u64, count + 1) else {
             return Err(store);
         };
-        words[0] = 2;
+        words[TURN] = DEALING;
         let Ok(mut seats) = Vec::with_capacity(alloc, count) else {
             return Err(store);
         };

@@ -6,6 +6,7 @@ use crate::desk::Desk;
 use crate::place::Place;
 use crate::plays::{self, Posts};
 use crate::seat::Seat;
+use crate::word::{ANSWERED, EMPTY, POSTED, cell_of};
 use krs_types::{Ask, Reply};
 
 impl Desk {
@@ -16,9 +17,9 @@ impl Desk {
         ensures { seat.new ≡ posted_by seat.old moment ask }
     {
         let table = &self.table;
-        let cell = seat.lane as usize + 1;
+        let cell = cell_of!(seat.lane);
         drop(table.exchange(&mut seat.token, cell, Place::Asked(moment, ask)));
-        table.store::<Posts>(&mut seat.token, cell, 1);
+        table.store::<Posts>(&mut seat.token, cell, POSTED);
         seat.idle = false;
     }
 
@@ -30,8 +31,10 @@ impl Desk {
         ensures none { IfNone result ((seat.new ≡ seat.old) × (seat.old.part.done ≢ true)) }
     {
         let table = &self.table;
-        let cell = seat.lane as usize + 1;
-        if table.compare_exchange::<plays::Collects>(&mut seat.token, cell, 3, 0) != 3 {
+        let cell = cell_of!(seat.lane);
+        if table.compare_exchange::<plays::Collects>(&mut seat.token, cell, ANSWERED, EMPTY)
+            != ANSWERED
+        {
             return None;
         }
         let Place::Replied(reply) = table.exchange(&mut seat.token, cell, Place::Empty) else {

@@ -12,25 +12,25 @@ pub compare_exchange-requires : goal.compare_exchange-requires
 compare_exchange-requires c =
     (search rules, search rules, grabs_at _ _ _ c.args.lane c.args.token.now.me c.requires.held (search rules))
 
-pub returns-then-compare_exchange-ne1-clause-served : goal.returns-then-compare_exchange-ne1-clause-served
-returns-then-compare_exchange-ne1-clause-served c =
+pub returns-then-compare_exchange-ne-POSTED-clause-served : goal.returns-then-compare_exchange-ne-POSTED-clause-served
+returns-then-compare_exchange-ne-POSTED-clause-served c =
     let m = c.args.token.now.me in
     let told = c.compare_exchange.ensures.2 in
-    let t = (told c.args.lane refl).1 c.if-compare_exchange-ne1.true in
+    let t = (told c.args.lane refl).1 c.if-compare_exchange-ne-POSTED.true in
     serves_none m c.args.lane c.compare_exchange.result c.compare_exchange.new.seat.me c.requires.held t.0 t.1
 
 pub exchange-requires : goal.exchange-requires
 exchange-requires c =
     let m = c.args.token.now.me in
     let told = c.compare_exchange.ensures.2 in
-    let t = (told c.args.lane refl).0 c.if-compare_exchange-ne1.false in
+    let t = (told c.args.lane refl).0 c.if-compare_exchange-ne-POSTED.false in
     (search rules, (Asked t.0 t.1, front _ _ _ (ap (λ k. k.1) t.2)))
 
 pub unreachable-requires : goal.unreachable-requires
 unreachable-requires c =
     let m = c.args.token.now.me in
     let told = c.compare_exchange.ensures.2 in
-    let t = (told c.args.lane refl).0 c.if-compare_exchange-ne1.false in
+    let t = (told c.args.lane refl).0 c.if-compare_exchange-ne-POSTED.false in
     c.in_default.not-Asked t.0 t.1
     (slot_is c.compare_exchange.new.seat.me (Asked t.0 t.1) _ c.exchange.result m.1 (ap (λ k. k.1) t.2)
     c.exchange.ensures.2)
@@ -39,7 +39,7 @@ pub serve_behind-reply-requires-clause-behind : goal.serve_behind-reply-requires
 serve_behind-reply-requires-clause-behind c =
     let m = c.args.token.now.me in
     let told = c.compare_exchange.ensures.2 in
-    let t = (told c.args.lane refl).0 c.if-compare_exchange-ne1.false in
+    let t = (told c.args.lane refl).0 c.if-compare_exchange-ne-POSTED.false in
     let read =
     read_is (opening m) (part m) c.args.lane _ c.compare_exchange.new.seat.me c.exchange.result t.0 c.in-Asked.moment t.1
     c.in-Asked.ask m.1 t.2 c.exchange.ensures.2 c.in-Asked.is in
@@ -53,7 +53,7 @@ pub serve_behind-reply-requires-clause-hand : goal.serve_behind-reply-requires-c
 serve_behind-reply-requires-clause-hand c =
     let m = c.args.token.now.me in
     let told = c.compare_exchange.ensures.2 in
-    let t = (told c.args.lane refl).0 c.if-compare_exchange-ne1.false in
+    let t = (told c.args.lane refl).0 c.if-compare_exchange-ne-POSTED.false in
     let read =
     read_is (opening m) (part m) c.args.lane _ c.compare_exchange.new.seat.me c.exchange.result t.0 c.in-Asked.moment t.1
     c.in-Asked.ask m.1 t.2 c.exchange.ensures.2 c.in-Asked.is in
@@ -67,7 +67,7 @@ pub exchange-requires-2 : goal.exchange-requires-2
 exchange-requires-2 c =
     let m = c.args.token.now.me in
     let told = c.compare_exchange.ensures.2 in
-    let t = (told c.args.lane refl).0 c.if-compare_exchange-ne1.false in
+    let t = (told c.args.lane refl).0 c.if-compare_exchange-ne-POSTED.false in
     let read =
     read_is (opening m) (part m) c.args.lane _ c.compare_exchange.new.seat.me c.exchange.result t.0 c.in-Asked.moment t.1
     c.in-Asked.ask m.1 t.2 c.exchange.ensures.2 c.in-Asked.is in
@@ -84,7 +84,7 @@ pub store-requires : goal.store-requires
 store-requires c =
     let m = c.args.token.now.me in
     let told = c.compare_exchange.ensures.2 in
-    let t = (told c.args.lane refl).0 c.if-compare_exchange-ne1.false in
+    let t = (told c.args.lane refl).0 c.if-compare_exchange-ne-POSTED.false in
     let read =
     read_is (opening m) (part m) c.args.lane _ c.compare_exchange.new.seat.me c.exchange.result t.0 c.in-Asked.moment t.1
     c.in-Asked.ask m.1 t.2 c.exchange.ensures.2 c.in-Asked.is in
@@ -109,7 +109,7 @@ pub returns-clause-served : goal.returns-clause-served
 returns-clause-served c =
     let m = c.args.token.now.me in
     let told = c.compare_exchange.ensures.2 in
-    let t = (told c.args.lane refl).0 c.if-compare_exchange-ne1.false in
+    let t = (told c.args.lane refl).0 c.if-compare_exchange-ne-POSTED.false in
     let read =
     read_is (opening m) (part m) c.args.lane _ c.compare_exchange.new.seat.me c.exchange.result t.0 c.in-Asked.moment t.1
     c.in-Asked.ask m.1 t.2 c.exchange.ensures.2 c.in-Asked.is in

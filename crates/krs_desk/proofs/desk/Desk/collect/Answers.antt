@@ -14,5 +14,5 @@ compare_exchange-requires c =
 
 pub exchange-requires : goal.exchange-requires
 exchange-requires c =
-    let t = c.compare_exchange.ensures.2.0 c.if-compare_exchange-ne3.false in
+    let t = c.compare_exchange.ensures.2.0 c.if-compare_exchange-ne-ANSWERED.false in
     (search rules, (Replied t.3, front _ _ _ (ap (λ m. m.1) t.4)))

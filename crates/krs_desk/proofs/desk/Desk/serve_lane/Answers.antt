@@ -12,22 +12,22 @@ load-requires c = (
   glances_at _ _ _ c.args.lane c.args.token.now.me c.requires.held,
 )
 
-pub returns-then-load-ne1-clause-served : goal.returns-then-load-ne1-clause-served
-returns-then-load-ne1-clause-served c =
-    let t = (c.load.ensures.2 c.args.lane refl).1 c.if-load-ne1.true in
+pub returns-then-load-ne-POSTED-clause-served : goal.returns-then-load-ne-POSTED-clause-served
+returns-then-load-ne-POSTED-clause-served c =
+    let t = (c.load.ensures.2 c.args.lane refl).1 c.if-load-ne-POSTED.true in
     serves_none c.args.token.now.me c.args.lane c.load.result c.load.new.seat.me c.requires.held t.0 t.1
 
 pub answer_lane-requires-clause-held : goal.answer_lane-requires-clause-held
 answer_lane-requires-clause-held c =
-    held_on c.args.token.now.me c.load.new.seat.me ((c.load.ensures.2 c.args.lane refl).0 c.if-load-ne1.false)
+    held_on c.args.token.now.me c.load.new.seat.me ((c.load.ensures.2 c.args.lane refl).0 c.if-load-ne-POSTED.false)
     c.requires.held
 
 pub answer_lane-requires-clause-hand : goal.answer_lane-requires-clause-hand
 answer_lane-requires-clause-hand c =
     c.requires.hand
-    ∙ sym (ap (λ (k : Me). is_free (part k).flight) ((c.load.ensures.2 c.args.lane refl).0 c.if-load-ne1.false))
+    ∙ sym (ap (λ (k : Me). is_free (part k).flight) ((c.load.ensures.2 c.args.lane refl).0 c.if-load-ne-POSTED.false))
 
 pub returns-clause-served : goal.returns-clause-served
 returns-clause-served c =
     subst (λ (z : Me). ServesLane z c.args.lane c.answer_lane.result c.answer_lane.new.token.me)
-    ((c.load.ensures.2 c.args.lane refl).0 c.if-load-ne1.false) c.answer_lane.ensures.served
+    ((c.load.ensures.2 c.args.lane refl).0 c.if-load-ne-POSTED.false) c.answer_lane.ensures.served

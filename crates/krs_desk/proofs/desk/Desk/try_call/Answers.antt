@@ -8,21 +8,21 @@ use Rattle.krs_desk.proofs.desk.Desk.try_call.Goals as goal
 pub finish-requires-clause-held : goal.finish-requires-clause-held
 finish-requires-clause-held c =
     let seat = c.seat.inside in
-    (had_held seat.lane seat.idle seat.token.me _ c.seat.invariant.0 (c.take.ensures.had c.if-take-ne0.false)).0
+    (had_held seat.lane seat.idle seat.token.me _ c.seat.invariant.0 (c.take.ensures.had c.if-take-ne-FREE.false)).0
 
 pub finish-requires-clause-idle : goal.finish-requires-clause-idle
 finish-requires-clause-idle c =
-    ap (λ (k : Me). (part k).flight) (c.take.ensures.had c.if-take-ne0.false).has
+    ap (λ (k : Me). (part k).flight) (c.take.ensures.had c.if-take-ne-FREE.false).has
     ∙ (ap (λ (s : Sitting). s.part.flight) c.seat.view_is ∙ c.requires.idle)
 
 pub finish-requires-clause-lane : goal.finish-requires-clause-lane
 finish-requires-clause-lane c =
     c.seat.invariant.0.numbered
-    ∙ sym (ap (λ (k : Me). (part k).lane) (c.take.ensures.had c.if-take-ne0.false).has)
+    ∙ sym (ap (λ (k : Me). (part k).lane) (c.take.ensures.had c.if-take-ne-FREE.false).has)
 
 pub invariant_of-seat-2 : goal.invariant_of-seat-2
 invariant_of-seat-2 c =
-    let had = c.take.ensures.had c.if-take-ne0.false in
+    let had = c.take.ensures.had c.if-take-ne-FREE.false in
     let seat = c.seat.inside in
     let held = had_held seat.lane seat.idle seat.token.me _ c.seat.invariant.0 had in (
       turn_seated seat.lane seat.idle seat.token.me c.take.new.token.me c.take.new.token.me c.finish.new.token.me 0 0 _
@@ -32,7 +32,7 @@ invariant_of-seat-2 c =
 
 pub returns-clause-added : goal.returns-clause-added
 returns-clause-added c =
-    let had = c.take.ensures.had c.if-take-ne0.false in
+    let had = c.take.ensures.had c.if-take-ne-FREE.false in
     let seat = c.seat.inside in
     let held = had_held seat.lane seat.idle seat.token.me _ c.seat.invariant.0 had in
     turn_adds seat.token.table_id c.finish.new.token.table_id seat.token.me c.take.new.token.me c.take.new.token.me
@@ -41,7 +41,7 @@ returns-clause-added c =
 
 pub returns-clause-idle : goal.returns-clause-idle
 returns-clause-idle c =
-    let had = c.take.ensures.had c.if-take-ne0.false in
+    let had = c.take.ensures.had c.if-take-ne-FREE.false in
     let seat = c.seat.inside in
     let held = had_held seat.lane seat.idle seat.token.me _ c.seat.invariant.0 had in
     turn_idle seat.token.me c.take.new.token.me c.take.new.token.me c.finish.new.token.me 0 0 _
