@@ -5,6 +5,7 @@ use Rattle.krs_types.specs.declared.ask.Op.TheVariants.{Hello, Thread, Fork, Exe
 use Rattle.krs_types.specs.declared.ask.Op.TheVariants.{Update, Revoke, Invalidate, Chown, SetPerm, SetTimeout, Link}
 use Rattle.krs_types.specs.declared.ask.Op.TheVariants.{Unlink, Clear, Read, Describe, Watch, OpenQueue, SetFilter}
 use Rattle.krs_types.specs.declared.ask.Op.TheVariants.{ReadQueue, CloseQueue, Exit, Leave}
+use Rattle.krs_types.specs.declared.ask.Op.TheVariants.{Move, RestrictKeyring}
 
 -- a destination is named: every id but 0
 abbrev pub has_destination : ℤ → Bool
@@ -37,7 +38,9 @@ grows (SetPerm id mask) = false
 grows (SetTimeout id seconds) = false
 grows (Link key ring) = true
 grows (Unlink key ring) = false
+grows (Move key from to flags) = true
 grows (Clear id) = false
+grows (RestrictKeyring ring type_name) = false
 grows (Read id) = true
 grows (Describe id) = true
 grows (Watch id queue watch_id) = not (ends_watch watch_id)

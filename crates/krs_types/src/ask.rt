@@ -4,6 +4,10 @@ ghost use Rattle.krs_types.specs.Growth.{grows};
 use crate::{Blob, Body, Caller, Errno, FilterEntries};
 use std::alloc::{AllocError, Global};
 
+/// The one flag of MOVE, that the destination must have no link of equal type and description: uapi linux/keyctl.h,
+/// KEYCTL_MOVE_EXCL.
+pub const MOVE_EXCL: u32 = 1;
+
 /// What a client asks in one of its contexts.
 #[derive(Debug, Drop)]
 pub struct Ask {
@@ -93,9 +97,22 @@ pub enum Op {
         key: i32,
         ring: i32,
     },
+    /// A link out of one keyring and into another, in one step: keyctl(2), KEYCTL_MOVE. With the flag `MOVE_EXCL` it
+    /// displaces none.
+    Move {
+        key: i32,
+        from: i32,
+        to: i32,
+        flags: u32,
+    },
     /// A keyring without its links: keyctl(2), KEYCTL_CLEAR.
     Clear {
         id: i32,
+    },
+    /// No further link in a keyring, for good, where no type is named: keyctl(2), KEYCTL_RESTRICT_KEYRING.
+    RestrictKeyring {
+        ring: i32,
+        type_name: Blob,
     },
     /// The payload of a key, or the serials that a keyring links: keyctl(2), KEYCTL_READ.
     Read {
@@ -212,6 +229,7 @@ impl Op {
             | Op::Invalidate { .. }
             | Op::Unlink { .. }
             | Op::Clear { .. }
+            | Op::RestrictKeyring { .. }
             | Op::SetPerm { .. }
             | Op::Chown { .. }
             | Op::SetTimeout { .. }
@@ -294,7 +312,22 @@ impl Op {
                 key: *key,
                 ring: *ring,
             },
+            Op::Move {
+                key,
+                from,
+                to,
+                flags,
+            } => Op::Move {
+                key: *key,
+                from: *from,
+                to: *to,
+                flags: *flags,
+            },
             Op::Clear { id } => Op::Clear { id: *id },
+            Op::RestrictKeyring { ring, type_name } => Op::RestrictKeyring {
+                ring: *ring,
+                type_name: type_name.copy(alloc)?,
+            },
             Op::Read { id } => Op::Read { id: *id },
             Op::Describe { id } => Op::Describe { id: *id },
             Op::Watch { id, queue, watch } => Op::Watch {

@@ -4,7 +4,7 @@ ghost use Rattle.krs_types.specs.Errno.{number_of, name_of, errnos};
 /// Why an ask is refused: the names and numbers of errno(3) on Linux.
 #[derive(Clone, Copy, Debug, PartialEq, Eq)]
 pub enum Errno {
-    /// The name begins with a dot, which is kept for the system.
+    /// The name begins with a dot, which is kept for the system; or the keyring is closed.
     EPERM,
     /// The keyring does not link that key.
     ENOENT,
@@ -20,7 +20,7 @@ pub enum Errno {
     EACCES,
     /// The queue watches that key already.
     EBUSY,
-    /// There is one already. No ask answers it yet.
+    /// The destination of a move has such a link already, or the keyring is closed already.
     EEXIST,
     /// There is no such type of key.
     ENODEV,

@@ -18,7 +18,7 @@ mod note;
 mod perm;
 mod rights;
 
-pub use ask::{Answer, Ask, Op, Reply, is_same_reply};
+pub use ask::{Answer, Ask, MOVE_EXCL, Op, Reply, is_same_reply};
 pub use blob::Blob;
 pub use body::Body;
 pub use caller::{Caller, Groups, UNCHANGED};
