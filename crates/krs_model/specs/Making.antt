@@ -28,6 +28,7 @@ own_ring desc perm joined c = record {
   expiry = None;
   revoked = false;
   joined = joined;
+  closed = false;
   content = Links [];
 }
 

@@ -13,7 +13,7 @@ pub data Content : Type 0 where
   Links : List ℕ → Content
 
 -- a key: its type, description, owner and mask; when its time is over, in seconds; whether it was revoked; whether
--- KEYCTL_JOIN_SESSION_KEYRING made it; what it holds
+-- KEYCTL_JOIN_SESSION_KEYRING made it; whether KEYCTL_RESTRICT_KEYRING closed it; what it holds
 pub record Key : Type 0 where
   pub kind : Kind
   pub desc : List ℕ
@@ -23,6 +23,7 @@ pub record Key : Type 0 where
   pub expiry : Option ℕ
   pub revoked : Bool
   pub joined : Bool
+  pub closed : Bool
   pub content : Content
 
 -- a note queue: whose it is, how many records it holds, its filter, and the records that wait in it, oldest first

@@ -10,6 +10,7 @@ use Rattle.krs_types.specs.declared.ask.Op.TheVariants.{Hello, Thread, Fork, Exe
 use Rattle.krs_types.specs.declared.ask.Op.TheVariants.{Update, Revoke, Invalidate, Chown, SetPerm, SetTimeout, Link}
 use Rattle.krs_types.specs.declared.ask.Op.TheVariants.{Unlink, Clear, Read, Describe, Watch, OpenQueue, SetFilter}
 use Rattle.krs_types.specs.declared.ask.Op.TheVariants.{ReadQueue, CloseQueue, Exit, Leave}
+use Rattle.krs_types.specs.declared.ask.Op.TheVariants.{Move, RestrictKeyring}
 use Rattle.krs_types.specs.declared.event.Event.{Event}
 use Rattle.krs_types.specs.Growth.{grows}
 use Rattle.krs_model.specs.Table.{Table}
@@ -26,6 +27,8 @@ use Rattle.krs_model.specs.Asks.Adding.{add}
 use Rattle.krs_model.specs.Asks.Changing.{update, revoke, chown, set_perm, set_timeout}
 use Rattle.krs_model.specs.Asks.Invalidating.{invalidate}
 use Rattle.krs_model.specs.Asks.Linked.{link, unlink, clear}
+use Rattle.krs_model.specs.Asks.Moving.{move_link}
+use Rattle.krs_model.specs.Asks.Restricting.{restrict_keyring}
 use Rattle.krs_model.specs.Asks.Reading.{read, describe}
 use Rattle.krs_model.specs.Asks.Watching.{watch, open_queue, set_filter, read_queue, close_queue}
 use Rattle.krs_model.specs.Asks.Leaving.{left, exit}
@@ -51,7 +54,9 @@ outcome_of s client context (SetPerm id mask) = set_perm s client context id mas
 outcome_of s client context (SetTimeout id seconds) = set_timeout s client context id seconds
 outcome_of s client context (Link key ring) = link s client context key ring
 outcome_of s client context (Unlink key ring) = unlink s client context key ring
+outcome_of s client context (Move key from to flags) = move_link s client context key from to flags
 outcome_of s client context (Clear id) = clear s client context id
+outcome_of s client context (RestrictKeyring ring type_name) = restrict_keyring s client context ring type_name
 outcome_of s client context (Read id) = read s client context id
 outcome_of s client context (Describe id) = describe s client context id
 outcome_of s client context (Watch id queue watch_id) = watch s client context id queue watch_id

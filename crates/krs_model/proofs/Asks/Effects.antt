@@ -18,6 +18,7 @@ use Rattle.krs_types.specs.declared.ask.Op.TheVariants.{Update, Revoke, Invalida
 use Rattle.krs_types.specs.declared.ask.Op.TheVariants.{Unlink}
 use Rattle.krs_types.specs.declared.ask.Op.TheVariants.{Clear, Read, Describe, Watch, OpenQueue, SetFilter, ReadQueue}
 use Rattle.krs_types.specs.declared.ask.Op.TheVariants.{CloseQueue, Exit, Leave}
+use Rattle.krs_types.specs.declared.ask.Op.TheVariants.{Move, RestrictKeyring}
 use Rattle.krs_types.specs.declared.rights.Want.TheVariants.{Granted}
 use Rattle.krs_types.specs.Rights.{VIEW}
 use Rattle.krs_types.specs.Refusing.{◌>>=◌, or_refuse}
@@ -44,6 +45,7 @@ use Rattle.krs_model.proofs.Asks.LaterByAsk.{hello_comes, thread_comes, fork_com
 use Rattle.krs_model.proofs.Asks.LaterByAsk.{search_comes, request_comes, add_comes, update_comes, revoke_comes}
 use Rattle.krs_model.proofs.Asks.LaterByAsk.{invalidate_comes, chown_comes, set_perm_comes, set_timeout_comes, link_comes}
 use Rattle.krs_model.proofs.Asks.LaterByAsk.{unlink_comes, clear_comes, read_comes, describe_comes, exit_comes}
+use Rattle.krs_model.proofs.Asks.LaterByAsk.{move_comes, restrict_keyring_comes}
 
 -- the queues with these in their place
 abbrev pub with_table : State → Table Queue → State
@@ -349,6 +351,10 @@ effect_of s client context (Link key ring) new answer h =
     OfKeys _ new answer refl ((link_comes s client context key ring).comes new answer h) refl
 effect_of s client context (Unlink key ring) new answer h =
     OfKeys _ new answer refl ((unlink_comes s client context key ring).comes new answer h) refl
+effect_of s client context (Move key from to flags) new answer h =
+    OfKeys _ new answer refl ((move_comes s client context key from to flags).comes new answer h) refl
+effect_of s client context (RestrictKeyring ring type_name) new answer h =
+    OfKeys _ new answer refl ((restrict_keyring_comes s client context ring type_name).comes new answer h) refl
 effect_of s client context (Clear id) new answer h =
     OfKeys _ new answer refl ((clear_comes s client context id).comes new answer h) refl
 effect_of s client context (Read id) new answer h =

@@ -1,7 +1,7 @@
 -- Serials are at most 2147483647: no accepted ask gives one above it.
 use Rattle.std.proofs.Common.{◌≡◌, ℕ, ℤ, List}
 use Rattle.std.proofs.Common.{Ok, refl}
-use Rattle.krs_types.specs.declared.errno.Errno.TheVariants.{ENOKEY}
+use Rattle.krs_types.specs.declared.errno.Errno.TheVariants.{ENOKEY, EEXIST}
 use Rattle.krs_types.specs.declared.note.FilterEntry.{FilterEntry}
 use Rattle.krs_types.specs.declared.rights.Want.TheVariants.{Granted}
 use Rattle.krs_types.specs.declared.ask.Answer.{Answer}
@@ -11,6 +11,7 @@ use Rattle.krs_types.specs.declared.ask.Op.TheVariants.{Update, Revoke, Invalida
 use Rattle.krs_types.specs.declared.ask.Op.TheVariants.{Unlink}
 use Rattle.krs_types.specs.declared.ask.Op.TheVariants.{Clear, Read, Describe, Watch, OpenQueue, SetFilter, ReadQueue}
 use Rattle.krs_types.specs.declared.ask.Op.TheVariants.{CloseQueue, Exit, Leave}
+use Rattle.krs_types.specs.declared.ask.Op.TheVariants.{Move, RestrictKeyring}
 use Rattle.krs_types.specs.Kind.{paid}
 use Rattle.krs_types.specs.Perm.{perm_of}
 use Rattle.krs_types.specs.Rights.{WRITE, SETATTR, VIEW}
@@ -31,13 +32,14 @@ use Rattle.krs_model.specs.Asks.Reading.{read, describe}
 use Rattle.krs_model.specs.Asks.Leaving.{left, exit}
 use Rattle.krs_model.specs.Asks.Watching.{watch, watch_id_of, with_watching, open_queue, set_filter, read_queue}
 use Rattle.krs_model.specs.Asks.Watching.{close_queue}
-use Rattle.krs_model.specs.Asks.Linked.{unlink, clear, if_linked}
+use Rattle.krs_model.specs.Asks.Linked.{unlink, clear, if_linked, unless}
+use Rattle.krs_model.specs.Asks.Restricting.{restrict_keyring, no_type}
 use Rattle.krs_model.proofs.Tables.Changes.{below_filter}
 use Rattle.krs_model.proofs.Asks.Effects.{effect_of}
 use Rattle.krs_model.proofs.Asks.LaterByStep.{effect_follows}
 use Rattle.krs_model.proofs.Asks.NewSerials.{IsWithin, few_follow, Counts, counts_ok, counts_after, same_counts, counts_same}
 use Rattle.krs_model.proofs.Asks.NewSerials.{hello_counts, add_counts, get_id_counts, join_counts, search_counts}
-use Rattle.krs_model.proofs.Asks.NewSerials.{request_counts, link_counts, counted}
+use Rattle.krs_model.proofs.Asks.NewSerials.{request_counts, link_counts, move_counts, counted}
 
 thread_counts : (s : State) (client context : ℕ) → Counts s (thread s client context)
 unfolding thread
@@ -94,6 +96,17 @@ unlink_counts s client context key ring =
     counts_after (or_refuse ENOKEY (at s.keys serial)) _ (λ there _.
     counts_after (ring_links from.1.content) _ (λ links _.
     counts_after (if_linked serial links) _ (λ linked _. counts_same refl))))))
+
+restrict_keyring_counts :
+    (s : State) (client context : ℕ) (ring : ℤ) (type_name : List ℕ)
+    → Counts s (restrict_keyring s client context ring type_name)
+unfolding restrict_keyring
+restrict_keyring_counts s client context ring type_name =
+    counts_after (context_of s client context) _ (λ c _.
+    counts_after (no_type type_name) _ (λ untyped _.
+    counts_after (look_up s c ring (Granted SETATTR)) _ (λ found _.
+    counts_after (ring_links found.1.content) _ (λ links _.
+    counts_after (unless found.1.closed EEXIST) _ (λ unclosed _. counts_same refl)))))
 
 clear_counts : (s : State) (client context : ℕ) (id : ℤ) → Counts s (clear s client context id)
 unfolding clear
@@ -166,6 +179,9 @@ outcome_counts s client context (SetPerm id mask) placed = set_perm_counts s cli
 outcome_counts s client context (SetTimeout id seconds) placed = set_timeout_counts s client context id seconds
 outcome_counts s client context (Link key ring) placed = link_counts s client context key ring
 outcome_counts s client context (Unlink key ring) placed = unlink_counts s client context key ring
+outcome_counts s client context (Move key from to flags) placed = move_counts s client context key from to flags
+outcome_counts s client context (RestrictKeyring ring type_name) placed =
+    restrict_keyring_counts s client context ring type_name
 outcome_counts s client context (Clear id) placed = clear_counts s client context id
 outcome_counts s client context (Read id) placed = read_counts s client context id
 outcome_counts s client context (Describe id) placed = describe_counts s client context id

@@ -1,9 +1,9 @@
 -- What comes from a state by each ask of keys, where it is accepted. A further ask costs a lemma of its own, as
 -- `chown_comes`, and a line of `effect_of`.
-use Rattle.std.proofs.Common.{◌≡◌, ℕ, ℤ, ◌+◌, List, [], ◌∷◌, Option, Some, None, Bool, true, false}
-use Rattle.std.proofs.Common.{cond}
+use Rattle.std.proofs.Common.{◌≡◌, ℕ, ℤ, ◌+◌, ◌==◌, ◌&&◌, List, [], ◌∷◌, Option, Some, None, Bool, true, false}
+use Rattle.std.proofs.Common.{cond, nat_lt}
 use Rattle.std.proofs.Common.{Result, Ok, refl, ap, ◌∙◌, subst, arith}
-use Rattle.std.specs.Prelude.{codes}
+use Rattle.std.specs.Prelude.{codes, is_some}
 use Rattle.std.specs.Option.{option_map}
 use Rattle.krs_types.specs.declared.errno.Errno.{Errno}
 use Rattle.krs_types.specs.declared.caller.Caller.{Caller}
@@ -11,9 +11,9 @@ use Rattle.krs_types.specs.declared.context.Context.{Context}
 use Rattle.krs_types.specs.declared.context.UidRings.{UidRings}
 use Rattle.krs_types.specs.declared.key_id.KeyId.{KeyId}
 use Rattle.krs_types.specs.declared.name.Name.{Name}
-use Rattle.krs_types.specs.declared.errno.Errno.TheVariants.{ENOKEY}
+use Rattle.krs_types.specs.declared.errno.Errno.TheVariants.{ENOKEY, EPERM, EINVAL, EEXIST}
 use Rattle.krs_types.specs.declared.rights.Want.TheVariants.{Granted}
-use Rattle.krs_types.specs.Rights.{SEARCH, WRITE, LINK}
+use Rattle.krs_types.specs.Rights.{SEARCH, WRITE, LINK, SETATTR}
 use Rattle.krs_types.specs.KeyId.{key_id_of}
 use Rattle.krs_types.specs.Refusing.{◌>>=◌, or_refuse}
 use Rattle.krs_model.specs.Table.{at, map_values}
@@ -34,7 +34,9 @@ use Rattle.krs_model.specs.Asks.Finding.{requested_into, sought_name}
 use Rattle.krs_model.specs.Asks.Adding.{Place, Updated, Made, add, added, added_in, admitted, made, new_key, place_of}
 use Rattle.krs_model.specs.Asks.Changing.{changed, update, updated, revoke, chown, set_perm, set_timeout}
 use Rattle.krs_model.specs.Asks.Linked.{link, linked, linked_into, unlink, clear, nestable, link_check, name_of}
-use Rattle.krs_model.specs.Asks.Linked.{if_linked, without_link}
+use Rattle.krs_model.specs.Asks.Linked.{unless, if_linked, without_link}
+use Rattle.krs_model.specs.Asks.Moving.{move_link, moved, moved_over, moved_to}
+use Rattle.krs_model.specs.Asks.Restricting.{no_type, restricted, restrict_keyring}
 use Rattle.krs_model.specs.Asks.Invalidating.{invalidate, invalidated}
 use Rattle.krs_model.specs.Asks.Reading.{read, describe}
 use Rattle.krs_model.specs.Asks.Leaving.{exit, exited}
@@ -158,11 +160,15 @@ pub linked_into_is :
 linked_into_is s into found new h =
     let name = name_of found.1 in
     let linked : State = changed s into.0 (linking s.keys name found.0) in
-    let fits : List ℕ → Result (Unit {0}) Errno = λ links. link_check s.keys into.0 links found in
+    let fits : List ℕ → Result (Unit {0}) Errno = λ links. link_check s.keys into links found in
+    let unclosed = unless into.1.closed EPERM in
+    let nests = nestable s.keys into.0 found.0 in
     let a = bind_ok (ring_links into.1.content) (λ links. fits links >>= (λ x. Ok linked)) new h in
     let b = bind_ok (fits a.0) (λ x. Ok linked) new a.2 in
-    let c = bind_ok (nestable s.keys into.0 found.0) (λ x. has_room a.0 (link_named s.keys name a.0)) b.0 b.1 in
-    record { nests = c.1; is = same_ok (Ok linked) linked new refl b.2 }
+    let room : Result (Unit {0}) Errno = has_room a.0 (link_named s.keys name a.0) in
+    let c = bind_ok unclosed (λ x. nests >>= (λ y. room)) b.0 b.1 in
+    let d = bind_ok nests (λ y. room) b.0 c.2 in
+    record { nests = d.1; is = same_ok (Ok linked) linked new refl b.2 }
 
 linked_into_comes :
     (s : State) (into found : ℕ × Key) (new : State) → linked_into s into found ≡ Ok new → Comes s new
@@ -183,6 +189,63 @@ link_comes s client context key ring =
     let made = made_for s context c ring in
     keeps_within s (linked made.0 made.1 key ring)
     (keeps_from (made_for_comes s context c ring) (linked_comes made.0 made.1 key ring)))
+
+-- an accepted move: nothing changes, or the second keyring links the key, and the first does not any more
+pub data IsMoved (s : State) (found from into : ℕ × Key) : State → Type 0 where
+  Stays : IsMoved s found from into s
+  Moves : (mid : State) → linked_into s into found ≡ Ok mid
+      → IsMoved s found from into (changed mid from.0 (without_link found.0))
+
+moved_over_is :
+    (s : State) (exclusive : Bool) (found from into : ℕ × Key) (links : List ℕ) (new : State)
+    → moved_over s exclusive found from.0 into links ≡ Ok new → IsMoved s found from into new
+moved_over_is s exclusive found from into links new h =
+    let left : State → State = λ mid. changed mid from.0 (without_link found.0) in
+    let taken = exclusive && is_some (link_named s.keys (name_of found.1) links) in
+    let a = bind_ok (unless taken EEXIST) (λ x. linked_into s into found >>= (λ mid. Ok (left mid))) new h in
+    let b = bind_ok (linked_into s into found) (λ mid. Ok (left mid)) new a.2 in
+    subst (IsMoved s found from into) (same_ok (Ok (left b.0)) (left b.0) new refl b.2) (Moves b.0 b.1)
+
+pub moved_is :
+    (s : State) (exclusive : Bool) (found from into : ℕ × Key) (new : State)
+    → moved s exclusive found from into ≡ Ok new → IsMoved s found from into new
+moved_is s exclusive found from into new h =
+    let a = bind_ok (ring_links from.1.content) _ new h in
+    let b = bind_ok (ring_links into.1.content) _ new a.2 in
+    let c = bind_ok (if_linked found.0 a.0) _ new b.2 in
+    elim (from.0 == into.0) as
+    (λ one. cond one (Ok s) (moved_over s exclusive found from.0 into b.0) ≡ Ok new → IsMoved s found from into new) [
+      | true ↦ λ is. subst (IsMoved s found from into) (same_ok (Ok s) s new refl is) Stays
+      | false ↦ λ is. moved_over_is s exclusive found from into b.0 new is
+    ] c.2
+
+is_moved_comes :
+    (s : State) (found from into : ℕ × Key) (new : State) → IsMoved s found from into new → Comes s new
+is_moved_comes s found from into _ Stays = same_comes s s refl refl refl
+is_moved_comes s found from into _ (Moves mid linked) =
+    comes_trans s mid _ (linked_into_comes s into found mid linked)
+    (changed_comes mid from.0 (without_link found.0) (λ v h. h))
+
+moved_to_comes :
+    (s : State) (c : Context) (exclusive : Bool) (found from : ℕ × Key) (to : ℤ)
+    → Keeps s (moved_to s c exclusive found from to)
+moved_to_comes s c exclusive found from to =
+    keeps_after (look_up s c to (Granted WRITE)) _ (λ into.
+    keeps_is (moved s exclusive found from into) _ (λ new is.
+    keeps_ok (is_moved_comes s found from into new (moved_is s exclusive found from into new is))))
+
+pub move_comes :
+    (s : State) (client context : ℕ) (key from to : ℤ) (flags : ℕ)
+    → Keeps s (move_link s client context key from to flags)
+unfolding move_link
+move_comes s client context key from to flags =
+    keeps_after (context_of s client context) _ (λ c.
+    keeps_after (unless (nat_lt 1 flags) EINVAL) _ (λ known.
+    keeps_after (look_up s c key (Granted LINK)) _ (λ found.
+    keeps_after (look_up s c from (Granted WRITE)) _ (λ first.
+    let made = made_for s context c to in
+    keeps_within s (moved_to made.0 made.1 (flags == 1) found first to)
+    (keeps_from (made_for_comes s context c to) (moved_to_comes made.0 made.1 (flags == 1) found first to))))))
 
 found_into_comes :
     (s : State) (c : Context) (into : ℕ × Key) (answer : Result ℕ Errno) → Keeps s (found_into s c into answer)
@@ -306,6 +369,18 @@ unlink_comes s client context key ring =
 pub clear_comes : (s : State) (client context : ℕ) (id : ℤ) → Keeps s (clear s client context id)
 unfolding clear
 clear_comes s client context id = search (accepted, changed_comes)
+
+pub restrict_keyring_comes :
+    (s : State) (client context : ℕ) (ring : ℤ) (type_name : List ℕ)
+    → Keeps s (restrict_keyring s client context ring type_name)
+unfolding restrict_keyring
+restrict_keyring_comes s client context ring type_name =
+    keeps_after (context_of s client context) _ (λ c.
+    keeps_after (no_type type_name) _ (λ untyped.
+    keeps_after (look_up s c ring (Granted SETATTR)) _ (λ found.
+    keeps_after (ring_links found.1.content) _ (λ links.
+    keeps_after (unless found.1.closed EEXIST) _ (λ unclosed.
+    keeps_ok (changed_comes s found.0 restricted (λ v h. h)))))))
 
 pub read_comes : (s : State) (client context : ℕ) (id : ℤ) → Keeps s (read s client context id)
 unfolding read

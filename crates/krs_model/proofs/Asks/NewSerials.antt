@@ -6,7 +6,7 @@ use Rattle.std.specs.Prelude.{is_some}
 use Rattle.std.specs.Option.{IsSome}
 use Rattle.std.proofs.lemmas.Bool.{true≢false, cases_lt, ltb-false}
 use Rattle.krs_types.specs.declared.errno.Errno.{Errno}
-use Rattle.krs_types.specs.declared.errno.Errno.TheVariants.{EACCES, ENOSPC}
+use Rattle.krs_types.specs.declared.errno.Errno.TheVariants.{EPERM, EINVAL, EACCES, ENOSPC}
 use Rattle.krs_types.specs.declared.caller.Caller.{Caller}
 use Rattle.krs_types.specs.declared.context.Context.{Context}
 use Rattle.krs_types.specs.declared.context.UidRings.{UidRings}
@@ -14,7 +14,7 @@ use Rattle.krs_types.specs.declared.name.Name.{Name}
 use Rattle.krs_types.specs.declared.rights.Want.TheVariants.{Granted}
 use Rattle.krs_types.specs.declared.ask.Answer.{Answer}
 use Rattle.krs_types.specs.Caller.{caller_check}
-use Rattle.krs_types.specs.Rights.{has_all, SEARCH, WRITE}
+use Rattle.krs_types.specs.Rights.{has_all, SEARCH, WRITE, LINK}
 use Rattle.krs_types.specs.Refusing.{◌>>=◌}
 use Rattle.krs_model.specs.Table.{Table, at, IsBelow}
 use Rattle.krs_model.specs.State.{State, Key}
@@ -32,7 +32,8 @@ use Rattle.krs_model.specs.Asks.Joining.{join, session_named}
 use Rattle.krs_model.specs.Asks.Adding.{Place, Updated, Made, add, added, admitted}
 use Rattle.krs_model.specs.Asks.Adding.{if_room, over_match, by_match, place_of}
 use Rattle.krs_model.specs.Asks.Changing.{is_updatable}
-use Rattle.krs_model.specs.Asks.Linked.{link}
+use Rattle.krs_model.specs.Asks.Linked.{link, unless}
+use Rattle.krs_model.specs.Asks.Moving.{move_link}
 use Rattle.krs_model.proofs.MadeKeyring.State.{HasMadeFor, MadeNone, MadeOne, made_for_has}
 use Rattle.krs_model.proofs.MadeKeyring.Links.{place_of_new}
 use Rattle.krs_model.proofs.Sound.NewContexts.{own_process_there}
@@ -134,19 +135,20 @@ IsPlace s (Updated serial) = IsSome (at s.keys serial)
 IsPlace s (Made ring) = s.next_serial ≤ 2147483647
 
 room_is :
-    (s : State) (ring : ℕ) (links : List ℕ) (displaced : Option ℕ) (place : Place)
+    (s : State) (ring : ℕ × Key) (links : List ℕ) (displaced : Option ℕ) (place : Place)
     → if_room s ring links displaced ≡ Ok place → IsPlace s place
 room_is s ring links displaced place h =
-    let a = bind_ok (has_room links displaced) _ place h in
+    let unclosed = bind_ok (unless ring.1.closed EPERM) _ place h in
+    let a = bind_ok (has_room links displaced) _ place unclosed.2 in
     elim (nat_lt 2147483647 s.next_serial) as
-    (λ b. nat_lt 2147483647 s.next_serial ≡ b → cond b (Err ENOSPC) (Ok (Made ring)) ≡ Ok place → IsPlace s place) [
+    (λ b. nat_lt 2147483647 s.next_serial ≡ b → cond b (Err ENOSPC) (Ok (Made ring.0)) ≡ Ok place → IsPlace s place) [
       | true ↦ λ t no. cc
       | false ↦ λ t is.
-          subst (IsPlace s) (same_ok (Ok (Made ring)) (Made ring) place refl is) (ltb-false 2147483647 s.next_serial t)
+          subst (IsPlace s) (same_ok (Ok (Made ring.0)) (Made ring.0) place refl is) (ltb-false 2147483647 s.next_serial t)
     ] refl a.2
 
 match_is :
-    (s : State) (c : Context) (ring : ℕ) (links : List ℕ) (k : ℕ) (o : Option Key) (place : Place) → at s.keys k ≡ o
+    (s : State) (c : Context) (ring : ℕ × Key) (links : List ℕ) (k : ℕ) (o : Option Key) (place : Place) → at s.keys k ≡ o
     → over_match s c ring links k o ≡ Ok place → IsPlace s place
 match_is s c ring links k None place there h = room_is s ring links None place h
 match_is s c ring links k (Some key) place there h =
@@ -162,7 +164,7 @@ match_is s c ring links k (Some key) place there h =
     ] h
 
 by_match_is :
-    (s : State) (c : Context) (ring : ℕ) (links : List ℕ) (k : Option ℕ) (place : Place)
+    (s : State) (c : Context) (ring : ℕ × Key) (links : List ℕ) (k : Option ℕ) (place : Place)
     → by_match s c ring links k ≡ Ok place → IsPlace s place
 by_match_is s c ring links None place h = room_is s ring links None place h
 by_match_is s c ring links (Some k) place h = match_is s c ring links k (at s.keys k) place refl h
@@ -174,7 +176,7 @@ unfolding place_of
 place_is s c name id place h =
     let a = bind_ok (look_up s c id (Granted WRITE)) _ place h in
     let b = bind_ok (ring_links a.0.1.content) _ place a.2 in
-    by_match_is s c a.0.0 b.0 (link_named s.keys name b.0) place b.2
+    by_match_is s c a.0 b.0 (link_named s.keys name b.0) place b.2
 
 -- an updated key was not put into a keyring that the ask made
 updated_within :
@@ -244,6 +246,16 @@ pub link_counts : (s : State) (client context : ℕ) (key ring : ℤ) → Counts
 unfolding link
 link_counts s client context key ring =
     counts_after (context_of s client context) _ (λ c own. counts_within s _)
+
+pub move_counts :
+    (s : State) (client context : ℕ) (key from to : ℤ) (flags : ℕ)
+    → Counts s (move_link s client context key from to flags)
+unfolding move_link
+move_counts s client context key from to flags =
+    counts_after (context_of s client context) _ (λ c own.
+    counts_after (unless (nat_lt 1 flags) EINVAL) _ (λ known _.
+    counts_after (look_up s c key (Granted LINK)) _ (λ found _.
+    counts_after (look_up s c from (Granted WRITE)) _ (λ first _. counts_within s _))))
 
 -- the others give no serial
 pub ruleset counted = (counts_after, counts_ok, same_counts, refl)

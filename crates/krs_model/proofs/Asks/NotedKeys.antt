@@ -1,5 +1,5 @@
 -- The keys that the notes of an accepted ask name are there.
-use Rattle.std.proofs.Common.{◌≡◌, ℕ, ℤ, ◌≤◌, ◌<◌, ◌^◌, List, Bool, true, false, cond}
+use Rattle.std.proofs.Common.{◌≡◌, ℕ, ℤ, ◌≤◌, ◌<◌, ◌^◌, ◌++◌, List, [], ◌∷◌, Bool, true, false, cond}
 use Rattle.std.proofs.Common.{nat_lt}
 use Rattle.std.proofs.Common.{Result, Ok, Err, refl, ap, ◌∙◌, sym, subst, arith, ◌⊎◌, inl, inr, ⊎_elim}
 use Rattle.std.specs.Prelude.{is_some}
@@ -7,7 +7,7 @@ use Rattle.std.specs.Option.{IsSome}
 use Rattle.std.proofs.lemmas.Bool.{cases_lt}
 use Rattle.std.proofs.lemmas.Bool.Decides.{nat_tests}
 use Rattle.krs_types.specs.declared.errno.Errno.{Errno}
-use Rattle.krs_types.specs.declared.errno.Errno.TheVariants.{ENOKEY, ENOSPC}
+use Rattle.krs_types.specs.declared.errno.Errno.TheVariants.{ENOKEY, ENOSPC, EINVAL}
 use Rattle.krs_types.specs.declared.context.Context.{Context}
 use Rattle.krs_types.specs.declared.name.Name.{Name}
 use Rattle.krs_types.specs.declared.note.KeyEvent.{KeyEvent}
@@ -21,6 +21,7 @@ use Rattle.krs_types.specs.declared.ask.Op.TheVariants.{Update, Revoke, Invalida
 use Rattle.krs_types.specs.declared.ask.Op.TheVariants.{Unlink}
 use Rattle.krs_types.specs.declared.ask.Op.TheVariants.{Clear, Read, Describe, Watch, OpenQueue, SetFilter, ReadQueue}
 use Rattle.krs_types.specs.declared.ask.Op.TheVariants.{CloseQueue, Exit, Leave}
+use Rattle.krs_types.specs.declared.ask.Op.TheVariants.{Move, RestrictKeyring}
 use Rattle.krs_types.specs.Rights.{SEARCH, WRITE, LINK}
 use Rattle.krs_types.specs.Refusing.{or_refuse}
 use Rattle.krs_model.specs.Table.{at, put, IsBelow}
@@ -33,6 +34,8 @@ use Rattle.krs_model.specs.Outcome.{Outcome}
 use Rattle.krs_model.specs.Step.{outcome_of}
 use Rattle.krs_model.specs.Making.{made_for}
 use Rattle.krs_model.specs.Notes.Telling.{named, about, about_link, about_added, about_found, notes_of}
+use Rattle.krs_model.specs.Notes.Telling.{about_moved, is_one_ring}
+use Rattle.krs_model.specs.Notes.Posting.{Note}
 use Rattle.krs_model.specs.Asks.Finding.{search_from, request, sought_name, if_linkable, found_into}
 use Rattle.krs_types.specs.Growth.{has_destination}
 use Rattle.krs_model.specs.Asks.Finding.{searched_for, sought_from, sought_into, requested_for, requested_into}
@@ -40,7 +43,8 @@ use Rattle.krs_model.specs.Asks.Finding.{found_alone}
 use Rattle.krs_model.specs.Asks.Adding.{Place, Updated, Made, add, added, added_serial, admitted}
 use Rattle.krs_model.specs.Asks.Adding.{place_of, new_key}
 use Rattle.krs_model.specs.Asks.Changing.{changed, updated}
-use Rattle.krs_model.specs.Asks.Linked.{link, linked, linked_into, unlink, if_linked, name_of, without_link}
+use Rattle.krs_model.specs.Asks.Linked.{link, linked, linked_into, unlink, if_linked, name_of, without_link, unless}
+use Rattle.krs_model.specs.Asks.Moving.{move_link}
 use Rattle.krs_model.proofs.Tables.Changes.{at_put_same}
 use Rattle.krs_model.proofs.Sound.Changes.{there_alter}
 use Rattle.krs_model.proofs.MadeKeyring.Which.{made_still}
@@ -50,7 +54,7 @@ use Rattle.krs_model.proofs.Sound.NewContexts.{own_process_there}
 use Rattle.krs_model.proofs.Lookups.Laws.{look_up_usable}
 use Rattle.krs_model.proofs.Lookups.Serials.{found_serial, refused_is, own_there}
 use Rattle.krs_model.proofs.Asks.Later.{bind_ok, same_ok, same_state, within_ok}
-use Rattle.krs_model.proofs.Asks.LaterByAsk.{linked_into_is, made_for_comes}
+use Rattle.krs_model.proofs.Asks.LaterByAsk.{linked_into_is, made_for_comes, move_comes}
 use Rattle.krs_model.proofs.Notes.Fitting.{AllSmall}
 use Rattle.krs_model.proofs.Asks.NewSerials.{small_there, place_is}
 
@@ -64,6 +68,20 @@ about_link_small :
 about_link_small event (Err e) key small = tt
 about_link_small event (Ok ring) (Err e) small = tt
 about_link_small event (Ok ring) (Ok key) small = (small key refl, tt)
+
+all_small : (notes more : List Note) → AllSmall notes → AllSmall more → AllSmall (notes ++ more)
+all_small [] more h k = k
+all_small (note ∷ notes) more h k = (h.0, all_small notes more h.1 k)
+
+about_moved_small :
+    (from into key : Result ℕ Errno) → ((k : ℕ) → key ≡ Ok k → k < 2 ^ 32) → AllSmall (about_moved from into key)
+about_moved_small from into key small =
+    elim (is_one_ring from into) as
+    (λ one. AllSmall (cond one [] (about_link told_of.Unlinked from key ++ about_link told_of.Linked into key))) [
+      | true ↦ tt
+      | false ↦ all_small (about_link told_of.Unlinked from key) (about_link told_of.Linked into key)
+          (about_link_small told_of.Unlinked from key small) (about_link_small told_of.Linked into key small)
+    ]
 
 -- an answer is the serial of a key that is there
 abbrev IsThere : State → Answer → Type 0
@@ -271,6 +289,25 @@ unlink_there s new client context key ring answer k h names =
     subst (λ (t : State). IsSome (at t.keys k)) end
     (subst (λ (n : ℕ). IsSome (at left.keys n)) same (there_alter s.keys b.0.0 (without_link d.0) d.0 there))
 
+-- the key that MOVE moves
+move_there :
+    (s new : State) (client context : ℕ) (key from to : ℤ) (flags : ℕ) (answer : Answer) (k : ℕ)
+    → move_link s client context key from to flags ≡ Ok (new, answer) → named s client context key ≡ Ok k
+    → IsSome (at new.keys k)
+unfolding move_link
+move_there s new client context key from to flags answer k h names =
+    let a = bind_ok (context_of s client context) _ (new, answer) h in
+    let own = bind_ok (context_of s client context) _ k names in
+    let here : serial_of s a.0 key ≡ Ok k = subst (λ (c : Context). serial_of s c key ≡ Ok k)
+    (same_ok (context_of s client context) own.0 a.0 own.1 a.1) own.2 in
+    let b = bind_ok (unless (nat_lt 1 flags) EINVAL) _ (new, answer) a.2 in
+    let d = bind_ok (look_up s a.0 key (Granted LINK)) _ (new, answer) b.2 in
+    let found = found_serial s a.0 key (Granted LINK) d.0 d.1 in
+    let same : d.0.0 ≡ k = same_ok (serial_of s a.0 key) d.0.0 k found here in
+    let there : IsSome (at s.keys d.0.0) = rw (look_up_usable s a.0 key (Granted LINK) d.0 d.1).there refl in
+    let comes = (move_comes s client context key from to flags).comes new answer h in
+    comes.there k (subst (λ (n : ℕ). IsSome (at s.keys n)) same there)
+
 module _ (s mid : State) (client context : ℕ) (few : IsBelow mid.keys 2147483648) where
   small : (k : ℕ) → IsSome (at mid.keys k) → k < 2 ^ 32
   small k there = small_there mid.keys k few there
@@ -332,6 +369,10 @@ module _ (s mid : State) (client context : ℕ) (few : IsBelow mid.keys 21474836
   notes_small (Unlink key ring) answer h =
       about_link_small told_of.Unlinked (named s client context ring) (named s client context key)
       (λ k is. small k (unlink_there s mid client context key ring answer k h is))
+  notes_small (Move key from to flags) answer h =
+      about_moved_small (named s client context from) (named s client context to) (named s client context key)
+      (λ k is. small k (move_there s mid client context key from to flags answer k h is))
+  notes_small (RestrictKeyring ring type_name) answer h = tt
   notes_small (Clear id) answer h = about_small told_of.Cleared (named s client context id)
   notes_small (Read id) answer h = tt
   notes_small (Describe id) answer h = tt

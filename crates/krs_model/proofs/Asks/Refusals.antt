@@ -19,6 +19,7 @@ use Rattle.krs_types.specs.declared.ask.Op.TheVariants.{Hello, Thread, Fork, Exe
 use Rattle.krs_types.specs.declared.ask.Op.TheVariants.{Update, Revoke, Invalidate, Chown, SetPerm, SetTimeout, Link}
 use Rattle.krs_types.specs.declared.ask.Op.TheVariants.{Unlink, Clear, Read, Describe, Watch, OpenQueue, SetFilter}
 use Rattle.krs_types.specs.declared.ask.Op.TheVariants.{ReadQueue, CloseQueue, Exit, Leave}
+use Rattle.krs_types.specs.declared.ask.Op.TheVariants.{Move, RestrictKeyring}
 use Rattle.krs_types.specs.Kind.{kind_named, described_as, paid, checked}
 use Rattle.krs_types.specs.KeyId.{key_id_of}
 use Rattle.krs_types.specs.Refusing.{◌>>=◌, or_refuse}
@@ -42,6 +43,8 @@ use Rattle.krs_model.specs.Asks.Invalidating.{invalidate}
 use Rattle.krs_model.specs.Asks.Reading as reading
 use Rattle.krs_model.specs.Asks.Reading.{read, describe}
 use Rattle.krs_model.specs.Asks.Linked.{nestable, linked_into, link, unlink, clear}
+use Rattle.krs_model.specs.Asks.Moving.{moved_over, moved, moved_to, move_link}
+use Rattle.krs_model.specs.Asks.Restricting.{no_type, restrict_keyring}
 use Rattle.krs_model.specs.Asks.Watching.{opened, filtered, read_out, closed, watched, unwatched, watch_id_of}
 use Rattle.krs_model.specs.Asks.Watching.{with_watching, open_queue, set_filter, read_queue, close_queue, watch}
 use Rattle.krs_model.specs.Asks.Leaving.{exit}
@@ -173,17 +176,17 @@ plain_room links None = search plain
 plain_room links (Some k) = plain_ok
 
 plain_if_room :
-    (s : State) (ring : ℕ) (links : List ℕ) (displaced : Option ℕ) → IsPlain (if_room s ring links displaced)
+    (s : State) (ring : ℕ × Key) (links : List ℕ) (displaced : Option ℕ) → IsPlain (if_room s ring links displaced)
 plain_if_room s ring links displaced = search (plain, plain_room)
 
 plain_over :
-    (s : State) (c : Context) (ring : ℕ) (links : List ℕ) (k : ℕ) (o : Option Key)
+    (s : State) (c : Context) (ring : ℕ × Key) (links : List ℕ) (k : ℕ) (o : Option Key)
     → IsPlain (over_match s c ring links k o)
 plain_over s c ring links k None = plain_if_room s ring links None
 plain_over s c ring links k (Some key) = search (plain, plain_if_room)
 
 plain_match :
-    (s : State) (c : Context) (ring : ℕ) (links : List ℕ) (o : Option ℕ) → IsPlain (by_match s c ring links o)
+    (s : State) (c : Context) (ring : ℕ × Key) (links : List ℕ) (o : Option ℕ) → IsPlain (by_match s c ring links o)
 plain_match s c ring links None = plain_if_room s ring links None
 plain_match s c ring links (Some k) = plain_over s c ring links k (at s.keys k)
 
@@ -239,6 +242,38 @@ plain_unlink : (s : State) (client context : ℕ) (key ring : ℤ) → IsPlain (
 unfolding unlink
 plain_unlink s client context key ring =
     search (plain, plain_context, plain_look_up, plain_serial, plain_links) depth 12
+
+plain_moved_over :
+    (s : State) (exclusive : Bool) (found : ℕ × Key) (from : ℕ) (into : ℕ × Key) (links : List ℕ)
+    → IsPlain (moved_over s exclusive found from into links)
+plain_moved_over s exclusive found from into links = search (plain, plain_linked_into)
+
+plain_moved :
+    (s : State) (exclusive : Bool) (found from into : ℕ × Key) → IsPlain (moved s exclusive found from into)
+plain_moved s exclusive found from into = search (plain, plain_links, plain_moved_over) depth 12
+
+plain_moved_to :
+    (s : State) (c : Context) (exclusive : Bool) (found from : ℕ × Key) (to : ℤ)
+    → IsPlain (moved_to s c exclusive found from to)
+plain_moved_to s c exclusive found from to = search (plain, plain_look_up, plain_moved)
+
+plain_move :
+    (s : State) (client context : ℕ) (key from to : ℤ) (flags : ℕ)
+    → IsPlain (move_link s client context key from to flags)
+unfolding move_link
+plain_move s client context key from to flags =
+    search (plain, plain_context, plain_within, plain_look_up, plain_moved_to) depth 12
+
+plain_no_type : (type_name : List ℕ) → IsPlain (no_type type_name)
+plain_no_type [] = plain_ok
+plain_no_type (byte ∷ bytes) = plain_err refl
+
+plain_restrict_keyring :
+    (s : State) (client context : ℕ) (ring : ℤ) (type_name : List ℕ)
+    → IsPlain (restrict_keyring s client context ring type_name)
+unfolding restrict_keyring
+plain_restrict_keyring s client context ring type_name =
+    search (plain, plain_context, plain_no_type, plain_look_up, plain_links) depth 12
 
 plain_clear : (s : State) (client context : ℕ) (id : ℤ) → IsPlain (clear s client context id)
 unfolding clear
@@ -363,6 +398,9 @@ plain_outcome s client context (SetPerm id mask) = plain_set_perm s client conte
 plain_outcome s client context (SetTimeout id seconds) = plain_set_timeout s client context id seconds
 plain_outcome s client context (Link key ring) = plain_link s client context key ring
 plain_outcome s client context (Unlink key ring) = plain_unlink s client context key ring
+plain_outcome s client context (Move key from to flags) = plain_move s client context key from to flags
+plain_outcome s client context (RestrictKeyring ring type_name) =
+    plain_restrict_keyring s client context ring type_name
 plain_outcome s client context (Clear id) = plain_clear s client context id
 plain_outcome s client context (Read id) = plain_read s client context id
 plain_outcome s client context (Describe id) = plain_describe s client context id

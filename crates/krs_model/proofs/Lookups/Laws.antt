@@ -1,7 +1,7 @@
 -- Laws of look-ups, and of where an added key goes.
 use Rattle.std.proofs.Common.{◌&&◌, ◌≡◌, ℕ, ℤ, List, Option, Some, None, true, false, cond, Ok, Err, refl, subst}
 use Rattle.std.specs.Prelude.{nat_lt}
-use Rattle.krs_types.specs.declared.errno.Errno.TheVariants.{ENOKEY, EKEYREVOKED, EKEYEXPIRED, EACCES, ENOSPC}
+use Rattle.krs_types.specs.declared.errno.Errno.TheVariants.{EPERM, ENOKEY, EKEYREVOKED, EKEYEXPIRED, EACCES, ENOSPC}
 use Rattle.krs_types.specs.declared.context.Context.{Context}
 use Rattle.krs_types.specs.declared.name.Name.{Name}
 use Rattle.krs_types.specs.declared.rights.Want.{Want}
@@ -17,6 +17,8 @@ use Rattle.krs_model.specs.Linking.{ring_links, link_named, has_room}
 use Rattle.krs_model.specs.Usable.{IsUsable}
 use Rattle.krs_model.specs.Asks.Adding.{Updated, Made, if_room, over_match, by_match, place_of, IsKeyringAt}
 use Rattle.krs_model.specs.Asks.Changing.{is_updatable}
+use Rattle.krs_model.specs.Asks.Linked.{unless}
+use Rattle.krs_model.proofs.Asks.Later.{bind_ok}
 
 usable : (s : State) (c : Context) (want : Want) (serial : ℕ) (key : Key) (x : ℕ × Key) → at s.keys serial ≡ Some key
     → if_usable s c want serial key ≡ Ok x → IsUsable s c want x
@@ -57,37 +59,34 @@ look_up_usable s c id want x h =
       | Err e ↦ λ f. cc
     ] h
 
-in_room : (s : State) (ring r : ℕ) (links : List ℕ) (displaced : Option ℕ)
-    → if_room s ring links displaced ≡ Ok (Made r) → r ≡ ring
+in_room : (s : State) (ring : ℕ × Key) (r : ℕ) (links : List ℕ) (displaced : Option ℕ)
+    → if_room s ring links displaced ≡ Ok (Made r) → r ≡ ring.0
 in_room s ring r links displaced h =
-    elim (has_room links displaced) as (λ
-    o. (o >>= (λ room. cond (nat_lt 2147483647 s.next_serial) (Err ENOSPC) (Ok (Made ring)))) ≡ Ok (Made r)
-    → r ≡ ring) [
-      | Ok room ↦ λ e. elim (nat_lt 2147483647 s.next_serial) as (λ b. cond b (Err ENOSPC) (Ok (Made ring)) ≡ Ok
-          (Made r) → r ≡ ring) [
-            | true ↦ λ f. cc
-            | false ↦ λ f. cc
-          ] e
-      | Err x ↦ λ e. cc
-    ] h
+    let unclosed = bind_ok (unless ring.1.closed EPERM) _ (Made r) h in
+    let room = bind_ok (has_room links displaced) _ (Made r) unclosed.2 in
+    elim (nat_lt 2147483647 s.next_serial) as (λ b. cond b (Err ENOSPC) (Ok (Made ring.0)) ≡ Ok (Made r)
+    → r ≡ ring.0) [
+      | true ↦ λ f. cc
+      | false ↦ λ f. cc
+    ] room.2
 
-in_match : (s : State) (c : Context) (ring r : ℕ) (links : List ℕ) (found : ℕ) (o : Option Key)
-    → over_match s c ring links found o ≡ Ok (Made r) → r ≡ ring
+in_match : (s : State) (c : Context) (ring : ℕ × Key) (r : ℕ) (links : List ℕ) (found : ℕ) (o : Option Key)
+    → over_match s c ring links found o ≡ Ok (Made r) → r ≡ ring.0
 in_match s c ring r links found None h = in_room s ring r links None h
 in_match s c ring r links found (Some key) h =
     elim (is_alive s.clock key && is_updatable key.kind) as (λ b. cond b
     (cond (has_all (rights_on key c.caller (possessed s c found)) WRITE) (Ok (Updated found)) (Err EACCES))
-    (if_room s ring links (Some found)) ≡ Ok (Made r) → r ≡ ring) [
+    (if_room s ring links (Some found)) ≡ Ok (Made r) → r ≡ ring.0) [
       | true ↦ λ e. elim (has_all (rights_on key c.caller (possessed s c found)) WRITE) as (λ b. cond b
-          (Ok (Updated found)) (Err EACCES) ≡ Ok (Made r) → r ≡ ring) [
+          (Ok (Updated found)) (Err EACCES) ≡ Ok (Made r) → r ≡ ring.0) [
             | true ↦ λ f. cc
             | false ↦ λ f. cc
           ] e
       | false ↦ λ e. in_room s ring r links (Some found) e
     ] h
 
-in_by_match : (s : State) (c : Context) (ring r : ℕ) (links : List ℕ) (found : Option ℕ)
-    → by_match s c ring links found ≡ Ok (Made r) → r ≡ ring
+in_by_match : (s : State) (c : Context) (ring : ℕ × Key) (r : ℕ) (links : List ℕ) (found : Option ℕ)
+    → by_match s c ring links found ≡ Ok (Made r) → r ≡ ring.0
 in_by_match s c ring r links None h = in_room s ring r links None h
 in_by_match s c ring r links (Some found) h = in_match s c ring r links found (at s.keys found) h
 
@@ -98,13 +97,13 @@ unfolding place_of
 made_in_ring s c name id r h =
     elim (look_up s c id (Granted WRITE)) as (λ o. look_up s c id (Granted WRITE) ≡ o
     → (o >>= (λ found. ring_links found.1.content >>=
-    (λ links. by_match s c found.0 links (link_named s.keys name links)))) ≡ Ok (Made r) → IsKeyringAt s r) [
+    (λ links. by_match s c found links (link_named s.keys name links)))) ≡ Ok (Made r) → IsKeyringAt s r) [
       | Ok found ↦ λ was e. elim found.1.content as (λ content. found.1.content ≡ content
-          → (ring_links content >>= (λ links. by_match s c found.0 links (link_named s.keys name links)))
+          → (ring_links content >>= (λ links. by_match s c found links (link_named s.keys name links)))
           ≡ Ok (Made r) → IsKeyringAt s r) [
             | Payload bytes ↦ λ is f. cc
             | Links links ↦ λ is f.
-                let here : r ≡ found.0 = in_by_match s c found.0 r links (link_named s.keys name links) f in
+                let here : r ≡ found.0 = in_by_match s c found r links (link_named s.keys name links) f in
                 let found_is = look_up_usable s c id (Granted WRITE) found was in
                 (found.1, rw here found_is.there, links, is)
           ] refl e

@@ -80,7 +80,7 @@ pub place_of_new :
 unfolding place_of
 place_of_new s t c d desc before after name id made named =
     let goes : ℕ × Key → Result Place Errno = λ into.
-    ring_links into.1.content >>= (λ links. by_match t d into.0 links (link_named t.keys name links)) in
+    ring_links into.1.content >>= (λ links. by_match t d into links (link_named t.keys name links)) in
     ap (λ (r : Result (ℕ × Key) Errno). r >>= goes) (look_up_new s t c d desc before after id WRITE made named refl)
 
 -- whether another key that was found grants LINK

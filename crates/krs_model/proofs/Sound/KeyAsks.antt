@@ -7,7 +7,7 @@ use Rattle.std.specs.List.{count_by, list_any}
 use Rattle.std.specs.Map.{values_of}
 use Rattle.std.proofs.lemmas.Bool.{true≢false}
 use Rattle.krs_types.specs.declared.errno.Errno.{Errno}
-use Rattle.krs_types.specs.declared.errno.Errno.TheVariants.{ENOKEY}
+use Rattle.krs_types.specs.declared.errno.Errno.TheVariants.{ENOKEY, EEXIST}
 use Rattle.krs_types.specs.declared.caller.Caller.{Caller}
 use Rattle.krs_types.specs.declared.context.Context.{Context}
 use Rattle.krs_types.specs.declared.rights.Want.{Want}
@@ -33,6 +33,8 @@ use Rattle.krs_model.specs.Asks.Changing.{update, updated, paid_with, updatable,
 use Rattle.krs_model.specs.Asks.Changing.{chown, if_may_own, with_owner, set_perm, if_owner, with_perm, set_timeout}
 use Rattle.krs_model.specs.Asks.Changing.{with_expiry, expiry_after}
 use Rattle.krs_model.specs.Asks.Linked.{unlink, clear, if_linked, without_link}
+use Rattle.krs_model.specs.Asks.Linked.{unless}
+use Rattle.krs_model.specs.Asks.Restricting.{no_type, restricted, restrict_keyring}
 use Rattle.krs_model.specs.Asks.Linked.{unlinked_content, cleared, cleared_content}
 use Rattle.krs_model.specs.Asks.Reading.{read, describe, readable}
 use Rattle.krs_model.specs.Asks.Invalidating.{detached, context_without, rings_without, invalidated, invalidate}
@@ -137,7 +139,7 @@ unlinked_form : (serial : ℕ) (content : Content) → is_links (unlinked_conten
 unlinked_form serial (Payload bytes) = refl
 unlinked_form serial (Links links) = refl
 
-unlinked_lessens : (serial : ℕ) → Lessens (without_link serial)
+pub unlinked_lessens : (serial : ℕ) → Lessens (without_link serial)
 unlinked_lessens serial = record {
   links = λ v. unlinked_part serial v.content;
   named = λ v name. refl;
@@ -215,6 +217,19 @@ unlink_stands s client context key ring stands =
     sustains_after (ring_links from.1.content) _ (λ links _.
     sustains_after (if_linked serial links) _ (λ linked _.
     sustains_ok (changed_stands s from.0 (without_link serial) (unlinked_lessens serial) stands)))))))
+
+pub restrict_keyring_stands :
+    (s : State) (client context : ℕ) (ring : ℤ) (type_name : List ℕ) → Stands s
+    → Sustains (restrict_keyring s client context ring type_name)
+unfolding restrict_keyring
+restrict_keyring_stands s client context ring type_name stands =
+    sustains_after (context_of s client context) _ (λ c _.
+    sustains_after (no_type type_name) _ (λ untyped _.
+    sustains_after (look_up s c ring (Granted SETATTR)) _ (λ found _.
+    sustains_after (ring_links found.1.content) _ (λ links _.
+    sustains_after (unless found.1.closed EEXIST) _ (λ unclosed _.
+    let same = leaves restricted (λ v. refl) (λ v name. refl) (λ v fits. fits) in
+    sustains_ok (changed_stands s found.0 restricted same stands))))))
 
 pub clear_stands : (s : State) (client context : ℕ) (id : ℤ) → Stands s → Sustains (clear s client context id)
 unfolding clear

@@ -1,10 +1,10 @@
 -- An accepted ask leaves a store that stands: those that link a key, and those that make one.
-use Rattle.std.proofs.Common.{◌≡◌, ℕ, ℤ, List, [], Option, Some, None, Bool, true, false, cond}
+use Rattle.std.proofs.Common.{◌≡◌, ℕ, ℤ, ◌==◌, nat_lt, List, [], Option, Some, None, Bool, true, false, cond}
 use Rattle.std.proofs.Common.{Result, Ok, Err, refl, ap, ◌∙◌, sym, subst, arith, ⊎_elim}
 use Rattle.std.specs.Option.{IsSome}
 use Rattle.std.proofs.lemmas.Bool.{true≢false}
 use Rattle.krs_types.specs.declared.errno.Errno.{Errno}
-use Rattle.krs_types.specs.declared.errno.Errno.TheVariants.{ENOKEY, EACCES}
+use Rattle.krs_types.specs.declared.errno.Errno.TheVariants.{ENOKEY, EACCES, EINVAL}
 use Rattle.krs_types.specs.declared.kind.Kind.{Kind}
 use Rattle.krs_types.specs.declared.kind.Kind.TheVariants.{User, Logon, Keyring}
 use Rattle.krs_types.specs.declared.context.Context.{Context}
@@ -32,7 +32,8 @@ use Rattle.krs_model.specs.Asks.Finding.{requested_into, sought_name}
 use Rattle.krs_model.specs.Asks.Adding.{Place, Updated, Made, add, added, added_in, made, new_key, first_content}
 use Rattle.krs_model.specs.Asks.Adding.{admitted, place_of, IsKeyringAt}
 use Rattle.krs_model.specs.Asks.Changing.{updated}
-use Rattle.krs_model.specs.Asks.Linked.{link, linked, linked_into, name_of}
+use Rattle.krs_model.specs.Asks.Linked.{link, linked, linked_into, name_of, unless, without_link}
+use Rattle.krs_model.specs.Asks.Moving.{move_link, moved, moved_to}
 use Rattle.krs_types.specs.Kind.{same_kind}
 use Rattle.krs_model.specs.Sound.{is_links, IsFitting}
 use Rattle.krs_model.proofs.Sound.Contexts.{owner_there}
@@ -42,16 +43,16 @@ use Rattle.krs_types.proofs.Names.{equal_names}
 use Rattle.krs_model.proofs.Lookups.Laws.{look_up_usable, made_in_ring}
 use Rattle.krs_model.proofs.Lookups.Serials.{own_there, refused_is}
 use Rattle.krs_model.proofs.Asks.Later.{same_ok}
-use Rattle.krs_model.proofs.Asks.LaterByAsk.{linked_into_is}
+use Rattle.krs_model.proofs.Asks.LaterByAsk.{linked_into_is, IsMoved, Stays, Moves, moved_is}
 use Rattle.krs_model.proofs.Sound.Changes.{Stands, LinksTo, changed_stands}
 use Rattle.krs_model.proofs.Sound.Changes.{linked_stands, at_further, not_there}
 use Rattle.krs_model.proofs.Sound.NewContexts.{some_there, entered_stands, empty_stands}
 use Rattle.krs_model.proofs.Sound.NewContexts.{own_process_there, own_session_there}
-use Rattle.krs_model.proofs.Sound.NewContexts.{context_stands, made_for_stands, joined_stands}
+use Rattle.krs_model.proofs.Sound.NewContexts.{context_stands, made_for_stands, made_for_there, joined_stands}
 use Rattle.krs_model.proofs.Sound.NewContexts.{new_joined_stands, joinable_there, execed_stands}
 use Rattle.krs_model.proofs.Reach.Cycles.{from_closes, nests_opens}
 use Rattle.krs_model.proofs.Sound.KeyAsks.{Sustains, sustains_ok, sustains_after, sustains_within, sustains_either}
-use Rattle.krs_model.proofs.Sound.KeyAsks.{updated_lessens}
+use Rattle.krs_model.proofs.Sound.KeyAsks.{updated_lessens, unlinked_lessens}
 
 -- a key of one name is of no other
 named_same : (name : Name) (key : Key) → is_named name (Some key) ≡ true → name ≡ name_of key
@@ -87,6 +88,38 @@ link_stands s client context key ring stands =
     sustains_after (context_of s client context) _ (λ c _.
     let made = made_for s context c ring in
     sustains_within s _ (link_made_stands made.0 made.1 key ring (made_for_stands s context c ring stands)))
+
+-- an accepted move links as LINK does, and takes a link out
+is_moved_stands :
+    (s : State) (found from into : ℕ × Key) (new : State) → at s.keys found.0 ≡ Some found.1
+    → IsMoved s found from into new → Stands s → Stands new
+is_moved_stands s found from into _ there Stays stands = stands
+is_moved_stands s found from into _ there (Moves mid linked) stands =
+    changed_stands mid from.0 (without_link found.0) (unlinked_lessens found.0)
+    (linked_into_stands s into found mid there linked stands)
+
+moved_to_stands :
+    (s : State) (c : Context) (exclusive : Bool) (found from : ℕ × Key) (to : ℤ) → at s.keys found.0 ≡ Some found.1
+    → Stands s → Sustains (moved_to s c exclusive found from to)
+moved_to_stands s c exclusive found from to there stands =
+    sustains_after (look_up s c to (Granted WRITE)) _ (λ into _.
+    sustains_after (moved s exclusive found from into) _ (λ new is.
+    sustains_ok (is_moved_stands s found from into new there (moved_is s exclusive found from into new is) stands)))
+
+pub move_stands :
+    (s : State) (client context : ℕ) (key from to : ℤ) (flags : ℕ) → Stands s
+    → Sustains (move_link s client context key from to flags)
+unfolding move_link
+move_stands s client context key from to flags stands =
+    sustains_after (context_of s client context) _ (λ c _.
+    sustains_after (unless (nat_lt 1 flags) EINVAL) _ (λ known _.
+    sustains_after (look_up s c key (Granted LINK)) _ (λ found is.
+    sustains_after (look_up s c from (Granted WRITE)) _ (λ first _.
+    let made = made_for s context c to in
+    let there = made_for_there s context c to found.0 found.1 stands.unused
+    (look_up_usable s c key (Granted LINK) found is).there in
+    sustains_within s _ (moved_to_stands made.0 made.1 (flags == 1) found first to there
+    (made_for_stands s context c to stands))))))
 
 -- what grants LINK is the key itself
 linkable_is :

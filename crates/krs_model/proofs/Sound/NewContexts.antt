@@ -13,7 +13,7 @@ use Rattle.krs_types.specs.declared.context.Context.{Context}
 use Rattle.krs_types.specs.declared.context.UidRings.{UidRings}
 use Rattle.krs_types.specs.declared.key_id.KeyId.{KeyId}
 use Rattle.krs_types.specs.KeyId.{key_id_of}
-use Rattle.krs_model.specs.Table.{Table, at, put, alter}
+use Rattle.krs_model.specs.Table.{Table, at, put, alter, IsBelow}
 use Rattle.krs_model.specs.State.{State, Key}
 use Rattle.krs_model.specs.Possession.{links_of_content}
 use Rattle.krs_model.specs.Levels.{is_in}
@@ -28,7 +28,7 @@ use Rattle.krs_model.proofs.Tables.Changes.{at_put_same}
 use Rattle.krs_model.proofs.Reach.Levels.{same_is, in_left, in_right, in_one, only_in}
 use Rattle.krs_model.proofs.Sweep.Laws.{there_self, found_there}
 use Rattle.krs_model.proofs.MadeKeyring.Which.{IsMade, NoneMade, ThreadMade, ProcessMade, made_for_is}
-use Rattle.krs_model.proofs.Sound.Changes.{Stands, same_stands, key_stands, there_put, there_alter}
+use Rattle.krs_model.proofs.Sound.Changes.{Stands, same_stands, key_stands, there_put, there_alter, at_further}
 use Rattle.krs_model.proofs.Sound.Contexts.{entered_housed, threaded_housed, uid_housed, altered_housed, process_housed}
 use Rattle.krs_model.proofs.Sound.Contexts.{fewer_housed}
 use Rattle.krs_model.proofs.Sound.Attached.{context_keys, uid_keys, attached_either, attached_alter, attached_fewer}
@@ -287,6 +287,23 @@ pub made_for_stands :
     (s : State) (number : ℕ) (c : Context) (id : ℤ) → Stands s → Stands (made_for s number c id).0
 made_for_stands s number c id stands =
     is_made_stands s number c (key_id_of id) (made_for s number c id) (made_for_is s number c id) stands
+
+is_made_there :
+    (s : State) (number : ℕ) (c : Context) (id : Result KeyId Errno) (made : State × Context) (k : ℕ) (key : Key)
+    → IsMade s number c id made → at s.keys s.next_serial ≡ None → at s.keys k ≡ Some key → at made.0.keys k ≡ Some key
+is_made_there s number c id _ k key NoneMade none there = there
+is_made_there s number c id _ k key (ThreadMade is missing) none there =
+    at_further s.keys s.next_serial k (special_ring (codes "_tid") c.caller) none (some_there s.keys k key there) ∙ there
+is_made_there s number c id _ k key (ProcessMade is missing) none there =
+    at_further s.keys s.next_serial k (special_ring (codes "_pid") c.caller) none (some_there s.keys k key there) ∙ there
+
+-- a key that is there stays as it is where a keyring is made
+pub made_for_there :
+    (s : State) (number : ℕ) (c : Context) (id : ℤ) (k : ℕ) (key : Key) → IsBelow s.keys s.next_serial
+    → at s.keys k ≡ Some key → at (made_for s number c id).0.keys k ≡ Some key
+made_for_there s number c id k key unused there =
+    is_made_there s number c (key_id_of id) (made_for s number c id) k key (made_for_is s number c id)
+    (unused s.next_serial (omega arith)) there
 
 -- another session keyring
 pub joined_stands :

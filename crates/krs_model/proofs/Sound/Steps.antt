@@ -16,6 +16,7 @@ use Rattle.krs_types.specs.declared.ask.Op.TheVariants.{Update, Revoke, Invalida
 use Rattle.krs_types.specs.declared.ask.Op.TheVariants.{Unlink}
 use Rattle.krs_types.specs.declared.ask.Op.TheVariants.{Clear, Read, Describe, Watch, OpenQueue, SetFilter, ReadQueue}
 use Rattle.krs_types.specs.declared.ask.Op.TheVariants.{CloseQueue, Exit, Leave}
+use Rattle.krs_types.specs.declared.ask.Op.TheVariants.{Move, RestrictKeyring}
 use Rattle.krs_types.specs.declared.event.Event.{Event}
 use Rattle.krs_types.specs.declared.note.FilterEntry.{FilterEntry}
 use Rattle.krs_types.specs.Rights.{VIEW}
@@ -44,10 +45,10 @@ use Rattle.krs_model.proofs.Asks.NotedKeys.{notes_small}
 use Rattle.krs_model.proofs.Sound.Queues.{effect_orderly, sweep_orderly, posted_orderly, ended_watch}
 use Rattle.krs_model.proofs.Sound.KeyAsks.{Sustains, sustains_ok, sustains_after, hello_stands, update_stands}
 use Rattle.krs_model.proofs.Sound.KeyAsks.{revoke_stands, chown_stands, set_perm_stands, set_timeout_stands}
-use Rattle.krs_model.proofs.Sound.KeyAsks.{unlink_stands}
+use Rattle.krs_model.proofs.Sound.KeyAsks.{unlink_stands, restrict_keyring_stands}
 use Rattle.krs_model.proofs.Sound.KeyAsks.{clear_stands, read_stands, describe_stands, left_stands, invalidate_stands}
 use Rattle.krs_model.proofs.Sound.KeyAsks.{exit_stands}
-use Rattle.krs_model.proofs.Sound.LinkAsks.{link_stands, search_stands, request_stands, get_id_stands, join_stands}
+use Rattle.krs_model.proofs.Sound.LinkAsks.{link_stands, move_stands, search_stands, request_stands, get_id_stands, join_stands}
 use Rattle.krs_model.proofs.Sound.LinkAsks.{thread_stands, fork_stands, exec_stands, add_stands}
 
 -- queues and watches are of no account
@@ -116,6 +117,10 @@ outcome_stands s client context (SetPerm id mask) stands = set_perm_stands s cli
 outcome_stands s client context (SetTimeout id seconds) stands = set_timeout_stands s client context id seconds stands
 outcome_stands s client context (Link key ring) stands = link_stands s client context key ring stands
 outcome_stands s client context (Unlink key ring) stands = unlink_stands s client context key ring stands
+outcome_stands s client context (Move key from to flags) stands =
+    move_stands s client context key from to flags stands
+outcome_stands s client context (RestrictKeyring ring type_name) stands =
+    restrict_keyring_stands s client context ring type_name stands
 outcome_stands s client context (Clear id) stands = clear_stands s client context id stands
 outcome_stands s client context (Read id) stands = read_stands s client context id stands
 outcome_stands s client context (Describe id) stands = describe_stands s client context id stands

@@ -2,7 +2,7 @@
 use Rattle.std.specs.Prelude.{◌≡◌, ℕ, ℤ, ◌+◌, ◌&&◌, List, [], nat_lt, if◌then◌else◌, Option, None, Some, false}
 use Rattle.std.specs.Prelude.{Result, Ok, Err}
 use Rattle.krs_types.specs.declared.errno.Errno.{Errno}
-use Rattle.krs_types.specs.declared.errno.Errno.TheVariants.{EACCES, ENOSPC}
+use Rattle.krs_types.specs.declared.errno.Errno.TheVariants.{EPERM, EACCES, ENOSPC}
 use Rattle.krs_types.specs.declared.kind.Kind.{Kind}
 use Rattle.krs_types.specs.declared.kind.Kind.TheVariants.{User, Logon, Keyring}
 use Rattle.krs_types.specs.declared.name.Name.{Name}
@@ -21,6 +21,7 @@ use Rattle.krs_model.specs.Lookup.{context_of, look_up}
 use Rattle.krs_model.specs.Making.{made_for}
 use Rattle.krs_model.specs.Linking.{ring_links, link_named, linking, has_room}
 use Rattle.krs_model.specs.Asks.Changing.{changed, is_updatable, updated}
+use Rattle.krs_model.specs.Asks.Linked.{unless}
 use Rattle.krs_model.specs.Outcome.{Outcome}
 
 -- what is asked for is a key that may be made, and this is its name
@@ -35,15 +36,17 @@ pub data Place : Type 0 where
   Updated : ℕ → Place
   Made : ℕ → Place
 
--- a new key, where the keyring has room and a serial is left: profile, full keyrings; profile, serials run out
-abbrev pub if_room : State → ℕ → List ℕ → Option ℕ → Result Place Errno
+-- a new key, where the keyring is not closed and has room, and a serial is left: profile, closed keyrings; profile, full
+-- keyrings; profile, serials run out
+abbrev pub if_room : State → ℕ × Key → List ℕ → Option ℕ → Result Place Errno
 if_room s ring links displaced = do
+  unclosed ← unless ring.1.closed EPERM
   room ← has_room links displaced
-  if nat_lt 2147483647 s.next_serial then Err ENOSPC else Ok (Made ring)
+  if nat_lt 2147483647 s.next_serial then Err ENOSPC else Ok (Made ring.0)
 
 -- a match that is alive and can be updated is updated, where it grants WRITE; any other is displaced: profile, dead
 -- matches are displaced
-abbrev pub over_match : State → Context → ℕ → List ℕ → ℕ → Option Key → Result Place Errno
+abbrev pub over_match : State → Context → ℕ × Key → List ℕ → ℕ → Option Key → Result Place Errno
 over_match s c ring links found None = if_room s ring links None
 over_match s c ring links found (Some key) =
     if is_alive s.clock key && is_updatable key.kind
@@ -51,7 +54,7 @@ over_match s c ring links found (Some key) =
     else if_room s ring links (Some found)
 
 -- where the key goes, with a match in the keyring or without one: add_key(2)
-abbrev pub by_match : State → Context → ℕ → List ℕ → Option ℕ → Result Place Errno
+abbrev pub by_match : State → Context → ℕ × Key → List ℕ → Option ℕ → Result Place Errno
 by_match s c ring links None = if_room s ring links None
 by_match s c ring links (Some found) = over_match s c ring links found (at s.keys found)
 
@@ -60,7 +63,7 @@ unfoldable pub place_of : State → Context → Name → ℤ → Result Place Er
 place_of s c name ring = do
   found ← look_up s c ring (Granted WRITE)
   links ← ring_links found.1.content
-  by_match s c found.0 links (link_named s.keys name links)
+  by_match s c found links (link_named s.keys name links)
 
 -- 3f010000, for a logon key 3d010000: profile, masks of new keys
 abbrev pub first_perm : Kind → ℕ
@@ -85,6 +88,7 @@ new_key name payload uid gid = record {
   expiry = None;
   revoked = false;
   joined = false;
+  closed = false;
   content = first_content name.kind payload;
 }
 

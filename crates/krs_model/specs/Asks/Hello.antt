@@ -42,6 +42,7 @@ uid_ring prefix links c = record {
   expiry = None;
   revoked = false;
   joined = false;
+  closed = false;
   content = Links links;
 }
 

@@ -1,7 +1,7 @@
 -- LINK, UNLINK and CLEAR: what a keyring links. keyctl(2).
 use Rattle.std.specs.Prelude.{ℕ, ℤ, ◌==◌, not, Bool, List, [], filter, if◌then◌else◌, Result, Ok, Err}
 use Rattle.krs_types.specs.declared.errno.Errno.{Errno}
-use Rattle.krs_types.specs.declared.errno.Errno.TheVariants.{ENOKEY, ENOENT, EDEADLK, ELOOP}
+use Rattle.krs_types.specs.declared.errno.Errno.TheVariants.{EPERM, ENOKEY, ENOENT, EDEADLK, ELOOP}
 use Rattle.krs_types.specs.declared.name.Name.{Name}
 use Rattle.krs_types.specs.declared.context.Context.{Context}
 use Rattle.krs_types.specs.declared.ask.Answer.TheVariants.{Nothing}
@@ -32,11 +32,13 @@ nestable keys ring serial = do
   acyclic ← unless (closes keys serial ring) EDEADLK
   unless (has_chain keys serial nesting_depth) ELOOP
 
--- The keyring of this serial and these links may link the key: the link closes no cycle and nests no keyring too deep,
--- and the keyring has room. EDEADLK, ELOOP and ENFILE come in this order: KEYCTL_LINK, "ERRORS"; profile, full keyrings
-abbrev pub link_check : Table Key → ℕ → List ℕ → ℕ × Key → Result (Unit {0}) Errno
+-- The keyring of these links may link the key: it is not closed, the link closes no cycle and nests no keyring too deep,
+-- and the keyring has room. EPERM, EDEADLK, ELOOP and ENFILE come in this order: KEYCTL_LINK, "ERRORS"; profile, closed
+-- keyrings; profile, full keyrings
+abbrev pub link_check : Table Key → ℕ × Key → List ℕ → ℕ × Key → Result (Unit {0}) Errno
 link_check keys ring links found = do
-  nests ← nestable keys ring found.0
+  unclosed ← unless ring.1.closed EPERM
+  nests ← nestable keys ring.0 found.0
   has_room links (link_named keys (name_of found.1) links)
 
 -- the keyring links the key, where it is a keyring and may link it; so too where it links the key already: profile,
@@ -44,7 +46,7 @@ link_check keys ring links found = do
 abbrev pub linked_into : State → ℕ × Key → ℕ × Key → Result State Errno
 linked_into s into found = do
   links ← ring_links into.1.content
-  allowed ← link_check s.keys into.0 links found
+  allowed ← link_check s.keys into links found
   Ok (changed s into.0 (linking s.keys (name_of found.1) found.0))
 
 -- a link from a keyring that grants WRITE to a key that grants LINK: KEYCTL_LINK

@@ -1,6 +1,6 @@
 -- What each accepted ask tells of, and which watch it ends: uapi linux/watch_queue.h, enum key_notification_subtype;
 -- their order: profile, order of notes; what is not told: profile, quiet unlinks.
-use Rattle.std.specs.Prelude.{ℕ, ℤ, List, [], ◌∷◌, Bool, true, false, is_some, if◌then◌else◌, Option, None, Some}
+use Rattle.std.specs.Prelude.{ℕ, ℤ, ◌==◌, List, [], ◌∷◌, ◌++◌, Bool, true, false, is_some, if◌then◌else◌, Option, None, Some}
 use Rattle.std.specs.Prelude.{Result, Ok, Err}
 use Rattle.krs_types.specs.declared.errno.Errno.{Errno}
 use Rattle.krs_types.specs.declared.ask.Answer.{Answer}
@@ -10,6 +10,7 @@ use Rattle.krs_types.specs.declared.ask.Op.TheVariants.{Hello, Thread, Fork, Exe
 use Rattle.krs_types.specs.declared.ask.Op.TheVariants.{Invalidate, Add, Update, Revoke, Chown, SetPerm, SetTimeout}
 use Rattle.krs_types.specs.declared.ask.Op.TheVariants.{Link, Unlink, Clear, Read, Describe, Watch, OpenQueue}
 use Rattle.krs_types.specs.declared.ask.Op.TheVariants.{SetFilter, ReadQueue, CloseQueue, Leave}
+use Rattle.krs_types.specs.declared.ask.Op.TheVariants.{Move, RestrictKeyring}
 use Rattle.krs_types.specs.declared.note.KeyEvent.{KeyEvent}
 use Rattle.krs_types.specs.declared.note.KeyEvent.TheVariants.{Updated, Linked, Unlinked, Cleared, Revoked}
 use Rattle.krs_types.specs.declared.note.KeyEvent.TheVariants.{Invalidated, Setattr}
@@ -38,6 +39,17 @@ abbrev pub about_link : KeyEvent → Result ℕ Errno → Result ℕ Errno → L
 about_link event (Err e) key = []
 about_link event (Ok ring) (Err e) = []
 about_link event (Ok ring) (Ok key) = record { event = event; key = ring; aux = key } ∷ []
+
+-- the same keyring twice
+abbrev pub is_one_ring : Result ℕ Errno → Result ℕ Errno → Bool
+is_one_ring from (Err e) = false
+is_one_ring (Err e) (Ok into) = false
+is_one_ring (Ok from) (Ok into) = from == into
+
+-- a link out of one keyring, and then into another; nothing where both are one: profile, moves in place
+abbrev pub about_moved : Result ℕ Errno → Result ℕ Errno → Result ℕ Errno → List Note
+about_moved from into key =
+    if is_one_ring from into then [] else about_link Unlinked from key ++ about_link Linked into key
 
 -- an added key whose serial was there is the updated match; another one is new, and linked
 abbrev pub about_added : Table Key → Result ℕ Errno → Answer → List Note
@@ -79,7 +91,10 @@ notes_of s client context (Link key ring) answer =
     about_link Linked (named s client context ring) (named s client context key)
 notes_of s client context (Unlink key ring) answer =
     about_link Unlinked (named s client context ring) (named s client context key)
+notes_of s client context (Move key from to flags) answer =
+    about_moved (named s client context from) (named s client context to) (named s client context key)
 notes_of s client context (Clear id) answer = about Cleared (named s client context id)
+notes_of s client context (RestrictKeyring ring type_name) answer = []
 notes_of s client context (Read id) answer = []
 notes_of s client context (Describe id) answer = []
 notes_of s client context (Watch id queue watch) answer = []
