@@ -176,6 +176,7 @@ times-changed change.Revoked v q =
     let none = ap (λ (ls : LinkList). times q (serials ls)) (emptied_links v.content) in omega (arith, none)
 times-changed change.Cleared v q =
     let none = ap (λ (ls : LinkList). times q (serials ls)) (cleared_links v.content) in omega (arith, none)
+times-changed change.Closed v q = omega arith
 
 -- `let_go_all` of what the change takes out, and `set`
 pub tallied_change :

@@ -15,6 +15,7 @@ taken_by (change.Owner uid gid) content = []
 taken_by (change.Expiry expiry) content = []
 taken_by change.Revoked content = serials (named_links_of_content content)
 taken_by change.Cleared content = serials (named_links_of_content content)
+taken_by change.Closed content = []
 
 abbrev pub taken_at : Change → Option Key → List ℕ
 taken_at c None = []

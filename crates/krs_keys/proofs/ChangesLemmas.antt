@@ -36,6 +36,7 @@ seen-changed (change.Owner uid gid) key = refl
 seen-changed (change.Expiry expiry) key = refl
 seen-changed change.Revoked key = ended_seen key key.content
 seen-changed change.Cleared key = cleared_seen key key.content
+seen-changed change.Closed key = refl
 
 pub name-changed : (c : Change) (key : Key) → (changed c key).name ≡ key.name
 name-changed (change.Payload payload) key = refl
@@ -44,6 +45,7 @@ name-changed (change.Owner uid gid) key = refl
 name-changed (change.Expiry expiry) key = refl
 name-changed change.Revoked key = refl
 name-changed change.Cleared key = refl
+name-changed change.Closed key = refl
 
 paid_named : (names : ℕ → Option Name) (payload : List ℕ) (content : Content) → AreNamed names (named_links_of_content content)
     → AreNamed names (named_links_of_content (paid_with payload content))
@@ -67,6 +69,7 @@ changed_named names (change.Owner uid gid) key named = named
 changed_named names (change.Expiry expiry) key named = named
 changed_named names change.Revoked key named = emptied_named names key.content
 changed_named names change.Cleared key named = cleared_named names key.content named
+changed_named names change.Closed key named = named
 
 -- links keep the names of their keys
 pub fit_changed : (keys : Table Key) (k : ℕ) (c : Change) → AreFit keys → AreFit (alter keys k (changed c))

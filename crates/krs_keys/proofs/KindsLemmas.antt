@@ -67,6 +67,7 @@ changed_kind (change.Owner uid gid) v is = is
 changed_kind (change.Expiry expiry) v is = is
 changed_kind change.Revoked v is = emptied_kind v.name.kind v.content is
 changed_kind change.Cleared v is = cleared_kind v.name.kind v.content is
+changed_kind change.Closed v is = is
 
 entered_kind : (kind : Kind) (name : Name) (serial : ℕ) (content : Content) → IsOfKind kind content
     → IsOfKind kind (entered name serial content)

@@ -291,6 +291,11 @@ length_slot :
 length_slot t k None some none = absurd (true≢false (sym some))
 length_slot t k (Some v) some none = length_put t k v none
 
+-- what is at the keyring, whose place was looked up
+pub placed : (slots : List (Option Key)) (places : List (ℕ × ℕ)) (ring : ℕ) (looked_up : Option ℕ)
+    → looked_up ≡ place_of places ring → at (in_slots slots places) ring ≡ found slots looked_up
+placed slots places ring looked_up is = at_in_slots slots places ring ∙ ap (found slots) (sym is)
+
 -- a place of the others is a place of all
 later_place :
     (e : ℕ × ℕ) (es : List (ℕ × ℕ)) (q p : ℕ) → place_of es e.0 ≡ None → place_of es q ≡ Some p

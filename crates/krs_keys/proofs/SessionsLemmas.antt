@@ -38,6 +38,7 @@ session-changed (change.Owner uid gid) v = (refl, refl)
 session-changed (change.Expiry expiry) v = (refl, refl)
 session-changed change.Revoked v = (refl, refl)
 session-changed change.Cleared v = (refl, refl)
+session-changed change.Closed v = (refl, refl)
 
 hidden : (d : ℕ) (seed : Seed) (f : Key → Key) → KeepsSession f → IsHidden (λ o. is_digest d (session_digest seed o)) f
 hidden d seed f keeps None = refl

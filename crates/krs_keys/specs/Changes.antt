@@ -3,6 +3,7 @@ use Rattle.std.specs.Prelude.{ℕ, List, [], ◌∷◌, Bool, true, false, None}
 use Rattle.krs_model.specs.State as model
 use Rattle.krs_model.specs.Asks.Changing as meant
 use Rattle.krs_model.specs.Asks.Linked.{cleared}
+use Rattle.krs_model.specs.Asks.Restricting.{restricted}
 use Rattle.krs_keys.specs.declared.key.Key.{Key}
 use Rattle.krs_keys.specs.declared.key.Content.{Content}
 use Rattle.krs_keys.specs.declared.key.Content.TheVariants.{Payload, Links}
@@ -30,6 +31,7 @@ changed (change.Owner uid gid) key = record key { uid = meant.or_left uid key.ui
 changed (change.Expiry expiry) key = record key { expiry = expiry }
 changed change.Revoked key = record key { revoked = true; content = emptied key.content }
 changed change.Cleared key = record key { content = cleared_content key.content }
+changed change.Closed key = record key { closed = true }
 
 -- the change of the definitions
 abbrev pub meant_change : Change → model.Key → model.Key
@@ -39,6 +41,7 @@ meant_change (change.Owner uid gid) = meant.with_owner uid gid
 meant_change (change.Expiry expiry) = meant.with_expiry expiry
 meant_change change.Revoked = meant.revoked
 meant_change change.Cleared = cleared
+meant_change change.Closed = restricted
 
 abbrev pub links_some : Content → Bool
 links_some (Payload bytes) = false

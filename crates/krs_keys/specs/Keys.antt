@@ -38,6 +38,7 @@ seen key = record {
   expiry = key.expiry;
   revoked = key.revoked;
   joined = key.joined;
+  closed = key.closed;
   content = seen_content key.content;
 }
 

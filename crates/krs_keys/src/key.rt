@@ -29,6 +29,8 @@ pub struct Key {
     pub revoked: bool,
     /// JOIN made it: profile, joining by name.
     pub joined: bool,
+    /// It takes no further link: keyctl(2), KEYCTL_RESTRICT_KEYRING; profile, closed keyrings.
+    pub closed: bool,
     pub content: Content,
 }
 
@@ -47,6 +49,8 @@ pub enum Change {
     Revoked,
     /// No links, where it is a keyring.
     Cleared,
+    /// It takes no further link.
+    Closed,
 }
 
 impl Key {
@@ -147,6 +151,7 @@ impl Key {
                 self.content.empty();
             }
             Change::Cleared => self.content.clear(),
+            Change::Closed => self.closed = true,
         }
     }
 

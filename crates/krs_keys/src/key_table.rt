@@ -205,6 +205,14 @@ impl KeyTable {
         Ok(displaced)
     }
 
+    /// Whether a keyring links a key. It looks under the key's name alone.
+    pub fn links_key(&self, ring: Serial, serial: Serial) -> bool
+        requires fit { AreFit self.now.keys }
+        ensures { result ≡ has_link serial (named_links_of_key_at self.now.keys ring) }
+    {
+        self.keys.links_key(ring.number(), serial)
+    }
+
     /// Takes a key out of a keyring, and answers whether it was there. It looks for the key's own name, which each link
     /// has. It takes no memory. keyctl(2), KEYCTL_UNLINK.
     pub fn unlink(&mut self, ring: Serial, serial: Serial) -> bool

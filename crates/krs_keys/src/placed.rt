@@ -143,6 +143,14 @@ impl PlacedKeys {
         }
     }
 
+    /// Whether a keyring links a key.
+    pub(crate) fn links_key(&self, ring: u32, serial: Serial) -> bool
+        requires fit { AreFit (by_place self.now) }
+        ensures { result ≡ has_link serial (named_links_of_key_at (by_place self.now) ring) }
+    {
+        slots::links_key(&self.slots, &self.places, ring, serial)
+    }
+
     /// Takes a key out of one keyring, and answers whether it was there.
     pub(crate) fn unlink(&mut self, ring: u32, serial: Serial) -> bool
         requires placed { ArePlaced self.old }

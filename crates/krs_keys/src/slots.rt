@@ -112,6 +112,35 @@ fn unlink(
     true
 }
 
+/// Whether a keyring links a key.
+pub(crate) fn links_key(
+    slots: &Slab<Key>,
+    places: &IndexMap<u32, usize>,
+    ring: u32,
+    serial: Serial,
+) -> bool
+    requires fit { AreFit (in_slots slots.now.slots places.now.entries) }
+    ensures { result
+        ≡ has_link serial (named_links_of_key_at (in_slots slots.now.slots places.now.entries) ring) }
+{
+    match places.get(&ring) {
+        Some(place) => links_at(slots, places, *place, serial),
+        None => false,
+    }
+}
+
+/// Whether the keyring at a place links a key.
+fn links_at(slots: &Slab<Key>, places: &IndexMap<u32, usize>, place: usize, serial: Serial) -> bool
+    requires named { AreNamed (name_at (in_slots slots.now.slots places.now.entries))
+        (named_links_of_key (held slots.now.slots place)) }
+    ensures { result ≡ has_link serial (named_links_of_key (held slots.now.slots place)) }
+{
+    match link_place(slots, places, place, serial) {
+        Some(_) => true,
+        None => false,
+    }
+}
+
 /// Takes a key out of one keyring, and answers whether it was there.
 pub(crate) fn unlink_in(
     slots: &mut Slab<Key>,

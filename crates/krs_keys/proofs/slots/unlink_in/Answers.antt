@@ -1,18 +1,12 @@
-use Rattle.std.proofs.Common.{◌≡◌, ℕ, List, Option, ◌∙◌, ap, sym, subst}
+use Rattle.std.proofs.Common.{Option, ◌∙◌, ap, sym, subst}
 use Rattle.krs_links.specs.Links.{has_link}
-use Rattle.krs_model.specs.Table.{at}
 use Rattle.krs_model.proofs.Tables.Changes.{alter_none}
 use Rattle.krs_keys.specs.declared.key.Key.{Key}
 use Rattle.krs_keys.specs.Keys.{name_at, named_links_of_key, AreNamed, without_key}
-use Rattle.krs_keys.specs.Places.{in_slots, place_of}
+use Rattle.krs_keys.specs.Places.{in_slots}
 use Rattle.krs_keys.proofs.LinkNames.{ring_named}
-use Rattle.krs_keys.proofs.PlacesLemmas.{found, at_in_slots, in_slots_alter}
+use Rattle.krs_keys.proofs.PlacesLemmas.{placed, in_slots_alter}
 use Rattle.krs_keys.proofs.slots.unlink_in.Goals as goal
-
--- what is at the keyring, whose place was looked up
-placed : (slots : List (Option Key)) (places : List (ℕ × ℕ)) (ring : ℕ) (looked_up : Option ℕ)
-    → looked_up ≡ place_of places ring → at (in_slots slots places) ring ≡ found slots looked_up
-placed slots places ring looked_up is = at_in_slots slots places ring ∙ ap (found slots) (sym is)
 
 pub unlink-requires : goal.unlink-requires
 unlink-requires c = record {
