@@ -206,7 +206,7 @@ sweep_told s new sound sweeps =
 -- where an added key goes is told by the name that the links have
 pub place_told : (s : model.State) (c : Context) (name : Name) (id : ℤ) (ring : ℕ) (key : Key) (links : LinkList)
     → look_up s c id (Granted WRITE) ≡ Ok (ring, seen key) → key.content ≡ Links links → FindsByName s.keys key
-    → place_of s c name id ≡ by_match s c ring (serials links) (serial_named links name)
+    → place_of s c name id ≡ by_match s c (ring, seen key) (serials links) (serial_named links name)
 unfolding place_of
 place_told s c name id ring key links found is named =
     let by_name : link_named s.keys name (serials links) ≡ serial_named links name = rw is at (named name) in

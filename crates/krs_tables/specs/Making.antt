@@ -25,6 +25,7 @@ named_uid_key name links c = record {
   expiry = None;
   revoked = false;
   joined = false;
+  closed = false;
   content = Links links;
 }
 
@@ -51,6 +52,7 @@ maker_key name payload uid gid = record {
   expiry = None;
   revoked = false;
   joined = false;
+  closed = false;
   content = first_content name.kind payload;
 }
 

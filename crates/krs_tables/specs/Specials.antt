@@ -57,6 +57,7 @@ ring_key special maker links = record {
   expiry = None;
   revoked = false;
   joined = false;
+  closed = false;
   content = Links links;
 }
 

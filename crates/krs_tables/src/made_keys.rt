@@ -20,6 +20,7 @@ impl Tables {
             expiry: None,
             revoked: false,
             joined: false,
+            closed: false,
             content: self.first_content(kind, payload),
         }
     }

@@ -89,6 +89,7 @@ impl Special {
             expiry: None,
             revoked: false,
             joined: false,
+            closed: false,
             content: Content::Links(links),
         })
     }
