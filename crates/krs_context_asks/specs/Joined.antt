@@ -23,6 +23,7 @@ joined_ring desc perm c = record {
   expiry = None;
   revoked = false;
   joined = true;
+  closed = false;
   content = Links [];
 }
 

@@ -38,6 +38,7 @@ fn uid_key(name: Name, links: Links, caller: &Caller) -> Key
         expiry: None,
         revoked: false,
         joined: false,
+        closed: false,
         content: Content::Links(links),
     }
 }

@@ -42,6 +42,7 @@ fn joined_ring(tables: &Tables, desc: Blob, perm: Perm, caller: &Caller) -> Key
         expiry: None,
         revoked: false,
         joined: true,
+        closed: false,
         content: Content::Links(tables.no_links()),
     }
 }

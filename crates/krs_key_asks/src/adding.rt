@@ -4,6 +4,7 @@ ghost use Rattle.krs_model.specs.Asks.Adding.{admitted, if_room, by_match, place
 ghost use Rattle.krs_model.specs.Asks.Adding.{IsKeyringAt, add};
 ghost use Rattle.krs_model.specs.Asks.Changing.{is_updatable};
 ghost use Rattle.krs_key_asks.specs.Places.{meant, HasSerial};
+ghost use Rattle.krs_keys.specs.Keys.{seen};
 ghost use Rattle.krs_links.specs.Links.{serials};
 ghost use Rattle.krs_model.specs.Sound.{IsSound};
 ghost use Rattle.krs_tables.specs.Making.{adding_in};
@@ -37,16 +38,21 @@ fn admitted(type_name: &[u8], desc: &[u8], payload: &[u8]) -> Result<Kind, Errno
     Ok(kind)
 }
 
-/// A new key in this keyring, where it has room and a serial is left.
+/// A new key in this keyring, where it is not closed and has room, and a serial is left.
 fn if_room(
     tables: &Tables,
     ring: Serial,
+    into: &Key,
     links: &Links,
     displaced: Option<Serial>,
 ) -> Result<Place, Errno>
-    ensures place { Is meant result (if_room tables.now ring (serials links.now) displaced) }
+    ensures place { Is meant result
+        (if_room tables.now (ring, seen into.now) (serials links.now) displaced) }
     ensures serial { IfOk result (HasSerial tables.now.next_serial) }
 {
+    if into.closed {
+        return Err(Errno::EPERM);
+    }
     if displaced.is_none() && links.is_full() {
         return Err(Errno::ENFILE);
     }
@@ -61,20 +67,22 @@ fn by_match(
     tables: &Tables,
     context: &Context,
     ring: Serial,
+    into: &Key,
     links: &Links,
     found: Option<Serial>,
 ) -> Result<Place, Errno>
-    ensures place { Is meant result (by_match tables.now context.now ring (serials links.now) found) }
+    ensures place { Is meant result
+        (by_match tables.now context.now (ring, seen into.now) (serials links.now) found) }
     ensures serial { IfOk result (HasSerial tables.now.next_serial) }
 {
     let Some(serial) = found else {
-        return if_room(tables, ring, links, None);
+        return if_room(tables, ring, into, links, None);
     };
     let Some(key) = tables.key(serial) else {
-        return if_room(tables, ring, links, None);
+        return if_room(tables, ring, into, links, None);
     };
     if !key.is_alive(tables.clock) || !is_updatable(key.name.kind) {
-        return if_room(tables, ring, links, Some(serial));
+        return if_room(tables, ring, into, links, Some(serial));
     }
     if !tables.grants(context, serial, key, Want::Granted(Rights::WRITE)) {
         return Err(Errno::EACCES);
@@ -92,7 +100,14 @@ fn place_of(tables: &Tables, context: &Context, name: &Name, ring: i32) -> Resul
     match &key.content {
         Content::Payload(_) => Err(Errno::ENOTDIR),
         Content::Links(links) => {
-            by_match(tables, context, Serial::new(ring), links, links.find(name))
+            by_match(
+                tables,
+                context,
+                Serial::new(ring),
+                key,
+                links,
+                links.find(name),
+            )
         }
     }
 }

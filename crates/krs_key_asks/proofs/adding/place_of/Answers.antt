@@ -1,4 +1,4 @@
-use Rattle.std.proofs.Common.{◌≡◌, ap, sym, ◌∙◌, subst, Ok}
+use Rattle.std.proofs.Common.{◌≡◌, ℕ, ap, sym, ◌∙◌, subst, Ok}
 use Rattle.std.specs.Int.{w32}
 use Rattle.std.proofs.lemmas.Int.{to_z-of_z}
 use Rattle.krs_types.specs.declared.rights.Want.TheVariants.{Granted}
@@ -23,8 +23,9 @@ returns-in-Links-clause-place c =
     let told =
     place_told s x c.args.name.now c.args.ring c.in_ok-ring.ring c.in_ok-ring.key.now links found c.in-Links.is
     c.in_ok-ring.ensures.named in
-    let asked : model.by_match s x c.new.result (serials links) c.find.result
-    ≡ model.by_match s x c.in_ok-ring.ring (serials links) (serial_named links c.args.name.now) =
-    ap (λ r. model.by_match s x r (serials links) c.find.result) c.new.ensures
-    ∙ ap (model.by_match s x c.in_ok-ring.ring (serials links)) c.find.ensures in
+    let key = seen c.in_ok-ring.key.now in
+    let asked : model.by_match s x (c.new.result, key) (serials links) c.find.result
+    ≡ model.by_match s x (c.in_ok-ring.ring, key) (serials links) (serial_named links c.args.name.now) =
+    ap (λ (r : ℕ). model.by_match s x (r, key) (serials links) c.find.result) c.new.ensures
+    ∙ ap (model.by_match s x (c.in_ok-ring.ring, key) (serials links)) c.find.ensures in
     subst (Is meant c.by_match.result) (asked ∙ sym told) c.by_match.ensures.place
