@@ -1,4 +1,5 @@
 pub mod LinkAndUnlink
 pub mod SearchAndRequest
 pub mod SearchWithMade
+pub mod MovedLinks
 mod KeyDetached

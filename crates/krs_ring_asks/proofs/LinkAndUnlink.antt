@@ -1,13 +1,13 @@
 -- LINK and UNLINK, from what the store has looked up to what they come to.
 use Rattle.std.proofs.Common.{◌≡◌, ℕ, ℤ, List, Option, None, Some, FitsSigned, to_z, of_z, Result, Ok, Err, refl, ap}
-use Rattle.std.proofs.Common.{◌∙◌, sym, subst, nat_lt, false, arith}
+use Rattle.std.proofs.Common.{◌∙◌, sym, subst, nat_lt, Bool, true, false, arith}
 use Rattle.std.specs.Option.{IsSome, IfSome, option_map}
 use Rattle.std.specs.Int.{w32}
 use Rattle.std.proofs.lemmas.Int.{to_z-of_z}
 use Rattle.std.proofs.lemmas.Bool.{true≢false}
 use Rattle.std.proofs.lemmas.Bool.Decides.{nat_tests}
 use Rattle.krs_types.specs.declared.errno.Errno.{Errno}
-use Rattle.krs_types.specs.declared.errno.Errno.TheVariants.{ENOKEY}
+use Rattle.krs_types.specs.declared.errno.Errno.TheVariants.{ENOKEY, EPERM}
 use Rattle.krs_types.specs.declared.ask.Answer.{Answer}
 use Rattle.krs_types.specs.declared.ask.Answer.TheVariants.{Nothing}
 use Rattle.krs_model.specs.Making.{made_for, within_serials}
@@ -28,7 +28,7 @@ use Rattle.krs_model.specs.Lookup.{context_of, serial_of, look_up}
 use Rattle.krs_model.specs.Outcome.{Fails}
 use Rattle.krs_model.specs.Asks.Adding.{IsKeyringAt}
 use Rattle.krs_model.specs.Asks.Changing.{changed}
-use Rattle.krs_model.specs.Asks.Linked.{name_of, nestable, link, unlink, if_linked, without_link}
+use Rattle.krs_model.specs.Asks.Linked.{name_of, unless, nestable, link, unlink, if_linked, without_link}
 use Rattle.krs_model.proofs.Lookups.Laws.{look_up_usable}
 use Rattle.krs_tables.specs.Linked.{name_in, room_in, Puts, Takes}
 
@@ -42,14 +42,17 @@ links_are : (content : Content) (links : List ℕ) → ring_links content ≡ Ok
 links_are (Payload bytes) links h = absurd cc
 links_are (Links serials) links h = refl
 
+pub ring_at_hand : (s : State) (ring : ℕ × Key) (links : List ℕ) → at s.keys ring.0 ≡ Some ring.1
+    → ring_links ring.1.content ≡ Ok links → IsFoundRing s ring
+ring_at_hand s ring links there is = record {
+  there = there;
+  links = links_are ring.1.content links is ∙ ap (λ (o : Option Key). Ok (links_of_key o)) (sym there);
+}
+
 pub found_ring : (s : State) (c : Context) (id : ℤ) (ring : ℕ × Key) (links : List ℕ)
     → look_up s c id (Granted WRITE) ≡ Ok ring → ring_links ring.1.content ≡ Ok links → IsFoundRing s ring
 found_ring s c id ring links found is =
-    let usable = look_up_usable s c id (Granted WRITE) ring found in
-    record {
-      there = usable.there;
-      links = links_are ring.1.content links is ∙ ap (λ (o : Option Key). Ok (links_of_key o)) (sym usable.there);
-    }
+    ring_at_hand s ring links (look_up_usable s c id (Granted WRITE) ring found).there is
 
 ring_content : (content : Content) (links : List ℕ) → ring_links content ≡ Ok links
     → (serials : List ℕ) × (content ≡ Links serials)
@@ -61,6 +64,15 @@ found_is_ring s ring is =
     let content = ring_content ring.1.content (links_of_key_at s.keys ring.0) is.links in
     (ring.1, is.there, content.0, content.1)
 
+-- what is not refused does not hold
+pub not_refused : (bad : Bool) (e : Errno) (x : Unit {0}) → unless bad e ≡ Ok x → bad ≡ false
+not_refused true e x h = absurd cc
+not_refused false e x h = refl
+
+-- a keyring that takes links is not closed
+pub open_ring : (ring : Key) → unless ring.closed EPERM ≡ Ok (tt {0}) → ring.closed ≡ false
+open_ring ring h = not_refused ring.closed EPERM (tt {0}) h
+
 -- what LINK has looked up
 pub record LooksUp (s : State) (client context : ℕ) (key ring : ℤ) (c : Context) (into found : ℕ × Key) : Type 0 where
   pub own : context_of s client context ≡ Ok c
@@ -68,6 +80,7 @@ pub record LooksUp (s : State) (client context : ℕ) (key ring : ℤ) (c : Cont
   pub ring_found : look_up s c ring (Granted WRITE) ≡ Ok into
   pub key_found : look_up s c key (Granted LINK) ≡ Ok found
   pub is_ring : IsFoundRing s into
+  pub unclosed : into.1.closed ≡ false
   pub nests : nestable s.keys into.0 found.0 ≡ Ok (tt {0})
 
 -- ids come as numbers of 32 bits, and are read as signed ones
@@ -75,8 +88,9 @@ pub looks_up : (s : State) (client context : ℕ) (key ring : ℤ) (c : Context)
     → FitsSigned w32 key → FitsSigned w32 ring → context_of s client context ≡ Ok c
     → made_for s context c ring ≡ (s, c) → look_up s c (to_z w32 (of_z w32 ring)) (Granted WRITE) ≡ Ok into
     → look_up s c (to_z w32 (of_z w32 key)) (Granted LINK) ≡ Ok found → ring_links into.1.content ≡ Ok links
+    → unless into.1.closed EPERM ≡ Ok (tt {0})
     → nestable s.keys into.0 found.0 ≡ Ok (tt {0}) → LooksUp s client context key ring c into found
-looks_up s client context key ring c into found links key_fits ring_fits own made ring_found key_found is nests =
+looks_up s client context key ring c into found links key_fits ring_fits own made ring_found key_found is opens nests =
     let ring_there : look_up s c ring (Granted WRITE) ≡ Ok into =
     ap (λ id. look_up s c id (Granted WRITE)) (sym (to_z-of_z w32 ring ring_fits)) ∙ ring_found in
     record {
@@ -85,6 +99,7 @@ looks_up s client context key ring c into found links key_fits ring_fits own mad
       ring_found = ring_there;
       key_found = ap (λ id. look_up s c id (Granted LINK)) (sym (to_z-of_z w32 key key_fits)) ∙ key_found;
       is_ring = found_ring s c ring into links ring_there is;
+      unclosed = open_ring into.1 opens;
       nests = nests;
     }
 
@@ -120,7 +135,7 @@ link_met : (s : State) (client context : ℕ) (key ring : ℤ) (c : Context) (in
     >>= (λ room. Ok (changed s into.0 (linking s.keys (name_of found.1) found.0), Nothing)))
 unfolding link
 link_met s client context key ring c into found l =
-    rw (l.own, l.made, l.ring_found, l.key_found, l.is_ring.links, l.nests)
+    rw (l.own, l.made, l.ring_found, l.key_found, l.is_ring.links, l.unclosed, l.nests)
     (ap (within_serials s) (answered (room_in s.keys into.0 (name_of found.1))
     (changed s into.0 (linking s.keys (name_of found.1) found.0))))
 

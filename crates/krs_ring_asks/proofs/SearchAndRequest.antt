@@ -4,7 +4,7 @@ use Rattle.std.proofs.Common.{true, false, Result, Ok, Err, refl, ap, ◌∙◌,
 use Rattle.std.specs.Int.{w32}
 use Rattle.std.proofs.lemmas.Int.{to_z-of_z}
 use Rattle.krs_types.specs.declared.errno.Errno.{Errno}
-use Rattle.krs_types.specs.declared.errno.Errno.TheVariants.{ENOKEY, EACCES}
+use Rattle.krs_types.specs.declared.errno.Errno.TheVariants.{ENOKEY, EACCES, EPERM}
 use Rattle.krs_types.specs.declared.ask.Answer.{Answer}
 use Rattle.krs_types.specs.declared.ask.Answer.TheVariants.{Number}
 use Rattle.krs_types.specs.declared.context.Context.{Context}
@@ -22,7 +22,7 @@ use Rattle.krs_model.specs.Making.{made_for, within_serials}
 use Rattle.krs_model.specs.Search.{found, requested}
 use Rattle.krs_model.specs.Outcome.{Outcome}
 use Rattle.krs_model.specs.Asks.Changing.{changed}
-use Rattle.krs_model.specs.Asks.Linked.{name_of, nestable, linked_into}
+use Rattle.krs_model.specs.Asks.Linked.{name_of, unless, nestable, linked_into}
 use Rattle.krs_model.specs.Asks.Finding.{search_from, request, sought_name, sought_into, requested_into, found_into}
 use Rattle.krs_model.specs.Asks.Finding.{if_linkable}
 use Rattle.krs_types.specs.Growth.{has_destination}
@@ -32,40 +32,42 @@ use Rattle.krs_ring_asks.proofs.LinkAndUnlink.{IsFoundRing, within_as}
 
 -- a link whose tests are these
 by_tests :
-    (s t : State) (answer : Answer) (nests room : Result (Unit {0}) Errno) → t.next_serial ≡ s.next_serial
-    → within_serials s (◌>>=◌ {B = State × Answer} (◌>>=◌ {B = State} (nests >>= (λ x. room)) (λ y. Ok t))
-    (λ new. Ok (new, answer)))
-    ≡ ◌>>=◌ {B = State × Answer} nests (λ x. room >>= (λ y. Ok (t, answer)))
-by_tests s t answer (Ok x) (Ok y) same = within_as s t answer same
-by_tests s t answer (Ok x) (Err e) same = refl
-by_tests s t answer (Err e) room same = refl
+    (s t : State) (answer : Answer) (unclosed nests room : Result (Unit {0}) Errno) → t.next_serial ≡ s.next_serial
+    → within_serials s (◌>>=◌ {B = State × Answer} (◌>>=◌ {B = State} (unclosed >>= (λ w. nests >>= (λ x. room)))
+    (λ y. Ok t)) (λ new. Ok (new, answer)))
+    ≡ ◌>>=◌ {B = State × Answer} unclosed (λ w. nests >>= (λ x. room >>= (λ y. Ok (t, answer))))
+by_tests s t answer (Ok w) (Ok x) (Ok y) same = within_as s t answer same
+by_tests s t answer (Ok w) (Ok x) (Err e) same = refl
+by_tests s t answer (Ok w) (Err e) room same = refl
+by_tests s t answer (Err e) nests room same = refl
 
 -- the link of a key that was found
-abbrev linked_tests : State → ℕ → ℕ → Key → Outcome
+abbrev linked_tests : State → ℕ × Key → ℕ → Key → Outcome
 linked_tests s into serial key =
-    nestable s.keys into serial >>= (λ nests. room_in s.keys into (name_of key) >>= (λ room.
-    Ok (changed s into (linking s.keys (name_of key) serial), Number serial)))
+    unless into.1.closed EPERM >>= (λ unclosed. nestable s.keys into.0 serial >>= (λ nests.
+    room_in s.keys into.0 (name_of key) >>= (λ room.
+    Ok (changed s into.0 (linking s.keys (name_of key) serial), Number serial))))
 
 into_is :
     (s : State) (into : ℕ × Key) (serial : ℕ) (key : Key) → IsFoundRing s into
     → within_serials s (◌>>=◌ {B = State × Answer} (linked_into s into (serial, key))
     (λ new. Ok (new, Number serial)))
-    ≡ linked_tests s into.0 serial key
+    ≡ linked_tests s into serial key
 into_is s into serial key is =
     rw is.links (by_tests s (changed s into.0 (linking s.keys (name_of key) serial)) (Number serial)
-    (nestable s.keys into.0 serial) (room_in s.keys into.0 (name_of key)) refl)
+    (unless into.1.closed EPERM) (nestable s.keys into.0 serial) (room_in s.keys into.0 (name_of key)) refl)
 
 by_key :
     (s : State) (c : Context) (into : ℕ × Key) (serial : ℕ) (o : Option Key) → IsFoundRing s into
     → within_serials s (or_refuse ENOKEY o >>= (λ key. if_linkable s c serial key
     >>= (λ l. linked_into s into l >>= (λ new. Ok (new, Number serial)))))
-    ≡ ((or_refuse ENOKEY o >>= (λ key. if_granted s c serial key)) >>= (λ key. linked_tests s into.0 serial key))
+    ≡ ((or_refuse ENOKEY o >>= (λ key. if_granted s c serial key)) >>= (λ key. linked_tests s into serial key))
 by_key s c into serial None is = refl
 by_key s c into serial (Some key) is =
     let goes : ℕ × Key → Outcome = λ l. linked_into s into l >>= (λ new. Ok (new, Number serial)) in
     elim (has_all (rights_on key c.caller (possessed s c serial)) LINK)
     as (λ b. within_serials s (cond b (Ok (serial, key)) (Err EACCES) >>= goes)
-    ≡ (cond b (Ok key) (Err EACCES) >>= (λ k. linked_tests s into.0 serial k))) [
+    ≡ (cond b (Ok key) (Err EACCES) >>= (λ k. linked_tests s into serial k))) [
       | true ↦ into_is s into serial key is
       | false ↦ refl
     ]
@@ -75,7 +77,7 @@ pub found_is :
     (s : State) (client number : ℕ) (c : Context) (into : ℕ × Key) (serial : ℕ) → context_of s client number ≡ Ok c
     → IsFoundRing s into → within_serials s (found_into s c into (Ok serial))
     ≡ link_found s client number into.0 serial
-found_is s client number c into serial own is = by_key s c into serial (at s.keys serial) is ∙ sym (rw own refl)
+found_is s client number c into serial own is = by_key s c into serial (at s.keys serial) is ∙ sym (rw (own, is.there) refl)
 
 -- what SEARCH has looked up, with a destination that is there
 pub record Seeks (s : State) (client number : ℕ) (head : ℤ) (type_name desc : List ℕ) (dest : ℤ) (c : Context)

@@ -1,7 +1,7 @@
 -- What the store makes of a key that a search or a request found.
 use Rattle.std.specs.Prelude.{ℕ, Result, Ok, Err, if◌then◌else◌}
 use Rattle.krs_types.specs.declared.errno.Errno.{Errno}
-use Rattle.krs_types.specs.declared.errno.Errno.TheVariants.{ENOKEY, EACCES}
+use Rattle.krs_types.specs.declared.errno.Errno.TheVariants.{ENOKEY, EACCES, EPERM}
 use Rattle.krs_types.specs.declared.context.Context.{Context}
 use Rattle.krs_types.specs.declared.name.Name.{Name}
 use Rattle.krs_types.specs.declared.ask.Answer.TheVariants.{Number}
@@ -15,7 +15,7 @@ use Rattle.krs_model.specs.Lookup.{context_of}
 use Rattle.krs_model.specs.Linking.{linking, ring_links}
 use Rattle.krs_model.specs.Search.{found}
 use Rattle.krs_model.specs.Asks.Changing.{changed}
-use Rattle.krs_model.specs.Asks.Linked.{name_of, nestable}
+use Rattle.krs_model.specs.Asks.Linked.{name_of, nestable, unless}
 use Rattle.krs_model.specs.Outcome.{Outcome}
 use Rattle.krs_tables.specs.Linked.{room_in}
 
@@ -40,6 +40,8 @@ abbrev pub link_found : State → ℕ → ℕ → ℕ → ℕ → Outcome
 link_found s client context into serial = do
   c ← context_of s client context
   key ← linkable s c serial
+  ring ← or_refuse ENOKEY (at s.keys into)
+  unclosed ← unless ring.closed EPERM
   nests ← nestable s.keys into serial
   room ← room_in s.keys into (name_of key)
   Ok (changed s into (linking s.keys (name_of key) serial), Number serial)

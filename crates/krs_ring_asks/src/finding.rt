@@ -11,7 +11,7 @@ ghost use Rattle.krs_tables.specs.Specials.{IsMissing};
 ghost use Rattle.krs_ring_asks.specs.Beside.{found_made, found_before, beside};
 ghost use Rattle.krs_keys.specs.Keys.{seen};
 
-use crate::linking::{check_nesting, links_of, put_link};
+use crate::linking::{check_nesting, check_open, links_of, put_link};
 use krs_keys::Key;
 use krs_tables::{Special, Tables};
 use krs_types::{
@@ -152,7 +152,7 @@ fn link_found_new(
     )
 }
 
-/// A link in a keyring to a key that was found: EACCES where it does not grant LINK, EDEADLK, ELOOP, ENFILE.
+/// A link in a keyring to a key that was found: EACCES where it does not grant LINK, EPERM, EDEADLK, ELOOP, ENFILE.
 fn link_found(
     tables: &mut Tables,
     client: u32,
@@ -166,6 +166,8 @@ fn link_found(
     let context = tables.context_of(client, number)?;
     let _found = linkable(tables, context, serial)?;
     let into = Serial::new(into);
+    let ring = tables.key(into).ok_or(Errno::ENOKEY)?;
+    check_open(ring)?;
     check_nesting(tables, into, serial)?;
     put_link(tables, into, serial)?;
     Ok(Answer::Number(serial.number()))

@@ -7,7 +7,8 @@ ghost use Rattle.krs_model.specs.Lookup.{context_of};
 ghost use Rattle.krs_model.specs.Sound.{IsSound};
 ghost use Rattle.krs_model.specs.Asks.Adding.{IsKeyringAt};
 ghost use Rattle.krs_model.specs.Asks.Changing.{changed};
-ghost use Rattle.krs_model.specs.Asks.Linked.{link, unlink, clear, nestable};
+ghost use Rattle.krs_model.specs.Asks.Linked.{link, unlink, clear, unless, nestable};
+ghost use Rattle.krs_types.specs.declared.errno.Errno.TheVariants.{EPERM};
 ghost use Rattle.krs_keys.specs.Keys.{seen};
 ghost use Rattle.krs_links.specs.Links.{serials};
 ghost use Rattle.krs_tables.specs.Holding.{holders_in};
@@ -89,6 +90,7 @@ fn link_to(
     let (ring, into) = tables.look_up(context, ring, Want::Granted(Rights::WRITE))?;
     let (serial, _found) = tables.look_up(context, key, Want::Granted(Rights::LINK))?;
     links_of(into)?;
+    check_open(into)?;
     check_nesting(tables, Serial::new(ring), Serial::new(serial))?;
     put_link(tables, Serial::new(ring), Serial::new(serial))?;
     Ok(Answer::Nothing)
@@ -135,6 +137,16 @@ fn is_coming(tables: &Tables, special: Special, id: i32) -> bool
         KeyId::Process => special == Special::Process,
         KeyId::Session | KeyId::User | KeyId::UserSession => false,
     }
+}
+
+/// A keyring that is not closed takes further links: EPERM.
+pub(crate) fn check_open(ring: &Key) -> Result<(), Errno>
+    ensures { Is (λ done. done) result (unless (seen ring.now).closed EPERM) }
+{
+    if ring.closed {
+        return Err(Errno::EPERM);
+    }
+    Ok(())
 }
 
 /// Whether a link from the keyring to the key closes a cycle, or nests a keyring too deep: EDEADLK, ELOOP.
@@ -205,7 +217,7 @@ fn put_named(
 }
 
 /// The link to a key out of a keyring, where it is there. It takes no memory.
-fn take_link(tables: &mut Tables, ring: Serial, serial: Serial) -> Result<(), Errno>
+pub(crate) fn take_link(tables: &mut Tables, ring: Serial, serial: Serial) -> Result<(), Errno>
     ensures { Takes tables.old result tables.new ring serial }
 {
     if !tables.keys.unlink(ring, serial) {

@@ -1,0 +1,379 @@
+-- MOVE, from what the store has looked up to what it comes to.
+use Rattle.std.proofs.Common.{◌≡◌, ◌≢◌, ℕ, ℤ, ◌==◌, ◌&&◌, List, [], Option, None, Some, Bool, true, false, cond, nat_lt}
+use Rattle.std.proofs.Common.{Result, Ok, Err, refl, ap, ◌∙◌, sym, subst, arith, ⊎_elim, FitsSigned, to_z, of_z}
+use Rattle.std.specs.Option.{IsSome, IfSome, is_some, option_map}
+use Rattle.std.specs.Int.{w32}
+use Rattle.std.proofs.lemmas.Int.{to_z-of_z}
+use Rattle.std.proofs.lemmas.Bool.{true≢false, eqb-true}
+use Rattle.std.proofs.lemmas.Option.{none-some}
+use Rattle.krs_types.specs.declared.errno.Errno.{Errno}
+use Rattle.krs_types.specs.declared.errno.Errno.TheVariants.{ENOKEY, ENOENT, ENOSPC, ELOOP, EINVAL, EEXIST}
+use Rattle.krs_types.specs.declared.ask.Answer.{Answer}
+use Rattle.krs_types.specs.declared.ask.Answer.TheVariants.{Nothing}
+use Rattle.krs_types.specs.declared.context.Context.{Context}
+use Rattle.krs_types.specs.declared.fault.Fault.{Fault}
+use Rattle.krs_types.specs.declared.fault.Fault.TheVariants.{Memory, Refused}
+use Rattle.krs_types.specs.declared.name.Name.{Name}
+use Rattle.krs_types.specs.declared.rights.Want.TheVariants.{Granted}
+use Rattle.krs_types.specs.Rights.{WRITE, LINK}
+use Rattle.krs_types.specs.Refusing.{◌>>=◌, or_refuse}
+use Rattle.krs_model.specs.Table.{Table, at, put, alter}
+use Rattle.krs_model.specs.State.{State, Key, Content, Payload, Links}
+use Rattle.krs_model.specs.Levels.{is_in}
+use Rattle.krs_model.specs.Sweep.{links_of_key}
+use Rattle.krs_model.specs.Reach.{links_of_key_at, has_chain}
+use Rattle.krs_model.specs.Linking.{ring_links, link_named, linking}
+use Rattle.krs_model.specs.Lookup.{context_of, look_up}
+use Rattle.krs_model.specs.Making.{made_for, within_serials, special_ring}
+use Rattle.krs_model.specs.Outcome.{Outcome, Fails}
+use Rattle.krs_model.specs.Asks.Changing.{changed}
+use Rattle.krs_model.specs.Asks.Linked.{unless, name_of, if_linked, linked_into, nestable, without_link}
+use Rattle.krs_model.specs.Asks.Moving.{move_link, moved, moved_over, moved_to}
+use Rattle.krs_model.proofs.Tables.Changes.{at_or_apart, at_alter_other}
+use Rattle.krs_model.proofs.Asks.Later.{bind_ok, same_ok, same_state, within_ok}
+use Rattle.krs_model.proofs.Asks.LaterByAsk.{IsMoved, Stays, Moves, moved_is, linked_into_is}
+use Rattle.krs_model.proofs.Lookups.Laws.{look_up_usable}
+use Rattle.krs_model.proofs.MadeKeyring.State.{at_other}
+use Rattle.krs_model.proofs.MadeKeyring.Lookups.{look_up_new}
+use Rattle.krs_model.proofs.MadeKeyring.Links.{linked_into_new}
+use Rattle.krs_keys.specs.declared.key.Key as keys
+use Rattle.krs_keys.specs.Keys.{seen, named_links_of_content, FindsByName}
+use Rattle.krs_keys.proofs.KeysLemmas.{serials-content}
+use Rattle.krs_links.specs.Links.{serials, serial_named}
+use Rattle.krs_tables.specs.declared.making.Special.{Special}
+use Rattle.krs_tables.specs.declared.making.Special.TheVariants.{Thread, Process}
+use Rattle.krs_tables.specs.Specials.{special_name, with_ring, linking_made}
+use Rattle.krs_tables.specs.Linked.{name_in, room_in, Puts}
+use Rattle.krs_tables.proofs.MadeFor.{IsNew, context_with, before, behind}
+use Rattle.krs_ring_asks.specs.Moved as specs
+use Rattle.krs_ring_asks.specs.Moved.{moved_at, moved_new, moved_links}
+use Rattle.krs_ring_asks.proofs.LinkAndUnlink.{within_as, put_under, IsFoundRing}
+
+-- what takes no serial is within them
+within_same :
+    (s : State) (r : Outcome) → ((x : State × Answer) → r ≡ Ok x → x.0.next_serial ≡ s.next_serial)
+    → within_serials s r ≡ r
+within_same s (Err e) same = refl
+within_same s (Ok x) same = within_as s x.0 x.1 (same x refl)
+
+-- a move takes none
+is_moved_serial :
+    (s : State) (found from into : ℕ × Key) (new : State) → IsMoved s found from into new
+    → new.next_serial ≡ s.next_serial
+is_moved_serial s found from into _ Stays = refl
+is_moved_serial s found from into _ (Moves mid linked) =
+    ap (λ (t : State). t.next_serial) (sym (linked_into_is s into found mid linked).is)
+
+moved_serial :
+    (s : State) (c : Context) (exclusive : Bool) (found from : ℕ × Key) (to : ℤ) (x : State × Answer)
+    → moved_to s c exclusive found from to ≡ Ok x → x.0.next_serial ≡ s.next_serial
+moved_serial s c exclusive found from to x h =
+    let a = bind_ok (look_up s c to (Granted WRITE)) _ x h in
+    let b = bind_ok (moved s exclusive found from a.0) _ x a.2 in
+    let end : Outcome = Ok (b.0, Nothing) in
+    let same : (b.0, Nothing) ≡ x = same_ok end (b.0, Nothing) x refl b.2 in
+    ap (λ (y : State × Answer). y.0.next_serial) (sym same)
+    ∙ is_moved_serial s found from a.0 b.0 (moved_is s exclusive found from a.0 b.0 b.1)
+
+-- what MOVE has looked up before the second keyring
+pub record LooksUpMoved (s : State) (client number : ℕ) (key from : ℤ) (flags : ℕ) (c : Context)
+    (found source : ℕ × Key) : Type 0 where
+  pub own : context_of s client number ≡ Ok c
+  pub known : unless (nat_lt 1 flags) EINVAL ≡ Ok (tt {0})
+  pub key_found : look_up s c key (Granted LINK) ≡ Ok found
+  pub ring_found : look_up s c from (Granted WRITE) ≡ Ok source
+
+-- into a keyring that is there
+pub move_at_is :
+    (s : State) (client number : ℕ) (key from to : ℤ) (flags : ℕ) (c : Context) (found source : ℕ × Key)
+    → LooksUpMoved s client number key from flags c found source → made_for s number c to ≡ (s, c)
+    → move_link s client number key from to flags ≡ moved_at s client number found.0 source.0 to flags
+unfolding move_link
+move_at_is s client number key from to flags c found source l made =
+    let goes = moved_to s c (flags == 1) found source to in
+    let key_there = (look_up_usable s c key (Granted LINK) found l.key_found).there in
+    let ring_there = (look_up_usable s c from (Granted WRITE) source l.ring_found).there in
+    let here : move_link s client number key from to flags ≡ within_serials s goes =
+    rw (l.own, l.known, l.key_found, l.ring_found, made) refl in
+    let there : moved_at s client number found.0 source.0 to flags ≡ goes = rw (l.own, key_there, ring_there) refl in
+    here ∙ (within_same s goes (λ x h. moved_serial s c (flags == 1) found source to x h) ∙ sym there)
+
+-- a keyring without links has none of that name
+none_displaced :
+    (t : State) (exclusive : Bool) (found : ℕ × Key) (from : ℕ) (into : ℕ × Key)
+    → moved_over t exclusive found from into []
+    ≡ (linked_into t into found >>= (λ mid. Ok (changed mid from (without_link found.0))))
+none_displaced t true found from into = refl
+none_displaced t false found from into = refl
+
+-- one link less takes no serial
+room_kept :
+    (b : Bool) (x : State) (from serial : ℕ)
+    → cond b (Err ENOSPC) (Ok (changed x from (without_link serial), Nothing))
+    ≡ ◌>>=◌ {A = State × Answer} {B = State × Answer} (cond b (Err ENOSPC) (Ok (x, Nothing)))
+    (λ made. Ok (changed made.0 from (without_link serial), made.1))
+room_kept true x from serial = refl
+room_kept false x from serial = refl
+
+-- the same links and refusals, with the serials looked at before the link goes out, or behind it
+abbrev going : State → ℕ → ℕ → Result (Unit {0}) Errno → Result State Errno
+going x from serial nests =
+    ◌>>=◌ {B = State} (nests >>= (λ n. Ok x)) (λ mid. Ok (changed mid from (without_link serial)))
+
+abbrev coming : State → State → ℕ → ℕ → Result (Unit {0}) Errno → Outcome
+coming s x from serial nests =
+    ◌>>=◌ {A = State × Answer} {B = State × Answer} (nests >>= (λ n. within_serials s (Ok (x, Nothing))))
+    (λ made. Ok (changed made.0 from (without_link serial), made.1))
+
+nested_within :
+    (s x : State) (from serial : ℕ) (nests : Result (Unit {0}) Errno)
+    → within_serials s (going x from serial nests >>= (λ (new : State). Ok (new, Nothing)))
+    ≡ coming s x from serial nests
+nested_within s x from serial (Err e) = refl
+nested_within s x from serial (Ok n) =
+    room_kept (nat_lt s.next_serial x.next_serial && nat_lt 2147483648 x.next_serial) x from serial
+
+linked_within :
+    (s x : State) (from serial : ℕ) (there : Result ℕ Errno) (nests : Result (Unit {0}) Errno)
+    → within_serials s ((there >>= (λ k. going x from serial nests)) >>= (λ (new : State). Ok (new, Nothing)))
+    ≡ (there >>= (λ k. coming s x from serial nests))
+linked_within s x from serial (Err e) nests = refl
+linked_within s x from serial (Ok k) nests = nested_within s x from serial nests
+
+links_within :
+    (s x : State) (from serial : ℕ) (links : Result (List ℕ) Errno) (nests : Result (Unit {0}) Errno)
+    → within_serials s ((links >>= (λ l. if_linked serial l >>= (λ k. going x from serial nests)))
+    >>= (λ (new : State). Ok (new, Nothing)))
+    ≡ (links >>= (λ l. if_linked serial l >>= (λ k. coming s x from serial nests)))
+links_within s x from serial (Err e) nests = refl
+links_within s x from serial (Ok l) nests = linked_within s x from serial (if_linked serial l) nests
+
+not_one : (a b : ℕ) → a ≢ b → (a == b) ≡ false
+not_one a b other =
+    elim (a == b) as (λ t. (a == b) ≡ t → t ≡ false) [
+      | true ↦ λ t. absurd (other (eqb-true a b t))
+      | false ↦ λ t. refl
+    ] refl
+
+-- into a keyring that is made for it
+pub move_new_is :
+    (special : Special) (s : State) (client number : ℕ) (key from to : ℤ) (flags : ℕ) (c : Context)
+    (found source : ℕ × Key)
+    → LooksUpMoved s client number key from flags c found source → IsNew special s number c to
+    → move_link s client number key from to flags ≡ moved_new special s client number found.0 source.0
+unfolding move_link
+move_new_is special s client number key from to flags c found source l new =
+    let t = with_ring special s number c in
+    let d = context_with special s c in
+    let n = s.next_serial in
+    let desc = (special_name special).desc in
+    let into : ℕ × Key = (n, special_ring desc c.caller) in
+    let exclusive = flags == 1 in
+    let there = (look_up_usable s c key (Granted LINK) found l.key_found).there in
+    let source_there = (look_up_usable s c from (Granted WRITE) source l.ring_found).there in
+    let unused : (k : ℕ) (v : Key) → at s.keys k ≡ Some v → k ≢ n = λ k v is e.
+    none-some v (sym (ap (λ (z : ℕ). at s.keys z) e ∙ new.fit.none) ∙ is) in
+    let nests : Result (Unit {0}) Errno = unless (has_chain s.keys found.0 6) ELOOP in
+    let x : State = changed t n (linking t.keys (name_of found.1) found.0) in
+    let over : cond (source.0 == n) (Ok t) (moved_over t exclusive found source.0 into [])
+    ≡ going x source.0 found.0 nests =
+    ap (λ (b : Bool). cond b (Ok t) (moved_over t exclusive found source.0 into []))
+    (not_one source.0 n (unused source.0 source.1 source_there))
+    ∙ (none_displaced t exclusive found source.0 into
+    ∙ ap (λ (r : Result State Errno). r >>= (λ mid. Ok (changed mid source.0 (without_link found.0))))
+    (linked_into_new s t c d desc (before special c) (behind special s c) found new.made new.fit.linked new.fit.none
+    (unused found.0 found.1 there))) in
+    let by_links : Result State Errno → Result State Errno = λ r.
+    ring_links source.1.content >>= (λ links. if_linked found.0 links >>= (λ k. r)) in
+    let goes : ℕ × Key → Outcome = λ to_ring. moved t exclusive found source to_ring >>= (λ y. Ok (y, Nothing)) in
+    let looked : moved_to t d exclusive found source to ≡ goes into =
+    ap (λ (r : Result (ℕ × Key) Errno). r >>= goes)
+    (look_up_new s t c d desc (before special c) (behind special s c) to WRITE new.made new.named refl) in
+    let here : move_link s client number key from to flags
+    ≡ within_serials s (moved_to t d exclusive found source to) =
+    rw (l.own, l.known, l.key_found, l.ring_found)
+    (ap (λ (y : State × Context). within_serials s (moved_to y.0 y.1 exclusive found source to)) new.is) in
+    let through : within_serials s (goes into)
+    ≡ within_serials s (by_links (going x source.0 found.0 nests) >>= (λ (y : State). Ok (y, Nothing))) =
+    ap (λ (r : Result State Errno). within_serials s (by_links r >>= (λ (y : State). Ok (y, Nothing)))) over in
+    let back : moved_new special s client number found.0 source.0
+    ≡ (ring_links source.1.content >>= (λ links. if_linked found.0 links
+    >>= (λ k. coming s x source.0 found.0 nests))) = rw (source_there, l.own, there) refl in
+    here ∙ (ap (within_serials s) looked ∙ (through
+    ∙ (links_within s x source.0 found.0 (ring_links source.1.content) nests ∙ sym back)))
+
+-- ids come as numbers of 32 bits, and are read as signed ones
+pub looks_up_moved :
+    (s : State) (client number : ℕ) (key from : ℤ) (flags : ℕ) (c : Context) (found source : ℕ × Key)
+    → FitsSigned w32 key → FitsSigned w32 from → context_of s client number ≡ Ok c
+    → unless (nat_lt 1 flags) EINVAL ≡ Ok (tt {0})
+    → look_up s c (to_z w32 (of_z w32 key)) (Granted LINK) ≡ Ok found
+    → look_up s c (to_z w32 (of_z w32 from)) (Granted WRITE) ≡ Ok source
+    → LooksUpMoved s client number key from flags c found source
+looks_up_moved s client number key from flags c found source key_fits from_fits own known key_found ring_found = record {
+  own = own;
+  known = known;
+  key_found = ap (λ id. look_up s c id (Granted LINK)) (sym (to_z-of_z w32 key key_fits)) ∙ key_found;
+  ring_found = ap (λ id. look_up s c id (Granted WRITE)) (sym (to_z-of_z w32 from from_fits)) ∙ ring_found;
+}
+
+-- ---- the link that goes out
+
+-- another keyring keeps its links
+links_stay :
+    (keys : Table Key) (ring other : ℕ) (f : Key → Key) → other ≢ ring
+    → links_of_key_at (alter keys ring f) other ≡ links_of_key_at keys other
+links_stay keys ring other f apart =
+    ap links_of_key (⊎_elim (λ (e : other ≡ ring). absurd (apart e)) (λ h. at_alter_other keys ring other f h)
+    (at_or_apart other ring))
+
+-- what is linked, by the test
+pub linked_is : (serial : ℕ) (links : List ℕ) (x : ℕ) → if_linked serial links ≡ Ok x → is_in serial links ≡ true
+linked_is serial links x h =
+    elim (is_in serial links) as (λ b. cond b (Ok serial) (Err ENOENT) ≡ Ok x → b ≡ true) [
+      | true ↦ λ e. refl
+      | false ↦ λ e. absurd cc
+    ] h
+
+some_is : (o : Option Key) → IsSome o → (k : Key) × (o ≡ Some k)
+some_is None h = absurd (true≢false (sym h))
+some_is (Some k) h = (k, refl)
+
+-- the first keyring still links the key once the second does
+pub put_leaves :
+    (s mid : State) (from into serial : ℕ) → IsSome (at s.keys serial) → from ≢ into
+    → IfSome (name_in s serial) (λ name. Puts s (Ok (tt {0})) mid into name serial)
+    → is_in serial (links_of_key_at s.keys from) ≡ true → is_in serial (links_of_key_at mid.keys from) ≡ true
+put_leaves s mid from into serial there apart puts linked =
+    let key = some_is (at s.keys serial) there in
+    let is = put_under s mid (Ok (tt {0})) into serial key.0 key.1 puts in
+    let f = linking s.keys (name_of key.0) serial in
+    subst (λ (t : State). is_in serial (links_of_key_at t.keys from) ≡ true) (sym is.1)
+    (ap (is_in serial) (links_stay s.keys into from f apart) ∙ linked)
+
+at_with_ring :
+    (special : Special) (s : State) (number : ℕ) (c : Context) (k : ℕ) → k ≢ s.next_serial
+    → at (with_ring special s number c).keys k ≡ at s.keys k
+at_with_ring Thread s number c k other = at_other s.keys s.next_serial k _ other
+at_with_ring Process s number c k other = at_other s.keys s.next_serial k _ other
+
+-- and once a keyring was made that does
+pub making_leaves :
+    (special : Special) (s mid : State) (client number serial from : ℕ) (answer : Answer)
+    → at s.keys s.next_serial ≡ None → linking_made special s client number serial Nothing ≡ Ok (mid, answer)
+    → is_in serial (links_of_key_at s.keys from) ≡ true → is_in serial (links_of_key_at mid.keys from) ≡ true
+making_leaves special s mid client number serial from answer none h linked =
+    let a = bind_ok (context_of s client number) _ (mid, answer) h in
+    let b = bind_ok (or_refuse ENOKEY (at s.keys serial)) _ (mid, answer) a.2 in
+    let d = bind_ok (unless (has_chain s.keys serial 6) ELOOP) _ (mid, answer) b.2 in
+    let t = with_ring special s number a.0 in
+    let n = s.next_serial in
+    let f = linking t.keys (name_of b.0) serial in
+    let x : State = changed t n f in
+    let done : Outcome = Ok (x, Nothing) in
+    let end : x ≡ mid = same_state done x mid Nothing answer refl (within_ok s done (mid, answer) d.2) in
+    let other : from ≢ n = λ e. true≢false
+    (sym linked ∙ ap (λ (o : Option Key). is_in serial (links_of_key o)) (ap (λ (z : ℕ). at s.keys z) e ∙ none)) in
+    subst (λ (y : State). is_in serial (links_of_key_at y.keys from) ≡ true) end
+    (ap (is_in serial) (links_stay t.keys n from f other
+    ∙ ap links_of_key (at_with_ring special s number a.0 from other)) ∙ linked)
+
+-- ---- into a keyring that is there
+
+-- whether a keyring has a link of that name
+pub free_told :
+    (s : State) (into : ℕ) (ring : keys.Key) (name : Name) (exclusive : Bool) → at s.keys into ≡ Some (seen ring)
+    → FindsByName s.keys ring
+    → (exclusive && is_some (serial_named (named_links_of_content ring.content) name)) ≡ false
+    → (exclusive && is_some (link_named s.keys name (links_of_key_at s.keys into))) ≡ false
+free_told s into ring name exclusive there finds free =
+    let links : links_of_key_at s.keys into ≡ serials (named_links_of_content ring.content) =
+    ap links_of_key there ∙ sym (serials-content ring.content) in
+    ap (λ (o : Option ℕ). exclusive && is_some o) (ap (link_named s.keys name) links ∙ finds name) ∙ free
+
+-- what a move into a keyring that is there has looked up and tested
+pub record MayMove (s : State) (client number serial from : ℕ) (to : ℤ) (flags : ℕ) (c : Context) (key source : Key)
+    (into : ℕ × Key) : Type 0 where
+  pub own : context_of s client number ≡ Ok c
+  pub there : at s.keys serial ≡ Some key
+  pub is_source : IsFoundRing s (from, source)
+  pub ring_found : look_up s c to (Granted WRITE) ≡ Ok into
+  pub is_ring : IsFoundRing s into
+  pub linked : is_in serial (links_of_key_at s.keys from) ≡ true
+  pub apart : (from == into.0) ≡ false
+  pub free :
+      ((flags == 1) && is_some (link_named s.keys (name_of key) (links_of_key_at s.keys into.0))) ≡ false
+  pub unclosed : into.1.closed ≡ false
+  pub nests : nestable s.keys into.0 serial ≡ Ok (tt {0})
+
+move_answered :
+    (room : Result (Unit {0}) Errno) (x : State) (from serial : ℕ)
+    → ◌>>=◌ {B = State × Answer} (◌>>=◌ {B = State} (◌>>=◌ {B = State} room (λ there. Ok x))
+    (λ new. Ok (changed new from (without_link serial)))) (λ new. Ok (new, Nothing))
+    ≡ ◌>>=◌ {B = State × Answer} room (λ there. Ok (changed x from (without_link serial), Nothing))
+move_answered (Ok there) x from serial = refl
+move_answered (Err e) x from serial = refl
+
+-- it comes to what the room of the keyring says
+move_met :
+    (s : State) (client number serial from : ℕ) (to : ℤ) (flags : ℕ) (c : Context) (key source : Key)
+    (into : ℕ × Key)
+    → MayMove s client number serial from to flags c key source into
+    → moved_at s client number serial from to flags
+    ≡ (room_in s.keys into.0 (name_of key)
+    >>= (λ room. Ok (moved_links s from into.0 (name_of key) serial, Nothing)))
+move_met s client number serial from to flags c key source into l =
+    rw (
+      l.own,
+      l.there,
+      l.is_source.there,
+      l.ring_found,
+      l.is_source.links,
+      l.is_ring.links,
+      l.linked,
+      l.apart,
+      l.free,
+      l.unclosed,
+      l.nests,
+    )
+    (move_answered (room_in s.keys into.0 (name_of key))
+    (changed s into.0 (linking s.keys (name_of key) serial)) from serial)
+
+-- the link of a key that is there has the key's name
+moves_under :
+    (s new : State) (r : Result (Unit {0}) Fault) (from into serial : ℕ) (key : Key) → at s.keys serial ≡ Some key
+    → IfSome (name_in s serial) (λ name. specs.Moves s r new from into name serial)
+    → specs.Moves s r new from into (name_of key) serial
+moves_under s new r from into serial key there h =
+    subst (λ (o : Option Key). IfSome (option_map name_of o) (λ name. specs.Moves s r new from into name serial)) there h
+
+pub move_done :
+    (s new : State) (client number serial from : ℕ) (to : ℤ) (flags : ℕ) (c : Context) (key source : Key)
+    (into : ℕ × Key)
+    → MayMove s client number serial from to flags c key source into
+    → IfSome (name_in s serial) (λ name. specs.Moves s (Ok (tt {0})) new from into.0 name serial)
+    → moved_at s client number serial from to flags ≡ Ok (new, Nothing)
+move_done s new client number serial from to flags c key source into l moves =
+    let is = moves_under s new (Ok (tt {0})) from into.0 serial key l.there moves in
+    move_met s client number serial from to flags c key source into l ∙ rw (is.0, is.1) refl
+
+-- no room, or no memory where there is room
+fails_room :
+    (room : Result (Unit {0}) Errno) (x : State × Answer) (e : Fault) → Fails e room
+    → Fails e (room >>= (λ there. Ok x))
+fails_room (Ok there) x Memory h = refl
+fails_room (Err y) x Memory h = absurd cc
+fails_room room x (Refused e) h = rw h refl
+
+pub move_failed :
+    (s new : State) (client number serial from : ℕ) (to : ℤ) (flags : ℕ) (c : Context) (key source : Key)
+    (into : ℕ × Key) (e : Fault)
+    → MayMove s client number serial from to flags c key source into
+    → IfSome (name_in s serial) (λ name. specs.Moves s (Err e) new from into.0 name serial)
+    → Fails e (moved_at s client number serial from to flags) × (new ≡ s)
+move_failed s new client number serial from to flags c key source into e l moves =
+    let is = moves_under s new (Err e) from into.0 serial key l.there moves in (
+      subst (Fails e) (sym (move_met s client number serial from to flags c key source into l))
+          (fails_room (room_in s.keys into.0 (name_of key)) _ e is.0),
+      is.1,
+    )
