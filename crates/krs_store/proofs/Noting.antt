@@ -14,11 +14,12 @@ use Rattle.krs_types.specs.declared.ask.Op.TheVariants.{Update, Revoke, Invalida
 use Rattle.krs_types.specs.declared.ask.Op.TheVariants.{Unlink}
 use Rattle.krs_types.specs.declared.ask.Op.TheVariants.{Clear, Read, Describe, Watch, OpenQueue, SetFilter, ReadQueue}
 use Rattle.krs_types.specs.declared.ask.Op.TheVariants.{CloseQueue, Exit, Leave}
+use Rattle.krs_types.specs.declared.ask.Op.TheVariants.{Move, RestrictKeyring}
 use Rattle.krs_types.specs.declared.note.KeyEvent.TheVariants.{Updated, Linked}
 use Rattle.krs_model.specs.Table.{Table, at}
 use Rattle.krs_model.specs.State.{State, Key, Queue}
 use Rattle.krs_model.specs.Queues.{Queues, queues_of}
-use Rattle.krs_model.specs.Outcome.{Leads}
+use Rattle.krs_model.specs.Outcome.{Leads, Is}
 use Rattle.krs_model.specs.Sound.{IsSound}
 use Rattle.krs_model.specs.Step.{outcome_of}
 use Rattle.krs_tables.specs.Serving.{Tells, LeadsTold}
@@ -66,7 +67,9 @@ ran_as s client context (SetPerm id mask) r new ran = inl (record { none_ended =
 ran_as s client context (SetTimeout id seconds) r new ran = inl (record { none_ended = refl; leads = ran })
 ran_as s client context (Link key ring) r new ran = inl (record { none_ended = refl; leads = ran })
 ran_as s client context (Unlink key ring) r new ran = inl (record { none_ended = refl; leads = ran })
+ran_as s client context (Move key from to flags) r new ran = inl (record { none_ended = refl; leads = ran })
 ran_as s client context (Clear id) r new ran = inl (record { none_ended = refl; leads = ran })
+ran_as s client context (RestrictKeyring ring type_name) r new ran = inl (record { none_ended = refl; leads = ran })
 ran_as s client context (Read id) r new ran = inl (record { none_ended = refl; leads = ran })
 ran_as s client context (Describe id) r new ran = inl (record { none_ended = refl; leads = ran })
 ran_as s client context (Watch id queue watch_id) r new ran = inr (record { quiet = λ answer. refl; told = ran })
@@ -76,6 +79,11 @@ ran_as s client context (ReadQueue queue room) r new ran = inl (record { none_en
 ran_as s client context (CloseQueue queue) r new ran = inl (record { none_ended = refl; leads = ran })
 ran_as s client context Exit r new ran = inl (record { none_ended = refl; leads = ran })
 ran_as s client context Leave r new ran = inl (record { none_ended = refl; leads = ran })
+
+-- what an id was found to stand for is what it stands for
+pub same_named : (r meant : Result ℕ Errno) → Is (λ (n : ℕ). n) r meant → r ≡ meant
+same_named (Ok n) meant is = sym is
+same_named (Err e) meant is = sym is
 
 posts_told_is : (q : Queues) (o : Option Note) → posts_told q o ≡ flat_map (posts_of q) (option_to_list o)
 posts_told_is q None = refl

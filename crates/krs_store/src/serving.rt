@@ -9,7 +9,7 @@ use crate::watching;
 use crate::watching::{close_queue, open_queue, read_queue, set_filter};
 use krs_context_asks::{exec, exit, fork, hello, join, leave, thread};
 use krs_key_asks::{add, chown, describe, read, revoke, set_perm, set_timeout, update};
-use krs_ring_asks::{clear, get_id, invalidate, link, request, search, unlink};
+use krs_ring_asks::{clear, get_id, invalidate, link, move_link, request, restrict_keyring, search, unlink};
 use krs_tables::Tables;
 use krs_types::{Answer, Ask, Fault, Op};
 
@@ -55,7 +55,9 @@ fn run(tables: &mut Tables, client: u32, ask: Ask) -> Result<Answer, Fault>
         Op::SetTimeout { id, seconds } => set_timeout(tables, client, context, id, seconds),
         Op::Link { key, ring } => link(tables, client, context, key, ring),
         Op::Unlink { key, ring } => unlink(tables, client, context, key, ring),
+        Op::Move { key, from, to, flags } => move_link(tables, client, context, key, from, to, flags),
         Op::Clear { id } => clear(tables, client, context, id),
+        Op::RestrictKeyring { ring, type_name } => restrict_keyring(tables, client, context, ring, type_name),
         Op::Read { id } => read(tables, client, context, id),
         Op::Describe { id } => describe(tables, client, context, id),
         Op::Watch { id, queue, watch } => watching::watch(tables, client, context, id, queue, watch),

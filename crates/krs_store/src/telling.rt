@@ -1,12 +1,15 @@
 ghost use Rattle.std.specs.Prelude.{◌≡◌, flat_map};
-ghost use Rattle.std.specs.Option.{option_map};
+ghost use Rattle.std.specs.Option.{option_map, option_to_list};
+ghost use Rattle.krs_types.specs.declared.ask.Answer.{Answer};
 ghost use Rattle.std.specs.Result.{result_ok};
 ghost use Rattle.krs_model.specs.Outcome.{Is};
 ghost use Rattle.krs_model.specs.Queues.{queues_of};
 ghost use Rattle.krs_model.specs.Sound.{IsSound};
 ghost use Rattle.krs_types.specs.Growth.{has_destination};
 ghost use Rattle.krs_model.specs.Notes.Posting.{posted_in, posts_of};
-ghost use Rattle.krs_model.specs.Notes.Telling.{named, about, about_link, about_found};
+ghost use Rattle.krs_types.specs.declared.note.KeyEvent.TheVariants.{Linked, Unlinked};
+ghost use Rattle.krs_model.specs.Notes.Telling.{named, about, about_link, about_moved, about_found};
+ghost use Rattle.krs_model.specs.Notes.Telling.{is_one_ring};
 ghost use Rattle.krs_store.specs.Telling.{told_of, told_by, only, meant_note, linked_note, number_of, posts_told};
 ghost use Rattle.krs_store.specs.Telling.{Says, Foretells};
 ghost use Rattle.krs_store.specs.declared.telling.Telling.TheVariants.{Quiet, OfAdded};
@@ -144,6 +147,7 @@ pub(crate) fn foretell(tables: &Tables, client: u32, context: u32, op: &Op) -> T
         Op::Unlink { key, ring } => {
             about_link(tables, client, context, KeyEvent::Unlinked, *ring, *key)
         }
+        Op::Move { key, from, to, .. } => about_moved(tables, client, context, *key, *from, *to),
         Op::Search { dest, .. } => about_found(tables, client, context, *dest),
         Op::Request { dest, .. } => about_found(tables, client, context, *dest),
         Op::Add { ring, .. } => about_added(tables, client, context, *ring),
@@ -151,7 +155,7 @@ pub(crate) fn foretell(tables: &Tables, client: u32, context: u32, op: &Op) -> T
         Op::Join { .. } | Op::Read { .. } | Op::Describe { .. } => Tellings::none(),
         Op::Watch { .. } | Op::OpenQueue { .. } | Op::SetFilter { .. } => Tellings::none(),
         Op::ReadQueue { .. } | Op::CloseQueue { .. } => Tellings::none(),
-        Op::Exit | Op::Leave => Tellings::none(),
+        Op::RestrictKeyring { .. } | Op::Exit | Op::Leave => Tellings::none(),
     }
 }
 
@@ -211,6 +215,55 @@ fn about_link(
     ) {
         (Ok(ring), Ok(key)) => Tellings::one(Telling::OfLink(event, ring, key)),
         _ => Tellings::none(),
+    }
+}
+
+/// A key goes out of a keyring and into another; nothing happens where both are one. A keyring that is made for it has no
+/// watch yet.
+fn about_moved(
+    tables: &Tables,
+    client: u32,
+    number: u32,
+    key: i32,
+    from: i32,
+    to: i32,
+) -> Tellings
+    ensures { Says result (λ answer. about_moved (named tables.now client number from)
+        (named tables.now client number to) (named tables.now client number key)) }
+{
+    let from = named(tables, client, number, from);
+    let to = named(tables, client, number, to);
+    let key = named(tables, client, number, key);
+    if is_one_ring(&from, &to) {
+        return Tellings::none();
+    }
+    Tellings {
+        first: link_telling(KeyEvent::Unlinked, &from, &key),
+        second: link_telling(KeyEvent::Linked, &to, &key),
+    }
+}
+
+/// Whether two ids stand for one keyring.
+fn is_one_ring(from: &Result<Serial, Errno>, to: &Result<Serial, Errno>) -> bool
+    ensures { result ≡ is_one_ring from.now to.now }
+{
+    match (from, to) {
+        (Ok(from), Ok(to)) => from.number() == to.number(),
+        _ => false,
+    }
+}
+
+/// This happens to a keyring by its link to a key, where both are there.
+fn link_telling(
+    event: KeyEvent,
+    ring: &Result<Serial, Errno>,
+    key: &Result<Serial, Errno>,
+) -> Telling
+    ensures { (answer : Answer) → option_to_list (told_of result answer) ≡ about_link event ring.now key.now }
+{
+    match (ring, key) {
+        (Ok(ring), Ok(key)) => Telling::OfLink(event, *ring, *key),
+        _ => Telling::Quiet,
     }
 }
 
