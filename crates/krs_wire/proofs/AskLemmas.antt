@@ -14,6 +14,7 @@ use Rattle.krs_types.specs.declared.ask.Op.TheVariants.{Hello, Thread, Fork, Exe
 use Rattle.krs_types.specs.declared.ask.Op.TheVariants.{Update, Revoke, Invalidate, Chown, SetPerm, SetTimeout, Link}
 use Rattle.krs_types.specs.declared.ask.Op.TheVariants.{Unlink, Clear, Read, Describe, Watch, OpenQueue, SetFilter}
 use Rattle.krs_types.specs.declared.ask.Op.TheVariants.{ReadQueue, CloseQueue, Exit, Leave}
+use Rattle.krs_types.specs.declared.ask.Op.TheVariants.{Move, RestrictKeyring}
 use Rattle.krs_wire.specs.Field.{Field, number, signed, sized, flag, both, counted, nothing, repeated, whole}
 use Rattle.krs_wire.specs.Faulting.{after, or_bad_body}
 use Rattle.krs_wire.specs.Bodies.{id_field, text_field, thread_of, fork_of, exec_of, exit_of, get_id_fields}
@@ -24,6 +25,7 @@ use Rattle.krs_wire.specs.Bodies.{set_timeout_of, link_fields, link_of, unlink_o
 use Rattle.krs_wire.specs.Bodies.{watch_fields, watch_of, open_queue_of, entry_of, entry_parts, entry_field}
 use Rattle.krs_wire.specs.Bodies.{entries_field, set_filter_fields, set_filter_of, read_queue_fields, read_queue_of}
 use Rattle.krs_wire.specs.Bodies.{close_queue_of, leave_of, number_of_op, body_of_op, FitsOp}
+use Rattle.krs_wire.specs.Bodies.{route_fields, move_fields, move_of, restrict_fields, restrict_of}
 use Rattle.krs_wire.specs.Frame.{rest, Frames, front_of, front_by, front_in, is_bad_length, framed_of, framed_by}
 use Rattle.krs_wire.specs.Frame.{op_of, head_fields}
 use Rattle.krs_wire.specs.Spelling.{framed, ask_text, ask_frame, FitsAsk, IsTooLong}
@@ -69,6 +71,12 @@ get_id_exact = both_exact id_field flag id_exact flag_exact
 
 text_exact : IsExact text_field
 text_exact = sized_exact w16 wide16
+
+move_exact : IsExact move_fields
+move_exact = both_exact id_field route_fields id_exact (both_exact id_field id_number_fields id_exact id_number_exact)
+
+restrict_exact : IsExact restrict_fields
+restrict_exact = both_exact id_field text_field id_exact text_exact
 
 request_exact : IsExact request_fields
 request_exact =
@@ -138,6 +146,10 @@ op_again (Describe id) h = ap or_bad_body (whole_again id_field id_exact describ
 op_again (Clear id) h = ap or_bad_body (whole_again id_field id_exact clear_of id h)
 op_again (Link key ring) h = ap or_bad_body (whole_again link_fields link_exact link_of (key, ring) h)
 op_again (Unlink key ring) h = ap or_bad_body (whole_again link_fields link_exact unlink_of (key, ring) h)
+op_again (Move key from to flags) h =
+    ap or_bad_body (whole_again move_fields move_exact move_of (key, (from, (to, flags))) h)
+op_again (RestrictKeyring ring type_name) h =
+    ap or_bad_body (whole_again restrict_fields restrict_exact restrict_of (ring, type_name) h)
 op_again (Read id) h = ap or_bad_body (whole_again id_field id_exact read_of id h)
 op_again (Hello caller) h =
     ap or_bad_body (whole_again hello_fields hello_exact hello_of (caller.uid, (caller.gid, caller.groups)) h)
@@ -173,6 +185,8 @@ op_small (Describe id) = omega arith
 op_small (Clear id) = omega arith
 op_small (Link key ring) = omega arith
 op_small (Unlink key ring) = omega arith
+op_small (Move key from to flags) = omega arith
+op_small (RestrictKeyring ring type_name) = omega arith
 op_small (Read id) = omega arith
 op_small (Hello caller) = omega arith
 op_small (Watch id queue watch) = omega arith
@@ -290,6 +304,8 @@ op_takes which body op bytes =
     row_or id_number_fields set_timeout_of 15
     id_number_exact (λ x. refl) (λ x. refl) (λ x k. k) which body op _ bytes (
     row_or id_field invalidate_of 21 id_exact (λ x. refl) (λ x. refl) (λ x k. k) which body op _ bytes (
+    row_or restrict_fields restrict_of 29 restrict_exact (λ x. refl) (λ x. refl) (λ x k. k) which body op _ bytes (
+    row_or move_fields move_of 30 move_exact (λ x. refl) (λ x. refl) (λ x k. k) which body op _ bytes (
     row_or watch_fields watch_of 32 watch_exact (λ x. refl) (λ x. refl) (λ x k. k) which body op _ bytes (
     row_or hello_fields hello_of 256 hello_exact (λ x. refl) (λ x. refl) (λ x k. k) which body op _ bytes (
     row_or nothing thread_of 257 nothing_exact (λ x. refl) (λ x. refl) (λ x k. k) which body op _ bytes (
@@ -305,7 +321,7 @@ op_takes which body op bytes =
     row_or read_queue_fields read_queue_of 266
     two_exact (λ x. refl) (λ x. refl) (λ x k. k) which body op _ bytes (
     row_or (number w32) close_queue_of 267 number32_exact (λ x. refl) (λ x. refl) (λ x k. k) which body op _ bytes (
-    no_row which body op)))))))))))))))))))))))))))
+    no_row which body op)))))))))))))))))))))))))))))
 
 after_ok : {A B : Type 0} (f : A → Result B WireFault) (r : Result A WireFault) (y : B) → after f r ≡ Ok y
     → (x : A) × (r ≡ Ok x) × (f x ≡ Ok y)

@@ -8,6 +8,7 @@ use Rattle.krs_types.specs.declared.ask.Op.TheVariants.{Hello, Thread, Fork, Exe
 use Rattle.krs_types.specs.declared.ask.Op.TheVariants.{Update, Revoke, Invalidate, Chown, SetPerm, SetTimeout, Link}
 use Rattle.krs_types.specs.declared.ask.Op.TheVariants.{Unlink, Clear, Read, Describe, Watch, OpenQueue, SetFilter}
 use Rattle.krs_types.specs.declared.ask.Op.TheVariants.{ReadQueue, CloseQueue, Exit, Leave}
+use Rattle.krs_types.specs.declared.ask.Op.TheVariants.{Move, RestrictKeyring}
 use Rattle.krs_types.specs.declared.note.FilterEntry.{FilterEntry}
 use Rattle.krs_wire.specs.Field.{Field, number, signed, sized, flag, both, counted, nothing, repeated, built}
 
@@ -142,6 +143,33 @@ link_of a = Link a.0 a.1
 abbrev pub unlink_of : ℤ × ℤ → Op
 unlink_of a = Unlink a.0 a.1
 
+-- the keyring to move it from, the one to move it into, flags
+abbrev pub route_fields : Field (ℤ × (ℤ × ℕ))
+route_fields = both id_field id_number_fields
+
+-- a key's id, the keyring to move it from, the one to move it into, flags
+abbrev pub move_fields : Field (ℤ × (ℤ × (ℤ × ℕ)))
+move_fields = both id_field route_fields
+
+abbrev pub move_of : ℤ × (ℤ × (ℤ × ℕ)) → Op
+move_of a = Move a.0 a.1.0 a.1.1.0 a.1.1.1
+
+abbrev pub route_parts : (from to : ℤ) → (flags : ℕ) → ℤ × (ℤ × ℕ)
+route_parts from to flags = (from, (to, flags))
+
+abbrev pub move_parts : (key from to : ℤ) → (flags : ℕ) → ℤ × (ℤ × (ℤ × ℕ))
+move_parts key from to flags = (key, route_parts from to flags)
+
+-- a keyring's id, and a type name
+abbrev pub restrict_fields : Field (ℤ × List ℕ)
+restrict_fields = both id_field text_field
+
+abbrev pub restrict_of : ℤ × List ℕ → Op
+restrict_of a = RestrictKeyring a.0 a.1
+
+abbrev pub restrict_parts : (ring : ℤ) → (type_name : List ℕ) → ℤ × List ℕ
+restrict_parts ring type_name = (ring, type_name)
+
 abbrev pub clear_of : ℤ → Op
 clear_of id = Clear id
 
@@ -225,6 +253,8 @@ number_of_op (Search head type_name desc dest) = 10
 number_of_op (Read id) = 11
 number_of_op (SetTimeout id seconds) = 15
 number_of_op (Invalidate id) = 21
+number_of_op (RestrictKeyring ring type_name) = 29
+number_of_op (Move key from to flags) = 30
 number_of_op (Watch id queue watch) = 32
 number_of_op (Hello caller) = 256
 number_of_op Thread = 257
@@ -255,6 +285,8 @@ body_of_op (Search head type_name desc dest) = search_fields.spell (search_parts
 body_of_op (Read id) = id_field.spell id
 body_of_op (SetTimeout id seconds) = id_number_fields.spell (id_number_parts id seconds)
 body_of_op (Invalidate id) = id_field.spell id
+body_of_op (RestrictKeyring ring type_name) = restrict_fields.spell (restrict_parts ring type_name)
+body_of_op (Move key from to flags) = move_fields.spell (move_parts key from to flags)
 body_of_op (Watch id queue watch) = watch_fields.spell (watch_parts id queue watch)
 body_of_op (Hello caller) = hello_fields.spell (hello_parts caller)
 body_of_op Thread = nothing.spell tt
@@ -285,6 +317,8 @@ FitsOp (Search head type_name desc dest) = search_fields.Fits (search_parts head
 FitsOp (Read id) = id_field.Fits id
 FitsOp (SetTimeout id seconds) = id_number_fields.Fits (id_number_parts id seconds)
 FitsOp (Invalidate id) = id_field.Fits id
+FitsOp (RestrictKeyring ring type_name) = restrict_fields.Fits (restrict_parts ring type_name)
+FitsOp (Move key from to flags) = move_fields.Fits (move_parts key from to flags)
 FitsOp (Watch id queue watch) = watch_fields.Fits (watch_parts id queue watch)
 FitsOp (Hello caller) = hello_fields.Fits (hello_parts caller)
 FitsOp Thread = nothing.Fits tt

@@ -15,7 +15,7 @@ use Rattle.krs_wire.specs.Bodies.{request_of, add_fields, add_of, update_fields,
 use Rattle.krs_wire.specs.Bodies.{chown_fields, chown_of, id_number_fields, set_perm_of, set_timeout_of, link_fields}
 use Rattle.krs_wire.specs.Bodies.{link_of, unlink_of, clear_of, read_of, describe_of, watch_fields, watch_of}
 use Rattle.krs_wire.specs.Bodies.{open_queue_of, set_filter_fields, set_filter_of, read_queue_fields, read_queue_of}
-use Rattle.krs_wire.specs.Bodies.{close_queue_of, leave_of}
+use Rattle.krs_wire.specs.Bodies.{close_queue_of, leave_of, move_fields, move_of, restrict_fields, restrict_of}
 
 -- what a body says for an operation's number
 unfoldable pub op_of : ℕ → List ℕ → Result Op WireFault
@@ -34,6 +34,8 @@ op_of which body =
     else if which == 11 then or_bad_body (whole id_field read_of body)
     else if which == 15 then or_bad_body (whole id_number_fields set_timeout_of body)
     else if which == 21 then or_bad_body (whole id_field invalidate_of body)
+    else if which == 29 then or_bad_body (whole restrict_fields restrict_of body)
+    else if which == 30 then or_bad_body (whole move_fields move_of body)
     else if which == 32 then or_bad_body (whole watch_fields watch_of body)
     else if which == 256 then or_bad_body (whole hello_fields hello_of body)
     else if which == 257 then or_bad_body (whole nothing thread_of body)

@@ -9,6 +9,7 @@ use Rattle.krs_types.specs.declared.ask.Op.TheVariants.{Hello, Thread, Fork, Exe
 use Rattle.krs_types.specs.declared.ask.Op.TheVariants.{Update, Revoke, Invalidate, Chown, SetPerm, SetTimeout, Link}
 use Rattle.krs_types.specs.declared.ask.Op.TheVariants.{Unlink, Clear, Read, Describe, Watch, OpenQueue, SetFilter}
 use Rattle.krs_types.specs.declared.ask.Op.TheVariants.{ReadQueue, CloseQueue, Exit, Leave}
+use Rattle.krs_types.specs.declared.ask.Op.TheVariants.{Move, RestrictKeyring}
 use Rattle.krs_types.specs.declared.errno.Errno.{Errno}
 use Rattle.krs_types.specs.Errno.{number_of, errnos}
 use Rattle.krs_wire.specs.declared.fault.WireFault.{WireFault}
@@ -53,6 +54,8 @@ shape_of (Search head type_name desc dest) = shapes.Number
 shape_of (Read id) = shapes.Bytes
 shape_of (SetTimeout id seconds) = shapes.Nothing
 shape_of (Invalidate id) = shapes.Nothing
+shape_of (RestrictKeyring ring type_name) = shapes.Nothing
+shape_of (Move key from to flags) = shapes.Nothing
 shape_of (Watch id queue watch) = shapes.Nothing
 shape_of (Hello caller) = shapes.Number
 shape_of Thread = shapes.Number

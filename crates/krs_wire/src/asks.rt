@@ -9,7 +9,8 @@ ghost use Rattle.krs_wire.specs.Bodies.{invalidate_of, join_of, link_fields, lin
 ghost use Rattle.krs_wire.specs.Bodies.{request_of, revoke_of, search_fields, search_of, set_perm_of, set_timeout_of};
 ghost use Rattle.krs_wire.specs.Bodies.{text_field, unlink_of, update_fields, update_of, watch_fields, watch_of};
 ghost use Rattle.krs_wire.specs.Bodies.{open_queue_of, set_filter_fields, set_filter_of, read_queue_fields};
-ghost use Rattle.krs_wire.specs.Bodies.{read_queue_of, close_queue_of};
+ghost use Rattle.krs_wire.specs.Bodies.{read_queue_of, close_queue_of, move_fields, move_of, restrict_fields};
+ghost use Rattle.krs_wire.specs.Bodies.{restrict_of};
 ghost use Rattle.krs_wire.specs.Frame.{op_of, framed_of, front_of};
 
 use crate::fields::{
@@ -161,6 +162,30 @@ fn unlink_at(body: &[u8]) -> Result<Op, WireFault>
     ended(Op::Unlink { key, ring }, rest)
 }
 
+fn move_at(body: &[u8]) -> Result<Op, WireFault>
+    ensures { GivesRead (λ op. op) result (or_bad_body (whole move_fields move_of body.now)) }
+{
+    let (key, rest) = id_at(body)?;
+    let (from, rest) = id_at(rest)?;
+    let (to, rest) = id_at(rest)?;
+    let (flags, rest) = u32_at(rest)?;
+    let op = Op::Move {
+        key,
+        from,
+        to,
+        flags,
+    };
+    ended(op, rest)
+}
+
+fn restrict_at(alloc: Global, body: &[u8]) -> Result<Op, WireFault>
+    ensures { GivesRead (λ op. op) result (or_bad_body (whole restrict_fields restrict_of body.now)) }
+{
+    let (ring, rest) = id_at(body)?;
+    let (type_name, rest) = text_at(alloc, rest)?;
+    ended(Op::RestrictKeyring { ring, type_name }, rest)
+}
+
 fn read_at(body: &[u8]) -> Result<Op, WireFault>
     ensures { GivesRead (λ op. op) result (or_bad_body (whole id_field read_of body.now)) }
 {
@@ -233,6 +258,8 @@ fn op_at(alloc: Global, which: u16, body: &[u8]) -> Result<Op, WireFault>
         11 => read_at(body),
         15 => set_timeout_at(body),
         21 => invalidate_at(body),
+        29 => restrict_at(alloc, body),
+        30 => move_at(body),
         32 => watch_at(body),
         256 => hello_at(alloc, body),
         257 => ended(Op::Thread, body),

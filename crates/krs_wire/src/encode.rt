@@ -7,7 +7,8 @@ ghost use Rattle.krs_wire.specs.Bodies.{update_fields, update_parts, chown_field
 ghost use Rattle.krs_wire.specs.Bodies.{id_number_parts, link_fields, link_parts, get_id_fields, get_id_parts};
 ghost use Rattle.krs_wire.specs.Bodies.{request_fields, request_parts, search_fields, search_parts, watch_fields};
 ghost use Rattle.krs_wire.specs.Bodies.{watch_parts, entry_field, entries_field, set_filter_fields, set_filter_parts};
-ghost use Rattle.krs_wire.specs.Bodies.{read_queue_fields, read_queue_parts};
+ghost use Rattle.krs_wire.specs.Bodies.{read_queue_fields, read_queue_parts, route_fields, route_parts};
+ghost use Rattle.krs_wire.specs.Bodies.{move_fields, move_parts, restrict_fields, restrict_parts};
 ghost use Rattle.krs_wire.specs.Field.{flag, number};
 ghost use Rattle.krs_wire.specs.Frame.{Frames, rest};
 ghost use Rattle.krs_wire.specs.Spelling.{framed, ask_text, ask_frame, IsTooLong};
@@ -37,6 +38,8 @@ fn operation_number(op: &Op) -> u16
         Op::Read { .. } => 11,
         Op::SetTimeout { .. } => 15,
         Op::Invalidate { .. } => 21,
+        Op::RestrictKeyring { .. } => 29,
+        Op::Move { .. } => 30,
         Op::Watch { .. } => 32,
         Op::Hello(_) => 256,
         Op::Thread => 257,
@@ -213,6 +216,34 @@ fn put_link(out: &mut Vec<u8>, key: i32, ring: i32) -> Result<(), WireFault>
     put_id(out, ring)
 }
 
+fn put_route(out: &mut Vec<u8>, from: i32, to: i32, flags: u32) -> Result<(), WireFault>
+    ensures ok { OnOk result
+        (out.new.items ≡ out.old.items ++ route_fields.spell (route_parts from to flags)) }
+    ensures memory { IfErr result (λ fault. fault ≡ WireFault.Memory) }
+{
+    put_id(out, from)?;
+    put_id_number(out, to, flags)
+}
+
+fn put_move(out: &mut Vec<u8>, key: i32, from: i32, to: i32, flags: u32) -> Result<(), WireFault>
+    ensures ok { OnOk result
+        (out.new.items ≡ out.old.items ++ move_fields.spell (move_parts key from to flags)) }
+    ensures memory { IfErr result (λ fault. fault ≡ WireFault.Memory) }
+{
+    put_id(out, key)?;
+    put_route(out, from, to, flags)
+}
+
+fn put_restrict(out: &mut Vec<u8>, ring: i32, type_name: &Blob) -> Result<(), WireFault>
+    ensures ok { OnOk result
+        (out.new.items ≡ out.old.items ++ restrict_fields.spell (restrict_parts ring type_name.now)) }
+    ensures fits { OnOk result (restrict_fields.Fits (restrict_parts ring type_name.now)) }
+    ensures long { IfErr result (IsTooLong 65536 (restrict_fields.spell (restrict_parts ring type_name.now))) }
+{
+    put_id(out, ring)?;
+    put_text(out, type_name)
+}
+
 fn put_get_id(out: &mut Vec<u8>, id: i32, create: bool) -> Result<(), WireFault>
     ensures ok { OnOk result
         (out.new.items ≡ out.old.items ++ get_id_fields.spell (get_id_parts id create)) }
@@ -335,6 +366,13 @@ fn put_body(out: &mut Vec<u8>, op: &Op) -> Result<(), WireFault>
         Op::Read { id } => put_id(out, *id),
         Op::SetTimeout { id, seconds } => put_id_number(out, *id, *seconds),
         Op::Invalidate { id } => put_id(out, *id),
+        Op::RestrictKeyring { ring, type_name } => put_restrict(out, *ring, type_name),
+        Op::Move {
+            key,
+            from,
+            to,
+            flags,
+        } => put_move(out, *key, *from, *to, *flags),
         Op::Watch { id, queue, watch } => put_watch(out, *id, *queue, *watch),
         Op::Hello(caller) => put_hello(out, caller),
         Op::Thread | Op::Fork | Op::Exec => Ok(()),

@@ -26,6 +26,7 @@ impl Shape {
             Op::Update { .. } | Op::Revoke { .. } | Op::Chown { .. } => Shape::Nothing,
             Op::SetPerm { .. } | Op::SetTimeout { .. } => Shape::Nothing,
             Op::Clear { .. } | Op::Link { .. } | Op::Unlink { .. } => Shape::Nothing,
+            Op::Move { .. } | Op::RestrictKeyring { .. } => Shape::Nothing,
             Op::Invalidate { .. } => Shape::Nothing,
             Op::Watch { .. } => Shape::Nothing,
             Op::SetFilter { .. } | Op::CloseQueue { .. } => Shape::Nothing,
