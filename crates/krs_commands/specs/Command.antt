@@ -10,7 +10,7 @@ use Rattle.krs_commands.specs.declared.name.CommandName.TheVariants.{Exit, Add, 
 use Rattle.krs_commands.specs.declared.name.CommandName.TheVariants.{Rlist, Rdescribe, Revoke, Invalidate, Clear}
 use Rattle.krs_commands.specs.declared.name.CommandName.TheVariants.{Chown, Chgrp, SetPerm, Timeout, Link, Unlink}
 use Rattle.krs_commands.specs.declared.name.CommandName.TheVariants.{Search, Request, Open, Closeq, Watch, Filter}
-use Rattle.krs_commands.specs.declared.name.CommandName.TheVariants.{Readq, Leave}
+use Rattle.krs_commands.specs.declared.name.CommandName.TheVariants.{Readq, Leave, Move, Restrict}
 use Rattle.krs_commands.specs.declared.command.Command.{Command}
 use Rattle.krs_commands.specs.declared.command.Command.TheVariants as command
 use Rattle.krs_words.specs.Parsed.{◌>>=◌}
@@ -43,6 +43,8 @@ spelling SetPerm = codes "setperm"
 spelling Timeout = codes "timeout"
 spelling Link = codes "link"
 spelling Unlink = codes "unlink"
+spelling Move = codes "move"
+spelling Restrict = codes "restrict"
 spelling Search = codes "search"
 spelling Request = codes "request"
 spelling Open = codes "open"
@@ -56,8 +58,8 @@ spelling Leave = codes "leave"
 abbrev pub command_names : List CommandName
 command_names =
     Hello ∷ Context ∷ Moment ∷ Thread ∷ Fork ∷ Exec ∷ Exit ∷ Add ∷ Newring ∷ Id ∷ Join ∷ Update ∷ Print ∷ Rlist
-    ∷ Rdescribe ∷ Revoke ∷ Invalidate ∷ Clear ∷ Chown ∷ Chgrp ∷ SetPerm ∷ Timeout ∷ Link ∷ Unlink ∷ Search ∷ Request
-    ∷ Open ∷ Closeq ∷ Watch ∷ Filter ∷ Readq ∷ Leave ∷ []
+    ∷ Rdescribe ∷ Revoke ∷ Invalidate ∷ Clear ∷ Chown ∷ Chgrp ∷ SetPerm ∷ Timeout ∷ Link ∷ Unlink ∷ Move ∷ Restrict
+    ∷ Search ∷ Request ∷ Open ∷ Closeq ∷ Watch ∷ Filter ∷ Readq ∷ Leave ∷ []
 
 -- the command of a first word
 abbrev pub name_of_word : List ℕ → Option CommandName
@@ -228,6 +230,29 @@ unlink_of (key ∷ (ring ∷ [])) = do
   Some (command.Ask (op.Unlink id from))
 unlink_of _ = None
 
+-- the flags of a move: the word `excl`, or no word
+abbrev pub flags_of : List (List ℕ) → Option ℕ
+flags_of [] = Some 0
+flags_of (word ∷ []) = if bytes_eq word (codes "excl") then Some 1 else None
+flags_of _ = None
+
+-- `move KEY FROM TO [excl]`
+abbrev pub move_of : List (List ℕ) → Option Command
+move_of (key ∷ (first ∷ (second ∷ words))) = do
+  id ← key_of key
+  from ← key_of first
+  into ← key_of second
+  flags ← flags_of words
+  Some (command.Ask (op.Move id from into flags))
+move_of _ = None
+
+-- `restrict RING`: without a type
+abbrev pub restrict_of : List (List ℕ) → Option Command
+restrict_of (ring ∷ []) = do
+  id ← key_of ring
+  Some (command.Ask (op.RestrictKeyring id []))
+restrict_of _ = None
+
 -- a destination: the keyring of the last word, or 0, for none, where that word is left out
 abbrev pub dest_of : List (List ℕ) → Option ℤ
 dest_of [] = Some (pos 0)
@@ -314,6 +339,8 @@ row_of SetPerm args = setperm_of args
 row_of Timeout args = timeout_of args
 row_of Link args = link_of args
 row_of Unlink args = unlink_of args
+row_of Move args = move_of args
+row_of Restrict args = restrict_of args
 row_of Search args = search_of args
 row_of Request args = request_of args
 row_of Open args = open_of args

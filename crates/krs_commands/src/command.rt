@@ -63,6 +63,8 @@ fn command_named(alloc: Global, name: CommandName, args: &[&[u8]]) -> Result<Com
         CommandName::Timeout => keys::timeout(args),
         CommandName::Link => keyrings::link(args),
         CommandName::Unlink => keyrings::unlink(args),
+        CommandName::Move => keyrings::move_link(args),
+        CommandName::Restrict => keyrings::restrict(alloc, args),
         CommandName::Search => keyrings::search_from(alloc, args),
         CommandName::Request => keyrings::request(alloc, args),
         CommandName::Open => queues::open(args),

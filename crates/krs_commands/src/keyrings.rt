@@ -2,10 +2,11 @@
 
 ghost use Rattle.std.specs.Prelude.{map};
 ghost use Rattle.krs_commands.specs.Command.{newring_of, clear_of, link_of, unlink_of, dest_of, search_of, request_of};
+ghost use Rattle.krs_commands.specs.Command.{flags_of, move_of, restrict_of};
 ghost use Rattle.krs_words.specs.Parsed.{Reads};
 
 use crate::command::Command;
-use krs_types::{Blob, Op};
+use krs_types::{Blob, MOVE_EXCL, Op};
 use krs_words::{NoCommand, key_word};
 use std::alloc::Global;
 
@@ -54,6 +55,48 @@ pub(crate) fn unlink(args: &[&[u8]]) -> Result<Command, NoCommand>
     let key = key_word(key).ok_or(NoCommand::Usage)?;
     let ring = key_word(ring).ok_or(NoCommand::Usage)?;
     Ok(Command::Ask(Op::Unlink { key, ring }))
+}
+
+/// The flags that the words behind the keyrings spell: none, or `MOVE_EXCL` for `excl`.
+fn move_flags(words: &[&[u8]]) -> Result<u32, NoCommand>
+    ensures { Reads result (flags_of (map (λ w. w.now) words.now)) }
+{
+    match words {
+        [] => Ok(0),
+        [word] if *word == b"excl".as_slice() => Ok(MOVE_EXCL),
+        _ => Err(NoCommand::Usage),
+    }
+}
+
+pub(crate) fn move_link(args: &[&[u8]]) -> Result<Command, NoCommand>
+    ensures { Reads result (move_of (map (λ w. w.now) args.now)) }
+{
+    let [key, from, to, words @ ..] = args else {
+        return Err(NoCommand::Usage);
+    };
+    let key = key_word(key).ok_or(NoCommand::Usage)?;
+    let from = key_word(from).ok_or(NoCommand::Usage)?;
+    let to = key_word(to).ok_or(NoCommand::Usage)?;
+    let flags = move_flags(words)?;
+    Ok(Command::Ask(Op::Move {
+        key,
+        from,
+        to,
+        flags,
+    }))
+}
+
+pub(crate) fn restrict(alloc: Global, args: &[&[u8]]) -> Result<Command, NoCommand>
+    ensures { Reads result (restrict_of (map (λ w. w.now) args.now)) }
+{
+    let [ring] = args else {
+        return Err(NoCommand::Usage);
+    };
+    let ring = key_word(ring).ok_or(NoCommand::Usage)?;
+    Ok(Command::Ask(Op::RestrictKeyring {
+        ring,
+        type_name: Blob::from_slice(alloc, b"")?,
+    }))
 }
 
 /// The destination that the words behind the description name: 0, for none, where there is no word.

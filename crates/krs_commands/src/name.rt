@@ -30,6 +30,8 @@ pub enum CommandName {
     Timeout,
     Link,
     Unlink,
+    Move,
+    Restrict,
     Search,
     Request,
     Open,
@@ -40,7 +42,7 @@ pub enum CommandName {
     Leave,
 }
 
-const COMMAND_NAMES: [CommandName; 32] = [
+const COMMAND_NAMES: [CommandName; 34] = [
     CommandName::Hello,
     CommandName::Context,
     CommandName::Moment,
@@ -65,6 +67,8 @@ const COMMAND_NAMES: [CommandName; 32] = [
     CommandName::Timeout,
     CommandName::Link,
     CommandName::Unlink,
+    CommandName::Move,
+    CommandName::Restrict,
     CommandName::Search,
     CommandName::Request,
     CommandName::Open,
@@ -105,6 +109,8 @@ impl CommandName {
             CommandName::Timeout => "timeout",
             CommandName::Link => "link",
             CommandName::Unlink => "unlink",
+            CommandName::Move => "move",
+            CommandName::Restrict => "restrict",
             CommandName::Search => "search",
             CommandName::Request => "request",
             CommandName::Open => "open",

@@ -57,6 +57,8 @@ Commands of a script, with what an accepted one prints:
   timeout KEY SECONDS           lets a key expire after so many seconds, never for 0: ok
   link KEY RING                 one more link in a keyring: ok
   unlink KEY RING               one link less in a keyring: ok
+  move KEY FROM TO [excl]       a link out of one keyring and into another; excl displaces none: ok
+  restrict RING                 closes a keyring against further links, for good: ok
   search RING TYPE DESC [RING]  a key found from a keyring on, and linked to the other one: its serial
   request TYPE DESC [RING]      the same from the thread, process and session keyring on: its serial
   open CAPACITY                 a queue that holds so many records: its number
