@@ -7,3 +7,4 @@ pub mod Sound
 pub mod Asks
 pub mod History
 pub mod Notes
+pub mod Hiding

@@ -29,5 +29,7 @@ pub mod Usable
 pub mod Ordering
 pub mod Receiving
 pub mod Revocation
+pub mod Hiding
+pub mod Secrecy
 pub mod Joined
 pub mod Laws

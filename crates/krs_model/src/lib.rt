@@ -3,6 +3,7 @@
 #![tactic(auto)]
 
 mod laws;
+mod secrets;
 
 pub use laws::{
     a_closed_choice_is_the_held_keys, a_read_takes_the_longest_front, a_reply_leads_to_one_state,
@@ -12,4 +13,9 @@ pub use laws::{
     possession_comes_by_links, queues_give_their_streams, records_go_out_in_order,
     refusals_change_the_clock_alone, requests_search_in_turn, revoked_keys_stay_unread,
     revokes_and_reads_name_a_key, rights_come_from_one_byte, searches_go_by_levels,
+};
+pub use secrets::{
+    asks_hide_payloads, hidden_payloads_flow_nowhere, histories_hide_payloads,
+    keys_are_read_by_right, no_payload_is_looked_at, payloads_of_any_keys_may_be_hidden,
+    refusals_tell_no_payload, steps_hide_payloads, unread_payloads_stay_secret,
 };

@@ -143,7 +143,7 @@ pub record Came (s new : State) (event : Event) (op : Op) : Type 0 where
   pub answer : Answer
   pub serves : Serves s event.lane event.ask.context op answer new
 
-accepted_came :
+pub accepted_came :
     (old new : State) (event : Event) (op : Op) → Step old event new → event.ask.op ≡ op → IsOk event.reply
     → Came (raised old event.moment) new event op
 unfolding Step

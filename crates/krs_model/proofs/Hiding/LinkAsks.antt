@@ -1,0 +1,229 @@
+-- The asks that change links, and keyrings that asks make, with the payloads hidden.
+use Rattle.std.proofs.Common.{◌≡◌, ℕ, suc, ℤ, ◌&&◌, List, [], ◌∷◌, Option, Some, None, Bool}
+use Rattle.std.proofs.Common.{Result, Ok, Err, refl, ap, ◌∙◌, length, filter}
+use Rattle.std.specs.List.{find}
+use Rattle.std.specs.Prelude.{nat_lt, codes}
+use Rattle.krs_types.specs.declared.errno.Errno.{Errno}
+use Rattle.krs_types.specs.declared.errno.Errno.TheVariants.{ENOSPC, EDEADLK, ELOOP, ENOKEY}
+use Rattle.krs_types.specs.declared.context.Context.{Context}
+use Rattle.krs_types.specs.declared.name.Name.{Name}
+use Rattle.krs_types.specs.declared.key_id.KeyId.{KeyId}
+use Rattle.krs_types.specs.declared.key_id.KeyId.TheVariants.{Serial, Thread, Process, Session, User, UserSession}
+use Rattle.krs_types.specs.declared.rights.Want.TheVariants.{Granted}
+use Rattle.krs_types.specs.declared.ask.Answer.TheVariants.{Nothing}
+use Rattle.krs_types.specs.KeyId.{key_id_of}
+use Rattle.krs_types.specs.Rights.{WRITE, LINK}
+use Rattle.krs_types.specs.Refusing.{◌>>=◌, or_refuse}
+use Rattle.krs_model.specs.Table.{Table, at}
+use Rattle.krs_model.specs.State.{State, Key, Content, Payload, Links}
+use Rattle.krs_model.specs.Levels.{level, levels, is_in}
+use Rattle.krs_model.specs.Possession.{process_ring}
+use Rattle.krs_model.specs.Sweep.{links_of_key}
+use Rattle.krs_model.specs.Reach.{links_of_key_at, closes, is_ring, is_some_in, has_chain}
+use Rattle.krs_model.specs.Lookup.{context_of, serial_of, look_up}
+use Rattle.krs_model.specs.Linking.{is_named, ring_links, link_named, linked_content, linking, has_room}
+use Rattle.krs_model.specs.Making.{with_thread, with_process, thread_to, thread_made, process_made, made_at, made_for}
+use Rattle.krs_model.specs.Making.{within_serials, special_ring}
+use Rattle.krs_model.specs.Outcome.{Outcome}
+use Rattle.krs_model.specs.Asks.Changing.{changed}
+use Rattle.krs_model.specs.Asks.Linked.{name_of, unless, nestable, link_check, linked_into, linked, link}
+use Rattle.krs_model.specs.Asks.Linked.{unlink, if_linked}
+use Rattle.krs_model.specs.Asks.Linked.{without_link, unlinked_content, clear, cleared, cleared_content}
+use Rattle.krs_model.specs.Hiding.{Hiding, blind_content, blind_key, blind_keys, blind, over}
+use Rattle.krs_model.proofs.Hiding.Over.{bound, after, either}
+use Rattle.krs_model.proofs.Hiding.Keys.{alter_blind, put_blind, seen}
+use Rattle.krs_model.proofs.Hiding.Lookups.{same_links, blind_found, look_up_blind, there_blind}
+use Rattle.krs_model.proofs.Hiding.KeyAsks.{blind_done, accepted, found_in, done_changed}
+
+-- a keyring links what it did
+pub same_ring_links : (h : List ℕ → List ℕ) (content : Content)
+    → ring_links (blind_content h content) ≡ ring_links content
+same_ring_links h (Payload bytes) = refl
+same_ring_links h (Links serials) = refl
+
+-- each key has the name that it had
+pub same_named : (hide : Hiding) (keys : Table Key) (name : Name) (k : ℕ)
+    → is_named name (at (blind_keys hide keys) k) ≡ is_named name (at keys k)
+same_named hide keys name k = seen hide keys (is_named name) k (λ v. refl)
+
+pub same_link_named : (hide : Hiding) (keys : Table Key) (name : Name) (links : List ℕ)
+    → link_named (blind_keys hide keys) name links ≡ link_named keys name links
+same_link_named hide keys name links = λ i. find (λ k. same_named hide keys name k i) links
+
+pub same_links_at : (hide : Hiding) (keys : Table Key) (k : ℕ)
+    → links_of_key_at (blind_keys hide keys) k ≡ links_of_key_at keys k
+same_links_at hide keys k = seen hide keys links_of_key k (λ v. same_links (hide k) v.content)
+
+same_length : (hide : Hiding) (keys : Table Key) → length (blind_keys hide keys) ≡ length keys
+same_length hide [] = refl
+same_length hide (e ∷ es) = ap suc (same_length hide es)
+
+same_closes : (hide : Hiding) (keys : Table Key) (key ring : ℕ)
+    → closes (blind_keys hide keys) key ring ≡ closes keys key ring
+unfolding closes
+same_closes hide keys key ring = λ i.
+    is_in ring (levels (λ k. same_links_at hide keys k i) (key ∷ []) (same_length hide keys i))
+
+same_chain : (hide : Hiding) (keys : Table Key) (serial count : ℕ)
+    → has_chain (blind_keys hide keys) serial count ≡ has_chain keys serial count
+unfolding has_chain
+same_chain hide keys serial count =
+    let ring : (k : ℕ) → is_ring (at (blind_keys hide keys) k) ≡ is_ring (at keys k) = λ k.
+    seen hide keys is_ring k (λ v. refl) in
+    λ i. is_some_in (level (λ j. filter (λ k. ring k i) (same_links_at hide keys j i)) (serial ∷ []) count)
+
+same_check : (hide : Hiding) (keys : Table Key) (ring : ℕ) (links : List ℕ) (found : ℕ × Key)
+    → link_check (blind_keys hide keys) ring links (blind_found hide found) ≡ link_check keys ring links found
+unfolding nestable
+same_check hide keys ring links found = λ i.
+    (unless (same_closes hide keys found.0 ring i) EDEADLK
+    >>= (λ acyclic. unless (same_chain hide keys found.0 6 i) ELOOP))
+    >>= (λ nests. has_room links (same_link_named hide keys (name_of found.1) links i))
+
+linked_blind : (h : List ℕ → List ℕ) (displaced : ℕ → Bool) (serial : ℕ) (content : Content)
+    → linked_content displaced serial (blind_content h content)
+    ≡ blind_content h (linked_content displaced serial content)
+linked_blind h displaced serial (Payload bytes) = refl
+linked_blind h displaced serial (Links serials) = refl
+
+-- one more link
+pub linking_blind : (hide : Hiding) (keys : Table Key) (name : Name) (serial n : ℕ) (v : Key)
+    → linking (blind_keys hide keys) name serial (blind_key (hide n) v)
+    ≡ blind_key (hide n) (linking keys name serial v)
+linking_blind hide keys name serial n v =
+    let same : (λ (k : ℕ). is_named name (at (blind_keys hide keys) k)) ≡ (λ (k : ℕ). is_named name (at keys k)) =
+    λ i k. same_named hide keys name k i in
+    ap (λ (displaced : ℕ → Bool). record v {
+      content = linked_content displaced serial (blind_content (hide n) v.content);
+    }) same
+    ∙ ap (λ (content : Content). record v { content = content })
+    (linked_blind (hide n) (λ k. is_named name (at keys k)) serial v.content)
+
+pub linked_into_blind : (hide : Hiding) (s : State) (into found : ℕ × Key)
+    → linked_into (blind hide s) (blind_found hide into) (blind_found hide found)
+    ≡ over (blind hide) (linked_into s into found)
+linked_into_blind hide s into found =
+    ap (λ (r : Result (List ℕ) Errno). r >>= (λ links. link_check (blind hide s).keys into.0 links
+    (blind_found hide found)
+    >>= (λ allowed. Ok (changed (blind hide s) into.0 (linking (blind hide s).keys (name_of found.1) found.0)))))
+    (same_ring_links (hide into.0) into.1.content)
+    ∙ after (blind hide) (ring_links into.1.content) _ _ (λ links _.
+    ap (λ (r : Result (Unit {0}) Errno). r
+    >>= (λ allowed. Ok (changed (blind hide s) into.0 (linking (blind hide s).keys (name_of found.1) found.0))))
+    (same_check hide s.keys into.0 links found)
+    ∙ after (blind hide) (link_check s.keys into.0 links found) _ _ (λ allowed _.
+    let to : Table Key → Result State Errno = λ es. Ok (record s { keys = es }) in
+    ap to (alter_blind hide s.keys into.0 (linking s.keys (name_of found.1) found.0)
+    (linking (blind hide s).keys (name_of found.1) found.0)
+    (λ v. linking_blind hide s.keys (name_of found.1) found.0 into.0 v))))
+
+pub linked_ask_blind : (hide : Hiding) (s : State) (c : Context) (key ring : ℤ)
+    → linked (blind hide s) c key ring ≡ over (blind_done hide) (linked s c key ring)
+linked_ask_blind hide s c key ring =
+    let end : ℕ × Key → ℕ × Key → Outcome = λ into found.
+    linked_into (blind hide s) into found >>= (λ new. accepted new Nothing) in
+    let next : ℕ × Key → Outcome = λ into. look_up (blind hide s) c key (Granted LINK) >>= end into in
+    ap (λ (r : Result (ℕ × Key) Errno). r >>= next) (look_up_blind hide s c ring (Granted WRITE))
+    ∙ bound (blind_found hide) (blind_done hide) (look_up s c ring (Granted WRITE)) _ _ (λ into _.
+    ap (λ (r : Result (ℕ × Key) Errno). r >>= end (blind_found hide into)) (look_up_blind hide s c key (Granted LINK))
+    ∙ bound (blind_found hide) (blind_done hide) (look_up s c key (Granted LINK)) _ _ (λ found _.
+    ap (λ (r : Result State Errno). r >>= (λ new. accepted new Nothing)) (linked_into_blind hide s into found)
+    ∙ bound (blind hide) (blind_done hide) (linked_into s into found) _ _ (λ new _. refl)))
+
+-- a store and a context, with the payloads of the store hidden
+abbrev pub blind_made : Hiding → State × Context → State × Context
+blind_made hide made = (blind hide made.0, made.1)
+
+thread_made_blind : (hide : Hiding) (s : State) (number : ℕ) (c : Context) (ring : Option ℕ)
+    → thread_made (blind hide s) number c ring ≡ blind_made hide (thread_made s number c ring)
+thread_made_blind hide s number c (Some ring) = refl
+thread_made_blind hide s number c None =
+    let t = with_thread s number c in
+    let to : Table Key → State × Context = λ es. (record t { keys = es }, thread_to s.next_serial c) in
+    ap to (put_blind hide s.keys s.next_serial (special_ring (codes "_tid") c.caller))
+
+process_made_blind : (hide : Hiding) (s : State) (c : Context) (ring : Option ℕ)
+    → process_made (blind hide s) c ring ≡ blind_made hide (process_made s c ring)
+process_made_blind hide s c (Some ring) = refl
+process_made_blind hide s c None =
+    let t = with_process s c in
+    let to : Table Key → State × Context = λ es. (record t { keys = es }, c) in
+    ap to (put_blind hide s.keys s.next_serial (special_ring (codes "_pid") c.caller))
+
+made_at_blind : (hide : Hiding) (s : State) (number : ℕ) (c : Context) (id : Result KeyId Errno)
+    → made_at (blind hide s) number c id ≡ blind_made hide (made_at s number c id)
+made_at_blind hide s number c (Err e) = refl
+made_at_blind hide s number c (Ok (Serial n)) = refl
+made_at_blind hide s number c (Ok Thread) = thread_made_blind hide s number c c.thread
+made_at_blind hide s number c (Ok Process) = process_made_blind hide s c (process_ring s c.process)
+made_at_blind hide s number c (Ok Session) = refl
+made_at_blind hide s number c (Ok User) = refl
+made_at_blind hide s number c (Ok UserSession) = refl
+
+-- the store and the context with a keyring made
+pub made_blind : (hide : Hiding) (s : State) (number : ℕ) (c : Context) (id : ℤ)
+    → made_for (blind hide s) number c id ≡ blind_made hide (made_for s number c id)
+unfolding made_for
+made_blind hide s number c id = made_at_blind hide s number c (key_id_of id)
+
+pub within_blind : (hide : Hiding) (s : State) (r : Outcome)
+    → within_serials (blind hide s) (over (blind_done hide) r) ≡ over (blind_done hide) (within_serials s r)
+within_blind hide s (Err e) = refl
+within_blind hide s (Ok done) =
+    either (blind_done hide) (nat_lt s.next_serial done.0.next_serial && nat_lt 2147483648 done.0.next_serial)
+    (Err ENOSPC)
+    (Ok done) (Err ENOSPC) (Ok (blind_done hide done)) refl refl
+
+unlinked_blind : (h : List ℕ → List ℕ) (serial : ℕ) (content : Content)
+    → unlinked_content serial (blind_content h content) ≡ blind_content h (unlinked_content serial content)
+unlinked_blind h serial (Payload bytes) = refl
+unlinked_blind h serial (Links serials) = refl
+
+pub without_blind : (h : List ℕ → List ℕ) (serial : ℕ) (v : Key)
+    → without_link serial (blind_key h v) ≡ blind_key h (without_link serial v)
+without_blind h serial v = ap (λ (content : Content). record v { content = content })
+    (unlinked_blind h serial v.content)
+
+cleared_blind : (h : List ℕ → List ℕ) (content : Content)
+    → cleared_content (blind_content h content) ≡ blind_content h (cleared_content content)
+cleared_blind h (Payload bytes) = refl
+cleared_blind h (Links serials) = refl
+
+pub clear_blind : (hide : Hiding) (s : State) (client context : ℕ) (id : ℤ)
+    → clear (blind hide s) client context id ≡ over (blind_done hide) (clear s client context id)
+unfolding clear
+clear_blind hide s client context id =
+    found_in hide s client context id (Granted WRITE) (blind_done hide) _ _ (λ c found _ _.
+    ap (λ (r : Result (List ℕ) Errno). r >>= (λ links. accepted (changed (blind hide s) found.0 cleared) Nothing))
+    (same_ring_links (hide found.0) found.1.content)
+    ∙ after (blind_done hide) (ring_links found.1.content) _ _ (λ links _.
+    done_changed hide s found.0 cleared cleared Nothing (λ v.
+    ap (λ (content : Content). record v { content = content }) (cleared_blind (hide found.0) v.content))))
+
+pub unlink_blind : (hide : Hiding) (s : State) (client context : ℕ) (key ring : ℤ)
+    → unlink (blind hide s) client context key ring ≡ over (blind_done hide) (unlink s client context key ring)
+unfolding unlink serial_of
+unlink_blind hide s client context key ring =
+    found_in hide s client context ring (Granted WRITE) (blind_done hide) _ _ (λ c from _ _.
+    after (blind_done hide) (serial_of s c key) _ _ (λ serial _.
+    let end : List ℕ → Outcome = λ links.
+    if_linked serial links >>= (λ linked. accepted (changed (blind hide s) from.0 (without_link serial)) Nothing) in
+    ap (λ (r : Result Key Errno). r >>= (λ there. ring_links (blind_content (hide from.0) from.1.content) >>= end))
+    (there_blind hide s ENOKEY serial)
+    ∙ bound (blind_key (hide serial)) (blind_done hide) (or_refuse ENOKEY (at s.keys serial)) _ _ (λ there _.
+    ap (λ (r : Result (List ℕ) Errno). r >>= end) (same_ring_links (hide from.0) from.1.content)
+    ∙ after (blind_done hide) (ring_links from.1.content) _ _ (λ links _.
+    after (blind_done hide) (if_linked serial links) _ _ (λ linked _.
+    done_changed hide s from.0 (without_link serial) (without_link serial) Nothing (without_blind
+    (hide from.0) serial))))))
+
+pub link_blind : (hide : Hiding) (s : State) (client context : ℕ) (key ring : ℤ)
+    → link (blind hide s) client context key ring ≡ over (blind_done hide) (link s client context key ring)
+unfolding link context_of
+link_blind hide s client context key ring =
+    after (blind_done hide) (context_of s client context) _ _ (λ c _.
+    let made = made_for s context c ring in
+    ap (λ (m : State × Context). within_serials (blind hide s) (linked m.0 m.1 key ring))
+    (made_blind hide s context c ring)
+    ∙ (ap (within_serials (blind hide s)) (linked_ask_blind hide made.0 made.1 key ring)
+    ∙ within_blind hide s (linked made.0 made.1 key ring)))

@@ -1,0 +1,73 @@
+-- Who may read a key: what an accepted READ has found.
+use Rattle.std.proofs.Common.{◌≡◌, ◌≢◌, ◌⊎◌, inl, inr, ℕ, ℤ, ◌&&◌, ◌||◌, List, Bool, true, false, Ok, refl}
+use Rattle.std.proofs.Common.{subst}
+use Rattle.krs_types.specs.declared.kind.Kind.{Kind}
+use Rattle.krs_types.specs.declared.kind.Kind.TheVariants.{User, Logon, Keyring}
+use Rattle.krs_types.specs.declared.context.Context.{Context}
+use Rattle.krs_types.specs.declared.rights.Want.TheVariants.{ToRead}
+use Rattle.krs_types.specs.declared.ask.Answer.{Answer}
+use Rattle.krs_types.specs.declared.ask.Answer.TheVariants.{Bytes}
+use Rattle.krs_types.specs.declared.ask.Op.TheVariants.{Read}
+use Rattle.krs_types.specs.Rights.{has_all, READ, SEARCH}
+use Rattle.krs_types.specs.Refusing.{◌>>=◌}
+use Rattle.krs_model.specs.State.{State, Key, Content, raised}
+use Rattle.krs_model.specs.Access.{rights_on}
+use Rattle.krs_model.specs.Possession.{possessed}
+use Rattle.krs_model.specs.Lookup.{context_of, serial_of, look_up}
+use Rattle.krs_model.specs.Outcome.{Outcome}
+use Rattle.krs_model.specs.Revocation.{Names}
+use Rattle.krs_model.specs.Secrecy.{MayBeRead, ReadsByRight}
+use Rattle.krs_model.specs.Asks.Reading.{read, readable}
+use Rattle.krs_model.proofs.Asks.Later.{same_ok, bind_ok}
+use Rattle.krs_model.proofs.Lookups.Laws.{look_up_usable}
+use Rattle.krs_model.proofs.Lookups.Serials.{found_serial}
+use Rattle.krs_model.proofs.History.Revocations.{accepted_came}
+
+not_logon : (kind : Kind) (content : Content) (bytes : List ℕ) → readable kind content ≡ Ok bytes → kind ≢ Logon
+not_logon User content bytes h = λ is. absurd (cc)
+not_logon Logon content bytes h = λ is. absurd (cc)
+not_logon Keyring content bytes h = λ is. absurd (cc)
+
+either_right : (a b c : Bool) → (a || (b && c)) ≡ true → (a ≡ true) ⊎ ((b ≡ true) × (c ≡ true))
+either_right true b c h = inl refl
+either_right false true true h = inr (refl, refl)
+either_right false true false h = absurd (cc)
+either_right false false c h = absurd (cc)
+
+-- what an accepted READ names may be read
+pub may_be_read :
+    (s new : State) (client context : ℕ) (id : ℤ) (answer : Answer) (serial : ℕ)
+    → (names : Names s client context id serial) → read s client context id ≡ Ok (new, answer)
+    → MayBeRead s names.whose serial
+unfolding read
+may_be_read s new client context id answer serial names h =
+    let if_read : ℕ × Key → Outcome =
+    λ found. readable found.1.kind found.1.content >>= (λ bytes. Ok (s, Bytes bytes)) in
+    let own = bind_ok (context_of s client context) (λ c. look_up s c id ToRead >>= if_read) (new, answer) h in
+    let c = names.whose in
+    let same : own.0 ≡ c = same_ok (context_of s client context) own.0 c own.1 names.own in
+    let look : (look_up s c id ToRead >>= if_read) ≡ Ok (new, answer) =
+    subst (λ (whose : Context). (look_up s whose id ToRead >>= if_read) ≡ Ok (new, answer)) same own.2 in
+    let found = bind_ok (look_up s c id ToRead) if_read (new, answer) look in
+    let n = found.0.0 in
+    let key = found.0.1 in
+    let told = bind_ok (readable key.kind key.content) (λ bytes. Ok (s, Bytes bytes)) (new, answer) found.2 in
+    let usable = look_up_usable s c id ToRead found.0 found.1 in
+    let mine = possessed s c n in
+    let rights = rights_on key c.caller mine in
+    let here : n ≡ serial =
+    same_ok (serial_of s c id) n serial (found_serial s c id ToRead found.0 found.1) names.named in
+    subst (MayBeRead s c) here (record {
+      key = key;
+      there = usable.there;
+      live = usable.live;
+      running = usable.running;
+      kind = not_logon key.kind key.content told.0 told.1;
+      granted = either_right (has_all rights READ) mine (has_all rights SEARCH) usable.granted;
+    })
+
+pub reads_by_right : (start : State) → ReadsByRight start
+reads_by_right start before old legal reading end serial step reads =
+    let came = accepted_came old end reading (Read reads.id) step reads.asked reads.accepted in
+    may_be_read (raised old reading.moment) came.serves.mid reading.lane reading.ask.context reads.id came.answer serial
+    reads.names came.serves.meant

@@ -1,0 +1,69 @@
+-- A refusal does not hang on a payload.
+use Rattle.std.proofs.Common.{◌≡◌, ℕ, ℤ, List, [], ◌∷◌, Result, Ok, Err, refl, ap, ◌∙◌, sym}
+use Rattle.krs_types.specs.declared.errno.Errno.{Errno}
+use Rattle.krs_types.specs.declared.kind.Kind.{Kind}
+use Rattle.krs_types.specs.Kind.{paid}
+use Rattle.krs_types.specs.declared.rights.Want.TheVariants.{Granted}
+use Rattle.krs_types.specs.Rights.{WRITE}
+use Rattle.krs_types.specs.Refusing.{◌>>=◌}
+use Rattle.krs_types.specs.declared.ask.Answer.{Answer}
+use Rattle.krs_types.specs.declared.ask.Answer.TheVariants.{Nothing}
+use Rattle.krs_model.specs.Table.{Table}
+use Rattle.krs_model.specs.State.{State, Key, Content, Payload, Links}
+use Rattle.krs_model.specs.Lookup.{context_of, look_up}
+use Rattle.krs_model.specs.Outcome.{Outcome}
+use Rattle.krs_model.specs.Asks.Adding.{add}
+use Rattle.krs_model.specs.Asks.Changing.{changed, update, updated, updatable}
+use Rattle.krs_model.specs.Hiding.{Hiding, blind_content, blind_keys, blind, over}
+use Rattle.krs_model.proofs.Hiding.KeyAsks.{blind_done, accepted}
+use Rattle.krs_model.proofs.Hiding.Adding.{IsHidden, add_blind}
+
+-- what hides nothing
+abbrev bare : Hiding
+bare n bytes = bytes
+
+bare_content : (content : Content) → blind_content (λ bytes. bytes) content ≡ content
+bare_content (Payload bytes) = refl
+bare_content (Links serials) = refl
+
+bare_keys : (es : Table Key) → blind_keys bare es ≡ es
+bare_keys [] = refl
+bare_keys (e ∷ es) = λ i. (e.0, record e.1 { content = bare_content e.1.content i }) ∷ bare_keys es i
+
+bare_state : (s : State) → blind bare s ≡ s
+bare_state s = λ i. record s { keys = bare_keys s.keys i }
+
+-- an ADD is refused with any payload that the same types take
+pub add_refused :
+    (s : State) (client context : ℕ) (type_name desc payload other : List ℕ) (ring : ℤ) (e : Errno)
+    → ((kind : Kind) → paid kind other ≡ paid kind payload)
+    → add s client context type_name desc payload ring ≡ Err e → add s client context type_name desc other ring ≡ Err e
+add_refused s client context type_name desc payload other ring e fits refused =
+    let meant = add s client context type_name desc payload ring in
+    let none : (done : State × Answer) → meant ≡ Ok done → IsHidden bare payload other done = λ done is.
+    absurd (cc) in
+    ap (λ (t : State). add t client context type_name desc other ring) (sym (bare_state s))
+    ∙ (add_blind bare s client context type_name desc payload other ring fits none
+    ∙ ap (over (blind_done bare)) refused)
+
+-- where each refusal of a step is one of another step, each refusal of what ends with the one is one with the other
+refused_with :
+    {A C : Type 0} (r : Result A Errno) (f g : A → Result C Errno) (e : Errno)
+    → ((x : A) → f x ≡ Err e → g x ≡ Err e) → (r >>= f) ≡ Err e → (r >>= g) ≡ Err e
+refused_with (Ok x) f g e each is = each x is
+refused_with (Err d) f g e each is = is
+
+-- an UPDATE is refused with any payload that the same types take
+pub update_refused :
+    (s : State) (client context : ℕ) (id : ℤ) (payload other : List ℕ) (e : Errno)
+    → ((kind : Kind) → paid kind other ≡ paid kind payload)
+    → update s client context id payload ≡ Err e → update s client context id other ≡ Err e
+unfolding update
+update_refused s client context id payload other e fits =
+    refused_with (context_of s client context) _ _ e (λ c.
+    refused_with (look_up s c id (Granted WRITE)) _ _ e (λ found.
+    refused_with (updatable found.1.kind) _ _ e (λ kind is.
+    let end : List ℕ → Unit {0} → Outcome =
+    λ bytes fit. accepted (changed s found.0 (updated bytes)) Nothing in
+    ap (λ (r : Result (Unit {0}) Errno). r >>= end other) (fits kind)
+    ∙ refused_with (paid kind payload) (end payload) (end other) e (λ fit no. absurd (cc)) is)))

@@ -1,0 +1,66 @@
+-- To hide a set of keys is lawful.
+use Rattle.std.proofs.Common.{Result}
+use Rattle.std.proofs.Common.{◌≡◌, ℕ, ◌==◌, ◌&&◌, List, [], ◌∷◌, Bool, true, false, cond, Ok, Err, refl, ap}
+use Rattle.std.proofs.Common.{◌∙◌, sym, arith, length}
+use Rattle.std.specs.Prelude.{nat_le}
+use Rattle.std.proofs.lemmas.Bool.Decides.{nat_tests}
+use Rattle.krs_types.specs.declared.errno.Errno.{Errno}
+use Rattle.krs_types.specs.declared.errno.Errno.TheVariants.{EINVAL}
+use Rattle.krs_types.specs.declared.kind.Kind.{Kind}
+use Rattle.krs_types.specs.declared.kind.Kind.TheVariants.{User, Logon, Keyring}
+use Rattle.krs_types.specs.Kind.{paid}
+use Rattle.krs_model.specs.Hiding.{Hides, hiding}
+
+not_empty : (n : ℕ) → (nat_le 1 n && nat_le n 32767) ≡ true → (n == 0) ≡ false
+not_empty n h = grind (arith, nat_tests)
+
+one_byte : (kind : Kind) (bytes : List ℕ) (secret : Bool)
+    → paid kind (cond (secret && (nat_le 1 (length bytes) && nat_le (length bytes) 32767)) (0 ∷ []) bytes)
+    ≡ paid kind bytes
+one_byte kind bytes false = refl
+one_byte User bytes true =
+    elim (nat_le 1 (length bytes) && nat_le (length bytes) 32767) as (λ (b : Bool).
+    (nat_le 1 (length bytes) && nat_le (length bytes) 32767) ≡ b
+    → paid User (cond b (0 ∷ []) bytes) ≡ paid User bytes) [
+      | true ↦ λ e. ap (λ (b : Bool). cond b (Ok tt) (Err EINVAL)) (sym e)
+      | false ↦ λ e. refl
+    ] refl
+one_byte Logon bytes true =
+    elim (nat_le 1 (length bytes) && nat_le (length bytes) 32767) as (λ (b : Bool).
+    (nat_le 1 (length bytes) && nat_le (length bytes) 32767) ≡ b
+    → paid Logon (cond b (0 ∷ []) bytes) ≡ paid Logon bytes) [
+      | true ↦ λ e. ap (λ (b : Bool). cond b (Ok tt) (Err EINVAL)) (sym e)
+      | false ↦ λ e. refl
+    ] refl
+one_byte Keyring bytes true =
+    elim (nat_le 1 (length bytes) && nat_le (length bytes) 32767) as (λ (b : Bool).
+    (nat_le 1 (length bytes) && nat_le (length bytes) 32767) ≡ b
+    → paid Keyring (cond b (0 ∷ []) bytes) ≡ paid Keyring bytes) [
+      | true ↦ λ e. ap (λ (b : Bool). cond b (Ok tt) (Err EINVAL)) (sym (not_empty (length bytes) e))
+      | false ↦ λ e. refl
+    ] refl
+
+pub hides : (secret : ℕ → Bool) → Hides (hiding secret)
+hides secret = λ n kind bytes. one_byte kind bytes (secret n)
+
+abbrev taken : Bool → Result (Unit {0}) Errno
+taken b = cond b (Ok tt) (Err EINVAL)
+
+lawful : (b : Bool) → taken b ≡ Ok tt → b ≡ true
+lawful true h = refl
+lawful false h = absurd (cc)
+
+one : (secret : ℕ → Bool) (n : ℕ) (bytes : List ℕ) → secret n ≡ true → paid User bytes ≡ Ok tt
+    → hiding secret n bytes ≡ 0 ∷ []
+one secret n bytes is fits =
+    let all : (nat_le 1 (length bytes) && nat_le (length bytes) 32767) ≡ true =
+    lawful (nat_le 1 (length bytes) && nat_le (length bytes) 32767) fits in
+    λ i. cond (is i && all i) (0 ∷ []) bytes
+
+pub alike : (secret : ℕ → Bool) (n : ℕ) (bytes other : List ℕ) → secret n ≡ true → paid User bytes ≡ Ok tt
+    → paid User other ≡ Ok tt → hiding secret n bytes ≡ hiding secret n other
+alike secret n bytes other is fits too = one secret n bytes is fits ∙ sym (one secret n other is too)
+
+pub bare : (secret : ℕ → Bool) (n : ℕ) (bytes : List ℕ) → secret n ≡ false → hiding secret n bytes ≡ bytes
+bare secret n bytes is =
+    λ i. cond (is i && (nat_le 1 (length bytes) && nat_le (length bytes) 32767)) (0 ∷ []) bytes

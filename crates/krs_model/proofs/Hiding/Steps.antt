@@ -1,0 +1,161 @@
+-- Steps and histories with the payloads hidden.
+use Rattle.std.proofs.Common.{◌≡◌, ⊎_elim, inl, inr, ℕ, List, [], ◌∷◌, ◌++◌, Bool, cond, not, filter}
+use Rattle.std.proofs.Common.{Result, Ok, Err, refl, ap, ◌∙◌, sym, subst}
+use Rattle.std.specs.Prelude.{IsOk}
+use Rattle.krs_types.specs.declared.errno.Errno.{Errno}
+use Rattle.krs_types.specs.declared.ask.Answer.{Answer}
+use Rattle.krs_types.specs.declared.ask.Answer.TheVariants.{Nothing, Number, Bytes}
+use Rattle.krs_types.specs.declared.ask.Op.{Op}
+use Rattle.krs_types.specs.declared.ask.Op.TheVariants.{GetId, Add}
+use Rattle.krs_types.specs.declared.ask.Op.TheVariants.{Watch}
+use Rattle.krs_types.specs.declared.event.Event.{Event}
+use Rattle.krs_types.specs.declared.note.KeyEvent.TheVariants.{Updated, Linked}
+use Rattle.krs_types.specs.Growth.{grows}
+use Rattle.krs_model.specs.Table.{Table}
+use Rattle.krs_model.specs.State.{State, Key, raised}
+use Rattle.krs_model.specs.Queues as queues
+use Rattle.krs_model.specs.Queues.{queues_of}
+use Rattle.krs_model.specs.Lookup.{context_of, serial_of}
+use Rattle.krs_model.specs.Outcome.{Outcome}
+use Rattle.krs_model.specs.Notes.Posting.{Post, posts, dropped_watches, posted_in}
+use Rattle.krs_model.specs.Notes.Telling.{notes_of, ended_by, named, about, about_link, about_added}
+use Rattle.krs_model.specs.Step.{outcome_of, watches_left, posts_by, Serves, LacksMemory, Ends, Step}
+use Rattle.krs_model.specs.History.{IsLegal}
+use Rattle.krs_model.proofs.History.Determined.{one_history}
+use Rattle.krs_model.specs.Hiding.{Hiding, Hides, blind_keys, blind, blind_ask, blind_answer, blind_reply}
+use Rattle.krs_model.specs.Hiding.{blind_outcome}
+use Rattle.krs_model.specs.Hiding.{blind_event, IsBlinded, NoEvents, FurtherEvents}
+use Rattle.krs_model.proofs.Hiding.Sweeps.{same_there, sweep_blind}
+use Rattle.krs_model.proofs.Hiding.Outcomes.{outcome_blind}
+
+-- notes tell of serials alone
+added_notes : (hide : Hiding) (keys : Table Key) (ring : Result ℕ Errno) (answer : Answer)
+    → about_added (blind_keys hide keys) ring answer ≡ about_added keys ring answer
+added_notes hide keys ring Nothing = refl
+added_notes hide keys ring (Bytes bytes) = refl
+added_notes hide keys ring (Number serial) =
+    ap (λ (b : Bool). cond b (about Updated (Ok serial)) (about_link Linked ring (Ok serial)))
+    (same_there hide keys serial)
+
+same_notes : (hide : Hiding) (s : State) (client context : ℕ) (op : Op) (answer : Answer)
+    → notes_of (blind hide s) client context (blind_ask hide s client context op)
+    (blind_answer hide s client context op answer) ≡ notes_of s client context op answer
+unfolding context_of serial_of
+same_notes hide s client context (Add type_name desc payload ring) answer =
+    added_notes hide s.keys (named s client context ring) answer
+same_notes hide s client context op answer = refl
+
+same_ended : (hide : Hiding) (s : State) (client context : ℕ) (op : Op)
+    → ended_by (blind hide s) client context (blind_ask hide s client context op) ≡ ended_by s client context op
+unfolding context_of serial_of
+same_ended hide s client context (Watch id queue watch) = refl
+same_ended hide s client context op = refl
+
+same_grows : (hide : Hiding) (s : State) (client context : ℕ) (op : Op)
+    → grows (blind_ask hide s client context op) ≡ grows op
+same_grows hide s client context (GetId id create) = refl
+same_grows hide s client context op = refl
+
+same_left : (hide : Hiding) (s : State) (client context : ℕ) (op : Op) (meant : Outcome)
+    → watches_left (blind_outcome hide s client context op meant) ≡ watches_left meant
+same_left hide s client context op (Ok done) = refl
+same_left hide s client context op (Err e) = refl
+
+same_dropped : (hide : Hiding) (keys : Table Key) (watches : List queues.Watch)
+    → dropped_watches (blind_keys hide keys) watches ≡ dropped_watches keys watches
+same_dropped hide keys watches = λ i. filter (λ w. not (same_there hide keys w.0.0 i)) watches
+
+same_posts :
+    (hide : Hiding) (s : State) (client context : ℕ) (op : Op) (answer : Answer) (keys : Table Key) → Hides hide
+    → posts_by (blind hide s) client context (blind_ask hide s client context op)
+    (blind_answer hide s client context op answer) (blind_keys hide keys) ≡ posts_by s client context op answer keys
+same_posts hide s client context op answer keys hides =
+    let meant = outcome_of s client context op in
+    let left : watches_left (outcome_of (blind hide s) client context (blind_ask hide s client context op))
+    ≡ watches_left meant =
+    ap watches_left (outcome_blind hide s client context op hides) ∙ same_left hide s client context op meant in
+    let dropped : dropped_watches (blind_keys hide keys)
+    (watches_left (outcome_of (blind hide s) client context (blind_ask hide s client context op)))
+    ≡ dropped_watches keys (watches_left meant) =
+    ap (dropped_watches (blind_keys hide keys)) left ∙ same_dropped hide keys (watches_left meant) in
+    λ i. posts (queues_of s) (same_notes hide s client context op answer i)
+    (same_ended hide s client context op i ++ dropped i)
+
+serves_blind :
+    (hide : Hiding) (s new : State) (client context : ℕ) (op : Op) (answer : Answer) → Hides hide
+    → Serves s client context op answer new
+    → Serves (blind hide s) client context (blind_ask hide s client context op)
+    (blind_answer hide s client context op answer) (blind hide new)
+serves_blind hide s new client context op answer hides serves = record {
+  mid = blind hide serves.mid;
+  swept = blind hide serves.swept;
+  meant = outcome_blind hide s client context op hides
+      ∙ ap (blind_outcome hide s client context op) serves.meant;
+  sweep = sweep_blind hide serves.mid serves.swept serves.sweep;
+  posted = ap (blind hide) serves.posted
+      ∙ ap (λ (ps : List Post). posted_in ps (blind hide serves.swept))
+      (sym (same_posts hide s client context op answer serves.swept.keys hides));
+}
+
+ok_blind : (hide : Hiding) (s : State) (client context : ℕ) (op : Op) (meant : Outcome) → IsOk meant
+    → IsOk (blind_outcome hide s client context op meant)
+ok_blind hide s client context op (Ok done) ok = ok
+ok_blind hide s client context op (Err e) ok = ok
+
+ends_blind :
+    (hide : Hiding) (s new : State) (client context : ℕ) (op : Op) (reply : Result Answer Errno) → Hides hide
+    → Ends s client context op reply new
+    → Ends (blind hide s) client context (blind_ask hide s client context op)
+    (blind_reply hide s client context op reply) (blind hide new)
+ends_blind hide s new client context op (Ok answer) hides ends =
+    serves_blind hide s new client context op answer hides ends
+ends_blind hide s new client context op (Err e) hides ends =
+    let same = outcome_blind hide s client context op hides in
+    let meant = outcome_of s client context op in (
+      ⊎_elim (λ (refused : meant ≡ Err e). inl (same ∙ ap (blind_outcome hide s client context op) refused))
+          (λ (lacks : LacksMemory op e meant). inr (
+            lacks.0,
+            same_grows hide s client context op ∙ lacks.1,
+            subst (λ (r : Outcome). IsOk r) (sym same) (ok_blind hide s client context op meant lacks.2),
+          )) ends.0,
+      ap (blind hide) ends.1,
+    )
+
+-- a step with the payloads hidden is a step
+pub step_blind : (hide : Hiding) (old new : State) (event : Event) → Hides hide → Step old event new
+    → Step (blind hide old) (blind_event hide old event) (blind hide new)
+unfolding Step
+step_blind hide old new event hides step =
+    ends_blind hide (raised old event.moment) new event.lane event.ask.context event.ask.op event.reply hides step
+
+-- each legal history has one with the payloads hidden
+pub history_blinded :
+    (hide : Hiding) (start end : State) (events : List Event) → IsLegal start events end
+    → (blinded : List Event) × IsBlinded hide start events end blinded
+unfolding IsLegal
+history_blinded hide start end [] legal =
+    ([], subst (λ (t : State). IsBlinded hide start [] t []) legal (NoEvents start))
+history_blinded hide start end (event ∷ events) legal =
+    let next = legal.0 in
+    let rest = history_blinded hide next end events legal.2 in
+    (blind_event hide start event ∷ rest.0, FurtherEvents start next end event events rest.0 legal.1 rest.1)
+
+-- and it is legal
+pub blinded_legal :
+    (hide : Hiding) (start end : State) (events blinded : List Event) → Hides hide
+    → IsBlinded hide start events end blinded → IsLegal (blind hide start) blinded (blind hide end)
+unfolding IsLegal
+blinded_legal hide _ _ _ _ hides (NoEvents s) = refl
+blinded_legal hide _ _ _ _ hides (FurtherEvents s next end event events blinded step rest) =
+    (blind hide next, step_blind hide s next event hides step, blinded_legal hide next end events blinded hides rest)
+
+-- two histories that differ in hidden payloads alone end so
+pub ends_alike :
+    (hide : Hiding) (a b x y : State) (events others blinded : List Event) → Hides hide
+    → blind hide a ≡ blind hide b → IsBlinded hide a events x blinded → IsBlinded hide b others y blinded
+    → blind hide x ≡ blind hide y
+ends_alike hide a b x y events others blinded hides same first second =
+    let legal = blinded_legal hide a x events blinded hides first in
+    one_history (blind hide b) (blind hide x) (blind hide y) blinded
+    (subst (λ (t : State). IsLegal t blinded (blind hide x)) same legal)
+    (blinded_legal hide b y others blinded hides second)

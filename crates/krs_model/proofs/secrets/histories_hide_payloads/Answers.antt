@@ -1,0 +1,5 @@
+use Rattle.krs_model.proofs.Hiding.Steps.{history_blinded, blinded_legal}
+use Rattle.krs_model.proofs.secrets.histories_hide_payloads.Goals as goal
+
+pub returns : goal.returns
+returns c = record { some = history_blinded; legal = blinded_legal }

@@ -1,0 +1,5 @@
+use Rattle.krs_model.proofs.Hiding.Sets.{hides, alike, bare}
+use Rattle.krs_model.proofs.secrets.payloads_of_any_keys_may_be_hidden.Goals as goal
+
+pub returns : goal.returns
+returns c = record { lawful = hides; alike = alike; others = bare }

@@ -1,0 +1,93 @@
+-- What a client can tell of payloads that it doesn't read, and who may read one. After J. A. Goguen and J. Meseguer,
+-- "Security Policies and Security Models", 1982: noninterference, with READ as the one declassifier; keyctl(2),
+-- KEYCTL_READ.
+use Rattle.std.specs.Prelude.{◌≡◌, ◌≢◌, ◌⊎◌, ℕ, ◌==◌, List, ◌∷◌, ◌++◌, map, filter, Bool, true, false, Some}
+use Rattle.std.specs.Prelude.{Result, Ok, Err}
+use Rattle.krs_types.specs.declared.errno.Errno.{Errno}
+use Rattle.krs_types.specs.declared.errno.Errno.TheVariants.{ENOMEM}
+use Rattle.krs_types.specs.declared.kind.Kind.TheVariants.{User, Logon}
+use Rattle.krs_types.specs.declared.context.Context.{Context}
+use Rattle.krs_types.specs.declared.rights.Rights.{Rights}
+use Rattle.krs_types.specs.declared.ask.Ask.{Ask}
+use Rattle.krs_types.specs.declared.ask.Answer.{Answer}
+use Rattle.krs_types.specs.declared.event.Event.{Event}
+use Rattle.krs_types.specs.Rights.{has_all, READ, SEARCH}
+use Rattle.krs_model.specs.Table.{at}
+use Rattle.krs_model.specs.State.{State, Key, raised}
+use Rattle.krs_model.specs.Access.{is_over, rights_on}
+use Rattle.krs_model.specs.Possession.{possessed}
+use Rattle.krs_model.specs.Step.{Step}
+use Rattle.krs_model.specs.History.{IsLegal}
+use Rattle.krs_model.specs.Revocation.{Reads}
+use Rattle.krs_model.specs.Hiding.{Hiding, Hides, blind, IsBlinded}
+
+-- memory was wanting: profile, want of memory
+abbrev pub is_wanting : Result Answer Errno → Bool
+is_wanting (Ok answer) = false
+is_wanting (Err ENOMEM) = true
+is_wanting (Err e) = false
+
+-- who asked what, and when, and whether memory was wanting for it
+abbrev pub asked : Event → ((ℕ × ℕ) × Ask) × Bool
+asked event = (((event.lane, event.moment), event.ask), is_wanting event.reply)
+
+-- legal histories of two stores that are the same but for hidden payloads: those of what they began with, and of what
+-- they were asked, one by one. Memory was wanting for the same asks
+pub record AreAskedAlike (hide : Hiding) (start other : State) (events others : List Event) : Type 0 where
+  pub starts : blind hide start ≡ blind hide other
+  pub end : State
+  pub other_end : State
+  pub blinded : List Event
+  pub other_blinded : List Event
+  pub first : IsBlinded hide start events end blinded
+  pub second : IsBlinded hide other others other_end other_blinded
+  pub asks : map asked blinded ≡ map asked other_blinded
+
+-- the payloads of the key at this serial are not hidden
+abbrev pub IsShown : Hiding → ℕ → Type 0
+IsShown hide serial = (bytes : List ℕ) → hide serial bytes ≡ bytes
+
+-- of the events from this state, each READ by the client that is accepted is of a keyring, or of a user key whose
+-- payloads are not hidden
+abbrev pub ReadsShown : Hiding → ℕ → State → List Event → Type 0
+ReadsShown hide client start events =
+    (before later : List Event) (reading : Event) (old : State) (serial : ℕ) (key : Key)
+    → events ≡ before ++ reading ∷ later → IsLegal start before old → reading.lane ≡ client
+    → Reads old reading serial → at old.keys serial ≡ Some key → key.kind ≡ User → IsShown hide serial
+
+-- all that a client is told: the replies to it, in order, among them the records that it reads from its queues
+abbrev pub replies_to : ℕ → List Event → List (Result Answer Errno)
+replies_to client events = map (λ e. e.reply) (filter (λ e. e.lane == client) events)
+
+-- Whatever payloads are hidden, a client that reads none of them is told in these events what it is told in any others
+-- that differ in them alone: what a client hasn't read, it can't tell from another secret
+abbrev pub TellsNoUnread : State → List Event → Type 0
+TellsNoUnread start events =
+    (hide : Hiding) (client : ℕ) (other : State) (others : List Event) → Hides hide
+    → AreAskedAlike hide start other events others → ReadsShown hide client start events
+    → replies_to client events ≡ replies_to client others
+
+-- so it is in all events from this state on
+abbrev pub KeepsSecrets : State → Type 0
+KeepsSecrets start = (events : List Event) → TellsNoUnread start events
+
+-- the key at the serial grants the context these rights
+abbrev pub Grants : State → Context → ℕ → Key → Rights → Type 0
+Grants s c serial key wanted = has_all (rights_on key c.caller (possessed s c serial)) wanted ≡ true
+
+-- the key at the serial is neither revoked nor expired, is no logon key, and grants the context READ; or it is
+-- possessed, and grants SEARCH: keyrings(7), "Access rights"; profile, reading by possession
+pub record MayBeRead (s : State) (c : Context) (serial : ℕ) : Type 0 where
+  pub key : Key
+  pub there : at s.keys serial ≡ Some key
+  pub live : key.revoked ≡ false
+  pub running : is_over s.clock key.expiry ≡ false
+  pub kind : key.kind ≢ Logon
+  pub granted : Grants s c serial key READ ⊎ ((possessed s c serial ≡ true) × Grants s c serial key SEARCH)
+
+-- each key that an accepted READ names may be read by the context that asks, at that moment
+abbrev pub ReadsByRight : State → Type 0
+ReadsByRight start =
+    (before : List Event) (old : State) → IsLegal start before old
+    → (reading : Event) (end : State) (serial : ℕ) → Step old reading end → (reads : Reads old reading serial)
+    → MayBeRead (raised old reading.moment) reads.names.whose serial
