@@ -1,8 +1,8 @@
 -- What a client can tell of payloads that it doesn't read, and who may read one. After J. A. Goguen and J. Meseguer,
 -- "Security Policies and Security Models", 1982: noninterference, with READ as the one declassifier; keyctl(2),
 -- KEYCTL_READ.
-use Rattle.std.specs.Prelude.{◌≡◌, ◌≢◌, ◌⊎◌, ℕ, ◌==◌, List, ◌∷◌, ◌++◌, map, filter, Bool, true, false, Some}
-use Rattle.std.specs.Prelude.{Result, Ok, Err}
+use Rattle.std.specs.Prelude.{◌≡◌, ◌≢◌, ◌⊎◌, ℕ, ◌==◌, List, [], ◌∷◌, ◌++◌, map, filter, Bool, true, false, Some}
+use Rattle.std.specs.Prelude.{Result, Ok, Err, IsOk}
 use Rattle.krs_types.specs.declared.errno.Errno.{Errno}
 use Rattle.krs_types.specs.declared.errno.Errno.TheVariants.{ENOMEM}
 use Rattle.krs_types.specs.declared.kind.Kind.TheVariants.{User, Logon}
@@ -10,6 +10,8 @@ use Rattle.krs_types.specs.declared.context.Context.{Context}
 use Rattle.krs_types.specs.declared.rights.Rights.{Rights}
 use Rattle.krs_types.specs.declared.ask.Ask.{Ask}
 use Rattle.krs_types.specs.declared.ask.Answer.{Answer}
+use Rattle.krs_types.specs.declared.ask.Op.{Op}
+use Rattle.krs_types.specs.declared.ask.Op.TheVariants.{Read}
 use Rattle.krs_types.specs.declared.event.Event.{Event}
 use Rattle.krs_types.specs.Rights.{has_all, READ, SEARCH}
 use Rattle.krs_model.specs.Table.{at}
@@ -42,6 +44,24 @@ pub record AreAskedAlike (hide : Hiding) (start other : State) (events others : 
   pub first : IsBlinded hide start events end blinded
   pub second : IsBlinded hide other others other_end other_blinded
   pub asks : map asked blinded ≡ map asked other_blinded
+
+-- an ask whose answer may tell a payload
+abbrev pub is_read : Op → Bool
+is_read (Read id) = true
+is_read op = false
+
+-- an accepted READ, of whatever key
+abbrev pub IsRead : Event → Type 0
+IsRead event = (is_read event.ask.op ≡ true) × IsOk event.reply
+
+-- event by event the clients are the same, and the replies are the same, but those to accepted READs
+abbrev pub DifferInReads : List Event → List Event → Type 0
+DifferInReads [] [] = Unit {0}
+DifferInReads (event ∷ events) (other ∷ others) =
+    (event.lane ≡ other.lane) × ((event.reply ≡ other.reply) ⊎ (IsRead event × IsRead other))
+    × DifferInReads events others
+DifferInReads [] (other ∷ others) = ⊥
+DifferInReads (event ∷ events) [] = ⊥
 
 -- the payloads of the key at this serial are not hidden
 abbrev pub IsShown : Hiding → ℕ → Type 0

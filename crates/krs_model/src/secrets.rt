@@ -18,7 +18,7 @@ ghost use Rattle.krs_model.specs.Step.{Step, outcome_of};
 ghost use Rattle.krs_model.specs.History.{IsLegal};
 ghost use Rattle.krs_model.specs.Hiding.{Hiding, Hides, hiding, blind, blind_ask, blind_outcome};
 ghost use Rattle.krs_model.specs.Hiding.{blind_event, IsBlinded};
-ghost use Rattle.krs_model.specs.Secrecy.{AreAskedAlike, KeepsSecrets, ReadsByRight};
+ghost use Rattle.krs_model.specs.Secrecy.{AreAskedAlike, DifferInReads, KeepsSecrets, ReadsByRight};
 
 /// The payloads of any set of keys may be hidden: any two that a user key may have are then one, and those of other
 /// keys are as they were.
@@ -77,10 +77,12 @@ pub fn histories_hide_payloads()
 {}
 
 /// Two histories that are asked alike, but for hidden payloads, are answered alike, but for hidden payloads, and end
-/// alike.
+/// alike. All their replies are the same, but those to accepted READs.
 pub fn hidden_payloads_flow_nowhere()
     ensures replies { (hide : Hiding) (a b : State) (events others : List Event) → Hides hide
         → (alike : AreAskedAlike hide a b events others) → alike.blinded ≡ alike.other_blinded }
+    ensures reads { (hide : Hiding) (a b : State) (events others : List Event) → Hides hide
+        → AreAskedAlike hide a b events others → DifferInReads events others }
     ensures ends { (hide : Hiding) (a b : State) (events others : List Event) → Hides hide
         → (alike : AreAskedAlike hide a b events others) → blind hide alike.end ≡ blind hide alike.other_end }
 {}

@@ -1,6 +1,6 @@
 -- What a client is told hangs on no payload that is hidden, but those that it reads.
 use Rattle.std.proofs.Common.{◌≡◌, ◌≢◌, ℕ, ◌==◌, List, [], ◌∷◌, map, Option, None, Some, Bool, true, false, cond}
-use Rattle.std.proofs.Common.{Result, Ok, Err, filter, refl, ap, ◌∙◌, sym, subst, arith}
+use Rattle.std.proofs.Common.{inl, inr, ⊎_elim, ◌⊎◌, Result, Ok, Err, filter, refl, ap, ◌∙◌, sym, subst, arith}
 use Rattle.std.specs.Prelude.{IsOk}
 use Rattle.std.proofs.lemmas.Bool.{true≢false}
 use Rattle.std.proofs.lemmas.Bool.Decides.{nat_tests}
@@ -24,8 +24,8 @@ use Rattle.krs_model.specs.Step.{Step}
 use Rattle.krs_model.specs.History.{IsLegal}
 use Rattle.krs_model.specs.Hiding.{Hiding, Hides, blind_keys, blind, blind_ask, told_of, told, told_at, blind_answer}
 use Rattle.krs_model.specs.Hiding.{over, blind_event, IsBlinded, NoEvents, FurtherEvents}
-use Rattle.krs_model.specs.Secrecy.{is_wanting, asked, AreAskedAlike, ReadsShown, replies_to, TellsNoUnread}
-use Rattle.krs_model.specs.Secrecy.{KeepsSecrets}
+use Rattle.krs_model.specs.Secrecy.{is_read, IsRead, DifferInReads, is_wanting, asked, AreAskedAlike, ReadsShown}
+use Rattle.krs_model.specs.Secrecy.{replies_to, TellsNoUnread, KeepsSecrets}
 use Rattle.krs_model.proofs.History.Determined.{one_history, one_reply, one_step}
 use Rattle.krs_model.proofs.History.Revocations.{read_of_key}
 use Rattle.krs_model.proofs.Hiding.Keys.{seen}
@@ -152,6 +152,77 @@ one_told f g (Ok x) (Ok y) plain bare same =
 one_told f g (Ok x) (Err e) plain bare same = absurd (cc)
 one_told f g (Err e) (Ok y) plain bare same = absurd (cc)
 one_told f g (Err e) (Err d) plain bare same = cc
+
+one_or_read :
+    (f g : Answer → Answer) (reply other : Result Answer Errno) → over f reply ≡ over g other
+    → (reply ≡ other) ⊎ (IsOk reply × IsOk other)
+one_or_read f g (Ok x) (Ok y) same = inr (refl, refl)
+one_or_read f g (Ok x) (Err e) same = absurd (cc)
+one_or_read f g (Err e) (Ok y) same = absurd (cc)
+one_or_read f g (Err e) (Err d) same = inl (cc)
+
+same_read : (hide : Hiding) (s : State) (client context : ℕ) (op : Op)
+    → is_read (blind_ask hide s client context op) ≡ is_read op
+same_read hide s client context (Read id) = refl
+same_read hide s client context op = refl
+
+-- no other ask tells a payload
+unread_tells_none : (hide : Hiding) (s : State) (client context : ℕ) (op : Op) (answer : Answer) → is_read op ≡ false
+    → blind_answer hide s client context op answer ≡ answer
+unread_tells_none hide s client context (Read id) answer un = absurd (true≢false un)
+unread_tells_none hide s client context op answer un = refl
+
+-- events whose blinded ones are the same have the same reply, but where they are accepted READs
+reply_or_read :
+    (hide : Hiding) (s t : State) (event other : Event) (b : Bool) → blind_event hide s event ≡ blind_event hide t other
+    → is_read event.ask.op ≡ b → is_read other.ask.op ≡ b
+    → (event.reply ≡ other.reply) ⊎ (IsRead event × IsRead other)
+reply_or_read hide s t event other b same first second =
+    let up = raised s event.moment in
+    let top = raised t other.moment in
+    let f = blind_answer hide up event.lane event.ask.context event.ask.op in
+    let g = blind_answer hide top other.lane other.ask.context other.ask.op in
+    let alike : over f event.reply ≡ over g other.reply = ap (λ (e : Event). e.reply) same in
+    elim b as (λ b. is_read event.ask.op ≡ b → is_read other.ask.op ≡ b
+    → (event.reply ≡ other.reply) ⊎ (IsRead event × IsRead other)) [
+      | true ↦ λ p q. ⊎_elim (λ (one : event.reply ≡ other.reply). inl one)
+          (λ (both : IsOk event.reply × IsOk other.reply). inr ((p, both.0), (q, both.1)))
+          (one_or_read f g event.reply other.reply alike)
+      | false ↦ λ p q. inl (one_told f g event.reply other.reply
+          (λ accepted x. unread_tells_none hide up event.lane event.ask.context event.ask.op x p)
+          (λ accepted x. unread_tells_none hide top other.lane other.ask.context other.ask.op x q) alike)
+    ] first second
+
+read_alike : (hide : Hiding) (s t : State) (event other : Event) → blind_event hide s event ≡ blind_event hide t other
+    → is_read other.ask.op ≡ is_read event.ask.op
+read_alike hide s t event other same =
+    sym (same_read hide (raised t other.moment) other.lane other.ask.context other.ask.op)
+    ∙ (sym (ap (λ (e : Event). is_read e.ask.op) same)
+    ∙ same_read hide (raised s event.moment) event.lane event.ask.context event.ask.op)
+
+differ :
+    (hide : Hiding) (a b x y : State) (events others blinded alike : List Event)
+    → IsBlinded hide a events x blinded → IsBlinded hide b others y alike → blinded ≡ alike
+    → DifferInReads events others
+differ hide _ _ _ _ _ _ _ _ (NoEvents s) (NoEvents t) same = tt
+differ hide _ _ _ _ _ _ _ _ (NoEvents s) (FurtherEvents t next end event events blinded step rest) same = absurd (cc)
+differ hide _ _ _ _ _ _ _ _ (FurtherEvents s next end event events blinded step rest) (NoEvents t) same = absurd (cc)
+differ hide _ _ _ _ _ _ _ _ (FurtherEvents s next end event events blinded step rest)
+    (FurtherEvents t top last other others alike further behind) same =
+    let first : blind_event hide s event ≡ blind_event hide t other = cc in
+    let then : blinded ≡ alike = cc in (
+      ap (λ (e : Event). e.lane) first,
+      reply_or_read hide s t event other (is_read event.ask.op) first refl (read_alike hide s t event other first),
+      differ hide next top end last events others blinded alike rest behind then,
+    )
+
+-- of histories that are asked alike all replies are the same, but those to accepted READs
+pub differ_in_reads :
+    (hide : Hiding) (a b : State) (events others : List Event) → Hides hide → AreAskedAlike hide a b events others
+    → DifferInReads events others
+differ_in_reads hide a b events others hides alike =
+    differ hide a b alike.end alike.other_end events others alike.blinded alike.other_blinded alike.first alike.second
+    (blinded_alike hide a b events others hides alike)
 
 lane_is : (n client : ℕ) → (n == client) ≡ true → n ≡ client
 lane_is n client h = grind (arith, nat_tests)
