@@ -7,6 +7,7 @@ ghost use Rattle.krs_model.specs.History.{event_of};
 ghost use Rattle.krs_model.specs.Sound.{IsSound};
 ghost use Rattle.krs_model.specs.Revocation.{StaysUnread};
 ghost use Rattle.krs_model.specs.Receiving.{GivesStreams};
+ghost use Rattle.krs_model.specs.Secrecy.{KeepsSecrets, ReadsByRight};
 
 use crate::serving::serve;
 use krs_links::Seed;
@@ -101,6 +102,23 @@ impl Store {
     /// KEYCTL_REVOKE.
     pub fn revoked_keys_are_not_read(&self)
         ensures { StaysUnread self.now }
+    {
+        let _tables = &self.tables;
+    }
+
+    /// A law of every store: whatever it is asked from now on, what a client hasn't read, it can't tell from another
+    /// secret: a payload is told in no reply and no record but those of accepted READs. So it is of the payloads that
+    /// the store has now, too.
+    pub fn unread_payloads_stay_secret(&self)
+        ensures { KeepsSecrets self.now }
+    {
+        let _tables = &self.tables;
+    }
+
+    /// A law of every store: whatever it is asked from now on, each key that is read may be read by the context that
+    /// asks, at that moment. keyctl(2), KEYCTL_READ; profile, reading by possession.
+    pub fn keys_are_read_by_right(&self)
+        ensures { ReadsByRight self.now }
     {
         let _tables = &self.tables;
     }
