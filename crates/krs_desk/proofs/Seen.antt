@@ -6,9 +6,10 @@ use Rattle.krs_model.specs.Sound.{IsSound}
 use Rattle.krs_model.specs.Step.{Step}
 use Rattle.krs_model.specs.History.{IsLegal}
 use Rattle.krs_model.specs.Revocation.{StaysUnread}
+use Rattle.krs_model.specs.Secrecy.{ReadsByRight}
 use Rattle.krs_model.proofs.History.Determined.{one_history, legal_moves}
 use Rattle.krs_model.proofs.History.Streams.{gives_streams}
-use Rattle.krs_desk.specs.Seen.{IsNotReadRevoked, GivesItsStreams}
+use Rattle.krs_desk.specs.Seen.{IsNotReadRevoked, AreReadByRight, GivesItsStreams}
 
 -- a legal history, cut in two
 pub legal_cut :
@@ -45,6 +46,11 @@ not_read_revoked
     (subst (λ (l : List Event). IsLegal a l end) is legal) in
     unread before old to_old revoking revoked.0 serial revoked.1 revokes later late revoked.2 reading read.0 read.1
     reads
+
+pub read_by_right : (a end : State) (seen : List Event) → ReadsByRight a → IsLegal a seen end → AreReadByRight a seen
+read_by_right a end seen right legal before rest reading old serial is front reads =
+    let step = next_step a old end before reading rest front (subst (λ (l : List Event). IsLegal a l end) is legal) in
+    right before old front reading step.0 serial step.1 reads
 
 pub gives_its_streams :
     (a end : State) (seen : List Event) → IsSound a → IsLegal a seen end → GivesItsStreams a seen

@@ -2,10 +2,11 @@
 use Rattle.std.specs.Prelude.{◌≡◌, ℕ, List, ◌∷◌, ◌++◌, Some}
 use Rattle.krs_types.specs.declared.event.Event.{Event}
 use Rattle.krs_model.specs.Table.{at}
-use Rattle.krs_model.specs.State.{State, Queue}
+use Rattle.krs_model.specs.State.{State, Queue, raised}
 use Rattle.krs_model.specs.Lists.{Begins}
 use Rattle.krs_model.specs.History.{IsLegal}
 use Rattle.krs_model.specs.Revocation.{Revokes, Reads}
+use Rattle.krs_model.specs.Secrecy.{MayBeRead}
 use Rattle.krs_model.specs.Receiving.{HasMoves, IsOpened}
 use Rattle.krs_model.specs.Notes.Stream.{Move, taken, stream}
 
@@ -21,6 +22,14 @@ IsNotReadRevoked opening seen =
     → seen ≡ (before ++ revoking ∷ later) ++ reading ∷ rest
     → IsLegal opening before old → Revokes old revoking serial
     → IsLegal opening (before ++ revoking ∷ later) late → Reads late reading serial → ⊥
+
+-- Each key that an accepted READ of the list names may be read by the context that asks, at that moment: keyctl(2),
+-- KEYCTL_READ. Which key an id stands for is a matter of the state that the events before have left.
+abbrev pub AreReadByRight : State → List Event → Type 0
+AreReadByRight opening seen =
+    (before rest : List Event) (reading : Event) (old : State) (serial : ℕ)
+    → seen ≡ before ++ reading ∷ rest → IsLegal opening before old → (reads : Reads old reading serial)
+    → MayBeRead (raised old reading.moment) reads.names.whose serial
 
 -- For each queue, what the list calls for and what its replies spell, up to the state that it ends in. Where the queue
 -- was opened in the list and is open at its end, what was read, followed by what waits, is its stream; and what was

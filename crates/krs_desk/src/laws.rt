@@ -1,7 +1,8 @@
 //! What holds of all that a seat has seen.
 ghost use Rattle.krs_model.specs.Receiving.{GivesStreams};
 ghost use Rattle.krs_model.specs.Revocation.{StaysUnread};
-ghost use Rattle.krs_desk.specs.Seen.{IsOneHistory, IsNotReadRevoked, GivesItsStreams};
+ghost use Rattle.krs_model.specs.Secrecy.{TellsNoUnread, KeepsSecrets, ReadsByRight};
+ghost use Rattle.krs_desk.specs.Seen.{IsOneHistory, IsNotReadRevoked, AreReadByRight, GivesItsStreams};
 
 use crate::seat::Seat;
 
@@ -18,6 +19,25 @@ impl Seat {
     pub fn revoked_keys_are_not_read(&self)
         ensures seen { IsNotReadRevoked self.now.opening self.now.part.seen }
         ensures always { StaysUnread self.now.opening }
+    {
+        let _token = &self.token;
+    }
+
+    /// What a client hasn't read, it can't tell from another secret: what it is told in what a seat has seen, it is
+    /// told in each legal history that is asked alike, but for payloads of keys that it doesn't read. So it is in every
+    /// history of the desk.
+    pub fn unread_payloads_stay_secret(&self)
+        ensures seen { TellsNoUnread self.now.opening self.now.part.seen }
+        ensures always { KeepsSecrets self.now.opening }
+    {
+        let _token = &self.token;
+    }
+
+    /// In what a seat has seen, each key that is read may be read by the context that asks, at that moment. So it is in
+    /// every history of the desk. keyctl(2), KEYCTL_READ; profile, reading by possession.
+    pub fn keys_are_read_by_right(&self)
+        ensures seen { AreReadByRight self.now.opening self.now.part.seen }
+        ensures always { ReadsByRight self.now.opening }
     {
         let _token = &self.token;
     }
