@@ -1,3 +1,4 @@
 pub mod JoinLemmas
 pub mod PieceLemmas
 pub mod LeadLemmas
+pub mod AlikeLemmas

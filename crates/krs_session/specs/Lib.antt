@@ -1,5 +1,6 @@
 pub mod Events
 pub mod Session
 pub mod Leads
+pub mod Alike
 pub mod Serving
 pub mod Over

@@ -5,6 +5,7 @@ ghost use Rattle.krs_desk.specs.Sitting.{Sitting};
 ghost use Rattle.krs_session.specs.declared.ended.Ended.{Ended};
 ghost use Rattle.krs_session.specs.Session.{Session};
 ghost use Rattle.krs_session.specs.Leads.{Leads, GainsTheirCalls, GainsSession};
+ghost use Rattle.krs_session.specs.Alike.{AnswersDifferInReads, WritesNoUnread};
 
 use crate::{Clock, Sink, Source};
 
@@ -22,4 +23,12 @@ pub fn a_session_is_its_asks_and_leave<R: Source, W: Sink, C: Clock>()
         (λ moments. C.ticked clock0 moments clock1)
         (λ text. W.took writer0 text writer1) lane reads ended)
         → GainsSession s session.frames (session.events ++ session.last ∷ []) t }
+{}
+
+/// What a client hasn't read, nothing that is written to it tells from another secret. Of two sessions of one lane that
+/// are asked alike, as are all other clients, but for hidden payloads, the replies are the same, but those to accepted
+/// READs; and the texts of all replies are the same where the lane reads no hidden payload.
+pub fn unread_payloads_are_not_written()
+    ensures replies { AnswersDifferInReads }
+    ensures texts { WritesNoUnread }
 {}

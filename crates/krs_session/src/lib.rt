@@ -20,6 +20,8 @@ pub use ended::Ended;
 pub use ends::{Failed, Sink, Source};
 pub use gate::{Gate, Point};
 pub use keeper::Keeper;
-pub use laws::{a_seat_gains_its_calls, a_session_is_its_asks_and_leave};
+pub use laws::{
+    a_seat_gains_its_calls, a_session_is_its_asks_and_leave, unread_payloads_are_not_written,
+};
 pub use over::Over;
 pub use session::run;
