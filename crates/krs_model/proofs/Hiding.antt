@@ -5,6 +5,7 @@ pub mod Lookups
 pub mod Searches
 pub mod KeyAsks
 pub mod LinkAsks
+pub mod Moving
 pub mod Adding
 pub mod OtherAsks
 pub mod Outcomes

@@ -40,8 +40,8 @@ same_admitted type_name desc payload other fits = λ i.
     >>= (λ fit. Ok (record { kind = kind; desc = desc })))
 
 same_over :
-    (hide : Hiding) (s : State) (c : Context) (ring : ℕ) (links : List ℕ) (found : ℕ) (o : Option Key)
-    → over_match (blind hide s) c ring links found o ≡ over_match s c ring links found o
+    (hide : Hiding) (s : State) (c : Context) (ring : ℕ × Key) (links : List ℕ) (found : ℕ) (o : Option Key)
+    → over_match (blind hide s) c (blind_found hide ring) links found o ≡ over_match s c ring links found o
 same_over hide s c ring links found None = refl
 same_over hide s c ring links found (Some key) =
     ap (λ (mine : Bool). cond (is_alive s.clock key && is_updatable key.kind)
@@ -49,8 +49,8 @@ same_over hide s c ring links found (Some key) =
     (if_room s ring links (Some found))) (same_possessed hide s c found)
 
 same_by :
-    (hide : Hiding) (s : State) (c : Context) (ring : ℕ) (links : List ℕ) (match : Option ℕ)
-    → by_match (blind hide s) c ring links match ≡ by_match s c ring links match
+    (hide : Hiding) (s : State) (c : Context) (ring : ℕ × Key) (links : List ℕ) (match : Option ℕ)
+    → by_match (blind hide s) c (blind_found hide ring) links match ≡ by_match s c ring links match
 same_by hide s c ring links None = refl
 same_by hide s c ring links (Some found) =
     same_over hide s c ring links found (at (blind_keys hide s.keys) found)
@@ -65,16 +65,17 @@ same_place : (hide : Hiding) (s : State) (c : Context) (name : Name) (ring : ℤ
     → place_of (blind hide s) c name ring ≡ over (λ place. place) (place_of s c name ring)
 unfolding place_of
 same_place hide s c name ring =
-    let end : ℕ → List ℕ → Result Place Errno = λ n links.
-    by_match (blind hide s) c n links (link_named (blind hide s).keys name links) in
-    ap (λ (r : Result (ℕ × Key) Errno). r >>= (λ found. ring_links found.1.content >>= end found.0))
+    let end : ℕ × Key → List ℕ → Result Place Errno = λ found links.
+    by_match (blind hide s) c found links (link_named (blind hide s).keys name links) in
+    ap (λ (r : Result (ℕ × Key) Errno). r >>= (λ found. ring_links found.1.content >>= end found))
     (look_up_blind hide s c ring (Granted WRITE))
     ∙ bound (blind_found hide) (λ place. place) (look_up s c ring (Granted WRITE)) _ _ (λ found _.
-    ap (λ (r : Result (List ℕ) Errno). r >>= end found.0) (same_ring_links (hide found.0) found.1.content)
+    ap (λ (r : Result (List ℕ) Errno). r >>= end (blind_found hide found)) (same_ring_links
+    (hide found.0) found.1.content)
     ∙ after (λ place. place) (ring_links found.1.content) _ _ (λ links _.
-    same_by hide s c found.0 links (link_named (blind hide s).keys name links)
-    ∙ (ap (by_match s c found.0 links) (same_link_named hide s.keys name links)
-    ∙ as_it_is (by_match s c found.0 links (link_named s.keys name links)))))
+    same_by hide s c found links (link_named (blind hide s).keys name links)
+    ∙ (ap (by_match s c found links) (same_link_named hide s.keys name links)
+    ∙ as_it_is (by_match s c found links (link_named s.keys name links)))))
 
 first_blind : (h : List ℕ → List ℕ) (kind : Kind) (payload other : List ℕ) → other ≡ h payload
     → first_content kind other ≡ blind_content h (first_content kind payload)

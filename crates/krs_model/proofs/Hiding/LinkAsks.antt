@@ -4,7 +4,7 @@ use Rattle.std.proofs.Common.{Result, Ok, Err, refl, ap, ◌∙◌, length, filt
 use Rattle.std.specs.List.{find}
 use Rattle.std.specs.Prelude.{nat_lt, codes}
 use Rattle.krs_types.specs.declared.errno.Errno.{Errno}
-use Rattle.krs_types.specs.declared.errno.Errno.TheVariants.{ENOSPC, EDEADLK, ELOOP, ENOKEY}
+use Rattle.krs_types.specs.declared.errno.Errno.TheVariants.{EPERM, ENOSPC, EDEADLK, ELOOP, ENOKEY}
 use Rattle.krs_types.specs.declared.context.Context.{Context}
 use Rattle.krs_types.specs.declared.name.Name.{Name}
 use Rattle.krs_types.specs.declared.key_id.KeyId.{KeyId}
@@ -72,13 +72,15 @@ same_chain hide keys serial count =
     seen hide keys is_ring k (λ v. refl) in
     λ i. is_some_in (level (λ j. filter (λ k. ring k i) (same_links_at hide keys j i)) (serial ∷ []) count)
 
-same_check : (hide : Hiding) (keys : Table Key) (ring : ℕ) (links : List ℕ) (found : ℕ × Key)
-    → link_check (blind_keys hide keys) ring links (blind_found hide found) ≡ link_check keys ring links found
+same_check : (hide : Hiding) (keys : Table Key) (ring : ℕ × Key) (links : List ℕ) (found : ℕ × Key)
+    → link_check (blind_keys hide keys) (blind_found hide ring) links (blind_found hide found)
+    ≡ link_check keys ring links found
 unfolding nestable
 same_check hide keys ring links found = λ i.
-    (unless (same_closes hide keys found.0 ring i) EDEADLK
+    unless ring.1.closed EPERM
+    >>= (λ unclosed. (unless (same_closes hide keys found.0 ring.0 i) EDEADLK
     >>= (λ acyclic. unless (same_chain hide keys found.0 6 i) ELOOP))
-    >>= (λ nests. has_room links (same_link_named hide keys (name_of found.1) links i))
+    >>= (λ nests. has_room links (same_link_named hide keys (name_of found.1) links i)))
 
 linked_blind : (h : List ℕ → List ℕ) (displaced : ℕ → Bool) (serial : ℕ) (content : Content)
     → linked_content displaced serial (blind_content h content)
@@ -103,15 +105,15 @@ pub linked_into_blind : (hide : Hiding) (s : State) (into found : ℕ × Key)
     → linked_into (blind hide s) (blind_found hide into) (blind_found hide found)
     ≡ over (blind hide) (linked_into s into found)
 linked_into_blind hide s into found =
-    ap (λ (r : Result (List ℕ) Errno). r >>= (λ links. link_check (blind hide s).keys into.0 links
-    (blind_found hide found)
+    ap (λ (r : Result (List ℕ) Errno). r >>= (λ links. link_check (blind hide s).keys
+    (blind_found hide into) links (blind_found hide found)
     >>= (λ allowed. Ok (changed (blind hide s) into.0 (linking (blind hide s).keys (name_of found.1) found.0)))))
     (same_ring_links (hide into.0) into.1.content)
     ∙ after (blind hide) (ring_links into.1.content) _ _ (λ links _.
     ap (λ (r : Result (Unit {0}) Errno). r
     >>= (λ allowed. Ok (changed (blind hide s) into.0 (linking (blind hide s).keys (name_of found.1) found.0))))
-    (same_check hide s.keys into.0 links found)
-    ∙ after (blind hide) (link_check s.keys into.0 links found) _ _ (λ allowed _.
+    (same_check hide s.keys into links found)
+    ∙ after (blind hide) (link_check s.keys into links found) _ _ (λ allowed _.
     let to : Table Key → Result State Errno = λ es. Ok (record s { keys = es }) in
     ap to (alter_blind hide s.keys into.0 (linking s.keys (name_of found.1) found.0)
     (linking (blind hide s).keys (name_of found.1) found.0)

@@ -10,6 +10,7 @@ use Rattle.krs_types.specs.declared.ask.Op.TheVariants.{Hello, Thread, Fork, Exe
 use Rattle.krs_types.specs.declared.ask.Op.TheVariants.{Update, Revoke, Invalidate, Chown, SetPerm, SetTimeout, Link}
 use Rattle.krs_types.specs.declared.ask.Op.TheVariants.{Unlink, Clear, Read, Describe, Watch, OpenQueue, SetFilter}
 use Rattle.krs_types.specs.declared.ask.Op.TheVariants.{ReadQueue, CloseQueue, Exit, Leave}
+use Rattle.krs_types.specs.declared.ask.Op.TheVariants.{Move, RestrictKeyring}
 use Rattle.krs_types.specs.Kind.{paid}
 use Rattle.krs_types.specs.Rights.{WRITE}
 use Rattle.krs_model.specs.State.{State}
@@ -24,6 +25,7 @@ use Rattle.krs_model.specs.Hiding.{blind_outcome}
 use Rattle.krs_model.proofs.Hiding.KeyAsks.{blind_done, accepted, named_is, describe_blind, set_perm_blind, chown_blind}
 use Rattle.krs_model.proofs.Hiding.KeyAsks.{set_timeout_blind, revoke_blind, update_blind, read_blind}
 use Rattle.krs_model.proofs.Hiding.LinkAsks.{link_blind, unlink_blind, clear_blind}
+use Rattle.krs_model.proofs.Hiding.Moving.{move_blind, restrict_blind}
 use Rattle.krs_model.proofs.Hiding.Adding.{IsHidden, add_blind}
 use Rattle.krs_model.proofs.Hiding.OtherAsks.{thread_blind, fork_blind, exec_blind, exit_blind, left_blind, open_blind}
 use Rattle.krs_model.proofs.Hiding.OtherAsks.{filter_ask_blind, read_queue_blind, close_blind, watch_blind, hello_blind}
@@ -88,6 +90,9 @@ outcome_blind hide s client context (SetPerm id mask) hides = set_perm_blind hid
 outcome_blind hide s client context (SetTimeout id seconds) hides = set_timeout_blind hide s client context id seconds
 outcome_blind hide s client context (Link key ring) hides = link_blind hide s client context key ring
 outcome_blind hide s client context (Unlink key ring) hides = unlink_blind hide s client context key ring
+outcome_blind hide s client context (Move key from to flags) hides = move_blind hide s client context key from to flags
+outcome_blind hide s client context (RestrictKeyring ring type_name) hides =
+    restrict_blind hide s client context ring type_name
 outcome_blind hide s client context (Clear id) hides = clear_blind hide s client context id
 outcome_blind hide s client context (Read id) hides = read_blind hide s client context id
 outcome_blind hide s client context (Describe id) hides = describe_blind hide s client context id
