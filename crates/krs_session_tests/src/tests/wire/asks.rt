@@ -45,7 +45,7 @@ const NOTES: Form = (
 
 // Frames of every ask, what they say and in which context, and the reply.
 #[rattlefmt::skip]
-static ASKS: [(&[u8], &str, Form); 30] = [
+static ASKS: [(&[u8], &str, Form); 32] = [
     (&[0x14, 0, 0, 0, 1, 0, 0, 1, 0, 0, 0, 0, 0xe8, 3, 0, 0, 0xe8, 3, 0, 0, 0, 0, 0, 0],
         "0 Hello(Caller { uid: 1000, gid: 1000, groups: Groups { gids: [] } })", NUMBER),
     (&[0x1f, 0, 0, 0, 1, 0, 6, 1, 1, 0, 0, 0, 4, 0, 0x75, 0x73, 0x65, 0x72, 5, 0, 0x61, 0x6c, 0x70, 0x68, 0x61,
@@ -63,6 +63,10 @@ static ASKS: [(&[u8], &str, Form); 30] = [
     (&[0x10, 0, 0, 0, 1, 0, 8, 0, 1, 0, 0, 0, 6, 0, 0, 0, 5, 0, 0, 0], "1 Link { key: 6, ring: 5 }", DONE),
     (&[0x10, 0, 0, 0, 1, 0, 9, 0, 1, 0, 0, 0, 5, 0, 0, 0, 0xfc, 0xff, 0xff, 0xff],
         "1 Unlink { key: 5, ring: -4 }", DONE),
+    (&[0x18, 0, 0, 0, 1, 0, 0x1e, 0, 1, 0, 0, 0, 7, 0, 0, 0, 5, 0, 0, 0, 6, 0, 0, 0, 1, 0, 0, 0],
+        "1 Move { key: 7, from: 5, to: 6, flags: 1 }", DONE),
+    (&[0x0e, 0, 0, 0, 1, 0, 0x1d, 0, 1, 0, 0, 0, 5, 0, 0, 0, 0, 0],
+        "1 RestrictKeyring { ring: 5, type_name: Blob { bytes: [] } }", DONE),
     (&[0x0c, 0, 0, 0, 1, 0, 7, 0, 1, 0, 0, 0, 5, 0, 0, 0], "1 Clear { id: 5 }", DONE),
     (&[0x0d, 0, 0, 0, 1, 0, 0, 0, 1, 0, 0, 0, 0xff, 0xff, 0xff, 0xff, 1], "1 GetId { id: -1, create: true }", NUMBER),
     (&[0x0d, 0, 0, 0, 1, 0, 0, 0, 1, 0, 0, 0, 5, 0, 0, 0, 0], "1 GetId { id: 5, create: false }", NUMBER),
