@@ -9,7 +9,9 @@ use crate::watching;
 use crate::watching::{close_queue, open_queue, read_queue, set_filter};
 use krs_context_asks::{exec, exit, fork, hello, join, leave, thread};
 use krs_key_asks::{add, chown, describe, read, revoke, set_perm, set_timeout, update};
-use krs_ring_asks::{clear, get_id, invalidate, link, move_link, request, restrict_keyring, search, unlink};
+use krs_ring_asks::{
+    clear, get_id, invalidate, link, move_link, request, restrict_keyring, search, unlink,
+};
 use krs_tables::Tables;
 use krs_types::{Answer, Ask, Fault, Op};
 
