@@ -11,8 +11,8 @@ use krs_types::{Errno, Record};
 use std::alloc::Global;
 use std::marker::Model;
 
-/// How many records a ring holds at most: core-api/watch_queue.rst, "Watch Queue (Notification Output) API".
-const MAX_CAPACITY: u32 = 512;
+/// How many records a ring holds at most, eight times as many as a queue of the kernel: profile, exact rings.
+const MAX_CAPACITY: u32 = 4096;
 
 /// A kept record, and whether any were dropped after it.
 #[derive(Clone, Copy, Debug)]
@@ -42,7 +42,7 @@ impl Model for NoteRing {
 }
 
 impl NoteRing {
-    /// Whether there are rings of so many records: 1 to 512.
+    /// Whether there are rings of so many records: 1 to 4096.
     pub fn is_capacity(capacity: u32) -> bool
         ensures { result ≡ is_capacity capacity }
     {
@@ -68,7 +68,7 @@ impl NoteRing {
     /// An upper bound of the bytes of all that waits.
     pub fn byte_bound(&self) -> usize
         ensures value { result ≡ 24 * total_room self.now.waiting + 8 }
-        ensures bound { result ≤ 12296 }
+        ensures bound { result ≤ 98312 }
         ensures fits { length (bytes_of_all self.now.waiting) ≤ result }
     {
         24 * self.slots.len() + 8

@@ -56,7 +56,7 @@ impl WatchQueues {
         }
     }
 
-    /// A new queue of 1 to 512 records, by its number: EINVAL, ENFILE, ENOSPC, ENOMEM.
+    /// A new queue of 1 to 4096 records, by its number: EINVAL, ENFILE, ENOSPC, ENOMEM.
     #[tactic(auto, unfolding(krs_model::specs::Asks::Watching::opened))]
     pub fn open_queue(&mut self, client: u32, capacity: u32) -> Result<u32, Fault>
         ensures { LeadsQueues self.old result self.new (opened self.old client capacity) }

@@ -7,7 +7,7 @@ use Rattle.krs_model.specs.Notes.Stream.{Move, Posted, Took, room_of}
 
 -- how many records a queue may hold: profile, exact rings
 abbrev pub greatest_capacity : ℕ
-greatest_capacity = 512
+greatest_capacity = 4096
 
 -- a queue is asked for with a number of records up to that one, and holds exactly that number: profile, exact rings
 abbrev pub is_capacity : ℕ → Bool

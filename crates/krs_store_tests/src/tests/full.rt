@@ -1,8 +1,8 @@
-//! A full keyring, by asks.
+//! A full keyring and a full queue, by asks.
 use super::{expect, reply};
 use krs_store::Store;
-use krs_store_asks::{Want, add, change, hello, read};
-use krs_types::{Answer, Ask, Errno, Op, Reply};
+use krs_store_asks::{Want, add, change, hello, read, update};
+use krs_types::{Answer, Ask, Blob, Errno, Op, Reply};
 use std::alloc::{AllocError, Global};
 use std::process::Abort;
 use std::test::*;
@@ -13,15 +13,44 @@ fn ask_at(alloc: Global, step: u8) -> Result<Ask, AllocError> {
         0 => Ok(hello(alloc, 1000)),
         1 => add(alloc, b"keyring", b"big", b"", -4),
         2 => add(alloc, b"user", b"k65535", b"x", 5),
-        3 => add(alloc, b"user", b"k0", b"x", -4),
-        4 => Ok(change(Op::Link {
-            key: 65_541,
+        3 => add(alloc, b"user", b"k65535", b"x", -4),
+        4 => Ok(moved(0)),
+        5 => Ok(moved(2)),
+        6 => Ok(change(Op::RestrictKeyring {
+            ring: 5,
+            type_name: Blob::from_slice(alloc, b"user")?,
+        })),
+        7 => add(alloc, b"user", b"k0", b"x", -4),
+        8 => Ok(change(Op::Link {
+            key: 65_542,
             ring: 5,
         })),
-        5 => Ok(read(1, 6)),
-        6 => Ok(change(Op::Unlink { key: 5, ring: -4 })),
-        _ => Ok(read(1, 7)),
+        9 => Ok(read(1, 6)),
+        10 => Ok(change(Op::Unlink { key: 5, ring: -4 })),
+        11 => Ok(read(1, 7)),
+        12 => add(alloc, b"user", b"key", b"x", -4),
+        13 => Ok(change(Op::OpenQueue { capacity: 4096 })),
+        14 => Ok(change(Op::Watch {
+            id: 5,
+            queue: 1,
+            watch: 1,
+        })),
+        15 => update(alloc, 5, b"y"),
+        _ => Ok(change(Op::ReadQueue {
+            queue: 1,
+            room: 262_140,
+        })),
     }
+}
+
+/// A MOVE of the key elsewhere into the full keyring.
+fn moved(flags: u32) -> Ask {
+    change(Op::Move {
+        key: 65_541,
+        from: -4,
+        to: 5,
+        flags,
+    })
 }
 
 /// The number of an ask, what that is answered with, and what it is.
@@ -34,17 +63,21 @@ const EMPTY: [Row<'static>; 2] = [
 ];
 
 #[rattlefmt::skip]
-const FULL: [Row<'static>; 4] = [
+const FULL: [Row<'static>; 8] = [
     (2, Want::Refused(Errno::ENFILE), "one key more"),
     (3, Want::Number(65_541), "a key elsewhere"),
-    (4, Want::Nothing, "its link"),
-    (5, Want::Refused(Errno::ENOKEY), "the key that was displaced"),
+    (4, Want::Refused(Errno::ENFILE), "its move"),
+    (5, Want::Refused(Errno::EINVAL), "a move with a flag that there isn't"),
+    (6, Want::Refused(Errno::EINVAL), "closing the keyring against all but a type"),
+    (7, Want::Number(65_542), "a key of a name that is there"),
+    (8, Want::Nothing, "its link"),
+    (9, Want::Refused(Errno::ENOKEY), "the key that was displaced"),
 ];
 
 #[rattlefmt::skip]
 const GONE: [Row<'static>; 2] = [
-    (6, Want::Nothing, "the keyring's only link"),
-    (7, Want::Refused(Errno::ENOKEY), "a key that it alone links"),
+    (10, Want::Nothing, "the keyring's only link"),
+    (11, Want::Refused(Errno::ENOKEY), "a key that it alone links"),
 ];
 
 fn check_rows(
@@ -78,7 +111,7 @@ fn check_key(
 fn gives_all_links(reply: &Reply) -> bool {
     match reply {
         Ok(Answer::Bytes(links)) => {
-            links.as_slice().len() == 262_140 && links.as_slice().starts_with(&[5, 0, 1, 0])
+            links.as_slice().len() == 262_140 && links.as_slice().starts_with(&[6, 0, 1, 0])
         }
         _ => false,
     }
@@ -102,4 +135,38 @@ fn a_full_keyring_takes_no_new_key(rt: HostRuntime) -> Result<(), Fail> {
     let alloc = rt.alloc();
     let mut store = Store::new(alloc);
     check_full(&rt, alloc, &mut store)
+}
+
+#[rattlefmt::skip]
+const WATCHED: [Row<'static>; 4] = [
+    (0, Want::Number(1), "HELLO"),
+    (12, Want::Number(5), "the key"),
+    (13, Want::Number(1), "the queue"),
+    (14, Want::Nothing, "the watch"),
+];
+
+/// Whether a reply is the notes of so many updates of the key, and behind them a loss: linux/watch_queue.h.
+fn gives_all_notes(reply: &Reply) -> bool {
+    let note = [1, 0, 0, 1, 16, 1, 0, 0, 5, 0, 0, 0, 0, 0, 0, 0];
+    match reply {
+        Ok(Answer::Bytes(records)) => {
+            let (notes, loss) = records.as_slice().split_at(65_536);
+            notes.chunks_exact(16).all(|it| it == note) && loss == [0, 0, 0, 1, 8, 0, 0, 0]
+        }
+        _ => false,
+    }
+}
+
+// The largest queue keeps as many notes as it was asked for, and tells of the one more.
+#[test]
+fn a_full_queue_tells_of_its_loss(rt: HostRuntime) -> Result<(), Fail> {
+    let alloc = rt.alloc();
+    let mut store = Store::new(alloc);
+    check_rows(&rt, alloc, &mut store, &WATCHED)?;
+    for _ in 0..4097u32 {
+        check_rows(&rt, alloc, &mut store, &[(15, Want::Nothing, "an update")])?;
+    }
+    let records = reply(&mut store, 0, 9, ask_at(alloc, 16)?);
+    assert!(rt; gives_all_notes(&records), "the queue is not read whole");
+    Ok(())
 }

@@ -84,16 +84,18 @@ fn check_full(rt: &impl Abort, ring: &mut NoteRing, capacity: u32) {
     );
 }
 
-/// At its edge a ring keeps exactly as many records as were asked for, and those are 1 to 512.
+/// At its edge a ring keeps exactly as many records as were asked for, and those are 1 to 4096.
 #[test]
-fn a_ring_keeps_1_to_512_records(rt: HostRuntime) {
+fn a_ring_keeps_1_to_4096_records(rt: HostRuntime) {
     for (capacity, good) in &[
         (0, false),
         (1, true),
         (2, true),
-        (511, true),
         (512, true),
-        (513, false),
+        (513, true),
+        (4095, true),
+        (4096, true),
+        (4097, false),
         (u32::MAX, false),
     ] {
         match NoteRing::new(rt.alloc(), *capacity) {

@@ -231,8 +231,32 @@ const RESTRICT_REFUSED: [(&str, &str); 14] = [
     ("setperm 5 3f000000", "error 13 EACCES"),
 ];
 
+/// What MOVE and RESTRICT_KEYRING look up may be expired or revoked: the key, the first keyring and the second.
+#[rattlefmt::skip]
+const DEAD: [(&str, &str); 18] = [
+    ("hello 1000 1000", "1"),
+    ("newring a @u", "5"),
+    ("newring b @u", "6"),
+    ("add user k one 5", "7"),
+    ("add user l two @u", "8"),
+    ("add user m three @u", "9"),
+    ("timeout 7 10", "ok"),
+    ("timeout 6 10", "ok"),
+    ("moment 100", "ok"),
+    ("move 7 99 6", "error 127 EKEYEXPIRED"),
+    ("move 9 6 99", "error 127 EKEYEXPIRED"),
+    ("move 9 @u 6", "error 127 EKEYEXPIRED"),
+    ("restrict 6", "error 127 EKEYEXPIRED"),
+    ("revoke 5", "ok"),
+    ("move 9 5 99", "error 128 EKEYREVOKED"),
+    ("move 9 @u 5", "error 128 EKEYREVOKED"),
+    ("restrict 5", "error 128 EKEYREVOKED"),
+    ("rlist @u", "5 6 8 9"),
+];
+
 /// Each script with its status.
-const SCRIPTS: [(&[(&str, &str)], u8); 10] = [
+const SCRIPTS: [(&[(&str, &str)], u8); 11] = [
+    (&DEAD, 1),
     (&MOVED, 1),
     (&MOVE_REFUSED, 1),
     (&MOVE_NESTED, 1),

@@ -107,9 +107,9 @@ const DROPPED: [(&str, &str); 14] = [
     ("readq 1 64", "00000000100200000800000000000000"),
 ];
 
-/// A filter passes updated notes alone, and every removal record. Capacities are from 1 to 512.
+/// A filter passes updated notes alone, and every removal record. Capacities are from 1 to 4096.
 #[rattlefmt::skip]
-const FILTERED: [(&str, &str); 13] = [
+const FILTERED: [(&str, &str); 15] = [
     ("hello 1000 1000", "1"),
     ("add user f x @u", "5"),
     ("open 4", "1"),
@@ -122,7 +122,9 @@ const FILTERED: [(&str, &str); 13] = [
     ("readq 1 64", "00000000100900000500000000000000"),
     ("filter 1 1:100:0:2", "error 22 EINVAL"),
     ("open 0", "error 22 EINVAL"),
-    ("open 513", "error 22 EINVAL"),
+    ("open 513", "2"),
+    ("open 4096", "3"),
+    ("open 4097", "error 22 EINVAL"),
 ];
 
 /// The notes of a keyring in their order. A closed queue is no queue.

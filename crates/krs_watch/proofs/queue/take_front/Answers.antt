@@ -20,7 +20,7 @@ taking-init c =
     let none : vec_len b ≡ 0 = c.in_ok-bytes.ensures.len in
     let left : room - vec_len b ≡ room = omega arith in
     let most : length (bytes_of_all waiting) ≤ c.byte_bound.result = c.byte_bound.ensures.fits in
-    let bound : c.byte_bound.result ≤ 12296 = c.byte_bound.ensures.bound in
+    let bound : c.byte_bound.result ≤ 98312 = c.byte_bound.ensures.bound in
     record {
       bytes = ap (λ (xs : List ℕ). xs ++ bytes_of_all (front (room - vec_len b) waiting)) c.in_ok-bytes.ensures.items
           ∙ ap (λ (n : ℕ). bytes_of_all (front n waiting)) left;

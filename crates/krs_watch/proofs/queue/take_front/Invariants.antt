@@ -13,7 +13,7 @@ invariant-taking l = record {
   within : vec_len l.bytes ≤ l.room;
   grown : vec_len l.bytes + length (bytes_of_all (front (l.room - vec_len l.bytes) l.ring.waiting))
       ≤ vec_capacity l.bytes;
-  bound : vec_len l.bytes + length (bytes_of_all (front (l.room - vec_len l.bytes) l.ring.waiting)) ≤ 12296;
+  bound : vec_len l.bytes + length (bytes_of_all (front (l.room - vec_len l.bytes) l.ring.waiting)) ≤ 98312;
 }
 
 abbrev pub decreases-taking : goal.decreases-taking
