@@ -89,7 +89,7 @@ fn joinable(tables: &Tables, caller: &Caller, name: &[u8]) -> Option<Serial>
 }
 
 /// A keyring that is there becomes the session keyring of a context, which lets go of the one that it had. It takes no
-/// memory: what may be wanting is room in the keyring's count of holders.
+/// memory: what may be lacking is room in the keyring's count of holders.
 fn join_found(
     tables: &mut Tables,
     number: u32,

@@ -11,7 +11,7 @@ use Rattle.krs_model.specs.State.{State}
 abbrev pub Outcome : Type 0
 Outcome = Result (State × Answer) Errno
 
--- a fault is the definition's refusal; or memory is wanting for what it accepts
+-- a fault is the definition's refusal; or memory runs out for what it accepts
 abbrev pub Fails : {Y : Type 0} → Fault → Result Y Errno → Type 0
 Fails Memory meant = IsOk meant
 Fails (Refused e) meant = meant ≡ Err e

@@ -23,18 +23,18 @@ use Rattle.krs_model.specs.History.{IsLegal}
 use Rattle.krs_model.specs.Revocation.{Reads}
 use Rattle.krs_model.specs.Hiding.{Hiding, Hides, blind, IsBlinded}
 
--- memory was wanting: profile, want of memory
+-- memory ran out: profile, out of memory
 abbrev pub is_wanting : Result Answer Errno → Bool
 is_wanting (Ok answer) = false
 is_wanting (Err ENOMEM) = true
 is_wanting (Err e) = false
 
--- who asked what, and when, and whether memory was wanting for it
+-- who asked what, and when, and whether memory ran out for it
 abbrev pub asked : Event → ((ℕ × ℕ) × Ask) × Bool
 asked event = (((event.lane, event.moment), event.ask), is_wanting event.reply)
 
 -- legal histories of two stores that are the same but for hidden payloads: those of what they began with, and of what
--- they were asked, one by one. Memory was wanting for the same asks
+-- they were asked, one by one. Memory ran out for the same asks
 pub record AreAskedAlike (hide : Hiding) (start other : State) (events others : List Event) : Type 0 where
   pub starts : blind hide start ≡ blind hide other
   pub end : State

@@ -92,7 +92,7 @@ abbrev pub LacksMemory : Op → Errno → Outcome → Type 0
 LacksMemory op e meant = (e ≡ ENOMEM) × (grows op ≡ true) × IsOk meant
 
 -- A refusal leaves everything as it was: profile, refusals change nothing. So does ENOMEM, which is lawful only where
--- nothing else refuses an ask that takes memory: profile, want of memory
+-- nothing else refuses an ask that takes memory: profile, out of memory
 abbrev pub Ends : State → ℕ → ℕ → Op → Result Answer Errno → State → Type 0
 Ends s client context op (Ok answer) new = Serves s client context op answer new
 Ends s client context op (Err e) new =

@@ -158,7 +158,7 @@ pub fn each_ask_has_a_step()
 {}
 
 /// A reply leads to one state: what is asked at a moment and what it is answered with determine all that a store is
-/// then. So do the state and what is asked of it determine the reply, but that memory may be wanting.
+/// then. So do the state and what is asked of it determine the reply, but that memory may run out.
 pub fn a_reply_leads_to_one_state()
     ensures step { (old a b : State) (event : Event) → Step old event a → Step old event b → a ≡ b }
     ensures reply { (old a b : State) (e f : Event) → e.lane ≡ f.lane → e.moment ≡ f.moment → e.ask ≡ f.ask

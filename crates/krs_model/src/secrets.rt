@@ -62,7 +62,7 @@ pub fn refusals_tell_no_payload()
 {}
 
 /// A step with its payloads hidden is a step between the states with their payloads hidden: with what it drops, with
-/// the records that it posts, and where memory is wanting.
+/// the records that it posts, and where memory runs out.
 pub fn steps_hide_payloads()
     ensures { (hide : Hiding) (old new : State) (event : Event) → Hides hide → Step old event new
         → Step (blind hide old) (blind_event hide old event) (blind hide new) }

@@ -189,8 +189,8 @@ fn check_full(tables: &Tables, ring: Serial, name: &Name) -> Result<(), Errno>
     Ok(())
 }
 
-/// A link in a keyring that has room for it. Where memory is wanting, nothing has changed. It takes none where it
-/// displaces a link; then all that may be wanting is room in the key's count of holders.
+/// A link in a keyring that has room for it. Out of memory, nothing has changed. It takes none where it
+/// displaces a link; then all that may be lacking is room in the key's count of holders.
 fn put_named(
     tables: &mut Tables,
     ring: Serial,

@@ -89,7 +89,7 @@ fn move_to(
 }
 
 /// The link to a key out of a keyring, and into another that takes it, where that has room: ENFILE. The key is held
-/// throughout. Where memory is wanting, nothing has changed.
+/// throughout. Out of memory, nothing has changed.
 fn move_over(tables: &mut Tables, from: Serial, into: Serial, serial: Serial) -> Result<(), Fault>
     requires there { IsSome (at tables.old.keys serial) }
     requires ring { IsKeyringAt tables.old into }

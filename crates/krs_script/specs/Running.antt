@@ -66,7 +66,7 @@ StopsBehind breaks input lines last new (Err TooLong) =
     (new ≡ last) × (length lines ≡ most_lines) × BeginsWith input lines
 StopsBehind breaks input lines last new (Err Printing) = (new ≡ last) × BeginsWith input lines
 
--- What of the text was printed: all of it; a beginning where memory was wanting; and where writing failed a beginning
+-- What of the text was printed: all of it; a beginning where memory ran out; and where writing failed a beginning
 -- of what waited and then the text was written, and nothing else.
 abbrev pub IsPrinted : Option (List ℕ) → List ℕ → Option (List ℕ) → List ℕ → List ℕ → Result (Unit {0}) Stop → Type 0
 IsPrinted old waiting new waits text (Ok _) = Prints old waiting new waits text
@@ -78,8 +78,8 @@ IsPrinted old waiting new waits text (Err TooLong) = Prints old waiting new wait
 IsPrinted old waiting new waits text (Err Connection) = Prints old waiting new waits text
 IsPrinted old waiting new waits text (Err Printing) = WritesFront old new (waiting ++ text)
 
--- What became of one line, and what was printed: it was obeyed; it is no command; its command broke off; memory was
--- wanting, before it or for what it prints; or writing failed.
+-- What became of one line, and what was printed: it was obeyed; it is no command; its command broke off; memory
+-- ran out, before it or for what it prints; or writing failed.
 abbrev pub ObeysLine : {S : Type 0} → (S → Command → Output → S → Type 0) → (S → Command → Stop → S → Type 0) → S
     → List ℕ → S → Option (List ℕ) → List ℕ → Option (List ℕ) → List ℕ → Result (Unit {0}) Stop → Type 0
 ObeysLine acts breaks old line new before waiting after waits (Ok _) =
@@ -109,7 +109,7 @@ pub record Runs {S : Type 0} (acts : S → Command → Output → S → Type 0) 
   pub behind : StopsBehind breaks input lines last new stopped
   pub prints : IsPrinted before waiting after waits text stopped
 
--- what of a script's text was printed: all of it; where memory was wanting or writing failed, a beginning
+-- what of a script's text was printed: all of it; where memory ran out or writing failed, a beginning
 abbrev pub IsShown : Result (Unit {0}) Stop → List ℕ → List ℕ → Type 0
 IsShown (Ok _) text printed = printed ≡ text
 IsShown (Err Usage) text printed = printed ≡ text

@@ -9,7 +9,7 @@ use std::io::Write;
 /// What is printed where a line is no command.
 pub const USAGE: &str = "usage\n";
 
-/// What is printed where the client's own memory is wanting.
+/// What is printed where the client itself is out of memory.
 pub const OUT_OF_MEMORY: &str = "error 12 ENOMEM\n";
 
 /// What is printed where there is no connection, or it failed.

@@ -8,7 +8,7 @@ use Rattle.krs_model.specs.Notes.Front.{front, readable}
 use Rattle.krs_model.specs.Outcome.{Fails}
 use Rattle.krs_model.specs.Asks.Watching.{after_read}
 
--- what fits is taken and its bytes are given; where that is refused, or memory is wanting, nothing is taken
+-- what fits is taken and its bytes are given; where that is refused, or memory runs out, nothing is taken
 abbrev pub ReadsQueue : ℕ → Queue → Result (List ℕ) Fault → Queue → Type 0
 ReadsQueue room old (Ok bytes) new =
     (readable room old.waiting ≡ Ok (front room old.waiting))

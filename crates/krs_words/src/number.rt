@@ -91,7 +91,7 @@ pub fn watch_word(word: &[u8]) -> Option<i32>
     }
 }
 
-/// The payload that a word spells. Memory is wanting only for a word that spells one.
+/// The payload that a word spells. It is out of memory only for a word that spells one.
 pub fn data_word(alloc: Global, word: &[u8]) -> Result<Blob, NoCommand>
     ensures value { Reads result (data_of word.now) }
     ensures memory { result ≡ Err NoCommand.Memory → IsSome (data_of word.now) }

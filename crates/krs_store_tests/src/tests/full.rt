@@ -145,13 +145,28 @@ const WATCHED: [Row<'static>; 4] = [
     (14, Want::Nothing, "the watch"),
 ];
 
-/// Whether a reply is the notes of so many updates of the key, and behind them a loss: linux/watch_queue.h.
+/// A note of an update of the key: linux/watch_queue.h.
+const UPDATED: [u8; 16] = [1, 0, 0, 1, 16, 1, 0, 0, 5, 0, 0, 0, 0, 0, 0, 0];
+
+/// Whether these bytes are notes of updates and nothing else.
+fn are_updates(bytes: &[u8]) -> bool {
+    let mut left = bytes;
+    'notes: while left.len() >= 16 {
+        let (note, after) = left.split_at(16);
+        if note != UPDATED {
+            return false;
+        }
+        left = after;
+    }
+    left.is_empty()
+}
+
+/// Whether a reply is as many notes of updates as the largest queue keeps, and behind them a loss.
 fn gives_all_notes(reply: &Reply) -> bool {
-    let note = [1, 0, 0, 1, 16, 1, 0, 0, 5, 0, 0, 0, 0, 0, 0, 0];
     match reply {
-        Ok(Answer::Bytes(records)) => {
+        Ok(Answer::Bytes(records)) if records.as_slice().len() == 65_544 => {
             let (notes, loss) = records.as_slice().split_at(65_536);
-            notes.chunks_exact(16).all(|it| it == note) && loss == [0, 0, 0, 1, 8, 0, 0, 0]
+            are_updates(notes) && loss == [0, 0, 0, 1, 8, 0, 0, 0]
         }
         _ => false,
     }
