@@ -1,24 +1,20 @@
 -- What answers two sessions that are asked alike.
-use Rattle.std.proofs.Common.{◌≡◌, ◌≢◌, ℕ, ◌==◌, List, [], ◌∷◌, ◌++◌, map, Bool, true, false, cond, Result}
+use Rattle.std.proofs.Common.{◌≡◌, ◌≢◌, ℕ, ◌==◌, List, [], ◌∷◌, ◌++◌, Bool, true, false, cond, Result}
 use Rattle.std.proofs.Common.{refl, sym, ap, subst, ◌∙◌, length}
 use Rattle.std.specs.Prelude.{◌⊎◌}
-use Rattle.std.specs.List.{flat_map}
 use Rattle.std.proofs.lemmas.List.{length-map, map-append}
-use Rattle.krs_types.specs.declared.ask.Ask.{Ask}
 use Rattle.krs_types.specs.declared.ask.Answer.{Answer}
 use Rattle.krs_types.specs.declared.errno.Errno.{Errno}
 use Rattle.krs_types.specs.declared.event.Event.{Event}
-use Rattle.krs_model.specs.Hiding.{Hiding, Hides}
-use Rattle.krs_model.specs.Secrecy.{DifferInReads, IsRead, ReadsShown, replies_to}
+use Rattle.krs_model.specs.Secrecy.{DifferInReads, IsRead, replies_to}
 use Rattle.krs_model.proofs.Hiding.Clients.{tells_no_unread, differ_in_reads}
 use Rattle.krs_world.specs.Knowing.{events_of}
 use Rattle.krs_desk.specs.Sitting.{Sitting}
 use Rattle.krs_wire.specs.declared.framed.Framed.{Framed}
 use Rattle.krs_wire.specs.Reply.{reply_frame}
-use Rattle.krs_session.specs.Events.{asks_of, asks_in, replies_of, session_text}
-use Rattle.krs_session.specs.Session.{leave}
+use Rattle.krs_session.specs.Events.{tags_in, replies_of, session_text}
 use Rattle.krs_session.specs.Leads.{GainsSession}
-use Rattle.krs_session.specs.Alike.{AreAlike, AnswersDifferInReads, WritesNoUnread}
+use Rattle.krs_session.specs.Alike.{AnswersDifferInReads, WritesNoUnread}
 
 same_rest : {A : Type 0} (xs ys a b : List A) → length xs ≡ length ys → xs ++ a ≡ ys ++ b → a ≡ b
 same_rest [] [] a b n e = e
@@ -44,25 +40,18 @@ not_none : (xs : List Event) (x : Event) → xs ++ x ∷ [] ≢ []
 not_none [] x = λ e. absurd (cc)
 not_none (y ∷ ys) x = λ e. absurd (cc)
 
--- the text of replies, one for each frame, is that of the replies alone
-text_of : (frames : List Framed) (replies : List (Result Answer Errno)) → length frames ≡ length replies
-    → session_text frames replies ≡ flat_map reply_frame replies
-text_of [] [] n = refl
-text_of [] (r ∷ rs) n = absurd (cc)
-text_of (f ∷ fs) [] n = absurd (cc)
-text_of (f ∷ fs) (r ∷ rs) n =
-    let many : length fs ≡ length rs = cc in
-    ap (λ (text : List ℕ). reply_frame r ++ text) (text_of fs rs many)
-
--- a session has one event for each frame
-as_many : (s t : Sitting) (frames : List Framed) (events : List Event) (last : Event)
-    → GainsSession s frames (events ++ last ∷ []) t → length frames ≡ length (replies_of events)
-as_many s t frames events last gains =
-    let asks : asks_of events ≡ asks_in frames =
-    same_front (asks_of events) (asks_in frames) last.ask leave
-    (sym (map-append (λ (e : Event). e.ask) events (last ∷ [])) ∙ gains.asks) in
-    sym (length-map frames (λ f. f.ask)) ∙ (sym (ap (λ (l : List Ask). length l) asks)
-    ∙ (length-map events (λ e. e.ask) ∙ sym (length-map events (λ e. e.reply))))
+-- frames with the same versions and tags are answered alike
+same_texts : (frames others : List Framed) (replies : List (Result Answer Errno)) → tags_in frames ≡ tags_in others
+    → session_text frames replies ≡ session_text others replies
+same_texts [] [] replies e = refl
+same_texts [] (g ∷ gs) replies e = absurd (cc)
+same_texts (f ∷ fs) [] replies e = absurd (cc)
+same_texts (f ∷ fs) (g ∷ gs) [] e = refl
+same_texts (f ∷ fs) (g ∷ gs) (r ∷ rs) e =
+    let tag : f.tag ≡ g.tag = cc in
+    let tags : tags_in fs ≡ tags_in gs = cc in
+    let more = same_texts fs gs rs tags in
+    λ i. reply_frame (tag i) r ++ more i
 
 -- the lane's replies: those before the session, its own, and that of LEAVE
 own_replies : (s t : Sitting) (frames : List Framed) (events : List Event) (last : Event)
@@ -75,7 +64,7 @@ own_replies s t frames events last gains =
     ∙ ap (λ (l : List (Result Answer Errno)). replies_of s.part.mine ++ l) (map-append reply events (last ∷ [])))
 
 pub alike_texts : WritesNoUnread
-alike_texts hide s t u v frames others events further hides alike shown =
+alike_texts hide s t u v frames others events further hides alike shown tags =
     let told : replies_to t.part.lane t.part.seen ≡ replies_to t.part.lane v.part.seen =
     tells_no_unread t.opening t.part.seen hide t.part.lane v.opening v.part.seen hides alike.asked shown in
     let lane : replies_to t.part.lane v.part.seen ≡ replies_to v.part.lane v.part.seen =
@@ -88,9 +77,7 @@ alike_texts hide s t u v frames others events further hides alike shown =
     (replies_of further ++ alike.final.reply ∷ []) many
     (sym (own_replies s t frames events alike.last alike.one)
     ∙ (told ∙ (lane ∙ own_replies u v others further alike.final alike.other)))) in
-    text_of frames (replies_of events) (as_many s t frames events alike.last alike.one)
-    ∙ (ap (flat_map reply_frame) replies
-    ∙ sym (text_of others (replies_of further) (as_many u v others further alike.final alike.other)))
+    ap (session_text frames) replies ∙ same_texts frames others (replies_of further) tags
 
 differ_rest : (xs ys a b : List Event) → length xs ≡ length ys → DifferInReads (xs ++ a) (ys ++ b) → DifferInReads a b
 differ_rest [] [] a b n d = d

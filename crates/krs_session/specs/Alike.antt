@@ -5,7 +5,7 @@ use Rattle.krs_model.specs.Hiding.{Hiding, Hides}
 use Rattle.krs_model.specs.Secrecy.{AreAskedAlike, ReadsShown, DifferInReads}
 use Rattle.krs_desk.specs.Sitting.{Sitting}
 use Rattle.krs_wire.specs.declared.framed.Framed.{Framed}
-use Rattle.krs_session.specs.Events.{replies_of, session_text}
+use Rattle.krs_session.specs.Events.{tags_in, replies_of, session_text}
 use Rattle.krs_session.specs.Leads.{GainsSession}
 
 -- Two sessions of one lane: from the seat s to t, which asked these frames by these events and then LEAVE, and from u
@@ -27,9 +27,11 @@ AnswersDifferInReads =
     (hide : Hiding) (s t u v : Sitting) (frames others : List Framed) (events further : List Event) → Hides hide
     → AreAlike hide s t u v frames others events further → DifferInReads events further
 
--- where the lane reads no hidden payload, the texts that answer the two are the same
+-- where the lane reads no hidden payload, and their frames have the same versions and tags, the texts that answer the
+-- two are the same
 abbrev pub WritesNoUnread : Type 0
 WritesNoUnread =
     (hide : Hiding) (s t u v : Sitting) (frames others : List Framed) (events further : List Event) → Hides hide
     → AreAlike hide s t u v frames others events further → ReadsShown hide t.part.lane t.opening t.part.seen
+    → tags_in frames ≡ tags_in others
     → session_text frames (replies_of events) ≡ session_text others (replies_of further)

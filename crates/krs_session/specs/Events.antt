@@ -1,5 +1,5 @@
 -- What a session's events say.
-use Rattle.std.specs.Prelude.{◌≡◌, ℕ, List, map, Result}
+use Rattle.std.specs.Prelude.{◌≡◌, ℕ, List, map, Option, Result}
 use Rattle.std.specs.List.{flat_map, zip, AllByRecursion}
 use Rattle.krs_types.specs.declared.ask.Ask.{Ask}
 use Rattle.krs_types.specs.declared.ask.Answer.{Answer}
@@ -24,9 +24,13 @@ AllOfLane lane events = AllByRecursion (λ e. e.lane ≡ lane) events
 abbrev pub asks_in : List Framed → List Ask
 asks_in frames = map (λ f. f.ask) frames
 
--- what an ask's frame is answered with: the frame of its reply
+-- their tags; a frame of version 1 has none
+abbrev pub tags_in : List Framed → List (Option ℕ)
+tags_in frames = map (λ f. f.tag) frames
+
+-- what an ask's frame is answered with: the frame of its reply, in the ask's version and with its tag
 abbrev pub reply_text : Framed → Result Answer Errno → List ℕ
-reply_text framed reply = reply_frame reply
+reply_text framed reply = reply_frame framed.tag reply
 
 -- what these frames are answered with, one after the other
 abbrev pub session_text : List Framed → List (Result Answer Errno) → List ℕ

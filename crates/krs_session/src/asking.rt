@@ -63,9 +63,10 @@ fn answer_one<H, W: Sink, S, D: Keeper<S, H>, C: Clock, G: Gate>(
     ensures ready { D.ready setting.now.desk.now seat.new }
     ensures lane { D.lane_of seat.new ≡ D.lane_of seat.old }
 {
-    let reply = ask_one(setting, seat, clock, framed.ask);
+    let Framed { ask, tag } = framed;
+    let reply = ask_one(setting, seat, clock, ask);
     match stop {
-        None => send_reply(writer, out, &reply),
+        None => send_reply(writer, out, tag, &reply),
         Some(_) => stop,
     }
 }

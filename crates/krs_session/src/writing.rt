@@ -51,17 +51,22 @@ pub(crate) fn flush<W: Sink>(writer: &mut W, out: &mut Vec<u8>) -> Option<Ended>
     }
 }
 
-/// Holds a reply, and writes what is held once that is much. Where no memory is left for the reply, what was held
-/// before it is written. What stops the writing is the answer.
-pub(crate) fn send_reply<W: Sink>(writer: &mut W, out: &mut Vec<u8>, reply: &Reply) -> Option<Ended>
+/// Holds a reply to an ask with this tag, or with none, and writes what is held once that is much. Where no memory is
+/// left for the reply, what was held before it is written. What stops the writing is the answer.
+pub(crate) fn send_reply<W: Sink>(
+    writer: &mut W,
+    out: &mut Vec<u8>,
+    tag: Option<u64>,
+    reply: &Reply,
+) -> Option<Ended>
     requires { W.failures writer.old < u64.MAX }
     ensures sent { Pending W.took writer.old writer.new out.new.items
-        (out.old.items ++ reply_frame reply.now) result }
+        (out.old.items ++ reply_frame tag reply.now) result }
     ensures count { StopsBy (W.failures writer.old) (W.failures writer.new) result }
     ensures memory { result ≡ Some Ended.Memory → W.took writer.old out.old.items writer.new }
     ensures bounded { vec_len out.new < 65536 }
 {
-    if append_reply(out, reply).is_err() {
+    if append_reply(out, tag, reply).is_err() {
         return match flush(writer, out) {
             None => Some(Ended::Memory),
             Some(stop) => Some(stop),

@@ -1,209 +1,53 @@
--- An ask's frame is cut as that ask, and a frame that is cut is that ask's.
-use Rattle.std.proofs.Common.{◌≡◌, ℕ, ◌-◌, ◌^◌, ◌<◌, ◌≤◌, Bool, true, false, cond, eqb, ltb, List, [], ◌∷◌, ◌++◌}
-use Rattle.std.proofs.Common.{length, take, drop, Option, Some, None, Result, Ok, Err, refl, sym, ap, subst, ◌∙◌}
-use Rattle.std.proofs.Common.{append_assoc, arith, inl, inr, length-append, IfOk, IfErr, OnOk}
+-- An ask's frame is cut as that ask with its tag, and a frame that is cut is that ask's.
+use Rattle.std.proofs.Common.{◌≡◌, ℕ, ◌-◌, ◌^◌, ◌<◌, ◌≤◌, Bool, true, false, cond, eqb, ltb, ◌||◌, ◌⊎◌, inl, inr}
+use Rattle.std.proofs.Common.{List, [], ◌∷◌, ◌++◌, length, take, drop, Option, Some, None, Result, Ok, Err, IfOk, IfErr}
+use Rattle.std.proofs.Common.{OnOk, refl, sym, ap, subst, ◌∙◌, append_assoc, arith, length-append}
 use Rattle.std.specs.Int.{w16, w32, to_le_bytes}
 use Rattle.std.proofs.lemmas.Bool.{ltb-false, le-ltb, eqb-true}
 use Rattle.std.proofs.lemmas.List.{take_at, drop_at, append-nil, take-append-drop, length-take}
 use Rattle.krs_wire.specs.declared.fault.WireFault.{WireFault}
-use Rattle.krs_wire.specs.declared.fault.WireFault.TheVariants.{BadLength, BadVersion, BadOp}
+use Rattle.krs_wire.specs.declared.fault.WireFault.TheVariants.{BadLength, BadVersion, BadBody}
 use Rattle.krs_types.specs.declared.ask.Ask.{Ask}
-use Rattle.krs_wire.specs.declared.framed.Framed.{Framed}
 use Rattle.krs_types.specs.declared.ask.Op.{Op}
-use Rattle.krs_types.specs.declared.ask.Op.TheVariants.{Hello, Thread, Fork, Exec, GetId, Join, Search, Request, Add}
-use Rattle.krs_types.specs.declared.ask.Op.TheVariants.{Update, Revoke, Invalidate, Chown, SetPerm, SetTimeout, Link}
-use Rattle.krs_types.specs.declared.ask.Op.TheVariants.{Unlink, Clear, Read, Describe, Watch, OpenQueue, SetFilter}
-use Rattle.krs_types.specs.declared.ask.Op.TheVariants.{ReadQueue, CloseQueue, Exit, Leave}
-use Rattle.krs_types.specs.declared.ask.Op.TheVariants.{Move, RestrictKeyring}
-use Rattle.krs_wire.specs.Field.{Field, number, signed, sized, flag, both, counted, nothing, repeated, whole}
-use Rattle.krs_wire.specs.Faulting.{after, or_bad_body}
-use Rattle.krs_wire.specs.Bodies.{id_field, text_field, thread_of, fork_of, exec_of, exit_of, get_id_fields}
-use Rattle.krs_wire.specs.Bodies.{get_id_of, join_of, search_fields, search_of, request_fields, request_of}
-use Rattle.krs_wire.specs.Bodies.{hello_fields, hello_of, add_fields, add_of, update_fields, update_of, revoke_of}
-use Rattle.krs_wire.specs.Bodies.{invalidate_of, chown_fields, chown_of, id_number_fields, set_perm_of}
-use Rattle.krs_wire.specs.Bodies.{set_timeout_of, link_fields, link_of, unlink_of, clear_of, read_of, describe_of}
-use Rattle.krs_wire.specs.Bodies.{watch_fields, watch_of, open_queue_of, entry_of, entry_parts, entry_field}
-use Rattle.krs_wire.specs.Bodies.{entries_field, set_filter_fields, set_filter_of, read_queue_fields, read_queue_of}
-use Rattle.krs_wire.specs.Bodies.{close_queue_of, leave_of, number_of_op, body_of_op, FitsOp}
-use Rattle.krs_wire.specs.Bodies.{route_fields, move_fields, move_of, restrict_fields, restrict_of}
+use Rattle.krs_wire.specs.declared.framed.Framed.{Framed}
+use Rattle.krs_wire.specs.Field.{number, sized, both}
+use Rattle.krs_wire.specs.Faulting.{after}
+use Rattle.krs_wire.specs.Bodies.{number_of_op, body_of_op, FitsOp}
+use Rattle.krs_wire.specs.Tag.{version_of, tag_text, tag_field, FitsTag}
 use Rattle.krs_wire.specs.Frame.{rest, Frames, front_of, front_by, front_in, is_bad_length, framed_of, framed_by}
-use Rattle.krs_wire.specs.Frame.{op_of, head_fields}
+use Rattle.krs_wire.specs.Frame.{op_of, said_by, head_fields}
 use Rattle.krs_wire.specs.Spelling.{framed, ask_text, ask_frame, FitsAsk, IsTooLong}
-use Rattle.krs_wire.proofs.CaseLemmas.{chosen, or_false, ok_body}
-use Rattle.krs_wire.proofs.FieldLemmas.{IsBytes, IsBytes-take, IsExact, wide16, wide32, number_exact, signed_exact}
-use Rattle.krs_wire.proofs.FieldLemmas.{sized_exact, flag_exact, both_exact, nothing_exact, built_exact, whole_again}
-use Rattle.krs_wire.proofs.FieldLemmas.{whole_takes}
-use Rattle.krs_wire.proofs.CountLemmas.{counted_exact, repeated_exact}
+use Rattle.krs_wire.proofs.CaseLemmas.{or_false, or_true}
+use Rattle.krs_wire.proofs.FieldLemmas.{IsBytes, IsBytes-take, IsExact, wide16, wide32, number_exact, both_exact}
+use Rattle.krs_wire.proofs.TagLemmas.{tag_exact, version_is}
+use Rattle.krs_wire.proofs.OpLemmas.{op_again, op_small, op_takes}
 use Rattle.krs_wire.proofs.CutLemmas.{IsFront, in_made, in_parts}
-
-id_exact : IsExact id_field
-id_exact = signed_exact
-
-add_exact : IsExact add_fields
-add_exact =
-    both_exact (sized w16) (both (sized w16) (both (sized w32) id_field)) (sized_exact w16 wide16)
-    (both_exact (sized w16) (both (sized w32) id_field) (sized_exact w16 wide16)
-    (both_exact (sized w32) id_field (sized_exact w32 wide32) id_exact))
-
-hello_exact : IsExact hello_fields
-hello_exact =
-    both_exact (number w32) (both (number w32) (counted (number w32))) (number_exact w32 wide32)
-    (both_exact (number w32) (counted (number w32)) (number_exact w32 wide32)
-    (counted_exact (number w32) (number_exact w32 wide32)))
-
-update_exact : IsExact update_fields
-update_exact = both_exact id_field (sized w32) id_exact (sized_exact w32 wide32)
-
-two_exact : IsExact (both (number w32) (number w32))
-two_exact = both_exact (number w32) (number w32) (number_exact w32 wide32) (number_exact w32 wide32)
-
-chown_exact : IsExact chown_fields
-chown_exact = both_exact id_field (both (number w32) (number w32)) id_exact two_exact
-
-id_number_exact : IsExact id_number_fields
-id_number_exact = both_exact id_field (number w32) id_exact (number_exact w32 wide32)
-
-link_exact : IsExact link_fields
-link_exact = both_exact id_field id_field id_exact id_exact
-
-get_id_exact : IsExact get_id_fields
-get_id_exact = both_exact id_field flag id_exact flag_exact
-
-text_exact : IsExact text_field
-text_exact = sized_exact w16 wide16
-
-move_exact : IsExact move_fields
-move_exact = both_exact id_field route_fields id_exact (both_exact id_field id_number_fields id_exact id_number_exact)
-
-restrict_exact : IsExact restrict_fields
-restrict_exact = both_exact id_field text_field id_exact text_exact
-
-request_exact : IsExact request_fields
-request_exact =
-    both_exact text_field (both text_field id_field) text_exact (both_exact text_field id_field text_exact id_exact)
-
-search_exact : IsExact search_fields
-search_exact = both_exact id_field request_fields id_exact request_exact
-
-number32_exact : IsExact (number w32)
-number32_exact = number_exact w32 wide32
-
-watch_exact : IsExact watch_fields
-watch_exact =
-    both_exact id_field (both (number w32) (signed w32)) id_exact
-    (both_exact (number w32) (signed w32) number32_exact signed_exact)
-
-words_exact : IsExact (repeated 8 (number w32))
-words_exact = repeated_exact 8 (number w32) number32_exact
-
--- the parts of a filter entry, one after the other
-masked_exact : IsExact (both (number w32) (repeated 8 (number w32)))
-masked_exact = both_exact (number w32) (repeated 8 (number w32)) number32_exact words_exact
-
-filtered_exact : IsExact (both (number w32) (both (number w32) (repeated 8 (number w32))))
-filtered_exact =
-    both_exact (number w32) (both (number w32) (repeated 8 (number w32))) number32_exact masked_exact
-
-entry_exact : IsExact entry_field
-entry_exact =
-    built_exact (both (number w32) (both (number w32) (both (number w32) (repeated 8 (number w32)))))
-    entry_of entry_parts
-    (both_exact (number w32) (both (number w32) (both (number w32) (repeated 8 (number w32))))
-    number32_exact filtered_exact)
-    (λ a. refl) (λ entry. refl)
-
-entries_exact : IsExact entries_field
-entries_exact = counted_exact entry_field entry_exact
-
-set_filter_exact : IsExact set_filter_fields
-set_filter_exact = both_exact (number w32) entries_field number32_exact entries_exact
 
 head_exact : IsExact head_fields
 head_exact =
     both_exact (number w16) (both (number w16) (number w32)) (number_exact w16 wide16)
     (both_exact (number w16) (number w32) (number_exact w16 wide16) (number_exact w32 wide32))
 
-op_again : (op : Op) → FitsOp op → op_of (number_of_op op) (body_of_op op) ≡ Ok op
-unfolding op_of
-op_again (GetId id create) h = ap or_bad_body (whole_again get_id_fields get_id_exact get_id_of (id, create) h)
-op_again (Join name) h = ap or_bad_body (whole_again text_field text_exact join_of name h)
-op_again (Search head type_name desc dest) h =
-    ap or_bad_body (whole_again search_fields search_exact search_of (head, (type_name, (desc, dest))) h)
-op_again (Request type_name desc dest) h =
-    ap or_bad_body (whole_again request_fields request_exact request_of (type_name, (desc, dest)) h)
-op_again Thread h = ap or_bad_body (whole_again nothing nothing_exact thread_of tt h)
-op_again Fork h = ap or_bad_body (whole_again nothing nothing_exact fork_of tt h)
-op_again Exec h = ap or_bad_body (whole_again nothing nothing_exact exec_of tt h)
-op_again Exit h = ap or_bad_body (whole_again nothing nothing_exact exit_of tt h)
-op_again (Update id payload) h = ap or_bad_body (whole_again update_fields update_exact update_of (id, payload) h)
-op_again (Revoke id) h = ap or_bad_body (whole_again id_field id_exact revoke_of id h)
-op_again (Invalidate id) h = ap or_bad_body (whole_again id_field id_exact invalidate_of id h)
-op_again (Chown id uid gid) h = ap or_bad_body (whole_again chown_fields chown_exact chown_of (id, (uid, gid)) h)
-op_again (SetPerm id mask) h = ap or_bad_body (whole_again id_number_fields id_number_exact set_perm_of (id, mask) h)
-op_again (SetTimeout id seconds) h =
-    ap or_bad_body (whole_again id_number_fields id_number_exact set_timeout_of (id, seconds) h)
-op_again (Describe id) h = ap or_bad_body (whole_again id_field id_exact describe_of id h)
-op_again (Clear id) h = ap or_bad_body (whole_again id_field id_exact clear_of id h)
-op_again (Link key ring) h = ap or_bad_body (whole_again link_fields link_exact link_of (key, ring) h)
-op_again (Unlink key ring) h = ap or_bad_body (whole_again link_fields link_exact unlink_of (key, ring) h)
-op_again (Move key from to flags) h =
-    ap or_bad_body (whole_again move_fields move_exact move_of (key, (from, (to, flags))) h)
-op_again (RestrictKeyring ring type_name) h =
-    ap or_bad_body (whole_again restrict_fields restrict_exact restrict_of (ring, type_name) h)
-op_again (Read id) h = ap or_bad_body (whole_again id_field id_exact read_of id h)
-op_again (Hello caller) h =
-    ap or_bad_body (whole_again hello_fields hello_exact hello_of (caller.uid, (caller.gid, caller.groups)) h)
-op_again (Watch id queue watch) h =
-    ap or_bad_body (whole_again watch_fields watch_exact watch_of (id, (queue, watch)) h)
-op_again (OpenQueue capacity) h =
-    ap or_bad_body (whole_again (number w32) number32_exact open_queue_of capacity h)
-op_again (SetFilter queue entries) h =
-    ap or_bad_body (whole_again set_filter_fields set_filter_exact set_filter_of (queue, entries) h)
-op_again (ReadQueue queue room) h =
-    ap or_bad_body (whole_again read_queue_fields two_exact read_queue_of (queue, room) h)
-op_again (CloseQueue queue) h = ap or_bad_body (whole_again (number w32) number32_exact close_queue_of queue h)
-op_again Leave h = ap or_bad_body (whole_again nothing nothing_exact leave_of tt h)
-op_again (Add type_name desc payload ring) h =
-    ap or_bad_body (whole_again add_fields add_exact add_of (type_name, (desc, (payload, ring))) h)
+version_small : (tag : Option ℕ) → version_of tag < 256 ^ 2
+version_small None = omega arith
+version_small (Some tag) = omega arith
 
-op_small : (op : Op) → number_of_op op < 256 ^ 2
-op_small (GetId id create) = omega arith
-op_small (Join name) = omega arith
-op_small (Search head type_name desc dest) = omega arith
-op_small (Request type_name desc dest) = omega arith
-op_small Thread = omega arith
-op_small Fork = omega arith
-op_small Exec = omega arith
-op_small Exit = omega arith
-op_small (Update id payload) = omega arith
-op_small (Revoke id) = omega arith
-op_small (Invalidate id) = omega arith
-op_small (Chown id uid gid) = omega arith
-op_small (SetPerm id mask) = omega arith
-op_small (SetTimeout id seconds) = omega arith
-op_small (Describe id) = omega arith
-op_small (Clear id) = omega arith
-op_small (Link key ring) = omega arith
-op_small (Unlink key ring) = omega arith
-op_small (Move key from to flags) = omega arith
-op_small (RestrictKeyring ring type_name) = omega arith
-op_small (Read id) = omega arith
-op_small (Hello caller) = omega arith
-op_small (Watch id queue watch) = omega arith
-op_small (OpenQueue capacity) = omega arith
-op_small (SetFilter queue entries) = omega arith
-op_small (ReadQueue queue room) = omega arith
-op_small (CloseQueue queue) = omega arith
-op_small Leave = omega arith
-op_small (Add type_name desc payload ring) = omega arith
+head_again : (tag : Option ℕ) (ask : Ask) → FitsAsk tag ask
+    → framed_by (Some ((version_of tag, (number_of_op ask.op, ask.context)), tag_text tag ++ body_of_op ask.op))
+    ≡ Ok (framed tag ask)
+head_again None ask h = rw (op_again ask.op h.op) refl
+head_again (Some tag) ask h =
+    ap (said_by (number_of_op ask.op) ask.context)
+    ((tag_exact true).again (Some tag) (body_of_op ask.op) (refl, h.tagged))
+    ∙ rw (op_again ask.op h.op) refl
 
-framed_again : (ask : Ask) → FitsAsk ask → framed_of (ask_text ask) ≡ Ok (framed ask)
+framed_again : (tag : Option ℕ) (ask : Ask) → FitsAsk tag ask → framed_of (ask_text tag ask) ≡ Ok (framed tag ask)
 unfolding framed_of
-framed_again ask h =
+framed_again tag ask h =
     let first =
-    head_exact.again (1, (number_of_op ask.op, ask.context)) (body_of_op ask.op)
-    (omega arith, (op_small ask.op, h.context)) in
-    ap framed_by first ∙ rw (op_again ask.op h.op) refl
+    head_exact.again (version_of tag, (number_of_op ask.op, ask.context)) (tag_text tag ++ body_of_op ask.op)
+    (version_small tag, (op_small ask.op, h.context)) in
+    ap framed_by first ∙ head_again tag ask h
 
 good_length : (n : ℕ) → 8 ≤ n → n ≤ 65536 → is_bad_length n ≡ false
 good_length n low high =
@@ -211,117 +55,40 @@ good_length n low high =
     let b : ltb 65536 n ≡ false = le-ltb _ _ high in
     rw (a, b) refl
 
-pub front_again : (ask : Ask) (more : List ℕ) → FitsAsk ask
-    → front_of (ask_frame ask ++ more) ≡ Ok (Some (framed ask, more))
+pub front_again : (tag : Option ℕ) (ask : Ask) (more : List ℕ) → FitsAsk tag ask
+    → front_of (ask_frame tag ask ++ more) ≡ Ok (Some (framed tag ask, more))
 unfolding front_of
-front_again ask more h =
-    let text = ask_text ask in
+front_again tag ask more h =
+    let text = ask_text tag ask in
     let n = length text in
     let size = h.size in
     let low : 8 ≤ n =
     omega (
       arith,
-      length-append (head_fields.spell (1, (number_of_op ask.op, ask.context)))
-          (body_of_op ask.op),
+      length-append (head_fields.spell (version_of tag, (number_of_op ask.op, ask.context)))
+          (tag_text tag ++ body_of_op ask.op),
     ) in
     let first : (number w32).read (to_le_bytes w32 n ++ (text ++ more)) ≡ Some (n, text ++ more) =
     (number_exact w32 wide32).again n (text ++ more) (omega (arith, size)) in
-    let front : IsFront n (text ++ more) (framed ask) more = record {
+    let front : IsFront n (text ++ more) (framed tag ask) more = record {
       good = good_length n low size;
       whole = omega (arith, length-append text more);
-      says = ap framed_of (take_at text more n refl) ∙ framed_again ask h;
+      says = ap framed_of (take_at text more n refl) ∙ framed_again tag ask h;
       left = drop_at text more n refl;
     } in
     ap (λ (x : List ℕ). front_by ((number w32).read x)) (append_assoc (to_le_bytes w32 n) text more)
-    ∙ ap front_by first ∙ in_made n (text ++ more) (framed ask) more front
+    ∙ ap front_by first ∙ in_made n (text ++ more) (framed tag ask) more front
 
 pub nothing_left : front_of [] ≡ Ok None
 unfolding front_of
 nothing_left = refl
 
-pub one_frame : (bytes : List ℕ) (ask : Ask) → FitsAsk ask → bytes ≡ ask_frame ask
-    → Frames bytes (framed ask ∷ []) (rest [])
-one_frame bytes ask h e =
-    ([], ap front_of (e ∙ sym (append-nil (ask_frame ask))) ∙ front_again ask [] h, (nothing_left, refl))
+pub one_frame : (bytes : List ℕ) (tag : Option ℕ) (ask : Ask) → FitsAsk tag ask → bytes ≡ ask_frame tag ask
+    → Frames bytes (framed tag ask ∷ []) (rest [])
+one_frame bytes tag ask h e =
+    ([], ap front_of (e ∙ sym (append-nil (ask_frame tag ask))) ∙ front_again tag ask [] h, (nothing_left, refl))
 
 -- ---- what is cut is spelled so
-
-abbrev no_op : Result Op WireFault
-no_op = Err BadOp
-
-record OpTakes (which : ℕ) (body : List ℕ) (op : Op) : Type 0 where
-  number : which ≡ number_of_op op
-  body-is : body ≡ body_of_op op
-  fits : FitsOp op
-
--- a row of the table
-row_takes : {A : Type 0} (f : Field A) (make : A → Op) (no-of : ℕ) → IsExact f
-    → ((x : A) → number_of_op (make x) ≡ no-of) → ((x : A) → body_of_op (make x) ≡ f.spell x)
-    → ((x : A) → f.Fits x → FitsOp (make x))
-    → (which : ℕ) (body : List ℕ) (op : Op) → IsBytes body → eqb which no-of ≡ true
-    → or_bad_body (whole f make body) ≡ Ok op → OpTakes which body op
-row_takes f make no-of exact numbered spelled fitting which body op bytes test e =
-    let t = whole_takes f exact make body op bytes (ok_body (whole f make body) op e) in
-    let made : OpTakes which body (make t.0) =
-    record {
-      number = eqb-true _ _ test ∙ sym (numbered t.0);
-      body-is = t.1 ∙ sym (spelled t.0);
-      fits = fitting t.0 t.2;
-    } in
-    subst (λ (o : Op). OpTakes which body o) t.3 made
-
--- a row of the table, or what the rows behind it say
-row_or : {A : Type 0} (f : Field A) (make : A → Op) (no-of : ℕ) → IsExact f
-    → ((x : A) → number_of_op (make x) ≡ no-of) → ((x : A) → body_of_op (make x) ≡ f.spell x)
-    → ((x : A) → f.Fits x → FitsOp (make x))
-    → (which : ℕ) (body : List ℕ) (op : Op) (others : Result Op WireFault) → IsBytes body
-    → (others ≡ Ok op → OpTakes which body op)
-    → cond (eqb which no-of) (or_bad_body (whole f make body)) others ≡ Ok op → OpTakes which body op
-row_or f make no-of exact numbered spelled fitting which body op others bytes behind e =
-    elim (chosen (eqb which no-of) _ _ _ e) [
-      | inl h ↦ row_takes f make no-of exact numbered spelled fitting which body op bytes h.0 h.1
-      | inr h ↦ behind h.1
-    ]
-
-no_row : (which : ℕ) (body : List ℕ) (op : Op) → no_op ≡ Ok op → OpTakes which body op
-no_row which body op e = absurd cc
-
-op_takes : (which : ℕ) (body : List ℕ) (op : Op) → IsBytes body → op_of which body ≡ Ok op → OpTakes which body op
-unfolding op_of
-op_takes which body op bytes =
-    row_or get_id_fields get_id_of 0 get_id_exact (λ x. refl) (λ x. refl) (λ x k. k) which body op _ bytes (
-    row_or text_field join_of 1 text_exact (λ x. refl) (λ x. refl) (λ x k. k) which body op _ bytes (
-    row_or update_fields update_of 2 update_exact (λ x. refl) (λ x. refl) (λ x k. k) which body op _ bytes (
-    row_or id_field revoke_of 3 id_exact (λ x. refl) (λ x. refl) (λ x k. k) which body op _ bytes (
-    row_or chown_fields chown_of 4 chown_exact (λ x. refl) (λ x. refl) (λ x k. k) which body op _ bytes (
-    row_or id_number_fields set_perm_of 5 id_number_exact (λ x. refl) (λ x. refl) (λ x k. k) which body op _ bytes (
-    row_or id_field describe_of 6 id_exact (λ x. refl) (λ x. refl) (λ x k. k) which body op _ bytes (
-    row_or id_field clear_of 7 id_exact (λ x. refl) (λ x. refl) (λ x k. k) which body op _ bytes (
-    row_or link_fields link_of 8 link_exact (λ x. refl) (λ x. refl) (λ x k. k) which body op _ bytes (
-    row_or link_fields unlink_of 9 link_exact (λ x. refl) (λ x. refl) (λ x k. k) which body op _ bytes (
-    row_or search_fields search_of 10 search_exact (λ x. refl) (λ x. refl) (λ x k. k) which body op _ bytes (
-    row_or id_field read_of 11 id_exact (λ x. refl) (λ x. refl) (λ x k. k) which body op _ bytes (
-    row_or id_number_fields set_timeout_of 15
-    id_number_exact (λ x. refl) (λ x. refl) (λ x k. k) which body op _ bytes (
-    row_or id_field invalidate_of 21 id_exact (λ x. refl) (λ x. refl) (λ x k. k) which body op _ bytes (
-    row_or restrict_fields restrict_of 29 restrict_exact (λ x. refl) (λ x. refl) (λ x k. k) which body op _ bytes (
-    row_or move_fields move_of 30 move_exact (λ x. refl) (λ x. refl) (λ x k. k) which body op _ bytes (
-    row_or watch_fields watch_of 32 watch_exact (λ x. refl) (λ x. refl) (λ x k. k) which body op _ bytes (
-    row_or hello_fields hello_of 256 hello_exact (λ x. refl) (λ x. refl) (λ x k. k) which body op _ bytes (
-    row_or nothing thread_of 257 nothing_exact (λ x. refl) (λ x. refl) (λ x k. k) which body op _ bytes (
-    row_or nothing fork_of 258 nothing_exact (λ x. refl) (λ x. refl) (λ x k. k) which body op _ bytes (
-    row_or nothing exec_of 259 nothing_exact (λ x. refl) (λ x. refl) (λ x k. k) which body op _ bytes (
-    row_or nothing exit_of 260 nothing_exact (λ x. refl) (λ x. refl) (λ x k. k) which body op _ bytes (
-    row_or nothing leave_of 261 nothing_exact (λ x. refl) (λ x. refl) (λ x k. k) which body op _ bytes (
-    row_or add_fields add_of 262 add_exact (λ x. refl) (λ x. refl) (λ x k. k) which body op _ bytes (
-    row_or request_fields request_of 263 request_exact (λ x. refl) (λ x. refl) (λ x k. k) which body op _ bytes (
-    row_or (number w32) open_queue_of 264 number32_exact (λ x. refl) (λ x. refl) (λ x k. k) which body op _ bytes (
-    row_or set_filter_fields set_filter_of 265
-    set_filter_exact (λ x. refl) (λ x. refl) (λ x k. k) which body op _ bytes (
-    row_or read_queue_fields read_queue_of 266
-    two_exact (λ x. refl) (λ x. refl) (λ x k. k) which body op _ bytes (
-    row_or (number w32) close_queue_of 267 number32_exact (λ x. refl) (λ x. refl) (λ x k. k) which body op _ bytes (
-    no_row which body op)))))))))))))))))))))))))))))
 
 after_ok : {A B : Type 0} (f : A → Result B WireFault) (r : Result A WireFault) (y : B) → after f r ≡ Ok y
     → (x : A) × (r ≡ Ok x) × (f x ≡ Ok y)
@@ -334,9 +101,9 @@ said a = Ok a
 said_is : (a b : Framed) → said a ≡ said b → a ≡ b
 said_is a b e = cc
 
--- what a head and a body say
-abbrev made : ℕ → Op → Framed
-made context op = record { ask = record { context = context; op = op } }
+-- what a head, a tag and a body say
+abbrev made : ℕ → Option ℕ → Op → Framed
+made context tag op = record { ask = record { context = context; op = op }; tag = tag }
 
 guard_version : {A : Type 0} (b : Bool) (x : Result A WireFault) (y : A) → cond b x (Err BadVersion) ≡ Ok y
     → (b ≡ true) × (x ≡ Ok y)
@@ -344,30 +111,61 @@ guard_version true x y e = (refl, e)
 guard_version false x y e = absurd cc
 
 head_some : (o : Option ((ℕ × (ℕ × ℕ)) × List ℕ)) (f : Framed) → framed_by o ≡ Ok f
-    → (h : (ℕ × (ℕ × ℕ)) × List ℕ) × (o ≡ Some h) × (eqb h.0.0 1 ≡ true)
-    × (after (λ op. said (made h.0.1.1 op)) (op_of h.0.1.0 h.1) ≡ Ok f)
+    → (h : (ℕ × (ℕ × ℕ)) × List ℕ) × (o ≡ Some h) × ((eqb h.0.0 1 || eqb h.0.0 2) ≡ true)
+    × (said_by h.0.1.0 h.0.1.1 ((tag_field (eqb h.0.0 2)).read h.1) ≡ Ok f)
 head_some None f e = absurd cc
 head_some (Some h) f e =
-    let g = guard_version (eqb h.0.0 1) (after (λ op. said (made h.0.1.1 op)) (op_of h.0.1.0 h.1)) f e in
+    let g =
+    guard_version (eqb h.0.0 1 || eqb h.0.0 2) (said_by h.0.1.0 h.0.1.1 ((tag_field (eqb h.0.0 2)).read h.1)) f e in
     (h, refl, g.0, g.1)
 
-framed_takes : (frame : List ℕ) (f : Framed) → IsBytes frame → framed_of frame ≡ Ok f
-    → (frame ≡ ask_text f.ask) × (f.ask.context < 256 ^ 4) × FitsOp f.ask.op
+short_says : (r : Result Op WireFault) (f : Framed) → after (λ op. Err BadBody) r ≡ Ok f → ⊥
+short_says (Ok op) f e = absurd cc
+short_says (Err fault) f e = absurd cc
+
+said_some : (which context : ℕ) (o : Option (Option ℕ × List ℕ)) (f : Framed) → said_by which context o ≡ Ok f
+    → (x : Option ℕ × List ℕ) × (o ≡ Some x) × (after (λ op. said (made context x.0 op)) (op_of which x.1) ≡ Ok f)
+said_some which context None f e = absurd (short_says (op_of which []) f e)
+said_some which context (Some x) f e = (x, refl, e)
+
+is_version : (version : ℕ) → (eqb version 1 || eqb version 2) ≡ true → (version ≡ 1) ⊎ (version ≡ 2)
+is_version version e =
+    elim (or_true (eqb version 1) (eqb version 2) e) [
+      | inl one ↦ inl (eqb-true _ _ one)
+      | inr two ↦ inr (eqb-true _ _ two)
+    ]
+
+-- what a frame that says this is, behind its length
+record FrameTakes (frame : List ℕ) (f : Framed) : Type 0 where
+  text : frame ≡ ask_text f.tag f.ask
+  tagged : FitsTag f.tag
+  context : f.ask.context < 256 ^ 4
+  op : FitsOp f.ask.op
+
+framed_takes : (frame : List ℕ) (f : Framed) → IsBytes frame → framed_of frame ≡ Ok f → FrameTakes frame f
 unfolding framed_of
 framed_takes frame f bytes e =
     let h = head_some (head_fields.read frame) f e in
     let t = head_exact.takes frame h.0.0 h.0.1 bytes h.1 in
-    let o = after_ok (λ op. said (made h.0.0.1.1 op)) (op_of h.0.0.1.0 h.0.1) f h.3 in
-    let op = op_takes h.0.0.1.0 h.0.1 o.0 t.more_fits o.1 in
-    let whole-frame : Framed = made h.0.0.1.1 o.0 in
-    let version : h.0.0.0 ≡ 1 = eqb-true _ _ h.2 in
-    let text : frame ≡ ask_text whole-frame.ask =
-    t.parts ∙ ap (λ (v : ℕ). head_fields.spell (v, (h.0.0.1.0, h.0.0.1.1)) ++ h.0.1) version
-    ∙ ap (λ (k : ℕ). head_fields.spell (1, (k, h.0.0.1.1)) ++ h.0.1) op.number
-    ∙ ap (λ (b : List ℕ). head_fields.spell (1, (number_of_op o.0, h.0.0.1.1)) ++ b) op.body-is in
-    let context : whole-frame.ask.context < 256 ^ 4 = t.fits.1.1 in
-    subst (λ (a : Framed). (frame ≡ ask_text a.ask) × (a.ask.context < 256 ^ 4) × FitsOp a.ask.op)
-    (said_is whole-frame f o.2) (text, context, op.fits)
+    let version = h.0.0.0 in
+    let which = h.0.0.1.0 in
+    let context = h.0.0.1.1 in
+    let s = said_some which context ((tag_field (eqb version 2)).read h.0.1) f h.3 in
+    let tag = s.0.0 in
+    let body = s.0.1 in
+    let u = (tag_exact (eqb version 2)).takes h.0.1 tag body t.more_fits s.1 in
+    let o = after_ok (λ op. said (made context tag op)) (op_of which body) f s.2 in
+    let op = op_takes which body o.0 u.more_fits o.1 in
+    let version-is : version ≡ version_of tag = version_is version tag (is_version version h.2) u.fits.0 in
+    let text : frame ≡ ask_text tag (record { context = context; op = o.0 }) =
+    t.parts ∙ ap (λ (more : List ℕ). head_fields.spell (version, (which, context)) ++ more) u.parts
+    ∙ ap (λ (v : ℕ). head_fields.spell (v, (which, context)) ++ (tag_text tag ++ body)) version-is
+    ∙ ap (λ (k : ℕ). head_fields.spell (version_of tag, (k, context)) ++ (tag_text tag ++ body)) op.number
+    ∙ ap (λ (b : List ℕ). head_fields.spell (version_of tag, (number_of_op o.0, context)) ++ (tag_text tag ++ b))
+    op.body-is in
+    let takes : FrameTakes frame (made context tag o.0) =
+    record { text = text; tagged = u.fits.1; context = t.fits.1.1; op = op.fits } in
+    subst (λ (a : Framed). FrameTakes frame a) (said_is (made context tag o.0) f o.2) takes
 
 number_some : (o : Option (ℕ × List ℕ)) (f : Framed) (more : List ℕ) → front_by o ≡ Ok (Some (f, more))
     → (x : ℕ × List ℕ) × (o ≡ Some x) × (front_in x.0 x.1 ≡ Ok (Some (f, more)))
@@ -375,7 +173,7 @@ number_some None f more e = absurd cc
 number_some (Some x) f more e = (x, refl, e)
 
 pub front_takes : (bytes : List ℕ) (f : Framed) (more : List ℕ) → IsBytes bytes → front_of bytes ≡ Ok (Some (f, more))
-    → (bytes ≡ ask_frame f.ask ++ more) × FitsAsk f.ask
+    → (bytes ≡ ask_frame f.tag f.ask ++ more) × FitsAsk f.tag f.ask
 unfolding front_of
 front_takes bytes f more fits e =
     let x = number_some ((number w32).read bytes) f more e in
@@ -385,16 +183,17 @@ front_takes bytes f more fits e =
     let parts = in_parts n r f more x.2 in
     let a = framed_takes (take n r) f (IsBytes-take n r t.more_fits) parts.says in
     let whole-n = parts.whole in
-    let len : length (ask_text f.ask) ≡ n =
-    sym (ap (λ (y : List ℕ). length y) a.0) ∙ omega (arith, length-take n r, whole-n) in
+    let text = ask_text f.tag f.ask in
+    let len : length text ≡ n =
+    sym (ap (λ (y : List ℕ). length y) a.text) ∙ omega (arith, length-take n r, whole-n) in
     let size : n ≤ 65536 = ltb-false 65536 n (or_false (ltb n 8) (ltb 65536 n) parts.good) in
-    let rest-is : r ≡ ask_text f.ask ++ more =
-    sym (take-append-drop n r) ∙ ap (λ (y : List ℕ). y ++ drop n r) a.0
-    ∙ ap (λ (y : List ℕ). ask_text f.ask ++ y) parts.left in (
+    let rest-is : r ≡ text ++ more =
+    sym (take-append-drop n r) ∙ ap (λ (y : List ℕ). y ++ drop n r) a.text
+    ∙ ap (λ (y : List ℕ). text ++ y) parts.left in (
       t.parts ∙ ap (λ (y : List ℕ). to_le_bytes w32 n ++ y) rest-is
-          ∙ ap (λ (k : ℕ). to_le_bytes w32 k ++ (ask_text f.ask ++ more)) (sym len)
-          ∙ sym (append_assoc (to_le_bytes w32 (length (ask_text f.ask))) (ask_text f.ask) more),
-      record { context = a.1; op = a.2; size = omega (arith, len, size) },
+          ∙ ap (λ (k : ℕ). to_le_bytes w32 k ++ (text ++ more)) (sym len)
+          ∙ sym (append_assoc (to_le_bytes w32 (length text)) text more),
+      record { tagged = a.tagged; context = a.context; op = a.op; size = omega (arith, len, size) },
     )
 
 -- ---- the length written over the first four bytes
@@ -424,26 +223,30 @@ sized_over items text out len items-are len-is out-is =
     out-is ∙ ap (λ (x : List ℕ). to_le_bytes w32 len ++ drop 4 x) items-are
     ∙ ap (λ (n : ℕ). to_le_bytes w32 n ++ text) same
 
-module _ {V : Type 0} (items_of : V → List ℕ) (r : Result V WireFault) (items : List ℕ) (ask : Ask)
-    (are : items ≡ to_le_bytes w32 0 ++ ask_text ask) where
+module _ {V : Type 0} (items_of : V → List ℕ) (r : Result V WireFault) (items : List ℕ) (tag : Option ℕ) (ask : Ask)
+    (are : items ≡ to_le_bytes w32 0 ++ ask_text tag ask) where
   -- what stands behind four bytes, with its length over these, is the frame
   pub frame_over : IfOk r (λ v. items_of v ≡ to_le_bytes w32 (length items - 4) ++ drop 4 items)
-      → IfOk r (λ v. items_of v ≡ ask_frame ask)
-  frame_over framed = if_ok_more r framed (λ v is. sized_over items (ask_text ask) (items_of v) (length items - 4) are refl is)
+      → IfOk r (λ v. items_of v ≡ ask_frame tag ask)
+  frame_over framed = if_ok_more r framed
+      (λ v is. sized_over items (ask_text tag ask) (items_of v) (length items - 4) are refl is)
 
-  size_over : length items ≤ 65540 → length (ask_text ask) ≤ 65536
-  size_over small = omega (arith, ap length are, length-append (to_le_bytes w32 0) (ask_text ask), small)
+  size_over : length items ≤ 65540 → length (ask_text tag ask) ≤ 65536
+  size_over small = omega (arith, ap length are, length-append (to_le_bytes w32 0) (ask_text tag ask), small)
 
   -- and it is short enough, or refused as too long
-  pub short_over : OnOk r (length items ≤ 65540) → OnOk r (length (ask_text ask) ≤ 65536)
+  pub short_over : OnOk r (length items ≤ 65540) → OnOk r (length (ask_text tag ask) ≤ 65536)
   short_over fits = on_ok_more r fits size_over
 
-  pub long_over : IfErr r (λ fault. (fault ≡ BadLength) × (65540 < length items)) → IfErr r (IsTooLong 65537 (ask_text ask))
+  pub long_over : IfErr r (λ fault. (fault ≡ BadLength) × (65540 < length items))
+      → IfErr r (IsTooLong 65537 (ask_text tag ask))
   long_over long = if_err_more r long
-      (λ fault is other. (is.0, omega (arith, ap length are, length-append (to_le_bytes w32 0) (ask_text ask), is.1)))
+      (λ fault is other.
+      (is.0, omega (arith, ap length are, length-append (to_le_bytes w32 0) (ask_text tag ask), is.1)))
 
-  pub cut_over : ask.context < 256 ^ 4 → FitsOp ask.op → OnOk r (length items ≤ 65540)
+  pub cut_over : FitsTag tag → ask.context < 256 ^ 4 → FitsOp ask.op → OnOk r (length items ≤ 65540)
       → IfOk r (λ v. items_of v ≡ to_le_bytes w32 (length items - 4) ++ drop 4 items)
-      → IfOk r (λ v. Frames (items_of v) (framed ask ∷ []) (rest []))
-  cut_over context op fits made = both_ok_more r fits (frame_over made)
-      (λ v small is. one_frame (items_of v) ask (record { context = context; op = op; size = size_over small }) is)
+      → IfOk r (λ v. Frames (items_of v) (framed tag ask ∷ []) (rest []))
+  cut_over tagged context op fits made = both_ok_more r fits (frame_over made)
+      (λ v small is. one_frame (items_of v) tag ask
+      (record { tagged = tagged; context = context; op = op; size = size_over small }) is)

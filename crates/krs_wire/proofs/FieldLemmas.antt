@@ -4,11 +4,12 @@ use Rattle.std.proofs.Common.{length, get_or, take, drop, Option, Some, None, re
 use Rattle.std.proofs.Common.{arith, inl, inr}
 use Rattle.std.specs.Option.{option_and_then}
 use Rattle.std.specs.Prelude.{ℤ, FitsSigned}
-use Rattle.std.specs.Int.{Width, w16, w32, byte_len, from_le_bytes, to_le_bytes, cast_signed, cast_unsigned}
+use Rattle.std.specs.Int.{Width, w16, w32, w64, byte_len, from_le_bytes, to_le_bytes, cast_signed, cast_unsigned}
 use Rattle.std.proofs.lemmas.Bool.{cases_lt, ltb-false, le-ltb, eqb-true}
 use Rattle.std.proofs.lemmas.List.{take_at, drop_at, take-append-drop, length-append, length-take, get_or-drop}
 use Rattle.std.proofs.lemmas.List.{get_or-take, get_or_past, append-nil, nil_from_length}
-use Rattle.std.proofs.lemmas.Nat.{le_bytes_2, le_bytes_4, from_le_bytes-to_le_bytes_2, from_le_bytes-to_le_bytes_4}
+use Rattle.std.proofs.lemmas.Nat.{le_bytes_2, le_bytes_4, le_bytes_8}
+use Rattle.std.proofs.lemmas.Nat.{from_le_bytes-to_le_bytes_2, from_le_bytes-to_le_bytes_4, from_le_bytes-to_le_bytes_8}
 use Rattle.std.proofs.lemmas.Int.{to_z-of_z, of_z-to_z}
 use Rattle.std.proofs.Math.Facts.{Fits-of_z, sfits_to_z}
 use Rattle.krs_wire.specs.Field.{Field, number, signed, sized, flag, both, nothing, built, whole}
@@ -77,6 +78,24 @@ wide32 = record {
   back = λ bytes len fits. le_bytes_4 bytes _ len fits refl;
   again = λ n lt. from_le_bytes-to_le_bytes_4 n lt;
   below = λ bytes fits. omega (arith, fits 0, fits 1, fits 2, fits 3);
+}
+
+pub wide64 : IsWide w64
+wide64 = record {
+  len = λ n. refl;
+  back = λ bytes len fits. le_bytes_8 bytes _ len fits refl;
+  again = λ n lt. from_le_bytes-to_le_bytes_8 n lt;
+  below = λ bytes fits. omega (
+    arith,
+    fits 0,
+    fits 1,
+    fits 2,
+    fits 3,
+    fits 4,
+    fits 5,
+    fits 6,
+    fits 7,
+  );
 }
 
 number_takes : (w : Width) → IsWide w → (bytes : List ℕ) (n : ℕ) (more : List ℕ) → IsBytes bytes

@@ -1,7 +1,9 @@
 pub mod CaseLemmas
 pub mod FieldLemmas
 pub mod CountLemmas
+pub mod TagLemmas
 pub mod CutLemmas
+pub mod OpLemmas
 pub mod AskLemmas
 pub mod ReplyLemmas
 pub mod PutLemmas

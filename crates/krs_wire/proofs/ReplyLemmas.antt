@@ -1,8 +1,9 @@
--- A reply's frame is read as that reply, and what is read is that reply's frame.
+-- A reply's frame is read as that reply with its tag, and what is read is that reply's frame.
 use Rattle.std.proofs.Common.{◌≡◌, ℕ, ◌+◌, ◌^◌, ◌<◌, ◌≤◌, Bool, true, false, cond, eqb, ltb, List, [], ◌∷◌, ◌++◌}
 use Rattle.std.proofs.Common.{length, take, drop, Option, Some, None, Result, Ok, Err, refl, sym, ap, subst, ◌∙◌}
 use Rattle.std.proofs.Common.{append_assoc, arith, inl, inr, length-append}
-use Rattle.std.specs.Prelude.{IfOk, IfSome, IsOk, find}
+use Rattle.std.specs.Prelude.{IsOk, find}
+use Rattle.std.specs.Option.{is_some, option_and_then, option_map}
 use Rattle.std.specs.Int.{w32, to_le_bytes}
 use Rattle.std.proofs.lemmas.Bool.{ltb-false, le-ltb, eqb-true}
 use Rattle.std.proofs.lemmas.List.{take_at, take-append-drop, length-take}
@@ -17,14 +18,17 @@ use Rattle.krs_wire.specs.declared.shape.Shape.{Shape}
 use Rattle.krs_wire.specs.declared.shape.Shape.TheVariants as shapes
 use Rattle.krs_wire.specs.Field.{number, nothing, whole}
 use Rattle.krs_wire.specs.Faulting.{or_bad_body, after, GivesRead}
+use Rattle.krs_wire.specs.Tag.{tag_text, tag_field, tag_size}
 use Rattle.krs_wire.specs.Reply.{status_of, body_of, reply_frame, errno_of, HasShape, accepted, refused, answer_of}
-use Rattle.krs_wire.specs.Reply.{error_of, reply_by, reply_in, reply_front, is_bad_reply_length, IsFound}
+use Rattle.krs_wire.specs.Reply.{error_of, reply_of, status_fields, reply_by, reply_in, reply_front, Found, IsFound}
+use Rattle.krs_wire.specs.Reply.{is_bad_reply_length, IsAtFront, Finds}
 use Rattle.krs_wire.proofs.CaseLemmas.{chosen, or_false, ok_body}
-use Rattle.krs_wire.proofs.FieldLemmas.{IsBytes, IsBytes-take, wide32, number_exact, whole_again, whole_takes}
-use Rattle.krs_wire.proofs.FieldLemmas.{nothing_exact}
+use Rattle.krs_wire.proofs.FieldLemmas.{IsBytes, IsBytes-take, IsExact, wide32, number_exact, both_exact, whole_again}
+use Rattle.krs_wire.proofs.FieldLemmas.{whole_takes, nothing_exact}
+use Rattle.krs_wire.proofs.TagLemmas.{tag_exact, tag_length}
 
 -- each error is found by its number
-error_again : (shape : Shape) (e : Errno) → reply_by shape (Some (number_of e, [])) ≡ Ok (refused e)
+error_again : (shape : Shape) (e : Errno) → reply_of shape (number_of e) [] ≡ Ok (refused e)
 error_again shape EPERM = refl
 error_again shape _ = refl
 
@@ -33,7 +37,7 @@ number_small EPERM = omega arith
 number_small _ = omega arith
 
 by_again : (shape : Shape) (reply : Result Answer Errno) → HasShape shape reply
-    → reply_by shape (Some (status_of reply, body_of reply)) ≡ Ok reply
+    → reply_of shape (status_of reply) (body_of reply) ≡ Ok reply
 by_again shape (Err e) h = error_again shape e
 by_again shapes.Nothing (Ok Nothing) h = refl
 by_again shapes.Number (Ok (Number n)) h =
@@ -62,26 +66,88 @@ status_small : (reply : Result Answer Errno) → status_of reply < 256 ^ 4
 status_small (Ok a) = omega arith
 status_small (Err e) = number_small e
 
-pub reply_again : (shape : Shape) (reply : Result Answer Errno) (more : List ℕ) → HasShape shape reply
-    → reply_front shape (reply_frame reply ++ more) ≡ Ok (Some (reply, 4 + (4 + length (body_of reply))))
+status_exact : (is_tagged : Bool) → IsExact (status_fields is_tagged)
+status_exact is_tagged =
+    both_exact (number w32) (tag_field is_tagged) (number_exact w32 wide32) (tag_exact is_tagged)
+
+-- what stands behind the length
+abbrev text_of : Option ℕ → ℕ → List ℕ → List ℕ
+text_of tag status body = (to_le_bytes w32 status ++ tag_text tag) ++ body
+
+text_length : (is_tagged : Bool) (tag : Option ℕ) (status : ℕ) (body : List ℕ) → is_some tag ≡ is_tagged
+    → length (text_of tag status body) ≡ 4 + tag_size is_tagged + length body
+text_length is_tagged tag status body has =
+    omega (
+      arith,
+      length-append (to_le_bytes w32 status ++ tag_text tag) body,
+      length-append (to_le_bytes w32 status) (tag_text tag),
+      tag_length is_tagged tag has,
+    )
+
+size_small : (is_tagged : Bool) → tag_size is_tagged ≤ 8
+size_small true = omega arith
+size_small false = omega arith
+
+-- a reply and its tag, as what stands behind a length says them
+abbrev pub Said : Type 0
+Said = Result Answer Errno × Option ℕ
+
+abbrev said : Said → Result Said WireFault
+said x = Ok x
+
+said_is : (x y : Said) → said x ≡ said y → x ≡ y
+said_is x y e = cc
+
+abbrev whole_reply : Found → Result (Option Found) WireFault
+whole_reply x = Ok (Some x)
+
+whole_reply_is : (x y : Found) → whole_reply x ≡ whole_reply y → x ≡ y
+whole_reply_is x y e = cc
+
+-- a reply that is said in so many bytes
+abbrev pub sized_reply : ℕ → Said → Result (Option Found) WireFault
+sized_reply n x = Ok (Some (x.0, x.1, 4 + n))
+
+is_good_length : (is_tagged : Bool) (n : ℕ) → 4 + tag_size is_tagged ≤ n → n ≤ 262144 + tag_size is_tagged
+    → is_bad_reply_length is_tagged n ≡ false
+is_good_length is_tagged n low high =
+    let a : ltb n (4 + tag_size is_tagged) ≡ false = le-ltb _ _ low in
+    let b : ltb (262144 + tag_size is_tagged) n ≡ false = le-ltb _ _ high in
+    rw (a, b) refl
+
+in_again : (is_tagged : Bool) (shape : Shape) (n : ℕ) (text more : List ℕ) (status : ℕ) (tag : Option ℕ) (body : List ℕ)
+    (reply : Result Answer Errno) → length text ≡ n → is_bad_reply_length is_tagged n ≡ false
+    → (status_fields is_tagged).read text ≡ Some ((status, tag), body) → reply_of shape status body ≡ Ok reply
+    → reply_in is_tagged shape (Some (n, text ++ more)) ≡ whole_reply (reply, tag, 4 + n)
 unfolding reply_in
-reply_again shape reply more h =
+in_again is_tagged shape n text more status tag body reply len good read says =
+    let long : ltb (length (text ++ more)) n ≡ false = le-ltb _ _ (omega (arith, length-append text more, len)) in
+    rw (good, long) (
+    ap (λ (x : List ℕ). after (sized_reply n) (reply_by shape ((status_fields is_tagged).read x)))
+    (take_at text more n len)
+    ∙ ap (λ (o : Option ((ℕ × Option ℕ) × List ℕ)). after (sized_reply n) (reply_by shape o)) read
+    ∙ ap (λ (r : Result (Result Answer Errno) WireFault). after (sized_reply n) (after (λ x. said (x, tag)) r)) says
+    )
+
+pub reply_again : (is_tagged : Bool) (shape : Shape) (reply : Result Answer Errno) (tag : Option ℕ) (more : List ℕ)
+    → HasShape shape reply → (tag_field is_tagged).Fits tag
+    → reply_front is_tagged shape (reply_frame tag reply ++ more)
+    ≡ Ok (Some (reply, tag, length (reply_frame tag reply)))
+reply_again is_tagged shape reply tag more h fits =
     let body = body_of reply in
-    let status = to_le_bytes w32 (status_of reply) in
-    let n = 4 + length body in
+    let text = text_of tag (status_of reply) body in
+    let n = length text in
     let small = body_small shape reply h in
-    let regrouped : reply_frame reply ++ more ≡ to_le_bytes w32 n ++ ((status ++ body) ++ more) =
-    ap (λ (x : List ℕ). x ++ more) (append_assoc (to_le_bytes w32 n) status body)
-    ∙ append_assoc (to_le_bytes w32 n) (status ++ body) more in
-    let first = (number_exact w32 wide32).again n ((status ++ body) ++ more) (omega (arith, small)) in
-    let second = (number_exact w32 wide32).again (status_of reply) body (status_small reply) in
-    let len : length (status ++ body) ≡ n = omega (arith, length-append status body) in
-    let a : ltb n 4 ≡ false = le-ltb _ _ (omega arith) in
-    let b : ltb 262144 n ≡ false = le-ltb _ _ (omega (arith, small)) in
-    let long : ltb (length ((status ++ body) ++ more)) n ≡ false =
-    le-ltb _ _ (omega (arith, length-append (status ++ body) more, len)) in
-    ap (λ (x : List ℕ). reply_front shape x) regrouped ∙ ap (reply_in shape) first
-    ∙ rw (a, b, long, take_at (status ++ body) more n len, second, by_again shape reply h) refl
+    let size = size_small is_tagged in
+    let len : n ≡ 4 + tag_size is_tagged + length body = text_length is_tagged tag (status_of reply) body fits.0 in
+    let first = (number_exact w32 wide32).again n (text ++ more) (omega (arith, len, small, size)) in
+    let second = (status_exact is_tagged).again (status_of reply, tag) body (status_small reply, fits) in
+    let good = is_good_length is_tagged n (omega (arith, len)) (omega (arith, len, small)) in
+    let all : length (reply_frame tag reply) ≡ 4 + n = omega (arith, length-append (to_le_bytes w32 n) text) in
+    ap (λ (x : List ℕ). reply_front is_tagged shape x) (append_assoc (to_le_bytes w32 n) text more)
+    ∙ ap (reply_in is_tagged shape) first
+    ∙ in_again is_tagged shape n text more (status_of reply) tag body reply refl good second (by_again shape reply h)
+    ∙ ap (λ (k : ℕ). whole_reply (reply, tag, k)) (sym all)
 
 -- ---- what is read is spelled so
 
@@ -144,7 +210,7 @@ error_takes shape status body (Some d) reply bytes numbered e =
     number_is n d h = sym (eqb-true _ _ (find_passes (λ (e : Errno). eqb (number_of e) n) errnos d h))
 
 by_takes : (shape : Shape) (status : ℕ) (body : List ℕ) (reply : Result Answer Errno) → IsBytes body
-    → length body ≤ 262140 → reply_by shape (Some (status, body)) ≡ Ok reply → ByTakes shape status body reply
+    → length body ≤ 262140 → reply_of shape status body ≡ Ok reply → ByTakes shape status body reply
 by_takes shape status body reply bytes small e =
     elim (chosen (eqb status 0) _ _ _ e) [
       | inl h ↦ subst (λ (n : ℕ). ByTakes shape n body reply) (sym (eqb-true _ _ h.0))
@@ -152,126 +218,161 @@ by_takes shape status body reply bytes small e =
       | inr h ↦ error_takes shape status body (errno_of status) reply bytes refl h.1
     ]
 
-status_some : (shape : Shape) (o : Option (ℕ × List ℕ)) (reply : Result Answer Errno) → reply_by shape o ≡ Ok reply
-    → (x : ℕ × List ℕ) × (o ≡ Some x) × (reply_by shape (Some x) ≡ Ok reply)
-status_some shape None reply e = absurd cc
-status_some shape (Some x) reply e = (x, refl, e)
+after_reply : (r : Result (Result Answer Errno) WireFault) (tag : Option ℕ) (x : Said)
+    → after (λ reply. said (reply, tag)) r ≡ Ok x → (r ≡ Ok x.0) × (tag ≡ x.1)
+after_reply (Ok reply) tag x e =
+    let p = said_is (reply, tag) x e in (ap (λ (y : Said). given y.0) p, ap (λ (y : Said). y.1) p)
+after_reply (Err fault) tag x e = absurd cc
 
-abbrev whole_reply : Result Answer Errno × ℕ → Result (Option (Result Answer Errno × ℕ)) WireFault
-whole_reply x = Ok (Some x)
+status_some : (shape : Shape) (o : Option ((ℕ × Option ℕ) × List ℕ)) (x : Said) → reply_by shape o ≡ Ok x
+    → (h : (ℕ × Option ℕ) × List ℕ) × (o ≡ Some h) × (reply_of shape h.0.0 h.1 ≡ Ok x.0) × (h.0.1 ≡ x.1)
+status_some shape None x e = absurd cc
+status_some shape (Some h) x e =
+    let a = after_reply (reply_of shape h.0.0 h.1) h.0.1 x e in (h, refl, a.0, a.1)
 
-whole_reply_is : (x y : Result Answer Errno × ℕ) → whole_reply x ≡ whole_reply y → x ≡ y
-whole_reply_is x y e = cc
-
-record InTakes (shape : Shape) (reply : Result Answer Errno) (len : ℕ) (x : ℕ × List ℕ) : Type 0 where
-  good : is_bad_reply_length x.0 ≡ false
+record InTakes (is_tagged : Bool) (shape : Shape) (found : Found) (x : ℕ × List ℕ) : Type 0 where
+  good : is_bad_reply_length is_tagged x.0 ≡ false
   long : ltb (length x.1) x.0 ≡ false
-  by : reply_by shape ((number w32).read (take x.0 x.1)) ≡ Ok reply
-  len-is : 4 + x.0 ≡ len
+  by : reply_by shape ((status_fields is_tagged).read (take x.0 x.1)) ≡ said (found.0, found.1)
+  len-is : 4 + x.0 ≡ found.2
 
 not_first : {A : Type 0} (b : Bool) (x y z : A) → (x ≡ z → ⊥) → cond b x y ≡ z → (b ≡ false) × (y ≡ z)
 not_first true x y z other e = absurd (other e)
 not_first false x y z other e = (refl, e)
 
-after_whole : (r : Result (Result Answer Errno) WireFault) (n : ℕ) (reply : Result Answer Errno) (len : ℕ)
-    → after {B = Option (Result Answer Errno × ℕ)} (λ a. Ok (Some (a, 4 + n))) r ≡ Ok (Some (reply, len))
-    → (r ≡ Ok reply) × (4 + n ≡ len)
-after_whole (Ok a) n reply len e =
-    let p = whole_reply_is (a, 4 + n) (reply, len) e in
-    (ap (λ (x : Result Answer Errno × ℕ). given x.0) p, ap (λ (x : Result Answer Errno × ℕ). x.1) p)
-after_whole (Err f) n reply len e = absurd cc
+after_whole : (r : Result Said WireFault) (n : ℕ) (found : Found) → after (sized_reply n) r ≡ whole_reply found
+    → (r ≡ said (found.0, found.1)) × (4 + n ≡ found.2)
+after_whole (Ok a) n found e =
+    let p = whole_reply_is (a.0, a.1, 4 + n) found e in
+    (ap (λ (x : Found). said (x.0, x.1)) p, ap (λ (x : Found). x.2) p)
+after_whole (Err f) n found e = absurd cc
 
-in_some : (shape : Shape) (o : Option (ℕ × List ℕ)) (reply : Result Answer Errno) (len : ℕ)
-    → reply_in shape o ≡ Ok (Some (reply, len)) → (x : ℕ × List ℕ) × (o ≡ Some x) × InTakes shape reply len x
+in_some : (is_tagged : Bool) (shape : Shape) (o : Option (ℕ × List ℕ)) (found : Found)
+    → reply_in is_tagged shape o ≡ whole_reply found
+    → (x : ℕ × List ℕ) × (o ≡ Some x) × InTakes is_tagged shape found x
 unfolding reply_in
-in_some shape None reply len e = absurd cc
-in_some shape (Some x) reply len e =
+in_some is_tagged shape None found e = absurd cc
+in_some is_tagged shape (Some x) found e =
+    let by = reply_by shape ((status_fields is_tagged).read (take x.0 x.1)) in
     let a =
-    not_first (is_bad_reply_length x.0) (Err BadLength) (cond (ltb (length x.1) x.0) (Ok None)
-    (after {B = Option (Result Answer Errno × ℕ)} (λ r. Ok (Some (r, 4 + x.0)))
-    (reply_by shape ((number w32).read (take x.0 x.1))))) (Ok (Some (reply, len))) (λ h. cc) e in
+    not_first (is_bad_reply_length is_tagged x.0) (Err BadLength) (cond (ltb (length x.1) x.0) (Ok None)
+    (after (sized_reply x.0) by)) (whole_reply found) (λ h. cc) e in
     let b =
-    not_first (ltb (length x.1) x.0) (Ok None) (after {B = Option (Result Answer Errno × ℕ)}
-    (λ r. Ok (Some (r, 4 + x.0))) (reply_by shape ((number w32).read (take x.0 x.1))))
-    (Ok (Some (reply, len))) (λ h. cc) a.1 in
-    let d = after_whole (reply_by shape ((number w32).read (take x.0 x.1))) x.0 reply len b.1 in
+    not_first (ltb (length x.1) x.0) (Ok None) (after (sized_reply x.0) by) (whole_reply found) (λ h. cc) a.1 in
+    let d = after_whole by x.0 found b.1 in
     (x, refl, record { good = a.0; long = b.0; by = d.0; len-is = d.1 })
 
-pub reply_takes : (shape : Shape) (bytes : List ℕ) (reply : Result Answer Errno) (len : ℕ) → IsBytes bytes
-    → reply_front shape bytes ≡ Ok (Some (reply, len)) → (take len bytes ≡ reply_frame reply) × HasShape shape reply
-reply_takes shape bytes reply len fits e =
-    let x = in_some shape ((number w32).read bytes) reply len e in
+-- what is found is the frame of its reply with its tag, and has a tag where frames have one
+pub record FoundTakes (is_tagged : Bool) (shape : Shape) (bytes : List ℕ) (found : Found) : Type 0 where
+  pub front : IsAtFront shape bytes found
+  pub has_tag : is_some found.1 ≡ is_tagged
+
+pub reply_takes : (is_tagged : Bool) (shape : Shape) (bytes : List ℕ) (found : Found) → IsBytes bytes
+    → reply_front is_tagged shape bytes ≡ Ok (Some found) → FoundTakes is_tagged shape bytes found
+reply_takes is_tagged shape bytes found fits e =
+    let reply = found.0 in
+    let tag = found.1 in
+    let x = in_some is_tagged shape ((number w32).read bytes) found e in
     let n = x.0.0 in
     let r = x.0.1 in
     let t = (number_exact w32 wide32).takes bytes n r fits x.1 in
     let f = x.2 in
-    let s = status_some shape ((number w32).read (take n r)) reply f.by in
+    let s = status_some shape ((status_fields is_tagged).read (take n r)) (reply, tag) f.by in
+    let status = s.0.0.0 in
+    let body = s.0.1 in
     let frame_fits = IsBytes-take n r t.more_fits in
-    let u = (number_exact w32 wide32).takes (take n r) s.0.0 s.0.1 frame_fits s.1 in
+    let u = (status_exact is_tagged).takes (take n r) (status, s.0.0.1) body frame_fits s.1 in
+    let tag-is : s.0.0.1 ≡ tag = s.3 in
+    let has : is_some tag ≡ is_tagged = subst (λ (o : Option ℕ). is_some o ≡ is_tagged) tag-is u.fits.1.0 in
     let whole-n : n ≤ length r = ltb-false _ _ f.long in
-    let size : n ≤ 262144 = ltb-false 262144 n (or_false (ltb n 4) (ltb 262144 n) f.good) in
+    let size : n ≤ 262144 + tag_size is_tagged =
+    ltb-false _ n (or_false (ltb n (4 + tag_size is_tagged)) (ltb (262144 + tag_size is_tagged) n) f.good) in
     let frame-len : length (take n r) ≡ n = omega (arith, length-take n r, whole-n) in
-    let body-len : 4 + length s.0.1 ≡ n =
-    omega (
-      arith,
-      sym frame-len ∙ ap (λ (y : List ℕ). length y) u.parts,
-      length-append (to_le_bytes w32 s.0.0) s.0.1,
-    ) in
-    let b = by_takes shape s.0.0 s.0.1 reply u.more_fits (omega (arith, body-len, size)) s.2 in
-    let body-same : 4 + length (body_of reply) ≡ n = ap (λ (y : List ℕ). 4 + length y) (sym b.body-is) ∙ body-len in
-    let frame : take n r ≡ to_le_bytes w32 (status_of reply) ++ body_of reply =
-    u.parts ∙ ap (λ (k : ℕ). to_le_bytes w32 k ++ s.0.1) b.status-is
-    ∙ ap (λ (y : List ℕ). to_le_bytes w32 (status_of reply) ++ y) b.body-is in
+    let parts : take n r ≡ text_of tag status body =
+    u.parts ∙ ap (λ (o : Option ℕ). text_of o status body) tag-is in
+    let body-len : 4 + tag_size is_tagged + length body ≡ n =
+    omega (arith, frame-len, ap (λ (y : List ℕ). length y) parts, text_length is_tagged tag status body has) in
+    let b = by_takes shape status body reply u.more_fits (omega (arith, body-len, size)) s.2 in
+    let frame : take n r ≡ text_of tag (status_of reply) (body_of reply) =
+    parts ∙ ap (λ (k : ℕ). text_of tag k body) b.status-is
+    ∙ ap (λ (y : List ℕ). text_of tag (status_of reply) y) b.body-is in
+    let n-is : n ≡ length (text_of tag (status_of reply) (body_of reply)) =
+    sym frame-len ∙ ap (λ (y : List ℕ). length y) frame in
     let front : bytes ≡ (to_le_bytes w32 n ++ take n r) ++ drop n r =
     t.parts ∙ ap (λ (y : List ℕ). to_le_bytes w32 n ++ y) (sym (take-append-drop n r))
     ∙ sym (append_assoc (to_le_bytes w32 n) (take n r) (drop n r)) in
-    let front-len : length (to_le_bytes w32 n ++ take n r) ≡ len =
+    let front-len : length (to_le_bytes w32 n ++ take n r) ≡ found.2 =
     omega (arith, length-append (to_le_bytes w32 n) (take n r), frame-len, f.len-is) in
-    let taken : take len bytes ≡ to_le_bytes w32 n ++ take n r =
-    ap (λ (y : List ℕ). take len y) front ∙ take_at (to_le_bytes w32 n ++ take n r) (drop n r) len front-len in (
-      taken ∙ ap (λ (y : List ℕ). to_le_bytes w32 n ++ y) frame
-          ∙ ap (λ (k : ℕ). to_le_bytes w32 k ++ (to_le_bytes w32 (status_of reply) ++ body_of reply)) (sym body-same)
-          ∙ sym (append_assoc (to_le_bytes w32 (4 + length (body_of reply))) (to_le_bytes w32 (status_of reply))
-          (body_of reply)),
-      b.has,
-    )
+    let taken : take found.2 bytes ≡ to_le_bytes w32 n ++ take n r =
+    ap (λ (y : List ℕ). take found.2 y) front ∙ take_at (to_le_bytes w32 n ++ take n r) (drop n r) found.2 front-len in
+    record {
+      front = (
+        taken ∙ ap (λ (y : List ℕ). to_le_bytes w32 n ++ y) frame
+            ∙ ap (λ (k : ℕ). to_le_bytes w32 k ++ text_of tag (status_of reply) (body_of reply)) n-is,
+        b.has,
+      );
+      has_tag = has;
+    }
 
 -- ---- what the decoder answers
 
-pub found_by : (shape : Shape) (bytes : List ℕ) (r : Result (Option (Result Answer Errno × ℕ)) WireFault)
-    → IsBytes bytes → GivesRead (λ x. x) r (reply_front shape bytes)
-    → IfOk r (λ o. IfSome o (λ x. (take x.1 bytes ≡ reply_frame x.0) × HasShape shape x.0))
-found_by shape bytes (Ok (Some x)) fits g = reply_takes shape bytes x.0 x.1 fits g
-found_by shape bytes (Ok None) fits g = tt
-found_by shape bytes (Err f) fits g = tt
+-- what is found in frames without a tag has none
+pub found_untagged : (shape : Shape) (bytes : List ℕ) (found : Found) → IsBytes bytes
+    → reply_front false shape bytes ≡ Ok (Some found)
+    → reply_front false shape bytes ≡ Ok (Some (found.0, None, found.2))
+found_untagged shape bytes found fits e =
+    e ∙ ap (λ (tag : Option ℕ). whole_reply (found.0, tag, found.2))
+    (none_is found.1 (reply_takes false shape bytes found fits e).has_tag)
+  where
+    none_is : (o : Option ℕ) → is_some o ≡ false → o ≡ None
+    none_is None h = refl
+    none_is (Some n) h = absurd (cc h)
 
-frame_length : (reply : Result Answer Errno) → length (reply_frame reply) ≡ 4 + (4 + length (body_of reply))
-frame_length reply =
-    omega (
-      arith,
-      length-append (to_le_bytes w32 (4 + length (body_of reply)) ++ to_le_bytes w32 (status_of reply))
-          (body_of reply),
-    )
+-- and in frames with a tag it has one
+pub found_tagged : (shape : Shape) (bytes : List ℕ) (reply : Result Answer Errno) (size : ℕ) → IsBytes bytes
+    → reply_front true shape bytes ≡ Ok (Some (reply, None, size)) → ⊥
+found_tagged shape bytes reply size fits e =
+    let none : is_some {T = ℕ} None ≡ true = (reply_takes true shape bytes (reply, None, size) fits e).has_tag in
+    absurd (cc none)
 
-pub only_by : (shape : Shape) (bytes : List ℕ) (r : Result (Option (Result Answer Errno × ℕ)) WireFault)
-    (reply : Result Answer Errno) (more : List ℕ) → HasShape shape reply → bytes ≡ reply_frame reply ++ more
-    → GivesRead (λ x. x) r (reply_front shape bytes)
-    → GivesRead (λ x. x) r (Ok (Some (reply, length (reply_frame reply))))
-only_by shape bytes r reply more has e g =
-    let again : reply_front shape bytes ≡ Ok (Some (reply, length (reply_frame reply))) =
-    ap (reply_front shape) e ∙ reply_again shape reply more has
-    ∙ ap (λ (n : ℕ). whole_reply (reply, n)) (sym (frame_length reply)) in
-    subst (λ (x : Result (Option (Result Answer Errno × ℕ)) WireFault). GivesRead (λ y. y) r x) again g
+module _ {X : Type 0} (is_tagged : Bool) (shape : Shape) (bytes : List ℕ) (view : X → Found)
+    (r : Result (Option X) WireFault) (exact : GivesRead (λ o. option_map view o) r (reply_front is_tagged shape bytes))
+  where
+    pub only_by : Finds is_tagged shape bytes view r
+    only_by reply tag more has fits e =
+        let again : reply_front is_tagged shape bytes ≡ Ok (Some (reply, tag, length (reply_frame tag reply))) =
+        ap (reply_front is_tagged shape) e ∙ reply_again is_tagged shape reply tag more has fits in
+        subst (λ (x : Result (Option Found) WireFault). GivesRead (λ o. option_map view o) r x) again exact
+
+-- a status, a tag and a body are read one after the other, and say a reply where status and body do
+pub said_ok : (is_tagged : Bool) (shape : Shape) (frame : List ℕ) (status : ℕ) (more : List ℕ) (tag : Option ℕ)
+    (body : List ℕ) → (number w32).read frame ≡ Some (status, more) → (tag_field is_tagged).read more ≡ Some (tag, body)
+    → IsOk (reply_of shape status body) → IsOk (reply_by shape ((status_fields is_tagged).read frame))
+said_ok is_tagged shape frame status more tag body first second ok =
+    let read : (status_fields is_tagged).read frame ≡ Some ((status, tag), body) =
+    ap (option_and_then (λ (a : ℕ × List ℕ). option_and_then (λ (b : Option ℕ × List ℕ). Some ((a.0, b.0), b.1))
+    ((tag_field is_tagged).read a.1))) first
+    ∙ ap (option_and_then (λ (b : Option ℕ × List ℕ). Some ((status, b.0), b.1))) second in
+    subst (λ (o : Option ((ℕ × Option ℕ) × List ℕ)). IsOk (reply_by shape o)) (sym read)
+    (after_ok (reply_of shape status body) ok)
+  where
+    after_ok : (r : Result (Result Answer Errno) WireFault) → IsOk r → IsOk (after (λ x. said (x, tag)) r)
+    after_ok (Ok x) h = refl
+    after_ok (Err fault) h = absurd (cc h)
 
 -- a whole reply stands at the front where what stands behind its length says one
-pub found_after : (n : ℕ) (r : Result (Result Answer Errno) WireFault) → IsOk r
-    → IsFound (after (λ reply. Ok (Some (reply, n))) r)
-found_after n (Ok reply) ok = tt
+pub found_after : (n : ℕ) (r : Result Said WireFault) → IsOk r → IsFound (after (sized_reply n) r)
+found_after n (Ok said) ok = tt
 found_after n (Err fault) ok = absurd cc
 
-pub found_in : (shape : Shape) (read : Option (ℕ × List ℕ)) (n : ℕ) (bytes : List ℕ) → read ≡ Some (n, bytes) → 4 ≤ n
-    → n ≤ 262144 → n ≤ length bytes → IsOk (reply_by shape ((number w32).read (take n bytes)))
-    → IsFound (reply_in shape read)
+pub found_in : (is_tagged : Bool) (shape : Shape) (read : Option (ℕ × List ℕ)) (n : ℕ) (bytes : List ℕ)
+    → read ≡ Some (n, bytes) → 4 + tag_size is_tagged ≤ n → n ≤ 262144 + tag_size is_tagged → n ≤ length bytes
+    → IsOk (reply_by shape ((status_fields is_tagged).read (take n bytes))) → IsFound (reply_in is_tagged shape read)
 unfolding reply_in
-found_in shape read n bytes is low high long ok =
-    rw (is, le-ltb n 4 low, le-ltb 262144 n high, le-ltb (length bytes) n long) (found_after (4 + n) _ ok)
+found_in is_tagged shape read n bytes is low high long ok =
+    rw (
+      is,
+      le-ltb n (4 + tag_size is_tagged) low,
+      le-ltb (262144 + tag_size is_tagged) n high,
+      le-ltb (length bytes) n long,
+    ) (found_after n _ ok)

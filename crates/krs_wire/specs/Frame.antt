@@ -8,6 +8,7 @@ use Rattle.krs_wire.specs.declared.fault.WireFault.{WireFault}
 use Rattle.krs_wire.specs.declared.fault.WireFault.TheVariants.{BadLength, BadVersion, BadOp, BadBody}
 use Rattle.krs_wire.specs.declared.framed.Framed.{Framed}
 use Rattle.krs_wire.specs.Field.{Field, number, both, nothing, whole}
+use Rattle.krs_wire.specs.Tag.{tag_field}
 use Rattle.krs_wire.specs.Faulting.{after, or_bad_body}
 use Rattle.krs_wire.specs.Bodies.{id_field, text_field, hello_fields, hello_of, thread_of, fork_of, exec_of, exit_of}
 use Rattle.krs_wire.specs.Bodies.{get_id_fields, get_id_of, join_of, search_fields, search_of, request_fields}
@@ -55,11 +56,18 @@ op_of which body =
 abbrev pub head_fields : Field (ℕ × (ℕ × ℕ))
 head_fields = both (number w16) (both (number w16) (number w32))
 
+-- What is said by an operation's number, a context, and what follows them: the tag, where there is one, and the body.
+-- A frame that is too short for its tag has a bad body, unless there is no such operation.
+abbrev pub said_by : (which context : ℕ) → Option (Option ℕ × List ℕ) → Result Framed WireFault
+said_by which context None = after (λ op. Err BadBody) (op_of which [])
+said_by which context (Some (tag, body)) =
+    after (λ op. Ok (record { ask = record { context = context; op = op }; tag = tag })) (op_of which body)
+
+-- the versions are 1 and, with a tag, 2
 abbrev pub framed_by : Option ((ℕ × (ℕ × ℕ)) × List ℕ) → Result Framed WireFault
 framed_by None = Err BadBody
-framed_by (Some (head, body)) =
-    if head.0 == 1 then after (λ op. Ok (record { ask = record { context = head.1.1; op = op } }))
-    (op_of head.1.0 body)
+framed_by (Some (head, more)) =
+    if head.0 == 1 || head.0 == 2 then said_by head.1.0 head.1.1 ((tag_field (head.0 == 2)).read more)
     else Err BadVersion
 
 -- what a whole frame says behind its length

@@ -1,4 +1,5 @@
 pub mod Field
+pub mod Tag
 pub mod Faulting
 pub mod Bodies
 pub mod Frame

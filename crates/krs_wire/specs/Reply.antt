@@ -1,6 +1,7 @@
--- The frame of a reply: docs/FORMAT.md, "A reply's frame", "Faults of a reply".
+-- The frame of a reply, with its ask's tag or with none: docs/FORMAT.md, "A reply's frame", "Faults of a reply".
 use Rattle.std.specs.Prelude.{◌≡◌, Bool, ℕ, ◌+◌, ◌<◌, ◌≤◌, ◌^◌, ◌==◌, ◌||◌, List, [], ◌++◌, length, take, nat_lt}
 use Rattle.std.specs.Prelude.{find, if◌then◌else◌, Option, Some, None, Result, Ok, Err}
+use Rattle.std.specs.Option.{option_map}
 use Rattle.std.specs.Int.{w32, to_le_bytes}
 use Rattle.krs_types.specs.declared.ask.Answer.{Answer}
 use Rattle.krs_types.specs.declared.ask.Answer.TheVariants.{Nothing, Number, Bytes}
@@ -16,7 +17,8 @@ use Rattle.krs_wire.specs.declared.fault.WireFault.{WireFault}
 use Rattle.krs_wire.specs.declared.fault.WireFault.TheVariants.{BadLength, BadBody}
 use Rattle.krs_wire.specs.declared.shape.Shape.{Shape}
 use Rattle.krs_wire.specs.declared.shape.Shape.TheVariants as shapes
-use Rattle.krs_wire.specs.Field.{number, nothing, whole}
+use Rattle.krs_wire.specs.Field.{Field, number, sized, both, nothing, whole}
+use Rattle.krs_wire.specs.Tag.{tag_text, tag_field, tag_size}
 use Rattle.krs_wire.specs.Faulting.{or_bad_body, after, GivesRead}
 
 -- 0, or the number of the error
@@ -31,12 +33,12 @@ body_of (Ok (Number n)) = to_le_bytes w32 n
 body_of (Ok (Bytes bytes)) = bytes
 body_of (Err e) = []
 
--- length, status, body; the length counts the bytes that follow it
-abbrev pub frame_of : ℕ → List ℕ → List ℕ
-frame_of status body = to_le_bytes w32 (4 + length body) ++ to_le_bytes w32 status ++ body
+-- length, status, the tag where there is one, body; the length counts the bytes that follow it
+abbrev pub frame_of : (tag : Option ℕ) → (status : ℕ) → (body : List ℕ) → List ℕ
+frame_of tag status body = (sized w32).spell ((to_le_bytes w32 status ++ tag_text tag) ++ body)
 
-abbrev pub reply_frame : Result Answer Errno → List ℕ
-reply_frame reply = frame_of (status_of reply) (body_of reply)
+abbrev pub reply_frame : (tag : Option ℕ) → Result Answer Errno → List ℕ
+reply_frame tag reply = frame_of tag (status_of reply) (body_of reply)
 
 -- what kind of answer an operation gets: docs/FORMAT.md, "The asks"
 abbrev pub shape_of : Op → Shape
@@ -104,38 +106,61 @@ abbrev pub error_of : Option Errno → List ℕ → Result (Result Answer Errno)
 error_of None body = Err BadBody
 error_of (Some e) body = or_bad_body (whole nothing (λ _. refused e) body)
 
--- what a whole reply says behind its length
-abbrev pub reply_by : Shape → Option (ℕ × List ℕ) → Result (Result Answer Errno) WireFault
+-- what a status and a body say
+abbrev pub reply_of : Shape → (status : ℕ) → (body : List ℕ) → Result (Result Answer Errno) WireFault
+reply_of shape status body = if status == 0 then answer_of shape body else error_of (errno_of status) body
+
+-- status, and the tag where there is one
+abbrev pub status_fields : (is_tagged : Bool) → Field (ℕ × Option ℕ)
+status_fields is_tagged = both (number w32) (tag_field is_tagged)
+
+-- what a whole reply says behind its length, and its tag
+abbrev pub reply_by : Shape → Option ((ℕ × Option ℕ) × List ℕ) → Result (Result Answer Errno × Option ℕ) WireFault
 reply_by shape None = Err BadBody
-reply_by shape (Some (status, body)) = if status == 0 then answer_of shape body else error_of (errno_of status) body
+reply_by shape (Some (head, body)) = after (λ reply. Ok (reply, head.1)) (reply_of shape head.0 body)
 
--- the length is outside 4 to 262144
-abbrev pub is_bad_reply_length : ℕ → Bool
-is_bad_reply_length n = nat_lt n 4 || nat_lt 262144 n
+-- the length is outside 4 to 262144, and with a tag outside 12 to 262152
+abbrev pub is_bad_reply_length : (is_tagged : Bool) → ℕ → Bool
+is_bad_reply_length is_tagged n = nat_lt n (4 + tag_size is_tagged) || nat_lt (262144 + tag_size is_tagged) n
 
-unfoldable pub reply_in : Shape → Option (ℕ × List ℕ) → Result (Option (Result Answer Errno × ℕ)) WireFault
-reply_in shape None = Ok None
-reply_in shape (Some (n, bytes)) =
-    if is_bad_reply_length n then Err BadLength
+-- a reply that stands at the front of some bytes, its tag, and how many bytes it takes
+abbrev pub Found : Type 0
+Found = Result Answer Errno × Option ℕ × ℕ
+
+unfoldable pub reply_in : (is_tagged : Bool) → Shape → Option (ℕ × List ℕ) → Result (Option Found) WireFault
+reply_in is_tagged shape None = Ok None
+reply_in is_tagged shape (Some (n, bytes)) =
+    if is_bad_reply_length is_tagged n then Err BadLength
     else if nat_lt (length bytes) n then Ok None
-    else after (λ reply. Ok (Some (reply, 4 + n))) (reply_by shape ((number w32).read (take n bytes)))
+    else after (λ said. Ok (Some (said.0, said.1, 4 + n)))
+    (reply_by shape ((status_fields is_tagged).read (take n bytes)))
 
--- the reply at the front of the bytes and how many bytes it takes, or its fault; nothing where it isn't whole
-abbrev pub reply_front : Shape → List ℕ → Result (Option (Result Answer Errno × ℕ)) WireFault
-reply_front shape bytes = reply_in shape ((number w32).read bytes)
+-- the reply at the front of the bytes, or its fault; nothing where it isn't whole
+abbrev pub reply_front : (is_tagged : Bool) → Shape → List ℕ → Result (Option Found) WireFault
+reply_front is_tagged shape bytes = reply_in is_tagged shape ((number w32).read bytes)
 
 -- a whole reply stands at the front
-abbrev pub IsFound : Result (Option (Result Answer Errno × ℕ)) WireFault → Type 0
+abbrev pub IsFound : Result (Option Found) WireFault → Type 0
 IsFound (Ok (Some found)) = Unit {0}
 IsFound (Ok None) = ⊥
 IsFound (Err fault) = ⊥
 
--- the first bytes, so many, are the frame of this reply, which is an error or an answer of the kind
-abbrev pub IsAtFront : Shape → List ℕ → Result Answer Errno × ℕ → Type 0
-IsAtFront shape bytes found = (take found.1 bytes ≡ reply_frame found.0) × HasShape shape found.0
+-- a reply without a tag, and one with its tag, as what was found
+abbrev pub untagged : Result Answer Errno × ℕ → Found
+untagged x = (x.0, None, x.1)
 
--- where the bytes are the frame of such a reply, whatever follows it, that reply is the answer, unless memory ran out
-abbrev pub Finds : Shape → List ℕ → Result (Option (Result Answer Errno × ℕ)) WireFault → Type 0
-Finds shape bytes result =
-    (reply : Result Answer Errno) (more : List ℕ) → HasShape shape reply → bytes ≡ reply_frame reply ++ more →
-    GivesRead (λ found. found) result (Ok (Some (reply, length (reply_frame reply))))
+abbrev pub tagged : Result Answer Errno × ℕ × ℕ → Found
+tagged x = (x.0, Some x.1, x.2)
+
+-- the first bytes, so many, are the frame of this reply with this tag, and it is an error or an answer of the kind
+abbrev pub IsAtFront : Shape → List ℕ → Found → Type 0
+IsAtFront shape bytes found = (take found.2 bytes ≡ reply_frame found.1 found.0) × HasShape shape found.0
+
+-- Where the bytes are the frame of such a reply, whatever follows it, that reply with its tag is the answer, unless
+-- memory ran out.
+abbrev pub Finds : {X : Type 0} → (is_tagged : Bool) → Shape → List ℕ → (X → Found) → Result (Option X) WireFault
+    → Type 0
+Finds is_tagged shape bytes view result =
+    (reply : Result Answer Errno) (tag : Option ℕ) (more : List ℕ) → HasShape shape reply
+    → (tag_field is_tagged).Fits tag → bytes ≡ reply_frame tag reply ++ more
+    → GivesRead (λ o. option_map view o) result (Ok (Some (reply, tag, length (reply_frame tag reply))))

@@ -1,46 +1,49 @@
--- The frame of an ask: docs/FORMAT.md, "An ask's frame".
-use Rattle.std.specs.Prelude.{◌≡◌, ◌≢◌, ℕ, ◌<◌, ◌≤◌, ◌^◌, List, ◌++◌, length, Some, Ok, slice_index}
+-- The frame of an ask, with a tag or with none: docs/FORMAT.md, "An ask's frame".
+use Rattle.std.specs.Prelude.{◌≡◌, ◌≢◌, ℕ, ◌<◌, ◌≤◌, ◌^◌, List, ◌++◌, length, Option, Some, Ok, slice_index}
 use Rattle.std.specs.Int.{w32}
 use Rattle.krs_types.specs.declared.ask.Ask.{Ask}
 use Rattle.krs_wire.specs.declared.fault.WireFault.{WireFault}
 use Rattle.krs_wire.specs.declared.fault.WireFault.TheVariants.{BadLength, Memory}
 use Rattle.krs_wire.specs.declared.framed.Framed.{Framed}
 use Rattle.krs_wire.specs.Field.{sized}
+use Rattle.krs_wire.specs.Tag.{version_of, tag_text, FitsTag}
 use Rattle.krs_wire.specs.Bodies.{number_of_op, body_of_op, FitsOp}
 use Rattle.krs_wire.specs.Frame.{End, Frames, head_fields, front_of}
 
-abbrev pub framed : Ask → Framed
-framed ask = record { ask = ask }
+abbrev pub framed : (tag : Option ℕ) → Ask → Framed
+framed tag ask = record { ask = ask; tag = tag }
 
--- what stands behind the length: version, operation, context, body
-abbrev pub ask_text : Ask → List ℕ
-ask_text ask = head_fields.spell (1, (number_of_op ask.op, ask.context)) ++ body_of_op ask.op
+-- what stands behind the length: version, operation, context, the tag where there is one, body
+abbrev pub ask_text : (tag : Option ℕ) → Ask → List ℕ
+ask_text tag ask =
+    head_fields.spell (version_of tag, (number_of_op ask.op, ask.context)) ++ (tag_text tag ++ body_of_op ask.op)
 
-abbrev pub ask_frame : Ask → List ℕ
-ask_frame ask = (sized w32).spell (ask_text ask)
+abbrev pub ask_frame : (tag : Option ℕ) → Ask → List ℕ
+ask_frame tag ask = (sized w32).spell (ask_text tag ask)
 
 -- a refusal for another cause than memory is BadLength, of at least so many bytes
 abbrev pub IsTooLong : ℕ → List ℕ → WireFault → Type 0
 IsTooLong least bytes fault = fault ≢ Memory → (fault ≡ BadLength) × (least ≤ length bytes)
 
 -- what has a frame
-pub record FitsAsk (ask : Ask) : Type 0 where
+pub record FitsAsk (tag : Option ℕ) (ask : Ask) : Type 0 where
+  pub tagged : FitsTag tag
   pub context : ask.context < 256 ^ 4
   pub op : FitsOp ask.op
-  pub size : length (ask_text ask) ≤ 65536
+  pub size : length (ask_text tag ask) ≤ 65536
 
--- each frame that is cut is that of its ask
+-- each frame that is cut is that of its ask, with its tag
 abbrev pub EachCutIsSpelled : Type 0
 EachCutIsSpelled =
     (bytes : List ℕ) (framed : Framed) (more : List ℕ) → ((i : ℕ) → slice_index bytes i < 256)
     → front_of bytes ≡ Ok (Some (framed, more)) →
-    (bytes ≡ ask_frame framed.ask ++ more) × FitsAsk framed.ask
+    (bytes ≡ ask_frame framed.tag framed.ask ++ more) × FitsAsk framed.tag framed.ask
 
--- the frame of each ask is cut as that ask, whatever follows it
+-- the frame of each ask is cut as that ask, with that tag, whatever follows it
 abbrev pub EachSpellingIsCut : Type 0
 EachSpellingIsCut =
-    (framed : Framed) (more : List ℕ) → FitsAsk framed.ask → front_of (ask_frame framed.ask ++ more)
-    ≡ Ok (Some (framed, more))
+    (framed : Framed) (more : List ℕ) → FitsAsk framed.tag framed.ask
+    → front_of (ask_frame framed.tag framed.ask ++ more) ≡ Ok (Some (framed, more))
 
 -- each stream is cut in some way
 abbrev pub EachStreamIsCut : Type 0

@@ -3,6 +3,7 @@ ghost use Rattle.std.specs.Prelude.{◌≡◌, ◌<◌, ◌-◌, drop, IfOk, IfS
 ghost use Rattle.std.specs.Int.{w32};
 ghost use Rattle.krs_wire.specs.Field.{number, whole};
 ghost use Rattle.krs_wire.specs.Faulting.{GivesRead, or_bad_body};
+ghost use Rattle.krs_wire.specs.Tag.{tag_field};
 ghost use Rattle.krs_wire.specs.Bodies.{add_fields, add_of, chown_fields, chown_of, clear_of, describe_of};
 ghost use Rattle.krs_wire.specs.Bodies.{get_id_fields, get_id_of, hello_fields, hello_of, id_field, id_number_fields};
 ghost use Rattle.krs_wire.specs.Bodies.{invalidate_of, join_of, link_fields, link_of, read_of, request_fields};
@@ -11,12 +12,12 @@ ghost use Rattle.krs_wire.specs.Bodies.{text_field, unlink_of, update_fields, up
 ghost use Rattle.krs_wire.specs.Bodies.{open_queue_of, set_filter_fields, set_filter_of, read_queue_fields};
 ghost use Rattle.krs_wire.specs.Bodies.{read_queue_of, close_queue_of, move_fields, move_of, restrict_fields};
 ghost use Rattle.krs_wire.specs.Bodies.{restrict_of};
-ghost use Rattle.krs_wire.specs.Frame.{op_of, framed_of, front_of};
+ghost use Rattle.krs_wire.specs.Frame.{op_of, said_by, framed_of, front_of};
 
 use crate::fields::{
-    blob_at, ended, entries_at, flag_at, groups_at, id_at, text_at, u16_at, u32_at,
+    blob_at, ended, entries_at, flag_at, groups_at, id_at, tag_at, text_at, u16_at, u32_at,
 };
-use crate::framed::{MAX_LENGTH, MIN_LENGTH, VERSION};
+use crate::framed::{MAX_LENGTH, MIN_LENGTH, TAGGED, UNTAGGED};
 use crate::{Framed, WireFault};
 use byteorder::{ByteOrder, LittleEndian};
 use krs_types::{Ask, Caller, Op};
@@ -277,20 +278,43 @@ fn op_at(alloc: Global, which: u16, body: &[u8]) -> Result<Op, WireFault>
     }
 }
 
+/// What is said by an operation's number, a context, and what follows them. A frame too short for its tag has a bad
+/// body, but only where there is such an operation.
+fn said_at(
+    alloc: Global,
+    which: u16,
+    context: u32,
+    is_tagged: bool,
+    more: &[u8],
+) -> Result<Framed, WireFault>
+    ensures { GivesRead (λ framed. framed) result
+        (said_by which context ((tag_field is_tagged).read more.now)) }
+{
+    match tag_at(is_tagged, more) {
+        None => match op_at(alloc, which, &[]) {
+            Ok(_) => Err(WireFault::BadBody),
+            Err(fault) => Err(fault),
+        },
+        Some((tag, body)) => {
+            let op = op_at(alloc, which, body)?;
+            let ask = Ask { context, op };
+            Ok(Framed { ask, tag })
+        }
+    }
+}
+
 #[tactic(auto, unfolding(crate::specs::Frame::framed_of))]
 fn framed_at(alloc: Global, frame: &[u8]) -> Result<Framed, WireFault>
     ensures { GivesRead (λ framed. framed) result (framed_of frame.now) }
 {
     let (version, rest) = u16_at(frame)?;
     let (which, rest) = u16_at(rest)?;
-    let (context, body) = u32_at(rest)?;
-    if version != VERSION {
-        return Err(WireFault::BadVersion);
+    let (context, more) = u32_at(rest)?;
+    match version {
+        UNTAGGED => said_at(alloc, which, context, false, more),
+        TAGGED => said_at(alloc, which, context, true, more),
+        _ => Err(WireFault::BadVersion),
     }
-    let op = op_at(alloc, which, body)?;
-    Ok(Framed {
-        ask: Ask { context, op },
-    })
 }
 
 /// The frame at the front, and what follows it. None where no frame is whole yet.

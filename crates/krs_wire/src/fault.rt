@@ -8,11 +8,11 @@ use std::alloc::{AllocError, AllocFailed};
 pub enum WireFault {
     /// The length is outside its bounds. It is known as soon as its four bytes are there.
     BadLength,
-    /// The version is not 1.
+    /// The version is neither 1 nor 2.
     BadVersion,
     /// There is no such operation, or it is not carried: profile, asks not carried.
     BadOp,
-    /// The body is not exactly the operation's fields.
+    /// The body is not exactly the operation's fields, or the frame is too short for its tag.
     BadBody,
     /// A growth was refused: out of memory.
     Memory,

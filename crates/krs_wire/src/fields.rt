@@ -1,9 +1,10 @@
 // The fields of frames, each read from the front of the bytes, which the reader answers with what follows it.
-ghost use Rattle.std.specs.Prelude.{◌≡◌, ◌==◌, IfErr, length, if◌then◌else◌};
+ghost use Rattle.std.specs.Prelude.{◌≡◌, ◌==◌, IfErr, length, option_map, if◌then◌else◌};
 ghost use Rattle.std.specs.Int.{w16, w32};
 ghost use Rattle.krs_wire.specs.Bodies.{id_field, text_field, blob_field, groups_field, entry_field, entries_field};
 ghost use Rattle.krs_wire.specs.Field.{flag, number, many_read, repeated};
 ghost use Rattle.krs_wire.specs.Faulting.{GivesRead, or_bad_body};
+ghost use Rattle.krs_wire.specs.Tag.{tag_field};
 
 use crate::WireFault;
 use byteorder::{ByteOrder, LittleEndian};
@@ -29,6 +30,20 @@ pub(crate) fn u32_at(bytes: &[u8]) -> Result<(u32, &[u8]), WireFault>
     }
     let (front, rest) = bytes.split_at(4);
     Ok((LittleEndian::read_u32(front), rest))
+}
+
+/// The tag where frames have one. None where the bytes are too short for it.
+pub(crate) fn tag_at(is_tagged: bool, bytes: &[u8]) -> Option<(Option<u64>, &[u8])>
+    ensures { option_map (λ x. (x.0, x.1.now)) result ≡ (tag_field is_tagged).read bytes.now }
+{
+    if !is_tagged {
+        return Some((None, bytes));
+    }
+    if bytes.len() < 8 {
+        return None;
+    }
+    let (front, rest) = bytes.split_at(8);
+    Some((Some(LittleEndian::read_u64(front)), rest))
 }
 
 pub(crate) fn id_at(bytes: &[u8]) -> Result<(i32, &[u8]), WireFault>

@@ -3,19 +3,21 @@
 #![tactic(auto)]
 
 mod asks;
+mod bodies;
 mod encode;
 mod fault;
 mod feed;
 mod fields;
 mod framed;
 mod laws;
+mod put;
 mod replies;
 mod shape;
 
-pub use encode::encode_ask;
+pub use encode::{encode_ask, encode_ask2};
 pub use fault::WireFault;
 pub use feed::Feed;
 pub use framed::Framed;
 pub use laws::{one_cut, one_spelling};
-pub use replies::{append_reply, decode_reply, encode_reply};
+pub use replies::{append_reply, decode_reply, decode_reply2, encode_reply, encode_reply2};
 pub use shape::Shape;

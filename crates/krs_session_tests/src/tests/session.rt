@@ -8,6 +8,7 @@ ghost use Rattle.krs_desk.specs.Sitting.{IsIdleAt};
 mod fakes;
 mod growths;
 mod joined;
+mod tagged;
 
 use fakes::{Bites, Chair, Rising, Table, Then, Watching, chair_of, reader_of, watches, writer_of};
 use krs_desk::{Desk, Seat};
@@ -231,7 +232,7 @@ const BYTES: (usize, usize, Then) = (1, 1, Then::GivesNone);
 const BAD_LENGTH: Ended = Ended::Wire(WireFault::BadLength);
 
 #[rattlefmt::skip]
-const CASES: [Case<'static>; 19] = [
+const CASES: [Case<'static>; 20] = [
     Case { name: "one read", stream: &ASKS, reads: ALL, writes: ALL,
         turns: 99, ended: Ended::Closed, asked: 4, written: 34, calls: 1 },
     Case { name: "a read for each ask", stream: &ASKS, reads: (24, 35, Then::GivesNone), writes: ALL,
@@ -251,7 +252,9 @@ const CASES: [Case<'static>; 19] = [
         turns: 99, ended: BAD_LENGTH, asked: 1, written: 0, calls: 0 },
     Case { name: "length 65537 at once", stream: &[1, 0, 1, 0], reads: ALL, writes: ALL,
         turns: 99, ended: BAD_LENGTH, asked: 1, written: 0, calls: 0 },
-    Case { name: "version 2", stream: &[8, 0, 0, 0, 2, 0, 3, 1, 1, 0, 0, 0], reads: ALL, writes: ALL,
+    Case { name: "version 2 without a tag", stream: &[8, 0, 0, 0, 2, 0, 3, 1, 1, 0, 0, 0], reads: ALL, writes: ALL,
+        turns: 99, ended: Ended::Wire(WireFault::BadBody), asked: 1, written: 0, calls: 0 },
+    Case { name: "version 3", stream: &[8, 0, 0, 0, 3, 0, 3, 1, 1, 0, 0, 0], reads: ALL, writes: ALL,
         turns: 99, ended: Ended::Wire(WireFault::BadVersion), asked: 1, written: 0, calls: 0 },
     Case { name: "operation 31", stream: &[8, 0, 0, 0, 1, 0, 31, 0, 0, 0, 0, 0], reads: ALL, writes: ALL,
         turns: 99, ended: Ended::Wire(WireFault::BadOp), asked: 1, written: 0, calls: 0 },
@@ -351,12 +354,14 @@ fn converse<R: Wait>(
 
 // What a session is sent, and what it writes.
 #[rattlefmt::skip]
-const SESSIONS: [([&[u8]; 3], [&[u8]; 2]); 5] = [
+const SESSIONS: [([&[u8]; 3], [&[u8]; 2]); 7] = [
     ([&ASKS, &[], &[]], [&REPLIES, &[]]),
     ([&HELLO, &ADD, &CHANGES], [&ADDED, &CHANGED]),
     ([&HELLO, &ADD, &CONTEXTS], [&ADDED, &CAME_AND_WENT]),
     ([&HELLO, &ADD, &KEYRINGS], [&ADDED, &ATTACHED]),
     ([&HELLO, &ADD, &QUEUES], [&ADDED, &NOTED]),
+    ([&tagged::HELLO, &tagged::EXEC, &[]], [&tagged::REPLIES, &[]]),
+    ([&tagged::MIXED, &[], &[]], [&tagged::MIXED_REPLIES, &[]]),
 ];
 
 fn together(alloc: Global, parts: &[&[u8]]) -> Result<Vec<u8>, AllocError> {

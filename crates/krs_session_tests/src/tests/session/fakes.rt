@@ -184,7 +184,7 @@ impl Gate for Watching {
     }
 }
 
-/// A desk that replies to HELLO, ADD, READ and LEAVE as a new store would, and to CLEAR as if it had no memory.
+/// A desk that replies to HELLO, ADD, READ, EXEC and LEAVE as a new store would, and to CLEAR as if it had no memory.
 #[derive(Drop)]
 pub(super) struct Table;
 
@@ -247,6 +247,7 @@ impl<R> Keeper<Chair, R> for Table {
                 Err(_) => Err(Errno::ENOMEM),
             },
             Op::Clear { .. } => Err(Errno::ENOMEM),
+            Op::Exec => Ok(Answer::Nothing),
             Op::Leave => {
                 seat.leaves = seat.leaves.wrapping_add(1);
                 Ok(Answer::Nothing)

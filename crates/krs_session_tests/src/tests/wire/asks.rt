@@ -1,8 +1,8 @@
 //! Every ask, as its frame and its reply spell it.
-use super::{NOTHING, READ, is_fault, is_reply};
+use super::{NOTHING, READ, TAG, is_fault, is_reply, with_tag};
 use krs_store_asks::Want;
 use krs_types::{Ask, Op};
-use krs_wire::{Feed, WireFault, encode_ask};
+use krs_wire::{Feed, WireFault, encode_ask, encode_ask2};
 use std::alloc::Global;
 use std::test::Fail;
 
@@ -129,13 +129,32 @@ fn is_spelled(alloc: Global, frame: &[u8], text: &str, form: Form) -> Result<boo
     let [framed] = frames.as_slice() else {
         return Ok(false);
     };
-    Ok(is_ask(alloc, &framed.ask, text, frame)? && is_answered(alloc, &framed.ask.op, form)?)
+    Ok(framed.tag.is_none()
+        && is_ask(alloc, &framed.ask, text, frame)?
+        && is_answered(alloc, &framed.ask.op, form)?)
+}
+
+/// Whether the frame in version 2, with a tag, is read as one ask with that tag, which is spelled so.
+fn is_spelled_with_tag(alloc: Global, frame: &[u8], text: &str) -> Result<bool, WireFault> {
+    let mut tagged = with_tag(alloc, frame, 12)?;
+    if let Some(version) = tagged.get_mut(4) {
+        *version = 2;
+    }
+    let frames = Feed::new(alloc).feed(&tagged)?;
+    let [framed] = frames.as_slice() else {
+        return Ok(false);
+    };
+    let again = encode_ask2(alloc, &framed.ask, TAG)?;
+    Ok(framed.tag == Some(TAG)
+        && is_ask(alloc, &framed.ask, text, frame)?
+        && again.as_slice() == tagged.as_slice())
 }
 
 #[test]
 fn each_ask_is_spelled(rt: HostRuntime) -> Result<(), Fail> {
     for (frame, text, form) in asks() {
         assert!(rt; is_spelled(rt.alloc(), frame, text, *form)?, "{text}");
+        assert!(rt; is_spelled_with_tag(rt.alloc(), frame, text)?, "{text}, with a tag");
     }
     Ok(())
 }

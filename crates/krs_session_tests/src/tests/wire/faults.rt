@@ -7,11 +7,22 @@ use std::test::Fail;
 // Frames with a fault: lengths, versions and operations, and then bodies that are too short or too long, or whose
 // create byte is neither 0 nor 1.
 #[rattlefmt::skip]
-const FAULTS: [(&[u8], WireFault); 39] = [
+const FAULTS: [(&[u8], WireFault); 49] = [
     (&[7, 0, 0, 0], WireFault::BadLength),
     (&[1, 0, 1, 0], WireFault::BadLength),
-    (&[8, 0, 0, 0, 2, 0, 5, 1, 0, 0, 0, 0], WireFault::BadVersion),
-    (&[8, 0, 0, 0, 2, 0, 31, 0, 0, 0, 0, 0], WireFault::BadVersion),
+    (&[8, 0, 0, 0, 3, 0, 5, 1, 0, 0, 0, 0], WireFault::BadVersion),
+    (&[8, 0, 0, 0, 0, 0, 31, 0, 0, 0, 0, 0], WireFault::BadVersion),
+    (&[16, 0, 0, 0, 3, 0, 3, 1, 1, 0, 0, 0, 7, 0, 0, 0, 0, 0, 0, 0], WireFault::BadVersion),
+    (&[8, 0, 0, 0, 2, 1, 3, 1, 1, 0, 0, 0], WireFault::BadVersion),
+    // Of version 2: frames too short for their tag, and a body that is too long and one that is too short.
+    (&[8, 0, 0, 0, 2, 0, 3, 1, 1, 0, 0, 0], WireFault::BadBody),
+    (&[8, 0, 0, 0, 2, 0, 31, 0, 0, 0, 0, 0], WireFault::BadOp),
+    (&[15, 0, 0, 0, 2, 0, 3, 1, 1, 0, 0, 0, 7, 0, 0, 0, 0, 0, 0], WireFault::BadBody),
+    (&[15, 0, 0, 0, 2, 0, 31, 0, 1, 0, 0, 0, 7, 0, 0, 0, 0, 0, 0], WireFault::BadOp),
+    (&[12, 0, 0, 0, 2, 0, 0x0b, 0, 1, 0, 0, 0, 5, 0, 0, 0], WireFault::BadBody),
+    (&[17, 0, 0, 0, 2, 0, 3, 1, 1, 0, 0, 0, 7, 0, 0, 0, 0, 0, 0, 0, 0], WireFault::BadBody),
+    (&[16, 0, 0, 0, 2, 0, 0x0b, 0, 1, 0, 0, 0, 7, 0, 0, 0, 0, 0, 0, 0], WireFault::BadBody),
+    (&[1, 0, 1, 0, 2, 0, 3, 1], WireFault::BadLength),
     (&[8, 0, 0, 0, 1, 0, 31, 0, 0, 0, 0, 0], WireFault::BadOp),
     (&[9, 0, 0, 0, 1, 0, 5, 1, 0, 0, 0, 0, 9], WireFault::BadBody),
     (&[11, 0, 0, 0, 1, 0, 6, 0, 0, 0, 0, 0, 5, 0, 0], WireFault::BadBody),

@@ -5,4 +5,4 @@ pub returns-clause-found : goal.returns-clause-found
 returns-clause-found c = λ bytes framed more fits is. front_takes bytes framed more fits is
 
 pub returns-clause-again : goal.returns-clause-again
-returns-clause-again c = λ framed more fits. front_again framed.ask more fits
+returns-clause-again c = λ framed more fits. front_again framed.tag framed.ask more fits

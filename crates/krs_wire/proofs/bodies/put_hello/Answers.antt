@@ -1,0 +1,25 @@
+use Rattle.std.proofs.Common.{◌++◌}
+use Rattle.std.specs.Int.{w32, to_le_bytes}
+use Rattle.krs_wire.specs.Bodies.{groups_field}
+use Rattle.krs_wire.proofs.PutLemmas.{then_put, long_behind}
+use Rattle.krs_wire.proofs.bodies.put_hello.Goals as goal
+
+pub returns-clause-ok : goal.returns-clause-ok
+returns-clause-ok c =
+    let out = c.args.out.now.items in
+    let uid = to_le_bytes w32 c.args.caller.now.uid in
+    let gid = to_le_bytes w32 c.args.caller.now.gid in
+    let groups = groups_field.spell c.args.caller.now.groups in
+    let first = c.put_u32.new.out.items in
+    let second = c.put_u32-2.new.out.items in
+    let all = c.put_groups.new.out.items in
+    then_put c.put_groups.result out uid (gid ++ groups) first all c.in_ok-put_u32.ensures.ok
+    (then_put c.put_groups.result first gid groups second all c.in_ok-put_u32-2.ensures.ok c.put_groups.ensures.ok)
+
+pub returns-clause-long : goal.returns-clause-long
+returns-clause-long c =
+    let uid = to_le_bytes w32 c.args.caller.now.uid in
+    let gid = to_le_bytes w32 c.args.caller.now.gid in
+    let groups = groups_field.spell c.args.caller.now.groups in
+    long_behind c.put_groups.result 65536 uid (gid ++ groups)
+    (long_behind c.put_groups.result 65536 gid groups c.put_groups.ensures.long)

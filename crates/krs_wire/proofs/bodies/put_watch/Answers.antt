@@ -1,0 +1,18 @@
+use Rattle.std.proofs.Common.{rules, ◌≡◌, ◌++◌, List, ℕ, OnOk, ap, ◌∙◌, append_assoc}
+use Rattle.std.specs.Int.{w32, to_le_bytes}
+use Rattle.krs_wire.specs.Bodies.{id_field}
+use Rattle.krs_wire.proofs.PutLemmas.{then_put}
+use Rattle.krs_wire.proofs.bodies.put_watch.Goals as goal
+
+pub returns-clause-ok : goal.returns-clause-ok
+returns-clause-ok c =
+    let out = c.args.out.now.items in
+    let id = id_field.spell c.args.id in
+    let queue = to_le_bytes w32 c.args.queue in
+    let watch = id_field.spell c.args.watch in
+    let first : c.put_id.new.out.items ≡ out ++ id = search rules in
+    let second : c.put_u32.new.out.items ≡ c.put_id.new.out.items ++ queue = search rules in
+    let third : OnOk c.put_id-2.result (c.put_id-2.new.out.items ≡ c.put_u32.new.out.items ++ watch) = search rules in
+    let before : c.put_u32.new.out.items ≡ out ++ (id ++ queue) =
+    second ∙ ap (λ (bytes : List ℕ). bytes ++ queue) first ∙ append_assoc out id queue in
+    then_put c.put_id-2.result out (id ++ queue) watch c.put_u32.new.out.items c.put_id-2.new.out.items before third

@@ -1,0 +1,23 @@
+use Rattle.std.proofs.Common.{rules, arith, refl, length, ◌<◌, ◌++◌}
+use Rattle.std.specs.Int.{w32, to_le_bytes}
+use Rattle.krs_wire.specs.Bodies.{entry_field}
+use Rattle.krs_wire.proofs.CountLemmas.{length_entries}
+use Rattle.krs_wire.proofs.PutLemmas.{then_one, fit_one}
+use Rattle.krs_wire.proofs.put.put_entries.Goals as goal
+
+pub loop-line-preserved : goal.loop-line-preserved
+loop-line-preserved c =
+    let lines = c.as_slice-lines.result.now in
+    let i = c.loop-line.line-index in
+    let front = c.args.out.now.items ++ to_le_bytes w32 (length lines) in
+    record {
+      written = then_one entry_field lines i _ c.loop-line-test.true front c.loop-line.out.items
+          c.put_entry.new.out.items c.loop-line.invariant.written c.in_ok-put_entry.ensures.ok;
+      fits = fit_one entry_field lines i _ c.loop-line-test.true c.loop-line.invariant.fits
+          c.in_ok-put_entry.ensures.fits;
+    }
+
+pub returns-then-lines-gt-MAX_LENGTH-clause-long : goal.returns-then-lines-gt-MAX_LENGTH-clause-long
+returns-then-lines-gt-MAX_LENGTH-clause-long c =
+    let long : 65536 < length c.args.entries.now = search rules in
+    λ other. (refl, omega (arith, length_entries c.args.entries.now, long))
