@@ -1,6 +1,7 @@
-/* load PATH ASK CONNECTIONS DEPTH SECONDS: prints how many asks a second a server on a Unix socket answers.
+/* load PATH ASK CONNECTIONS DEPTH SECONDS [VERSION]: prints how many asks a second a server on a Unix socket answers.
  * ASK is echo, read, update or add (ADD and UNLINK in turn). Each connection has a thread, which sends DEPTH asks with
- * one write, reads their replies, and goes on so for SECONDS. */
+ * one write, reads their replies, and goes on so for SECONDS. VERSION is that of the frames, 1 or 2; 1 without it. In
+ * version 2 the tags of a connection are 1, 2, 3 and so on. */
 #include <pthread.h>
 #include <stdint.h>
 #include <stdio.h>
@@ -19,13 +20,14 @@ struct client {
     int number, socket;
     uint32_t context, keys[KEYS], added[1024];
     unsigned sent;
+    uint64_t asked, answered; /* the last tags */
     uint8_t out[1 << 17], in[1 << 17];
     size_t out_length, frame, in_start, in_end;
     double asks_a_second;
 };
 
 static const char *path, *ask;
-static unsigned depth;
+static unsigned depth, version = 1;
 static double seconds;
 static pthread_barrier_t all_are_ready;
 
@@ -49,6 +51,7 @@ static void put(struct client *client, const void *bytes, size_t length) {
 
 static void put16(struct client *client, uint16_t number) { put(client, &number, 2); }
 static void put32(struct client *client, uint32_t number) { put(client, &number, 4); }
+static void put64(struct client *client, uint64_t number) { put(client, &number, 8); }
 
 static void put_text(struct client *client, const char *text) {
     put16(client, (uint16_t)strlen(text));
@@ -65,9 +68,10 @@ static void put_payload(struct client *client) {
 static void begin(struct client *client, uint16_t operation) {
     client->frame = client->out_length;
     put32(client, 0);
-    put16(client, 1);
+    put16(client, (uint16_t)version);
     put16(client, operation);
     put32(client, client->context);
+    if (version == 2) put64(client, ++client->asked);
 }
 
 static void end(struct client *client) {
@@ -96,20 +100,29 @@ static void send_all(struct client *client) {
     client->out_length = 0;
 }
 
-/* The next reply's first number, after its status; an echo has neither. */
+/* The number that a reply begins its answer with, if it has one. It is an accepted one, with the tag that is next. */
+static uint32_t number_of(struct client *client, const uint8_t *reply, uint32_t length) {
+    uint32_t status, number = 0, head = version == 2 ? 16 : 8;
+    uint64_t tag = ++client->answered;
+    if (length + 4 < head) fail("a reply is too short");
+    memcpy(&status, reply + 4, 4);
+    if (version == 2) memcpy(&tag, reply + 8, 8);
+    if (status != 0) fail("an ask was refused");
+    if (tag != client->answered) fail("a reply has another tag than its ask");
+    if (length >= head) memcpy(&number, reply + head, 4);
+    return number;
+}
+
+/* The next reply's number; an echo has none. */
 static uint32_t receive(struct client *client) {
     for (;;) {
         size_t there = client->in_end - client->in_start;
         const uint8_t *reply = client->in + client->in_start;
-        uint32_t length = 0, status = 0, number = 0;
+        uint32_t length = 0;
         if (there >= 4) memcpy(&length, reply, 4);
         if (there >= 4 && there >= 4 + (size_t)length) {
             client->in_start += 4 + (size_t)length;
-            if (!strcmp(ask, "echo")) return 0;
-            memcpy(&status, reply + 4, 4);
-            if (status != 0) fail("an ask was refused");
-            if (length >= 8) memcpy(&number, reply + 8, 4);
-            return number;
+            return strcmp(ask, "echo") ? number_of(client, reply, length) : 0;
         }
         memmove(client->in, reply, there);
         client->in_start = 0;
@@ -187,12 +200,14 @@ static void *run(void *given) {
 }
 
 int main(int count, char **words) {
-    if (count != 6) fail("usage: load PATH echo|read|update|add CONNECTIONS DEPTH SECONDS");
+    if (count != 6 && count != 7) fail("usage: load PATH echo|read|update|add CONNECTIONS DEPTH SECONDS [1|2]");
     path = words[1];
     ask = words[2];
     unsigned connections = (unsigned)atoi(words[3]);
     depth = (unsigned)atoi(words[4]);
     seconds = atof(words[5]);
+    if (count == 7) version = (unsigned)atoi(words[6]);
+    if (version != 1 && version != 2) fail("frames have version 1 or 2");
     if (connections < 1 || depth < 1 || depth > 1024) fail("1 connection or more, and a depth of 1 to 1024");
     pthread_barrier_init(&all_are_ready, NULL, connections);
     struct client *clients = calloc(connections, sizeof *clients);

@@ -1,6 +1,6 @@
 /* peer echo|map PATH: servers on a Unix socket to measure the daemon beside. echo sends back what it reads. map speaks
- * the frames of HELLO, ADD, UPDATE, READ and UNLINK, and keeps nothing but payloads, in a hash map under one mutex: no
- * rights, no keyrings, no clock. Both have a thread for each connection. */
+ * the frames of HELLO, ADD, UPDATE, READ and UNLINK, of both versions, and keeps nothing but payloads, in a hash map
+ * under one mutex: no rights, no keyrings, no clock. Both have a thread for each connection. */
 #include <pthread.h>
 #include <stdint.h>
 #include <stdio.h>
@@ -52,13 +52,13 @@ static void keep(struct key *key, const uint8_t *blob) {
     memcpy(key->payload, blob + 4, key->length);
 }
 
-/* The reply to an ask, behind its length: a status and an answer. Answers how long it is. */
-static uint32_t serve(uint16_t operation, const uint8_t *body, uint8_t *reply) {
-    uint32_t status = 0, length = 4;
+/* The answer to an ask, and its status. Answers how long it is. */
+static uint32_t serve(uint16_t operation, const uint8_t *body, uint8_t *answer, uint32_t *status) {
+    uint32_t length = 0;
     if (operation == HELLO) {
         last_context += 1;
-        memcpy(reply + 4, &last_context, 4);
-        length = 8;
+        memcpy(answer, &last_context, 4);
+        length = 4;
     } else if (operation == ADD) {
         struct key *key = calloc(1, sizeof *key);
         body += 2 + (body[0] | body[1] << 8);
@@ -67,15 +67,15 @@ static uint32_t serve(uint16_t operation, const uint8_t *body, uint8_t *reply) {
         key->serial = last_serial += 1;
         key->next = buckets[key->serial % BUCKETS];
         buckets[key->serial % BUCKETS] = key;
-        memcpy(reply + 4, &key->serial, 4);
-        length = 8;
+        memcpy(answer, &key->serial, 4);
+        length = 4;
     } else {
         struct key **place = place_of(number_at(body)), *key = *place;
         if (!key) {
-            status = ENOKEY_NUMBER;
+            *status = ENOKEY_NUMBER;
         } else if (operation == READ) {
-            memcpy(reply + 4, key->payload, key->length);
-            length = 4 + key->length;
+            memcpy(answer, key->payload, key->length);
+            length = key->length;
         } else if (operation == UPDATE) {
             keep(key, body + 4);
         } else if (operation == UNLINK) {
@@ -84,8 +84,22 @@ static uint32_t serve(uint16_t operation, const uint8_t *body, uint8_t *reply) {
             free(key);
         }
     }
-    memcpy(reply, &status, 4);
     return length;
+}
+
+/* The reply to the ask of a frame, in its version: length, status, the tag of version 2, answer. Answers how long all
+ * of it is. */
+static size_t reply_to(const uint8_t *frame, uint8_t *reply) {
+    size_t tag = frame[4] == 2 ? 8 : 0;
+    uint16_t operation = (uint16_t)(frame[6] | frame[7] << 8);
+    uint32_t status = 0;
+    pthread_mutex_lock(&mutex);
+    uint32_t length = 4 + (uint32_t)tag + serve(operation, frame + 12 + tag, reply + 8 + tag, &status);
+    pthread_mutex_unlock(&mutex);
+    memcpy(reply, &length, 4);
+    memcpy(reply + 4, &status, 4);
+    memcpy(reply + 8, frame + 12, tag);
+    return 4 + (size_t)length;
 }
 
 static void *serve_connection(void *given) {
@@ -102,13 +116,8 @@ static void *serve_connection(void *given) {
         size_t from = 0, written = 0;
         there += (size_t)got;
         while (there - from >= 12 && there - from >= 4 + (size_t)number_at(in + from)) {
-            const uint8_t *frame = in + from;
-            pthread_mutex_lock(&mutex);
-            uint32_t length = serve((uint16_t)(frame[6] | frame[7] << 8), frame + 12, out + written + 4);
-            pthread_mutex_unlock(&mutex);
-            memcpy(out + written, &length, 4);
-            written += 4 + length;
-            from += 4 + (size_t)number_at(frame);
+            written += reply_to(in + from, out + written);
+            from += 4 + (size_t)number_at(in + from);
             if (written > room / 2) {
                 write_all(end, out, written);
                 written = 0;
