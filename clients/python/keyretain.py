@@ -264,7 +264,8 @@ def default_path():
 
 class Client:
     """A connection. `version` is that of the frames: 1, 2, or None to find out with the first ask whether the daemon
-    understands 2. `timeout` is how many seconds the daemon may let pass."""
+    understands 2. It may be set anew between asks: a reply is of its ask's version. `timeout` is how many seconds the
+    daemon may let pass."""
 
     def __init__(self, path=None, version=None, timeout=None):
         self.path, self.version, self.timeout = path or default_path(), version, timeout
@@ -288,14 +289,15 @@ class Client:
     def send(self, name, context=0, *values):
         """Sends an ask without waiting for its reply; answers its tag. receive() gives the replies, in order."""
         self._asked += 1
-        self.socket.sendall(encode_ask(name, context, values, self.version or VERSIONS[-1], self._asked))
-        self._waiting.append((name, self._asked))
+        version = self.version or VERSIONS[-1]
+        self.socket.sendall(encode_ask(name, context, values, version, self._asked))
+        self._waiting.append((name, version, self._asked))
         return self._asked
 
     def receive(self):
         """The answer to the first ask that has none yet."""
-        name, tag = self._waiting[0]
-        while (reply := decode_reply(self._received, self.version or VERSIONS[-1])) is None:
+        name, version, tag = self._waiting[0]
+        while (reply := decode_reply(self._received, version)) is None:
             piece = self.socket.recv(1 << 16)
             if not piece:
                 raise Lost(errno.ECONNRESET, f"the connection ended before the reply to {name}")

@@ -49,12 +49,6 @@ def document_asks():
     return asks
 
 
-def planned():
-    """Numbers of asks that the document plans."""
-    found = re.search(r"^## \d+\. What is planned$.*", document, re.M | re.S)
-    return {int(number) for number in re.findall(r"\b\d+\b", found.group() if found else "")}
-
-
 def document_statuses():
     return {int(number): name for name, number in re.findall(r"^\| (E\w+) \| (\d+) \|", section("## 1. "), re.M)}
 
@@ -62,8 +56,7 @@ def document_statuses():
 def compare_tables(client, asks, statuses):
     wanted = document_asks()
     for number in sorted({*wanted, *asks}):
-        if number in wanted or number not in planned():
-            compare(f"{client}, ask {number}", wanted.get(number), asks.get(number))
+        compare(f"{client}, ask {number}", wanted.get(number), asks.get(number))
     compare(f"{client}, statuses", document_statuses(), statuses)
 
 
