@@ -5,7 +5,7 @@ import sys
 
 sys.path.insert(0, os.path.join(os.path.dirname(os.path.abspath(__file__)), "../../clients/python"))
 import keyretain
-from keyretain import STATUSES, frame
+from keyretain import encode_ask, frame
 
 HELLO = keyretain.encode_ask("HELLO", 0, (1000, 1000, ()))
 
@@ -14,13 +14,17 @@ def text(of):
     return struct.pack("<H", len(of)) + of
 
 
-def accepted(answer):
-    body = struct.pack("<I", answer) if isinstance(answer, int) else answer
-    return struct.pack("<II", 4 + len(body), 0) + body
+def reply(status, body, version, tag):
+    rest = struct.pack("<I", status) + (struct.pack("<Q", tag) if version == 2 else b"") + body
+    return struct.pack("<I", len(rest)) + rest
 
 
-def refused(status):
-    return struct.pack("<II", 4, status)
+def accepted(answer, version=1, tag=0):
+    return reply(0, struct.pack("<I", answer) if isinstance(answer, int) else answer, version, tag)
+
+
+def refused(status, version=1, tag=0):
+    return reply(status, b"", version, tag)
 
 
 class Ask:
@@ -65,17 +69,17 @@ def status_without_context(operation, fields):
     if operation == 261:
         return 0
     if operation == 264:
-        return 0 if 1 <= fields[0] <= 512 else 22
+        return 0 if 1 <= fields[0] <= 4096 else 22
     return 9 if operation in (265, 266, 267) else 3
 
 
-def is_reply(operation, got):
-    """Whether these bytes are just one reply to this operation."""
+def is_reply(operation, got, version=1, tag=None):
+    """Whether these bytes are just one reply to this operation, with this tag."""
     try:
-        reply = keyretain.decode_reply(got)
-        if reply is None or reply.length != len(got):
+        found = keyretain.decode_reply(got, version)
+        if found is None or found.length != len(got) or found.tag != tag:
             return False
-        keyretain.answer_of(ASKS[operation].name, reply)
+        keyretain.answer_of(ASKS[operation].name, found)
     except keyretain.Refused:
         pass
     except keyretain.Malformed:

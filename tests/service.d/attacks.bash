@@ -57,6 +57,7 @@ try_attacks() {
   attack 'three seconds of a byte a second, and 100 others in each' $((3 + 1 + 300)) slow 3
   attack 'a million random bytes, in pieces and whole' $((1000 + 1)) noise 1000
   attack '34 operations, bodies of 0 to 64 bytes, three of each' $((34 * 65 * 3)) frames 64
+  attack '1000 asks of both versions on one connection, and nothing behind their replies' $((1000 + 1)) mixed 1000
   attack '300 connections, none of which is served too early' $((300 + 1)) queue-up 300
   after_attacks 16
   before_attacks 256

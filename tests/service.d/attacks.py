@@ -1,5 +1,6 @@
 """attacks.py PATH CASE NUMBER: clients that mean a daemon harm, or want much of it. Each case prints how many answers
 were just what docs/FORMAT.md says, and what the first other one was. No other client may be there meanwhile."""
+import itertools
 import random
 import select
 import signal
@@ -9,7 +10,7 @@ import sys
 import threading
 import time
 
-from asks import ASKS, HELLO, accepted, frame, is_reply, status_without_context, refused, text
+from asks import ASKS, HELLO, accepted, encode_ask, frame, is_reply, refused, reply, status_without_context, text
 
 path, case, number = sys.argv[1], sys.argv[2], int(sys.argv[3])
 PATIENCE = 10  # seconds that one call may wait
@@ -41,13 +42,18 @@ def ask(end, asked, length):
     return end.recv(length, socket.MSG_WAITALL)
 
 
+def number_of(end, asked):
+    """The number that an accepted ask answers."""
+    got = ask(end, asked, 12)
+    answer = int.from_bytes(got[8:], "little")
+    if got != accepted(answer):
+        raise OSError(f"{asked.hex()} is answered {got.hex()}")
+    return answer
+
+
 def hello(end):
     """A new context: HELLO, accepted."""
-    got = ask(end, HELLO, 12)
-    context = int.from_bytes(got[8:], "little")
-    if got != accepted(context):
-        raise OSError(f"HELLO is answered {got.hex()}")
-    return context
+    return number_of(end, HELLO)
 
 
 class Answers:
@@ -168,11 +174,11 @@ def noise():
 
 
 def see_frame(operation, body):
-    """HELLO, then the frame in a context that the client has not, and in its own: a fault ends the connection without
-    a reply, and else there is one for each, whose status is known in the first case."""
+    """HELLO, then the frame in a context that the client has not, and in its own in version 2: a fault ends the
+    connection without a reply, and else there is one for each, whose status is known in the first case."""
     with connect() as end:
         context = hello(end)
-        end.sendall(frame(operation, 0, body) + frame(operation, context, body))
+        end.sendall(frame(operation, 0, body) + frame(operation, context, body, 2, context << 32))
         end.shutdown(socket.SHUT_WR)
         got = rest(end)
     what = f"operation {operation}, body {body.hex()}:"
@@ -183,7 +189,8 @@ def see_frame(operation, body):
     split = 4 + int.from_bytes(got[:4], "little")
     status = status_without_context(operation, fields)
     first = is_reply(operation, got[:split]) and int.from_bytes(got[4:8], "little")
-    answers.see((status, True), (first, is_reply(operation, got[split:])), f"{what} {got.hex()}:")
+    second = is_reply(operation, got[split:], 2, context << 32)
+    answers.see((status, True), (first, second), f"{what} {got.hex()}:")
 
 
 def frames():
@@ -196,6 +203,54 @@ def frames():
             fitting = ASKS[operation].of_length(length) if operation in ASKS else None
             for body in (bytes(length), noises[0], noises[1] if fitting is None else fitting):
                 see_frame(operation, body)
+
+
+def any_asks(source, context, ring, serial):
+    """Asks in this context about its user keyring and a key there, each with the status and the body of its reply.
+    What is refused is refused for its key, its context, its queue or its range."""
+    payload = b"s3"
+    while True:
+        if source.randrange(4) == 0:
+            length = source.randint(1, 4000)
+            payload = source.getrandbits(8 * length).to_bytes(length, "little")
+            yield "UPDATE", context, (serial, payload), 0, b""
+        yield source.choice((
+            ("READ", context, (serial,), 0, payload), ("GET_ID", context, (-4, 0), 0, struct.pack("<I", ring)),
+            ("DESCRIBE", context, (serial,), 0, b"user;1000;1000;3f010000;mixed"), ("EXEC", context, (), 0, b""),
+            ("SEARCH", context, (-4, b"user", b"mixed", 0), 0, struct.pack("<I", serial)),
+            ("READ", context, (2147483647,), 126, b""), ("READ", 0, (serial,), 3, b""),
+            ("READ_QUEUE", 0, (0, 64), 9, b""), ("OPEN_QUEUE", 0, (4097,), 22, b"")))
+
+
+def send_in_pieces(end, stream, source):
+    """Sends all of it, in pieces of any length up to 5000 bytes, and ends this side."""
+    at = 0
+    while at < len(stream):
+        piece = stream[at:at + source.choice((1, 7, 100, source.randint(1, 5000)))]
+        end.sendall(piece)
+        at += len(piece)
+    end.shutdown(socket.SHUT_WR)
+
+
+def mixed():
+    """Asks of both versions on one connection, sent ahead in pieces while the replies are read. Each has its reply, in
+    order, in its version and with its tag, which may be another ask's too."""
+    source = random.Random(22)
+    asks, wanted = [], []
+    with connect() as end:
+        context = hello(end)
+        ring = number_of(end, encode_ask("GET_ID", context, (-4, 0)))
+        serial = number_of(end, encode_ask("ADD", context, (b"user", b"mixed", b"s3", -4)))
+        for name, where, values, status, body in itertools.islice(any_asks(source, context, ring, serial), number):
+            version, tag = source.randint(1, 2), source.choice((0, 7, 1 << 32, (1 << 64) - 1, source.getrandbits(64)))
+            asks.append(encode_ask(name, where, values, version, tag))
+            wanted.append((f"{name}, version {version}", reply(status, body, version, tag)))
+        sender = threading.Thread(target=send_in_pieces, args=(end, b"".join(asks), source))
+        sender.start()
+        for what, its_reply in wanted:
+            answers.see(its_reply, end.recv(len(its_reply), socket.MSG_WAITALL), what)
+        sender.join()
+        answers.see(b"", rest(end), "behind the last reply")
 
 
 def queue_up():
@@ -241,7 +296,7 @@ def lanes():
         end.close()
 
 
-CASES = (cut_short, side_by_side, never_reads, slow, noise, frames, queue_up, lanes)
+CASES = (cut_short, side_by_side, never_reads, slow, noise, frames, mixed, queue_up, lanes)
 try:
     {run.__name__.replace("_", "-"): run for run in CASES}[case]()
     print(answers)
