@@ -10,16 +10,17 @@ use Rattle.krs_script.proofs.Going.{going_start, runs_unread, ends_of}
 use Rattle.krs_remote.specs.Remote.{Talk, talk_on, Acts, Breaks, EndsRemote}
 use Rattle.krs_remote.specs.Call.{EndsCall}
 
-abbrev talk_with : ℕ → Bool → Option (List ℕ) → Option (List ℕ) → Talk
-talk_with context refused sent left = record { context = context; refused = refused; sent = sent; left = left }
+abbrev talk_with : ℕ → Bool → ℕ → Option (List ℕ) → Option (List ℕ) → Talk
+talk_with context refused asked sent left =
+    record { context = context; refused = refused; asked = asked; sent = sent; left = left }
 
 memory_only : (r : Result (Unit {0}) Stop) → r ≡ Err Memory → r ≡ Err Printing → ⊥
 memory_only r is e = cc
 
 -- a client before its first ask
-pub talk_starts : (context : ℕ) (refused : Bool) (sent left start : Option (List ℕ)) → context ≡ 0 → refused ≡ false
-    → start ≡ left → talk_with context refused sent start ≡ talk_on sent left
-talk_starts context refused sent left start none good same = rw (none, good, same) refl
+pub talk_starts : (context : ℕ) (refused : Bool) (asked : ℕ) (sent left start : Option (List ℕ)) → context ≡ 0
+    → refused ≡ false → asked ≡ 0 → start ≡ left → talk_with context refused asked sent start ≡ talk_on sent left
+talk_starts context refused asked sent left start none good unasked same = rw (none, good, unasked, same) refl
 
 -- lines that were run, from the first ask on, and what ended them
 pub ends_remote : (input sent left c w v : Option (List ℕ)) (p q : List ℕ) (start last : Talk)

@@ -14,25 +14,25 @@ use Rattle.krs_commands.specs.declared.command.Command.TheVariants.{Context, Mom
 use Rattle.krs_words.specs.declared.stop.Stop.{Stop}
 use Rattle.krs_words.specs.declared.stop.Stop.TheVariants.{Usage, Memory, Reading, TooLong, Printing, Connection}
 use Rattle.krs_remote.specs.Talking.{GivesUp}
-use Rattle.krs_remote.specs.Remote.{Talk, Breaks, BreaksCall, StopsList, GivesUpAsk, noted_context}
+use Rattle.krs_remote.specs.Remote.{Talk, next_tag, ask_of, Breaks, BreaksCall, StopsList, GivesUpAsk, noted_context}
 use Rattle.krs_remote.specs.Call.{StopsCall}
 
 -- the causes for which a command breaks off
 abbrev pub IsCause : Stop → Type 0
 IsCause stop = (stop ≡ Usage) ⊎ ((stop ≡ Memory) ⊎ (stop ≡ Connection))
 
-gives_up_by : (sent0 left0 : Option (List ℕ)) (ask : AskIs) (sent1 left1 : Option (List ℕ)) (stop : Stop)
-    → GivesUp sent0 left0 ask sent1 left1 stop → IsCause stop
-gives_up_by a b ask c d Usage g = inl refl
-gives_up_by a b ask c d Memory g = inr (inl refl)
-gives_up_by a b ask c d Connection g = inr (inr refl)
-gives_up_by a b ask c d Reading g = absurd g
-gives_up_by a b ask c d TooLong g = absurd g
-gives_up_by a b ask c d Printing g = absurd g
+gives_up_by : (sent0 left0 : Option (List ℕ)) (tag : ℕ) (ask : AskIs) (sent1 left1 : Option (List ℕ)) (stop : Stop)
+    → GivesUp sent0 left0 tag ask sent1 left1 stop → IsCause stop
+gives_up_by a b tag ask c d Usage g = inl refl
+gives_up_by a b tag ask c d Memory g = inr (inl refl)
+gives_up_by a b tag ask c d Connection g = inr (inr refl)
+gives_up_by a b tag ask c d Reading g = absurd g
+gives_up_by a b tag ask c d TooLong g = absurd g
+gives_up_by a b tag ask c d Printing g = absurd g
 
 ask_gives_up_by : (old new : Talk) (asked : Op) (stop : Stop) → GivesUpAsk old asked stop new → IsCause stop
 ask_gives_up_by old new asked stop g =
-    gives_up_by old.sent old.left (record { context = old.context; op = asked }) new.sent new.left stop g.gave_up
+    gives_up_by old.sent old.left (next_tag old) (ask_of old asked) new.sent new.left stop g.gave_up
 
 list_stops_by : (old new : Talk) (id : ℤ) (reply : Result Answer Errno) (stop : Stop)
     → StopsList old id reply stop new → IsCause stop

@@ -50,7 +50,7 @@ CallEnds old caller command output0 output1 new status =
     (line : List ℕ) × (stopped : Result (Unit {0}) Stop) × Called old caller command line stopped new
     × Says output0 output1 (line ++ last_line stopped) (status_of stopped new.refused) status
 
--- a whole call: what was sent, what was printed, and the status
+-- a whole call, the tags of whose asks are 1, 2 and so on: what was sent, what was printed, and the status
 abbrev pub EndsCall : Caller → Command → Option (List ℕ) → Option (List ℕ) → Option (List ℕ) → Option (List ℕ)
     → Option (List ℕ) → ℕ → Type 0
 EndsCall caller command output0 output1 sent0 sent1 left status =

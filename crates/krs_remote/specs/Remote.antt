@@ -1,9 +1,10 @@
 -- What commands do over a connection: docs/FORMAT.md, "Commands", "Scripts over a socket" and "Single calls".
-use Rattle.std.specs.Prelude.{ℕ, ℤ, ◌≡◌, ◌⊎◌, ◌||◌, Bool, true, false, List, Option, Result, Ok, Err}
+use Rattle.std.specs.Prelude.{ℕ, ℤ, ◌≡◌, ◌+◌, ◌⊎◌, ◌||◌, Bool, true, false, List, Option, Result, Ok, Err}
 use Rattle.std.specs.Result.{is_err}
 use Rattle.std.specs.Io.Buffered.{reader_remaining}
 use Rattle.krs_types.specs.declared.errno.Errno.{Errno}
 use Rattle.krs_types.specs.declared.caller.Caller.{Caller}
+use Rattle.krs_types.specs.declared.ask.Ask.{Ask as AskIs}
 use Rattle.krs_types.specs.declared.ask.Op.{Op}
 use Rattle.krs_types.specs.declared.ask.Op.TheVariants as op
 use Rattle.krs_types.specs.declared.ask.Answer.{Answer}
@@ -20,11 +21,12 @@ use Rattle.krs_script.specs.Running.{Ends}
 use Rattle.krs_remote.specs.declared.remote.Remote.{Remote}
 use Rattle.krs_remote.specs.Talking.{Exchanges, GivesUp}
 
--- a client over a connection between two commands: the current context, whether an ask was refused, what was sent, and
--- what is still to be read; of an end that does not tell its bytes nothing is known
+-- a client over a connection between two commands: the current context, whether an ask was refused, how many asks were
+-- made, what was sent, and what is still to be read; of an end that does not tell its bytes nothing is known
 pub record Talk : Type 0 where
   pub context : ℕ
   pub refused : Bool
+  pub asked : ℕ
   pub sent : Option (List ℕ)
   pub left : Option (List ℕ)
 
@@ -32,9 +34,18 @@ abbrev pub talk_of : {F : Type 0} → (F → Option (List ℕ)) → Remote F →
 talk_of remaining remote sent = record {
   context = remote.context;
   refused = remote.refused;
+  asked = remote.asked;
   sent = sent;
   left = reader_remaining remaining remote.from;
 }
+
+-- the tag of the next ask: 1, 2, 3 and so on over a connection
+abbrev pub next_tag : Talk → ℕ
+next_tag talk = talk.asked + 1
+
+-- the ask for this, in the current context
+abbrev pub ask_of : Talk → Op → AskIs
+ask_of talk asked = record { context = talk.context; op = asked }
 
 -- the current context after a reply: the one that an accepted `hello` gave, else as before
 abbrev pub noted_context : ℕ → Bool → Result Answer Errno → ℕ
@@ -44,21 +55,24 @@ noted_context context true (Ok Nothing) = context
 noted_context context true (Ok (Bytes bytes)) = context
 noted_context context true (Err e) = context
 
--- an ask in the current context, and its reply, which is not shown: the ends are all that it changes
+-- an ask in the current context, with the next tag, and its reply, which is not shown: nothing else changes
 pub record AsksUnseen (old : Talk) (asked : Op) (reply : Result Answer Errno) (new : Talk) : Type 0 where
-  pub exchanged : Exchanges old.sent old.left (record { context = old.context; op = asked }) new.sent new.left reply
+  pub exchanged : Exchanges old.sent old.left (next_tag old) (ask_of old asked) new.sent new.left reply
+  pub counted : new.asked ≡ next_tag old
   pub context : new.context ≡ old.context
   pub refused : new.refused ≡ old.refused
 
 -- an ask whose reply is shown: an accepted `hello` names the current context; a refusal is remembered
 pub record AsksOver (old : Talk) (asked : Op) (reply : Result Answer Errno) (new : Talk) : Type 0 where
-  pub exchanged : Exchanges old.sent old.left (record { context = old.context; op = asked }) new.sent new.left reply
+  pub exchanged : Exchanges old.sent old.left (next_tag old) (ask_of old asked) new.sent new.left reply
+  pub counted : new.asked ≡ next_tag old
   pub context : new.context ≡ context_after old.context asked reply
   pub refused : new.refused ≡ (old.refused || is_err reply)
 
 -- an ask that has no reply
 pub record GivesUpAsk (old : Talk) (asked : Op) (stop : Stop) (new : Talk) : Type 0 where
-  pub gave_up : GivesUp old.sent old.left (record { context = old.context; op = asked }) new.sent new.left stop
+  pub gave_up : GivesUp old.sent old.left (next_tag old) (ask_of old asked) new.sent new.left stop
+  pub counted : new.asked ≡ next_tag old
   pub context : new.context ≡ old.context
   pub refused : new.refused ≡ old.refused
 
@@ -134,10 +148,11 @@ BreaksCall old caller command stop new =
 
 -- a connection before the first ask
 abbrev pub talk_on : Option (List ℕ) → Option (List ℕ) → Talk
-talk_on sent left = record { context = 0; refused = false; sent = sent; left = left }
+talk_on sent left = record { context = 0; refused = false; asked = 0; sent = sent; left = left }
 
--- A script over a connection: what was sent are the frames of its lines' asks, one after the other, each behind the
--- reply to the one before; what was printed are its lines for those replies.
+-- A script over a connection: what was sent are the frames of its lines' asks, with the tags 1, 2, 3 and so on, one
+-- after the other, each behind the reply to the one before; what was read are the frames of those replies, with the
+-- same tags; what was printed are its lines for them.
 abbrev pub EndsRemote : Option (List ℕ) → Option (List ℕ) → Option (List ℕ) → Option (List ℕ) → Option (List ℕ)
     → Option (List ℕ) → ℕ → Type 0
 EndsRemote input old new sent0 sent1 left status =

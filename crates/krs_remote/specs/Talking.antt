@@ -1,5 +1,6 @@
--- What goes over a connection: docs/FORMAT.md, "Frames".
-use Rattle.std.specs.Prelude.{ℕ, ◌≡◌, ◌<◌, List, length, Option, Result}
+-- What goes over a connection: docs/FORMAT.md, "Frames" and "Scripts over a socket". Frames are of version 2: each ask
+-- has a tag, and only a reply with that tag is one to it.
+use Rattle.std.specs.Prelude.{ℕ, ◌≡◌, ◌<◌, List, length, Option, Some, Result}
 use Rattle.std.specs.Io.KnownBytes.{Appends, Consumes}
 use Rattle.krs_types.specs.declared.errno.Errno.{Errno}
 use Rattle.krs_types.specs.declared.ask.Answer.{Answer}
@@ -18,37 +19,38 @@ abbrev pub cause_of : WireFault → Stop
 cause_of wire.Memory = Memory
 cause_of _ = Connection
 
--- these bytes are the frame of this reply, which is an error or an answer of the kind
-abbrev pub IsReply : Shape → List ℕ → Result Answer Errno → Type 0
-IsReply shape bytes reply = (bytes ≡ reply_frame reply) × HasShape shape reply
+-- these bytes are the frame of this reply with this tag, and it is an error or an answer of the kind
+abbrev pub IsReply : Shape → (tag : ℕ) → List ℕ → Result Answer Errno → Type 0
+IsReply shape tag bytes reply = (bytes ≡ reply_frame (Some tag) reply) × HasShape shape reply
 
--- of what could be read just the frame of this reply was
-abbrev pub GivesReply : Option (List ℕ) → Option (List ℕ) → Shape → Result Answer Errno → Type 0
-GivesReply left0 left1 shape reply = Consumes left0 left1 (reply_frame reply) × HasShape shape reply
+-- of what could be read just the frame of this reply was, and it has this tag
+abbrev pub GivesReply : Option (List ℕ) → Option (List ℕ) → Shape → (tag : ℕ) → Result Answer Errno → Type 0
+GivesReply left0 left1 shape tag reply = Consumes left0 left1 (reply_frame (Some tag) reply) × HasShape shape reply
 
--- just the frame of the ask was sent, and just the frame of this reply was read
-abbrev pub Exchanges : Option (List ℕ) → Option (List ℕ) → Ask → Option (List ℕ) → Option (List ℕ)
+-- just the frame of the ask with this tag was sent, and just the frame of this reply to it was read
+abbrev pub Exchanges : Option (List ℕ) → Option (List ℕ) → (tag : ℕ) → Ask → Option (List ℕ) → Option (List ℕ)
     → Result Answer Errno → Type 0
-Exchanges sent0 left0 ask sent1 left1 reply =
-    Appends sent0 sent1 (ask_frame ask) × GivesReply left0 left1 (shape_of ask.op) reply
+Exchanges sent0 left0 tag ask sent1 left1 reply =
+    Appends sent0 sent1 (ask_frame (Some tag) ask) × GivesReply left0 left1 (shape_of ask.op) tag reply
 
 -- Why an ask was not sent: no frame is long enough for it, or memory was wanting, and nothing was sent; or writing
 -- failed, and a beginning of its frame was sent.
-abbrev pub NotSent : Option (List ℕ) → Ask → Option (List ℕ) → Stop → Type 0
-NotSent sent0 ask sent1 Usage = (65536 < length (ask_text ask)) × (sent1 ≡ sent0)
-NotSent sent0 ask sent1 Memory = sent1 ≡ sent0
-NotSent sent0 ask sent1 Connection = WritesFront sent0 sent1 (ask_frame ask)
-NotSent sent0 ask sent1 Reading = ⊥
-NotSent sent0 ask sent1 TooLong = ⊥
-NotSent sent0 ask sent1 Printing = ⊥
+abbrev pub NotSent : Option (List ℕ) → (tag : ℕ) → Ask → Option (List ℕ) → Stop → Type 0
+NotSent sent0 tag ask sent1 Usage = (65536 < length (ask_text (Some tag) ask)) × (sent1 ≡ sent0)
+NotSent sent0 tag ask sent1 Memory = sent1 ≡ sent0
+NotSent sent0 tag ask sent1 Connection = WritesFront sent0 sent1 (ask_frame (Some tag) ask)
+NotSent sent0 tag ask sent1 Reading = ⊥
+NotSent sent0 tag ask sent1 TooLong = ⊥
+NotSent sent0 tag ask sent1 Printing = ⊥
 
--- Why there is no reply: no frame is long enough for the ask, and nothing was sent or read; or memory was wanting or
--- the connection failed, and a beginning of its frame was sent, and nothing else.
-abbrev pub GivesUp : Option (List ℕ) → Option (List ℕ) → Ask → Option (List ℕ) → Option (List ℕ) → Stop → Type 0
-GivesUp sent0 left0 ask sent1 left1 Usage =
-    (65536 < length (ask_text ask)) × (sent1 ≡ sent0) × (left1 ≡ left0)
-GivesUp sent0 left0 ask sent1 left1 Memory = WritesFront sent0 sent1 (ask_frame ask)
-GivesUp sent0 left0 ask sent1 left1 Connection = WritesFront sent0 sent1 (ask_frame ask)
-GivesUp sent0 left0 ask sent1 left1 Reading = ⊥
-GivesUp sent0 left0 ask sent1 left1 TooLong = ⊥
-GivesUp sent0 left0 ask sent1 left1 Printing = ⊥
+-- Why there is no reply: no frame is long enough for the ask, and nothing was sent or read; or memory was wanting, or
+-- the connection failed or gave no reply with this tag, and a beginning of the ask's frame was sent, and nothing else.
+abbrev pub GivesUp : Option (List ℕ) → Option (List ℕ) → (tag : ℕ) → Ask → Option (List ℕ) → Option (List ℕ) → Stop
+    → Type 0
+GivesUp sent0 left0 tag ask sent1 left1 Usage =
+    (65536 < length (ask_text (Some tag) ask)) × (sent1 ≡ sent0) × (left1 ≡ left0)
+GivesUp sent0 left0 tag ask sent1 left1 Memory = WritesFront sent0 sent1 (ask_frame (Some tag) ask)
+GivesUp sent0 left0 tag ask sent1 left1 Connection = WritesFront sent0 sent1 (ask_frame (Some tag) ask)
+GivesUp sent0 left0 tag ask sent1 left1 Reading = ⊥
+GivesUp sent0 left0 tag ask sent1 left1 TooLong = ⊥
+GivesUp sent0 left0 tag ask sent1 left1 Printing = ⊥

@@ -1,6 +1,6 @@
-//! One ask over a connection, and its reply.
+//! One ask over a connection, and its reply, in frames of version 2.
 
-ghost use Rattle.std.specs.Prelude.{◌≡◌, ◌⊎◌, ◌<◌, ◌++◌, length, vec_len, OnOk, IfOk, IfErr};
+ghost use Rattle.std.specs.Prelude.{◌≡◌, ◌⊎◌, ◌<◌, ◌++◌, length, vec_len, Some, OnOk, IfOk, IfErr};
 ghost use Rattle.std.specs.Int.{w32, from_le_bytes};
 ghost use Rattle.std.specs.Io.Buffered.{reader_remaining};
 ghost use Rattle.std.specs.Io.KnownBytes.{Appends, Consumes};
@@ -9,35 +9,36 @@ ghost use Rattle.krs_wire.specs.Reply.{reply_frame, shape_of, HasShape};
 ghost use Rattle.krs_remote.specs.Talking.{Exchanges, GivesReply, GivesUp, IsReply, NotSent, cause_of};
 
 use krs_types::{Ask, Op, Reply};
-use krs_wire::{WireFault, decode_reply, encode_ask};
+use krs_wire::{WireFault, decode_reply2, encode_ask2};
 use krs_words::{Stop, write_text};
 use std::alloc::Global;
 use std::io::{BufReader, Read, Write};
 
-/// Sends an ask, and waits for its reply.
+/// Sends an ask with this tag, and waits for its reply.
 pub fn ask_and_reply<F: Read, T: Write>(
     alloc: Global,
     from: &mut BufReader<F>,
     to: &mut T,
     ask: &Ask,
+    tag: u64,
 ) -> Result<Reply, Stop>
     ensures ok { IfOk result (Exchanges (T.contents to.old)
-        (reader_remaining F.remaining from.old) ask.now (T.contents to.new)
+        (reader_remaining F.remaining from.old) tag ask.now (T.contents to.new)
         (reader_remaining F.remaining from.new)) }
     ensures err { IfErr result (GivesUp (T.contents to.old)
-        (reader_remaining F.remaining from.old) ask.now (T.contents to.new)
+        (reader_remaining F.remaining from.old) tag ask.now (T.contents to.new)
         (reader_remaining F.remaining from.new)) }
 {
-    send(alloc, to, ask)?;
-    receive(alloc, from, &ask.op)
+    send(alloc, to, ask, tag)?;
+    receive(alloc, from, &ask.op, tag)
 }
 
 /// Sends an ask. It is usage where no frame is long enough for it.
-pub fn send<T: Write>(alloc: Global, to: &mut T, ask: &Ask) -> Result<(), Stop>
-    ensures ok { OnOk result (Appends (T.contents to.old) (T.contents to.new) (ask_frame ask.now)) }
-    ensures err { IfErr result (NotSent (T.contents to.old) ask.now (T.contents to.new)) }
+pub fn send<T: Write>(alloc: Global, to: &mut T, ask: &Ask, tag: u64) -> Result<(), Stop>
+    ensures ok { OnOk result (Appends (T.contents to.old) (T.contents to.new) (ask_frame (Some tag) ask.now)) }
+    ensures err { IfErr result (NotSent (T.contents to.old) tag ask.now (T.contents to.new)) }
 {
-    let frame = frame_of(alloc, ask)?;
+    let frame = frame_of(alloc, ask, tag)?;
     match write_text(to, frame.as_slice()) {
         Ok(()) => Ok(()),
         Err(_) => Err(Stop::Connection),
@@ -45,22 +46,28 @@ pub fn send<T: Write>(alloc: Global, to: &mut T, ask: &Ask) -> Result<(), Stop>
 }
 
 /// The frame of an ask.
-fn frame_of(alloc: Global, ask: &Ask) -> Result<Vec<u8>, Stop>
-    ensures frame { IfOk result (λ v. v.items ≡ ask_frame ask.now) }
+fn frame_of(alloc: Global, ask: &Ask, tag: u64) -> Result<Vec<u8>, Stop>
+    ensures frame { IfOk result (λ v. v.items ≡ ask_frame (Some tag) ask.now) }
     ensures causes { IfErr result (λ stop. (stop ≡ Stop.Memory)
-        ⊎ ((stop ≡ Stop.Usage) × (65536 < length (ask_text ask.now)))) }
+        ⊎ ((stop ≡ Stop.Usage) × (65536 < length (ask_text (Some tag) ask.now)))) }
 {
-    match encode_ask(alloc, ask) {
+    match encode_ask2(alloc, ask, tag) {
         Ok(frame) => Ok(frame),
         Err(WireFault::Memory) => Err(Stop::Memory),
         Err(_) => Err(Stop::Usage),
     }
 }
 
-/// Reads the reply to an ask of this operation, and nothing behind it.
-pub fn receive<F: Read>(alloc: Global, from: &mut BufReader<F>, op: &Op) -> Result<Reply, Stop>
+/// Reads the reply to an ask of this operation with this tag, and nothing behind it. A reply with another tag ends the
+/// connection.
+pub fn receive<F: Read>(
+    alloc: Global,
+    from: &mut BufReader<F>,
+    op: &Op,
+    tag: u64,
+) -> Result<Reply, Stop>
     ensures ok { IfOk result (GivesReply (reader_remaining F.remaining from.old)
-        (reader_remaining F.remaining from.new) (shape_of op.now)) }
+        (reader_remaining F.remaining from.new) (shape_of op.now) tag) }
     ensures causes { IfErr result (λ stop. (stop ≡ Stop.Memory) ⊎ (stop ≡ Stop.Connection)) }
 {
     let mut head = [0; 4];
@@ -69,7 +76,7 @@ pub fn receive<F: Read>(alloc: Global, from: &mut BufReader<F>, op: &Op) -> Resu
     fill(from, body.as_mut_slice())?;
     let mut frame = Vec::from_slice(alloc, &head)?;
     frame.extend_from_slice(body.as_slice())?;
-    whole_reply(alloc, op, frame.as_slice())
+    whole_reply(alloc, op, tag, frame.as_slice())
 }
 
 /// Reads as many bytes as there is room for.
@@ -89,7 +96,7 @@ fn announced(alloc: Global, op: &Op, head: &[u8; 4]) -> Result<Vec<u8>, Stop>
     ensures room { IfOk result (λ room. vec_len room ≡ from_le_bytes w32 head.now) }
     ensures causes { IfErr result (λ stop. (stop ≡ Stop.Memory) ⊎ (stop ≡ Stop.Connection)) }
 {
-    match decode_reply(alloc, op, head) {
+    match decode_reply2(alloc, op, head) {
         Ok(_) => {
             let mut room = Vec::new(alloc);
             room.resize(u32::from_le_bytes(*head) as usize, 0)?;
@@ -99,13 +106,13 @@ fn announced(alloc: Global, op: &Op, head: &[u8; 4]) -> Result<Vec<u8>, Stop>
     }
 }
 
-/// The reply whose frame these bytes are.
-fn whole_reply(alloc: Global, op: &Op, frame: &[u8]) -> Result<Reply, Stop>
-    ensures ok { IfOk result (IsReply (shape_of op.now) frame.now) }
+/// The reply whose frame these bytes are, with this tag.
+fn whole_reply(alloc: Global, op: &Op, tag: u64, frame: &[u8]) -> Result<Reply, Stop>
+    ensures ok { IfOk result (IsReply (shape_of op.now) tag frame.now) }
     ensures causes { IfErr result (λ stop. (stop ≡ Stop.Memory) ⊎ (stop ≡ Stop.Connection)) }
 {
-    match decode_reply(alloc, op, frame) {
-        Ok(Some((reply, length))) if length == frame.len() => Ok(reply),
+    match decode_reply2(alloc, op, frame) {
+        Ok(Some((reply, found, length))) if found == tag && length == frame.len() => Ok(reply),
         Ok(_) => Err(Stop::Connection),
         Err(fault) => Err(stop_of(fault)),
     }

@@ -63,6 +63,7 @@ impl<F: Read> Remote<F> {
         command: Command,
         writer: &mut W,
     ) -> u8
+        requires { self.old.asked ≡ 0 }
         ensures { CallEnds (talk_of F.remaining self.old (T.contents to.old)) caller command
             (W.contents writer.old) (W.contents writer.new)
             (talk_of F.remaining self.new (T.contents to.new)) result }
@@ -81,6 +82,7 @@ impl<F: Read> Remote<F> {
         caller: Caller,
         command: Command,
     ) -> Result<Vec<u8>, Stop>
+        requires { self.old.asked ≡ 0 }
         ensures ok { IfOk result (λ line. PrintsCall (talk_of F.remaining self.old (T.contents to.old))
             caller command line.items (talk_of F.remaining self.new (T.contents to.new))) }
         ensures err { IfErr result (λ stop. StopsCall (talk_of F.remaining self.old (T.contents to.old))

@@ -10,12 +10,14 @@ use krs_words::{Output, Stop};
 use std::alloc::Global;
 use std::io::{BufReader, Read, Write};
 
-/// A client over a connection, between two commands. The end that it writes to is passed with each command.
+/// A client over a connection, between two commands. The end that it writes to is passed with each command. How many
+/// asks were made is the tag of the last one.
 #[derive(Drop)]
 pub(crate) struct Remote<F> {
     pub from: BufReader<F>,
     pub context: u32,
     pub refused: bool,
+    pub asked: u64,
 }
 
 fn is_hello(op: &Op) -> bool
@@ -30,6 +32,7 @@ impl<F: Read + Drop> Remote<F> {
         ensures left { IfOk result (λ r. reader_remaining F.remaining r.from ≡ F.remaining from) }
         ensures context { IfOk result (λ r. r.context ≡ 0) }
         ensures refused { IfOk result (λ r. r.refused ≡ false) }
+        ensures asked { IfOk result (λ r. r.asked ≡ 0) }
         ensures memory { IfErr result (λ stop. stop ≡ Stop.Memory) }
     {
         match BufReader::with_capacity(alloc, READ_AHEAD, from) {
@@ -37,6 +40,7 @@ impl<F: Read + Drop> Remote<F> {
                 from,
                 context: 0,
                 refused: false,
+                asked: 0,
             }),
             Err(_) => Err(Stop::Memory),
         }
@@ -44,7 +48,7 @@ impl<F: Read + Drop> Remote<F> {
 }
 
 impl<F: Read> Remote<F> {
-    ghost use Rattle.std.specs.Prelude.{◌||◌};
+    ghost use Rattle.std.specs.Prelude.{◌||◌, ◌+◌, ◌<◌, ◌≤◌, ◌^◌};
     ghost use Rattle.std.specs.Result.{is_err};
     ghost use Rattle.krs_remote.specs.Remote.{Acts, AsksOver, AsksUnseen, Breaks, BreaksList, CallsFor, BreaksCall};
     ghost use Rattle.krs_remote.specs.Remote.{GivesUpAsk, Lists, ListsBy, StopsList, noted_context, talk_of};
@@ -56,10 +60,12 @@ impl<F: Read> Remote<F> {
         to: &mut T,
         command: Command,
     ) -> Result<Output, Stop>
+        requires { self.old.asked + 2 < 2 ^ 64 }
         ensures ok { IfOk result (λ output. Acts (talk_of F.remaining self.old (T.contents to.old))
             command output (talk_of F.remaining self.new (T.contents to.new))) }
         ensures err { IfErr result (λ stop. Breaks (talk_of F.remaining self.old (T.contents to.old))
             command stop (talk_of F.remaining self.new (T.contents to.new))) }
+        ensures few { self.new.asked ≤ self.old.asked + 2 }
     {
         match command {
             Command::Context(context) => {
@@ -76,10 +82,12 @@ impl<F: Read> Remote<F> {
     }
 
     fn rlist<T: Write>(&mut self, alloc: Global, to: &mut T, id: i32) -> Result<Output, Stop>
+        requires { self.old.asked + 2 < 2 ^ 64 }
         ensures ok { IfOk result (λ output. Lists (talk_of F.remaining self.old (T.contents to.old))
             id output (talk_of F.remaining self.new (T.contents to.new))) }
         ensures err { IfErr result (λ stop. BreaksList (talk_of F.remaining self.old (T.contents to.old))
             id stop (talk_of F.remaining self.new (T.contents to.new))) }
+        ensures few { self.new.asked ≤ self.old.asked + 2 }
     {
         let reply = self.ask(alloc, to, Op::Read { id })?;
         self.list(alloc, to, id, reply)
@@ -94,10 +102,12 @@ impl<F: Read> Remote<F> {
         id: i32,
         reply: Reply,
     ) -> Result<Output, Stop>
+        requires { self.old.asked + 1 < 2 ^ 64 }
         ensures ok { IfOk result (λ output. ListsBy (talk_of F.remaining self.old (T.contents to.old))
             id reply output (talk_of F.remaining self.new (T.contents to.new))) }
         ensures err { IfErr result (λ stop. StopsList (talk_of F.remaining self.old (T.contents to.old))
             id reply stop (talk_of F.remaining self.new (T.contents to.new))) }
+        ensures few { self.new.asked ≤ self.old.asked + 1 }
     {
         match reply {
             Ok(Answer::Bytes(bytes)) => {
@@ -117,6 +127,7 @@ impl<F: Read> Remote<F> {
         caller: Caller,
         command: Command,
     ) -> Result<Output, Stop>
+        requires { self.old.asked + 3 < 2 ^ 64 }
         ensures ok { IfOk result (λ output. CallsFor (talk_of F.remaining self.old (T.contents to.old))
             caller command output (talk_of F.remaining self.new (T.contents to.new))) }
         ensures err { IfErr result (λ stop. BreaksCall (talk_of F.remaining self.old (T.contents to.old))
@@ -129,11 +140,14 @@ impl<F: Read> Remote<F> {
         }
     }
 
+    /// An ask in the current context, and its reply.
     fn ask<T: Write>(&mut self, alloc: Global, to: &mut T, op: Op) -> Result<Reply, Stop>
+        requires { self.old.asked + 1 < 2 ^ 64 }
         ensures ok { IfOk result (λ reply. AsksOver (talk_of F.remaining self.old (T.contents to.old))
             op reply (talk_of F.remaining self.new (T.contents to.new))) }
         ensures err { IfErr result (λ stop. GivesUpAsk (talk_of F.remaining self.old (T.contents to.old))
             op stop (talk_of F.remaining self.new (T.contents to.new))) }
+        ensures asked { self.new.asked ≡ self.old.asked + 1 }
     {
         let names_context = is_hello(&op);
         let reply = self.exchange(alloc, to, op)?;
@@ -146,6 +160,7 @@ impl<F: Read> Remote<F> {
         ensures context { self.new.context ≡ noted_context self.old.context names_context reply.now }
         ensures refused { self.new.refused ≡ (self.old.refused || is_err reply.now) }
         ensures stays { self.new.from ≡ self.old.from }
+        ensures asked { self.new.asked ≡ self.old.asked }
     {
         if let (true, Ok(Answer::Number(context))) = (names_context, reply) {
             self.context = *context;
@@ -153,16 +168,21 @@ impl<F: Read> Remote<F> {
         self.refused |= reply.is_err();
     }
 
+    /// The same, unseen: nothing is kept of the reply. The tags of a connection's asks are 1, 2, 3 and so on.
     fn exchange<T: Write>(&mut self, alloc: Global, to: &mut T, op: Op) -> Result<Reply, Stop>
+        requires { self.old.asked + 1 < 2 ^ 64 }
         ensures ok { IfOk result (λ reply. AsksUnseen (talk_of F.remaining self.old (T.contents to.old))
             op reply (talk_of F.remaining self.new (T.contents to.new))) }
         ensures err { IfErr result (λ stop. GivesUpAsk (talk_of F.remaining self.old (T.contents to.old))
             op stop (talk_of F.remaining self.new (T.contents to.new))) }
+        ensures asked { self.new.asked ≡ self.old.asked + 1 }
     {
         let ask = Ask {
             context: self.context,
             op,
         };
-        ask_and_reply(alloc, &mut self.from, to, &ask)
+        let tag = self.asked + 1;
+        self.asked = tag;
+        ask_and_reply(alloc, &mut self.from, to, &ask, tag)
     }
 }

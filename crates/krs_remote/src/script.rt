@@ -53,6 +53,7 @@ pub fn run_remote_at<R: Read + Drop, W: Write, F: Read + Drop, T: Write>(
 }
 
 impl<F: Read> Remote<F> {
+    ghost use Rattle.std.specs.Prelude.{◌+◌, ◌<◌, ◌≤◌, ◌^◌};
     ghost use Rattle.std.specs.Io.Buffered.{reader_remaining};
     ghost use Rattle.krs_script.specs.Running.{ObeysLine, Runs};
     ghost use Rattle.krs_remote.specs.Remote.{Acts, Breaks, talk_of};
@@ -66,6 +67,7 @@ impl<F: Read> Remote<F> {
         to: &mut T,
         place: &mut Place,
     ) -> Result<(), Stop>
+        requires { self.old.asked ≡ 0 }
         ensures { Runs Acts Breaks (R.remaining reader)
             (talk_of F.remaining self.old (T.contents to.old))
             (talk_of F.remaining self.new (T.contents to.new)) (W.contents writer.old)
@@ -86,6 +88,7 @@ impl<F: Read> Remote<F> {
         to: &mut T,
         place: &mut Place,
     ) -> Result<(), Stop>
+        requires { self.old.asked ≡ 0 }
         ensures { Runs Acts Breaks (reader_remaining R.remaining reader.old)
             (talk_of F.remaining self.old (T.contents to.old))
             (talk_of F.remaining self.new (T.contents to.new)) (W.contents writer.old)
@@ -109,9 +112,11 @@ impl<F: Read> Remote<F> {
         pending: &mut Vec<u8>,
         to: &mut T,
     ) -> Result<(), Stop>
-        ensures { ObeysLine Acts Breaks (talk_of F.remaining self.old (T.contents to.old)) line.now
+        requires { self.old.asked + 2 < 2 ^ 64 }
+        ensures obeyed { ObeysLine Acts Breaks (talk_of F.remaining self.old (T.contents to.old)) line.now
             (talk_of F.remaining self.new (T.contents to.new)) (W.contents writer.old)
             pending.old.items (W.contents writer.new) pending.new.items result }
+        ensures few { self.new.asked ≤ self.old.asked + 2 }
     {
         if is_comment(line) {
             return Ok(());

@@ -5,7 +5,8 @@ use Rattle.krs_remote.proofs.call.run_call.Goals as goal
 pub returns-in-Ok : goal.returns-in-Ok
 returns-in-Ok g c = (
   _,
-  rw (talk_starts _ _ (g.T.Write.contents c.args.to.now) (g.F.Read.remaining c.args.from) _ c.in-Ok.ensures.context c.in-Ok.ensures.refused c.in-Ok.ensures.left) at
+  rw (talk_starts _ _ _ (g.T.Write.contents c.args.to.now) (g.F.Read.remaining c.args.from) _
+      c.in-Ok.ensures.context c.in-Ok.ensures.refused c.in-Ok.ensures.asked c.in-Ok.ensures.left) at
       c.call_once.ensures,
   refl,
 )

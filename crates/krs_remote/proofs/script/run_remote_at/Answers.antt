@@ -5,7 +5,8 @@ use Rattle.krs_remote.proofs.script.run_remote_at.Goals as goal
 pub returns-in-Ok-clause-ends : goal.returns-in-Ok-clause-ends
 returns-in-Ok-clause-ends g c =
     ends_remote _ _ _ _ _ _ _ _ _ _ _ _
-    (talk_starts _ _ (g.T.Write.contents c.args.to.now) (g.F.Read.remaining c.args.from) _ c.in-Ok.ensures.context c.in-Ok.ensures.refused c.in-Ok.ensures.left)
+    (talk_starts _ _ _ (g.T.Write.contents c.args.to.now) (g.F.Read.remaining c.args.from) _
+    c.in-Ok.ensures.context c.in-Ok.ensures.refused c.in-Ok.ensures.asked c.in-Ok.ensures.left)
     c.new-pending.ensures.items c.run-stopped.ensures c.finish-status.ensures.says
     (λ is. ap g.W.Write.contents (c.finish-status.ensures.failed is))
 

@@ -5,6 +5,7 @@ use Rattle.krs_remote.proofs.remote.Remote.ask.Goals as goal
 pub returns-clause-ok : goal.returns-clause-ok
 returns-clause-ok g c = record {
   exchanged = rw c.note.ensures.stays c.in_ok-reply.ensures.ok.exchanged;
+  counted = rw (c.note.ensures.asked, c.in_ok-reply.ensures.ok.counted) refl;
   context =
       rw (c.note.ensures.context, c.is_hello-names_context.ensures, c.in_ok-reply.ensures.ok.context)
       (noted_context-after c.args.self.now.context c.args.op c.in_ok-reply.reply);

@@ -6,26 +6,26 @@ use Rattle.krs_remote.specs.Remote.{Acts, Breaks}
 use Rattle.krs_remote.proofs.remote.Remote.run_lines.Goals as goal
 
 pub loop-init : goal.loop-init
-loop-init g c = going_start Acts _ _ _ _
+loop-init g c = (going_start Acts _ _ _ _, omega (arith, c.requires))
 
 pub returns-in_err-write_before_waiting : goal.returns-in_err-write_before_waiting
 returns-in_err-write_before_waiting g c =
     let p = err_from_is_err_and c.from_residual.result c.from_residual.ensures.1 in
     rw (p.1, p.2, c.in_err-write_before_waiting.ensures.causes) (runs_unwritten Acts Breaks _ _ _ _ _ _ _ _ _ _ _
-    c.loop-test.true c.loop.invariant c.in_err-write_before_waiting.ensures.failed)
+    c.loop-test.true c.loop.invariant.0 c.in_err-write_before_waiting.ensures.failed)
 
 pub returns-in_err-read_next : goal.returns-in_err-read_next
 returns-in_err-read_next g c =
     let p = err_from_is_err_and c.from_residual-in_err-read_next.result c.from_residual-in_err-read_next.ensures.1 in
     let going = going_same Acts Breaks _ _ _ _ _ _ _ _ _ _ _
-    c.loop.invariant c.in_ok-write_before_waiting.ensures.ok in
+    c.loop.invariant.0 c.in_ok-write_before_waiting.ensures.ok in
     rw (p.1, p.2) (runs_unread Acts Breaks _ _ _ _ _ _ _ _ _ _
     c.in_err-read_next.ensures.causes c.loop-test.true going)
 
 pub returns-then-not-branch : goal.returns-then-not-branch
 returns-then-not-branch g c =
     let going = going_same Acts Breaks _ _ _ _ _ _ _ _ _ _ _
-    c.loop.invariant c.in_ok-write_before_waiting.ensures.ok in
+    c.loop.invariant.0 c.in_ok-write_before_waiting.ensures.ok in
     runs_to_end Acts Breaks _ _ _ _ _ _ _ _ _ c.loop-test.true going (c.in_ok-read_next.ensures.end
     (ap Ok c.if-not-branch.true))
 
@@ -33,19 +33,23 @@ pub returns-in_err-obey : goal.returns-in_err-obey
 returns-in_err-obey g c =
     let p = err_from_is_err_and c.from_residual-in_err-obey.result c.from_residual-in_err-obey.ensures.1 in
     let going = going_same Acts Breaks _ _ _ _ _ _ _ _ _ _ _
-    c.loop.invariant c.in_ok-write_before_waiting.ensures.ok in
+    c.loop.invariant.0 c.in_ok-write_before_waiting.ensures.ok in
     let reads = rw (← c.as_slice.ensures.value) at (c.in_ok-read_next.ensures.found (ap Ok c.if-not-branch.false)) in
     rw (p.1, p.2) (runs_at_line Acts Breaks _ _ _ _ _ _ _ _ _ _ _ _ _ _ _ c.loop-test.true going
-    reads c.in_err-obey.ensures)
+    reads c.in_err-obey.ensures.obeyed)
 
 pub loop-preserved : goal.loop-preserved
 loop-preserved g c =
     let going = going_same Acts Breaks _ _ _ _ _ _ _ _ _ _ _
-    c.loop.invariant c.in_ok-write_before_waiting.ensures.ok in
+    c.loop.invariant.0 c.in_ok-write_before_waiting.ensures.ok in
     let reads = rw (← c.as_slice.ensures.value) at (c.in_ok-read_next.ensures.found (ap Ok c.if-not-branch.false)) in
-    going_more Acts Breaks _ _ _ _ _ _ _ _ _ _ _ _ _ _ _ going reads c.in_ok-obey.ensures.1 c.in_ok-obey.ensures.2
+    (
+      going_more Acts Breaks _ _ _ _ _ _ _ _ _ _ _ _ _ _ _ going reads c.in_ok-obey.ensures.obeyed.1
+          c.in_ok-obey.ensures.obeyed.2,
+      omega (arith, c.in_ok-obey.ensures.few, c.loop.invariant.1),
+    )
 
 pub returns : goal.returns
 returns g c =
     runs_too_long Acts Breaks _ _ _ _ _ _ _ _ _
-    (omega (arith, c.loop-test.false, c.loop.auto.counter-end)) c.loop.invariant
+    (omega (arith, c.loop-test.false, c.loop.auto.counter-end)) c.loop.invariant.0

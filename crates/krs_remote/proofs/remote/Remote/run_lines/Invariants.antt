@@ -1,3 +1,4 @@
+use Rattle.std.specs.Prelude.{◌*◌, ◌≤◌}
 use Rattle.std.specs.Io.Buffered.{reader_remaining}
 use Rattle.krs_script.proofs.Going.{Going}
 use Rattle.krs_remote.specs.Remote.{Acts, talk_of}
@@ -11,3 +12,4 @@ invariant-loop g l =
     (talk_of g.F.Read.remaining l.self (g.T.Write.contents l.to))
     (g.W.Write.contents l.initial.writer) l.initial.pending.items
     (g.W.Write.contents l.writer) l.pending.items
+    × (l.self.asked ≤ 2 * l.counter)
