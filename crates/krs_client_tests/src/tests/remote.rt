@@ -12,27 +12,38 @@ use std::io::{ErrorKind, Write};
 use std::process::Abort;
 use std::test::Fail;
 
-/// Context 1 for 1000 1000, the key 5, its payload, and its description.
-const CONTEXT: &[u8] = b"\x08\0\0\0\0\0\0\0\x01\0\0\0";
+/// Context 1 for 1000 1000, the key 5, its payload, and its description, with the tags 1 to 4.
+const CONTEXT: &[u8] = b"\x10\0\0\0\0\0\0\0\x01\0\0\0\0\0\0\0\x01\0\0\0";
 
-const ADDED: &[u8] = b"\x08\0\0\0\0\0\0\0\x05\0\0\0";
+const ADDED: &[u8] = b"\x10\0\0\0\0\0\0\0\x02\0\0\0\0\0\0\0\x05\0\0\0";
 
-const PAYLOAD: &[u8] = b"\x06\0\0\0\0\0\0\0s3";
+const PAYLOAD: &[u8] = b"\x0e\0\0\0\0\0\0\0\x03\0\0\0\0\0\0\0s3";
 
-const DESCRIBED: &[u8] = b"\x21\0\0\0\0\0\0\0user;1000;1000;3f010000;alpha";
+const DESCRIBED: &[u8] = b"\x29\0\0\0\0\0\0\0\x04\0\0\0\0\0\0\0user;1000;1000;3f010000;alpha";
 
-const REFUSED: &[u8] = b"\x04\0\0\0\x16\0\0\0";
+/// The reply to an ask that wants no answer, with tag 1.
+const DONE: &[u8] = b"\x0c\0\0\0\0\0\0\0\x01\0\0\0\0\0\0\0";
 
-const NO_KEY: &[u8] = b"\x04\0\0\0\x7e\0\0\0";
+/// EINVAL with tag 1, and with tag 2 the payload and ENOKEY.
+const REFUSED: &[u8] = b"\x0c\0\0\0\x16\0\0\0\x01\0\0\0\0\0\0\0";
 
-const ASKS_CONTEXT: &[u8] = b"\x14\0\0\0\x01\0\0\x01\0\0\0\0\xe8\x03\0\0\xe8\x03\0\0\0\0\0\0";
+const SECOND_PAYLOAD: &[u8] = b"\x0e\0\0\0\0\0\0\0\x02\0\0\0\0\0\0\0s3";
 
+const NO_KEY: &[u8] = b"\x0c\0\0\0\x7e\0\0\0\x02\0\0\0\0\0\0\0";
+
+const ASKS_CONTEXT: &[u8] =
+    b"\x1c\0\0\0\x02\0\0\x01\0\0\0\0\x01\0\0\0\0\0\0\0\xe8\x03\0\0\xe8\x03\0\0\0\0\0\0";
+
+#[rattlefmt::skip]
 const ASKS_ADD: &[u8] =
-    b"\x1f\0\0\0\x01\0\x06\x01\x01\0\0\0\x04\0user\x05\0alpha\x02\0\0\0s3\xfc\xff\xff\xff";
+    b"\x27\0\0\0\x02\0\x06\x01\x01\0\0\0\x02\0\0\0\0\0\0\0\x04\0user\x05\0alpha\x02\0\0\0s3\xfc\xff\xff\xff";
 
-const ASKS_READ: &[u8] = b"\x0c\0\0\0\x01\0\x0b\0\x01\0\0\0\x05\0\0\0";
+const ASKS_READ: &[u8] = b"\x14\0\0\0\x02\0\x0b\0\x01\0\0\0\x03\0\0\0\0\0\0\0\x05\0\0\0";
 
-const ASKS_DESCRIBE: &[u8] = b"\x0c\0\0\0\x01\0\x06\0\x01\0\0\0\x05\0\0\0";
+const ASKS_DESCRIBE: &[u8] = b"\x14\0\0\0\x02\0\x06\0\x01\0\0\0\x04\0\0\0\0\0\0\0\x05\0\0\0";
+
+/// EXEC in context 1 with tag 7.
+const ASKS_EXEC: &[u8] = b"\x10\0\0\0\x02\0\x03\x01\x01\0\0\0\x07\0\0\0\0\0\0\0";
 
 const ALPHA: &str = "hello 1000 1000\nadd user alpha s3 @u\nprint 5\nrdescribe 5\n";
 
@@ -70,32 +81,71 @@ fn a_script(rt: HostRuntime) -> Result<(), Fail> {
     Ok(())
 }
 
+/// The seventh ask of a connection has tag 7.
+#[test]
+fn tags_are_counted(rt: HostRuntime) -> Result<(), Fail> {
+    let alloc = rt.alloc();
+    let mut replies = Vec::new(alloc);
+    for tag in 1..8u8 {
+        replies.extend_from_slice(&[12, 0, 0, 0, 0, 0, 0, 0, tag, 0, 0, 0, 0, 0, 0, 0])?;
+    }
+    let (mut output, mut asked) = (Vec::new(alloc), Vec::new(alloc));
+    let lines = b"context 1\nexec\nexec\nexec\nexec\nexec\nexec\nexec\n";
+    let status = ended(alloc, lines, &mut output, &replies, &mut asked);
+    assert_eq!(rt; output.as_slice(), b"ok\nok\nok\nok\nok\nok\nok\nok\n".as_slice());
+    assert_eq!(rt; status, 0);
+    assert_eq!(rt; asked.len(), 140);
+    assert!(rt; asked.ends_with(ASKS_EXEC));
+    Ok(())
+}
+
 /// A script, the bytes of the replies, what is printed, the status, and how many bytes are asked.
 #[rattlefmt::skip]
-const SCRIPTS: [(&str, &[u8], &str, u8, usize); 16] = [
+const SCRIPTS: [(&str, &[u8], &str, u8, usize); 27] = [
     // A reply cut short, and none at all.
-    ("leave\n", b"\x04\0\0\0\0\0\0", "error: connection\n", 3, 12),
-    ("leave\n", b"\x04\0\0", "error: connection\n", 3, 12),
-    ("leave\n", b"", "error: connection\n", 3, 12),
-    // A length of 3, one that is too long, a status that no reply has, and bodies that are none.
-    ("leave\n", b"\x03\0\0\0\0\0\0", "error: connection\n", 3, 12),
-    ("leave\n", b"\x01\0\x04\0\0\0\0\0", "error: connection\n", 3, 12),
-    ("leave\n", b"\x04\0\0\0\x07\0\0\0", "error: connection\n", 3, 12),
-    ("leave\n", b"\x05\0\0\0\0\0\0\0\0", "error: connection\n", 3, 12),
-    ("thread\n", b"\x04\0\0\0\0\0\0\0", "error: connection\n", 3, 12),
+    ("leave\n", b"\x0c\0\0\0\0\0\0\0\x01\0\0\0\0\0\0", "error: connection\n", 3, 20),
+    ("leave\n", b"\x0c\0\0", "error: connection\n", 3, 20),
+    ("leave\n", b"", "error: connection\n", 3, 20),
+    // A length of 11, one of 262153, a status that no reply has, and bodies that are none.
+    ("leave\n", b"\x0b\0\0\0\0\0\0\0\x01\0\0\0\0\0\0\0", "error: connection\n", 3, 20),
+    ("leave\n", b"\x09\0\x04\0\0\0\0\0\x01\0\0\0\0\0\0\0", "error: connection\n", 3, 20),
+    ("leave\n", b"\x0c\0\0\0\x07\0\0\0\x01\0\0\0\0\0\0\0", "error: connection\n", 3, 20),
+    ("leave\n", b"\x0d\0\0\0\0\0\0\0\x01\0\0\0\0\0\0\0\0", "error: connection\n", 3, 20),
+    ("leave\n", b"\x0d\0\0\0\x16\0\0\0\x01\0\0\0\0\0\0\0\0", "error: connection\n", 3, 20),
+    ("thread\n", b"\x0c\0\0\0\0\0\0\0\x01\0\0\0\0\0\0\0", "error: connection\n", 3, 20),
+    // Another tag: 2, 0, one that is 1 in its low half and one in its high half alone, and that of a refusal.
+    ("leave\n", b"\x0c\0\0\0\0\0\0\0\x02\0\0\0\0\0\0\0", "error: connection\n", 3, 20),
+    ("leave\n", b"\x0c\0\0\0\0\0\0\0\0\0\0\0\0\0\0\0", "error: connection\n", 3, 20),
+    ("leave\n", b"\x0c\0\0\0\0\0\0\0\x01\0\0\0\x01\0\0\0", "error: connection\n", 3, 20),
+    ("leave\n", b"\x0c\0\0\0\0\0\0\0\0\0\0\0\x01\0\0\0", "error: connection\n", 3, 20),
+    ("leave\n", b"\x0c\0\0\0\x16\0\0\0\x02\0\0\0\0\0\0\0", "error: connection\n", 3, 20),
+    // The tag of the ask before, of the second and of a hidden DESCRIBE.
+    ("leave\nleave\nleave\n", b"\x0c\0\0\0\0\0\0\0\x01\0\0\0\0\0\0\0\x0c\0\0\0\0\0\0\0\x01\0\0\0\0\0\0\0",
+        "ok\nerror: connection\n", 3, 40),
+    ("rlist 5\n", b"\x10\0\0\0\0\0\0\0\x01\0\0\0\0\0\0\0abcd\x11\0\0\0\0\0\0\0\x01\0\0\0\0\0\0\0user;",
+        "error: connection\n", 3, 48),
+    // A reply of version 1, whose bytes are too few for a tag, or stand where the tag is.
+    ("leave\n", b"\x04\0\0\0\0\0\0\0\x01\0\0\0\0\0\0\0", "error: connection\n", 3, 20),
+    ("print 5\n", b"\x0c\0\0\0\0\0\0\0two word", "error: connection\n", 3, 24),
     // What was printed stays, and nothing is asked behind it.
-    ("leave\nleave\nleave\n", b"\x04\0\0\0\0\0\0\0\x03\0\0\0", "ok\nerror: connection\n", 3, 24),
+    ("leave\nleave\nleave\n", b"\x0c\0\0\0\0\0\0\0\x01\0\0\0\0\0\0\0\x03\0\0\0", "ok\nerror: connection\n", 3, 40),
     // The server has its own clock.
     ("moment 1\n", b"", "usage\n", 2, 0),
     ("context 7\nnonsense\nleave\n", b"", "ok\nusage\n", 2, 0),
     // An accepted `hello` names the context, a refused one doesn't.
-    ("context 9\nhello 4294967295 0\nprint 5\n", b"\x04\0\0\0\x16\0\0\0\x04\0\0\0\x03\0\0\0",
-        "ok\nerror 22 EINVAL\nerror 3 ESRCH\n", 1, 40),
-    // A keyring's links, bytes that are none, and those of a key that may not be described.
-    ("rlist 5\n", b"\x08\0\0\0\0\0\0\0\x06\0\0\0\x0c\0\0\0\0\0\0\0keyring;", "6\n", 0, 32),
-    ("rlist 5\n", b"\x08\0\0\0\0\0\0\0abcd\x09\0\0\0\0\0\0\0user;", "abcd\n", 0, 32),
-    ("rlist 5\n", b"\x08\0\0\0\0\0\0\0abcd\x04\0\0\0\x0d\0\0\0", "abcd\n", 0, 32),
-    ("rlist 5\n", b"\x08\0\0\0\0\0\0\0abcd", "error: connection\n", 3, 32),
+    ("context 9\nhello 4294967295 0\nprint 5\n",
+        b"\x0c\0\0\0\x16\0\0\0\x01\0\0\0\0\0\0\0\x0c\0\0\0\x03\0\0\0\x02\0\0\0\0\0\0\0",
+        "ok\nerror 22 EINVAL\nerror 3 ESRCH\n", 1, 56),
+    // A keyring's links, bytes that are none, and those of a key that may not be described. Each ask has a tag, also
+    // the hidden one.
+    ("rlist 5\n", b"\x10\0\0\0\0\0\0\0\x01\0\0\0\0\0\0\0\x06\0\0\0\x14\0\0\0\0\0\0\0\x02\0\0\0\0\0\0\0keyring;",
+        "6\n", 0, 48),
+    ("rlist 5\n", b"\x10\0\0\0\0\0\0\0\x01\0\0\0\0\0\0\0abcd\x11\0\0\0\0\0\0\0\x02\0\0\0\0\0\0\0user;",
+        "abcd\n", 0, 48),
+    ("rlist 5\n", b"\x10\0\0\0\0\0\0\0\x01\0\0\0\0\0\0\0abcd\x0c\0\0\0\x0d\0\0\0\x02\0\0\0\0\0\0\0", "abcd\n", 0, 48),
+    ("rlist 5\n", b"\x10\0\0\0\0\0\0\0\x01\0\0\0\0\0\0\0abcd", "error: connection\n", 3, 48),
+    ("rlist 5\nleave\n", b"\x0c\0\0\0\x7e\0\0\0\x01\0\0\0\0\0\0\0\x0c\0\0\0\0\0\0\0\x02\0\0\0\0\0\0\0",
+        "error 126 ENOKEY\nok\n", 1, 44),
 ];
 
 #[test]
@@ -110,27 +160,38 @@ fn scripts(rt: HostRuntime) {
     }
 }
 
-/// LEAVE, and an UPDATE of 65530 bytes.
-fn add_long_update(input: &mut Vec<u8>) -> Result<(), AllocError> {
+/// LEAVE, and an UPDATE of so many bytes.
+fn add_long_update(input: &mut Vec<u8>, length: usize) -> Result<(), AllocError> {
     input.extend_from_slice(b"leave\nupdate 5 ")?;
-    for _ in 0..65_530 {
+    for _ in 0..length {
         input.push(b'a')?;
     }
     Ok(())
 }
 
+/// So many bytes of an UPDATE, what is printed, the status, and how many bytes are asked. A frame has room for 65512
+/// beside its head, its tag, the id and their length.
+const LONG: [(usize, &str, u8, usize); 3] = [
+    (65_512, "ok\nok\n", 0, 20 + 65_540),
+    (65_513, "ok\nusage\n", 2, 20),
+    (65_530, "ok\nusage\n", 2, 20),
+];
+
 /// An ask that fits no frame is usage, and nothing of it is asked.
 #[test]
 fn too_long(rt: HostRuntime) -> Result<(), Fail> {
     let alloc = rt.alloc();
-    let mut input = Vec::new(alloc);
-    add_long_update(&mut input)?;
-    let (mut output, mut asked) = (Vec::new(alloc), Vec::new(alloc));
-    let replies = b"\x04\0\0\0\0\0\0\0";
-    let status = ended(alloc, &input, &mut output, replies, &mut asked);
-    assert_eq!(rt; output.as_slice(), b"ok\nusage\n".as_slice());
-    assert_eq!(rt; status, 2);
-    assert_eq!(rt; asked.len(), 12);
+    let second = b"\x0c\0\0\0\0\0\0\0\x02\0\0\0\0\0\0\0";
+    let replies = joined(alloc, &[DONE, second])?;
+    for (length, wanted, status, asks) in &LONG {
+        let mut input = Vec::new(alloc);
+        add_long_update(&mut input, *length)?;
+        let (mut output, mut asked) = (Vec::new(alloc), Vec::new(alloc));
+        let ended = ended(alloc, &input, &mut output, &replies, &mut asked);
+        assert_eq!(rt; output.as_slice(), wanted.as_bytes(), "at {length}");
+        assert_eq!(rt; ended, *status, "at {length}");
+        assert_eq!(rt; asked.len(), *asks, "at {length}");
+    }
     Ok(())
 }
 
@@ -173,7 +234,7 @@ fn ends_that_fail(rt: HostRuntime) -> Result<(), Fail> {
     let alloc = rt.alloc();
     let replies = joined(alloc, &[CONTEXT, ADDED, PAYLOAD, DESCRIBED])?;
     assert_eq!(rt; ended_unprinted(alloc, 3, &replies), 3);
-    for left in &[0, 1, 23, 24, 58] {
+    for left in &[0, 1, 31, 32, 74] {
         let mut output = Vec::new(alloc);
         let status = ended_unasked(alloc, *left, &replies, &mut output);
         assert!(rt; output.ends_with(b"error: connection\n"), "at {left}");
@@ -186,12 +247,15 @@ fn ends_that_fail(rt: HostRuntime) -> Result<(), Fail> {
 type Call<'a> = (&'a str, &'a [&'a [u8]], &'a str, u8);
 
 #[rattlefmt::skip]
-const CALLS: [Call<'static>; 5] = [
+const CALLS: [Call<'static>; 7] = [
     ("add user alpha s3 @u", &[CONTEXT, ADDED], "5\n", 0),
-    ("print 5", &[CONTEXT, PAYLOAD], "s3\n", 0),
+    ("print 5", &[CONTEXT, SECOND_PAYLOAD], "s3\n", 0),
     ("print 5", &[CONTEXT, NO_KEY], "error 126 ENOKEY\n", 1),
     ("print 5", &[REFUSED], "error 22 EINVAL\n", 1),
     ("print 5", &[CONTEXT], "error: connection\n", 3),
+    // Other tags than 1 and 2.
+    ("print 5", &[CONTEXT, PAYLOAD], "error: connection\n", 3),
+    ("print 5", &[NO_KEY], "error: connection\n", 3),
 ];
 
 fn caller(alloc: Global) -> Caller {
