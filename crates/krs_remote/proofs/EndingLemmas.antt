@@ -1,5 +1,5 @@
 -- Whole scripts and calls over a connection.
-use Rattle.std.proofs.Common.{ℕ, ◌≡◌, inl, Bool, false, List, [], Option, Result, Ok, Err, refl, arith}
+use Rattle.std.proofs.Common.{ℕ, ◌≡◌, inl, Bool, false, List, [], Option, Result, Err, refl, arith}
 use Rattle.krs_types.specs.declared.caller.Caller.{Caller}
 use Rattle.krs_commands.specs.declared.command.Command.{Command}
 use Rattle.krs_words.specs.declared.stop.Stop.{Stop}

@@ -1,4 +1,4 @@
-use Rattle.std.proofs.Common.{ℤ, ◌≡◌, SFits, to_z, of_z, w32, rules}
+use Rattle.std.proofs.Common.{◌≡◌, SFits, to_z, of_z, w32, rules}
 use Rattle.std.proofs.Math.Facts.{to_z-of_z}
 use Rattle.krs_remote.proofs.remote.Remote.act.Goals as goal
 

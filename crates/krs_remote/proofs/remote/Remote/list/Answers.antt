@@ -1,4 +1,4 @@
-use Rattle.std.proofs.Common.{ℤ, ◌≡◌, arith, to_z, of_z, w32}
+use Rattle.std.proofs.Common.{◌≡◌, arith, to_z, of_z, w32}
 use Rattle.std.proofs.Math.Facts.{to_z-of_z}
 use Rattle.krs_remote.proofs.remote.Remote.list.Goals as goal
 

@@ -9,8 +9,8 @@ use Rattle.krs_remote.specs.Remote.{Acts, Breaks, talk_of}
 use Rattle.krs_remote.proofs.RemoteLemmas.{breaks_by}
 use Rattle.krs_remote.proofs.remote.Remote.obey.Goals as goal
 
-pub returns-then-is_empty : goal.returns-then-is_empty
-returns-then-is_empty g c = (
+pub returns-then-is_empty-clause-obeyed : goal.returns-then-is_empty-clause-obeyed
+returns-then-is_empty-clause-obeyed g c = (
   [],
   TakesLine-empty Acts (talk_of g.F.Read.remaining c.args.self.now (g.T.Write.contents c.args.to.now)) c.args.line.now
       c.in_ok-words.words.items _ c.if-is_comment.ensures c.in_ok-words.ensures c.in_ok-words.words.ok.0
@@ -18,8 +18,8 @@ returns-then-is_empty g c = (
   Prints-nil _ _,
 )
 
-pub returns-in_err-output : goal.returns-in_err-output
-returns-in_err-output g c =
+pub returns-in_err-output-clause-obeyed : goal.returns-in_err-output-clause-obeyed
+returns-in_err-output-clause-obeyed g c =
     let p = err_from_is_err_and c.from_residual-in_err-output.result c.from_residual-in_err-output.ensures.1 in
     let kept : is_skipped c.args.line.now ≡ false =
     is_skipped-kept c.args.line.now c.in_ok-words.words.items _ c.if-is_comment.ensures c.in_ok-words.ensures
@@ -29,8 +29,8 @@ returns-in_err-output g c =
     rw (p.1, p.2) (ObeysLine-broken Acts Breaks _ _ c.args.line.now c.in_ok-command.command _ _ _ kept is
     c.in_err-output.ensures.err (breaks_by _ _ _ _ c.in_err-output.ensures.err))
 
-pub returns : goal.returns
-returns g c =
+pub returns-clause-obeyed : goal.returns-clause-obeyed
+returns-clause-obeyed g c =
     let kept : is_skipped c.args.line.now ≡ false =
     is_skipped-kept c.args.line.now c.in_ok-words.words.items _ c.if-is_comment.ensures c.in_ok-words.ensures
     c.in_ok-words.words.ok.0 c.if-is_empty.ensures in

@@ -1,4 +1,4 @@
-use Rattle.std.proofs.Common.{ℤ, ◌≡◌, inl, inr, to_z, of_z, w32}
+use Rattle.std.proofs.Common.{◌≡◌, inl, inr, to_z, of_z, w32}
 use Rattle.std.proofs.Math.Facts.{to_z-of_z}
 use Rattle.std.proofs.lemmas.Result.{err_from_is_err_and}
 use Rattle.krs_remote.proofs.RemoteLemmas.{if_ok, if_err}

@@ -42,8 +42,7 @@ pub loop-preserved : goal.loop-preserved
 loop-preserved g c =
     let going = going_same Acts Breaks _ _ _ _ _ _ _ _ _ _ _
     c.loop.invariant.0 c.in_ok-write_before_waiting.ensures.ok in
-    let reads = rw (← c.as_slice.ensures.value) at (c.in_ok-read_next.ensures.found (ap Ok c.if-not-branch.false)) in
-    (
+    let reads = rw (← c.as_slice.ensures.value) at (c.in_ok-read_next.ensures.found (ap Ok c.if-not-branch.false)) in (
       going_more Acts Breaks _ _ _ _ _ _ _ _ _ _ _ _ _ _ _ going reads c.in_ok-obey.ensures.obeyed.1
           c.in_ok-obey.ensures.obeyed.2,
       omega (arith, c.in_ok-obey.ensures.few, c.loop.invariant.1),
