@@ -75,21 +75,73 @@ try_no_threads() {
   one_by_one 'no threads'
 }
 
-# A daemon that may have so few files that an accept fails. It says so at once, serves those that it has accepted to
-# their ends, and then ends, without its path.
-try_failed_accept() {
+# A daemon that may have so few files that accepts fail. Who comes then waits, as if no lane were free, and is served
+# when others have ended.
+try_few_files() {
   local n
   limited with-few-files '-Sn 12'
   local keyretaind=$dir/with-few-files
+  start --lanes 32 --accept 14
+  open_client first
+  answers first 'hello 1000 1000' 1
+  answers first 'add user alpha a @u' 5
+  for n in {1..13}; do open_client "more$n"; done
+  sleep 0.5
+  is 'few files: nothing is told' "listening $path" "$(<"$log")"
+  answers first 'print 5' a
+  for n in {1..12}; do close_client "more$n" 0; done
+  answers more13 'hello 1000 1000' 2
+  answers more13 'print 5' a
+  close_client more13 0
+  close_client first 0
+  is_served 'few files' 14
+}
+
+# injecting NAME ERROR WHEN: a program that is the daemon, whose accepts of these numbers fail with this error
+injecting() {
+  printf '#!%s\nexec strace -f -qq -o /dev/null -e trace=accept,accept4 -e inject=accept,accept4:error=%s:when=%s %q "$@"\n' \
+    "$BASH" "$2" "$3" "$keyretaind" >"$dir/$1"
+  chmod +x "$dir/$1"
+}
+
+# Whether failures can be injected here.
+can_inject() {
+  strace -qq -o /dev/null -e trace=accept -e inject=accept:error=EPERM:when=1 true 2>/dev/null
+}
+
+# Causes that pass: the next connection is served all the same.
+try_passing_causes() {
+  local cause
+  for cause in EAGAIN ENOMEM ENFILE EMFILE ECONNABORTED ENOBUFS; do
+    injecting "with-$cause" "$cause" 2..4
+    local keyretaind=$dir/with-$cause
+    start --accept 2
+    open_client first
+    answers first 'hello 1000 1000' 1
+    answers first 'add user alpha a @u' 5
+    open_client second
+    answers second 'hello 1000 1000' 2
+    answers second 'print 5' a
+    close_client second 0
+    close_client first 0
+    is_served "an accept that failed with $cause" 2
+  done
+}
+
+# A cause that doesn't pass. The daemon says so at once, refuses who comes, serves those that it has accepted to their
+# ends, and then ends, without its path.
+try_failed_accept() {
+  injecting with-failures EPERM 2
+  local keyretaind=$dir/with-failures
   start --lanes 32
   open_client first
   answers first 'hello 1000 1000' 1
-  for n in {1..12}; do open_client "more$n"; done
+  calls 'the connection that is not accepted' 3 $'error: connection\n' id @u
   until_true has_told_accept
   is 'a failed accept is told at once' "listening $path"$'\nerror: accept' "$(<"$log")"
   is 'the path while others are served' there "$(path_state)"
+  calls 'who connects then is refused' 3 $'error: connection\n' id @u
   answers first 'add user alpha a @u' 5
-  for n in {1..12}; do close_client "more$n" 0; done
   close_client first 0
   finish "$daemon"
   is 'after a failed accept: the status' 3 "$status"

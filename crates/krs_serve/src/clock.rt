@@ -1,47 +1,107 @@
-ghost use Rattle.std.specs.Prelude.{◌≡◌, ◌/◌, IfOk, OnErr};
-ghost use Rattle.std.specs.Time.{system_time_nanos};
+ghost use Rattle.std.specs.Prelude.{◌≡◌, ◌*◌, ◌/◌, ◌≤◌, ◌^◌, ◌-◌, min, Some, None, IfSome};
+ghost use Rattle.core.specs.Duration.{as_nanos};
 ghost use Rattle.krs_serve.specs.Clock.{IsKept, kept_none, kept_both};
+ghost use Rattle.krs_serve.specs.Timeline.{after, begun, time_at};
 
+use crate::Timeline;
 use krs_session::Clock;
-use std::io;
-use std::time::{SystemTime, UNIX_EPOCH};
+use std::sync::atomic::{AtomicU64, Ordering};
+use std::time;
+use std::time::Duration;
 
-/// The system's clock in whole seconds since 1970: its last answer where it fails, and 0 where there was none. Profile,
-/// server's clock.
+/// The latest answer of the clocks of one daemon, in seconds: what one connection's clock has come to, no other's stays
+/// behind.
+#[derive(Drop)]
+pub struct Latest {
+    seconds: AtomicU64,
+}
+
+impl Latest {
+    /// No clock has answered yet.
+    pub fn new() -> Latest {
+        Latest {
+            seconds: AtomicU64::new(0),
+        }
+    }
+
+    /// The answer of a clock that has come to so many seconds, which is made known.
+    fn meet(&self, seconds: u64) -> u64
+        ensures { seconds ≤ result }
+    {
+        let known = self.seconds.load(Ordering::Relaxed);
+        if known >= seconds {
+            return known;
+        }
+        let before = self.seconds.fetch_max(seconds, Ordering::Relaxed);
+        before.max(seconds)
+    }
+}
+
+/// The system's clock in whole seconds since 1970, as a `Timeline` has it: its last answer where the system has no
+/// reading, and 0 where there was none. Profile, server's clock.
 #[derive(Drop)]
 pub struct SystemClock<'r, R> {
     rt: &'r R,
+    latest: &'r Latest,
+    timeline: Option<Timeline>,
     last: u64,
 }
 
-impl<'r, R> SystemClock<'r, R> {
-    pub fn new(rt: &'r R) -> SystemClock<'r, R>
+impl<'r, R: time::Clock> SystemClock<'r, R> {
+    pub fn new(rt: &'r R, latest: &'r Latest) -> SystemClock<'r, R>
         ensures { result.last ≡ 0 }
     {
-        SystemClock { rt, last: 0 }
+        SystemClock {
+            rt,
+            latest,
+            timeline: None,
+            last: 0,
+        }
+    }
+
+    /// What the wall clock and the steady one read, in milliseconds.
+    fn readings(&self) -> Option<(u64, u64)> {
+        let wall = self.rt.since_1970().ok()?;
+        let steady = self.rt.monotonic().ok()?;
+        Some((millis(wall), millis(steady)))
+    }
+
+    /// What it answers to such readings: the time of its timeline, or a later one that another clock has come to.
+    fn answer(&mut self, readings: Option<(u64, u64)>) -> u64
+        ensures read { IfSome readings
+            (λ r. time_at (begun self.old.timeline r.0 r.1) r.0 r.1 / 1000 ≤ result) }
+        ensures goes_on { IfSome readings (λ r. self.new.timeline
+            ≡ Some (after (begun self.old.timeline r.0 r.1) r.0 r.1 (min (result * 1000) (2 ^ 64 - 1)))) }
+        ensures failed { readings ≡ None → result ≡ self.old.last }
+        ensures kept { self.new.last ≡ result }
+    {
+        if let Some((wall, steady)) = readings {
+            let timeline = match self.timeline {
+                Some(timeline) => timeline,
+                None => Timeline::starting(wall, steady),
+            };
+            self.last = self.latest.meet(timeline.time_at(wall, steady) / 1000);
+            let least = self.last.saturating_mul(1000);
+            self.timeline = Some(timeline.after(wall, steady, least));
+        }
+        self.last
     }
 }
 
-/// The whole seconds of a reading, or the last answer where there is none.
-fn seconds(reading: io::Result<SystemTime>, last: u64) -> u64
-    ensures read { IfOk reading (λ time. result ≡ system_time_nanos time / 1_000_000_000) }
-    ensures failed { OnErr reading (result ≡ last) }
+/// The whole milliseconds of a duration.
+fn millis(duration: Duration) -> u64
+    ensures { result ≡ min (as_nanos duration / 1_000_000) (2 ^ 64 - 1) }
 {
-    match reading {
-        Ok(time) => time
-            .duration_since(UNIX_EPOCH)
-            .map_or(last, |since| since.as_secs()),
-        Err(_) => last,
-    }
+    u64::try_from(duration.as_millis()).unwrap_or(u64::MAX)
 }
 
-impl<'r, R: std::time::Clock> Clock for SystemClock<'r, R> {
-    // What is answered is kept. No contract tells what the system's clock reads.
+impl<'r, R: time::Clock> Clock for SystemClock<'r, R> {
+    // What is answered is kept. No contract tells what the system's clocks read.
     ghost ticked = { λ a moments b. IsKept a.last moments b.last };
 
     fn now(&mut self) -> u64 {
-        self.last = seconds(SystemTime::now(self.rt), self.last);
-        self.last
+        let readings = self.readings();
+        self.answer(readings)
     }
 
     ghost starts = { λ a. kept_none a.last };

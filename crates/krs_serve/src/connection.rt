@@ -6,7 +6,7 @@ ghost use Rattle.krs_session.specs.Over.{over_end, over_reads, over_empties, ove
 ghost use Rattle.krs_session.specs.Session.{HaveRoom, counts_of};
 ghost use Rattle.krs_serve.specs.Sessions.{ServesEntry};
 
-use crate::{Entry, OpenGate, Sitting, SystemClock, serve_entry};
+use crate::{Entry, Latest, OpenGate, Sitting, SystemClock, serve_entry};
 use krs_session::{Clock, Ended, Over, Sink, Source, a_session_is_its_asks_and_leave};
 use std::alloc::Global;
 use std::os::unix::net::UnixStream;
@@ -17,8 +17,9 @@ use std::time;
 const TURNS: u64 = 16_777_216;
 
 /// A stream as a connection: it is both ends, and the asks take the system's clock.
-fn entry_of<'s, 'r, R>(
+fn entry_of<'s, 'r, R: time::Clock>(
     rt: &'r R,
+    latest: &'r Latest,
     stream: &'s UnixStream,
 ) -> Entry<Over<&'s UnixStream>, Over<&'s UnixStream>, SystemClock<'r, R>>
     ensures reader { over_end result.reader ≡ stream.entry }
@@ -31,7 +32,7 @@ fn entry_of<'s, 'r, R>(
     Entry {
         reader: Over::new(stream),
         writer: Over::new(stream),
-        clock: SystemClock::new(rt),
+        clock: SystemClock::new(rt, latest),
     }
 }
 
@@ -40,6 +41,7 @@ fn entry_of<'s, 'r, R>(
 pub fn serve_connection<'d, R: Wait + time::Clock>(
     rt: &R,
     alloc: Global,
+    latest: &Latest,
     stream: UnixStream,
     sitting: Sitting<'d>,
 ) -> Sitting<'d>
@@ -47,7 +49,7 @@ pub fn serve_connection<'d, R: Wait + time::Clock>(
     ensures session { (frames : List Framed) × (calls : List Event)
         × GainsSession sitting.entry.seat frames calls result.seat }
 {
-    let (sitting, _ended) = serve_sitting(rt, alloc, entry_of(rt, &stream), sitting);
+    let (sitting, _ended) = serve_sitting(rt, alloc, entry_of(rt, latest, &stream), sitting);
     sitting
 }
 

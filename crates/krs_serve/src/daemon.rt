@@ -5,14 +5,13 @@ ghost use Rattle.krs_model.specs.State.{starting_at};
 ghost use Rattle.krs_desk.specs.Sitting.{IsIdleAt, fresh_seats};
 ghost use Rattle.krs_serve.specs.declared.choice.Choice.{Choice as ChoiceIs};
 ghost use Rattle.krs_serve.specs.Choice.{IsUnread, LeadsTo};
-ghost use Rattle.krs_serve.specs.Accepting.{accepted_by, failed_at};
 ghost use Rattle.krs_serve.specs.Daemon.{Answers, EndsAs, Serves, connections_of, served_line};
 ghost use Rattle.krs_serve.specs.Saying.{heard};
 
 use crate::choice::{Choice, choose};
 use crate::listening::{Accepted, accept_all};
 use crate::saying::{Lines, NOT_BOUND, OUT_OF_MEMORY, USAGE, Voice};
-use crate::{FreeSeats, Options, SocketAcceptor, seated};
+use crate::{Accepts, FreeSeats, Latest, Options, seated};
 use krs_desk::{Desk, Refused, Seat};
 use krs_store::{Seed, Store};
 use std::alloc::Global;
@@ -116,30 +115,30 @@ fn bound(rt: &(impl Files + Net), path: &str) -> Option<UnixListener>
     UnixListener::bind(rt, path).ok()
 }
 
-/// Accepts and serves so many connections, takes the path away, and tells how that ended. It gives back what counted
-/// the connections.
-fn serve_all<'l, 'd, R: Clock + Files + Threads + Wait + Sync, W: Write>(
+/// Accepts and serves so many connections, takes the path away, and tells how that ended. It gives their counts.
+fn serve_all<'d, R: Clock + Files + Threads + Wait + Sync, W: Write>(
     rt: &R,
     alloc: Global,
-    listener: &'l UnixListener,
+    listener: UnixListener,
     free: &FreeSeats<'d>,
     connections: u64,
     path: &str,
     lines: &Lines,
     output: &mut Voice<W>,
-) -> (u8, SocketAcceptor<'l>)
+) -> (u8, Accepts)
     requires { string_bytes lines.now.served ≡ served_line connections }
-    ensures { EndsAs connections (accepted_by result.1) (failed_at result.1)
+    ensures { EndsAs connections result.1.accepted result.1.failures
         (heard W.contents output.old) (heard W.contents output.new) result.0 }
 {
-    let (accepted, acceptor) = accept_all(rt, alloc, listener, free, connections, output);
+    let latest = Latest::new();
+    let (accepted, counts) = accept_all(rt, alloc, listener, free, &latest, connections, output);
     let _ = fs::remove_file(rt, path);
     match accepted {
         Accepted::All => {
             output.say(lines.served.as_str());
-            (0, acceptor)
+            (0, counts)
         }
-        Accepted::Failed => (3, acceptor),
+        Accepted::Failed => (3, counts),
     }
 }
 
@@ -170,10 +169,10 @@ pub fn listen<R: Clock + Files + Net + RandomSource + Threads + Wait + Sync, W: 
     };
     let free = FreeSeats::new(sittings);
     output.say(lines.listening.as_str());
-    let (status, _acceptor) = serve_all(
+    let (status, _counts) = serve_all(
         rt,
         alloc,
-        &listener,
+        listener,
         &free,
         connections,
         path,

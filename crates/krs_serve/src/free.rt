@@ -1,19 +1,23 @@
 ghost use Rattle.std.specs.Prelude.{◌≡◌, ◌<◌, ◌++◌, ◌∷◌, [], ◌↔◌, IfErr, OnOk, OnErr, IsErr, vec_len, vec_capacity};
 
 use crate::Sitting;
-use std::sync::{Condvar, Mutex, Wait};
+use std::sync::{Condvar, CondvarTimeouts, Mutex, Wait};
+use std::time::{Clock, Duration};
 
 /// The seats on which no connection is served.
 #[derive(Drop)]
 pub struct FreeSeats<'d> {
     seats: Mutex<Vec<Sitting<'d>>>,
     returned: Condvar,
+    /// How many seats there are.
+    count: usize,
 }
 
 impl<'d> FreeSeats<'d> {
     /// All of these are free. The list keeps room for each of them.
     pub fn new(seats: Vec<Sitting<'d>>) -> FreeSeats<'d> {
         FreeSeats {
+            count: seats.len(),
             seats: Mutex::new(seats),
             returned: Condvar::new(),
         }
@@ -29,6 +33,16 @@ impl<'d> FreeSeats<'d> {
             }
         }
         unreachable!()
+    }
+
+    /// Waits until a seat is given back, but no longer than that. The answer is whether a connection is still served,
+    /// beside the seat that the caller holds.
+    pub fn await_end<R: Wait + Clock>(&self, rt: &R, longest: Duration) -> bool {
+        let seats = self.seats.lock(rt);
+        let before = seats.len();
+        let is_same = |free: &mut Vec<Sitting<'d>>| free.len() == before;
+        let (free, _) = self.returned.wait_timeout_while(rt, seats, longest, is_same);
+        free.len() + 1 < self.count
     }
 
     /// Gives a seat back that was taken, and wakes a thread that waits for one.

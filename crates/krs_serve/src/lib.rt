@@ -14,9 +14,10 @@ mod options;
 mod saying;
 mod sessions;
 mod sitting;
+mod timeline;
 
-pub use acceptor::{Acceptor, SocketAcceptor};
-pub use clock::SystemClock;
+pub use acceptor::{Acceptor, Accepts, SocketAcceptor};
+pub use clock::{Latest, SystemClock};
 pub use connection::serve_connection;
 pub use daemon::{listen, run_daemon};
 pub use entry::{Entry, serve_entry};
@@ -26,3 +27,4 @@ pub use options::Options;
 pub use saying::Voice;
 pub use sessions::run_sessions;
 pub use sitting::{Sitting, seated};
+pub use timeline::Timeline;

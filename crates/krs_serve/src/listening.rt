@@ -1,10 +1,9 @@
 ghost use Rattle.std.specs.Prelude.{◌≡◌, ◌<◌, ◌+◌, ◌^◌};
-ghost use Rattle.krs_serve.specs.Accepting.{accepted_by, failed_at};
 ghost use Rattle.krs_serve.specs.Daemon.{AcceptsBy, TellsAccepted};
 ghost use Rattle.krs_serve.specs.Saying.{heard};
 
 use crate::saying::{NOT_ACCEPTED, Voice};
-use crate::{Acceptor, FreeSeats, Sitting, SocketAcceptor, serve_connection};
+use crate::{Acceptor, Accepts, FreeSeats, Latest, Sitting, SocketAcceptor, serve_connection};
 use std::alloc::Global;
 use std::io::Write;
 use std::os::unix::net::{UnixListener, UnixStream};
@@ -28,11 +27,12 @@ fn serve_apart<'s, 'd, E, R: Threads + Wait + Clock + Sync>(
     rt: &'s R,
     alloc: Global,
     free: &'s FreeSeats<'d>,
+    latest: &'s Latest,
     stream: UnixStream,
     sitting: Sitting<'d>,
     scope: &'s Scope<'s, E>,
 ) {
-    let serving = move || free.give(rt, serve_connection(rt, alloc, stream, sitting));
+    let serving = move || free.give(rt, serve_connection(rt, alloc, latest, stream, sitting));
     if let Err(refused) = scope.spawn(serving) {
         (refused.value)();
     }
@@ -45,6 +45,7 @@ fn accept_each<'s, 'd, E, A: Acceptor<UnixStream>, R: Threads + Wait + Clock + S
     alloc: Global,
     acceptor: &mut A,
     free: &'s FreeSeats<'d>,
+    latest: &'s Latest,
     connections: u64,
     output: &mut Voice<W>,
     scope: &'s Scope<'s, E>,
@@ -58,7 +59,7 @@ fn accept_each<'s, 'd, E, A: Acceptor<UnixStream>, R: Threads + Wait + Clock + S
     'accepts: for made in 0..connections {
         let sitting = free.take(rt);
         match acceptor.accept(&sitting) {
-            Ok(stream) => serve_apart(rt, alloc, free, stream, sitting, scope),
+            Ok(stream) => serve_apart(rt, alloc, free, latest, stream, sitting, scope),
             Err(_) => {
                 output.say(NOT_ACCEPTED);
                 free.give(rt, sitting);
@@ -69,23 +70,33 @@ fn accept_each<'s, 'd, E, A: Acceptor<UnixStream>, R: Threads + Wait + Clock + S
     Accepted::All
 }
 
-/// Accepts so many connections, and gives back what counted them. A failed accept is told at once; what was accepted is
-/// served to its end either way.
-pub fn accept_all<'l, 'd, R: Threads + Wait + Clock + Sync, W: Write>(
+/// Accepts so many connections, and gives their counts. A failed accept is told at once. Then the socket is closed, and
+/// what was accepted is served to its end.
+pub fn accept_all<'d, R: Threads + Wait + Clock + Sync, W: Write>(
     rt: &R,
     alloc: Global,
-    listener: &'l UnixListener,
+    listener: UnixListener,
     free: &FreeSeats<'d>,
+    latest: &Latest,
     connections: u64,
     output: &mut Voice<W>,
-) -> (Accepted, SocketAcceptor<'l>)
-    ensures count { AcceptsBy connections 0 (accepted_by result.1) 0 (failed_at result.1) result.0 }
+) -> (Accepted, Accepts)
+    ensures count { AcceptsBy connections 0 result.1.accepted 0 result.1.failures result.0 }
     ensures told { TellsAccepted result.0 (heard W.contents output.old) (heard W.contents output.new) }
 {
-    let (accepted, acceptor, _output) = thread::scope(thread::scope_env(), rt, move |scope| {
-        let mut acceptor = SocketAcceptor::new(listener);
-        let accepted = accept_each(rt, alloc, &mut acceptor, free, connections, output, scope);
-        (accepted, acceptor, output)
+    let (accepted, counts, _output) = thread::scope(thread::scope_env(), rt, move |scope| {
+        let mut acceptor = SocketAcceptor::new(rt, listener, free);
+        let accepted = accept_each(
+            rt,
+            alloc,
+            &mut acceptor,
+            free,
+            latest,
+            connections,
+            output,
+            scope,
+        );
+        (accepted, acceptor.close(), output)
     });
-    (accepted, acceptor)
+    (accepted, counts)
 }

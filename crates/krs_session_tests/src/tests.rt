@@ -1,3 +1,4 @@
+mod clock;
 mod serve;
 mod session;
 mod wire;
