@@ -52,32 +52,32 @@ check-keyutils: build
 # was run, in their folders.
 install:
 	@for program in $(PROGRAMS); do test -x bin/$$program || { echo 'run make build first' >&2; exit 1; }; done
-	install -d $(DESTDIR)$(BINDIR) $(DESTDIR)$(SBINDIR) $(DESTDIR)$(UNITDIR) $(DESTDIR)$(SYSUSERSDIR) \
-	  $(DESTDIR)$(COMPLETIONDIR) $(DESTDIR)$(MANDIR)/man1 $(DESTDIR)$(MANDIR)/man7 $(DESTDIR)$(MANDIR)/man8
-	install -m 755 bin/keyretain $(DESTDIR)$(BINDIR)/
-	install -m 755 bin/keyretaind $(DESTDIR)$(SBINDIR)/
-	install -m 644 man/keyretain.1 $(DESTDIR)$(MANDIR)/man1/
-	install -m 644 man/keyretain-protocol.7 $(DESTDIR)$(MANDIR)/man7/
-	install -m 644 man/keyretaind.8 $(DESTDIR)$(MANDIR)/man8/
+	install -d "$(DESTDIR)$(BINDIR)" "$(DESTDIR)$(SBINDIR)" "$(DESTDIR)$(UNITDIR)" "$(DESTDIR)$(SYSUSERSDIR)" \
+	  "$(DESTDIR)$(COMPLETIONDIR)" "$(DESTDIR)$(MANDIR)/man1" "$(DESTDIR)$(MANDIR)/man7" "$(DESTDIR)$(MANDIR)/man8"
+	install -m 755 bin/keyretain "$(DESTDIR)$(BINDIR)/"
+	install -m 755 bin/keyretaind "$(DESTDIR)$(SBINDIR)/"
+	install -m 644 man/keyretain.1 "$(DESTDIR)$(MANDIR)/man1/"
+	install -m 644 man/keyretain-protocol.7 "$(DESTDIR)$(MANDIR)/man7/"
+	install -m 644 man/keyretaind.8 "$(DESTDIR)$(MANDIR)/man8/"
 	sed '/^ExecStart=/s|@sbindir@|$(SBINDIR)|' contrib/systemd/keyretaind.service \
-	  >$(DESTDIR)$(UNITDIR)/keyretaind.service
-	chmod 644 $(DESTDIR)$(UNITDIR)/keyretaind.service
-	install -m 644 contrib/systemd/keyretain.conf $(DESTDIR)$(SYSUSERSDIR)/
-	install -m 644 contrib/bash-completion/keyretain contrib/bash-completion/keyretaind $(DESTDIR)$(COMPLETIONDIR)/
-	install -d $(DESTDIR)$(USERUNITDIR)
+	  >"$(DESTDIR)$(UNITDIR)/keyretaind.service"
+	chmod 644 "$(DESTDIR)$(UNITDIR)/keyretaind.service"
+	install -m 644 contrib/systemd/keyretain.conf "$(DESTDIR)$(SYSUSERSDIR)/"
+	install -m 644 contrib/bash-completion/keyretain contrib/bash-completion/keyretaind "$(DESTDIR)$(COMPLETIONDIR)/"
+	install -d "$(DESTDIR)$(USERUNITDIR)"
 	sed '/^ExecStart=/s|@sbindir@|$(SBINDIR)|' contrib/systemd/user/keyretaind.service \
-	  >$(DESTDIR)$(USERUNITDIR)/keyretaind.service
-	chmod 644 $(DESTDIR)$(USERUNITDIR)/keyretaind.service
+	  >"$(DESTDIR)$(USERUNITDIR)/keyretaind.service"
+	chmod 644 "$(DESTDIR)$(USERUNITDIR)/keyretaind.service"
 	@if [ -d clients/c/build ]; then $(MAKE) -C clients/c install PREFIX="$(PREFIX)" DESTDIR="$(DESTDIR)"; \
 	  else echo 'the C clients are not installed: make clients builds them'; fi
 
 uninstall:
 	$(MAKE) -C clients/c uninstall PREFIX="$(PREFIX)" DESTDIR="$(DESTDIR)"
-	rm -f $(DESTDIR)$(USERUNITDIR)/keyretaind.service
-	rm -f $(DESTDIR)$(BINDIR)/keyretain $(DESTDIR)$(SBINDIR)/keyretaind $(DESTDIR)$(MANDIR)/man1/keyretain.1 \
-	  $(DESTDIR)$(MANDIR)/man7/keyretain-protocol.7 $(DESTDIR)$(MANDIR)/man8/keyretaind.8 \
-	  $(DESTDIR)$(UNITDIR)/keyretaind.service $(DESTDIR)$(SYSUSERSDIR)/keyretain.conf \
-	  $(DESTDIR)$(COMPLETIONDIR)/keyretain $(DESTDIR)$(COMPLETIONDIR)/keyretaind
+	rm -f "$(DESTDIR)$(USERUNITDIR)/keyretaind.service"
+	rm -f "$(DESTDIR)$(BINDIR)/keyretain" "$(DESTDIR)$(SBINDIR)/keyretaind" "$(DESTDIR)$(MANDIR)/man1/keyretain.1" \
+	  "$(DESTDIR)$(MANDIR)/man7/keyretain-protocol.7" "$(DESTDIR)$(MANDIR)/man8/keyretaind.8" \
+	  "$(DESTDIR)$(UNITDIR)/keyretaind.service" "$(DESTDIR)$(SYSUSERSDIR)/keyretain.conf" \
+	  "$(DESTDIR)$(COMPLETIONDIR)/keyretain" "$(DESTDIR)$(COMPLETIONDIR)/keyretaind"
 
 # Nanoseconds per ask, on one processor where taskset is there to pin it; then threads at one desk, on all processors.
 bench:
