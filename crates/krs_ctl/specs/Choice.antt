@@ -5,7 +5,7 @@ use Rattle.std.specs.declared.io.ErrorKind.TheVariants as io_kind
 use Rattle.clap.specs.declared.error.kind.ErrorKind.{ErrorKind}
 use Rattle.clap.specs.declared.error.kind.ErrorKind.TheVariants.{DisplayHelp, DisplayVersion, OutOfMemory}
 use Rattle.krs_ctl.specs.declared.choice.Choice.{Choice}
-use Rattle.krs_ctl.specs.declared.choice.Choice.TheVariants.{Script, Remote, Call, Usage, Memory, Shown, Refused}
+use Rattle.krs_ctl.specs.declared.choice.Choice.TheVariants.{Script, Remote, Call, Usage, NoCommand, Memory, Shown, Refused}
 
 -- what is told for a kind of error of the reader of options: help and version are shown, all others refused; memory may
 -- be wanting for any
@@ -14,6 +14,7 @@ Tells kind Script = ⊥
 Tells kind (Remote path) = ⊥
 Tells kind (Call call) = ⊥
 Tells kind Usage = ⊥
+Tells kind (NoCommand text) = ⊥
 Tells kind Memory = ⊤
 Tells kind (Shown text) = (kind ≡ DisplayHelp) ⊎ (kind ≡ DisplayVersion)
 Tells kind (Refused text) = (kind ≢ DisplayHelp) × (kind ≢ DisplayVersion) × (kind ≢ OutOfMemory)

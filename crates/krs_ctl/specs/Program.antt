@@ -1,5 +1,5 @@
 -- What the program does: docs/FORMAT.md, "The client, keyretain".
-use Rattle.std.specs.Prelude.{ℕ, ◌≡◌, ◌⊎◌, List, Option, codes, string_bytes}
+use Rattle.std.specs.Prelude.{ℕ, ◌≡◌, ◌≢◌, ◌⊎◌, List, Option, codes, string_bytes}
 use Rattle.krs_model.specs.State.{starting_at}
 use Rattle.krs_words.specs.Writing.{WritesFront}
 use Rattle.krs_script.specs.Ending.{Says}
@@ -8,7 +8,7 @@ use Rattle.krs_remote.specs.Remote.{EndsRemote}
 use Rattle.krs_remote.specs.Call.{EndsCall}
 use Rattle.krs_ctl.specs.declared.choice.Call.{Call as CallIs}
 use Rattle.krs_ctl.specs.declared.choice.Choice.{Choice}
-use Rattle.krs_ctl.specs.declared.choice.Choice.TheVariants.{Script, Remote, Call, Usage, Memory, Shown, Refused}
+use Rattle.krs_ctl.specs.declared.choice.Choice.TheVariants.{Script, Remote, Call, Usage, NoCommand, Memory, Shown, Refused}
 use Rattle.krs_ctl.specs.declared.script.ScriptEnd.{ScriptEnd}
 use Rattle.krs_ctl.specs.Running.{EndsScript}
 
@@ -32,9 +32,10 @@ CallsAt call old new status =
     × EndsCall call.caller call.command old new sent0 sent1 left status)
 
 -- What is printed, and the status. A script runs on a new store, or over a connection; one that came to its end with
--- nothing refused tells nothing on standard error. What is refused of the words is told there, as far as that takes it,
--- and nothing is printed; of words that are none, where help is to be had. Every other choice says one text on standard
--- output, and nothing on standard error.
+-- nothing refused tells nothing on standard error, nor does a single call whose status is not 3. What is refused of the
+-- words is told there, as far as that takes it, and nothing is printed; of words that are none, where help is to be had,
+-- and of those that are no command, which one that is. Every other choice says one text on standard output, and nothing
+-- on standard error.
 abbrev pub Answers : Choice → Option (List ℕ) → Option (List ℕ) → Option (List ℕ) → Option (List ℕ) → Option (List ℕ)
     → ℕ → Type 0
 Answers Script input old new old_errors new_errors status =
@@ -43,10 +44,12 @@ Answers Script input old new old_errors new_errors status =
 Answers (Remote path) input old new old_errors new_errors status =
     RunsAt input old new status × MayTell old_errors new_errors
 Answers (Call call) input old new old_errors new_errors status =
-    CallsAt call old new status × (new_errors ≡ old_errors)
+    CallsAt call old new status × MayTell old_errors new_errors × (status ≢ 3 → new_errors ≡ old_errors)
 Answers Usage input old new old_errors new_errors status =
     Says old new (codes "usage\n") 2 status
     × WritesFront old_errors new_errors (codes "keyretain: see keyretain --help\n")
+Answers (NoCommand text) input old new old_errors new_errors status =
+    Says old new (codes "usage\n") 2 status × WritesFront old_errors new_errors text.items
 Answers Memory input old new old_errors new_errors status =
     Says old new (codes "error 12 ENOMEM\n") 1 status × (new_errors ≡ old_errors)
 Answers (Shown text) input old new old_errors new_errors status =

@@ -6,6 +6,7 @@ ghost use Rattle.krs_ctl.specs.Choice.{IsUnread, Tells};
 use clap::error::ErrorKind;
 use clap::{Arg, ArgAction, ArgMatches, Command, Error, value_parser};
 use krs_remote::call_command;
+use krs_script::no_command;
 use krs_types::{Caller, Groups};
 use krs_words::NoCommand;
 use std::alloc::{AllocError, Global};
@@ -95,6 +96,8 @@ pub enum Choice {
     Call(Call),
     /// The words are none that the program takes.
     Usage,
+    /// The words of a single call are no command, with what is told of them.
+    NoCommand(Vec<u8>),
     /// Memory was wanting for the words.
     Memory,
     /// The text of `--help` or `--version`.
@@ -194,7 +197,7 @@ fn choice_of_call(
             caller,
             command,
         })),
-        Err(NoCommand::Usage) => Ok(Choice::Usage),
+        Err(NoCommand::Usage) => Ok(Choice::NoCommand(no_command(alloc, words.as_slice())?)),
         Err(NoCommand::Memory) => Ok(Choice::Memory),
     }
 }

@@ -1,18 +1,21 @@
 //! What is done over a connection, which is made first.
 
-ghost use Rattle.std.specs.Prelude.{◌⊎◌};
+ghost use Rattle.std.specs.Prelude.{◌≡◌, ◌≢◌, ◌⊎◌};
 ghost use Rattle.krs_script.specs.Telling.{MayTell};
 ghost use Rattle.krs_ctl.specs.Program.{CallsAt, RunsAt, SaysUnconnected};
 
 use crate::choice::Call;
 use krs_remote::{run_call, run_remote_at};
-use krs_script::{NO_CONNECTION, OUT_OF_MEMORY, Place, say, tell};
-use krs_words::Stop;
-use std::alloc::Global;
+use krs_script::{NO_CONNECTION, OUT_OF_MEMORY, Place, push_quoted, say, tell};
+use krs_words::write_text;
+use std::alloc::{AllocError, Global};
 use std::io;
 use std::io::{ErrorKind, Read, Write};
 use std::net::Net;
 use std::os::unix::net::UnixStream;
+
+/// What is told of a connection that was made, and came to no reply.
+const FAILED: &str = "the connection failed, or gave no reply; or standard output cannot be written";
 
 /// Runs the lines of a reader over a connection to the path: the script's status.
 pub(crate) fn script_at<N: Net, R: Read + Drop, W: Write, E: Write>(
@@ -37,23 +40,79 @@ pub(crate) fn script_at<N: Net, R: Read + Drop, W: Write, E: Write>(
             status
         }
         Err(error) => {
-            tell(alloc, errors, &place, Err(Stop::Connection));
+            tell_cause(alloc, errors, path, &error);
             say_unconnected(output, &error)
         }
     }
 }
 
 /// Carries a single command out over a connection to its path: the status.
-pub(crate) fn call_at<N: Net, W: Write>(net: &N, alloc: Global, call: Call, output: &mut W) -> u8
-    ensures { CallsAt call (W.contents output.old) (W.contents output.new) result }
+pub(crate) fn call_at<N: Net, W: Write, E: Write>(
+    net: &N,
+    alloc: Global,
+    call: Call,
+    output: &mut W,
+    errors: &mut E,
+) -> u8
+    ensures calls { CallsAt call (W.contents output.old) (W.contents output.new) result }
+    ensures told { MayTell (E.contents errors.old) (E.contents errors.new) }
+    ensures well { result ≢ 3 → E.contents errors.new ≡ E.contents errors.old }
 {
-    match UnixStream::connect(net, call.path.as_str()) {
+    let Call {
+        path,
+        caller,
+        command,
+    } = call;
+    let (status, cause) = match UnixStream::connect(net, path.as_str()) {
         Ok(stream) => {
             let mut to = &stream;
-            run_call(alloc, call.caller, call.command, output, &stream, &mut to)
+            let status = run_call(alloc, caller, command, output, &stream, &mut to);
+            (status, None)
         }
-        Err(error) => say_unconnected(output, &error),
+        Err(error) => (say_unconnected(output, &error), Some(error)),
+    };
+    if status == 3 {
+        tell_end(alloc, errors, path.as_str(), cause);
     }
+    status
+}
+
+/// Tells why a single call came to no answer: there was no connection, or it failed, or gave no reply that is one.
+fn tell_end<E: Write>(alloc: Global, errors: &mut E, path: &str, cause: Option<io::Error>)
+    ensures { MayTell (E.contents errors.old) (E.contents errors.new) }
+{
+    match cause {
+        Some(error) => tell_cause(alloc, errors, path, &error),
+        None => tell_of(alloc, errors, path, FAILED),
+    }
+}
+
+/// Tells why there is no connection.
+fn tell_cause<E: Write>(alloc: Global, errors: &mut E, path: &str, error: &io::Error)
+    ensures { MayTell (E.contents errors.old) (E.contents errors.new) }
+{
+    if let Ok(cause) = format!(in alloc; "{error}") {
+        tell_of(alloc, errors, path, cause.as_str());
+    }
+}
+
+/// Tells something of a path, as far as memory and the writer allow.
+fn tell_of<E: Write>(alloc: Global, errors: &mut E, path: &str, what: &str)
+    ensures { MayTell (E.contents errors.old) (E.contents errors.new) }
+{
+    if let Ok(text) = text_of(alloc, path, what) {
+        let _ = write_text(errors, text.as_slice());
+    }
+}
+
+/// The line that is told of a path.
+fn text_of(alloc: Global, path: &str, what: &str) -> Result<Vec<u8>, AllocError> {
+    let mut text = Vec::from_slice(alloc, b"keyretain: ")?;
+    push_quoted(&mut text, path.as_bytes())?;
+    text.extend_from_slice(b": ")?;
+    text.extend_from_slice(what.as_bytes())?;
+    text.push(b'\n')?;
+    Ok(text)
 }
 
 /// Says why there is no connection.

@@ -61,8 +61,12 @@ fn answer<N: Net, R: Read + Drop, W: Write, E: Write>(
             end.status
         }
         Choice::Remote(path) => script_at(net, alloc, path.as_str(), input, output, errors),
-        Choice::Call(call) => call_at(net, alloc, call, output),
+        Choice::Call(call) => call_at(net, alloc, call, output, errors),
         Choice::Usage => say_usage(output, errors),
+        Choice::NoCommand(text) => {
+            let _ = write_text(errors, text.as_slice());
+            say(output, USAGE, 2)
+        }
         Choice::Memory => say_out_of_memory(output),
         Choice::Shown(text) => say(output, text.as_str(), 0),
         Choice::Refused(text) => {

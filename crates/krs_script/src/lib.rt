@@ -11,5 +11,5 @@ mod waiting;
 pub use ending::{NO_CONNECTION, OUT_OF_MEMORY, USAGE, finish, say};
 pub use listed::{listing, records};
 pub use place::Place;
-pub use telling::tell;
+pub use telling::{no_command, push_quoted, tell};
 pub use waiting::{MOST_LINES, READ_AHEAD, write_before_waiting};

@@ -5,7 +5,11 @@ use crate::place::Place;
 use krs_commands::CommandName;
 use krs_words::{Stop, words, write_text};
 use std::alloc::{AllocError, Global};
+use std::ascii::escape_default;
 use std::io::Write;
+
+/// How many bytes of a word are quoted at most.
+const QUOTED: usize = 64;
 
 /// Tells those who look at standard error why a script stopped, and at which line, as far as memory and the writer
 /// allow. Of one that came to its end nothing is told.
@@ -40,11 +44,37 @@ fn text_of(alloc: Global, place: &Place, cause: Stop) -> Result<Vec<u8>, AllocEr
 /// Why these words are no command here.
 fn push_usage(alloc: Global, text: &mut Vec<u8>, line: &[u8]) -> Result<(), AllocError> {
     let words = words(alloc, line)?;
-    let word = words.first().copied().unwrap_or_default();
+    push_reason(text, words.first().copied().unwrap_or_default())
+}
+
+/// What is told of the words of a single call that are no command.
+pub fn no_command(alloc: Global, words: &[&[u8]]) -> Result<Vec<u8>, AllocError> {
+    let mut text = Vec::from_slice(alloc, b"keyretain: ")?;
+    push_reason(&mut text, words.first().copied().unwrap_or_default())?;
+    text.push(b'\n')?;
+    Ok(text)
+}
+
+/// Why words are no command whose first one this is.
+fn push_reason(text: &mut Vec<u8>, word: &[u8]) -> Result<(), AllocError> {
     let reason = match CommandName::of_word(word) {
         None => b"no such command: ".as_slice(),
         Some(_) => b"not as it is used, see keyretain --help: ".as_slice(),
     };
     text.extend_from_slice(reason)?;
-    text.extend_from_slice(word)
+    push_quoted(text, word)
+}
+
+/// A word as it is quoted: the first of its bytes, each that isn't printable as an escape, so that it does no harm to a
+/// terminal or a log.
+pub fn push_quoted(text: &mut Vec<u8>, word: &[u8]) -> Result<(), AllocError> {
+    for byte in &word[..word.len().min(QUOTED)] {
+        for shown in escape_default(*byte) {
+            text.push(shown)?;
+        }
+    }
+    if word.len() > QUOTED {
+        text.extend_from_slice(b"...")?;
+    }
+    Ok(())
 }
