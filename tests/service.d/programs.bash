@@ -29,6 +29,29 @@ try_script() {
   is 'script: --help' 0 "$("$keyretain" --help >/dev/null 2>&1; echo $?)"
 }
 
+# Why a program ended, on standard error: what is quoted there is cut, and does no harm to a terminal.
+try_causes() {
+  local long
+  long=$(printf '%0100d' 0)
+  tells 'no such path' "keyretain: /nonexistent/socket: No such file or directory (os error 2)" \
+    --socket /nonexistent/socket print 5 </dev/null
+  tells 'no such path of a script' "keyretain: /nonexistent/socket: No such file or directory (os error 2)" \
+    --socket /nonexistent/socket script </dev/null
+  start --accept 0
+  is_served 'for a path that is left' 0
+  python3 -c 'import socket, sys; socket.socket(socket.AF_UNIX).bind(sys.argv[1])' "$dir/left" 2>/dev/null &&
+    tells 'nobody listens' "keyretain: $dir/left: Connection refused (os error 111)" --socket "$dir/left" print 5 </dev/null
+  tells 'a path that is cut' "keyretain: /${long:0:63}...: path must be shorter than SUN_LEN" \
+    --socket "/$long$long" print 5 </dev/null
+  tells 'a call that is no command' 'keyretain: no such command: frobnicate' --socket "$path" frobnicate 5 </dev/null
+  tells 'a call without its words' 'keyretain: not as it is used, see keyretain --help: print' \
+    --socket "$path" print </dev/null
+  tells 'a line that is no command' 'keyretain: line 2: no such command: \x1b[31mh\xe9' script \
+    < <(printf 'hello 1 1\n\033[31mh\351 5\n')
+  tells 'a long line that is no command' "keyretain: line 1: no such command: ${long:0:64}..." script <<<"$long$long"
+  tells 'a script that ends well' '' script <<<'hello 1 1'
+}
+
 # An output whose reader has gone: the write fails, and the program says so by its status.
 try_broken_pipe() {
   local end

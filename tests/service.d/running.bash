@@ -114,6 +114,13 @@ prints() {
   is "$name" "$wanted" "$(timeout "$patience" "$keyretain" "$@" 2>/dev/null; echo "status $?")"
 }
 
+# tells NAME TEXT WORD ..: keyretain with these words tells this on standard error
+tells() {
+  local name=$1 wanted=$2
+  shift 2
+  is "$name" "$wanted" "$(timeout "$patience" "$keyretain" "$@" 2>&1 >/dev/null)"
+}
+
 # calls NAME STATUS TEXT WORD ..: the same of a single call by uid 1000
 calls() {
   local name=$1 status=$2 text=$3
