@@ -25,7 +25,7 @@ try_script() {
   else
     skipped 'output that can not be written: no /dev/full'
   fi
-  is 'script: --version' $'keyretain 0.1.0\nstatus 0' "$("$keyretain" --version 2>/dev/null; echo "status $?")"
+  is 'script: --version' "keyretain $version"$'\nstatus 0' "$("$keyretain" --version 2>/dev/null; echo "status $?")"
   is 'script: --help' 0 "$("$keyretain" --help >/dev/null 2>&1; echo $?)"
 }
 
@@ -73,7 +73,7 @@ try_words() {
     is "daemon: words '${words//$dir\//}'" 2 "$(timeout "$patience" "$keyretaind" $words >/dev/null 2>&1; echo $?)"
   done
   is 'daemon: no path after bad words' gone "$(path_state)"
-  is 'daemon: --version' $'keyretaind 0.1.0\nstatus 0' "$("$keyretaind" --version 2>/dev/null; echo "status $?")"
+  is 'daemon: --version' "keyretaind $version"$'\nstatus 0' "$("$keyretaind" --version 2>/dev/null; echo "status $?")"
   is 'daemon: --help' "$(<"$top/tests/service.d/keyretaind.help")"$'\nstatus 0' \
     "$("$keyretaind" --help 2>/dev/null; echo "status $?")"
 }

@@ -8,7 +8,7 @@ use clap::{Arg, ArgAction, ArgMatches, Command, Error, value_parser};
 use krs_remote::call_command;
 use krs_script::no_command;
 use krs_types::{Caller, Groups};
-use krs_words::NoCommand;
+use krs_words::{NoCommand, VERSION};
 use std::alloc::{AllocError, Global};
 use std::env::Args;
 use std::io;
@@ -213,7 +213,7 @@ fn command_line<'a>(alloc: Global) -> Result<Command<'a>, AllocError> {
         .trailing_var_arg(true)
         .help(WORDS_HELP);
     Command::new(alloc, "keyretain")
-        .version("0.1.0")
+        .version(VERSION)
         .about(ABOUT)
         .override_usage(USES)
         .after_help(COMMANDS)

@@ -9,6 +9,7 @@ ghost use Rattle.krs_serve.specs.CommandLine.{Gives, Spells, daemon, socket_rule
 use crate::options::Options;
 use clap::error::ErrorKind;
 use clap::{Arg, ArgMatches, Command, Error, value_parser};
+use krs_words::VERSION;
 use std::alloc::{AllocError, Global};
 use std::env::Args;
 use std::io;
@@ -167,7 +168,7 @@ fn command_line<'a>(alloc: Global) -> Result<Command<'a>, AllocError>
     ensures { IfOk result (λ command. app_of command ≡ daemon) }
 {
     Command::new(alloc, "keyretaind")
-        .version("0.1.0")
+        .version(VERSION)
         .about(ABOUT)
         .after_help(STATUSES)
         .arg(socket_option(alloc))?

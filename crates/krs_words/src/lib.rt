@@ -10,6 +10,7 @@ mod number;
 mod output;
 mod printing;
 mod stop;
+mod version;
 mod writing;
 
 pub use line::{is_comment, pieces, words};
@@ -21,4 +22,5 @@ pub use number::{
 pub use output::Output;
 pub use printing::output_line;
 pub use stop::Stop;
+pub use version::VERSION;
 pub use writing::{print_output, write_out, write_text};
