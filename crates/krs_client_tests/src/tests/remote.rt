@@ -92,7 +92,10 @@ fn tags_are_counted(rt: HostRuntime) -> Result<(), Fail> {
     let (mut output, mut asked) = (Vec::new(alloc), Vec::new(alloc));
     let lines = b"context 1\nexec\nexec\nexec\nexec\nexec\nexec\nexec\n";
     let status = ended(alloc, lines, &mut output, &replies, &mut asked);
-    assert_eq!(rt; output.as_slice(), b"ok\nok\nok\nok\nok\nok\nok\nok\n".as_slice());
+    assert_eq!(rt;
+        output.as_slice(),
+        b"ok\nok\nok\nok\nok\nok\nok\nok\n".as_slice()
+    );
     assert_eq!(rt; status, 0);
     assert_eq!(rt; asked.len(), 140);
     assert!(rt; asked.ends_with(ASKS_EXEC));
