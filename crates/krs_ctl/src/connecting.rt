@@ -58,29 +58,36 @@ pub(crate) fn call_at<N: Net, W: Write, E: Write>(
     ensures told { MayTell (E.contents errors.old) (E.contents errors.new) }
     ensures well { result ≢ 3 → E.contents errors.new ≡ E.contents errors.old }
 {
-    let Call {
-        path,
-        caller,
-        command,
-    } = call;
-    let (status, cause) = match UnixStream::connect(net, path.as_str()) {
+    match UnixStream::connect(net, call.path.as_str()) {
         Ok(stream) => {
             let mut to = &stream;
-            let status = run_call(alloc, caller, command, output, &stream, &mut to);
-            (status, None)
+            let status = run_call(alloc, call.caller, call.command, output, &stream, &mut to);
+            tell_end(alloc, errors, call.path.as_str(), status, None);
+            status
         }
-        Err(error) => (say_unconnected(output, &error), Some(error)),
-    };
-    if status == 3 {
-        tell_end(alloc, errors, path.as_str(), cause);
+        Err(error) => {
+            let status = say_unconnected(output, &error);
+            tell_end(alloc, errors, call.path.as_str(), status, Some(error));
+            status
+        }
     }
-    status
 }
 
-/// Tells why a single call came to no answer: there was no connection, or it failed, or gave no reply that is one.
-fn tell_end<E: Write>(alloc: Global, errors: &mut E, path: &str, cause: Option<io::Error>)
-    ensures { MayTell (E.contents errors.old) (E.contents errors.new) }
+/// Tells why a single call has status 3: there was no connection, or it failed, or gave no reply that is one. Of any other
+/// status nothing is told.
+fn tell_end<E: Write>(
+    alloc: Global,
+    errors: &mut E,
+    path: &str,
+    status: u8,
+    cause: Option<io::Error>,
+)
+    ensures told { MayTell (E.contents errors.old) (E.contents errors.new) }
+    ensures well { status ≢ 3 → errors.new ≡ errors.old }
 {
+    if status != 3 {
+        return;
+    }
     match cause {
         Some(error) => tell_cause(alloc, errors, path, &error),
         None => tell_of(alloc, errors, path, FAILED),

@@ -1,5 +1,5 @@
 -- What an acceptor over a socket shows: its counts; and which of its failures pass.
-use Rattle.std.specs.Prelude.{ℕ, ℤ, Bool, false, Option, None, Some, ◌==◌, ◌||◌}
+use Rattle.std.specs.Prelude.{ℕ, ℤ, pos, negsuc, Bool, false, Option, None, Some, ◌==◌, ◌||◌}
 use Rattle.krs_serve.specs.declared.acceptor.SocketAcceptor.{SocketAcceptor}
 
 -- how many connections it accepted, and how many accepts failed
@@ -13,4 +13,5 @@ failed_at a = a.failures
 -- ECONNABORTED and ENOBUFS. accept(2), "ERRORS"; asm-generic/errno.h
 abbrev pub is_passing : Option ℤ → Bool
 is_passing None = false
-is_passing (Some n) = n == 11 || n == 12 || n == 23 || n == 24 || n == 103 || n == 105
+is_passing (Some (negsuc n)) = false
+is_passing (Some (pos n)) = n == 11 || n == 12 || n == 23 || n == 24 || n == 103 || n == 105

@@ -26,8 +26,8 @@ pub trait Acceptor<S> {
         ensures failed { OnErr result (failures self.new ≡ failures self.old + 1) };
 }
 
-/// How long an accept that failed for a cause that passes waits for the end of a connection.
-const PAUSE: Duration = Duration::from_millis(100);
+/// How many milliseconds an accept that failed for a cause that passes waits for the end of a connection.
+const PAUSE: u64 = 100;
 
 /// How often such an accept is tried while no connection is served, whose end could help it: for ten seconds.
 const TRIES: u32 = 100;
@@ -71,8 +71,8 @@ impl<'a, 'd, R: Wait + Clock> SocketAcceptor<'a, 'd, R> {
 
     /// Closes the socket, so that whoever connects is refused, and gives what was counted.
     pub fn close(self) -> Accepts
-        ensures accepted { result.accepted ≡ accepted_by self }
-        ensures failures { result.failures ≡ failed_at self }
+        ensures accepted { result.accepted ≡ accepted_by self.entry }
+        ensures failures { result.failures ≡ failed_at self.entry }
     {
         Accepts {
             accepted: self.accepted,
@@ -82,12 +82,13 @@ impl<'a, 'd, R: Wait + Clock> SocketAcceptor<'a, 'd, R> {
 
     /// The next connection, waited for through failures that pass.
     fn next(&self) -> Result<UnixStream, Failed> {
+        let pause = Duration::from_millis(PAUSE);
         let mut idle = 0;
         for _ in self.rt.forever() {
             match self.listener.accept() {
                 Ok((stream, _)) => return Ok(stream),
                 Err(error) if passes(&error) && idle < TRIES => {
-                    let is_serving = self.free.await_end(self.rt, PAUSE);
+                    let is_serving = self.free.await_end(self.rt, pause);
                     idle = if is_serving { 0 } else { idle + 1 };
                 }
                 Err(_) => return Err(Failed),

@@ -1,5 +1,5 @@
 ghost use Rattle.std.specs.Prelude.{◌≡◌, ◌*◌, ◌/◌, ◌≤◌, ◌^◌, ◌-◌, min, Some, None, IfSome};
-ghost use Rattle.core.specs.Duration.{as_nanos};
+ghost use Rattle.std.specs.Duration.{as_nanos};
 ghost use Rattle.krs_serve.specs.Clock.{IsKept, kept_none, kept_both};
 ghost use Rattle.krs_serve.specs.Timeline.{after, begun, time_at};
 

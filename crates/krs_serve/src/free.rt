@@ -40,8 +40,9 @@ impl<'d> FreeSeats<'d> {
     pub fn await_end<R: Wait + Clock>(&self, rt: &R, longest: Duration) -> bool {
         let seats = self.seats.lock(rt);
         let before = seats.len();
-        let is_same = |free: &mut Vec<Sitting<'d>>| free.len() == before;
-        let (free, _) = self.returned.wait_timeout_while(rt, seats, longest, is_same);
+        let (free, _) = self
+            .returned
+            .wait_timeout_while(rt, seats, longest, |free| free.len() == before);
         free.len() + 1 < self.count
     }
 
