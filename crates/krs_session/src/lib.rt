@@ -12,6 +12,7 @@ mod gate;
 mod keeper;
 mod laws;
 mod over;
+mod reserve;
 mod session;
 mod writing;
 

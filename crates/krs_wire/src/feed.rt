@@ -1,11 +1,14 @@
-ghost use Rattle.std.specs.Prelude.{◌≡◌, ◌≢◌, ◌≤◌, ◌++◌, [], length, drop, IfOk, IfErr, IsSome, vec_len};
+ghost use Rattle.std.specs.Prelude.{◌≡◌, ◌≢◌, ◌≤◌, ◌++◌, [], length, drop, IfOk, IfErr, OnErr, IsSome, vec_len};
 ghost use Rattle.krs_wire.specs.Frame.{Frames, rest, bad};
 ghost use Rattle.krs_wire.specs.Feeding.{end_of, Feeds, Refuses, fault_of};
 
 use crate::asks::front_at;
 use crate::{Framed, WireFault};
-use std::alloc::Global;
+use std::alloc::{AllocError, Global};
 use std::marker::Model;
+
+/// How many bytes the longest frame of an ask has, with its length.
+const LONGEST_FRAME: usize = 65_540;
 
 /// The reading end of a connection: pieces of a stream in, whole frames out. A contract sees how the stream ends so
 /// far: in the beginning of a frame, or in a fault.
@@ -88,11 +91,20 @@ fn take_in(
         (λ x. Frames (left.old.items ++ piece.now) x.0.items (end_of x.1 left.new.items)) }
     ensures memory { IfErr result (λ fault. fault ≡ WireFault.Memory) }
     ensures no_memory { IfOk result (λ x. x.1 ≢ Some WireFault.Memory) }
+    ensures stays { OnErr result (left.new.items ≡ left.old.items) }
 {
+    let before = left.len();
     left.extend_from_slice(piece)?;
-    let cut = cut_stream(alloc, left)?;
-    drop_front(left, cut.taken);
-    Ok((cut.frames, cut.fault))
+    match cut_stream(alloc, left) {
+        Ok(cut) => {
+            drop_front(left, cut.taken);
+            Ok((cut.frames, cut.fault))
+        }
+        Err(fault) => {
+            left.truncate(before);
+            Err(fault)
+        }
+    }
 }
 
 impl Feed {
@@ -115,13 +127,22 @@ impl Feed {
         self.fault
     }
 
+    /// Makes room for what may be left over between two pieces of `piece` bytes: the longest frame but for its last byte,
+    /// and a piece.
+    pub fn make_room(&mut self, piece: usize) -> Result<(), AllocError>
+        ensures { self.new ≡ self.old }
+    {
+        self.left.reserve(LONGEST_FRAME.saturating_add(piece))
+    }
+
     /// Takes the next piece of the stream, and answers the frames that are whole now. A fault behind them shows in
     /// `fault`, and is what every later piece is answered with. A piece that is refused for lack of memory is not
-    /// taken, and the feed has failed.
+    /// taken, and may be given again.
     pub fn feed(&mut self, piece: &[u8]) -> Result<Vec<Framed>, WireFault>
         ensures frames { IfOk result (λ frames. Feeds self.old piece.now frames.items self.new) }
         ensures refused { IfErr result (Refuses self.old piece.now) }
-        ensures failed { IfErr result (λ fault. self.new ≡ bad fault) }
+        ensures failed { IfErr result (λ fault. fault ≢ WireFault.Memory → self.new ≡ bad fault) }
+        ensures stays { result ≡ Err WireFault.Memory → self.new ≡ self.old }
         ensures no_memory { IfOk result (λ frames. fault_of self.new ≢ Some WireFault.Memory) }
         ensures at_once { IfOk result (λ frames. IsSome (fault_of self.new) → frames.items ≢ []) }
     {
@@ -138,10 +159,7 @@ impl Feed {
                 }
                 Ok(frames)
             }
-            Err(fault) => {
-                self.fault = Some(fault);
-                Err(fault)
-            }
+            Err(fault) => Err(fault),
         }
     }
 }
