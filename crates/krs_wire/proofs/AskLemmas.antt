@@ -1,22 +1,22 @@
 -- An ask's frame is cut as that ask with its tag, and a frame that is cut is that ask's.
-use Rattle.std.proofs.Common.{◌≡◌, ℕ, ◌-◌, ◌^◌, ◌<◌, ◌≤◌, Bool, true, false, cond, eqb, ltb, ◌||◌, ◌⊎◌, inl, inr}
-use Rattle.std.proofs.Common.{List, [], ◌∷◌, ◌++◌, length, take, drop, Option, Some, None, Result, Ok, Err, IfOk, IfErr}
-use Rattle.std.proofs.Common.{OnOk, refl, sym, ap, subst, ◌∙◌, append_assoc, arith, length-append}
+use Rattle.std.proofs.Common.{◌≡◌, ℕ, ◌^◌, ◌<◌, ◌≤◌, Bool, true, false, cond, eqb, ltb, ◌||◌, ◌⊎◌, inl, inr}
+use Rattle.std.proofs.Common.{List, [], ◌∷◌, ◌++◌, length, take, drop, Option, Some, None, Result, Ok, Err}
+use Rattle.std.proofs.Common.{refl, sym, ap, subst, ◌∙◌, append_assoc, arith, length-append}
 use Rattle.std.specs.Int.{w16, w32, to_le_bytes}
 use Rattle.std.proofs.lemmas.Bool.{ltb-false, le-ltb, eqb-true}
 use Rattle.std.proofs.lemmas.List.{take_at, drop_at, append-nil, take-append-drop, length-take}
 use Rattle.krs_wire.specs.declared.fault.WireFault.{WireFault}
-use Rattle.krs_wire.specs.declared.fault.WireFault.TheVariants.{BadLength, BadVersion, BadBody}
+use Rattle.krs_wire.specs.declared.fault.WireFault.TheVariants.{BadVersion, BadBody}
 use Rattle.krs_types.specs.declared.ask.Ask.{Ask}
 use Rattle.krs_types.specs.declared.ask.Op.{Op}
 use Rattle.krs_wire.specs.declared.framed.Framed.{Framed}
-use Rattle.krs_wire.specs.Field.{number, sized, both}
+use Rattle.krs_wire.specs.Field.{number, both}
 use Rattle.krs_wire.specs.Faulting.{after}
 use Rattle.krs_wire.specs.Bodies.{number_of_op, body_of_op, FitsOp}
 use Rattle.krs_wire.specs.Tag.{version_of, tag_text, tag_field, FitsTag}
 use Rattle.krs_wire.specs.Frame.{rest, Frames, front_of, front_by, front_in, is_bad_length, framed_of, framed_by}
 use Rattle.krs_wire.specs.Frame.{op_of, said_by, head_fields}
-use Rattle.krs_wire.specs.Spelling.{framed, ask_text, ask_frame, FitsAsk, IsTooLong}
+use Rattle.krs_wire.specs.Spelling.{framed, ask_text, ask_frame, FitsAsk}
 use Rattle.krs_wire.proofs.CaseLemmas.{or_false, or_true}
 use Rattle.krs_wire.proofs.FieldLemmas.{IsBytes, IsBytes-take, IsExact, wide16, wide32, number_exact, both_exact}
 use Rattle.krs_wire.proofs.TagLemmas.{tag_exact, version_is}
@@ -195,58 +195,3 @@ front_takes bytes f more fits e =
           ∙ sym (append_assoc (to_le_bytes w32 (length text)) text more),
       record { tagged = a.tagged; context = a.context; op = a.op; size = omega (arith, len, size) },
     )
-
--- ---- the length written over the first four bytes
-
-if_ok_more : {V E : Type 0} {P Q : V → Type 0} (r : Result V E) → IfOk r P → ((v : V) → P v → Q v) → IfOk r Q
-if_ok_more (Ok v) h so = so v h
-if_ok_more (Err e) h so = tt
-
-on_ok_more : {V E : Type 0} {P Q : Type 0} (r : Result V E) → OnOk r P → (P → Q) → OnOk r Q
-on_ok_more (Ok v) h so = so h
-on_ok_more (Err e) h so = tt
-
-if_err_more : {V E : Type 0} {P Q : E → Type 0} (r : Result V E) → IfErr r P → ((e : E) → P e → Q e) → IfErr r Q
-if_err_more (Ok v) h so = tt
-if_err_more (Err e) h so = so e h
-
-both_ok_more : {V E : Type 0} {P : Type 0} {Q R : V → Type 0} (r : Result V E) → OnOk r P → IfOk r Q
-    → ((v : V) → P → Q v → R v) → IfOk r R
-both_ok_more (Ok v) p q so = so v p q
-both_ok_more (Err e) p q so = tt
-
-pub sized_over : (items text out : List ℕ) (len : ℕ) → items ≡ to_le_bytes w32 0 ++ text → len ≡ length items - 4
-    → out ≡ to_le_bytes w32 len ++ drop 4 items → out ≡ (sized w32).spell text
-sized_over items text out len items-are len-is out-is =
-    let same : len ≡ length text =
-    omega (arith, ap (λ (x : List ℕ). length x) items-are, length-append (to_le_bytes w32 0) text) in
-    out-is ∙ ap (λ (x : List ℕ). to_le_bytes w32 len ++ drop 4 x) items-are
-    ∙ ap (λ (n : ℕ). to_le_bytes w32 n ++ text) same
-
-module _ {V : Type 0} (items_of : V → List ℕ) (r : Result V WireFault) (items : List ℕ) (tag : Option ℕ) (ask : Ask)
-    (are : items ≡ to_le_bytes w32 0 ++ ask_text tag ask) where
-  -- what stands behind four bytes, with its length over these, is the frame
-  pub frame_over : IfOk r (λ v. items_of v ≡ to_le_bytes w32 (length items - 4) ++ drop 4 items)
-      → IfOk r (λ v. items_of v ≡ ask_frame tag ask)
-  frame_over framed = if_ok_more r framed
-      (λ v is. sized_over items (ask_text tag ask) (items_of v) (length items - 4) are refl is)
-
-  size_over : length items ≤ 65540 → length (ask_text tag ask) ≤ 65536
-  size_over small = omega (arith, ap length are, length-append (to_le_bytes w32 0) (ask_text tag ask), small)
-
-  -- and it is short enough, or refused as too long
-  pub short_over : OnOk r (length items ≤ 65540) → OnOk r (length (ask_text tag ask) ≤ 65536)
-  short_over fits = on_ok_more r fits size_over
-
-  pub long_over : IfErr r (λ fault. (fault ≡ BadLength) × (65540 < length items))
-      → IfErr r (IsTooLong 65537 (ask_text tag ask))
-  long_over long = if_err_more r long
-      (λ fault is other.
-      (is.0, omega (arith, ap length are, length-append (to_le_bytes w32 0) (ask_text tag ask), is.1)))
-
-  pub cut_over : FitsTag tag → ask.context < 256 ^ 4 → FitsOp ask.op → OnOk r (length items ≤ 65540)
-      → IfOk r (λ v. items_of v ≡ to_le_bytes w32 (length items - 4) ++ drop 4 items)
-      → IfOk r (λ v. Frames (items_of v) (framed tag ask ∷ []) (rest []))
-  cut_over tagged context op fits made = both_ok_more r fits (frame_over made)
-      (λ v small is. one_frame (items_of v) tag ask
-      (record { tagged = tagged; context = context; op = op; size = size_over small }) is)

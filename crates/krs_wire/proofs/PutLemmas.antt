@@ -1,6 +1,7 @@
 -- Bytes that are put behind others.
 use Rattle.std.proofs.Common.{◌≡◌, ◌+◌, ◌<◌, List, [], ◌∷◌, ◌++◌, ℕ, length, get_or, take, Result, Ok, Err, OnOk, ap}
-use Rattle.std.proofs.Common.{sym, subst, ◌∙◌, append_assoc, arith, IfErr, length-append}
+use Rattle.std.proofs.Common.{sym, subst, ◌∙◌, append_assoc, arith, IfErr, length-append, refl}
+use Rattle.std.specs.Prelude.{min}
 use Rattle.std.proofs.lemmas.List.{take_more, flat_map_more}
 use Rattle.std.specs.List.{flat_map, AllByRecursion}
 use Rattle.krs_wire.specs.Field.{Field}
@@ -34,6 +35,16 @@ module _ {A : Type 0} (f : Field A) (xs : List A) (i : ℕ) (d : A) (low : i < l
       put ∙ ap (λ (bytes : List ℕ). bytes ++ f.spell (get_or xs i d)) before
       ∙ flat_map_more f.spell front (take i xs) (get_or xs i d)
       ∙ ap (λ (ys : List A). front ++ flat_map f.spell ys) (sym (take_more xs i d low))
+
+  -- and the length of their text is greater by its own, up to a greatest number
+  pub longer_one : (most least one before now : ℕ) → before ≡ min (least + length (flat_map f.spell (take i xs))) most
+      → one ≡ length (f.spell (get_or xs i d)) → now ≡ min (before + one) most
+      → now ≡ min (least + length (flat_map f.spell (take (i + 1) xs))) most
+  longer_one most least one before now before-is one-is now-is =
+      let text = flat_map f.spell (take i xs) in
+      let next = f.spell (get_or xs i d) in
+      let all : flat_map f.spell (take (i + 1) xs) ≡ text ++ next = sym (then_one [] text (text ++ next) refl refl) in
+      omega (arith, ap length all, length-append text next, before-is, one-is, now-is)
 
   -- and all of them fit
   pub fit_one : AllByRecursion f.Fits (take i xs) → f.Fits (get_or xs i d) → AllByRecursion f.Fits (take (i + 1) xs)

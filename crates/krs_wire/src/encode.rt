@@ -1,6 +1,4 @@
-ghost use Rattle.std.specs.Prelude.{◌≡◌, ◌≤◌, ◌<◌, ◌-◌, ◌^◌, ◌++◌, [], ◌∷◌, length, drop, vec_len, None, Some};
-ghost use Rattle.std.specs.Prelude.{IfOk, IfErr, OnOk};
-ghost use Rattle.std.specs.Int.{w32, to_le_bytes};
+ghost use Rattle.std.specs.Prelude.{◌≡◌, ◌≤◌, ◌<◌, ◌^◌, ◌++◌, [], ◌∷◌, length, None, Some, IfOk, IfErr, OnOk};
 ghost use Rattle.krs_wire.specs.Bodies.{number_of_op, FitsOp};
 ghost use Rattle.krs_wire.specs.Frame.{Frames, rest};
 ghost use Rattle.krs_wire.specs.Spelling.{framed, ask_text, ask_frame, IsTooLong};
@@ -9,8 +7,8 @@ ghost use Rattle.krs_wire.specs.Tag.{version_of, FitsTag};
 use crate::WireFault;
 use crate::bodies::put_body;
 use crate::framed::{MAX_LENGTH, TAGGED, UNTAGGED};
+use crate::lengths::ask_length;
 use crate::put::{put_tag, put_u16, put_u32};
-use byteorder::{ByteOrder, LittleEndian};
 use krs_types::{Ask, Op};
 use std::alloc::Global;
 
@@ -76,61 +74,44 @@ fn put_ask(out: &mut Vec<u8>, tag: Option<u64>, ask: &Ask) -> Result<(), WireFau
     put_body(out, &ask.op)
 }
 
-/// Writes a length over the first four bytes.
-fn set_length(out: &mut Vec<u8>, len: u32)
-    requires { 4 ≤ vec_len out.old }
-    ensures { out.new.items ≡ to_le_bytes w32 len ++ drop 4 out.old.items }
-{
-    LittleEndian::write_u32(out, len);
-}
-
-/// What stands behind four bytes, with its length over these: BadLength where that is above 65536.
-fn with_length(out: Vec<u8>) -> Result<Vec<u8>, WireFault>
-    requires { 4 ≤ vec_len out }
-    ensures frame { IfOk result (λ v. v.items ≡ to_le_bytes w32 (length out.items - 4) ++ drop 4 out.items) }
-    ensures fits { OnOk result (length out.items ≤ 65540) }
-    ensures long { 65540 < length out.items → result ≡ Err WireFault.BadLength }
-    ensures fault { IfErr result (λ fault. (fault ≡ WireFault.BadLength) × (65540 < length out.items)) }
-{
-    let mut out = out;
-    let len = out.len() - 4;
-    if len > MAX_LENGTH {
-        return Err(WireFault::BadLength);
-    }
-    set_length(&mut out, len as u32);
-    Ok(out)
-}
-
-/// The frame of an ask, with a tag or with none: BadLength where its length would be above 65536.
+/// The frame of an ask, with a tag or with none: BadLength where its length would be above 65536, whatever memory there
+/// is.
 fn encode(alloc: Global, ask: &Ask, tag: Option<u64>) -> Result<Vec<u8>, WireFault>
     ensures frame { IfOk result (λ v. v.items ≡ ask_frame tag ask.now) }
     ensures cut { IfOk result (λ v. Frames v.items (framed tag ask.now ∷ []) (rest [])) }
     ensures fits { OnOk result (length (ask_text tag ask.now) ≤ 65536) }
     ensures long { IfErr result (IsTooLong 65537 (ask_text tag ask.now)) }
+    ensures refused { 65536 < length (ask_text tag ask.now) → result ≡ Err WireFault.BadLength }
 {
-    // The length is written once the rest is there.
+    let length = ask_length(ask, tag);
+    if length > MAX_LENGTH {
+        return Err(WireFault::BadLength);
+    }
     let mut out = Vec::new(alloc);
-    put_u32(&mut out, 0)?;
+    put_u32(&mut out, length as u32)?;
     put_ask(&mut out, tag, ask)?;
-    with_length(out)
+    Ok(out)
 }
 
-/// The frame of an ask in version 1: BadLength where its length would be above 65536.
+/// The frame of an ask in version 1: BadLength where its length would be above 65536, whatever memory there is.
 pub fn encode_ask(alloc: Global, ask: &Ask) -> Result<Vec<u8>, WireFault>
     ensures frame { IfOk result (λ v. v.items ≡ ask_frame None ask.now) }
     ensures cut { IfOk result (λ v. Frames v.items (framed None ask.now ∷ []) (rest [])) }
     ensures fits { OnOk result (length (ask_text None ask.now) ≤ 65536) }
     ensures long { IfErr result (IsTooLong 65537 (ask_text None ask.now)) }
+    ensures refused { 65536 < length (ask_text None ask.now) → result ≡ Err WireFault.BadLength }
 {
     encode(alloc, ask, None)
 }
 
-/// The frame of an ask in version 2, with its tag: BadLength where its length would be above 65536.
+/// The frame of an ask in version 2, with its tag: BadLength where its length would be above 65536, whatever memory
+/// there is.
 pub fn encode_ask2(alloc: Global, ask: &Ask, tag: u64) -> Result<Vec<u8>, WireFault>
     ensures frame { IfOk result (λ v. v.items ≡ ask_frame (Some tag) ask.now) }
     ensures cut { IfOk result (λ v. Frames v.items (framed (Some tag) ask.now ∷ []) (rest [])) }
     ensures fits { OnOk result (length (ask_text (Some tag) ask.now) ≤ 65536) }
     ensures long { IfErr result (IsTooLong 65537 (ask_text (Some tag) ask.now)) }
+    ensures refused { 65536 < length (ask_text (Some tag) ask.now) → result ≡ Err WireFault.BadLength }
 {
     encode(alloc, ask, Some(tag))
 }

@@ -10,6 +10,7 @@ mod feed;
 mod fields;
 mod framed;
 mod laws;
+mod lengths;
 mod put;
 mod replies;
 mod shape;

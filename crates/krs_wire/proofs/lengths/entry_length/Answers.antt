@@ -1,0 +1,12 @@
+use Rattle.std.proofs.Common.{◌≡◌, ◌*◌, length, arith}
+use Rattle.std.specs.Int.{w32}
+use Rattle.std.specs.List.{flat_map}
+use Rattle.krs_wire.specs.Field.{number}
+use Rattle.krs_wire.proofs.CountLemmas.{length_numbers}
+use Rattle.krs_wire.proofs.lengths.entry_length.Goals as goal
+
+pub returns : goal.returns
+returns c =
+    let words = c.args.entry.now.subtypes in
+    let size : length (flat_map (number w32).spell words) ≡ 4 * length words = length_numbers words in
+    omega (arith, size)
