@@ -153,7 +153,7 @@ fn are_updates(bytes: &[u8]) -> bool {
     let mut left = bytes;
     'notes: while left.len() >= 16 {
         let (note, after) = left.split_at(16);
-        if note != UPDATED {
+        if note != UPDATED.as_slice() {
             return false;
         }
         left = after;
@@ -166,7 +166,7 @@ fn gives_all_notes(reply: &Reply) -> bool {
     match reply {
         Ok(Answer::Bytes(records)) if records.as_slice().len() == 65_544 => {
             let (notes, loss) = records.as_slice().split_at(65_536);
-            are_updates(notes) && loss == [0, 0, 0, 1, 8, 0, 0, 0]
+            are_updates(notes) && loss == [0, 0, 0, 1, 8, 0, 0, 0].as_slice()
         }
         _ => false,
     }
