@@ -97,21 +97,6 @@ try_few_files() {
   is_served 'few files' 14
 }
 
-# A daemon under a limit of memory, which its clients fill: what is too much is refused with ENOMEM, and no connection
-# ends and no key is lost, whatever the size of the payloads.
-try_little_memory() {
-  local row size clients
-  limited with-little-memory '-Ss 256 && ulimit -Sv 40000 && export MALLOC_ARENA_MAX=1'
-  local keyretaind=$dir/with-little-memory
-  for row in '1 1' '20 1' '200 1' '500 1' '1000 1' '2000 1' '4000 1' '8000 1' '32767 1' '20 8' '1000 8' '32767 8'; do
-    read -r size clients <<<"$row"
-    start
-    is "little memory, $clients clients with payloads of $size bytes" kept \
-      "$(python3 -B "$top/tests/service.d/memory.py" "$path" "$size" "$clients" 2>/dev/null)"
-    kill_daemon TERM
-  done
-}
-
 # injecting NAME ERROR WHEN: a program that is the daemon, whose accepts of these numbers fail with this error
 injecting() {
   printf '#!%s\nexec strace -f -qq -o /dev/null -e trace=accept,accept4 -e inject=accept,accept4:error=%s:when=%s %q "$@"\n' \

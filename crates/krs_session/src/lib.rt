@@ -12,7 +12,6 @@ mod gate;
 mod keeper;
 mod laws;
 mod over;
-mod reserve;
 mod session;
 mod writing;
 

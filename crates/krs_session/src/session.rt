@@ -1,23 +1,17 @@
 // A session: turns of one read each, and LEAVE.
-ghost use Rattle.std.specs.Prelude.{◌≡◌, ◌≢◌, ◌<◌, ◌≤◌, ◌+◌, ◌-◌, ℕ, List, [], length, IfOk, IfErr};
-ghost use Rattle.krs_wire.specs.Frame.{Frames, rest};
-ghost use Rattle.krs_wire.specs.Feeding.{fault_of, Feeds, Refuses};
+ghost use Rattle.std.specs.Prelude.{◌≡◌, ◌≢◌, ◌<◌, ◌≤◌, ◌+◌, ◌-◌, ℕ, List, length};
+ghost use Rattle.krs_wire.specs.Feeding.{fault_of};
 ghost use Rattle.krs_session.specs.Session.{Session, EndsBy, HaveRoom, counts_of};
 ghost use Rattle.krs_session.specs.Serving.{Served, PieceEndsBy, TurnEndsBy, Finished};
 
 use crate::asking::{Setting, answer_all, ask_one};
-use crate::reserve::Reserve;
 use crate::{Clock, Ended, Gate, Keeper, Sink, Source};
 use krs_types::{Ask, Op};
-use krs_wire::{Feed, Framed, WireFault};
+use krs_wire::{Feed, WireFault};
 use std::alloc::Global;
 
 /// How many bytes a turn reads at most: docs/FORMAT.md, "A connection".
 const READ_SIZE: usize = 4096;
-
-/// Room for replies that wait, which is made as a session begins: for all that are held until they are written, and the
-/// longest payload behind them.
-const REPLY_ROOM: usize = 98_368;
 
 /// What a session keeps from turn to turn: the reading end, room for what is read, and for replies that wait.
 #[derive(Drop)]
@@ -25,57 +19,12 @@ struct Held {
     feed: Feed,
     room: [u8; READ_SIZE],
     out: Vec<u8>,
-    reserve: Reserve,
-}
-
-impl Held {
-    /// Nothing was read yet. What may be wanted later has its room from the start, as far as there is memory.
-    fn new(alloc: Global) -> Held
-        ensures nothing { result.feed ≡ rest [] }
-        ensures empty { Frames [] [] result.feed }
-    {
-        let mut feed = Feed::new(alloc);
-        let mut out = Vec::new(alloc);
-        let _ = feed.make_room(READ_SIZE);
-        let _ = out.reserve(REPLY_ROOM);
-        Held {
-            feed,
-            room: [0u8; READ_SIZE],
-            out,
-            reserve: Reserve::new(alloc),
-        }
-    }
-}
-
-/// Cuts a piece of the stream into frames. Where there is no memory for that, the reserve is let go, and it is tried once
-/// more.
-fn cut_piece(
-    feed: &mut Feed,
-    reserve: &mut Reserve,
-    piece: &[u8],
-) -> Result<Vec<Framed>, WireFault>
-    requires unfailed { fault_of feed.old ≡ None }
-    ensures frames { IfOk result (λ frames. Feeds feed.old piece.now frames.items feed.new) }
-    ensures refused { IfErr result (Refuses feed.old piece.now) }
-    ensures no_memory { IfOk result (λ frames. fault_of feed.new ≢ Some WireFault.Memory) }
-{
-    reserve.take_back();
-    match feed.feed(piece) {
-        Err(WireFault::Memory) => {
-            reserve.let_go();
-            let fed = feed.feed(piece);
-            reserve.take_back();
-            fed
-        }
-        fed => fed,
-    }
 }
 
 /// Cuts a piece of the stream, asks what its frames ask, and writes the replies. What ends the session is the answer.
 fn serve_piece<H, W: Sink, S, D: Keeper<S, H>, C: Clock, G: Gate>(
     setting: &Setting<'_, H, D, G>,
     feed: &mut Feed,
-    reserve: &mut Reserve,
     out: &mut Vec<u8>,
     piece: &[u8],
     writer: &mut W,
@@ -92,7 +41,7 @@ fn serve_piece<H, W: Sink, S, D: Keeper<S, H>, C: Clock, G: Gate>(
     ensures ready { D.ready setting.now.desk.now seat.new }
     ensures lane { D.lane_of seat.new ≡ D.lane_of seat.old }
 {
-    match cut_piece(feed, reserve, piece) {
+    match feed.feed(piece) {
         Err(fault) => match fault {
             WireFault::Memory => Some(Ended::Memory),
             _ => Some(Ended::Wire(fault)),
@@ -140,7 +89,6 @@ fn turn<H, R: Source, W: Sink, S, D: Keeper<S, H>, C: Clock, G: Gate>(
             serve_piece(
                 setting,
                 &mut held.feed,
-                &mut held.reserve,
                 &mut held.out,
                 piece,
                 writer,
@@ -173,7 +121,11 @@ fn serve<H, R: Source, W: Sink, S, D: Keeper<S, H>, C: Clock, G: Gate>(
     ensures ready { D.ready setting.now.desk.now seat.new }
     ensures lane { D.lane_of seat.new ≡ D.lane_of seat.old }
 {
-    let mut held = Held::new(setting.alloc);
+    let mut held = Held {
+        feed: Feed::new(setting.alloc),
+        room: [0u8; READ_SIZE],
+        out: Vec::new(setting.alloc),
+    };
     for made in 0..turns {
         if let Some(ended) = turn(setting, &mut held, reader, writer, seat, clock) {
             return ended;

@@ -4,11 +4,8 @@ ghost use Rattle.krs_wire.specs.Feeding.{end_of, Feeds, Refuses, fault_of};
 
 use crate::asks::front_at;
 use crate::{Framed, WireFault};
-use std::alloc::{AllocError, Global};
+use std::alloc::Global;
 use std::marker::Model;
-
-/// How many bytes the longest frame of an ask has, with its length.
-const LONGEST_FRAME: usize = 65_540;
 
 /// The reading end of a connection: pieces of a stream in, whole frames out. A contract sees how the stream ends so
 /// far: in the beginning of a frame, or in a fault.
@@ -125,14 +122,6 @@ impl Feed {
         ensures { result ≡ fault_of self.now }
     {
         self.fault
-    }
-
-    /// Makes room for what may be left over between two pieces of `piece` bytes: the longest frame but for its last byte,
-    /// and a piece.
-    pub fn make_room(&mut self, piece: usize) -> Result<(), AllocError>
-        ensures { self.new ≡ self.old }
-    {
-        self.left.reserve(LONGEST_FRAME.saturating_add(piece))
     }
 
     /// Takes the next piece of the stream, and answers the frames that are whole now. A fault behind them shows in
