@@ -32,7 +32,7 @@ abbrev pub PrintsCall : Talk → Caller → Command → List ℕ → Talk → Ty
 PrintsCall old caller command line new =
     (output : Output) × CallsFor old caller command output new × (line ≡ shown output ++ 10 ∷ [])
 
--- a call that prints no line: it broke off; or memory was wanting, before it or for its line
+-- a call that prints no line: it broke off; or memory ran out, before it or for its line
 abbrev pub StopsCall : Talk → Caller → Command → Stop → Talk → Type 0
 StopsCall old caller command Memory new =
     (new ≡ old)

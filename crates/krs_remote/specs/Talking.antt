@@ -14,7 +14,7 @@ use Rattle.krs_words.specs.declared.stop.Stop.{Stop}
 use Rattle.krs_words.specs.declared.stop.Stop.TheVariants.{Usage, Memory, Reading, TooLong, Printing, Connection}
 use Rattle.krs_words.specs.Writing.{WritesFront}
 
--- why a client stops that reads no reply: memory was wanting, or the connection gave what is none
+-- why a client stops that reads no reply: memory ran out, or the connection gave what is none
 abbrev pub cause_of : WireFault → Stop
 cause_of wire.Memory = Memory
 cause_of _ = Connection
@@ -33,7 +33,7 @@ abbrev pub Exchanges : Option (List ℕ) → Option (List ℕ) → (tag : ℕ) �
 Exchanges sent0 left0 tag ask sent1 left1 reply =
     Appends sent0 sent1 (ask_frame (Some tag) ask) × GivesReply left0 left1 (shape_of ask.op) tag reply
 
--- Why an ask was not sent: no frame is long enough for it, or memory was wanting, and nothing was sent; or writing
+-- Why an ask was not sent: no frame is long enough for it, or memory ran out, and nothing was sent; or writing
 -- failed, and a beginning of its frame was sent.
 abbrev pub NotSent : Option (List ℕ) → (tag : ℕ) → Ask → Option (List ℕ) → Stop → Type 0
 NotSent sent0 tag ask sent1 Usage = (65536 < length (ask_text (Some tag) ask)) × (sent1 ≡ sent0)
@@ -43,7 +43,7 @@ NotSent sent0 tag ask sent1 Reading = ⊥
 NotSent sent0 tag ask sent1 TooLong = ⊥
 NotSent sent0 tag ask sent1 Printing = ⊥
 
--- Why there is no reply: no frame is long enough for the ask, and nothing was sent or read; or memory was wanting, or
+-- Why there is no reply: no frame is long enough for the ask, and nothing was sent or read; or memory ran out, or
 -- the connection failed or gave no reply with this tag, and a beginning of the ask's frame was sent, and nothing else.
 abbrev pub GivesUp : Option (List ℕ) → Option (List ℕ) → (tag : ℕ) → Ask → Option (List ℕ) → Option (List ℕ) → Stop
     → Type 0
