@@ -15,7 +15,8 @@ use std::net::Net;
 use std::os::unix::net::UnixStream;
 
 /// What is told of a connection that was made, and came to no reply.
-const FAILED: &str = "the connection failed, or gave no reply; or standard output cannot be written";
+const FAILED: &str =
+    "the connection failed, or gave no reply; or standard output cannot be written";
 
 /// Runs the lines of a reader over a connection to the path: the script's status.
 pub(crate) fn script_at<N: Net, R: Read + Drop, W: Write, E: Write>(

@@ -2,11 +2,10 @@
 use krs_serve::{Latest, SystemClock};
 use krs_session::Clock;
 use std::cell::Cell;
-use std::io;
 use std::process::Abort;
 use std::test::*;
-use std::time;
 use std::time::Duration;
+use std::{io, time};
 
 /// A wall clock, which may fail, and a steady one, in milliseconds.
 #[derive(Drop)]

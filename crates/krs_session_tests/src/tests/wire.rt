@@ -63,10 +63,12 @@ fn is_reply(alloc: Global, op: &Op, want: Want<'_>, frame: &[u8]) -> Result<bool
     let again = encode_reply(alloc, &found)?;
     let is_same = len == frame.len() && again.as_slice() == frame;
     let tagged = with_tag(alloc, frame, 8)?;
-    Ok(is_same
-        && is_wanted(&found, want)
-        && decode_reply(alloc, op, part)?.is_none()
-        && is_tagged_reply(alloc, op, want, &tagged)?)
+    Ok(
+        is_same
+            && is_wanted(&found, want)
+            && decode_reply(alloc, op, part)?.is_none()
+            && is_tagged_reply(alloc, op, want, &tagged)?,
+    )
 }
 
 /// Whether these bytes, as a reply of version 2 to this ask, have this fault.

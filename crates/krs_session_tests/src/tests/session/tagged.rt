@@ -84,8 +84,7 @@ fn is_answered_in_pieces(
 fn each_reply_has_its_asks_version_and_tag(rt: HostRuntime) {
     for (stream, replies, asks) in &STREAMS {
         for size in 1..=stream.len() {
-            let is_right =
-                is_answered_in_pieces(&rt, rt.alloc(), stream, replies, *asks, size);
+            let is_right = is_answered_in_pieces(&rt, rt.alloc(), stream, replies, *asks, size);
             assert!(rt; is_right, "{size} bytes a read");
         }
     }

@@ -129,9 +129,11 @@ fn is_spelled(alloc: Global, frame: &[u8], text: &str, form: Form) -> Result<boo
     let [framed] = frames.as_slice() else {
         return Ok(false);
     };
-    Ok(framed.tag.is_none()
-        && is_ask(alloc, &framed.ask, text, frame)?
-        && is_answered(alloc, &framed.ask.op, form)?)
+    Ok(
+        framed.tag.is_none()
+            && is_ask(alloc, &framed.ask, text, frame)?
+            && is_answered(alloc, &framed.ask.op, form)?,
+    )
 }
 
 /// Whether the frame in version 2, with a tag, is read as one ask with that tag, which is spelled so.
@@ -145,16 +147,21 @@ fn is_spelled_with_tag(alloc: Global, frame: &[u8], text: &str) -> Result<bool, 
         return Ok(false);
     };
     let again = encode_ask2(alloc, &framed.ask, TAG)?;
-    Ok(framed.tag == Some(TAG)
-        && is_ask(alloc, &framed.ask, text, frame)?
-        && again.as_slice() == tagged.as_slice())
+    Ok(
+        framed.tag == Some(TAG)
+            && is_ask(alloc, &framed.ask, text, frame)?
+            && again.as_slice() == tagged.as_slice(),
+    )
 }
 
 #[test]
 fn each_ask_is_spelled(rt: HostRuntime) -> Result<(), Fail> {
     for (frame, text, form) in asks() {
         assert!(rt; is_spelled(rt.alloc(), frame, text, *form)?, "{text}");
-        assert!(rt; is_spelled_with_tag(rt.alloc(), frame, text)?, "{text}, with a tag");
+        assert!(rt;
+            is_spelled_with_tag(rt.alloc(), frame, text)?,
+            "{text}, with a tag"
+        );
     }
     Ok(())
 }
