@@ -109,23 +109,25 @@ can_inject() {
   strace -qq -o /dev/null -e trace=accept -e inject=accept:error=EPERM:when=1 true 2>/dev/null
 }
 
-# Causes that pass: the next connection is served all the same.
+# passes CAUSE: an accept that fails for it is tried again, and the next connection is served all the same
+passes() {
+  injecting "with-$1" "$1" 2..4
+  local keyretaind=$dir/with-$1
+  start --accept 2
+  open_client first
+  answers first 'hello 1000 1000' 1
+  answers first 'add user alpha a @u' 5
+  open_client second
+  answers second 'hello 1000 1000' 2
+  answers second 'print 5' a
+  close_client second 0
+  close_client first 0
+  is_served "an accept that failed with $1" 2
+}
+
 try_passing_causes() {
   local cause
-  for cause in EAGAIN ENOMEM ENFILE EMFILE ECONNABORTED ENOBUFS; do
-    injecting "with-$cause" "$cause" 2..4
-    local keyretaind=$dir/with-$cause
-    start --accept 2
-    open_client first
-    answers first 'hello 1000 1000' 1
-    answers first 'add user alpha a @u' 5
-    open_client second
-    answers second 'hello 1000 1000' 2
-    answers second 'print 5' a
-    close_client second 0
-    close_client first 0
-    is_served "an accept that failed with $cause" 2
-  done
+  for cause in EAGAIN ENOMEM ENFILE EMFILE ECONNABORTED ENOBUFS; do passes "$cause"; done
 }
 
 # A cause that doesn't pass. The daemon says so at once, refuses who comes, serves those that it has accepted to their
