@@ -44,6 +44,8 @@ pub struct SystemClock<'r, R> {
     rt: &'r R,
     latest: &'r Latest,
     timeline: Option<Timeline>,
+    /// The last readings of both clocks together.
+    seen: Option<(u64, u64)>,
     last: u64,
 }
 
@@ -55,15 +57,23 @@ impl<'r, R: time::Clock> SystemClock<'r, R> {
             rt,
             latest,
             timeline: None,
+            seen: None,
             last: 0,
         }
     }
 
-    /// What the wall clock and the steady one read, in milliseconds.
-    fn readings(&self) -> Option<(u64, u64)> {
-        let wall = self.rt.since_1970().ok()?;
-        let steady = self.rt.monotonic().ok()?;
-        Some((millis(wall), millis(steady)))
+    /// What the wall clock and the steady one read, in milliseconds. While the wall clock has gone on by less than a second
+    /// since both were read, the steady one isn't read again: it couldn't make a second's difference.
+    fn readings(&mut self) -> Option<(u64, u64)> {
+        let wall = millis(self.rt.since_1970().ok()?);
+        if let Some((before, steady)) = self.seen {
+            if before <= wall && wall - before < 1000 {
+                return Some((wall, steady));
+            }
+        }
+        let steady = millis(self.rt.monotonic().ok()?);
+        self.seen = Some((wall, steady));
+        Some((wall, steady))
     }
 
     /// What it answers to such readings: the time of its timeline, or a later one that another clock has come to.
