@@ -1,7 +1,7 @@
-//! A full keyring and a full queue, by asks.
+//! A full keyring, by asks.
 use super::{expect, reply};
 use krs_store::Store;
-use krs_store_asks::{Want, add, change, hello, read, update};
+use krs_store_asks::{Want, add, change, hello, read};
 use krs_types::{Answer, Ask, Blob, Errno, Op, Reply};
 use std::alloc::{AllocError, Global};
 use std::process::Abort;
@@ -27,19 +27,7 @@ fn ask_at(alloc: Global, step: u8) -> Result<Ask, AllocError> {
         })),
         9 => Ok(read(1, 6)),
         10 => Ok(change(Op::Unlink { key: 5, ring: -4 })),
-        11 => Ok(read(1, 7)),
-        12 => add(alloc, b"user", b"key", b"x", -4),
-        13 => Ok(change(Op::OpenQueue { capacity: 4096 })),
-        14 => Ok(change(Op::Watch {
-            id: 5,
-            queue: 1,
-            watch: 1,
-        })),
-        15 => update(alloc, 5, b"y"),
-        _ => Ok(change(Op::ReadQueue {
-            queue: 1,
-            room: 262_140,
-        })),
+        _ => Ok(read(1, 7)),
     }
 }
 
@@ -135,53 +123,4 @@ fn a_full_keyring_takes_no_new_key(rt: HostRuntime) -> Result<(), Fail> {
     let alloc = rt.alloc();
     let mut store = Store::new(alloc);
     check_full(&rt, alloc, &mut store)
-}
-
-#[rattlefmt::skip]
-const WATCHED: [Row<'static>; 4] = [
-    (0, Want::Number(1), "HELLO"),
-    (12, Want::Number(5), "the key"),
-    (13, Want::Number(1), "the queue"),
-    (14, Want::Nothing, "the watch"),
-];
-
-/// A note of an update of the key: linux/watch_queue.h.
-const UPDATED: [u8; 16] = [1, 0, 0, 1, 16, 1, 0, 0, 5, 0, 0, 0, 0, 0, 0, 0];
-
-/// Whether these bytes are notes of updates and nothing else.
-fn are_updates(bytes: &[u8]) -> bool {
-    let mut left = bytes;
-    'notes: while left.len() >= 16 {
-        let (note, after) = left.split_at(16);
-        if note != UPDATED.as_slice() {
-            return false;
-        }
-        left = after;
-    }
-    left.is_empty()
-}
-
-/// Whether a reply is as many notes of updates as the largest queue keeps, and behind them a loss.
-fn gives_all_notes(reply: &Reply) -> bool {
-    match reply {
-        Ok(Answer::Bytes(records)) if records.as_slice().len() == 65_544 => {
-            let (notes, loss) = records.as_slice().split_at(65_536);
-            are_updates(notes) && loss == [0, 0, 0, 1, 8, 0, 0, 0].as_slice()
-        }
-        _ => false,
-    }
-}
-
-// The largest queue keeps as many notes as it was asked for, and tells of the one more.
-#[test]
-fn a_full_queue_tells_of_its_loss(rt: HostRuntime) -> Result<(), Fail> {
-    let alloc = rt.alloc();
-    let mut store = Store::new(alloc);
-    check_rows(&rt, alloc, &mut store, &WATCHED)?;
-    for _ in 0..4097u32 {
-        check_rows(&rt, alloc, &mut store, &[(15, Want::Nothing, "an update")])?;
-    }
-    let records = reply(&mut store, 0, 9, ask_at(alloc, 16)?);
-    assert!(rt; gives_all_notes(&records), "the queue is not read whole");
-    Ok(())
 }
