@@ -1,4 +1,4 @@
-ghost use Rattle.std.specs.Prelude.{◌≡◌, ◌≢◌, ◌≤◌, ◌++◌, [], length, drop, IfOk, IfErr, OnErr, IsSome, vec_len};
+ghost use Rattle.std.specs.Prelude.{◌≡◌, ◌≢◌, ◌≤◌, ◌++◌, [], length, drop, IfOk, IfErr, IsSome, vec_len};
 ghost use Rattle.krs_wire.specs.Frame.{Frames, rest, bad};
 ghost use Rattle.krs_wire.specs.Feeding.{end_of, Feeds, Refuses, fault_of};
 
@@ -88,20 +88,11 @@ fn take_in(
         (λ x. Frames (left.old.items ++ piece.now) x.0.items (end_of x.1 left.new.items)) }
     ensures memory { IfErr result (λ fault. fault ≡ WireFault.Memory) }
     ensures no_memory { IfOk result (λ x. x.1 ≢ Some WireFault.Memory) }
-    ensures stays { OnErr result (left.new.items ≡ left.old.items) }
 {
-    let before = left.len();
     left.extend_from_slice(piece)?;
-    match cut_stream(alloc, left) {
-        Ok(cut) => {
-            drop_front(left, cut.taken);
-            Ok((cut.frames, cut.fault))
-        }
-        Err(fault) => {
-            left.truncate(before);
-            Err(fault)
-        }
-    }
+    let cut = cut_stream(alloc, left)?;
+    drop_front(left, cut.taken);
+    Ok((cut.frames, cut.fault))
 }
 
 impl Feed {
@@ -126,12 +117,11 @@ impl Feed {
 
     /// Takes the next piece of the stream, and answers the frames that are whole now. A fault behind them shows in
     /// `fault`, and is what every later piece is answered with. A piece that is refused for lack of memory is not
-    /// taken, and may be given again.
+    /// taken, and the feed has failed.
     pub fn feed(&mut self, piece: &[u8]) -> Result<Vec<Framed>, WireFault>
         ensures frames { IfOk result (λ frames. Feeds self.old piece.now frames.items self.new) }
         ensures refused { IfErr result (Refuses self.old piece.now) }
-        ensures failed { IfErr result (λ fault. fault ≢ WireFault.Memory → self.new ≡ bad fault) }
-        ensures stays { result ≡ Err WireFault.Memory → self.new ≡ self.old }
+        ensures failed { IfErr result (λ fault. self.new ≡ bad fault) }
         ensures no_memory { IfOk result (λ frames. fault_of self.new ≢ Some WireFault.Memory) }
         ensures at_once { IfOk result (λ frames. IsSome (fault_of self.new) → frames.items ≢ []) }
     {
@@ -148,7 +138,10 @@ impl Feed {
                 }
                 Ok(frames)
             }
-            Err(fault) => Err(fault),
+            Err(fault) => {
+                self.fault = Some(fault);
+                Err(fault)
+            }
         }
     }
 }
