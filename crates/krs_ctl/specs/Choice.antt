@@ -8,7 +8,7 @@ use Rattle.krs_ctl.specs.declared.choice.Choice.{Choice}
 use Rattle.krs_ctl.specs.declared.choice.Choice.TheVariants.{Script, Remote, Call, Usage, NoCommand, Memory, Shown, Refused}
 
 -- what is told for a kind of error of the reader of options: help and version are shown, all others refused; memory may
--- be wanting for any
+-- run out for any
 abbrev pub Tells : ErrorKind → Choice → Type 0
 Tells kind Script = ⊥
 Tells kind (Remote path) = ⊥
@@ -19,7 +19,7 @@ Tells kind Memory = ⊤
 Tells kind (Shown text) = (kind ≡ DisplayHelp) ⊎ (kind ≡ DisplayVersion)
 Tells kind (Refused text) = (kind ≢ DisplayHelp) × (kind ≢ DisplayVersion) × (kind ≢ OutOfMemory)
 
--- words that cannot be had: memory was wanting for them, or they are no text, which is usage
+-- words that cannot be had: there was no memory for them, or they are no text, which is usage
 abbrev pub IsUnread : io.ErrorKind → Choice → Type 0
 IsUnread kind choice =
     (kind ≡ io_kind.OutOfMemory → choice ≡ Memory) × (kind ≢ io_kind.OutOfMemory → choice ≡ Usage)

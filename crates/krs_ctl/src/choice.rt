@@ -82,7 +82,7 @@ Example, a key that is made and read back:
   printf 'hello 1000 1000\nadd user alpha s3 @u\nprint 5\n' | keyretain script
 prints 1, 5 and s3, a line each.
 
-Exit status: 0; 1 if something was refused or memory was wanting; 2 for usage; 3 if the connection, reading or
+Exit status: 0; 1 if something was refused or memory ran out; 2 for usage; 3 if the connection, reading or
 printing failed.";
 
 /// What the program does, by its words.
@@ -98,7 +98,7 @@ pub enum Choice {
     Usage,
     /// The words of a single call are no command, with what is told of them.
     NoCommand(Vec<u8>),
-    /// Memory was wanting for the words.
+    /// There was no memory for the words.
     Memory,
     /// The text of `--help` or `--version`.
     Shown(String),

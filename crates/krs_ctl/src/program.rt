@@ -86,7 +86,7 @@ fn say_usage<W: Write, E: Write>(output: &mut W, errors: &mut E) -> u8
     say(output, USAGE, 2)
 }
 
-/// Says that memory was wanting for the words.
+/// Says that there was no memory for the words.
 fn say_out_of_memory<W: Write>(output: &mut W) -> u8
     ensures { Says (W.contents output.old) (W.contents output.new) (codes "error 12 ENOMEM\n") 1 result }
 {

@@ -15,7 +15,7 @@ const CLIENT: u32 = 0;
 /// How a script ended.
 #[derive(Drop)]
 pub struct ScriptEnd {
-    /// 0; 1 where something was refused or memory was wanting; 2 for usage; 3 where reading or printing failed.
+    /// 0; 1 where something was refused or memory ran out; 2 for usage; 3 where reading or printing failed.
     pub status: u8,
     pub store: Store,
 }

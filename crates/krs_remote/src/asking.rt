@@ -4,7 +4,7 @@ ghost use Rattle.std.specs.Prelude.{◌≡◌, ◌⊎◌, ◌<◌, ◌++◌, len
 ghost use Rattle.std.specs.Int.{w32, from_le_bytes};
 ghost use Rattle.std.specs.Io.Buffered.{reader_remaining};
 ghost use Rattle.std.specs.Io.KnownBytes.{Appends, Consumes};
-ghost use Rattle.krs_wire.specs.Spelling.{ask_frame, ask_text};
+ghost use Rattle.krs_wire.specs.Encoding.{ask_frame, ask_text};
 ghost use Rattle.krs_wire.specs.Reply.{reply_frame, shape_of, HasShape};
 ghost use Rattle.krs_remote.specs.Talking.{Exchanges, GivesReply, GivesUp, IsReply, NotSent, cause_of};
 

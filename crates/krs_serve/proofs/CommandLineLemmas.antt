@@ -40,7 +40,7 @@ gives_made found (Some options) lanes accept fits path same_lanes same_accept gi
   subst (λ (o : Option ℕ). IsGiven (one_text found (codes "accept")) o) (sym same_accept) given_accept,
 )
 
--- what words lead to that were all had, or for which memory was wanting
+-- what words lead to that were all had, or for which there was no memory
 pub leads_of_all : {V E : Type 0} (had : Result V E) (texts : V → List (List ℕ)) (all : List (List ℕ)) (choice : Choice)
     → IfOk had (λ v. LeadsTo (texts v) choice) → OnErr had (choice ≡ Memory) → IfOk had (λ v. texts v ≡ all)
     → LeadsTo all choice

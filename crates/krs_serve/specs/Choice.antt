@@ -21,7 +21,7 @@ Tells kind text (Shown shown) =
 Tells kind text (Refused refused) =
     (kind ≢ DisplayHelp) × (kind ≢ DisplayVersion) × (kind ≢ OutOfMemory) × (text ≡ Some (string_bytes refused))
 
--- words that cannot be had: memory was wanting for them, or they are no text, which is usage
+-- words that cannot be had: there was no memory for them, or they are no text, which is usage
 abbrev pub IsUnread : io.ErrorKind → Choice → Type 0
 IsUnread kind choice =
     (kind ≡ io_kind.OutOfMemory → choice ≡ Memory) × (kind ≢ io_kind.OutOfMemory → choice ≡ Usage)

@@ -31,9 +31,9 @@ const ACCEPT_HELP: &str = "how many connections are served before it ends; witho
 
 const STATUSES: &str = "\
 Prints `listening PATH` once clients can connect, and `served N` after its last connection. The uid, gid and groups
-that a client names are believed: whoever may open the path may use every key.
+that a client names are trusted: whoever may open the path may use every key.
 
-Exit status: 0; 1 if memory was wanting before it listened; 2 for usage; 3 if the path could not be bound, which is
+Exit status: 0; 1 if memory ran out before it listened; 2 for usage; 3 if the path could not be bound, which is
 `error: socket`, or a connection not be accepted, which is `error: accept`.";
 
 /// What the program does, by its words.
@@ -43,7 +43,7 @@ pub enum Choice {
     Serve(Options),
     /// The words are none that the program takes.
     Usage,
-    /// Memory was wanting for the words.
+    /// There was no memory for the words.
     Memory,
     /// The text of `--help` or `--version`.
     Shown(String),
@@ -63,7 +63,7 @@ pub fn choose(alloc: Global, words: io::Result<Args>) -> Choice
     }
 }
 
-/// What all the words lead to, for which memory may be wanting.
+/// What all the words lead to, for which there may be no memory.
 fn choice_of_all(alloc: Global, words: Result<Vec<String>, AllocError>) -> Choice
     ensures words { IfOk words (λ words. LeadsTo (map string_bytes words.items) result) }
     ensures memory { OnErr words (result ≡ Memory) }

@@ -9,7 +9,7 @@ use std::io::Write;
 /// What is printed where words are none that the daemon takes.
 pub const USAGE: &str = "usage\n";
 
-/// What is printed where memory is wanting before the daemon listens.
+/// What is printed where memory runs out before the daemon listens.
 pub const OUT_OF_MEMORY: &str = "error 12 ENOMEM\n";
 
 /// What is printed where the path can't be bound.

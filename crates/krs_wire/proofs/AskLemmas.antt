@@ -16,7 +16,7 @@ use Rattle.krs_wire.specs.Bodies.{number_of_op, body_of_op, FitsOp}
 use Rattle.krs_wire.specs.Tag.{version_of, tag_text, tag_field, FitsTag}
 use Rattle.krs_wire.specs.Frame.{rest, Frames, front_of, front_by, front_in, is_bad_length, framed_of, framed_by}
 use Rattle.krs_wire.specs.Frame.{op_of, said_by, head_fields}
-use Rattle.krs_wire.specs.Spelling.{framed, ask_text, ask_frame, FitsAsk}
+use Rattle.krs_wire.specs.Encoding.{framed, ask_text, ask_frame, FitsAsk}
 use Rattle.krs_wire.proofs.CaseLemmas.{or_false, or_true}
 use Rattle.krs_wire.proofs.FieldLemmas.{IsBytes, IsBytes-take, IsExact, wide16, wide32, number_exact, both_exact}
 use Rattle.krs_wire.proofs.TagLemmas.{tag_exact, version_is}
@@ -65,7 +65,7 @@ front_again tag ask more h =
     let low : 8 ≤ n =
     omega (
       arith,
-      length-append (head_fields.spell (version_of tag, (number_of_op ask.op, ask.context)))
+      length-append (head_fields.encode (version_of tag, (number_of_op ask.op, ask.context)))
           (tag_text tag ++ body_of_op ask.op),
     ) in
     let first : (number w32).read (to_le_bytes w32 n ++ (text ++ more)) ≡ Some (n, text ++ more) =
@@ -88,7 +88,7 @@ pub one_frame : (bytes : List ℕ) (tag : Option ℕ) (ask : Ask) → FitsAsk ta
 one_frame bytes tag ask h e =
     ([], ap front_of (e ∙ sym (append-nil (ask_frame tag ask))) ∙ front_again tag ask [] h, (nothing_left, refl))
 
--- ---- what is cut is spelled so
+-- ---- what is cut is encoded so
 
 after_ok : {A B : Type 0} (f : A → Result B WireFault) (r : Result A WireFault) (y : B) → after f r ≡ Ok y
     → (x : A) × (r ≡ Ok x) × (f x ≡ Ok y)
@@ -158,10 +158,10 @@ framed_takes frame f bytes e =
     let op = op_takes which body o.0 u.more_fits o.1 in
     let version-is : version ≡ version_of tag = version_is version tag (is_version version h.2) u.fits.0 in
     let text : frame ≡ ask_text tag (record { context = context; op = o.0 }) =
-    t.parts ∙ ap (λ (more : List ℕ). head_fields.spell (version, (which, context)) ++ more) u.parts
-    ∙ ap (λ (v : ℕ). head_fields.spell (v, (which, context)) ++ (tag_text tag ++ body)) version-is
-    ∙ ap (λ (k : ℕ). head_fields.spell (version_of tag, (k, context)) ++ (tag_text tag ++ body)) op.number
-    ∙ ap (λ (b : List ℕ). head_fields.spell (version_of tag, (number_of_op o.0, context)) ++ (tag_text tag ++ b))
+    t.parts ∙ ap (λ (more : List ℕ). head_fields.encode (version, (which, context)) ++ more) u.parts
+    ∙ ap (λ (v : ℕ). head_fields.encode (v, (which, context)) ++ (tag_text tag ++ body)) version-is
+    ∙ ap (λ (k : ℕ). head_fields.encode (version_of tag, (k, context)) ++ (tag_text tag ++ body)) op.number
+    ∙ ap (λ (b : List ℕ). head_fields.encode (version_of tag, (number_of_op o.0, context)) ++ (tag_text tag ++ b))
     op.body-is in
     let takes : FrameTakes frame (made context tag o.0) =
     record { text = text; tagged = u.fits.1; context = t.fits.1.1; op = op.fits } in

@@ -16,7 +16,7 @@ use Rattle.krs_wire.proofs.FieldLemmas.{IsBytes, IsExact, Takes, wide32, number_
 
 module _ {A : Type 0} (f : Field A) (exact : IsExact f) where
   record ManyTakes (n : ℕ) (bytes : List ℕ) (xs : List A) (more : List ℕ) : Type 0 where
-    pub parts : bytes ≡ flat_map f.spell xs ++ more
+    pub parts : bytes ≡ flat_map f.encode xs ++ more
     pub len : length xs ≡ n
     pub fits : AllByRecursion f.Fits xs
     pub more_fits : IsBytes more
@@ -35,8 +35,8 @@ module _ {A : Type 0} (f : Field A) (exact : IsExact f) where
       let t = exact.takes bytes a.0.0 a.0.1 fits a.1 in
       let u = many_takes n a.0.1 b.0.0 b.0.1 t.more_fits b.1 in
       let made : ManyTakes (suc n) bytes (a.0.0 ∷ b.0.0) b.0.1 = record {
-        parts = t.parts ∙ ap (λ (y : List ℕ). f.spell a.0.0 ++ y) u.parts
-            ∙ sym (append_assoc (f.spell a.0.0) (flat_map f.spell b.0.0) b.0.1);
+        parts = t.parts ∙ ap (λ (y : List ℕ). f.encode a.0.0 ++ y) u.parts
+            ∙ sym (append_assoc (f.encode a.0.0) (flat_map f.encode b.0.0) b.0.1);
         len = ap suc u.len;
         fits = (t.fits, u.fits);
         more_fits = u.more_fits;
@@ -45,13 +45,13 @@ module _ {A : Type 0} (f : Field A) (exact : IsExact f) where
       (some_is (a.0.0 ∷ b.0.0, b.0.1) (xs, more) b.2) made
 
   many_again : (xs : List A) (more : List ℕ) → AllByRecursion f.Fits xs
-      → many_read f (length xs) (flat_map f.spell xs ++ more) ≡ Some (xs, more)
+      → many_read f (length xs) (flat_map f.encode xs ++ more) ≡ Some (xs, more)
   unfolding many_read
   many_again [] more h = refl
   many_again (x ∷ xs) more h =
-      ap (λ (y : List ℕ). many_read f (suc (length xs)) y) (append_assoc (f.spell x) (flat_map f.spell xs) more)
+      ap (λ (y : List ℕ). many_read f (suc (length xs)) y) (append_assoc (f.encode x) (flat_map f.encode xs) more)
       ∙ ap (option_and_then (λ (a : A × List ℕ). option_and_then (λ (b : List A × List ℕ). Some (a.0 ∷ b.0, b.1))
-      (many_read f (length xs) a.1))) (exact.again x (flat_map f.spell xs ++ more) h.0)
+      (many_read f (length xs) a.1))) (exact.again x (flat_map f.encode xs ++ more) h.0)
       ∙ ap (option_and_then (λ (b : List A × List ℕ). Some (x ∷ b.0, b.1))) (many_again xs more h.1)
 
   counted_takes : (bytes : List ℕ) (xs : List A) (more : List ℕ) → IsBytes bytes
@@ -62,18 +62,18 @@ module _ {A : Type 0} (f : Field A) (exact : IsExact f) where
       let m = many_takes b.0.0 b.0.1 xs more t.more_fits b.2 in
       record {
         parts = t.parts ∙ ap (λ (y : List ℕ). to_le_bytes w32 b.0.0 ++ y) m.parts
-            ∙ sym (append_assoc (to_le_bytes w32 b.0.0) (flat_map f.spell xs) more)
-            ∙ ap (λ (k : ℕ). (to_le_bytes w32 k ++ flat_map f.spell xs) ++ more) (sym m.len);
+            ∙ sym (append_assoc (to_le_bytes w32 b.0.0) (flat_map f.encode xs) more)
+            ∙ ap (λ (k : ℕ). (to_le_bytes w32 k ++ flat_map f.encode xs) ++ more) (sym m.len);
         fits = (subst (λ (k : ℕ). k < 256 ^ 4) (sym m.len) t.fits, m.fits);
         more_fits = m.more_fits;
       }
 
   counted_again : (xs : List A) (more : List ℕ) → (counted f).Fits xs
-      → (counted f).read ((counted f).spell xs ++ more) ≡ Some (xs, more)
+      → (counted f).read ((counted f).encode xs ++ more) ≡ Some (xs, more)
   counted_again xs more h =
-      ap (λ (y : List ℕ). (counted f).read y) (append_assoc (to_le_bytes w32 (length xs)) (flat_map f.spell xs) more)
+      ap (λ (y : List ℕ). (counted f).read y) (append_assoc (to_le_bytes w32 (length xs)) (flat_map f.encode xs) more)
       ∙ ap (option_and_then (λ (n : ℕ × List ℕ). many_read f n.0 n.1))
-      ((number_exact w32 wide32).again (length xs) (flat_map f.spell xs ++ more) h.0)
+      ((number_exact w32 wide32).again (length xs) (flat_map f.encode xs ++ more) h.0)
       ∙ many_again xs more h.1
 
   pub counted_exact : IsExact (counted f)
@@ -87,9 +87,9 @@ module _ {A : Type 0} (n : ℕ) (f : Field A) (exact : IsExact f) where
       record { parts = m.parts; fits = (m.len, m.fits); more_fits = m.more_fits }
 
   repeated_again : (xs : List A) (more : List ℕ) → (repeated n f).Fits xs
-      → (repeated n f).read ((repeated n f).spell xs ++ more) ≡ Some (xs, more)
+      → (repeated n f).read ((repeated n f).encode xs ++ more) ≡ Some (xs, more)
   repeated_again xs more h =
-      ap (λ (k : ℕ). many_read f k (flat_map f.spell xs ++ more)) (sym h.0) ∙ many_again f exact xs more h.1
+      ap (λ (k : ℕ). many_read f k (flat_map f.encode xs ++ more)) (sym h.0) ∙ many_again f exact xs more h.1
 
   pub repeated_exact : IsExact (repeated n f)
   repeated_exact = record { takes = repeated_takes; again = repeated_again }
@@ -153,7 +153,7 @@ length_numbers [] = refl
 length_numbers (x ∷ xs) = omega (arith, length_numbers xs)
 
 -- each entry has a byte at least
-pub length_entries : (entries : List FilterEntry) → length entries ≤ length (flat_map entry_field.spell entries)
+pub length_entries : (entries : List FilterEntry) → length entries ≤ length (flat_map entry_field.encode entries)
 length_entries [] = omega arith
 length_entries (x ∷ xs) =
-    omega (arith, length-append (entry_field.spell x) (flat_map entry_field.spell xs), length_entries xs)
+    omega (arith, length-append (entry_field.encode x) (flat_map entry_field.encode xs), length_entries xs)

@@ -1,4 +1,4 @@
--- Each field is exact: what is read is spelled so, and what is spelled is read.
+-- Each field is exact: what is read is encoded so, and what is encoded is read.
 use Rattle.std.proofs.Common.{◌≡◌, ℕ, suc, ◌+◌, ◌^◌, ◌<◌, ◌≤◌, Bool, true, false, cond, eqb, ltb, List, [], ◌∷◌, ◌++◌}
 use Rattle.std.proofs.Common.{length, get_or, take, drop, Option, Some, None, refl, sym, ap, subst, ◌∙◌, append_assoc}
 use Rattle.std.proofs.Common.{arith, inl, inr}
@@ -29,14 +29,14 @@ IsBytes-take n bytes h i =
 
 -- what a field took from the front
 pub record Takes {A : Type 0} (f : Field A) (bytes : List ℕ) (x : A) (more : List ℕ) : Type 0 where
-  pub parts : bytes ≡ f.spell x ++ more
+  pub parts : bytes ≡ f.encode x ++ more
   pub fits : f.Fits x
   pub more_fits : IsBytes more
 
 pub record IsExact {A : Type 0} (f : Field A) : Type 0 where
   pub takes : (bytes : List ℕ) (x : A) (more : List ℕ) → IsBytes bytes → f.read bytes ≡ Some (x, more)
       → Takes f bytes x more
-  pub again : (x : A) (more : List ℕ) → f.Fits x → f.read (f.spell x ++ more) ≡ Some (x, more)
+  pub again : (x : A) (more : List ℕ) → f.Fits x → f.read (f.encode x ++ more) ≡ Some (x, more)
 
 -- the value of a step that did not fail
 pub bind_some : {A B : Type 0} (o : Option A) (f : A → Option B) (y : B) → option_and_then f o ≡ Some y
@@ -209,7 +209,7 @@ no_flag = None
 
 -- a flag and what follows it stand in the bytes that begin with this one
 abbrev FlagTaken : ℕ → List ℕ → Bool × List ℕ → Type 0
-FlagTaken n bytes flagged = (n ∷ bytes ≡ flag.spell flagged.0 ++ flagged.1) × (bytes ≡ flagged.1)
+FlagTaken n bytes flagged = (n ∷ bytes ≡ flag.encode flagged.0 ++ flagged.1) × (bytes ≡ flagged.1)
 
 -- the byte of a flag that is read is 0 or 1
 flag_some : (n : ℕ) (bytes : List ℕ) (is_no is_yes b : Bool) (more : List ℕ)
@@ -230,7 +230,7 @@ flag_takes (n ∷ bytes) b more fits e =
     let taken = flag_some n bytes (eqb n 0) (eqb n 1) b more e refl refl in
     record { parts = taken.0; fits = tt; more_fits = subst IsBytes taken.1 (λ i. fits (suc i)) }
 
-flag_again : (b : Bool) (more : List ℕ) → flag.read (flag.spell b ++ more) ≡ Some (b, more)
+flag_again : (b : Bool) (more : List ℕ) → flag.read (flag.encode b ++ more) ≡ Some (b, more)
 flag_again true more = refl
 flag_again false more = refl
 
@@ -258,8 +258,8 @@ module _ {A B : Type 0} (f : Field A) (g : Field B) (exact_f : IsExact f) (exact
       let t = exact_f.takes bytes a.0.0 a.0.1 fits a.1 in
       let u = exact_g.takes a.0.1 b.0.0 b.0.1 t.more_fits b.1 in
       let made : Takes (both f g) bytes (a.0.0, b.0.0) b.0.1 = record {
-        parts = t.parts ∙ ap (λ (y : List ℕ). f.spell a.0.0 ++ y) u.parts
-            ∙ sym (append_assoc (f.spell a.0.0) (g.spell b.0.0) b.0.1);
+        parts = t.parts ∙ ap (λ (y : List ℕ). f.encode a.0.0 ++ y) u.parts
+            ∙ sym (append_assoc (f.encode a.0.0) (g.encode b.0.0) b.0.1);
         fits = (t.fits, u.fits);
         more_fits = u.more_fits;
       } in
@@ -267,11 +267,11 @@ module _ {A B : Type 0} (f : Field A) (g : Field B) (exact_f : IsExact f) (exact
       (some_is ((a.0.0, b.0.0), b.0.1) (x, more) b.2) made
 
   both_again : (x : A × B) (more : List ℕ) → (both f g).Fits x
-      → (both f g).read ((both f g).spell x ++ more) ≡ Some (x, more)
+      → (both f g).read ((both f g).encode x ++ more) ≡ Some (x, more)
   both_again x more h =
-      ap (λ (y : List ℕ). (both f g).read y) (append_assoc (f.spell x.0) (g.spell x.1) more)
+      ap (λ (y : List ℕ). (both f g).read y) (append_assoc (f.encode x.0) (g.encode x.1) more)
       ∙ ap (option_and_then (λ (a : A × List ℕ). option_and_then (λ (b : B × List ℕ). Some ((a.0, b.0), b.1))
-      (g.read a.1))) (exact_f.again x.0 (g.spell x.1 ++ more) h.0)
+      (g.read a.1))) (exact_f.again x.0 (g.encode x.1 ++ more) h.0)
       ∙ ap (option_and_then (λ (b : B × List ℕ). Some ((x.0, b.0), b.1))) (exact_g.again x.1 more h.1)
 
   pub both_exact : IsExact (both f g)
@@ -288,7 +288,7 @@ module _ {A B : Type 0} (f : Field A) (make : A → B) (parts_of : B → A) (exa
       let t = exact.takes bytes a.0.0 a.0.1 fits a.1 in
       let same = sym (parts_again a.0.0) in
       let made : Takes (built f make parts_of) bytes (make a.0.0) a.0.1 = record {
-        parts = t.parts ∙ ap (λ (y : A). f.spell y ++ a.0.1) same;
+        parts = t.parts ∙ ap (λ (y : A). f.encode y ++ a.0.1) same;
         fits = subst (λ (y : A). f.Fits y) same t.fits;
         more_fits = t.more_fits;
       } in
@@ -296,7 +296,7 @@ module _ {A B : Type 0} (f : Field A) (make : A → B) (parts_of : B → A) (exa
       (some_is (make a.0.0, a.0.1) (x, more) a.2) made
 
   built_again : (x : B) (more : List ℕ) → (built f make parts_of).Fits x
-      → (built f make parts_of).read ((built f make parts_of).spell x ++ more) ≡ Some (x, more)
+      → (built f make parts_of).read ((built f make parts_of).encode x ++ more) ≡ Some (x, more)
   built_again x more h =
       ap (option_and_then (λ (a : A × List ℕ). Some (make a.0, a.1))) (exact.again (parts_of x) more h)
       ∙ ap (λ (y : B). Some (y, more)) (made_again x)
@@ -311,17 +311,17 @@ guard_none true x y e = (refl, cc)
 guard_none false x y e = absurd cc
 
 module _ {A B : Type 0} (f : Field A) (exact : IsExact f) (make : A → B) where
-  pub whole_again : (x : A) → f.Fits x → whole f make (f.spell x) ≡ Some (make x)
+  pub whole_again : (x : A) → f.Fits x → whole f make (f.encode x) ≡ Some (make x)
   whole_again x h =
-      let one : f.read (f.spell x) ≡ Some (x, []) =
-      ap (λ (y : List ℕ). f.read y) (sym (append-nil (f.spell x))) ∙ exact.again x [] h in
+      let one : f.read (f.encode x) ≡ Some (x, []) =
+      ap (λ (y : List ℕ). f.read y) (sym (append-nil (f.encode x))) ∙ exact.again x [] h in
       ap (option_and_then (λ (a : A × List ℕ). cond (eqb (length a.1) 0) (Some (make a.0)) None)) one
 
   pub whole_takes : (bytes : List ℕ) (y : B) → IsBytes bytes → whole f make bytes ≡ Some y
-      → (x : A) × (bytes ≡ f.spell x) × f.Fits x × (make x ≡ y)
+      → (x : A) × (bytes ≡ f.encode x) × f.Fits x × (make x ≡ y)
   whole_takes bytes y fits e =
       let a = bind_some (f.read bytes) (λ a. cond (eqb (length a.1) 0) (Some (make a.0)) None) y e in
       let g = guard_none (eqb (length a.0.1) 0) (make a.0.0) y a.2 in
       let t = exact.takes bytes a.0.0 a.0.1 fits a.1 in
       let empty : a.0.1 ≡ [] = nil_from_length a.0.1 (eqb-true _ _ g.0) in
-      (a.0.0, t.parts ∙ ap (λ (z : List ℕ). f.spell a.0.0 ++ z) empty ∙ append-nil (f.spell a.0.0), t.fits, g.1)
+      (a.0.0, t.parts ∙ ap (λ (z : List ℕ). f.encode a.0.0 ++ z) empty ∙ append-nil (f.encode a.0.0), t.fits, g.1)

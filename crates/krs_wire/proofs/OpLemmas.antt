@@ -1,4 +1,4 @@
--- A body is read as it is spelled, and what is read is spelled so.
+-- A body is read as it is encoded, and what is read is encoded so.
 use Rattle.std.proofs.Common.{◌≡◌, ℕ, ◌^◌, ◌<◌, true, cond, eqb, List, Result, Ok, Err, refl, sym, ap, subst, ◌∙◌}
 use Rattle.std.proofs.Common.{arith, inl, inr}
 use Rattle.std.specs.Int.{w16, w32}
@@ -194,30 +194,30 @@ pub record OpTakes (which : ℕ) (body : List ℕ) (op : Op) : Type 0 where
 
 -- a row of the table
 row_takes : {A : Type 0} (f : Field A) (make : A → Op) (no-of : ℕ) → IsExact f
-    → ((x : A) → number_of_op (make x) ≡ no-of) → ((x : A) → body_of_op (make x) ≡ f.spell x)
+    → ((x : A) → number_of_op (make x) ≡ no-of) → ((x : A) → body_of_op (make x) ≡ f.encode x)
     → ((x : A) → f.Fits x → FitsOp (make x))
     → (which : ℕ) (body : List ℕ) (op : Op) → IsBytes body → eqb which no-of ≡ true
     → or_bad_body (whole f make body) ≡ Ok op → OpTakes which body op
-row_takes f make no-of exact numbered spelled fitting which body op bytes test e =
+row_takes f make no-of exact numbered encoded fitting which body op bytes test e =
     let t = whole_takes f exact make body op bytes (ok_body (whole f make body) op e) in
     let made : OpTakes which body (make t.0) =
     record {
       number = eqb-true _ _ test ∙ sym (numbered t.0);
-      body-is = t.1 ∙ sym (spelled t.0);
+      body-is = t.1 ∙ sym (encoded t.0);
       fits = fitting t.0 t.2;
     } in
     subst (λ (o : Op). OpTakes which body o) t.3 made
 
 -- a row of the table, or what the rows behind it say
 row_or : {A : Type 0} (f : Field A) (make : A → Op) (no-of : ℕ) → IsExact f
-    → ((x : A) → number_of_op (make x) ≡ no-of) → ((x : A) → body_of_op (make x) ≡ f.spell x)
+    → ((x : A) → number_of_op (make x) ≡ no-of) → ((x : A) → body_of_op (make x) ≡ f.encode x)
     → ((x : A) → f.Fits x → FitsOp (make x))
     → (which : ℕ) (body : List ℕ) (op : Op) (others : Result Op WireFault) → IsBytes body
     → (others ≡ Ok op → OpTakes which body op)
     → cond (eqb which no-of) (or_bad_body (whole f make body)) others ≡ Ok op → OpTakes which body op
-row_or f make no-of exact numbered spelled fitting which body op others bytes behind e =
+row_or f make no-of exact numbered encoded fitting which body op others bytes behind e =
     elim (chosen (eqb which no-of) _ _ _ e) [
-      | inl h ↦ row_takes f make no-of exact numbered spelled fitting which body op bytes h.0 h.1
+      | inl h ↦ row_takes f make no-of exact numbered encoded fitting which body op bytes h.0 h.1
       | inr h ↦ behind h.1
     ]
 

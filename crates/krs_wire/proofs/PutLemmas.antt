@@ -5,7 +5,7 @@ use Rattle.std.specs.Prelude.{min}
 use Rattle.std.proofs.lemmas.List.{take_more, flat_map_more}
 use Rattle.std.specs.List.{flat_map, AllByRecursion}
 use Rattle.krs_wire.specs.Field.{Field}
-use Rattle.krs_wire.specs.Spelling.{IsTooLong}
+use Rattle.krs_wire.specs.Encoding.{IsTooLong}
 use Rattle.krs_wire.specs.declared.fault.WireFault.{WireFault}
 
 -- the next bytes stand behind all that were put before them
@@ -29,21 +29,21 @@ all_one P (y ∷ ys) x all last = (all.0, all_one P ys x all.1 last)
 
 module _ {A : Type 0} (f : Field A) (xs : List A) (i : ℕ) (d : A) (low : i < length xs) where
   -- one more of a field stands behind those before it
-  pub then_one : (front mid new : List ℕ) → mid ≡ front ++ flat_map f.spell (take i xs)
-      → new ≡ mid ++ f.spell (get_or xs i d) → new ≡ front ++ flat_map f.spell (take (i + 1) xs)
+  pub then_one : (front mid new : List ℕ) → mid ≡ front ++ flat_map f.encode (take i xs)
+      → new ≡ mid ++ f.encode (get_or xs i d) → new ≡ front ++ flat_map f.encode (take (i + 1) xs)
   then_one front mid new before put =
-      put ∙ ap (λ (bytes : List ℕ). bytes ++ f.spell (get_or xs i d)) before
-      ∙ flat_map_more f.spell front (take i xs) (get_or xs i d)
-      ∙ ap (λ (ys : List A). front ++ flat_map f.spell ys) (sym (take_more xs i d low))
+      put ∙ ap (λ (bytes : List ℕ). bytes ++ f.encode (get_or xs i d)) before
+      ∙ flat_map_more f.encode front (take i xs) (get_or xs i d)
+      ∙ ap (λ (ys : List A). front ++ flat_map f.encode ys) (sym (take_more xs i d low))
 
   -- and the length of their text is greater by its own, up to a greatest number
-  pub longer_one : (most least one before now : ℕ) → before ≡ min (least + length (flat_map f.spell (take i xs))) most
-      → one ≡ length (f.spell (get_or xs i d)) → now ≡ min (before + one) most
-      → now ≡ min (least + length (flat_map f.spell (take (i + 1) xs))) most
+  pub longer_one : (most least one before now : ℕ) → before ≡ min (least + length (flat_map f.encode (take i xs))) most
+      → one ≡ length (f.encode (get_or xs i d)) → now ≡ min (before + one) most
+      → now ≡ min (least + length (flat_map f.encode (take (i + 1) xs))) most
   longer_one most least one before now before-is one-is now-is =
-      let text = flat_map f.spell (take i xs) in
-      let next = f.spell (get_or xs i d) in
-      let all : flat_map f.spell (take (i + 1) xs) ≡ text ++ next = sym (then_one [] text (text ++ next) refl refl) in
+      let text = flat_map f.encode (take i xs) in
+      let next = f.encode (get_or xs i d) in
+      let all : flat_map f.encode (take (i + 1) xs) ≡ text ++ next = sym (then_one [] text (text ++ next) refl refl) in
       omega (arith, ap length all, length-append text next, before-is, one-is, now-is)
 
   -- and all of them fit

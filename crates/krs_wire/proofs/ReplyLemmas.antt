@@ -149,7 +149,7 @@ reply_again is_tagged shape reply tag more h fits =
     ∙ in_again is_tagged shape n text more (status_of reply) tag body reply refl good second (by_again shape reply h)
     ∙ ap (λ (k : ℕ). whole_reply (reply, tag, k)) (sym all)
 
--- ---- what is read is spelled so
+-- ---- what is read is encoded so
 
 abbrev given : Result Answer Errno → Result (Result Answer Errno) WireFault
 given r = Ok r

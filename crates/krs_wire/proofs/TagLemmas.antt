@@ -1,4 +1,4 @@
--- A tag is exact: what is read is spelled so, and what is spelled is read.
+-- A tag is exact: what is read is encoded so, and what is encoded is read.
 use Rattle.std.proofs.Common.{◌≡◌, ℕ, Bool, true, false, List, ◌++◌, length, Option, Some, None, refl, ap, subst}
 use Rattle.std.specs.Option.{option_and_then, is_some}
 use Rattle.std.specs.Prelude.{◌⊎◌}

@@ -271,37 +271,37 @@ number_of_op (CloseQueue queue) = 267
 
 -- the bytes of its body
 abbrev pub body_of_op : Op → List ℕ
-body_of_op (GetId id create) = get_id_fields.spell (get_id_parts id create)
-body_of_op (Join name) = text_field.spell name
-body_of_op (Update id payload) = update_fields.spell (update_parts id payload)
-body_of_op (Revoke id) = id_field.spell id
-body_of_op (Chown id uid gid) = chown_fields.spell (chown_parts id uid gid)
-body_of_op (SetPerm id mask) = id_number_fields.spell (id_number_parts id mask)
-body_of_op (Describe id) = id_field.spell id
-body_of_op (Clear id) = id_field.spell id
-body_of_op (Link key ring) = link_fields.spell (link_parts key ring)
-body_of_op (Unlink key ring) = link_fields.spell (link_parts key ring)
-body_of_op (Search head type_name desc dest) = search_fields.spell (search_parts head type_name desc dest)
-body_of_op (Read id) = id_field.spell id
-body_of_op (SetTimeout id seconds) = id_number_fields.spell (id_number_parts id seconds)
-body_of_op (Invalidate id) = id_field.spell id
-body_of_op (RestrictKeyring ring type_name) = restrict_fields.spell (restrict_parts ring type_name)
-body_of_op (Move key from to flags) = move_fields.spell (move_parts key from to flags)
-body_of_op (Watch id queue watch) = watch_fields.spell (watch_parts id queue watch)
-body_of_op (Hello caller) = hello_fields.spell (hello_parts caller)
-body_of_op Thread = nothing.spell tt
-body_of_op Fork = nothing.spell tt
-body_of_op Exec = nothing.spell tt
-body_of_op Exit = nothing.spell tt
-body_of_op Leave = nothing.spell tt
-body_of_op (Add type_name desc payload ring) = add_fields.spell (add_parts type_name desc payload ring)
-body_of_op (Request type_name desc dest) = request_fields.spell (request_parts type_name desc dest)
-body_of_op (OpenQueue capacity) = (number w32).spell capacity
-body_of_op (SetFilter queue entries) = set_filter_fields.spell (set_filter_parts queue entries)
-body_of_op (ReadQueue queue room) = read_queue_fields.spell (read_queue_parts queue room)
-body_of_op (CloseQueue queue) = (number w32).spell queue
+body_of_op (GetId id create) = get_id_fields.encode (get_id_parts id create)
+body_of_op (Join name) = text_field.encode name
+body_of_op (Update id payload) = update_fields.encode (update_parts id payload)
+body_of_op (Revoke id) = id_field.encode id
+body_of_op (Chown id uid gid) = chown_fields.encode (chown_parts id uid gid)
+body_of_op (SetPerm id mask) = id_number_fields.encode (id_number_parts id mask)
+body_of_op (Describe id) = id_field.encode id
+body_of_op (Clear id) = id_field.encode id
+body_of_op (Link key ring) = link_fields.encode (link_parts key ring)
+body_of_op (Unlink key ring) = link_fields.encode (link_parts key ring)
+body_of_op (Search head type_name desc dest) = search_fields.encode (search_parts head type_name desc dest)
+body_of_op (Read id) = id_field.encode id
+body_of_op (SetTimeout id seconds) = id_number_fields.encode (id_number_parts id seconds)
+body_of_op (Invalidate id) = id_field.encode id
+body_of_op (RestrictKeyring ring type_name) = restrict_fields.encode (restrict_parts ring type_name)
+body_of_op (Move key from to flags) = move_fields.encode (move_parts key from to flags)
+body_of_op (Watch id queue watch) = watch_fields.encode (watch_parts id queue watch)
+body_of_op (Hello caller) = hello_fields.encode (hello_parts caller)
+body_of_op Thread = nothing.encode tt
+body_of_op Fork = nothing.encode tt
+body_of_op Exec = nothing.encode tt
+body_of_op Exit = nothing.encode tt
+body_of_op Leave = nothing.encode tt
+body_of_op (Add type_name desc payload ring) = add_fields.encode (add_parts type_name desc payload ring)
+body_of_op (Request type_name desc dest) = request_fields.encode (request_parts type_name desc dest)
+body_of_op (OpenQueue capacity) = (number w32).encode capacity
+body_of_op (SetFilter queue entries) = set_filter_fields.encode (set_filter_parts queue entries)
+body_of_op (ReadQueue queue room) = read_queue_fields.encode (read_queue_parts queue room)
+body_of_op (CloseQueue queue) = (number w32).encode queue
 
--- what its body can spell
+-- what its body can encode
 abbrev pub FitsOp : Op → Type 0
 FitsOp (GetId id create) = get_id_fields.Fits (get_id_parts id create)
 FitsOp (Join name) = text_field.Fits name

@@ -3,6 +3,6 @@ pub mod Tag
 pub mod Faulting
 pub mod Bodies
 pub mod Frame
-pub mod Spelling
+pub mod Encoding
 pub mod Feeding
 pub mod Reply

@@ -35,7 +35,7 @@ body_of (Err e) = []
 
 -- length, status, the tag where there is one, body; the length counts the bytes that follow it
 abbrev pub frame_of : (tag : Option ℕ) → (status : ℕ) → (body : List ℕ) → List ℕ
-frame_of tag status body = (sized w32).spell ((to_le_bytes w32 status ++ tag_text tag) ++ body)
+frame_of tag status body = (sized w32).encode ((to_le_bytes w32 status ++ tag_text tag) ++ body)
 
 abbrev pub reply_frame : (tag : Option ℕ) → Result Answer Errno → List ℕ
 reply_frame tag reply = frame_of tag (status_of reply) (body_of reply)

@@ -23,7 +23,7 @@ FitsTag (Some tag) = tag < 256 ^ 8
 abbrev pub tag_field : (is_tagged : Bool) → Field (Option ℕ)
 tag_field is_tagged = record {
   Fits = λ tag. (is_some tag ≡ is_tagged) × FitsTag tag;
-  spell = tag_text;
+  encode = tag_text;
   read = λ bytes. if is_tagged then option_and_then (λ n. Some (Some n.0, n.1)) ((number w64).read bytes)
       else Some (None, bytes);
 }

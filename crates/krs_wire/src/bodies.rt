@@ -7,7 +7,7 @@ ghost use Rattle.krs_wire.specs.Bodies.{request_fields, request_parts, search_fi
 ghost use Rattle.krs_wire.specs.Bodies.{watch_parts, set_filter_fields, set_filter_parts, read_queue_fields};
 ghost use Rattle.krs_wire.specs.Bodies.{read_queue_parts, route_fields, route_parts, move_fields, move_parts};
 ghost use Rattle.krs_wire.specs.Bodies.{restrict_fields, restrict_parts};
-ghost use Rattle.krs_wire.specs.Spelling.{IsTooLong};
+ghost use Rattle.krs_wire.specs.Encoding.{IsTooLong};
 
 use crate::WireFault;
 use crate::put::{put_blob, put_entries, put_flag, put_groups, put_id, put_text, put_u32};
@@ -15,9 +15,9 @@ use krs_types::{Blob, Caller, FilterEntries, Op};
 
 fn put_hello(out: &mut Vec<u8>, caller: &Caller) -> Result<(), WireFault>
     ensures ok { OnOk result
-        (out.new.items ≡ out.old.items ++ hello_fields.spell (hello_parts caller.now)) }
+        (out.new.items ≡ out.old.items ++ hello_fields.encode (hello_parts caller.now)) }
     ensures fits { OnOk result (hello_fields.Fits (hello_parts caller.now)) }
-    ensures long { IfErr result (IsTooLong 65536 (hello_fields.spell (hello_parts caller.now))) }
+    ensures long { IfErr result (IsTooLong 65536 (hello_fields.encode (hello_parts caller.now))) }
 {
     put_u32(out, caller.uid)?;
     put_u32(out, caller.gid)?;
@@ -32,10 +32,10 @@ fn put_add(
     ring: i32,
 ) -> Result<(), WireFault>
     ensures ok { OnOk result
-        (out.new.items ≡ out.old.items ++ add_fields.spell (add_parts type_name.now desc.now payload.now ring)) }
+        (out.new.items ≡ out.old.items ++ add_fields.encode (add_parts type_name.now desc.now payload.now ring)) }
     ensures fits { OnOk result (add_fields.Fits (add_parts type_name.now desc.now payload.now ring)) }
     ensures long { IfErr result
-        (IsTooLong 65536 (add_fields.spell (add_parts type_name.now desc.now payload.now ring))) }
+        (IsTooLong 65536 (add_fields.encode (add_parts type_name.now desc.now payload.now ring))) }
 {
     put_text(out, type_name)?;
     put_text(out, desc)?;
@@ -45,9 +45,9 @@ fn put_add(
 
 fn put_update(out: &mut Vec<u8>, id: i32, payload: &Blob) -> Result<(), WireFault>
     ensures ok { OnOk result
-        (out.new.items ≡ out.old.items ++ update_fields.spell (update_parts id payload.now)) }
+        (out.new.items ≡ out.old.items ++ update_fields.encode (update_parts id payload.now)) }
     ensures fits { OnOk result (update_fields.Fits (update_parts id payload.now)) }
-    ensures long { IfErr result (IsTooLong 65536 (update_fields.spell (update_parts id payload.now))) }
+    ensures long { IfErr result (IsTooLong 65536 (update_fields.encode (update_parts id payload.now))) }
 {
     put_id(out, id)?;
     put_blob(out, payload)
@@ -55,7 +55,7 @@ fn put_update(out: &mut Vec<u8>, id: i32, payload: &Blob) -> Result<(), WireFaul
 
 fn put_chown(out: &mut Vec<u8>, id: i32, uid: u32, gid: u32) -> Result<(), WireFault>
     ensures ok { OnOk result
-        (out.new.items ≡ out.old.items ++ chown_fields.spell (chown_parts id uid gid)) }
+        (out.new.items ≡ out.old.items ++ chown_fields.encode (chown_parts id uid gid)) }
     ensures memory { IfErr result (λ fault. fault ≡ WireFault.Memory) }
 {
     put_id(out, id)?;
@@ -65,7 +65,7 @@ fn put_chown(out: &mut Vec<u8>, id: i32, uid: u32, gid: u32) -> Result<(), WireF
 
 fn put_id_number(out: &mut Vec<u8>, id: i32, number: u32) -> Result<(), WireFault>
     ensures ok { OnOk result
-        (out.new.items ≡ out.old.items ++ id_number_fields.spell (id_number_parts id number)) }
+        (out.new.items ≡ out.old.items ++ id_number_fields.encode (id_number_parts id number)) }
     ensures memory { IfErr result (λ fault. fault ≡ WireFault.Memory) }
 {
     put_id(out, id)?;
@@ -74,7 +74,7 @@ fn put_id_number(out: &mut Vec<u8>, id: i32, number: u32) -> Result<(), WireFaul
 
 fn put_link(out: &mut Vec<u8>, key: i32, ring: i32) -> Result<(), WireFault>
     ensures ok { OnOk result
-        (out.new.items ≡ out.old.items ++ link_fields.spell (link_parts key ring)) }
+        (out.new.items ≡ out.old.items ++ link_fields.encode (link_parts key ring)) }
     ensures memory { IfErr result (λ fault. fault ≡ WireFault.Memory) }
 {
     put_id(out, key)?;
@@ -83,7 +83,7 @@ fn put_link(out: &mut Vec<u8>, key: i32, ring: i32) -> Result<(), WireFault>
 
 fn put_route(out: &mut Vec<u8>, from: i32, to: i32, flags: u32) -> Result<(), WireFault>
     ensures ok { OnOk result
-        (out.new.items ≡ out.old.items ++ route_fields.spell (route_parts from to flags)) }
+        (out.new.items ≡ out.old.items ++ route_fields.encode (route_parts from to flags)) }
     ensures memory { IfErr result (λ fault. fault ≡ WireFault.Memory) }
 {
     put_id(out, from)?;
@@ -92,7 +92,7 @@ fn put_route(out: &mut Vec<u8>, from: i32, to: i32, flags: u32) -> Result<(), Wi
 
 fn put_move(out: &mut Vec<u8>, key: i32, from: i32, to: i32, flags: u32) -> Result<(), WireFault>
     ensures ok { OnOk result
-        (out.new.items ≡ out.old.items ++ move_fields.spell (move_parts key from to flags)) }
+        (out.new.items ≡ out.old.items ++ move_fields.encode (move_parts key from to flags)) }
     ensures memory { IfErr result (λ fault. fault ≡ WireFault.Memory) }
 {
     put_id(out, key)?;
@@ -101,9 +101,9 @@ fn put_move(out: &mut Vec<u8>, key: i32, from: i32, to: i32, flags: u32) -> Resu
 
 fn put_restrict(out: &mut Vec<u8>, ring: i32, type_name: &Blob) -> Result<(), WireFault>
     ensures ok { OnOk result
-        (out.new.items ≡ out.old.items ++ restrict_fields.spell (restrict_parts ring type_name.now)) }
+        (out.new.items ≡ out.old.items ++ restrict_fields.encode (restrict_parts ring type_name.now)) }
     ensures fits { OnOk result (restrict_fields.Fits (restrict_parts ring type_name.now)) }
-    ensures long { IfErr result (IsTooLong 65536 (restrict_fields.spell (restrict_parts ring type_name.now))) }
+    ensures long { IfErr result (IsTooLong 65536 (restrict_fields.encode (restrict_parts ring type_name.now))) }
 {
     put_id(out, ring)?;
     put_text(out, type_name)
@@ -111,7 +111,7 @@ fn put_restrict(out: &mut Vec<u8>, ring: i32, type_name: &Blob) -> Result<(), Wi
 
 fn put_get_id(out: &mut Vec<u8>, id: i32, create: bool) -> Result<(), WireFault>
     ensures ok { OnOk result
-        (out.new.items ≡ out.old.items ++ get_id_fields.spell (get_id_parts id create)) }
+        (out.new.items ≡ out.old.items ++ get_id_fields.encode (get_id_parts id create)) }
     ensures memory { IfErr result (λ fault. fault ≡ WireFault.Memory) }
 {
     put_id(out, id)?;
@@ -120,10 +120,10 @@ fn put_get_id(out: &mut Vec<u8>, id: i32, create: bool) -> Result<(), WireFault>
 
 fn put_request(out: &mut Vec<u8>, type_name: &Blob, desc: &Blob, dest: i32) -> Result<(), WireFault>
     ensures ok { OnOk result (out.new.items ≡
-        out.old.items ++ request_fields.spell (request_parts type_name.now desc.now dest)) }
+        out.old.items ++ request_fields.encode (request_parts type_name.now desc.now dest)) }
     ensures fits { OnOk result (request_fields.Fits (request_parts type_name.now desc.now dest)) }
     ensures long { IfErr result (IsTooLong 65536
-        (request_fields.spell (request_parts type_name.now desc.now dest))) }
+        (request_fields.encode (request_parts type_name.now desc.now dest))) }
 {
     put_text(out, type_name)?;
     put_text(out, desc)?;
@@ -138,11 +138,11 @@ fn put_search(
     dest: i32,
 ) -> Result<(), WireFault>
     ensures ok { OnOk result (out.new.items ≡
-        out.old.items ++ search_fields.spell (search_parts head type_name.now desc.now dest)) }
+        out.old.items ++ search_fields.encode (search_parts head type_name.now desc.now dest)) }
     ensures fits { OnOk result
         (search_fields.Fits (search_parts head type_name.now desc.now dest)) }
     ensures long { IfErr result (IsTooLong 65536
-        (search_fields.spell (search_parts head type_name.now desc.now dest))) }
+        (search_fields.encode (search_parts head type_name.now desc.now dest))) }
 {
     put_id(out, head)?;
     put_request(out, type_name, desc, dest)
@@ -150,7 +150,7 @@ fn put_search(
 
 fn put_watch(out: &mut Vec<u8>, id: i32, queue: u32, watch: i32) -> Result<(), WireFault>
     ensures ok { OnOk result
-        (out.new.items ≡ out.old.items ++ watch_fields.spell (watch_parts id queue watch)) }
+        (out.new.items ≡ out.old.items ++ watch_fields.encode (watch_parts id queue watch)) }
     ensures memory { IfErr result (λ fault. fault ≡ WireFault.Memory) }
 {
     put_id(out, id)?;
@@ -160,7 +160,7 @@ fn put_watch(out: &mut Vec<u8>, id: i32, queue: u32, watch: i32) -> Result<(), W
 
 fn put_read_queue(out: &mut Vec<u8>, queue: u32, room: u32) -> Result<(), WireFault>
     ensures ok { OnOk result
-        (out.new.items ≡ out.old.items ++ read_queue_fields.spell (read_queue_parts queue room)) }
+        (out.new.items ≡ out.old.items ++ read_queue_fields.encode (read_queue_parts queue room)) }
     ensures memory { IfErr result (λ fault. fault ≡ WireFault.Memory) }
 {
     put_u32(out, queue)?;
@@ -169,10 +169,10 @@ fn put_read_queue(out: &mut Vec<u8>, queue: u32, room: u32) -> Result<(), WireFa
 
 fn put_set_filter(out: &mut Vec<u8>, queue: u32, entries: &FilterEntries) -> Result<(), WireFault>
     ensures ok { OnOk result (out.new.items ≡
-        out.old.items ++ set_filter_fields.spell (set_filter_parts queue entries.now)) }
+        out.old.items ++ set_filter_fields.encode (set_filter_parts queue entries.now)) }
     ensures fits { OnOk result (set_filter_fields.Fits (set_filter_parts queue entries.now)) }
     ensures long { IfErr result (IsTooLong 65536
-        (set_filter_fields.spell (set_filter_parts queue entries.now))) }
+        (set_filter_fields.encode (set_filter_parts queue entries.now))) }
 {
     put_u32(out, queue)?;
     put_entries(out, entries)

@@ -1,7 +1,7 @@
 ghost use Rattle.std.specs.Prelude.{◌≡◌, ◌≤◌, ◌<◌, ◌^◌, ◌++◌, [], ◌∷◌, length, None, Some, IfOk, IfErr, OnOk};
 ghost use Rattle.krs_wire.specs.Bodies.{number_of_op, FitsOp};
 ghost use Rattle.krs_wire.specs.Frame.{Frames, rest};
-ghost use Rattle.krs_wire.specs.Spelling.{framed, ask_text, ask_frame, IsTooLong};
+ghost use Rattle.krs_wire.specs.Encoding.{framed, ask_text, ask_frame, IsTooLong};
 ghost use Rattle.krs_wire.specs.Tag.{version_of, FitsTag};
 
 use crate::WireFault;

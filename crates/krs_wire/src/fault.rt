@@ -14,7 +14,7 @@ pub enum WireFault {
     BadOp,
     /// The body is not exactly the operation's fields, or the frame is too short for its tag.
     BadBody,
-    /// A growth was refused: out of memory.
+    /// An allocation was refused: out of memory.
     Memory,
 }
 

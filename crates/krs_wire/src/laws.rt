@@ -1,9 +1,9 @@
-ghost use Rattle.krs_wire.specs.Spelling.{EachCutIsSpelled, EachSpellingIsCut, EachStreamIsCut, CutsAgree};
+ghost use Rattle.krs_wire.specs.Encoding.{EachCutIsEncoded, EachEncodingIsCut, EachStreamIsCut, CutsAgree};
 
 /// A frame that is cut is the frame of its ask, and the frame of an ask is cut as that ask.
-pub fn one_spelling()
-    ensures found { EachCutIsSpelled }
-    ensures again { EachSpellingIsCut }
+pub fn one_encoding()
+    ensures found { EachCutIsEncoded }
+    ensures again { EachEncodingIsCut }
 {}
 
 /// Every stream is cut, and in one way.

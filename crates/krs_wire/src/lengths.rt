@@ -1,7 +1,7 @@
 // How long the frame of an ask is, before anything is allocated for it.
 ghost use Rattle.std.specs.Prelude.{◌≡◌, ◌+◌, length, min};
 ghost use Rattle.krs_wire.specs.Bodies.{body_of_op, entry_field, entries_field};
-ghost use Rattle.krs_wire.specs.Spelling.{ask_text};
+ghost use Rattle.krs_wire.specs.Encoding.{ask_text};
 
 use krs_types::{Ask, Blob, FilterEntries, FilterEntry, Op};
 
@@ -14,7 +14,7 @@ fn texts_length(one: &Blob, other: &Blob) -> usize
 }
 
 fn entry_length(entry: &FilterEntry) -> usize
-    ensures { result ≡ length (entry_field.spell entry.now) }
+    ensures { result ≡ length (entry_field.encode entry.now) }
 {
     let words: &[u32] = &entry.subtypes;
     12 + 4 * words.len()
@@ -22,7 +22,7 @@ fn entry_length(entry: &FilterEntry) -> usize
 
 /// The length of entries with their count, or the greatest number where it is above that.
 fn entries_length(entries: &FilterEntries) -> usize
-    ensures { result ≡ min (length (entries_field.spell entries.now)) usize.MAX }
+    ensures { result ≡ min (length (entries_field.encode entries.now)) usize.MAX }
 {
     let lines = entries.as_slice();
     let mut length: usize = 4;

@@ -4,7 +4,7 @@ ghost use Rattle.std.specs.Int.{w16, w32, to_le_bytes};
 ghost use Rattle.std.specs.List.{flat_map, AllByRecursion};
 ghost use Rattle.krs_wire.specs.Bodies.{id_field, text_field, blob_field, groups_field, entry_field, entries_field};
 ghost use Rattle.krs_wire.specs.Field.{flag};
-ghost use Rattle.krs_wire.specs.Spelling.{IsTooLong};
+ghost use Rattle.krs_wire.specs.Encoding.{IsTooLong};
 ghost use Rattle.krs_wire.specs.Tag.{tag_text, FitsTag};
 
 use crate::WireFault;
@@ -50,14 +50,14 @@ pub(crate) fn put_tag(out: &mut Vec<u8>, tag: Option<u64>) -> Result<(), WireFau
 }
 
 pub(crate) fn put_id(out: &mut Vec<u8>, id: i32) -> Result<(), WireFault>
-    ensures ok { OnOk result (out.new.items ≡ out.old.items ++ id_field.spell id) }
+    ensures ok { OnOk result (out.new.items ≡ out.old.items ++ id_field.encode id) }
     ensures memory { IfErr result (λ fault. fault ≡ WireFault.Memory) }
 {
     put_u32(out, id.cast_unsigned())
 }
 
 pub(crate) fn put_flag(out: &mut Vec<u8>, is_set: bool) -> Result<(), WireFault>
-    ensures ok { OnOk result (out.new.items ≡ out.old.items ++ flag.spell is_set) }
+    ensures ok { OnOk result (out.new.items ≡ out.old.items ++ flag.encode is_set) }
     ensures memory { IfErr result (λ fault. fault ≡ WireFault.Memory) }
 {
     out.extend_from_slice(&[u8::from(is_set)])?;
@@ -65,7 +65,7 @@ pub(crate) fn put_flag(out: &mut Vec<u8>, is_set: bool) -> Result<(), WireFault>
 }
 
 pub(crate) fn put_text(out: &mut Vec<u8>, text: &Blob) -> Result<(), WireFault>
-    ensures ok { OnOk result (out.new.items ≡ out.old.items ++ text_field.spell text.now) }
+    ensures ok { OnOk result (out.new.items ≡ out.old.items ++ text_field.encode text.now) }
     ensures fits { OnOk result (length text.now < 65536) }
     ensures long { IfErr result (IsTooLong 65536 text.now) }
     ensures refused { 65535 < length text.now → result ≡ Err WireFault.BadLength }
@@ -80,7 +80,7 @@ pub(crate) fn put_text(out: &mut Vec<u8>, text: &Blob) -> Result<(), WireFault>
 }
 
 pub(crate) fn put_blob(out: &mut Vec<u8>, blob: &Blob) -> Result<(), WireFault>
-    ensures ok { OnOk result (out.new.items ≡ out.old.items ++ blob_field.spell blob.now) }
+    ensures ok { OnOk result (out.new.items ≡ out.old.items ++ blob_field.encode blob.now) }
     ensures fits { OnOk result (length blob.now ≤ 65536) }
     ensures long { IfErr result (IsTooLong 65537 blob.now) }
     ensures refused { 65536 < length blob.now → result ≡ Err WireFault.BadLength }
@@ -108,9 +108,9 @@ fn put_numbers(out: &mut Vec<u8>, numbers: &[u32]) -> Result<(), WireFault>
 }
 
 pub(crate) fn put_groups(out: &mut Vec<u8>, groups: &Groups) -> Result<(), WireFault>
-    ensures ok { OnOk result (out.new.items ≡ out.old.items ++ groups_field.spell groups.now) }
+    ensures ok { OnOk result (out.new.items ≡ out.old.items ++ groups_field.encode groups.now) }
     ensures fits { OnOk result (groups_field.Fits groups.now) }
-    ensures long { IfErr result (IsTooLong 65536 (groups_field.spell groups.now)) }
+    ensures long { IfErr result (IsTooLong 65536 (groups_field.encode groups.now)) }
     ensures refused { 65536 < length groups.now → result ≡ Err WireFault.BadLength }
 {
     let numbers = groups.as_slice();
@@ -122,7 +122,7 @@ pub(crate) fn put_groups(out: &mut Vec<u8>, groups: &Groups) -> Result<(), WireF
 }
 
 fn put_entry(out: &mut Vec<u8>, line: &FilterEntry) -> Result<(), WireFault>
-    ensures ok { OnOk result (out.new.items ≡ out.old.items ++ entry_field.spell line.now) }
+    ensures ok { OnOk result (out.new.items ≡ out.old.items ++ entry_field.encode line.now) }
     ensures fits { OnOk result (entry_field.Fits line.now) }
     ensures memory { IfErr result (λ fault. fault ≡ WireFault.Memory) }
 {
@@ -133,9 +133,9 @@ fn put_entry(out: &mut Vec<u8>, line: &FilterEntry) -> Result<(), WireFault>
 }
 
 pub(crate) fn put_entries(out: &mut Vec<u8>, entries: &FilterEntries) -> Result<(), WireFault>
-    ensures ok { OnOk result (out.new.items ≡ out.old.items ++ entries_field.spell entries.now) }
+    ensures ok { OnOk result (out.new.items ≡ out.old.items ++ entries_field.encode entries.now) }
     ensures fits { OnOk result (entries_field.Fits entries.now) }
-    ensures long { IfErr result (IsTooLong 65536 (entries_field.spell entries.now)) }
+    ensures long { IfErr result (IsTooLong 65536 (entries_field.encode entries.now)) }
     ensures refused { 65536 < length entries.now → result ≡ Err WireFault.BadLength }
 {
     let lines = entries.as_slice();

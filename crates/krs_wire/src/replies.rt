@@ -194,13 +194,13 @@ pub fn decode_reply(
     ensures exact { GivesRead (λ o. option_map untagged o) result
         (reply_front false (shape_of op.now) bytes.now) }
 
-    // Memory can be wanting only for a reply that stands there whole, so that each other fault is told.
+    // Memory can run out only for a reply that stands there whole, so that each other fault is told.
     ensures memory { result ≡ Err WireFault.Memory → IsFound (reply_front false (shape_of op.now) bytes.now) }
 
-    // What is found is spelled so.
+    // What is found is encoded so.
     ensures found { IfOk result (λ o. IfSome o (λ x. IsAtFront (shape_of op.now) bytes.now (untagged x))) }
 
-    // What is spelled so is found, whatever follows it.
+    // What is encoded so is found, whatever follows it.
     ensures only { Finds false (shape_of op.now) bytes.now untagged result }
 {
     match front_reply(alloc, op, false, bytes) {
@@ -220,13 +220,13 @@ pub fn decode_reply2(
     ensures exact { GivesRead (λ o. option_map tagged o) result
         (reply_front true (shape_of op.now) bytes.now) }
 
-    // Memory can be wanting only for a reply that stands there whole, so that each other fault is told.
+    // Memory can run out only for a reply that stands there whole, so that each other fault is told.
     ensures memory { result ≡ Err WireFault.Memory → IsFound (reply_front true (shape_of op.now) bytes.now) }
 
-    // What is found is spelled so.
+    // What is found is encoded so.
     ensures found { IfOk result (λ o. IfSome o (λ x. IsAtFront (shape_of op.now) bytes.now (tagged x))) }
 
-    // What is spelled so is found, whatever follows it.
+    // What is encoded so is found, whatever follows it.
     ensures only { Finds true (shape_of op.now) bytes.now tagged result }
 {
     match front_reply(alloc, op, true, bytes) {

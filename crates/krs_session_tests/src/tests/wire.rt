@@ -32,8 +32,8 @@ fn with_tag(alloc: Global, frame: &[u8], head: usize) -> Result<Vec<u8>, AllocEr
     Ok(tagged)
 }
 
-/// Whether a reply to this ask is spelled so in version 2: the frame is read as the reply and its tag, these are
-/// spelled as the frame, and no reply is in the frame without its last byte.
+/// Whether a reply to this ask is encoded so in version 2: the frame is read as the reply and its tag, these are
+/// encoded as the frame, and no reply is in the frame without its last byte.
 fn is_tagged_reply(
     alloc: Global,
     op: &Op,
@@ -51,7 +51,7 @@ fn is_tagged_reply(
     Ok(is_same && is_wanted(&found, want) && decode_reply2(alloc, op, part)?.is_none())
 }
 
-/// Whether a reply to this ask is spelled so: the frame is read as the reply, which is spelled as the frame, and no
+/// Whether a reply to this ask is encoded so: the frame is read as the reply, which is encoded as the frame, and no
 /// reply is in the frame without its last byte. The same is true of version 2, with a tag.
 fn is_reply(alloc: Global, op: &Op, want: Want<'_>, frame: &[u8]) -> Result<bool, WireFault> {
     let Some((found, len)) = decode_reply(alloc, op, frame)? else {

@@ -120,7 +120,7 @@ const SCRIPTS: [&[(&str, &str)]; 6] = [
     &OWNERS_BY_ROOT,
 ];
 
-/// The scripts that are run again with each growth refused.
+/// The scripts that are run again with each allocation refused.
 pub(in crate::tests) const GROWING: [&[(&str, &str)]; 2] = [&TIMEOUTS_OWNERS_MASKS, &UPDATED];
 
 #[test]

@@ -257,7 +257,7 @@ const SCRIPTS: [(u32, &[(&str, &str)], u8); 13] = [
     (2_147_483_645, &ONE_SERIAL, 1),
 ];
 
-/// The scripts that are run again with each growth refused. They begin on an empty store.
+/// The scripts that are run again with each allocation refused. They begin on an empty store.
 pub(in crate::tests) const GROWING: [&[(&str, &str)]; 5] = [
     &PROCESSES,
     &SESSIONS,

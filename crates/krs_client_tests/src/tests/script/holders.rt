@@ -120,7 +120,7 @@ fn check_scripts(rt: &impl Abort, alloc: Global, scripts: &[&[(&str, &str)]]) ->
     Ok(())
 }
 
-/// The scripts that are run again with each growth refused.
+/// The scripts that are run again with each allocation refused.
 pub(in crate::tests) const GROWING: [&[(&str, &str)]; 2] = [&LAST_OF_A_PROCESS, &DETACHED];
 
 #[test]

@@ -136,7 +136,7 @@ const SCRIPTS: [(&[(&str, &str)], u8); 8] = [
     (&REFUSED, 1),
 ];
 
-/// The scripts that are run again with each growth refused.
+/// The scripts that are run again with each allocation refused.
 pub(in crate::tests) const GROWING: [&[(&str, &str)]; 2] = [&LINKED, &REVOKED];
 
 #[test]

@@ -269,7 +269,7 @@ const SCRIPTS: [(&[(&str, &str)], u8); 11] = [
     (&RESTRICT_REFUSED, 1),
 ];
 
-/// The scripts that are run again with each growth refused.
+/// The scripts that are run again with each allocation refused.
 pub(in crate::tests) const GROWING: [&[(&str, &str)]; 3] = [&MOVED, &DISPLACED, &MADE];
 
 #[test]

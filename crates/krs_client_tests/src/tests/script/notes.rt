@@ -196,7 +196,7 @@ const FAULTS: [&str; 37] = [
     "readq", "readq 1", "readq 1 2 3", "readq 1 x", "readq x 1",
 ];
 
-/// The scripts that are run again with each growth refused.
+/// The scripts that are run again with each allocation refused.
 pub(in crate::tests) const GROWING: [&[(&str, &str)]; 4] = [
     &UPDATED_AND_DROPPED,
     &INVALIDATED,

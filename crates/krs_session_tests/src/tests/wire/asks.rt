@@ -1,4 +1,4 @@
-//! Every ask, as its frame and its reply spell it.
+//! Every ask, as its frame and its reply encode it.
 use super::{NOTHING, READ, TAG, is_fault, is_reply, with_tag};
 use krs_store_asks::Want;
 use krs_types::{Ask, Op};
@@ -105,7 +105,7 @@ pub(super) fn asks() -> &'static [(&'static [u8], &'static str, Form)] {
     &ASKS
 }
 
-/// Whether the ask is spelled so in words and in bytes.
+/// Whether the ask is encoded so in words and in bytes.
 fn is_ask(alloc: Global, ask: &Ask, text: &str, frame: &[u8]) -> Result<bool, WireFault> {
     let (context, op) = (ask.context, &ask.op);
     let told = format!(in alloc; "{context} {op:?}")?;
@@ -123,8 +123,8 @@ fn is_answered(alloc: Global, op: &Op, form: Form) -> Result<bool, WireFault> {
     )
 }
 
-/// Whether the frame is read as one ask, which is spelled and answered so.
-fn is_spelled(alloc: Global, frame: &[u8], text: &str, form: Form) -> Result<bool, WireFault> {
+/// Whether the frame is read as one ask, which is encoded and answered so.
+fn is_encoded(alloc: Global, frame: &[u8], text: &str, form: Form) -> Result<bool, WireFault> {
     let frames = Feed::new(alloc).feed(frame)?;
     let [framed] = frames.as_slice() else {
         return Ok(false);
@@ -136,8 +136,8 @@ fn is_spelled(alloc: Global, frame: &[u8], text: &str, form: Form) -> Result<boo
     )
 }
 
-/// Whether the frame in version 2, with a tag, is read as one ask with that tag, which is spelled so.
-fn is_spelled_with_tag(alloc: Global, frame: &[u8], text: &str) -> Result<bool, WireFault> {
+/// Whether the frame in version 2, with a tag, is read as one ask with that tag, which is encoded so.
+fn is_encoded_with_tag(alloc: Global, frame: &[u8], text: &str) -> Result<bool, WireFault> {
     let mut tagged = with_tag(alloc, frame, 12)?;
     if let Some(version) = tagged.get_mut(4) {
         *version = 2;
@@ -155,11 +155,11 @@ fn is_spelled_with_tag(alloc: Global, frame: &[u8], text: &str) -> Result<bool, 
 }
 
 #[test]
-fn each_ask_is_spelled(rt: HostRuntime) -> Result<(), Fail> {
+fn each_ask_is_encoded(rt: HostRuntime) -> Result<(), Fail> {
     for (frame, text, form) in asks() {
-        assert!(rt; is_spelled(rt.alloc(), frame, text, *form)?, "{text}");
+        assert!(rt; is_encoded(rt.alloc(), frame, text, *form)?, "{text}");
         assert!(rt;
-            is_spelled_with_tag(rt.alloc(), frame, text)?,
+            is_encoded_with_tag(rt.alloc(), frame, text)?,
             "{text}, with a tag"
         );
     }

@@ -13,8 +13,8 @@ fn all_frames(alloc: Global) -> Result<Vec<u8>, AllocError> {
     Ok(stream)
 }
 
-/// Takes a piece, and spells its asks behind the text.
-fn spell(
+/// Takes a piece, and encodes its asks behind the text.
+fn encode(
     alloc: Global,
     feed: &mut Feed,
     piece: &[u8],
@@ -27,12 +27,12 @@ fn spell(
     Ok(())
 }
 
-/// What is spelled of a stream that comes cut there.
-fn spelled_in_two(alloc: Global, stream: &[u8], cut: usize) -> Result<Vec<u8>, WireFault> {
+/// What is encoded of a stream that comes cut there.
+fn encoded_in_two(alloc: Global, stream: &[u8], cut: usize) -> Result<Vec<u8>, WireFault> {
     let (mut feed, mut text) = (Feed::new(alloc), Vec::new(alloc));
     let (front, back) = stream.split_at(cut.min(stream.len()));
-    spell(alloc, &mut feed, front, &mut text)?;
-    spell(alloc, &mut feed, back, &mut text)?;
+    encode(alloc, &mut feed, front, &mut text)?;
+    encode(alloc, &mut feed, back, &mut text)?;
     match feed.fault() {
         Some(fault) => Err(fault),
         None => Ok(text),
@@ -43,7 +43,7 @@ fn spelled_in_two(alloc: Global, stream: &[u8], cut: usize) -> Result<Vec<u8>, W
 fn a_stream_in_any_two_pieces_is_one_stream(rt: HostRuntime) -> Result<(), Fail> {
     let stream = all_frames(rt.alloc())?;
     for cut in 0..=stream.len() {
-        let text = spelled_in_two(rt.alloc(), &stream, cut)?;
+        let text = encoded_in_two(rt.alloc(), &stream, cut)?;
         assert!(rt; text.as_slice() == stream.as_slice(), "cut at {cut}");
     }
     Ok(())
@@ -54,7 +54,7 @@ fn a_stream_byte_by_byte_is_one_stream(rt: HostRuntime) -> Result<(), Fail> {
     let (mut feed, mut text) = (Feed::new(rt.alloc()), Vec::new(rt.alloc()));
     let stream = all_frames(rt.alloc())?;
     for byte in &stream {
-        spell(rt.alloc(), &mut feed, &[*byte], &mut text)?;
+        encode(rt.alloc(), &mut feed, &[*byte], &mut text)?;
     }
     assert!(rt; text.as_slice() == stream.as_slice() && feed.fault().is_none());
     Ok(())

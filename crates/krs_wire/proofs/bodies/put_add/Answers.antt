@@ -7,10 +7,10 @@ pub returns-clause-ok : goal.returns-clause-ok
 returns-clause-ok c =
     let r = c.put_id.result in
     let out = c.args.out.now.items in
-    let type_name = text_field.spell c.args.type_name.now in
-    let desc = text_field.spell c.args.desc.now in
-    let payload = blob_field.spell c.args.payload.now in
-    let ring = id_field.spell c.args.ring in
+    let type_name = text_field.encode c.args.type_name.now in
+    let desc = text_field.encode c.args.desc.now in
+    let payload = blob_field.encode c.args.payload.now in
+    let ring = id_field.encode c.args.ring in
     let first = c.put_text.new.out.items in
     let second = c.put_text-2.new.out.items in
     let third = c.put_blob.new.out.items in

@@ -7,7 +7,7 @@ use Rattle.krs_wire.proofs.bodies.put_chown.Goals as goal
 pub returns-clause-ok : goal.returns-clause-ok
 returns-clause-ok c =
     let out = c.args.out.now.items in
-    let id = id_field.spell c.args.id in
+    let id = id_field.encode c.args.id in
     let uid = to_le_bytes w32 c.args.uid in
     let gid = to_le_bytes w32 c.args.gid in
     let first : c.put_id.new.out.items ≡ out ++ id = search rules in

@@ -9,7 +9,7 @@ returns-clause-ok c =
     let out = c.args.out.now.items in
     let uid = to_le_bytes w32 c.args.caller.now.uid in
     let gid = to_le_bytes w32 c.args.caller.now.gid in
-    let groups = groups_field.spell c.args.caller.now.groups in
+    let groups = groups_field.encode c.args.caller.now.groups in
     let first = c.put_u32.new.out.items in
     let second = c.put_u32-2.new.out.items in
     let all = c.put_groups.new.out.items in
@@ -20,6 +20,6 @@ pub returns-clause-long : goal.returns-clause-long
 returns-clause-long c =
     let uid = to_le_bytes w32 c.args.caller.now.uid in
     let gid = to_le_bytes w32 c.args.caller.now.gid in
-    let groups = groups_field.spell c.args.caller.now.groups in
+    let groups = groups_field.encode c.args.caller.now.groups in
     long_behind c.put_groups.result 65536 uid (gid ++ groups)
     (long_behind c.put_groups.result 65536 gid groups c.put_groups.ensures.long)

@@ -6,8 +6,8 @@ use Rattle.krs_wire.proofs.bodies.put_route.Goals as goal
 pub returns-clause-ok : goal.returns-clause-ok
 returns-clause-ok c =
     let out = c.args.out.now.items in
-    let from = id_field.spell c.args.from in
-    let rest = id_number_fields.spell (id_number_parts c.args.to c.args.flags) in
+    let from = id_field.encode c.args.from in
+    let rest = id_number_fields.encode (id_number_parts c.args.to c.args.flags) in
     let first : c.put_id.new.out.items ≡ out ++ from = search rules in
     let second : OnOk c.put_id_number.result (c.put_id_number.new.out.items ≡ c.put_id.new.out.items ++ rest) =
     search rules in

@@ -7,9 +7,9 @@ use Rattle.krs_wire.proofs.bodies.put_watch.Goals as goal
 pub returns-clause-ok : goal.returns-clause-ok
 returns-clause-ok c =
     let out = c.args.out.now.items in
-    let id = id_field.spell c.args.id in
+    let id = id_field.encode c.args.id in
     let queue = to_le_bytes w32 c.args.queue in
-    let watch = id_field.spell c.args.watch in
+    let watch = id_field.encode c.args.watch in
     let first : c.put_id.new.out.items ≡ out ++ id = search rules in
     let second : c.put_u32.new.out.items ≡ c.put_id.new.out.items ++ queue = search rules in
     let third : OnOk c.put_id-2.result (c.put_id-2.new.out.items ≡ c.put_u32.new.out.items ++ watch) = search rules in

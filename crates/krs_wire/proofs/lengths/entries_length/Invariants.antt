@@ -6,4 +6,4 @@ use Rattle.krs_wire.proofs.lengths.entries_length.Given as goal
 
 abbrev pub invariant-loop-entry : goal.invariant-loop-entry
 invariant-loop-entry l =
-    l.length ≡ min (4 + length (flat_map entry_field.spell (take l.entry-index l.lines))) 18446744073709551615
+    l.length ≡ min (4 + length (flat_map entry_field.encode (take l.entry-index l.lines))) 18446744073709551615

@@ -8,5 +8,5 @@ use Rattle.krs_wire.proofs.lengths.entry_length.Goals as goal
 pub returns : goal.returns
 returns c =
     let words = c.args.entry.now.subtypes in
-    let size : length (flat_map (number w32).spell words) ≡ 4 * length words = length_numbers words in
+    let size : length (flat_map (number w32).encode words) ≡ 4 * length words = length_numbers words in
     omega (arith, size)

@@ -1,5 +1,5 @@
 use Rattle.krs_wire.proofs.AskLemmas.{front_takes, front_again}
-use Rattle.krs_wire.proofs.laws.one_spelling.Goals as goal
+use Rattle.krs_wire.proofs.laws.one_encoding.Goals as goal
 
 pub returns-clause-found : goal.returns-clause-found
 returns-clause-found c = λ bytes framed more fits is. front_takes bytes framed more fits is

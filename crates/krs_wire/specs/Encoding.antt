@@ -16,10 +16,10 @@ framed tag ask = record { ask = ask; tag = tag }
 -- what stands behind the length: version, operation, context, the tag where there is one, body
 abbrev pub ask_text : (tag : Option ℕ) → Ask → List ℕ
 ask_text tag ask =
-    head_fields.spell (version_of tag, (number_of_op ask.op, ask.context)) ++ (tag_text tag ++ body_of_op ask.op)
+    head_fields.encode (version_of tag, (number_of_op ask.op, ask.context)) ++ (tag_text tag ++ body_of_op ask.op)
 
 abbrev pub ask_frame : (tag : Option ℕ) → Ask → List ℕ
-ask_frame tag ask = (sized w32).spell (ask_text tag ask)
+ask_frame tag ask = (sized w32).encode (ask_text tag ask)
 
 -- a refusal for another cause than memory is BadLength, of at least so many bytes
 abbrev pub IsTooLong : ℕ → List ℕ → WireFault → Type 0
@@ -33,15 +33,15 @@ pub record FitsAsk (tag : Option ℕ) (ask : Ask) : Type 0 where
   pub size : length (ask_text tag ask) ≤ 65536
 
 -- each frame that is cut is that of its ask, with its tag
-abbrev pub EachCutIsSpelled : Type 0
-EachCutIsSpelled =
+abbrev pub EachCutIsEncoded : Type 0
+EachCutIsEncoded =
     (bytes : List ℕ) (framed : Framed) (more : List ℕ) → ((i : ℕ) → slice_index bytes i < 256)
     → front_of bytes ≡ Ok (Some (framed, more)) →
     (bytes ≡ ask_frame framed.tag framed.ask ++ more) × FitsAsk framed.tag framed.ask
 
 -- the frame of each ask is cut as that ask, with that tag, whatever follows it
-abbrev pub EachSpellingIsCut : Type 0
-EachSpellingIsCut =
+abbrev pub EachEncodingIsCut : Type 0
+EachEncodingIsCut =
     (framed : Framed) (more : List ℕ) → FitsAsk framed.tag framed.ask
     → front_of (ask_frame framed.tag framed.ask ++ more) ≡ Ok (Some (framed, more))
 
