@@ -33,21 +33,16 @@ def remember_sums(crate):
 
 
 def keep_seeds(rt, folder):
-    """Has `rt ci` begin a crate's edits, also where there is one alone, with what a check of the crate as it stands proved,
-    and keep that in a folder of the crate's name."""
-    add_edits, seeded, empty = rt.add_edits, rt.seeded, f"{folder}/nothing"
-    os.makedirs(empty, exist_ok=True)
+    """Has `rt ci`, where it tries a crate's edit from nothing, keep what that check proved in a folder of the crate's name."""
+    checked = rt.checked
 
-    def add(tasks, crate, edits, first, waits, is_well, kept, start=None, in_ci=True):
-        return add_edits(tasks, crate, edits, first, waits, is_well, kept, start or empty, in_ci)
+    def keeping(crate, texts, flags, kept):
+        if texts and not kept:
+            kept = f"{folder}/{crate.name}"
+            os.makedirs(kept, exist_ok=True)
+        return checked(crate, texts, flags, kept)
 
-    def seed(crate, flags, start=None):
-        room = seeded(crate, flags, start)
-        if room:
-            rt.linked(f"{room}/seed", f"{folder}/{crate.name}")
-        return room
-
-    rt.add_edits, rt.seeded = add, seed
+    rt.checked = keeping
 
 
 def load():
