@@ -1,7 +1,8 @@
-/* load PATH ASK CONNECTIONS DEPTH SECONDS [VERSION]: prints how many asks a second a server on a Unix socket answers.
- * ASK is echo, read, update or add (ADD and UNLINK in turn). Each connection has a thread, which sends DEPTH asks with
- * one write, reads their replies, and goes on so for SECONDS. VERSION is that of the frames, 1 or 2; 1 without it. In
- * version 2 the tags of a connection are 1, 2, 3 and so on. */
+/* load PATH ASK CONNECTIONS DEPTH SECONDS [VERSION]: prints how many asks a second a server on a Unix socket answers,
+ * and how many microseconds the replies took that half of all, and 99 of a hundred, came within. ASK is echo, read,
+ * update or add (ADD and UNLINK in turn). Each connection has a thread, which sends DEPTH asks with one write, reads
+ * their replies, and goes on so for SECONDS. VERSION is that of the frames, 1 or 2; 1 without it. In version 2 the tags
+ * of a connection are 1, 2, 3 and so on. */
 #include <pthread.h>
 #include <stdint.h>
 #include <stdio.h>
@@ -13,7 +14,7 @@
 #include <unistd.h>
 
 enum { UPDATE = 2, UNLINK = 9, READ = 11, HELLO = 256, ADD = 262 };
-enum { KEYS = 64, PAYLOAD = 32, USER_KEYRING = -4 };
+enum { KEYS = 64, PAYLOAD = 32, USER_KEYRING = -4, MOST_TIMES = 1 << 18 };
 
 struct client {
     pthread_t thread;
@@ -24,6 +25,8 @@ struct client {
     uint8_t out[1 << 17], in[1 << 17];
     size_t out_length, frame, in_start, in_end;
     double asks_a_second;
+    float *times; /* from a write until its last reply, in microseconds: the last ones, at most MOST_TIMES */
+    size_t timed;
 };
 
 static const char *path, *ask;
@@ -191,12 +194,32 @@ static void *run(void *given) {
     pthread_barrier_wait(&all_are_ready);
     double start = now(), spent = 0;
     while (spent < seconds) {
+        double before = spent;
         ask_once(client);
         spent = now() - start;
+        client->times[client->timed++ % MOST_TIMES] = (float)((spent - before) * 1e6);
     }
     client->asks_a_second = client->sent / spent;
     close(client->socket);
     return NULL;
+}
+
+static int compare(const void *one, const void *other) {
+    float a = *(const float *)one, b = *(const float *)other;
+    return (a > b) - (a < b);
+}
+
+/* All times of all clients, sorted; how many they are. */
+static float *all_times(struct client *clients, unsigned connections, size_t *count) {
+    float *all = malloc(sizeof *all * MOST_TIMES * connections);
+    *count = 0;
+    for (unsigned i = 0; i < connections; i++) {
+        size_t timed = clients[i].timed < MOST_TIMES ? clients[i].timed : MOST_TIMES;
+        memcpy(all + *count, clients[i].times, timed * sizeof *all);
+        *count += timed;
+    }
+    qsort(all, *count, sizeof *all, compare);
+    return all;
 }
 
 int main(int count, char **words) {
@@ -213,6 +236,7 @@ int main(int count, char **words) {
     struct client *clients = calloc(connections, sizeof *clients);
     for (unsigned i = 0; i < connections; i++) {
         clients[i].number = (int)i;
+        clients[i].times = malloc(sizeof(float) * MOST_TIMES);
         if (pthread_create(&clients[i].thread, NULL, run, &clients[i]) != 0) fail("no thread");
     }
     double asks_a_second = 0;
@@ -220,6 +244,8 @@ int main(int count, char **words) {
         pthread_join(clients[i].thread, NULL);
         asks_a_second += clients[i].asks_a_second;
     }
-    printf("%.0f\n", asks_a_second);
+    size_t timed;
+    float *times = all_times(clients, connections, &timed);
+    printf("%.0f %.1f %.1f\n", asks_a_second, (double)times[timed / 2], (double)times[timed * 99 / 100]);
     return 0;
 }
