@@ -39,7 +39,7 @@ Commands of a script, with what an accepted one prints:
   moment N                      sets the time in seconds of the lines that follow: ok
   thread                        a new context in the process of the current one: its number
   fork                          a new context of the same caller in a new process: its number
-  exec                          the process anew, without its other contexts: ok
+  exec                          ends the other contexts of the process: ok
   exit                          ends the current context, which stays the current one: ok
   add TYPE DESC DATA RING       a key in a keyring, new or with a new payload: its serial
   newring DESC RING             a new keyring in a keyring: its serial

@@ -76,7 +76,7 @@ fn answer<N: Net, R: Read + Drop, W: Write, E: Write>(
     }
 }
 
-/// Says that the words are none, and tells where help is to be had.
+/// Prints `usage`, and on the other output where help is to be had.
 fn say_usage<W: Write, E: Write>(output: &mut W, errors: &mut E) -> u8
     ensures said { Says (W.contents output.old) (W.contents output.new) (codes "usage\n") 2 result }
     ensures told { WritesFront (E.contents errors.old) (E.contents errors.new)

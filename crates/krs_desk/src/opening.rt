@@ -20,7 +20,7 @@ use std::mem;
 use std::snapshot::Snapshot;
 use std::sync::atomic::AtomicU64;
 
-/// Why no desk was opened: so many lanes there can't be, or there is no memory.
+/// Why no desk was opened: the number of lanes is out of range, or there is no memory.
 #[derive(Clone, Copy, Debug, PartialEq, Eq)]
 pub enum Why {
     Lanes,

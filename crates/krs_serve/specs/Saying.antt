@@ -12,7 +12,7 @@ Heard = Option (List ℕ) × Bool
 abbrev pub heard : {W : Type 0} → (W → Option (List ℕ)) → Voice W → Heard
 heard contents voice = (contents voice.writer, voice.has_failed)
 
--- the text was said: it stands there whole, or the output has failed and a beginning of it stands there
+-- the text was said: it was written whole, or the output has failed and a beginning of it was written
 abbrev pub Says : Heard → Heard → List ℕ → Type 0
 Says old new text =
     (Appends old.0 new.0 text × (new.1 ≡ old.1)) ⊎ (WritesFront old.0 new.0 text × (new.1 ≡ true))

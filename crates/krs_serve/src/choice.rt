@@ -23,7 +23,7 @@ const ACCEPT: &str = "accept";
 const ABOUT: &str =
     "A key store on a Unix socket that works as Linux's key retention service does: keyrings(7), keyctl(2).";
 
-const SOCKET_HELP: &str = "where clients connect: a path at which nothing stands yet";
+const SOCKET_HELP: &str = "where clients connect: a path that doesn't exist yet";
 
 const LANES_HELP: &str = "how many connections are served at the same time, 1 to 256";
 
