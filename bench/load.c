@@ -1,8 +1,9 @@
 /* load PATH ASK CONNECTIONS DEPTH SECONDS [VERSION]: prints how many asks a second a server on a Unix socket answers,
  * and how many microseconds the replies took that half of all, and 99 of a hundred, came within. ASK is echo, read,
- * update or add (ADD and UNLINK in turn). Each connection has a thread, which sends DEPTH asks with one write, reads
- * their replies, and goes on so for SECONDS. VERSION is that of the frames, 1 or 2; 1 without it. In version 2 the tags
- * of a connection are 1, 2, 3 and so on. */
+ * update or add (ADD and UNLINK in turn); or redis-read, redis-update, memcached-read or memcached-update, for those
+ * servers. Each connection has a thread, which sends DEPTH asks with one write, reads their replies, and goes on so for
+ * SECONDS. VERSION is that of the frames, 1 or 2; 1 without it. In version 2 the tags of a connection are 1, 2, 3 and so
+ * on. */
 #include <pthread.h>
 #include <stdint.h>
 #include <stdio.h>
@@ -136,8 +137,64 @@ static uint32_t receive(struct client *client) {
     }
 }
 
-/* A context of a uid of its own, with keys in its user keyring. */
+/* The commands of redis and of memcached, whose replies have one length each. */
+
+static int is_redis, is_memcached;
+
+static void put_words(struct client *client, const char *form, unsigned key) {
+    char payload[PAYLOAD + 1], text[256];
+    memset(payload, 'p', PAYLOAD);
+    payload[PAYLOAD] = 0;
+    int length = snprintf(text, sizeof text, form, client->number, key, payload);
+    put(client, text, (size_t)length);
+}
+
+static void put_set(struct client *client, unsigned key) {
+    put_words(client, is_redis ? "*3\r\n$3\r\nSET\r\n$6\r\n%04d%02u\r\n$32\r\n%s\r\n"
+                                 : "set %04d%02u 0 0 32\r\n%s\r\n", key);
+}
+
+static void put_get(struct client *client, unsigned key) {
+    put_words(client, is_redis ? "*2\r\n$3\r\nGET\r\n$6\r\n%04d%02u\r\n" : "get %04d%02u\r\n", key);
+}
+
+/* Takes so many replies, which are to begin so and to have this length each. */
+static void receive_words(struct client *client, const char *front, size_t length, unsigned replies) {
+    for (size_t left = length * replies, there = 0; left > 0; left -= there) {
+        ssize_t got = read(client->socket, client->in, left < sizeof client->in ? left : sizeof client->in);
+        if (got <= 0) fail("the server has ended the connection");
+        if (left == length * replies && memcmp(client->in, front, strlen(front)) != 0) fail("an ask was refused");
+        there = (size_t)got;
+    }
+}
+
+static void receive_sets(struct client *client, unsigned replies) {
+    receive_words(client, is_redis ? "+" : "S", strlen(is_redis ? "+OK\r\n" : "STORED\r\n"), replies);
+}
+
+static void receive_gets(struct client *client, unsigned replies) {
+    size_t around = strlen(is_redis ? "$32\r\n\r\n" : "VALUE 000000 0 32\r\n\r\nEND\r\n");
+    receive_words(client, is_redis ? "$" : "V", around + PAYLOAD, replies);
+}
+
+static void ask_words_once(struct client *client) {
+    int updates = strstr(ask, "update") != NULL;
+    for (unsigned i = 0; i < depth; i++) {
+        (updates ? put_set : put_get)(client, (client->sent + i) % KEYS);
+    }
+    send_all(client);
+    (updates ? receive_sets : receive_gets)(client, depth);
+    client->sent += depth;
+}
+
+/* A context of a uid of its own, with keys in its user keyring; or keys of its own names. */
 static void set_up(struct client *client) {
+    if (is_redis || is_memcached) {
+        for (unsigned key = 0; key < KEYS; key++) put_set(client, key);
+        send_all(client);
+        receive_sets(client, KEYS);
+        return;
+    }
     begin(client, HELLO);
     put32(client, 1000 + (uint32_t)client->number);
     put32(client, 1000);
@@ -195,7 +252,7 @@ static void *run(void *given) {
     double start = now(), spent = 0;
     while (spent < seconds) {
         double before = spent;
-        ask_once(client);
+        (is_redis || is_memcached ? ask_words_once : ask_once)(client);
         spent = now() - start;
         client->times[client->timed++ % MOST_TIMES] = (float)((spent - before) * 1e6);
     }
@@ -231,6 +288,8 @@ int main(int count, char **words) {
     seconds = atof(words[5]);
     if (count == 7) version = (unsigned)atoi(words[6]);
     if (version != 1 && version != 2) fail("frames have version 1 or 2");
+    is_redis = !strncmp(ask, "redis-", 6);
+    is_memcached = !strncmp(ask, "memcached-", 10);
     if (connections < 1 || depth < 1 || depth > 1024) fail("1 connection or more, and a depth of 1 to 1024");
     pthread_barrier_init(&all_are_ready, NULL, connections);
     struct client *clients = calloc(connections, sizeof *clients);
