@@ -21,6 +21,7 @@ use krs_types::{Context, Errno, KeyId, Serial, Want};
 use krs_walk::Walker;
 use krs_watch::WatchQueues;
 use std::alloc::{AllocError, Global};
+use std::cell::Cell;
 use std::marker::Model;
 
 /// All that a store has. An ask is a function over it, or over its parts. The walker keeps its room from one walk to the
@@ -36,6 +37,8 @@ pub struct Tables {
     pub alloc: Global,
     /// Of the names of links. It is no part of what contracts see.
     pub(crate) seed: Seed,
+    /// Whether asks that would keep memory are refused. It is no part of what contracts see.
+    short: Cell<bool>,
 }
 
 impl Model for Tables {
@@ -65,7 +68,22 @@ impl Tables {
             walker: Walker::new(alloc),
             alloc,
             seed,
+            short: Cell::new(false),
         }
+    }
+
+    /// From now on asks that would keep memory are refused with ENOMEM, or no longer.
+    pub fn mind_memory(&self, short: bool) {
+        self.short.set(short);
+    }
+
+    /// Asked before an ask keeps memory, once nothing else refuses it: what is left is wanted elsewhere where memory is
+    /// short. No clause can say when that is: it lies in a cell.
+    pub fn check_memory(&self) -> Result<(), AllocError> {
+        if self.short.get() {
+            return Err(AllocError);
+        }
+        Ok(())
     }
 
     /// The context of that number, where it is the client's.
@@ -173,9 +191,10 @@ impl Tables {
         Links::new(self.alloc, self.seed)
     }
 
-    /// Room for walks over the keyrings and so many keys more, which may be keyrings: it is made before the keys are. No
-    /// clause can say so: it lies in cells.
+    /// Room for walks over the keyrings and so many keys more, which may be keyrings: it is made before the keys are,
+    /// and only where memory isn't short. No clause can say so: it lies in cells.
     pub fn make_walk_room(&self, more: usize) -> Result<(), AllocError> {
+        self.check_memory()?;
         self.walker
             .room_for(self.keys.ring_count().saturating_add(more))
     }
