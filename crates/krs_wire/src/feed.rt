@@ -1,19 +1,25 @@
-ghost use Rattle.std.specs.Prelude.{◌≡◌, ◌≢◌, ◌≤◌, ◌++◌, [], length, drop, IfOk, IfErr, IsSome, vec_len};
+ghost use Rattle.std.specs.Prelude.{◌≡◌, ◌≢◌, ◌≤◌, ◌++◌, [], length, drop, IfOk, IfErr, OnErr, IsSome, vec_len};
 ghost use Rattle.krs_wire.specs.Frame.{Frames, rest, bad};
 ghost use Rattle.krs_wire.specs.Feeding.{end_of, Feeds, Refuses, fault_of};
 
 use crate::asks::front_at;
+use crate::reserve::Reserve;
 use crate::{Framed, WireFault};
 use std::alloc::Global;
 use std::marker::Model;
 
+/// How many bytes may be left over and a piece behind them: the longest frame but for its last byte, its length, and as
+/// much as is read at once.
+const ROOM: usize = 69_635;
+
 /// The reading end of a connection: pieces of a stream in, whole frames out. A contract sees how the stream ends so
-/// far: in the beginning of a frame, or in a fault.
+/// far: in the beginning of a frame, or in a fault. It has a reserve of memory, which no contract sees.
 #[derive(Drop)]
 pub struct Feed {
     alloc: Global,
     left: Vec<u8>,
     fault: Option<WireFault>,
+    reserve: Reserve,
 }
 
 impl Model for Feed {
@@ -78,8 +84,8 @@ fn drop_front(bytes: &mut Vec<u8>, count: usize)
     }
 }
 
-/// Takes a piece behind what was left, and keeps what is left then.
-fn take_in(
+/// Takes a piece behind what was left, and keeps what is left then. Where there is no memory, nothing was taken.
+fn take_once(
     alloc: Global,
     left: &mut Vec<u8>,
     piece: &[u8],
@@ -88,14 +94,45 @@ fn take_in(
         (λ x. Frames (left.old.items ++ piece.now) x.0.items (end_of x.1 left.new.items)) }
     ensures memory { IfErr result (λ fault. fault ≡ WireFault.Memory) }
     ensures no_memory { IfOk result (λ x. x.1 ≢ Some WireFault.Memory) }
+    ensures stays { OnErr result (left.new.items ≡ left.old.items) }
 {
+    let before = left.len();
     left.extend_from_slice(piece)?;
-    let cut = cut_stream(alloc, left)?;
-    drop_front(left, cut.taken);
-    Ok((cut.frames, cut.fault))
+    match cut_stream(alloc, left) {
+        Ok(cut) => {
+            drop_front(left, cut.taken);
+            Ok((cut.frames, cut.fault))
+        }
+        Err(fault) => {
+            left.truncate(before);
+            Err(fault)
+        }
+    }
+}
+
+/// Takes a piece, once more with the reserve let go where there is no memory.
+fn take_in(
+    alloc: Global,
+    left: &mut Vec<u8>,
+    reserve: &mut Reserve,
+    piece: &[u8],
+) -> Result<(Vec<Framed>, Option<WireFault>), WireFault>
+    ensures frames { IfOk result
+        (λ x. Frames (left.old.items ++ piece.now) x.0.items (end_of x.1 left.new.items)) }
+    ensures memory { IfErr result (λ fault. fault ≡ WireFault.Memory) }
+    ensures no_memory { IfOk result (λ x. x.1 ≢ Some WireFault.Memory) }
+{
+    match take_once(alloc, left, piece) {
+        Ok(taken) => Ok(taken),
+        Err(_) => {
+            reserve.let_go();
+            take_once(alloc, left, piece)
+        }
+    }
 }
 
 impl Feed {
+    /// It takes no memory, and has none in reserve.
     #[tactic(auto, unfolding(crate::specs::Frame::front_of))]
     pub fn new(alloc: Global) -> Feed
         ensures nothing { result ≡ rest [] }
@@ -105,7 +142,27 @@ impl Feed {
             alloc,
             left: Vec::new(alloc),
             fault: None,
+            reserve: Reserve::new(alloc),
         }
+    }
+
+    /// Takes what is lacking of the reserve and of the room for a frame, as far as there is memory, and lets go of what
+    /// is more than that.
+    pub fn restock(&mut self)
+        ensures { self.new ≡ self.old }
+    {
+        if self.left.capacity() != ROOM {
+            let _ = self.left.reserve(ROOM.saturating_sub(self.left.len()));
+            self.left.shrink_to(ROOM);
+        }
+        if !self.reserve.is_whole() {
+            self.reserve.take_back();
+        }
+    }
+
+    /// Whether some of the reserve is lacking: memory is short. Then whoever answers what was fed should keep none.
+    pub fn is_short(&self) -> bool {
+        !self.reserve.is_whole()
     }
 
     /// The fault behind which nothing is read.
@@ -128,7 +185,7 @@ impl Feed {
         if let Some(fault) = self.fault {
             return Err(fault);
         }
-        match take_in(self.alloc, &mut self.left, piece) {
+        match take_in(self.alloc, &mut self.left, &mut self.reserve, piece) {
             Ok((frames, fault)) => {
                 self.fault = fault;
                 if let Some(fault) = fault {

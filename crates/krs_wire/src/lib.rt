@@ -13,6 +13,7 @@ mod laws;
 mod lengths;
 mod put;
 mod replies;
+mod reserve;
 mod shape;
 
 pub use encode::{encode_ask, encode_ask2};

@@ -1,0 +1,68 @@
+ghost use Rattle.std.specs.Prelude.{◌<◌};
+
+use std::alloc::Global;
+
+/// The bytes of a whole reserve: more than the texts of the longest ask take, and the list of as many asks as one read
+/// may bring.
+const WHOLE: usize = 196_608;
+
+/// The bytes of its parts, and of those that it takes where there is no room for such.
+const LARGE: usize = 32_768;
+
+const SMALL: usize = 1024;
+
+/// Memory that a feed keeps for when there is no other. With it what was read can still be cut into asks, so that it is
+/// the store that refuses what would take more, with ENOMEM; without it the stream would end there, and the keys of its
+/// client with it. No contract sees how much memory there is.
+#[derive(Drop)]
+pub(crate) struct Reserve {
+    alloc: Global,
+    parts: Vec<Vec<u8>>,
+    held: usize,
+}
+
+impl Reserve {
+    /// It takes no memory, so all is lacking.
+    pub(crate) fn new(alloc: Global) -> Reserve {
+        Reserve {
+            alloc,
+            parts: Vec::new(alloc),
+            held: 0,
+        }
+    }
+
+    /// Whether nothing is lacking.
+    pub(crate) fn is_whole(&self) -> bool {
+        self.held >= WHOLE
+    }
+
+    /// Lets go of all of it.
+    pub(crate) fn let_go(&mut self) {
+        self.parts.clear();
+        self.held = 0;
+    }
+
+    /// Takes what is lacking, as far as there is memory.
+    pub(crate) fn take_back(&mut self) {
+        let most = WHOLE / SMALL;
+        let _ = self.parts.reserve(most.saturating_sub(self.parts.len()));
+        self.fill(LARGE);
+        self.fill(SMALL);
+    }
+
+    /// Takes parts of a size, as far as there is memory.
+    fn fill(&mut self, size: usize)
+        requires { 0 < size }
+    {
+        for _ in 0..WHOLE.saturating_sub(self.held) / size {
+            if self.parts.len() == self.parts.capacity() {
+                return;
+            }
+            let Ok(part) = Vec::with_capacity(self.alloc, size) else {
+                return;
+            };
+            self.parts.push_reserved(part);
+            self.held = self.held.saturating_add(size);
+        }
+    }
+}
