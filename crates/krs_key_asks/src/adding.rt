@@ -187,6 +187,7 @@ fn add_in(
     let context = tables.context_of(client, number)?;
     match place_of(tables, context, &name, ring)? {
         Place::Update(serial) => {
+            tables.check_memory()?;
             tables.change(serial, Change::Payload(payload));
             Ok(Answer::Number(serial.number()))
         }

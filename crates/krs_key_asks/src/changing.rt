@@ -26,6 +26,7 @@ pub fn update(
     let (serial, key) = tables.look_up(context, id, Want::Granted(Rights::WRITE))?;
     let kind = updatable(key.name.kind)?;
     kind.check_payload(payload.as_slice())?;
+    tables.check_memory()?;
     let payload = Body::new(payload.into_vec());
     tables.change(Serial::new(serial), Change::Payload(payload));
     Ok(Answer::Nothing)

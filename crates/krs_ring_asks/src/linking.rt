@@ -174,6 +174,7 @@ pub(crate) fn put_link(tables: &mut Tables, ring: Serial, serial: Serial) -> Res
         return Err(Fault::Refused(Errno::ENOKEY));
     };
     check_full(tables, ring, &key.name)?;
+    tables.check_memory()?;
     let name = key.name.copy(tables.alloc)?;
     put_named(tables, ring, name, serial)?;
     Ok(())
