@@ -17,6 +17,7 @@ pub fn thread(tables: &mut Tables, client: u32, context: u32) -> Result<Answer, 
 {
     let session = tables.context_of(client, context)?.session;
     tables.contexts.can_enter(client)?;
+    tables.check_memory()?;
     check_room(&tables.holders, &session)?;
     let number = tables.contexts.thread(client, context)?;
     hold_of(&mut tables.holders, &session);
@@ -30,6 +31,7 @@ pub fn fork(tables: &mut Tables, client: u32, context: u32) -> Result<Answer, Fa
 {
     let session = tables.context_of(client, context)?.session;
     tables.contexts.can_enter(client)?;
+    tables.check_memory()?;
     check_room(&tables.holders, &session)?;
     let number = tables.contexts.fork(client, context)?;
     hold_of(&mut tables.holders, &session);

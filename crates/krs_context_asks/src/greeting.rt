@@ -83,6 +83,7 @@ fn hello_known(
     ensures { Leads tables.old result tables.new (hello tables.old client caller) }
 {
     tables.contexts.can_enter(client)?;
+    tables.check_memory()?;
     check_room(&tables.holders, &rings.session)?;
     let number = tables.contexts.hello(client, caller, None)?;
     hold_of(&mut tables.holders, &rings.session);

@@ -20,6 +20,14 @@ returns-in_err-can_enter c =
     (ap (λ (t : State). enterable t c.args.client) (sym c.tables.view_is)
     ∙ sym (c.in_err-can_enter.ensures.given (state_of c.tables.inside))))
 
+pub returns-in_err-check_memory : goal.returns-in_err-check_memory
+returns-in_err-check_memory c =
+    wanting_as c.args.tables.now c.args.tables.now _ _ c.from_residual-in_err-check_memory.ensures.1
+    (is_ok _ _ (fork_accepted c.args.tables.now c.args.client c.args.context c.in_ok-session.field-0.now
+    c.in_ok-session.ensures
+    (ap (λ (t : State). enterable t c.args.client) (sym c.tables.view_is)
+    ∙ sym (c.in_ok-can_enter.ensures.given (state_of c.tables.inside))))) refl
+
 pub returns-in_err-check_room : goal.returns-in_err-check_room
 returns-in_err-check_room c =
     wanting_as c.args.tables.now c.args.tables.now _ _ c.from_residual-in_err-check_room.ensures.1

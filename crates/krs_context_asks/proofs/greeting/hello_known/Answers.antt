@@ -20,6 +20,14 @@ returns-in_err-can_enter c =
     (ap (λ (t : State). enterable t c.args.client) (sym c.tables.view_is)
     ∙ sym (c.in_err-can_enter.ensures.given (state_of c.tables.inside))))
 
+pub returns-in_err-check_memory : goal.returns-in_err-check_memory
+returns-in_err-check_memory c =
+    wanting_as c.args.tables.now c.args.tables.now _ _ c.from_residual-in_err-check_memory.ensures.1
+    (hello_open c.args.tables.now c.args.client c.args.caller c.requires.known
+    (ap (λ (t : State). enterable t c.args.client) (sym c.tables.view_is)
+    ∙ sym (c.in_ok-can_enter.ensures.given (state_of c.tables.inside)))
+    (no_serials c.args.tables.now c.args.caller c.args.rings c.requires.rings)) refl
+
 pub returns-in_err-check_room : goal.returns-in_err-check_room
 returns-in_err-check_room c =
     wanting_as c.args.tables.now c.args.tables.now _ _ c.from_residual-in_err-check_room.ensures.1
