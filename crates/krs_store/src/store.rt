@@ -73,6 +73,13 @@ impl Store {
         }
     }
 
+    /// From now on asks that would keep memory are refused with ENOMEM where nothing else refuses them, or no longer. It
+    /// is for whoever has read an ask with the last memory: the store would keep what was read, and the next ask could
+    /// not be read. No contract sees it.
+    pub fn mind_memory(&self, short: bool) {
+        self.tables.mind_memory(short);
+    }
+
     /// Serves one ask of a client at a moment, in seconds: one step of the store. An accepted ask has its effect; its
     /// note is posted; then the sweep drops what is not held, and posts removal records. Profile, order of notes.
     #[tactic(auto, unfolding(krs_model::specs::Step::Step))]
