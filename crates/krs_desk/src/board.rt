@@ -20,7 +20,6 @@ use krs_types::{Ask, Reply};
 use std::alloc::Global;
 use std::marker::{Model, PhantomData};
 use std::snapshot::Snapshot;
-use std::sync::Wait;
 
 /// What a step tells its caller, besides that it is one of the machine's.
 pub(crate) trait Tells {
@@ -94,20 +93,6 @@ impl Board {
         requires { word < self.now.id.words }
     {
         self.table.shared.peek(word)
-    }
-
-    /// Sleeps while the word is this, until it is woken.
-    pub(crate) fn park<R: Wait>(&self, rt: &R, word: usize, expected: u32)
-        requires { word < self.now.id.words }
-    {
-        self.table.shared.park(rt, word, expected);
-    }
-
-    /// Wakes one thread that sleeps on the word.
-    pub(crate) fn wake_one(&self, word: usize)
-        requires { word < self.now.id.words }
-    {
-        self.table.shared.wake_one(word);
     }
 
     /// A load of a word.

@@ -1,89 +1,17 @@
 //! A call that waits until it is answered.
-ghost use Rattle.std.specs.Prelude.{◌≡◌, ◌<◌, ◌+◌, IfOk, IfErr, None};
+ghost use Rattle.std.specs.Prelude.{◌≡◌, IfOk, IfErr, None};
 ghost use Rattle.krs_model.specs.History.{event_of};
 ghost use Rattle.krs_desk.specs.Sitting.{Adds, missed_by};
 ghost use Rattle.krs_desk.specs.Helping.{HasLooked};
 
 use crate::desk::Desk;
 use crate::seat::Seat;
-use crate::word::{ANSWERED, FREE, OUT, TURN, cell_of};
+use crate::waiting::{FIRST_PAUSE, TRIES, pause};
+use crate::word::FREE;
 use krs_types::{Ask, Reply};
 use std::sync::Wait;
-use std::sync::atomic::Ordering;
-use std::{hint, thread};
-
-// So often a call tries to have the turn before it is posted, and so often a posted call looks at its cell and the turn
-// before it sleeps.
-const TRIES: u32 = 40;
-
-// So long a call pauses after its first try, and at most. After each try it pauses twice as long. Mostly the turn is
-// given back at once; where it isn't, whoever has it can take it again for its next call: where the turn goes to another
-// processor, the memory of the store must follow. It never yields its processor, which the scheduler takes as leave to
-// run the others' whole slices first.
-const FIRST_PAUSE: u32 = 4;
-
-const LONGEST_PAUSE: u32 = 512;
-
-// So often a posted call looks at its own cell alone before that.
-const LOOKS: u32 = 16;
-
-// Pauses, and tells how long to pause next.
-fn pause(spins: u32) -> u32 {
-    for _ in 0..spins {
-        hint::spin_loop();
-    }
-    spins.saturating_mul(2).min(LONGEST_PAUSE)
-}
 
 impl Desk {
-    // Whether nobody had the turn.
-    fn is_free(&self) -> bool {
-        self.table.peek(TURN) == FREE
-    }
-
-    // Whether the lane's call was answered.
-    fn is_answered(&self, lane: u32) -> bool
-        requires { lane + 1 < self.now.words }
-    {
-        self.table.peek(cell_of!(lane)) == ANSWERED
-    }
-
-    // Whether the turn was free, or the lane's call answered.
-    fn is_worth_a_try(&self, lane: u32) -> bool
-        requires { lane + 1 < self.now.words }
-    {
-        self.is_answered(lane) || self.is_free()
-    }
-
-    // Looks at the lane's cell alone for a while.
-    fn wait_for_answer(&self, lane: u32)
-        requires { lane + 1 < self.now.words }
-    {
-        for _ in 0..LOOKS {
-            if self.is_answered(lane) {
-                return;
-            }
-            hint::spin_loop();
-        }
-    }
-
-    // Waits until the turn was free or the lane's call answered, or for a while.
-    fn wait<R: Wait>(&self, rt: &R, lane: u32)
-        requires { lane + 1 < self.now.words }
-    {
-        self.wait_for_answer(lane);
-        let mut spins = FIRST_PAUSE;
-        for _ in 0..TRIES {
-            if self.is_worth_a_try(lane) {
-                return;
-            }
-            spins = pause(spins);
-        }
-        self.sleepers.fetch_add(1, Ordering::SeqCst);
-        self.table.park(rt, TURN, OUT as u32);
-        self.sleepers.fetch_sub(1, Ordering::SeqCst);
-    }
-
     // Asks the store where the turn is free, after it has answered each call that is posted. The ask comes back where
     // the turn is found taken.
     fn call_in_turn(&self, seat: &mut Seat, moment: u64, ask: Ask) -> Result<Reply, Ask>
@@ -98,13 +26,8 @@ impl Desk {
         if self.take(&mut seat.token) != FREE {
             return Err(ask);
         }
-        let answered = self.serve_all(&mut seat.token, true);
-        let reply = self.finish(&mut seat.token, seat.lane, moment, ask);
-        if answered > 0 {
-            self.wake_all();
-            thread::yield_now();
-        }
-        Ok(reply)
+        let _answered = self.serve_all(&mut seat.token, true);
+        Ok(self.finish(&mut seat.token, seat.lane, moment, ask))
     }
 
     // Posts a call, and helps or waits until it is answered.

@@ -11,6 +11,7 @@ ghost use Rattle.krs_desk.specs.Sitting.{Adds, missed_by};
 ghost use Rattle.krs_desk.specs.Helping.{HoldsAll, Finishes};
 ghost use Rattle.krs_desk.specs.Seated.{IsResting, Holds, Has, Serves, HoldsBefore, part, opening};
 
+use crate::bells::Bells;
 use crate::board::Board;
 use crate::note::{Added, Note};
 use crate::plays::{Puts, Takes, Token};
@@ -19,15 +20,12 @@ use crate::word::{FREE, OUT, TURN};
 use krs_types::{Ask, Reply};
 use std::marker::{Brand, Model};
 use std::snapshot::Snapshot;
-use std::sync::atomic::{AtomicU64, Ordering};
 
 /// A store with one turn, which is had by one seat at a time. Threads share it by reference. A contract sees which desk
 /// it is.
 pub struct Desk {
     pub(crate) table: Board,
-
-    // How many threads sleep on the turn, or are about to.
-    pub(crate) sleepers: AtomicU64,
+    pub(crate) bells: Bells,
 }
 
 impl Model for Desk {
@@ -47,10 +45,7 @@ impl Model for Desk {
 // By hand, so that a crate which lets a desk go needn't know what a store is made of.
 impl Drop for Desk {
     fn drop(self) {
-        let Self {
-            table: _,
-            sleepers: _,
-        } = self;
+        let Self { table: _, bells: _ } = self;
     }
 }
 
@@ -77,7 +72,7 @@ impl Desk {
         self.table.serve(token, lane, moment, ask)
     }
 
-    // Brings the store home, with one event more, and wakes a thread that waits for the turn.
+    // Gives the turn back, with one event more in the list, and wakes whom it may concern.
     fn put<E: Added>(&self, token: &mut Token, note: Note)
         requires table { token.old.table_id ≡ self.now }
         requires held { (log : List Event) × HoldsBefore token.old.me log (event_in note) }
@@ -91,16 +86,7 @@ impl Desk {
     {
         self.table
             .compare_exchange::<Puts<E>>(token, TURN, OUT, FREE);
-        if self.sleepers.load(Ordering::SeqCst) > 0 {
-            self.table.wake_one(TURN);
-        }
-    }
-
-    // Wakes all that sleep on the turn: some of their calls may have been answered.
-    pub(crate) fn wake_all(&self) {
-        for _ in 0..self.sleepers.load(Ordering::SeqCst) {
-            self.table.wake_one(TURN);
-        }
+        self.wake();
     }
 
     // Asks the store for the token's own lane, as the last of its turn, and gives the turn back.

@@ -129,7 +129,7 @@ impl Desk {
         answered
     }
 
-    // Gives the turn back, with the list as it is held, and wakes all that sleep on the turn.
+    // Gives the turn back, with the list as it is held, and wakes whom it may concern.
     fn bring(&self, token: &mut Token)
         requires table { token.old.table_id ≡ self.now }
         requires held { HoldsAll token.old.me }
@@ -145,7 +145,7 @@ impl Desk {
     {
         self.table
             .compare_exchange::<Brings>(token, TURN, OUT, FREE);
-        self.wake_all();
+        self.wake();
     }
 
     /// Takes the turn, where it is free, and answers each call that is posted, lane by lane. If a call of this seat is

@@ -3,6 +3,7 @@
 //! may be posted, and is then answered in a turn of `call` or `help`.
 #![tactic(auto)]
 
+mod bells;
 mod board;
 mod boxed;
 mod calling;
@@ -18,6 +19,7 @@ mod plays;
 mod posting;
 mod seat;
 mod sight;
+mod waiting;
 mod word;
 
 pub use closing::Stopped;

@@ -7,6 +7,7 @@ ghost use Rattle.krs_desk.specs.declared.place.Place.TheVariants.{Empty, Home};
 ghost use Rattle.krs_desk.specs.Rule.{AreZero, first_sight};
 ghost use Rattle.krs_desk.specs.Sitting.{IsIdleAt, fresh_seats};
 
+use crate::bells::Bells;
 use crate::board::Board;
 use crate::boxed::BoxedStore;
 use crate::desk::Desk;
@@ -18,7 +19,6 @@ use krs_store::Store;
 use std::alloc::Global;
 use std::mem;
 use std::snapshot::Snapshot;
-use std::sync::atomic::AtomicU64;
 
 /// Why no desk was opened: the number of lanes is out of range, or there is no memory.
 #[derive(Clone, Copy, Debug, PartialEq, Eq)]
@@ -99,6 +99,9 @@ impl Desk {
         let Ok(mut slots) = Vec::with_capacity(alloc, count + 1) else {
             return Err(store);
         };
+        let Ok(bells) = Bells::new(alloc, count) else {
+            return Err(store);
+        };
         store.is_sound();
         let about = Snapshot::of(&store);
         let home = BoxedStore::new(alloc, store)?;
@@ -106,7 +109,7 @@ impl Desk {
         for _ in 0..count {
             slots.push_reserved(Place::Empty);
         }
-        let (desk, opener) = Desk::lay(alloc, lanes, words, slots, &about)?;
+        let (desk, opener) = Desk::lay(alloc, lanes, words, slots, bells, &about)?;
         desk.deal(opener, lanes, &mut seats, about);
         Ok((desk, seats))
     }
@@ -117,6 +120,7 @@ impl Desk {
         lanes: u32,
         words: Vec<u64>,
         slots: Vec<Place>,
+        bells: Bells,
         about: &Snapshot<Store>,
     ) -> Result<(Desk, Token), Store>
         requires lanes { lanes ≤ 256 }
@@ -128,13 +132,7 @@ impl Desk {
         ensures store { IfErr result (λ back. back ≡ about.now.value) }
     {
         match Board::new(alloc, words.as_slice(), slots, about) {
-            Ok((table, opener)) => Ok((
-                Desk {
-                    table,
-                    sleepers: AtomicU64::new(0),
-                },
-                opener,
-            )),
+            Ok((table, opener)) => Ok((Desk { table, bells }, opener)),
             Err(refused) => {
                 let mut back = refused.slots;
                 let Place::Home(home) = mem::replace(&mut back[0], Place::Empty) else {

@@ -20,21 +20,21 @@ serve_all-answered-requires-clause-hand c =
     sym (ap (λ (k : Me). is_free (part k).flight) (c.take.ensures.had c.if-take-ne-FREE.false).has
     ∙ ap (λ f. is_free f) (ap (λ (s : Sitting). s.part.flight) c.seat.view_is ∙ c.requires.idle))
 
-pub finish-reply-requires-clause-held : goal.finish-reply-requires-clause-held
-finish-reply-requires-clause-held c =
+pub finish-requires-clause-held : goal.finish-requires-clause-held
+finish-requires-clause-held c =
     let seat = c.seat.inside in
     let had = c.take.ensures.had c.if-take-ne-FREE.false in
     held_at c.take.new.token.me c.serve_all-answered.new.token.me _ _
     (had_held seat.lane seat.idle seat.token.me _ c.seat.invariant.0 had).0 c.serve_all-answered.ensures.gone
 
-pub finish-reply-requires-clause-idle : goal.finish-reply-requires-clause-idle
-finish-reply-requires-clause-idle c =
+pub finish-requires-clause-idle : goal.finish-requires-clause-idle
+finish-requires-clause-idle c =
     c.serve_all-answered.ensures.gone.2.flight
     ∙ (ap (λ (k : Me). (part k).flight) (c.take.ensures.had c.if-take-ne-FREE.false).has
     ∙ (ap (λ (s : Sitting). s.part.flight) c.seat.view_is ∙ c.requires.idle))
 
-pub finish-reply-requires-clause-lane : goal.finish-reply-requires-clause-lane
-finish-reply-requires-clause-lane c =
+pub finish-requires-clause-lane : goal.finish-requires-clause-lane
+finish-requires-clause-lane c =
     c.seat.invariant.0.numbered
     ∙ sym (c.serve_all-answered.ensures.gone.2.same_lane
     ∙ ap (λ (k : Me). (part k).lane) (c.take.ensures.had c.if-take-ne-FREE.false).has)
@@ -44,8 +44,8 @@ invariant_of-seat-2 c =
     let had = c.take.ensures.had c.if-take-ne-FREE.false in
     let seat = c.seat.inside in (
       turn_seated seat.lane seat.idle seat.token.me c.take.new.token.me c.serve_all-answered.new.token.me
-          c.finish-reply.new.token.me _ _ _ c.seat.invariant.0 had c.serve_all-answered.ensures.gone
-          c.finish-reply.ensures.finished,
+          c.finish.new.token.me _ _ _ c.seat.invariant.0 had c.serve_all-answered.ensures.gone
+          c.finish.ensures.finished,
       search rules,
     )
 
@@ -53,21 +53,21 @@ pub returns-clause-added : goal.returns-clause-added
 returns-clause-added c =
     let had = c.take.ensures.had c.if-take-ne-FREE.false in
     let seat = c.seat.inside in
-    turn_adds seat.token.table_id c.finish-reply.new.token.table_id seat.token.me c.take.new.token.me
-    c.serve_all-answered.new.token.me c.finish-reply.new.token.me c.args.seat.now seat.lane seat.idle _ _
-    c.args.moment c.args.ask c.finish-reply.result c.seat.view_is (search rules) c.seat.invariant.0 had
-    c.serve_all-answered.ensures.gone c.finish-reply.ensures.finished
+    turn_adds seat.token.table_id c.finish.new.token.table_id seat.token.me c.take.new.token.me
+    c.serve_all-answered.new.token.me c.finish.new.token.me c.args.seat.now seat.lane seat.idle _ _
+    c.args.moment c.args.ask c.finish.result c.seat.view_is (search rules) c.seat.invariant.0 had
+    c.serve_all-answered.ensures.gone c.finish.ensures.finished
 
 pub returns-clause-idle : goal.returns-clause-idle
 returns-clause-idle c =
     let had = c.take.ensures.had c.if-take-ne-FREE.false in
     let seat = c.seat.inside in
-    turn_idle seat.token.me c.take.new.token.me c.serve_all-answered.new.token.me c.finish-reply.new.token.me _ _ _
+    turn_idle seat.token.me c.take.new.token.me c.serve_all-answered.new.token.me c.finish.new.token.me _ _ _
     (ap (λ (s : Sitting). s.part.flight) c.seat.view_is ∙ c.requires.idle) had
-    c.serve_all-answered.ensures.gone c.finish-reply.ensures.finished
+    c.serve_all-answered.ensures.gone c.finish.ensures.finished
 
 pub returns-clause-looked : goal.returns-clause-looked
 returns-clause-looked c =
-    turn_looked c.args.self.now c.finish-reply.new.token.table_id c.args.seat.now c.take.new.token.me
-    c.serve_all-answered.new.token.me c.finish-reply.new.token.me _ _ c.serve_all-answered.ensures.gone
-    c.finish-reply.ensures.finished
+    turn_looked c.args.self.now c.finish.new.token.table_id c.args.seat.now c.take.new.token.me
+    c.serve_all-answered.new.token.me c.finish.new.token.me _ _ c.serve_all-answered.ensures.gone
+    c.finish.ensures.finished

@@ -12,10 +12,6 @@ compare_exchange-requires g c =
           (puts_at _ _ _ c.args.token.now.me (event_in c.args.note) held.0 held.1 c.requires.event.1),
     )
 
-pub returns-then-load-gt0-clause-mine : goal.returns-then-load-gt0-clause-mine
-returns-then-load-gt0-clause-mine g c =
-    λ log held. (c.compare_exchange.ensures.2 log (event_in c.args.note) held c.requires.event.0).1
-
 pub returns-clause-mine : goal.returns-clause-mine
 returns-clause-mine g c =
     λ log held. (c.compare_exchange.ensures.2 log (event_in c.args.note) held c.requires.event.0).1

@@ -1,0 +1,9 @@
+use Rattle.std.proofs.Common.{◌≡◌}
+use Rattle.std.specs.Prelude.{vec_capacity, vec_len}
+use Rattle.krs_desk.proofs.bells.Bells.new.Given as goal
+
+abbrev pub invariant-loop : goal.invariant-loop
+invariant-loop l = record {
+  room : vec_capacity l.bells ≡ vec_capacity l.initial.bells;
+  count : vec_len l.bells ≡ l.counter;
+}

@@ -1,0 +1,81 @@
+//! Which lanes' threads sleep, and how they are woken.
+use std::alloc::{AllocError, Global};
+use std::sync::Wait;
+use std::sync::atomic::{AtomicU64, Ordering};
+
+// The lane's thread sleeps, or is about to.
+const ASLEEP: u64 = 0;
+
+// It doesn't sleep, or was woken.
+const RUNG: u64 = 1;
+
+/// A bell for each lane, by which its thread sleeps and nobody else does.
+#[derive(Drop)]
+pub(crate) struct Bells {
+    // How many threads sleep, or are about to.
+    sleepers: AtomicU64,
+    bells: Vec<AtomicU64>,
+}
+
+impl Bells {
+    /// So many bells, and nobody sleeps.
+    pub(crate) fn new(alloc: Global, lanes: usize) -> Result<Bells, AllocError> {
+        let mut bells = Vec::with_capacity(alloc, lanes)?;
+        for _ in 0..lanes {
+            bells.push_reserved(AtomicU64::new(RUNG));
+        }
+        Ok(Bells {
+            sleepers: AtomicU64::new(0),
+            bells,
+        })
+    }
+
+    /// Whether any thread sleeps, or is about to.
+    #[inline]
+    pub(crate) fn is_any_asleep(&self) -> bool {
+        self.sleepers.load(Ordering::SeqCst) > 0
+    }
+
+    /// Whether the lane's thread sleeps, or is about to.
+    pub(crate) fn is_asleep(&self, lane: u32) -> bool {
+        match self.bells.get(lane as usize) {
+            Some(bell) => bell.load(Ordering::SeqCst) == ASLEEP,
+            None => false,
+        }
+    }
+
+    /// From here on the lane's thread is one that may be woken.
+    pub(crate) fn lie_down(&self, lane: u32) {
+        if let Some(bell) = self.bells.get(lane as usize) {
+            bell.store(ASLEEP, Ordering::SeqCst);
+        }
+        self.sleepers.fetch_add(1, Ordering::SeqCst);
+    }
+
+    /// Sleeps until the bell is rung, if it wasn't since the thread lay down.
+    pub(crate) fn sleep<R: Wait>(&self, rt: &R, lane: u32) {
+        if let Some(bell) = self.bells.get(lane as usize) {
+            bell.park(rt, ASLEEP as u32);
+        }
+    }
+
+    /// From here on it is none.
+    pub(crate) fn get_up(&self, lane: u32) {
+        self.sleepers.fetch_sub(1, Ordering::SeqCst);
+        if let Some(bell) = self.bells.get(lane as usize) {
+            bell.store(RUNG, Ordering::SeqCst);
+        }
+    }
+
+    /// Wakes the lane's thread, and tells whether it slept or was about to.
+    pub(crate) fn ring(&self, lane: u32) -> bool {
+        let Some(bell) = self.bells.get(lane as usize) else {
+            return false;
+        };
+        if bell.swap(RUNG, Ordering::SeqCst) != ASLEEP {
+            return false;
+        }
+        bell.wake_one();
+        true
+    }
+}
