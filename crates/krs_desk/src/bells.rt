@@ -12,7 +12,8 @@ const RUNG: u64 = 1;
 /// A bell for each lane, by which its thread sleeps and nobody else does.
 #[derive(Drop)]
 pub(crate) struct Bells {
-    // How many threads sleep, or are about to.
+    // How many threads sleep, or are about to, and weren't rung. It is raised before a bell says so and lowered after, so
+    // it is never too low.
     sleepers: AtomicU64,
     bells: Vec<AtomicU64>,
 }
@@ -30,13 +31,13 @@ impl Bells {
         })
     }
 
-    /// Whether any thread sleeps, or is about to.
+    /// Whether any thread is to be rung.
     #[inline]
     pub(crate) fn is_any_asleep(&self) -> bool {
         self.sleepers.load(Ordering::SeqCst) > 0
     }
 
-    /// Whether the lane's thread sleeps, or is about to.
+    /// Whether the lane's thread is one.
     pub(crate) fn is_asleep(&self, lane: u32) -> bool {
         match self.bells.get(lane as usize) {
             Some(bell) => bell.load(Ordering::SeqCst) == ASLEEP,
@@ -44,12 +45,12 @@ impl Bells {
         }
     }
 
-    /// From here on the lane's thread is one that may be woken.
+    /// From here on the lane's thread is one.
     pub(crate) fn lie_down(&self, lane: u32) {
         if let Some(bell) = self.bells.get(lane as usize) {
+            self.sleepers.fetch_add(1, Ordering::SeqCst);
             bell.store(ASLEEP, Ordering::SeqCst);
         }
-        self.sleepers.fetch_add(1, Ordering::SeqCst);
     }
 
     /// Sleeps until the bell is rung, if it wasn't since the thread lay down.
@@ -59,23 +60,31 @@ impl Bells {
         }
     }
 
-    /// From here on it is none.
-    pub(crate) fn get_up(&self, lane: u32) {
-        self.sleepers.fetch_sub(1, Ordering::SeqCst);
-        if let Some(bell) = self.bells.get(lane as usize) {
-            bell.store(RUNG, Ordering::SeqCst);
+    /// From here on the lane's thread is none, if it still was. Tells whether it was.
+    pub(crate) fn get_up(&self, lane: u32) -> bool {
+        match self.bells.get(lane as usize) {
+            Some(bell) => self.rouse(bell),
+            None => false,
         }
     }
 
-    /// Wakes the lane's thread, and tells whether it slept or was about to.
+    /// Wakes the lane's thread, if it was to be rung. Tells whether it was.
     pub(crate) fn ring(&self, lane: u32) -> bool {
         let Some(bell) = self.bells.get(lane as usize) else {
             return false;
         };
+        let was_asleep = self.rouse(bell);
+        if was_asleep {
+            bell.wake_one();
+        }
+        was_asleep
+    }
+
+    fn rouse(&self, bell: &AtomicU64) -> bool {
         if bell.swap(RUNG, Ordering::SeqCst) != ASLEEP {
             return false;
         }
-        bell.wake_one();
+        self.sleepers.fetch_sub(1, Ordering::SeqCst);
         true
     }
 }

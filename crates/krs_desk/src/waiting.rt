@@ -92,7 +92,7 @@ impl Desk {
         if !self.is_worth_a_try(lane) {
             self.bells.sleep(rt, lane);
         }
-        self.bells.get_up(lane);
+        let _was_asleep = self.bells.get_up(lane);
     }
 
     // Wakes whom it may concern that the turn was given back.
