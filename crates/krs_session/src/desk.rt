@@ -24,6 +24,14 @@ impl<R: Wait> Keeper<Seat, R> for Desk {
         Desk::call(self, rt, seat, moment, ask)
     }
 
+    fn begin_shortage(&self) {
+        Desk::begin_shortage(self);
+    }
+
+    fn end_shortage(&self) {
+        Desk::end_shortage(self);
+    }
+
     ghost starts = { leads_none };
 
     ghost joins = { leads_both };

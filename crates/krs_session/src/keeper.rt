@@ -26,6 +26,13 @@ pub trait Keeper<S, R> {
         ensures lane { lane_of seat.new ≡ lane_of seat.old }
         ensures led { leads seat.old (event_of (lane_of seat.old) moment ask result ∷ []) seat.new };
 
+    /// The session of a seat lacks memory. Until the shortage ends, asks that would keep some should be refused with
+    /// ENOMEM, whoever makes them. No law says so.
+    fn begin_shortage(&self);
+
+    /// The session of a seat that lacked memory lacks it no longer.
+    fn end_shortage(&self);
+
     ghost starts: { (s : S) → leads s [] s };
 
     ghost joins: { (s t u : S) (xs ys : List Event) → leads s xs t → leads t ys u → leads s (xs ++ ys) u };

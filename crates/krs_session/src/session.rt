@@ -1,17 +1,22 @@
 // A session: turns of one read each, and LEAVE.
-ghost use Rattle.std.specs.Prelude.{◌≡◌, ◌≢◌, ◌<◌, ◌≤◌, ◌+◌, ◌-◌, ℕ, List, length};
+ghost use Rattle.std.specs.Prelude.{◌≡◌, ◌≢◌, ◌<◌, ◌≤◌, ◌+◌, ◌-◌, ℕ, List, [], length};
+ghost use Rattle.krs_wire.specs.Frame.{Frames, rest};
 ghost use Rattle.krs_wire.specs.Feeding.{fault_of};
 ghost use Rattle.krs_session.specs.Session.{Session, EndsBy, HaveRoom, counts_of};
-ghost use Rattle.krs_session.specs.Serving.{Served, PieceEndsBy, TurnEndsBy, Finished};
+ghost use Rattle.krs_session.specs.Serving.{Answers, Served, StopsBy, PieceEndsBy, TurnEndsBy, Finished};
 
 use crate::asking::{Setting, answer_all, ask_one};
 use crate::{Clock, Ended, Gate, Keeper, Sink, Source};
 use krs_types::{Ask, Op};
-use krs_wire::{Feed, WireFault};
+use krs_wire::{Feed, Framed, WireFault};
 use std::alloc::Global;
 
 /// How many bytes a turn reads at most: docs/FORMAT.md, "A connection".
 const READ_SIZE: usize = 4096;
+
+/// Room for replies that wait, which a session takes as it begins, and to which it comes back behind longer ones: for
+/// all that are held until they are written, and the longest payload behind them.
+const REPLY_ROOM: usize = 98_368;
 
 /// What a session keeps from turn to turn: the reading end, room for what is read, and for replies that wait.
 #[derive(Drop)]
@@ -19,6 +24,54 @@ struct Held {
     feed: Feed,
     room: [u8; READ_SIZE],
     out: Vec<u8>,
+}
+
+impl Held {
+    /// Nothing was read yet. What may be wanted later is taken now, as far as there is memory.
+    fn new(alloc: Global) -> Held
+        ensures nothing { result.feed ≡ rest [] }
+        ensures empty { Frames [] [] result.feed }
+    {
+        let mut feed = Feed::new(alloc);
+        feed.restock();
+        let mut out = Vec::new(alloc);
+        let _ = out.reserve(REPLY_ROOM);
+        Held {
+            feed,
+            room: [0u8; READ_SIZE],
+            out,
+        }
+    }
+}
+
+/// Asks what all the frames ask, and writes the replies, as `answer_all`. Where memory is short, the store keeps none
+/// until this session has what it lacks, or as much of it as there is.
+fn answer_fed<H, W: Sink, S, D: Keeper<S, H>, C: Clock, G: Gate>(
+    setting: &Setting<'_, H, D, G>,
+    feed: &mut Feed,
+    out: &mut Vec<u8>,
+    writer: &mut W,
+    seat: &mut S,
+    clock: &mut C,
+    frames: Vec<Framed>,
+) -> Option<Ended>
+    requires ready { D.ready setting.now.desk.now seat.old }
+    requires failures { W.failures writer.old < u64.MAX }
+    ensures answers { Answers D.leads C.ticked W.took (D.lane_of seat.old)
+        seat.old seat.new clock.old clock.new writer.old writer.new frames.items result }
+    ensures count { StopsBy (W.failures writer.old) (W.failures writer.new) result }
+    ensures feed { feed.new ≡ feed.old }
+    ensures ready { D.ready setting.now.desk.now seat.new }
+    ensures lane { D.lane_of seat.new ≡ D.lane_of seat.old }
+{
+    if !feed.is_short() {
+        return answer_all(setting, writer, out, seat, clock, frames);
+    }
+    setting.desk.begin_shortage();
+    let stop = answer_all(setting, writer, out, seat, clock, frames);
+    feed.restock();
+    setting.desk.end_shortage();
+    stop
 }
 
 /// Cuts a piece of the stream, asks what its frames ask, and writes the replies. What ends the session is the answer.
@@ -46,7 +99,7 @@ fn serve_piece<H, W: Sink, S, D: Keeper<S, H>, C: Clock, G: Gate>(
             WireFault::Memory => Some(Ended::Memory),
             _ => Some(Ended::Wire(fault)),
         },
-        Ok(frames) => match answer_all(setting, writer, out, seat, clock, frames) {
+        Ok(frames) => match answer_fed(setting, feed, out, writer, seat, clock, frames) {
             Some(stop) => Some(stop),
             None => match feed.fault() {
                 None => None,
@@ -56,7 +109,36 @@ fn serve_piece<H, W: Sink, S, D: Keeper<S, H>, C: Clock, G: Gate>(
     }
 }
 
-/// One read, and what it leads to.
+/// Serves a piece of the stream. Where memory was short before already, the store keeps none while the piece is cut.
+fn serve_read<H, W: Sink, S, D: Keeper<S, H>, C: Clock, G: Gate>(
+    setting: &Setting<'_, H, D, G>,
+    feed: &mut Feed,
+    out: &mut Vec<u8>,
+    piece: &[u8],
+    writer: &mut W,
+    seat: &mut S,
+    clock: &mut C,
+) -> Option<Ended>
+    requires unfailed { fault_of feed.old ≡ None }
+    requires ready { D.ready setting.now.desk.now seat.old }
+    requires failures { W.failures writer.old < u64.MAX }
+    ensures served { Served D.leads C.ticked W.took (D.lane_of seat.old)
+        seat.old seat.new clock.old clock.new writer.old writer.new feed.old feed.new piece.now result }
+    ensures count { PieceEndsBy (W.failures writer.old) (W.failures writer.new) result }
+    ensures not_wire { result ≢ Some (Ended.Wire WireFault.Memory) }
+    ensures ready { D.ready setting.now.desk.now seat.new }
+    ensures lane { D.lane_of seat.new ≡ D.lane_of seat.old }
+{
+    if !feed.is_short() {
+        return serve_piece(setting, feed, out, piece, writer, seat, clock);
+    }
+    setting.desk.begin_shortage();
+    let stop = serve_piece(setting, feed, out, piece, writer, seat, clock);
+    setting.desk.end_shortage();
+    stop
+}
+
+/// One read, and what it leads to. While it waits, it holds no more room for replies than it began with.
 fn turn<H, R: Source, W: Sink, S, D: Keeper<S, H>, C: Clock, G: Gate>(
     setting: &Setting<'_, H, D, G>,
     held: &mut Held,
@@ -79,6 +161,7 @@ fn turn<H, R: Source, W: Sink, S, D: Keeper<S, H>, C: Clock, G: Gate>(
     ensures ready { D.ready setting.now.desk.now seat.new }
     ensures lane { D.lane_of seat.new ≡ D.lane_of seat.old }
 {
+    held.out.shrink_to(REPLY_ROOM);
     match reader.read(&mut held.room) {
         Err(_) => Some(Ended::Read),
         Ok(n) => {
@@ -86,7 +169,7 @@ fn turn<H, R: Source, W: Sink, S, D: Keeper<S, H>, C: Clock, G: Gate>(
                 return Some(Ended::Closed);
             }
             let piece = &held.room[..n];
-            serve_piece(
+            serve_read(
                 setting,
                 &mut held.feed,
                 &mut held.out,
@@ -121,11 +204,7 @@ fn serve<H, R: Source, W: Sink, S, D: Keeper<S, H>, C: Clock, G: Gate>(
     ensures ready { D.ready setting.now.desk.now seat.new }
     ensures lane { D.lane_of seat.new ≡ D.lane_of seat.old }
 {
-    let mut held = Held {
-        feed: Feed::new(setting.alloc),
-        room: [0u8; READ_SIZE],
-        out: Vec::new(setting.alloc),
-    };
+    let mut held = Held::new(setting.alloc);
     for made in 0..turns {
         if let Some(ended) = turn(setting, &mut held, reader, writer, seat, clock) {
             return ended;

@@ -9,8 +9,8 @@ loop-made-init g c = record {
   state = so_far_none g.R.Source.gave g.D.Keeper.leads g.C.Clock.ticked g.W.Sink.took g.met.R.Source.joins
       g.met.D.Keeper.joins g.met.C.Clock.joins g.met.W.Sink.joins
       _ _ _ _ _ _ (g.met.R.Source.starts _) (g.met.D.Keeper.starts _) (g.met.C.Clock.starts _) (g.met.W.Sink.starts _)
-      c.new.ensures.empty;
-  unfailed = ap fault_of c.new.ensures.nothing;
+      c.new-held.ensures.empty;
+  unfailed = ap fault_of c.new-held.ensures.nothing;
   reads = omega arith;
   empties = refl;
   read_failures = refl;

@@ -1,4 +1,6 @@
-use Rattle.std.proofs.Common.{[], refl, sym, inr}
+use Rattle.std.proofs.Common.{[], refl, sym, inr, subst}
+use Rattle.krs_wire.specs.Frame.{End}
+use Rattle.krs_wire.specs.Feeding.{Feeds, fault_of}
 use Rattle.krs_session.proofs.PieceLemmas.{refused_fault, refused_more, faulty_feeds}
 use Rattle.krs_session.proofs.PieceLemmas.{stopped_serves, stopped_ends, stopped_unwired}
 use Rattle.krs_session.proofs.session.serve_piece.Goals as goal
@@ -30,12 +32,15 @@ returns-in_default-clause-not_wire g c = λ is. c.in_default.not-Memory (cc is)
 pub returns-in-Some-clause-served : goal.returns-in-Some-clause-served
 returns-in-Some-clause-served g c =
     let e = c.in-Some.ensures.answers in
+    let fed =
+    subst (λ (f : End). Feeds c.args.feed.now c.args.piece.now c.in-Ok.frames.items f) (sym c.in-Some.ensures.feed)
+    c.in-Ok.ensures.frames in
     record {
       frames = c.in-Ok.frames.items;
       events = e.events;
       order = e.order;
       asked = e.asked;
-      served = stopped_serves g.W.Sink.took _ _ _ _ _ _ _ c.in-Some.stop c.in-Ok.ensures.frames e.wrote;
+      served = stopped_serves g.W.Sink.took _ _ _ _ _ _ _ c.in-Some.stop fed e.wrote;
     }
 
 pub returns-in-Some-clause-count : goal.returns-in-Some-clause-count
@@ -47,27 +52,34 @@ returns-in-Some-clause-not_wire g c = stopped_unwired _ _ c.in-Some.stop c.in-So
 pub returns-in-None-fault-clause-served : goal.returns-in-None-fault-clause-served
 returns-in-None-fault-clause-served g c =
     let e = c.in-None.ensures.answers in
+    let fed =
+    subst (λ (f : End). Feeds c.args.feed.now c.args.piece.now c.in-Ok.frames.items f) (sym c.in-None.ensures.feed)
+    c.in-Ok.ensures.frames in
     record {
       frames = c.in-Ok.frames.items;
       events = e.events;
       order = e.order;
       asked = e.asked;
-      served = (c.in-Ok.ensures.frames, sym c.in-None-fault.ensures, e.wrote);
+      served = (fed, sym c.in-None-fault.ensures, e.wrote);
     }
 
 pub returns-in-Some-fault-clause-served : goal.returns-in-Some-fault-clause-served
 returns-in-Some-fault-clause-served g c =
     let e = c.in-None.ensures.answers in
+    let fed =
+    subst (λ (f : End). Feeds c.args.feed.now c.args.piece.now c.in-Ok.frames.items f) (sym c.in-None.ensures.feed)
+    c.in-Ok.ensures.frames in
     record {
       frames = c.in-Ok.frames.items;
       events = e.events;
       order = e.order;
       asked = e.asked;
       served = (
-        faulty_feeds _ _ _ _ c.in-Some-fault.fault (sym c.in-Some-fault.ensures) c.in-Ok.ensures.frames,
+        faulty_feeds _ _ _ _ c.in-Some-fault.fault (sym c.in-Some-fault.ensures) fed,
         e.wrote,
       );
     }
 
 pub returns-in-Some-fault-clause-not_wire : goal.returns-in-Some-fault-clause-not_wire
-returns-in-Some-fault-clause-not_wire g c = λ is. c.in-Ok.ensures.no_memory (cc (c.in-Some-fault.ensures, is))
+returns-in-Some-fault-clause-not_wire g c =
+    λ is. c.in-Ok.ensures.no_memory (cc (c.in-None.ensures.feed, c.in-Some-fault.ensures, is))
