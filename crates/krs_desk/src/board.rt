@@ -151,8 +151,15 @@ impl Board {
         self.table.shared.exchange(seat, slot, new)
     }
 
-    /// Asks the store in the slot that the token took last.
-    pub(crate) fn serve(&self, seat: &mut Token, lane: u32, moment: u64, ask: Ask) -> Reply
+    /// Asks the store in the slot that the token took last. Where memory is short, it keeps none.
+    pub(crate) fn serve(
+        &self,
+        seat: &mut Token,
+        short: bool,
+        lane: u32,
+        moment: u64,
+        ask: Ask,
+    ) -> Reply
         requires table { seat.old.table_id ≡ self.now.id }
         requires has { (store : State) × Has seat.old.me store }
         ensures table { seat.new.table_id ≡ seat.old.table_id }
@@ -161,6 +168,7 @@ impl Board {
         let Place::Home(home) = seat.slot_mut(&self.table.shared, 0) else {
             unreachable!()
         };
+        home.mind_memory(short);
         home.apply(lane, moment, ask)
     }
 

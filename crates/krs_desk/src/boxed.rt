@@ -42,6 +42,11 @@ impl BoxedStore {
         Box::into_inner(inner)
     }
 
+    /// Asks that would keep memory are refused from now on, or no longer.
+    pub fn mind_memory(&self, short: bool) {
+        self.inner.mind_memory(short);
+    }
+
     /// One ask, of the store where it lies.
     pub fn apply(&mut self, lane: u32, moment: u64, ask: Ask) -> Reply
         ensures step { Step self.old (event_of lane moment ask result) self.new }

@@ -20,12 +20,16 @@ use crate::word::{FREE, OUT, TURN};
 use krs_types::{Ask, Reply};
 use std::marker::{Brand, Model};
 use std::snapshot::Snapshot;
+use std::sync::atomic::{AtomicU64, Ordering};
 
 /// A store with one turn, which is had by one seat at a time. Threads share it by reference. A contract sees which desk
 /// it is.
 pub struct Desk {
     pub(crate) table: Board,
     pub(crate) bells: Bells,
+
+    // How many seats lack memory now.
+    pub(crate) short: AtomicU64,
 }
 
 impl Model for Desk {
@@ -45,7 +49,11 @@ impl Model for Desk {
 // By hand, so that a crate which lets a desk go needn't know what a store is made of.
 impl Drop for Desk {
     fn drop(self) {
-        let Self { table: _, bells: _ } = self;
+        let Self {
+            table: _,
+            bells: _,
+            short: _,
+        } = self;
     }
 }
 
@@ -69,7 +77,19 @@ impl Desk {
         ensures table { token.new.table_id ≡ token.old.table_id }
         ensures served { Serves token.old.me (event_of lane moment ask result) token.new.me }
     {
-        self.table.serve(token, lane, moment, ask)
+        let short = self.short.load(Ordering::SeqCst) > 0;
+        self.table.serve(token, short, lane, moment, ask)
+    }
+
+    /// Memory is short for a seat. Until `end_shortage` the store keeps none for any seat: it refuses such asks with
+    /// ENOMEM, where nothing else refuses them.
+    pub fn begin_shortage(&self) {
+        self.short.fetch_add(1, Ordering::SeqCst);
+    }
+
+    /// Memory is no longer short for a seat for which it was.
+    pub fn end_shortage(&self) {
+        self.short.fetch_sub(1, Ordering::SeqCst);
     }
 
     // Gives the turn back, with one event more in the list, and wakes whom it may concern.

@@ -19,6 +19,7 @@ use krs_store::Store;
 use std::alloc::Global;
 use std::mem;
 use std::snapshot::Snapshot;
+use std::sync::atomic::AtomicU64;
 
 /// Why no desk was opened: the number of lanes is out of range, or there is no memory.
 #[derive(Clone, Copy, Debug, PartialEq, Eq)]
@@ -132,7 +133,14 @@ impl Desk {
         ensures store { IfErr result (λ back. back ≡ about.now.value) }
     {
         match Board::new(alloc, words.as_slice(), slots, about) {
-            Ok((table, opener)) => Ok((Desk { table, bells }, opener)),
+            Ok((table, opener)) => Ok((
+                Desk {
+                    table,
+                    bells,
+                    short: AtomicU64::new(0),
+                },
+                opener,
+            )),
             Err(refused) => {
                 let mut back = refused.slots;
                 let Place::Home(home) = mem::replace(&mut back[0], Place::Empty) else {
