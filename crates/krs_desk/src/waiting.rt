@@ -14,8 +14,8 @@ use std::hint;
 use std::sync::Wait;
 
 /// So often a call tries to have the turn before it is posted, and so often a posted call looks at its cell and the turn
-/// before it sleeps. With the pauses between them that is 4,604 spins, each time.
-pub(crate) const TRIES: u32 = 40;
+/// before it sleeps. The pauses between them have 5,116 spins, each time.
+pub(crate) const TRIES: u32 = 16;
 
 /// So long a call pauses after its first try. After each try it pauses twice as long. Mostly the turn is given back at
 /// once; where it isn't, whoever has it can take it again for its next call: where the turn goes to another processor,
@@ -24,7 +24,7 @@ pub(crate) const TRIES: u32 = 40;
 pub(crate) const FIRST_PAUSE: u32 = 4;
 
 // So long it pauses at most.
-const LONGEST_PAUSE: u32 = 128;
+const LONGEST_PAUSE: u32 = 512;
 
 // So often a posted call looks at its own cell alone before that.
 const LOOKS: u32 = 16;
