@@ -2,14 +2,14 @@ ghost use Rattle.std.specs.Prelude.{◌<◌};
 
 use std::alloc::Global;
 
-/// The bytes of a whole reserve: more than the texts of the longest ask take, and the list of as many asks as one read
-/// may bring.
-const WHOLE: usize = 196_608;
+/// The bytes of a whole reserve. A read of 4096 bytes may bring 151 asks with three texts each. Where address space is
+/// wanting, the C library may give each of these texts a page of its own, 4096 bytes.
+const WHOLE: usize = 2_097_152;
 
-/// The bytes of its parts, and of those that it takes where there is no room for such.
-const LARGE: usize = 32_768;
+/// The bytes of its parts where there is no room for it in one, and of those that it takes where there is none for such.
+const LARGE: usize = 65_536;
 
-const SMALL: usize = 1024;
+const SMALL: usize = 4000;
 
 /// Memory that a feed keeps for when there is no other. With it what was read can still be cut into asks, so that it is
 /// the store that refuses what would take more, with ENOMEM; without it the stream would end there, and the keys of its
@@ -46,6 +46,7 @@ impl Reserve {
     pub(crate) fn take_back(&mut self) {
         let most = WHOLE / SMALL;
         let _ = self.parts.reserve(most.saturating_sub(self.parts.len()));
+        self.fill(WHOLE);
         self.fill(LARGE);
         self.fill(SMALL);
     }
