@@ -256,6 +256,10 @@ impl<R> Keeper<Chair, R> for Table {
         }
     }
 
+    fn begin_shortage(&self) {}
+
+    fn end_shortage(&self) {}
+
     ghost starts = { λ s. tt };
 
     ghost joins = { λ s t u xs ys p q. tt };

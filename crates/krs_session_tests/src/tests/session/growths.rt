@@ -148,6 +148,10 @@ impl<R> Keeper<u32, R> for Counts {
         Ok(Answer::Nothing)
     }
 
+    fn begin_shortage(&self) {}
+
+    fn end_shortage(&self) {}
+
     ghost starts = { λ s. tt };
 
     ghost joins = { λ s t u xs ys p q. tt };
