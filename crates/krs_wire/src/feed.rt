@@ -3,14 +3,18 @@ ghost use Rattle.krs_wire.specs.Frame.{Frames, rest, bad};
 ghost use Rattle.krs_wire.specs.Feeding.{end_of, Feeds, Refuses, fault_of};
 
 use crate::asks::front_at;
-use crate::reserve::Reserve;
+use crate::reserve::{RESERVE, Reserve};
 use crate::{Framed, WireFault};
 use std::alloc::Global;
 use std::marker::Model;
+use std::thread;
 
 /// How many bytes may be left over and a piece behind them: the longest frame but for its last byte, its length, and as
 /// much as is read at once.
 const ROOM: usize = 69_635;
+
+/// So often a piece is tried to be taken.
+const TRIES: u32 = 256;
 
 /// The reading end of a connection: pieces of a stream in, whole frames out. A contract sees how the stream ends so
 /// far: in the beginning of a frame, or in a fault. It has a reserve of memory, which no contract sees.
@@ -110,7 +114,8 @@ fn take_once(
     }
 }
 
-/// Takes a piece, once more with the reserve let go where there is no memory.
+/// Takes a piece. Where there is no memory, the reserve is let go, and it is tried again for a while: another thread may
+/// have been faster to take what was let go, and will mostly give it back soon.
 fn take_in(
     alloc: Global,
     left: &mut Vec<u8>,
@@ -122,13 +127,16 @@ fn take_in(
     ensures memory { IfErr result (λ fault. fault ≡ WireFault.Memory) }
     ensures no_memory { IfOk result (λ x. x.1 ≢ Some WireFault.Memory) }
 {
-    match take_once(alloc, left, piece) {
-        Ok(taken) => Ok(taken),
-        Err(_) => {
-            reserve.let_go();
-            take_once(alloc, left, piece)
+    'tries: for _ in 0..TRIES {
+        if let Ok(taken) = take_once(alloc, left, piece) {
+            return Ok(taken);
         }
+        if reserve.lacking() == RESERVE {
+            thread::yield_now();
+        }
+        reserve.let_go();
     }
+    Err(WireFault::Memory)
 }
 
 impl Feed {
@@ -155,14 +163,15 @@ impl Feed {
             let _ = self.left.reserve(ROOM.saturating_sub(self.left.len()));
             self.left.shrink_to(ROOM);
         }
-        if !self.reserve.is_whole() {
+        if self.reserve.lacking() > 0 {
             self.reserve.take_back();
         }
     }
 
-    /// Whether some of the reserve is lacking: memory is short. Then whoever answers what was fed should keep none.
-    pub fn is_short(&self) -> bool {
-        !self.reserve.is_whole()
+    /// How many bytes are lacking of the reserve, which has `RESERVE` where it is whole. What is lacking should be left by
+    /// whoever answers what was fed, so that it can be taken back.
+    pub fn lacking(&self) -> usize {
+        self.reserve.lacking()
     }
 
     /// The fault behind which nothing is read.

@@ -4,12 +4,13 @@ use std::alloc::Global;
 
 /// The bytes of a whole reserve. A read of 4096 bytes may bring 151 asks with three texts each. Where address space is
 /// wanting, the C library may give each of these texts a page of its own, 4096 bytes.
-const WHOLE: usize = 2_097_152;
+pub const RESERVE: usize = 2_097_152;
 
-/// The bytes of its parts where there is no room for it in one, and of those that it takes where there is none for such.
+/// The bytes of its parts where there is no room for it in one, and of those that it takes where there is none for such:
+/// a whole number of them is a whole reserve.
 const LARGE: usize = 65_536;
 
-const SMALL: usize = 4000;
+const SMALL: usize = 4096;
 
 /// Memory that a feed keeps for when there is no other. With it what was read can still be cut into asks, so that it is
 /// the store that refuses what would take more, with ENOMEM; without it the stream would end there, and the keys of its
@@ -31,9 +32,9 @@ impl Reserve {
         }
     }
 
-    /// Whether nothing is lacking.
-    pub(crate) fn is_whole(&self) -> bool {
-        self.held >= WHOLE
+    /// How many bytes are lacking.
+    pub(crate) fn lacking(&self) -> usize {
+        RESERVE.saturating_sub(self.held)
     }
 
     /// Lets go of all of it.
@@ -44,9 +45,9 @@ impl Reserve {
 
     /// Takes what is lacking, as far as there is memory.
     pub(crate) fn take_back(&mut self) {
-        let most = WHOLE / SMALL;
+        let most = RESERVE / SMALL;
         let _ = self.parts.reserve(most.saturating_sub(self.parts.len()));
-        self.fill(WHOLE);
+        self.fill(RESERVE);
         self.fill(LARGE);
         self.fill(SMALL);
     }
@@ -55,7 +56,7 @@ impl Reserve {
     fn fill(&mut self, size: usize)
         requires { 0 < size }
     {
-        for _ in 0..WHOLE.saturating_sub(self.held) / size {
+        for _ in 0..self.lacking() / size {
             if self.parts.len() == self.parts.capacity() {
                 return;
             }
