@@ -151,11 +151,11 @@ impl Board {
         self.table.shared.exchange(seat, slot, new)
     }
 
-    /// Asks the store in the slot that the token took last. Where memory is short, it keeps none.
+    /// Asks the store in the slot that the token took last, which leaves so many bytes for others.
     pub(crate) fn serve(
         &self,
         seat: &mut Token,
-        short: bool,
+        wanted: u64,
         lane: u32,
         moment: u64,
         ask: Ask,
@@ -168,7 +168,7 @@ impl Board {
         let Place::Home(home) = seat.slot_mut(&self.table.shared, 0) else {
             unreachable!()
         };
-        home.mind_memory(short);
+        home.mind_memory(wanted);
         home.apply(lane, moment, ask)
     }
 

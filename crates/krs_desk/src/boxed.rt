@@ -42,9 +42,9 @@ impl BoxedStore {
         Box::into_inner(inner)
     }
 
-    /// Asks that would keep memory are refused from now on, or no longer.
-    pub fn mind_memory(&self, short: bool) {
-        self.inner.mind_memory(short);
+    /// So many bytes are to be left for others from now on.
+    pub fn mind_memory(&self, wanted: u64) {
+        self.inner.mind_memory(wanted);
     }
 
     /// One ask, of the store where it lies.

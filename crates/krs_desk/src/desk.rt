@@ -28,8 +28,8 @@ pub struct Desk {
     pub(crate) table: Board,
     pub(crate) bells: Bells,
 
-    // How many seats lack memory now.
-    pub(crate) short: AtomicU64,
+    // So many bytes are lacking of what the users of the seats keep in reserve.
+    pub(crate) lacking: AtomicU64,
 }
 
 impl Model for Desk {
@@ -52,7 +52,7 @@ impl Drop for Desk {
         let Self {
             table: _,
             bells: _,
-            short: _,
+            lacking: _,
         } = self;
     }
 }
@@ -77,19 +77,25 @@ impl Desk {
         ensures table { token.new.table_id ≡ token.old.table_id }
         ensures served { Serves token.old.me (event_of lane moment ask result) token.new.me }
     {
-        let short = self.short.load(Ordering::SeqCst) > 0;
-        self.table.serve(token, short, lane, moment, ask)
+        let wanted = self.lacking.load(Ordering::SeqCst);
+        self.table.serve(token, wanted, lane, moment, ask)
     }
 
-    /// Memory is short for a seat. Until `end_shortage` the store keeps none for any seat: it refuses such asks with
-    /// ENOMEM, where nothing else refuses them.
-    pub fn begin_shortage(&self) {
-        self.short.fetch_add(1, Ordering::SeqCst);
+    /// Whether memory is lacking for a user of a seat.
+    pub fn is_short(&self) -> bool {
+        self.lacking.load(Ordering::SeqCst) > 0
     }
 
-    /// Memory is no longer short for a seat for which it was.
-    pub fn end_shortage(&self) {
-        self.short.fetch_sub(1, Ordering::SeqCst);
+    /// A user of a seat lacks so many bytes of what it keeps in reserve, in place of those of which it told last, and which
+    /// it keeps in `told`: 0 at first, and to tell at the end. The store leaves what is lacking: it refuses asks that would
+    /// keep memory with ENOMEM, where less is left and nothing else refuses them.
+    pub fn tell_lack(&self, told: &mut u64, lack: u64) {
+        if *told == lack {
+            return;
+        }
+        self.lacking.fetch_add(lack, Ordering::SeqCst);
+        self.lacking.fetch_sub(*told, Ordering::SeqCst);
+        *told = lack;
     }
 
     // Gives the turn back, with one event more in the list, and wakes whom it may concern.

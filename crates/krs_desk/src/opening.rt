@@ -137,7 +137,7 @@ impl Desk {
                 Desk {
                     table,
                     bells,
-                    short: AtomicU64::new(0),
+                    lacking: AtomicU64::new(0),
                 },
                 opener,
             )),

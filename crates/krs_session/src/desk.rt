@@ -24,12 +24,12 @@ impl<R: Wait> Keeper<Seat, R> for Desk {
         Desk::call(self, rt, seat, moment, ask)
     }
 
-    fn begin_shortage(&self) {
-        Desk::begin_shortage(self);
+    fn is_short(&self) -> bool {
+        Desk::is_short(self)
     }
 
-    fn end_shortage(&self) {
-        Desk::end_shortage(self);
+    fn tell_lack(&self, told: &mut u64, lack: u64) {
+        Desk::tell_lack(self, told, lack);
     }
 
     ghost starts = { leads_none };

@@ -26,12 +26,13 @@ pub trait Keeper<S, R> {
         ensures lane { lane_of seat.new ≡ lane_of seat.old }
         ensures led { leads seat.old (event_of (lane_of seat.old) moment ask result ∷ []) seat.new };
 
-    /// The session of a seat lacks memory. Until the shortage ends, asks that would keep some should be refused with
-    /// ENOMEM, whoever makes them. No law says so.
-    fn begin_shortage(&self);
+    /// Whether the session of a seat lacks memory.
+    fn is_short(&self) -> bool;
 
-    /// The session of a seat that lacked memory lacks it no longer.
-    fn end_shortage(&self);
+    /// The session of a seat lacks so many bytes of its reserve, in place of those of which it told last. What is lacking
+    /// should be left: asks that would keep memory, whoever makes them, refused with ENOMEM where there is less. No law
+    /// says so.
+    fn tell_lack(&self, told: &mut u64, lack: u64);
 
     ghost starts: { (s : S) → leads s [] s };
 

@@ -8,7 +8,7 @@ ghost use Rattle.krs_session.specs.Serving.{Answers, Served, StopsBy, PieceEndsB
 use crate::asking::{Setting, answer_all, ask_one};
 use crate::{Clock, Ended, Gate, Keeper, Sink, Source};
 use krs_types::{Ask, Op};
-use krs_wire::{Feed, Framed, WireFault};
+use krs_wire::{Feed, Framed, RESERVE, WireFault};
 use std::alloc::Global;
 
 /// How many bytes a turn reads at most: docs/FORMAT.md, "A connection".
@@ -44,11 +44,12 @@ impl Held {
     }
 }
 
-/// Asks what all the frames ask, and writes the replies, as `answer_all`. Where memory is short, the store keeps none
-/// until this session has what it lacks, or as much of it as there is.
+/// Asks what all the frames ask, and writes the replies, as `answer_all`. Where memory is short, the store leaves what
+/// this session lacks, which takes it back then.
 fn answer_fed<H, W: Sink, S, D: Keeper<S, H>, C: Clock, G: Gate>(
     setting: &Setting<'_, H, D, G>,
     feed: &mut Feed,
+    told: &mut u64,
     out: &mut Vec<u8>,
     writer: &mut W,
     seat: &mut S,
@@ -64,13 +65,13 @@ fn answer_fed<H, W: Sink, S, D: Keeper<S, H>, C: Clock, G: Gate>(
     ensures ready { D.ready setting.now.desk.now seat.new }
     ensures lane { D.lane_of seat.new ≡ D.lane_of seat.old }
 {
-    if !feed.is_short() {
+    setting.desk.tell_lack(told, feed.lacking() as u64);
+    if *told == 0 {
         return answer_all(setting, writer, out, seat, clock, frames);
     }
-    setting.desk.begin_shortage();
     let stop = answer_all(setting, writer, out, seat, clock, frames);
     feed.restock();
-    setting.desk.end_shortage();
+    setting.desk.tell_lack(told, feed.lacking() as u64);
     stop
 }
 
@@ -78,6 +79,7 @@ fn answer_fed<H, W: Sink, S, D: Keeper<S, H>, C: Clock, G: Gate>(
 fn serve_piece<H, W: Sink, S, D: Keeper<S, H>, C: Clock, G: Gate>(
     setting: &Setting<'_, H, D, G>,
     feed: &mut Feed,
+    told: &mut u64,
     out: &mut Vec<u8>,
     piece: &[u8],
     writer: &mut W,
@@ -99,7 +101,7 @@ fn serve_piece<H, W: Sink, S, D: Keeper<S, H>, C: Clock, G: Gate>(
             WireFault::Memory => Some(Ended::Memory),
             _ => Some(Ended::Wire(fault)),
         },
-        Ok(frames) => match answer_fed(setting, feed, out, writer, seat, clock, frames) {
+        Ok(frames) => match answer_fed(setting, feed, told, out, writer, seat, clock, frames) {
             Some(stop) => Some(stop),
             None => match feed.fault() {
                 None => None,
@@ -109,10 +111,12 @@ fn serve_piece<H, W: Sink, S, D: Keeper<S, H>, C: Clock, G: Gate>(
     }
 }
 
-/// Serves a piece of the stream. Where memory was short before already, the store keeps none while the piece is cut.
+/// Serves a piece of the stream. Where memory is short already, this session may come to lack all of its reserve as it
+/// cuts the piece, and the store leaves as much.
 fn serve_read<H, W: Sink, S, D: Keeper<S, H>, C: Clock, G: Gate>(
     setting: &Setting<'_, H, D, G>,
     feed: &mut Feed,
+    told: &mut u64,
     out: &mut Vec<u8>,
     piece: &[u8],
     writer: &mut W,
@@ -129,19 +133,17 @@ fn serve_read<H, W: Sink, S, D: Keeper<S, H>, C: Clock, G: Gate>(
     ensures ready { D.ready setting.now.desk.now seat.new }
     ensures lane { D.lane_of seat.new ≡ D.lane_of seat.old }
 {
-    if !feed.is_short() {
-        return serve_piece(setting, feed, out, piece, writer, seat, clock);
+    if setting.desk.is_short() {
+        setting.desk.tell_lack(told, RESERVE as u64);
     }
-    setting.desk.begin_shortage();
-    let stop = serve_piece(setting, feed, out, piece, writer, seat, clock);
-    setting.desk.end_shortage();
-    stop
+    serve_piece(setting, feed, told, out, piece, writer, seat, clock)
 }
 
 /// One read, and what it leads to. While it waits, it holds no more room for replies than it began with.
 fn turn<H, R: Source, W: Sink, S, D: Keeper<S, H>, C: Clock, G: Gate>(
     setting: &Setting<'_, H, D, G>,
     held: &mut Held,
+    told: &mut u64,
     reader: &mut R,
     writer: &mut W,
     seat: &mut S,
@@ -172,6 +174,7 @@ fn turn<H, R: Source, W: Sink, S, D: Keeper<S, H>, C: Clock, G: Gate>(
             serve_read(
                 setting,
                 &mut held.feed,
+                told,
                 &mut held.out,
                 piece,
                 writer,
@@ -185,6 +188,7 @@ fn turn<H, R: Source, W: Sink, S, D: Keeper<S, H>, C: Clock, G: Gate>(
 /// Turns until something ends the session.
 fn serve<H, R: Source, W: Sink, S, D: Keeper<S, H>, C: Clock, G: Gate>(
     setting: &Setting<'_, H, D, G>,
+    told: &mut u64,
     reader: &mut R,
     writer: &mut W,
     seat: &mut S,
@@ -206,7 +210,7 @@ fn serve<H, R: Source, W: Sink, S, D: Keeper<S, H>, C: Clock, G: Gate>(
 {
     let mut held = Held::new(setting.alloc);
     for made in 0..turns {
-        if let Some(ended) = turn(setting, &mut held, reader, writer, seat, clock) {
+        if let Some(ended) = turn(setting, &mut held, told, reader, writer, seat, clock) {
             return ended;
         }
     }
@@ -251,7 +255,9 @@ pub fn run<H, R: Source, W: Sink, S, D: Keeper<S, H>, C: Clock, G: Gate>(
         desk,
         gate,
     };
-    let ended = serve(&setting, reader, writer, seat, clock, turns);
+    let mut told = 0;
+    let ended = serve(&setting, &mut told, reader, writer, seat, clock, turns);
+    desk.tell_lack(&mut told, 0);
     let leave = Ask {
         context: 0,
         op: Op::Leave,

@@ -73,11 +73,11 @@ impl Store {
         }
     }
 
-    /// From now on asks that would keep memory are refused with ENOMEM where nothing else refuses them, or no longer. It
-    /// is for whoever has read an ask with the last memory: the store would keep what was read, and the next ask could
-    /// not be read. No contract sees it.
-    pub fn mind_memory(&self, short: bool) {
-        self.tables.mind_memory(short);
+    /// From now on so many bytes are to be left for others: asks that would keep memory are refused with ENOMEM where
+    /// there are fewer, and nothing else refuses them. It is for whoever has read an ask with the last memory: the store
+    /// would keep what was read, and the next ask could not be read. No contract sees it.
+    pub fn mind_memory(&self, wanted: u64) {
+        self.tables.mind_memory(wanted);
     }
 
     /// Serves one ask of a client at a moment, in seconds: one step of the store. An accepted ask has its effect; its

@@ -37,8 +37,8 @@ pub struct Tables {
     pub alloc: Global,
     /// Of the names of links. It is no part of what contracts see.
     pub(crate) seed: Seed,
-    /// Whether asks that would keep memory are refused. It is no part of what contracts see.
-    short: Cell<bool>,
+    /// So many bytes are wanted elsewhere. It is no part of what contracts see.
+    wanted: Cell<u64>,
 }
 
 impl Model for Tables {
@@ -68,21 +68,23 @@ impl Tables {
             walker: Walker::new(alloc),
             alloc,
             seed,
-            short: Cell::new(false),
+            wanted: Cell::new(0),
         }
     }
 
-    /// From now on asks that would keep memory are refused with ENOMEM, or no longer.
-    pub fn mind_memory(&self, short: bool) {
-        self.short.set(short);
+    /// From now on so many bytes are to be left for others: asks that would keep memory are refused where there are fewer.
+    pub fn mind_memory(&self, wanted: u64) {
+        self.wanted.set(wanted);
     }
 
-    /// Asked before an ask keeps memory, once nothing else refuses it: what is left is wanted elsewhere where memory is
-    /// short. No clause can say when that is: it lies in a cell.
+    /// Asked before an ask keeps memory, once nothing else refuses it: whether as much is left as is wanted elsewhere. No
+    /// clause can say how much that is: it lies in a cell.
     pub fn check_memory(&self) -> Result<(), AllocError> {
-        if self.short.get() {
-            return Err(AllocError);
+        let wanted = self.wanted.get();
+        if wanted == 0 {
+            return Ok(());
         }
+        let _left: Vec<u8> = Vec::with_capacity(self.alloc, wanted as usize)?;
         Ok(())
     }
 

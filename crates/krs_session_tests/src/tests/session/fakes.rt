@@ -256,9 +256,11 @@ impl<R> Keeper<Chair, R> for Table {
         }
     }
 
-    fn begin_shortage(&self) {}
+    fn is_short(&self) -> bool {
+        false
+    }
 
-    fn end_shortage(&self) {}
+    fn tell_lack(&self, _told: &mut u64, _lack: u64) {}
 
     ghost starts = { λ s. tt };
 
