@@ -97,6 +97,29 @@ try_few_files() {
   is_served 'few files' 14
 }
 
+# keeps_all SIZE CLIENTS: so many clients fill the memory of a daemon with payloads of so many bytes. What is too much
+# is refused with ENOMEM, no connection ends and no key is lost.
+keeps_all() {
+  start
+  is "little memory, $2 clients with payloads of $1 bytes" kept \
+    "$(python3 -B "$top/tests/service.d/memory.py" "$path" "$1" "$2" 2>/dev/null)"
+  kill_daemon TERM
+}
+
+# A daemon under a limit of memory, which its clients fill: a small one; and one with room for pools of the C library.
+try_little_memory() {
+  local size clients
+  limited with-little-memory '-Ss 256 && ulimit -Sv 48000'
+  limited with-pools '-Ss 256 && ulimit -Sv 262144'
+  local keyretaind=$dir/with-little-memory
+  for size in 1 20 200 500 1000 2000 4000 8000 16000 32767; do
+    for clients in 1 8; do keeps_all "$size" "$clients"; done
+  done
+  keyretaind=$dir/with-pools
+  keeps_all 32767 1
+  keeps_all 16000 8
+}
+
 # injecting NAME ERROR WHEN: a program that is the daemon, whose accepts of these numbers fail with this error
 injecting() {
   printf '#!%s\nexec strace -f -qq -o /dev/null -e trace=accept,accept4 -e inject=accept,accept4:error=%s:when=%s %q "$@"\n' \

@@ -1,0 +1,102 @@
+"""memory.py PATH SIZE CLIENTS: so many clients of a daemon under a limit of memory add keys with payloads of so many bytes,
+side by side, until each was refused with ENOMEM often. Prints `kept` if each of them was, every other answer was a serial,
+and each still has its connection and its first key; else what was wrong."""
+import signal
+import socket
+import struct
+import sys
+import threading
+
+from asks import encode_ask
+
+path, size, count = sys.argv[1], int(sys.argv[2]), int(sys.argv[3])
+AHEAD = 4 if size > 2000 else 64  # asks that are sent in one piece
+ENOUGH = 256  # refusals with which a client is content
+ENOMEM = 12
+USER_KEYRING = -4
+signal.alarm(60)
+
+
+class Wrong(Exception):
+    pass
+
+
+class Client(threading.Thread):
+    """A connection of a uid of its own, and what it has added."""
+
+    def __init__(self, name):
+        super().__init__(daemon=True)
+        self.name, self.serials, self.refusals, self.wrong = str(name), [], 0, None
+        self.end = socket.socket(socket.AF_UNIX)
+        self.end.settimeout(20)
+        self.end.connect(path)
+        self.uid = 1000 + name
+        self.context = int.from_bytes(self.ask("HELLO", (self.uid, self.uid, ())), "little")
+
+    def exactly(self, length):
+        got = b""
+        while len(got) < length:
+            more = self.end.recv(length - len(got))
+            if not more:
+                raise Wrong(f"its connection has ended: {len(self.serials)} keys, {self.refusals} refusals")
+            got += more
+        return got
+
+    def answer(self):
+        """The status and the body of the next reply."""
+        length, status = struct.unpack("<II", self.exactly(8))
+        return status, self.exactly(length - 4)
+
+    def ask(self, name, fields):
+        """The body of the reply to an ask that is accepted."""
+        self.end.sendall(encode_ask(name, 0 if name == "HELLO" else self.context, fields))
+        status, body = self.answer()
+        if status != 0:
+            raise Wrong(f"{name} is answered with status {status}: {len(self.serials)} keys, {self.refusals} refusals")
+        return body
+
+    def add(self):
+        """Adds some keys to the user keyring, sent in one piece."""
+        at = len(self.serials) + self.refusals
+        self.end.sendall(b"".join(
+            encode_ask("ADD", self.context, (b"user", str(at + number).encode(), bytes(size), USER_KEYRING))
+            for number in range(AHEAD)))
+        for _ in range(AHEAD):
+            status, body = self.answer()
+            if status == 0:
+                self.serials.append(int.from_bytes(body, "little"))
+            elif status == ENOMEM:
+                self.refusals += 1
+            else:
+                raise Wrong(f"ADD is answered with status {status}")
+
+    def run(self):
+        try:
+            while self.refusals < ENOUGH:
+                self.add()
+        except (OSError, Wrong) as wrong:
+            self.wrong = wrong
+
+    def check(self):
+        """Gives a key back, for the memory of the reply, and reads the first one."""
+        if self.wrong:
+            raise self.wrong
+        if len(self.serials) < 2:
+            raise Wrong("it could add next to nothing")
+        self.ask("UNLINK", (self.serials[-1], USER_KEYRING))
+        if self.ask("READ", (self.serials[0],)) != bytes(size):
+            raise Wrong("its first key has another payload")
+
+
+clients = [Client(name) for name in range(count)]
+for client in clients:
+    client.start()
+for client in clients:
+    client.join()
+for client in clients:
+    try:
+        client.check()
+    except (OSError, Wrong) as wrong:
+        print(f"client {client.name}: {wrong}")
+        sys.exit(1)
+print("kept")
