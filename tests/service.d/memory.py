@@ -78,14 +78,18 @@ class Client(threading.Thread):
             self.wrong = wrong
 
     def check(self):
-        """Gives a key back, for the memory of the reply, and reads the first one."""
+        """Reads its first key, for whose reply it gives other keys back where there is no memory."""
         if self.wrong:
             raise self.wrong
         if len(self.serials) < 2:
             raise Wrong("it could add next to nothing")
-        self.ask("UNLINK", (self.serials[-1], USER_KEYRING))
-        if self.ask("READ", (self.serials[0],)) != bytes(size):
-            raise Wrong("its first key has another payload")
+        status, body = ENOMEM, b""
+        while status == ENOMEM and len(self.serials) > 1:
+            self.ask("UNLINK", (self.serials.pop(), USER_KEYRING))
+            self.end.sendall(encode_ask("READ", self.context, (self.serials[0],)))
+            status, body = self.answer()
+        if status != 0 or body != bytes(size):
+            raise Wrong(f"its first key is read with status {status}")
 
 
 clients = [Client(name) for name in range(count)]
