@@ -2,6 +2,7 @@
 import importlib.machinery
 import importlib.util
 import os
+import re
 import shutil
 import sys
 import threading
@@ -32,17 +33,33 @@ def remember_sums(crate):
     crate.stamp = stamp
 
 
-def keep_seeds(rt, folder):
-    """Has `rt ci`, where it tries a crate's edit from nothing, keep what that check proved in a folder of the crate's name."""
-    checked = rt.checked
+def function_of(edit):
+    """The function that an edit of must-fail/ names as the one that must be refused for it, if it names one."""
+    with open(edit, encoding="utf-8", errors="replace") as text:
+        return next((line.removeprefix("in:").strip() for line in text if line.startswith("in:")), None)
 
-    def keeping(crate, texts, flags, kept):
-        if texts and not kept:
+
+def narrow_edits(rt, folder):
+    """Has `rt ci` try a crate's edit on the function that it names and on what that calls, and not on the whole crate, which
+    it has proved a moment before. The edit is refused where that function is. What was proved stays in a folder of the
+    crate's name, for the wrong bodies. An edit that isn't refused so is tried on the whole crate."""
+    checked, must_fail = rt.checked, rt.must_fail
+
+    def on_one_function(crate, texts, flags, kept):
+        if "--only" in flags and not kept:
             kept = f"{folder}/{crate.name}"
             os.makedirs(kept, exist_ok=True)
-        return checked(crate, texts, flags, kept)
+        ran = checked(crate, texts, flags, kept)
+        if "--only" in flags and ran.returncode == 1 and re.search(r"^only=1 proved=0$", ran.stdout.rstrip(), re.M):
+            ran.stdout += "logic=not-proved\n"
+        return ran
 
-    rt.checked = keeping
+    def tried(crate, edit, flags, kept=None):
+        function = function_of(edit)
+        found = must_fail(crate, edit, [*flags, "--only", function], kept) if function else (None, "")
+        return found if found[0] == rt.REFUSED else must_fail(crate, edit, flags, kept)
+
+    rt.checked, rt.must_fail = on_one_function, tried
 
 
 def load():
