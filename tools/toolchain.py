@@ -34,9 +34,9 @@ def remember_sums(crate):
 
 
 def function_of(edit):
-    """The function that an edit of must-fail/ names as the one that must be refused for it, if it names one."""
+    """The function that an edit of must-fail/ names in a comment as the one that must be refused for it, if it names one."""
     with open(edit, encoding="utf-8", errors="replace") as text:
-        return next((line.removeprefix("in:").strip() for line in text if line.startswith("in:")), None)
+        return next((line.removeprefix("# in:").strip() for line in text if line.startswith("# in:")), None)
 
 
 def narrow_edits(rt, folder):
