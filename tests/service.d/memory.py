@@ -1,6 +1,7 @@
 """memory.py PATH SIZE CLIENTS: so many clients of a daemon under a limit of memory add keys with payloads of so many bytes,
 side by side, until each was refused with ENOMEM often. Prints `kept` if each of them was, every other answer was a serial,
-and each still has its connection and its first key; else what was wrong."""
+each still has its connection and its first key, and each can add a key once all have given theirs back; else what was
+wrong."""
 import signal
 import socket
 import struct
@@ -91,16 +92,25 @@ class Client(threading.Thread):
         if status != 0 or body != bytes(size):
             raise Wrong(f"its first key is read with status {status}")
 
+    def give_back(self):
+        """Takes all its keys out of its keyring."""
+        self.ask("CLEAR", (USER_KEYRING,))
+
+    def add_again(self):
+        """Adds a key once there is memory again."""
+        self.ask("ADD", (b"user", b"again", bytes(size), USER_KEYRING))
+
 
 clients = [Client(name) for name in range(count)]
 for client in clients:
     client.start()
 for client in clients:
     client.join()
-for client in clients:
-    try:
-        client.check()
-    except (OSError, Wrong) as wrong:
-        print(f"client {client.name}: {wrong}")
-        sys.exit(1)
+for step in (Client.check, Client.give_back, Client.add_again):
+    for client in clients:
+        try:
+            step(client)
+        except (OSError, Wrong) as wrong:
+            print(f"client {client.name}: {wrong}")
+            sys.exit(1)
 print("kept")

@@ -6,7 +6,7 @@ use Rattle.krs_model.specs.State.{State, Queue, raised}
 use Rattle.krs_model.specs.Lists.{Begins}
 use Rattle.krs_model.specs.History.{IsLegal}
 use Rattle.krs_model.specs.Revocation.{Revokes, Reads}
-use Rattle.krs_model.specs.Secrecy.{MayBeRead}
+use Rattle.krs_model.specs.Secrecy.{MayBeRead, TellsNoUnread}
 use Rattle.krs_model.specs.Receiving.{HasMoves, IsOpened}
 use Rattle.krs_model.specs.Notes.Stream.{Move, taken, stream}
 
@@ -22,6 +22,13 @@ IsNotReadRevoked opening seen =
     → seen ≡ (before ++ revoking ∷ later) ++ reading ∷ rest
     → IsLegal opening before old → Revokes old revoking serial
     → IsLegal opening (before ++ revoking ∷ later) late → Reads late reading serial → ⊥
+
+-- Wherever one begins in the list, what a client is told from there on tells of no payload that it doesn't read from
+-- there on, whatever it, or an earlier connection of its lane, had read before: krs_model/specs/Secrecy.antt
+abbrev pub TellsNoUnreadSince : State → List Event → Type 0
+TellsNoUnreadSince opening seen =
+    (before after : List Event) (mid : State) → seen ≡ before ++ after → IsLegal opening before mid
+    → TellsNoUnread mid after
 
 -- Each key that an accepted READ of the list names may be read by the context that asks, at that moment: keyctl(2),
 -- KEYCTL_READ. Which key an id stands for is a matter of the state that the events before have left.

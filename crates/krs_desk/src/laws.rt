@@ -3,6 +3,7 @@ ghost use Rattle.krs_model.specs.Receiving.{GivesStreams};
 ghost use Rattle.krs_model.specs.Revocation.{StaysUnread};
 ghost use Rattle.krs_model.specs.Secrecy.{TellsNoUnread, KeepsSecrets, ReadsByRight};
 ghost use Rattle.krs_desk.specs.Seen.{IsOneHistory, IsNotReadRevoked, AreReadByRight, GivesItsStreams};
+ghost use Rattle.krs_desk.specs.Seen.{TellsNoUnreadSince};
 
 use crate::seat::Seat;
 
@@ -24,10 +25,11 @@ impl Seat {
     }
 
     /// What a client hasn't read, it can't tell from another secret: what it is told in what a seat has seen, it is
-    /// told in each legal history that is asked alike, but for payloads of keys that it doesn't read. So it is in every
-    /// history of the desk.
+    /// told in each legal history that is asked alike, but for payloads of keys that it doesn't read. So it is from
+    /// wherever in what was seen one begins, and in every history of the desk.
     pub fn unread_payloads_stay_secret(&self)
         ensures seen { TellsNoUnread self.now.opening self.now.part.seen }
+        ensures since { TellsNoUnreadSince self.now.opening self.now.part.seen }
         ensures always { KeepsSecrets self.now.opening }
     {
         let _token = &self.token;

@@ -18,6 +18,11 @@ const READ_SIZE: usize = 4096;
 /// all that are held until they are written, and the longest payload behind them.
 const REPLY_ROOM: usize = 98_368;
 
+/// More memory than any machine has to give. While a session that lacks some of its reserve has a piece asked, it tells
+/// that this much is lacking, so that the store keeps nothing more, from no client, until the session has taken back
+/// what it can: the C library may have memory for the thread that serves an ask, and none for this one.
+const UNMET: u64 = 1 << 40;
+
 /// What a session keeps from turn to turn: the reading end, room for what is read, and for replies that wait.
 #[derive(Drop)]
 struct Held {
@@ -44,8 +49,8 @@ impl Held {
     }
 }
 
-/// Asks what all the frames ask, and writes the replies, as `answer_all`. Where memory is short, the store leaves what
-/// this session lacks, which takes it back then.
+/// Asks what all the frames ask, and writes the replies, as `answer_all`. Where this session lacks memory, the store
+/// keeps nothing until the session has taken back what it can, and leaves what it lacks then.
 fn answer_fed<H, W: Sink, S, D: Keeper<S, H>, C: Clock, G: Gate>(
     setting: &Setting<'_, H, D, G>,
     feed: &mut Feed,
@@ -65,10 +70,11 @@ fn answer_fed<H, W: Sink, S, D: Keeper<S, H>, C: Clock, G: Gate>(
     ensures ready { D.ready setting.now.desk.now seat.new }
     ensures lane { D.lane_of seat.new ≡ D.lane_of seat.old }
 {
-    setting.desk.tell_lack(told, feed.lacking() as u64);
-    if *told == 0 {
+    if feed.lacking() == 0 {
+        setting.desk.tell_lack(told, 0);
         return answer_all(setting, writer, out, seat, clock, frames);
     }
+    setting.desk.tell_lack(told, UNMET);
     let stop = answer_all(setting, writer, out, seat, clock, frames);
     feed.restock();
     setting.desk.tell_lack(told, feed.lacking() as u64);
@@ -112,7 +118,8 @@ fn serve_piece<H, W: Sink, S, D: Keeper<S, H>, C: Clock, G: Gate>(
 }
 
 /// Serves a piece of the stream. Where memory is short already, this session may come to lack all of its reserve as it
-/// cuts the piece, and the store leaves as much.
+/// cuts the piece, and the store leaves as much. What it lacks already it takes back first, where others have given memory
+/// back since.
 fn serve_read<H, W: Sink, S, D: Keeper<S, H>, C: Clock, G: Gate>(
     setting: &Setting<'_, H, D, G>,
     feed: &mut Feed,
@@ -134,6 +141,9 @@ fn serve_read<H, W: Sink, S, D: Keeper<S, H>, C: Clock, G: Gate>(
     ensures lane { D.lane_of seat.new ≡ D.lane_of seat.old }
 {
     if setting.desk.is_short() {
+        if *told > 0 {
+            feed.restock();
+        }
         setting.desk.tell_lack(told, RESERVE as u64);
     }
     serve_piece(setting, feed, told, out, piece, writer, seat, clock)

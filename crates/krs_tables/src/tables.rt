@@ -21,7 +21,6 @@ use krs_types::{Context, Errno, KeyId, Serial, Want};
 use krs_walk::Walker;
 use krs_watch::WatchQueues;
 use std::alloc::{AllocError, Global};
-use std::cell::Cell;
 use std::marker::Model;
 
 /// All that a store has. An ask is a function over it, or over its parts. The walker keeps its room from one walk to the
@@ -37,8 +36,6 @@ pub struct Tables {
     pub alloc: Global,
     /// Of the names of links. It is no part of what contracts see.
     pub(crate) seed: Seed,
-    /// So many bytes are wanted elsewhere. It is no part of what contracts see.
-    wanted: Cell<u64>,
 }
 
 impl Model for Tables {
@@ -68,24 +65,18 @@ impl Tables {
             walker: Walker::new(alloc),
             alloc,
             seed,
-            wanted: Cell::new(0),
         }
     }
 
     /// From now on so many bytes are to be left for others: asks that would keep memory are refused where there are fewer.
     pub fn mind_memory(&self, wanted: u64) {
-        self.wanted.set(wanted);
+        self.queues.mind_memory(wanted);
     }
 
     /// Asked before an ask keeps memory, once nothing else refuses it: whether as much is left as is wanted elsewhere. No
-    /// clause can say how much that is: it lies in a cell.
+    /// clause can say how much that is.
     pub fn check_memory(&self) -> Result<(), AllocError> {
-        let wanted = self.wanted.get();
-        if wanted == 0 {
-            return Ok(());
-        }
-        let _left: Vec<u8> = Vec::with_capacity(self.alloc, wanted as usize)?;
-        Ok(())
+        self.queues.check_memory()
     }
 
     /// The context of that number, where it is the client's.

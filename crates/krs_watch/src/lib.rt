@@ -6,6 +6,7 @@ mod laws;
 mod posting;
 mod queue;
 mod queues;
+mod wanted;
 
 pub use ids::watch_id;
 pub use laws::{

@@ -11,11 +11,12 @@ ghost use Rattle.krs_watch.specs.Changes.{LeadsQueues, LeadsAlways, OwnsQueue, w
 
 use crate::posting::{Place, around, post, post_note};
 use crate::queue::NoteQueue;
+use crate::wanted::Wanted;
 use krs_keys::KeySet;
 use krs_notes::Filter;
 use krs_ring::NoteRing;
 use krs_types::{Body, Errno, Fault, FilterEntry, KeyEvent, Record, Serial};
-use std::alloc::Global;
+use std::alloc::{AllocError, Global};
 use std::collections::BTreeMap;
 use std::marker::Model;
 
@@ -32,6 +33,8 @@ pub struct WatchQueues {
     watches: BTreeMap<Place, u8>,
     next_queue: u64,
     alloc: Global,
+    /// It is no part of what contracts see.
+    wanted: Wanted,
 }
 
 impl Model for WatchQueues {
@@ -53,7 +56,19 @@ impl WatchQueues {
             watches: BTreeMap::new(alloc),
             next_queue: 1,
             alloc,
+            wanted: Wanted::new(alloc),
         }
+    }
+
+    /// From now on so many bytes are to be left for others: what would keep memory is refused where there are fewer.
+    pub fn mind_memory(&self, wanted: u64) {
+        self.wanted.set(wanted);
+    }
+
+    /// Asked before memory is kept, once nothing else refuses it: whether as much is left as is wanted elsewhere. No clause
+    /// can say how much that is: it lies in a cell.
+    pub fn check_memory(&self) -> Result<(), AllocError> {
+        self.wanted.check()
     }
 
     /// A new queue of 1 to 4096 records, by its number: EINVAL, ENFILE, ENOSPC, ENOMEM.
@@ -70,6 +85,7 @@ impl WatchQueues {
         if self.next_queue > MAX_NUMBER {
             return Err(Fault::Refused(Errno::ENOSPC));
         }
+        self.check_memory()?;
         let number = self.next_queue as u32;
         let queue = NoteQueue::new(self.alloc, client, capacity)?;
         self.queues.insert(number, queue)?;
@@ -104,6 +120,7 @@ impl WatchQueues {
         if self.watches.contains_key(&place) {
             return Err(Fault::Refused(Errno::EBUSY));
         }
+        self.check_memory()?;
         self.watches.insert(place, id)?;
         Ok(())
     }

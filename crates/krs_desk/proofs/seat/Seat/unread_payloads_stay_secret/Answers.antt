@@ -6,3 +6,6 @@ returns-clause-seen c = tells_no_unread _ _
 
 pub returns-clause-always : goal.returns-clause-always
 returns-clause-always c = keeps_secrets _
+
+pub returns-clause-since : goal.returns-clause-since
+returns-clause-since c before after mid parts legal = tells_no_unread _ _
