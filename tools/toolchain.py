@@ -1,10 +1,11 @@
 """The toolchain's command rt as a Python module, for the tools beside this file."""
 import importlib.machinery
 import importlib.util
+import json
 import os
-import re
 import shutil
 import sys
+import tempfile
 import threading
 
 sys.dont_write_bytecode = True
@@ -33,33 +34,45 @@ def remember_sums(crate):
     crate.stamp = stamp
 
 
-def function_of(edit):
-    """The function that an edit of must-fail/ names in a comment as the one that must be refused for it, if it names one."""
-    with open(edit, encoding="utf-8", errors="replace") as text:
-        return next((line.removeprefix("# in:").strip() for line in text if line.startswith("# in:")), None)
+def seed(crate, folder):
+    """Puts into a folder what the proof of a library left in its rlib, so that checks may begin there. Returns whether
+    there is as much: what a check can't use it proves itself."""
+    try:
+        with open(f"{crate.rlib}/format", encoding="utf-8") as text:
+            build = next(line.split()[1] for line in text if line.startswith("rattle-build "))
+        with open(f"{crate.rlib}/toolchain/checked.json", encoding="utf-8") as text:
+            places = [it for it in map(json.loads, text) if "/" not in it[0]]
+        with open(f"{crate.rlib}/toolchain/checked.a", "rb") as archive:
+            modules = archive.read()
+    except (OSError, StopIteration, ValueError):
+        return False
+    room = f"{folder}/{build.replace('/', '_')}"
+    os.makedirs(room)
+    for module, begin, length in places:
+        with open(f"{room}/{module}.oantt", "wb") as file:
+            file.write(modules[begin : begin + length])
+    return True
 
 
-def narrow_edits(rt, folder):
-    """Has `rt ci` try a crate's edit on the function that it names and on what that calls, and not on the whole crate, which
-    it has proved a moment before. The edit is refused where that function is. What was proved stays in a folder of the
-    crate's name, for the wrong bodies. An edit that isn't refused so is tried on the whole crate."""
-    checked, must_fail = rt.checked, rt.must_fail
+def begin_at_proofs(rt):
+    """Has `rt ci` try a crate's edit over what the proof of the crate left, which it made a moment before and from nothing;
+    so it does itself where a crate has two edits. For that, libraries keep their checked modules, as they do outside the
+    gate. An edit that isn't refused so is tried from nothing."""
+    build, checked = rt.Crate.build_rlib, rt.checked
 
-    def on_one_function(crate, texts, flags, kept):
-        if "--only" in flags and not kept:
-            kept = f"{folder}/{crate.name}"
-            os.makedirs(kept, exist_ok=True)
-        ran = checked(crate, texts, flags, kept)
-        if "--only" in flags and ran.returncode == 1 and re.search(r"^only=1 proved=0$", ran.stdout.rstrip(), re.M):
-            ran.stdout += "logic=not-proved\n"
-        return ran
+    def build_with_proofs(crate, flags, anew):
+        crate.cuts_libraries = False
+        return build(crate, flags, anew)
 
-    def tried(crate, edit, flags, kept=None):
-        function = function_of(edit)
-        found = must_fail(crate, edit, [*flags, "--only", function], kept) if function else (None, "")
-        return found if found[0] == rt.REFUSED else must_fail(crate, edit, flags, kept)
+    def check_over_proof(crate, texts, flags, kept):
+        if texts and not kept:
+            with tempfile.TemporaryDirectory(prefix="keyretain.") as room:
+                ran = checked(crate, texts, flags, room) if seed(crate, room) else None
+            if ran and ran.returncode == 1:
+                return ran
+        return checked(crate, texts, flags, kept)
 
-    rt.checked, rt.must_fail = on_one_function, tried
+    rt.Crate.build_rlib, rt.checked = build_with_proofs, check_over_proof
 
 
 def load():
