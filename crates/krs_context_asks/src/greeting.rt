@@ -6,7 +6,7 @@ ghost use Rattle.krs_model.specs.Asks.Hello.{hello};
 ghost use Rattle.krs_tables.specs.Making.{uid_name, named_uid_key, uid_key};
 
 use krs_keys::{Content, Key};
-use krs_links::Links;
+use krs_links::{HashedName, Links};
 use krs_tables::{Tables, check_room, hold_of, hold_twice, make_room};
 use krs_types::{Answer, Blob, Caller, Desc, Errno, Fault, Kind, Name, Perm, Serial, UidRings};
 use std::alloc::{AllocError, Global};
@@ -27,7 +27,7 @@ fn uid_name(alloc: Global, prefix: &str, uid: u32) -> Result<Name, AllocError>
 }
 
 /// A keyring of a uid.
-fn uid_key(name: Name, links: Links, caller: &Caller) -> Key
+fn uid_key(name: HashedName, links: Links, caller: &Caller) -> Key
     ensures { result ≡ named_uid_key name links caller.now }
 {
     Key {
@@ -49,10 +49,10 @@ fn uid_keys(tables: &Tables, caller: &Caller, first: Serial) -> Result<(Key, Key
     ensures session { IfOk result (λ keys. keys.1
         ≡ uid_key (codes "_uid_ses.") ((keys.0.name, first) ∷ []) caller.now) }
 {
-    let name = uid_name(tables.alloc, "_uid.", caller.uid)?;
-    let session_name = uid_name(tables.alloc, "_uid_ses.", caller.uid)?;
+    let name = tables.hashed(uid_name(tables.alloc, "_uid.", caller.uid)?);
+    let session_name = tables.hashed(uid_name(tables.alloc, "_uid_ses.", caller.uid)?);
     let mut links = tables.no_links();
-    if links.put(name.copy(tables.alloc)?, first).is_err() {
+    if links.put_hashed(name.copy(tables.alloc)?, first).is_err() {
         return Err(AllocError);
     }
     let user = uid_key(name, tables.no_links(), caller);

@@ -32,10 +32,10 @@ fn joined_ring(tables: &Tables, desc: Blob, perm: Perm, caller: &Caller) -> Key
     ensures { result ≡ joined_ring desc perm caller.now }
 {
     Key {
-        name: Name {
+        name: tables.hashed(Name {
             kind: Kind::Keyring,
             desc: Desc::new(desc),
-        },
+        }),
         uid: caller.uid,
         gid: caller.gid,
         perm,

@@ -10,7 +10,7 @@ ghost use Rattle.krs_model.specs.Sound.{IsSound};
 ghost use Rattle.krs_tables.specs.Making.{adding_in};
 
 use krs_keys::{Change, Content, Key, LAST_SERIAL};
-use krs_links::Links;
+use krs_links::{HashedName, Links};
 use krs_tables::{Tables, check_room};
 use krs_types::{
     Answer, Blob, Body, Context, Desc, Errno, Fault, Kind, Name, Perm, Rights, Serial, Want,
@@ -81,7 +81,7 @@ fn by_match(
     let Some(key) = tables.key(serial) else {
         return if_room(tables, ring, into, links, None);
     };
-    if !key.is_alive(tables.clock) || !is_updatable(key.name.kind) {
+    if !key.is_alive(tables.clock) || !is_updatable(key.name.kind()) {
         return if_room(tables, ring, into, links, Some(serial));
     }
     if !tables.grants(context, serial, key, Want::Granted(Rights::WRITE)) {
@@ -92,7 +92,12 @@ fn by_match(
 
 /// Where a key of this name goes in a keyring that may be written.
 #[tactic(auto, unfolding(krs_model::specs::Asks::Adding::place_of))]
-fn place_of(tables: &Tables, context: &Context, name: &Name, ring: i32) -> Result<Place, Errno>
+fn place_of(
+    tables: &Tables,
+    context: &Context,
+    name: &HashedName,
+    ring: i32,
+) -> Result<Place, Errno>
     ensures place { Is meant result (place_of tables.now context.now name.now ring) }
     ensures serial { IfOk result (HasSerial tables.now.next_serial) }
 {
@@ -106,7 +111,7 @@ fn place_of(tables: &Tables, context: &Context, name: &Name, ring: i32) -> Resul
                 Serial::new(ring),
                 key,
                 links,
-                links.find(name),
+                links.find_hashed(name),
             )
         }
     }
@@ -116,7 +121,7 @@ fn place_of(tables: &Tables, context: &Context, name: &Name, ring: i32) -> Resul
 fn make(
     tables: &mut Tables,
     ring: Serial,
-    name: Name,
+    name: HashedName,
     payload: Body,
     uid: u32,
     gid: u32,
@@ -162,10 +167,10 @@ pub fn add(
 {
     let context = tables.context_of(client, number)?;
     let kind = admitted(type_name.as_slice(), desc.as_slice(), payload.as_slice())?;
-    let name = Name {
+    let name = tables.hashed(Name {
         kind,
         desc: Desc::new(desc),
-    };
+    });
     let payload = Body::new(payload.into_vec());
     match tables.wanted(number, context, ring) {
         Some(special) => tables.make_adding(client, number, special, name, payload),
@@ -178,7 +183,7 @@ fn add_in(
     tables: &mut Tables,
     client: u32,
     number: u32,
-    name: Name,
+    name: HashedName,
     payload: Body,
     ring: i32,
 ) -> Result<Answer, Fault>

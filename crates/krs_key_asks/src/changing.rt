@@ -24,7 +24,7 @@ pub fn update(
 {
     let context = tables.context_of(client, context)?;
     let (serial, key) = tables.look_up(context, id, Want::Granted(Rights::WRITE))?;
-    let kind = updatable(key.name.kind)?;
+    let kind = updatable(key.name.kind())?;
     kind.check_payload(payload.as_slice())?;
     tables.check_memory()?;
     let payload = Body::new(payload.into_vec());

@@ -24,7 +24,7 @@ pub fn read(tables: &Tables, client: u32, context: u32, id: i32) -> Result<Answe
 {
     let context = tables.context_of(client, context)?;
     let (_, key) = tables.look_up(context, id, Want::ToRead)?;
-    match (key.name.kind, &key.content) {
+    match (key.name.kind(), &key.content) {
         (Kind::User, Content::Payload(bytes)) => Ok(Answer::Bytes(bytes.copy(tables.alloc)?)),
         (Kind::Keyring, Content::Links(links)) => {
             Ok(Answer::Bytes(serial_bytes(tables.alloc, links)?))
@@ -60,8 +60,8 @@ fn serial_bytes(alloc: Global, links: &Links) -> Result<Body, AllocError>
 fn description(alloc: Global, key: &Key) -> Result<Body, AllocError>
     ensures { IfOk result (λ b. b ≡ description (seen key.now)) }
 {
-    let desc = key.name.desc.as_slice();
-    let (kind, uid, gid) = (key.name.kind, key.uid, key.gid);
+    let desc = key.name.desc();
+    let (kind, uid, gid) = (key.name.kind(), key.uid, key.gid);
     let mut bytes = owners(alloc, desc.len(), kind, uid, gid)?;
     bytes.extend_from_slice(&hex_8(key.perm.bits()))?;
     bytes.push(b';')?;

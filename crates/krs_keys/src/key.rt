@@ -7,8 +7,8 @@ ghost use Rattle.krs_model.specs.Access.{is_over, is_alive, rights_on};
 ghost use Rattle.krs_model.specs.Asks.Joining.{is_joinable};
 
 use bitflags::Flags;
-use krs_links::Links;
-use krs_types::{Body, Caller, Errno, Kind, Name, Perm, Rights, Serial, UNCHANGED};
+use krs_links::{HashedName, Links};
+use krs_types::{Body, Caller, Errno, Kind, Perm, Rights, Serial, UNCHANGED};
 
 /// What a key holds.
 #[derive(Drop)]
@@ -20,7 +20,7 @@ pub enum Content {
 /// A key as it is kept: its links have their names beside them. keyrings(7), "Keys".
 #[derive(Drop)]
 pub struct Key {
-    pub name: Name,
+    pub name: HashedName,
     pub uid: u32,
     pub gid: u32,
     pub perm: Perm,
@@ -83,15 +83,15 @@ impl Key {
     pub fn is_joinable(&self, desc: &[u8], caller: &Caller, clock: u64) -> bool
         ensures { result ≡ is_joinable clock caller.now desc.now (seen self.now) }
     {
-        self.name.kind.is(Kind::Keyring)
+        self.name.kind().is(Kind::Keyring)
             && self.joined
-            && self.name.desc.as_slice() == desc
+            && self.name.desc() == desc
             && self.is_alive(clock)
             && self.grants(caller, false).contains(Rights::SEARCH)
     }
 
     /// Where it links the key of this name and this serial.
-    pub fn link_place(&self, name: &Name, serial: Serial) -> Option<usize>
+    pub fn link_place(&self, name: &HashedName, serial: Serial) -> Option<usize>
         ensures there { IfSome result
             (λ place. slice_get (serials (named_links_of_content self.now.content)) place ≡ Some serial) }
         ensures none { IfNone result (serial_named (named_links_of_content self.now.content) name.now ≢ Some serial) }
@@ -99,7 +99,7 @@ impl Key {
         match &self.content {
             Content::Payload(_) => None,
             Content::Links(links) => {
-                let Some(place) = links.place_of(name) else {
+                let Some(place) = links.place_of_hashed(name) else {
                     return None;
                 };
                 let Some(linked) = links.serial_at(place) else {
@@ -115,12 +115,12 @@ impl Key {
     }
 
     /// Whether it would refuse a link under this name: it is a full keyring, and no link is displaced.
-    pub fn would_refuse(&self, name: &Name) -> bool
+    pub fn would_refuse(&self, name: &HashedName) -> bool
         ensures { result ≡ is_refused (named_links_of_content self.now.content) name.now }
     {
         match &self.content {
             Content::Payload(_) => false,
-            Content::Links(links) => links.would_refuse(name),
+            Content::Links(links) => links.would_refuse_hashed(name),
         }
     }
 
@@ -156,7 +156,7 @@ impl Key {
     }
 
     /// One more link, where it is a keyring, and the serial that it displaces: ENFILE, ENOMEM.
-    pub fn link(&mut self, name: Name, serial: Serial) -> Result<Option<Serial>, Errno>
+    pub fn link(&mut self, name: HashedName, serial: Serial) -> Result<Option<Serial>, Errno>
         ensures ok { OnOk result (self.new ≡ with_entry name serial self.old) }
         ensures displaced { IfOk result (λ old. old ≡ serial_named (named_links_of_content self.old.content) name) }
         ensures room { OnOk result (is_refused (named_links_of_content self.old.content) name ≡ false) }
@@ -166,7 +166,7 @@ impl Key {
     {
         match &mut self.content {
             Content::Payload(_) => Ok(None),
-            Content::Links(links) => links.put(name, serial),
+            Content::Links(links) => links.put_hashed(name, serial),
         }
     }
 }

@@ -17,8 +17,8 @@ ghost use Rattle.krs_keys.specs.Sessions.{AreSessions};
 use crate::placed::PlacedKeys;
 use crate::sessions::Sessions;
 use crate::{Change, Key};
-use krs_links::Seed;
-use krs_types::{Caller, Errno, Name, Serial};
+use krs_links::{HashedName, Seed};
+use krs_types::{Caller, Errno, Serial};
 use std::alloc::Global;
 use std::marker::Model;
 
@@ -98,7 +98,7 @@ impl KeyTable {
     }
 
     /// Whether a keyring would refuse a link under this name: it is full, and no link is displaced.
-    pub fn would_refuse(&self, ring: Serial, name: &Name) -> bool
+    pub fn would_refuse(&self, ring: Serial, name: &HashedName) -> bool
         ensures { result ≡ is_refused (named_links_of_key_at self.now.keys ring) name.now }
     {
         let Some(key) = self.get(ring) else {
@@ -157,7 +157,7 @@ impl KeyTable {
     pub fn insert_linked(
         &mut self,
         ring: Serial,
-        name: Name,
+        name: HashedName,
         key: Key,
     ) -> Result<Option<Serial>, Errno>
         requires { IsOfKind key.name.kind key.content }
@@ -190,7 +190,7 @@ impl KeyTable {
     pub fn link(
         &mut self,
         ring: Serial,
-        name: Name,
+        name: HashedName,
         serial: Serial,
     ) -> Result<Option<Serial>, Errno>
         ensures displaced { IfOk result (λ old. old ≡ displaced_at self.old.keys ring name) }

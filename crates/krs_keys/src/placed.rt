@@ -14,7 +14,8 @@ use crate::sessions::Sessions;
 use crate::slots::{self, list, unlist};
 use crate::{Change, Key};
 use indexmap::{IndexMap, IndexSet};
-use krs_types::{Caller, Errno, Name, Serial};
+use krs_links::HashedName;
+use krs_types::{Caller, Errno, Serial};
 use slab::Slab;
 use std::alloc::{AllocError, Global};
 
@@ -125,7 +126,7 @@ impl PlacedKeys {
     pub(crate) fn link(
         &mut self,
         ring: u32,
-        name: Name,
+        name: HashedName,
         serial: Serial,
     ) -> Result<Option<Serial>, Errno>
         requires { ArePlaced self.old }

@@ -33,8 +33,8 @@ impl Sessions {
     fn digest_of(&self, key: &Key) -> Option<u64>
         ensures { result ≡ session_digest self.now.seed (Some key.now) }
     {
-        if key.name.kind.is(Kind::Keyring) && key.joined {
-            Some(self.seed.digest(key.name.desc.as_slice()))
+        if key.name.kind().is(Kind::Keyring) && key.joined {
+            Some(self.seed.digest(key.name.desc()))
         } else {
             None
         }

@@ -13,7 +13,8 @@ ghost use Rattle.krs_keys.specs.Places.{held, in_slots, is_among, AreRings, Have
 
 use crate::{Change, Key};
 use indexmap::{IndexMap, IndexSet};
-use krs_types::{Errno, Kind, Name, Serial};
+use krs_links::HashedName;
+use krs_types::{Errno, Kind, Serial};
 use slab::Slab;
 
 /// Changes the key at a place, where there is one.
@@ -30,7 +31,7 @@ pub(crate) fn change(slots: &mut Slab<Key>, place: usize, change: Change)
 pub(crate) fn link(
     slots: &mut Slab<Key>,
     place: usize,
-    name: Name,
+    name: HashedName,
     serial: Serial,
 ) -> Result<Option<Serial>, Errno>
     ensures displaced { IfOk result (λ old. old ≡ displaced_by name (held slots.old.slots place)) }
@@ -192,7 +193,7 @@ pub(crate) fn list(rings: &mut IndexSet<u32>, serial: u32, key: &Key)
         ≡ cond (nat_eq serial q) (same_kind key.now.name.kind Keyring) (is_among rings.old.keys q) }
     ensures room { spare rings.old ≤ spare rings.new + 1 }
 {
-    if key.name.kind.is(Kind::Keyring) {
+    if key.name.kind().is(Kind::Keyring) {
         let _ = rings.insert(serial);
     }
 }
@@ -202,7 +203,7 @@ pub(crate) fn unlist(rings: &mut IndexSet<u32>, serial: u32, key: &Key)
     requires { is_among rings.old.keys serial ≡ same_kind key.now.name.kind Keyring }
     ensures { (q : ℕ) → is_among rings.new.keys q ≡ cond (nat_eq serial q) false (is_among rings.old.keys q) }
 {
-    if key.name.kind.is(Kind::Keyring) {
+    if key.name.kind().is(Kind::Keyring) {
         rings.swap_remove(&serial);
     }
 }

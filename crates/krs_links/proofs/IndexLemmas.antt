@@ -1,56 +1,33 @@
--- What the words of an index map say of links.
-use Rattle.std.proofs.Common.{◌≡◌, ℕ, zero, suc, ◌+◌, [], ◌∷◌, Some, true, false, cond, refl, sym, ap, ◌∙◌}
-use Rattle.std.proofs.Common.{◌&&◌, Bool, length, take, arith}
-use Rattle.std.specs.List.{find, position, position_from, slice_get}
-use Rattle.std.proofs.lemmas.Iterator.Adapters.{position_from-zero}
+-- Names by place, and how many nested keyrings stand before a place.
+use Rattle.std.proofs.Common.{◌≡◌, ℕ, zero, suc, ◌+◌, [], ◌∷◌, Some, true, false, cond, refl, sym, ap}
+use Rattle.std.proofs.Common.{◌&&◌, ◌<◌, Bool, None, length, take, get_or, arith}
+use Rattle.std.specs.List.{slice_get}
 use Rattle.std.proofs.lemmas.Option.{none-some}
-use Rattle.std.specs.Option.{option_map, unwrap_or}
-use Rattle.std.specs.Map.{lookup}
-use Rattle.indexmap.specs.IndexMap.{insert_entry}
+use Rattle.std.specs.Option.{unwrap_or}
 use Rattle.krs_types.specs.declared.name.Name.{Name}
-use Rattle.krs_types.specs.Name.{same_name}
-use Rattle.krs_types.proofs.Names.{equal_names}
-use Rattle.krs_links.specs.Links.{LinkList, names, serial_named, place_of, link_put, nested, is_ring}
+use Rattle.krs_links.specs.Links.{LinkList, names, nested, is_ring}
 
--- an insert links: a link of that name keeps its place
-pub insert_entry_puts :
-    (links : LinkList) (name : Name) (serial : ℕ) → insert_entry same_name links name serial ≡ link_put links name serial
-insert_entry_puts [] name serial = refl
-insert_entry_puts (link ∷ links) name serial =
-    elim (same_name name link.0) as (λ b. same_name name link.0 ≡ b
-    → cond b ((link.0, serial) ∷ links) (link ∷ insert_entry same_name links name serial)
-    ≡ cond b ((name, serial) ∷ links) (link ∷ link_put links name serial)) [
-      | true ↦ λ same. ap (λ (n : Name). (n, serial) ∷ links) (sym (equal_names name link.0 same))
-      | false ↦ λ other. ap (λ rest. link ∷ rest) (insert_entry_puts links name serial)
-    ] refl
+-- the link at a place has the name there
+pub link_named_at :
+    (links : LinkList) (place : ℕ) (name : Name) → slice_get (names links) place ≡ Some name
+    → slice_get links place ≡ Some (name, (get_or links place (name, 0)).1)
+link_named_at [] place name here = absurd (none-some name here)
+link_named_at (x ∷ xs) zero name here = ap (λ o. Some (unwrap_or o name, x.1)) here
+link_named_at (x ∷ xs) (suc place) name here = link_named_at xs place name here
 
--- a look-up by name
-pub lookup_named :
-    (links : LinkList) (name : Name) → lookup (same_name name) links ≡ serial_named links name
-lookup_named [] name = refl
-lookup_named (link ∷ links) name =
-    elim (same_name name link.0) as (λ b. cond b (Some link.1) (lookup (same_name name) links)
-    ≡ option_map (λ (link : Name × ℕ). link.1) (cond b (Some link) (find (λ link. same_name name link.0) links))) [
-      | true ↦ refl
-      | false ↦ lookup_named links name
-    ]
+-- where no name stands, no link does
+pub no_link_at :
+    (links : LinkList) (place : ℕ) → slice_get (names links) place ≡ None → slice_get links place ≡ None
+no_link_at [] place none = refl
+no_link_at (x ∷ xs) zero none = absurd (none-some x.0 (sym none))
+no_link_at (x ∷ xs) (suc place) none = no_link_at xs place none
 
-from_names :
-    (n : ℕ) (links : LinkList) (name : Name) → position_from (same_name name) n (names links)
-    ≡ position_from (λ link. same_name name link.0) n links
-from_names n [] name = refl
-from_names n (link ∷ links) name =
-    elim (same_name name link.0) as (λ b. cond b (Some n) (position_from (same_name name) (n + 1) (names links))
-    ≡ cond b (Some n) (position_from (λ link. same_name name link.0) (n + 1) links)) [
-      | true ↦ refl
-      | false ↦ from_names (n + 1) links name
-    ]
-
--- the place of a name among the names is that of its link
-pub position_named : (links : LinkList) (name : Name) → position (same_name name) (names links) ≡ place_of name links
-position_named links name =
-    position_from-zero (same_name name) (names links)
-    ∙ (from_names 0 links name ∙ sym (position_from-zero (λ (link : Name × ℕ). same_name name link.0) links))
+-- where links stand, names do
+pub names_within :
+    (links : LinkList) (place : ℕ) → place < length links → slice_get (names links) place ≡ None → ⊥
+names_within [] place lt none = absurd (omega arith)
+names_within (x ∷ xs) zero lt none = absurd (none-some x.0 (sym none))
+names_within (x ∷ xs) (suc place) lt none = names_within xs place (omega arith) none
 
 one_more : (r : Bool) (m n : ℕ) → m ≡ cond r (n + 1) n → suc m ≡ cond r (suc n + 1) (suc n)
 one_more true m n h = let more : suc m ≡ suc (n + 1) = ap (λ k. suc k) h in omega (arith, more)

@@ -2,3 +2,4 @@ pub mod LinksLemmas
 pub mod PlacesLemmas
 pub mod KeyLinks
 pub mod IndexLemmas
+pub mod IndexedLemmas

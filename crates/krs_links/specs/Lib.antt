@@ -1,3 +1,4 @@
+pub mod Indexed
 pub mod Links
 pub mod Lists
 pub mod Seeded

@@ -1,16 +1,29 @@
--- The hasher that a seed begins with, and what bytes hash to from it.
-use Rattle.std.specs.Prelude.{ℕ, List}
+-- The hasher that a seed begins with, and what bytes and names hash to from it.
+use Rattle.std.specs.Prelude.{ℕ, List, [], ◌∷◌}
+use Rattle.std.specs.Hash.{le_bytes}
 use Rattle.std.specs.Hash.DefaultHasher.{initial, write, finish}
 use Rattle.std.specs.RandomState.{initial_hasher}
 use Rattle.std.specs.declared.hash.DefaultHasher.{DefaultHasher}
+use Rattle.std.specs.declared.hash.RandomState.{RandomState}
+use Rattle.krs_types.specs.declared.name.Name.{Name}
+use Rattle.krs_types.specs.Name.{kind_number}
 use Rattle.krs_links.specs.declared.seed.Seed.{Seed}
-use Rattle.krs_links.specs.declared.seed.Seed.TheVariants.{Fixed, Random}
 
--- SipHash with both keys 0, or with the random ones
+-- SipHash with both keys 0, after the seed's two words
 abbrev pub first_hasher : Seed → DefaultHasher
-first_hasher Fixed = initial
-first_hasher (Random state) = initial_hasher state
+first_hasher seed = write (write initial (le_bytes 8 seed.first)) (le_bytes 8 seed.second)
+
+-- the words that SipHash makes of 0 and of 1 under a random key
+abbrev pub random_seed : RandomState → Seed
+random_seed state = record {
+  first = finish (write (initial_hasher state) (0 ∷ []));
+  second = finish (write (initial_hasher state) (1 ∷ []));
+}
 
 -- what bytes hash to
 abbrev pub digest : Seed → List ℕ → ℕ
 digest seed bytes = finish (write (first_hasher seed) bytes)
+
+-- what a name hashes to: its description, and its type behind it
+unfoldable pub name_digest : Seed → Name → ℕ
+name_digest seed name = finish (write (write (first_hasher seed) name.desc) (kind_number name.kind ∷ []))

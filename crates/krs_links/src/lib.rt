@@ -4,9 +4,12 @@
 //! links at most.
 #![tactic(auto)]
 
+mod hashed;
+mod index;
 mod links;
 mod lists;
 mod seed;
 
+pub use hashed::HashedName;
 pub use links::Links;
 pub use seed::Seed;

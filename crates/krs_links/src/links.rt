@@ -4,8 +4,8 @@ ghost use Rattle.std.specs.Option.{ok_or, option_copied};
 ghost use Rattle.krs_links.specs.Links.{serial_named, place_of, link_put, unlinked, nested, names, serials};
 ghost use Rattle.krs_links.specs.Links.{is_full, is_refused, link_error, IsUnique};
 
-use crate::{Seed, lists};
-use indexmap::IndexMap;
+use crate::index::LinkIndex;
+use crate::{HashedName, Seed, lists};
 use krs_types::{Errno, Name, Serial};
 use std::alloc::Global;
 use std::marker::Model;
@@ -16,20 +16,20 @@ const MAX_LINKS: usize = 65535;
 /// The links of a keyring, in link order, with an index from their names.
 #[derive(Drop)]
 pub struct Links {
-    entries: IndexMap<Name, Serial, Seed>,
+    entries: LinkIndex,
     /// The serials of the nested keyrings again, so that a walk goes over them alone.
     rings: Vec<Serial>,
 }
 
 impl Model for Links {
     ghost use Rattle.krs_links.specs.Links.{LinkList};
-    ghost use Rattle.krs_links.specs.Lists.{AreLists};
+    ghost use Rattle.krs_links.specs.Indexed.{linked, AreFound};
 
     ghost Value = { LinkList };
 
-    ghost view = { λ l. l.entries.entries };
+    ghost view = { λ l. linked l.entries };
 
-    ghost invariant = { λ l. AreLists l.entries.entries l.rings.items };
+    ghost invariant = { λ l. AreFound l.entries l.rings.items };
 }
 
 impl Links {
@@ -38,7 +38,7 @@ impl Links {
         ensures { result ≡ [] }
     {
         Links {
-            entries: IndexMap::with_hasher(alloc, seed),
+            entries: LinkIndex::new(alloc, seed),
             rings: Vec::new(alloc),
         }
     }
@@ -62,34 +62,42 @@ impl Links {
     pub fn name_at(&self, place: usize) -> Option<&Name>
         ensures { option_copied result ≡ slice_get (names self.now) place }
     {
-        match self.entries.get_index(place) {
-            Some(link) => Some(link.0),
-            None => None,
-        }
+        self.entries.name_at(place)
     }
 
     /// The serial that is linked at a place of the link order.
     pub fn serial_at(&self, place: usize) -> Option<Serial>
         ensures { result ≡ slice_get (serials self.now) place }
     {
-        match self.entries.get_index(place) {
-            Some(link) => Some(*link.1),
-            None => None,
-        }
+        self.entries.serial_at(place)
     }
 
     /// The serial that is linked under a name. Names of different types are different: keyrings(7), "Keyrings".
     pub fn find(&self, name: &Name) -> Option<Serial>
         ensures { result ≡ serial_named self.now name.now }
     {
-        lists::find(&self.entries, name)
+        lists::find(&self.entries, name, self.entries.digest_of(name))
+    }
+
+    /// The same of a name that was hashed.
+    pub fn find_hashed(&self, name: &HashedName) -> Option<Serial>
+        ensures { result ≡ serial_named self.now name.now }
+    {
+        lists::find(&self.entries, name.as_name(), self.entries.digest_in(name))
     }
 
     /// The place of the link of a name.
     pub fn place_of(&self, name: &Name) -> Option<usize>
         ensures { result ≡ place_of name.now self.now }
     {
-        lists::place_of(&self.entries, name)
+        lists::place_of(&self.entries, name, self.entries.digest_of(name))
+    }
+
+    /// The same of a name that was hashed.
+    pub fn place_of_hashed(&self, name: &HashedName) -> Option<usize>
+        ensures { result ≡ place_of name.now self.now }
+    {
+        lists::place_of(&self.entries, name.as_name(), self.entries.digest_in(name))
     }
 
     /// Whether a link under this name would be refused: there are as many as there may be, and none is displaced.
@@ -98,6 +106,13 @@ impl Links {
         ensures { result ≡ is_refused self.now name.now }
     {
         self.is_full() && self.find(name).is_none()
+    }
+
+    /// The same of a name that was hashed.
+    pub fn would_refuse_hashed(&self, name: &HashedName) -> bool
+        ensures { result ≡ is_refused self.now name.now }
+    {
+        self.is_full() && self.find_hashed(name).is_none()
     }
 
     /// The nested keyrings, in link order.
@@ -117,10 +132,24 @@ impl Links {
         ensures error { IfErr result (λ error. error ≡ link_error self.old name) }
         ensures err { OnErr result (self.new ≡ self.old) }
     {
-        let Some(place) = lists::place_of(&self.entries, &name) else {
+        let seed = self.entries.seed();
+        self.put_hashed(HashedName::new(name, seed), serial)
+    }
+
+    /// The same under a name that was hashed.
+    pub fn put_hashed(&mut self, name: HashedName, serial: Serial) -> Result<Option<Serial>, Errno>
+        ensures displaced { IfOk result (λ old. old ≡ serial_named self.old name) }
+        ensures links { OnOk result (self.new ≡ link_put self.old name serial) }
+        ensures room { OnOk result (is_refused self.old name ≡ false) }
+        ensures in_place { IsSome (serial_named self.old name) → IsOk result }
+        ensures error { IfErr result (λ error. error ≡ link_error self.old name) }
+        ensures err { OnErr result (self.new ≡ self.old) }
+    {
+        let digest = self.entries.digest_in(&name);
+        let Some(place) = lists::place_of(&self.entries, name.as_name(), digest) else {
             return self.append(name, serial);
         };
-        let displaced = lists::displace(&mut self.entries, &mut self.rings, place, name, serial);
+        let displaced = lists::displace(&mut self.entries, &mut self.rings, place, &name, serial);
         Ok(displaced)
     }
 
@@ -130,7 +159,8 @@ impl Links {
         ensures links { self.new ≡ unlinked self.old name.now }
         ensures err { OnErr result (self.new ≡ self.old) }
     {
-        let Some(place) = lists::place_of(&self.entries, name) else {
+        let digest = self.entries.digest_of(name);
+        let Some(place) = lists::place_of(&self.entries, name, digest) else {
             return Err(Errno::ENOENT);
         };
         lists::remove_at(&mut self.entries, &mut self.rings, place).ok_or(Errno::ENOENT)
@@ -150,13 +180,12 @@ impl Links {
         ensures { self.new ≡ [] }
     {
         self.entries.clear();
-        self.entries.shrink_to_fit();
         self.rings.clear();
         self.rings.shrink_to_fit();
     }
 
     /// A link under a new name, which stands last.
-    fn append(&mut self, name: Name, serial: Serial) -> Result<Option<Serial>, Errno>
+    fn append(&mut self, name: HashedName, serial: Serial) -> Result<Option<Serial>, Errno>
         requires { serial_named self.old name ≡ None }
         ensures displaced { IfOk result (λ old. old ≡ None) }
         ensures links { OnOk result (self.new ≡ link_put self.old name serial) }

@@ -13,6 +13,7 @@ ghost use Rattle.krs_keys.specs.Keys.{seen};
 
 use crate::linking::{check_nesting, check_open, links_of, put_link};
 use krs_keys::Key;
+use krs_links::HashedName;
 use krs_tables::{Special, Tables};
 use krs_types::{
     Answer, Blob, Context, Desc, Errno, Fault, Kind, Name, Rights, Serial, Want, check_description,
@@ -20,15 +21,15 @@ use krs_types::{
 
 /// What is looked for: EINVAL, EPERM and ENODEV of the type's name, EINVAL of the description. Profile, search names.
 #[tactic(auto, unfolding(krs_model::specs::Asks::Finding::sought_name))]
-fn sought_name(type_name: Blob, desc: Blob) -> Result<Name, Errno>
+fn sought_name(tables: &Tables, type_name: Blob, desc: Blob) -> Result<HashedName, Errno>
     ensures { Is (λ name. name) result (sought_name type_name desc) }
 {
     let kind = Kind::named(type_name.as_slice())?;
     check_description(desc.as_slice())?;
-    Ok(Name {
+    Ok(tables.hashed(Name {
         kind,
         desc: Desc::new(desc),
-    })
+    }))
 }
 
 /// A key of that type and description, from a keyring on, and a link to it in a destination other than 0, which
@@ -49,7 +50,7 @@ pub fn search(
     ensures memory { IsErrOf result Fault.Memory → has_destination dest ≡ true }
 {
     let context = tables.context_of(client, number)?;
-    let name = sought_name(type_name, desc)?;
+    let name = sought_name(tables, type_name, desc)?;
     let (head, from) = tables.look_up(context, head, Want::Granted(Rights::SEARCH))?;
     if dest == 0 {
         return Ok(find_from(tables, context, head, from, &name)?);
@@ -81,7 +82,7 @@ pub fn request(
     ensures memory { IsErrOf result Fault.Memory → has_destination dest ≡ true }
 {
     let context = tables.context_of(client, number)?;
-    let name = sought_name(type_name, desc)?;
+    let name = sought_name(tables, type_name, desc)?;
     if dest == 0 {
         return Ok(request_alone(tables, context, &name)?);
     }
@@ -101,11 +102,11 @@ fn find_beside(
     tables: &Tables,
     context: &Context,
     special: Special,
-    name: &Name,
+    name: &HashedName,
 ) -> Result<Serial, Errno>
     ensures { Is (λ k. k) result (beside special tables.now context.now name.now) }
 {
-    if !special.is_of_name(name) {
+    if !special.is_of_name(name.as_name()) {
         return find_attached(tables, context, name);
     }
     match find_before(tables, context, special, name) {
@@ -119,7 +120,7 @@ fn find_before(
     tables: &Tables,
     context: &Context,
     special: Special,
-    name: &Name,
+    name: &HashedName,
 ) -> Result<Serial, Errno>
     ensures { Is (λ k. k) result (found_before special tables.now context.now name.now) }
 {
@@ -185,7 +186,7 @@ fn linkable<'a>(tables: &'a Tables, context: &Context, serial: Serial) -> Result
 }
 
 /// The key of a name that a search from a head finds.
-fn find(tables: &Tables, context: &Context, head: u32, name: &Name) -> Result<Serial, Errno>
+fn find(tables: &Tables, context: &Context, head: u32, name: &HashedName) -> Result<Serial, Errno>
     ensures { Is (λ k. k) result (found tables.now context.now head name.now) }
 {
     let ring = tables.process_ring(context.process);
@@ -201,7 +202,7 @@ fn find_in(
     context: &Context,
     head: u32,
     key: &Key,
-    name: &Name,
+    name: &HashedName,
 ) -> Result<Serial, Errno>
     ensures { Is (λ k. k) result (found_below tables.now context.now (head, seen key.now) name.now) }
 {
@@ -210,7 +211,7 @@ fn find_in(
 }
 
 /// The key of a name that a request finds.
-fn find_attached(tables: &Tables, context: &Context, name: &Name) -> Result<Serial, Errno>
+fn find_attached(tables: &Tables, context: &Context, name: &HashedName) -> Result<Serial, Errno>
     ensures { Is (λ k. k) result (requested tables.now context.now name.now) }
 {
     let ring = tables.process_ring(context.process);
@@ -225,7 +226,7 @@ fn find_from(
     context: &Context,
     head: u32,
     from: &Key,
-    name: &Name,
+    name: &HashedName,
 ) -> Result<Answer, Errno>
     ensures { Is (λ answer. (tables.now, answer)) result
         (sought_from tables.now context.now (head, seen from.now) name.now) }
@@ -235,7 +236,7 @@ fn find_from(
 }
 
 /// A request that links nothing.
-fn request_alone(tables: &Tables, context: &Context, name: &Name) -> Result<Answer, Errno>
+fn request_alone(tables: &Tables, context: &Context, name: &HashedName) -> Result<Answer, Errno>
     ensures { Is (λ answer. (tables.now, answer)) result
         (found_alone tables.now (requested tables.now context.now name.now)) }
 {

@@ -16,9 +16,9 @@ ghost use Rattle.krs_tables.specs.Linked.{name_in, room_in, displaced_in, Puts, 
 ghost use Rattle.krs_tables.specs.Specials.{Makes, is_coming};
 
 use krs_keys::{Change, Content, Key};
-use krs_links::Links;
+use krs_links::{HashedName, Links};
 use krs_tables::{Special, Tables, check_room};
-use krs_types::{Answer, Errno, Fault, KeyId, Name, Rights, Serial, Want};
+use krs_types::{Answer, Errno, Fault, KeyId, Rights, Serial, Want};
 use std::alloc::AllocError;
 
 /// One link less in a keyring; the key's state and rights do not matter: keyctl(2), KEYCTL_UNLINK.
@@ -181,7 +181,7 @@ pub(crate) fn put_link(tables: &mut Tables, ring: Serial, serial: Serial) -> Res
 }
 
 /// A keyring takes a link under this name: ENFILE where it is full, and no link is displaced. It takes no memory.
-fn check_full(tables: &Tables, ring: Serial, name: &Name) -> Result<(), Errno>
+fn check_full(tables: &Tables, ring: Serial, name: &HashedName) -> Result<(), Errno>
     ensures { Is (λ done. done) result (room_in tables.now.keys ring name.now) }
 {
     if tables.keys.would_refuse(ring, name) {
@@ -195,7 +195,7 @@ fn check_full(tables: &Tables, ring: Serial, name: &Name) -> Result<(), Errno>
 fn put_named(
     tables: &mut Tables,
     ring: Serial,
-    name: Name,
+    name: HashedName,
     serial: Serial,
 ) -> Result<(), AllocError>
     requires named { name_in tables.old serial ≡ Some name }

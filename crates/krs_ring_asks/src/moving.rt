@@ -18,8 +18,9 @@ ghost use Rattle.krs_ring_asks.specs.Moved.{moved_at, moved_new, Moves};
 
 use crate::linking::{check_nesting, check_open, links_of, put_link, take_link};
 use krs_keys::{Content, Key};
+use krs_links::HashedName;
 use krs_tables::{Special, Tables};
-use krs_types::{Answer, Errno, Fault, MOVE_EXCL, Name, Rights, Serial, Want};
+use krs_types::{Answer, Errno, Fault, MOVE_EXCL, Rights, Serial, Want};
 
 /// A link out of one keyring and into another, which is made where it is wanted: keyctl(2), KEYCTL_MOVE. Where both are
 /// one keyring, nothing changes.
@@ -135,7 +136,7 @@ fn check_linked(tables: &Tables, ring: Serial, serial: Serial) -> Result<(), Err
 }
 
 /// An exclusive move displaces no link of that name: EEXIST.
-fn check_free(ring: &Key, name: &Name, flags: u32) -> Result<(), Errno>
+fn check_free(ring: &Key, name: &HashedName, flags: u32) -> Result<(), Errno>
     ensures { Is (λ done. done) result (unless ((flags == 1)
         && is_some (serial_named (named_links_of_content ring.now.content) name.now)) EEXIST) }
 {
@@ -146,12 +147,12 @@ fn check_free(ring: &Key, name: &Name, flags: u32) -> Result<(), Errno>
 }
 
 /// Whether a keyring has a link of that name.
-fn has_link_named(ring: &Key, name: &Name) -> bool
+fn has_link_named(ring: &Key, name: &HashedName) -> bool
     ensures { result ≡ is_some (serial_named (named_links_of_content ring.now.content) name.now) }
 {
     match &ring.content {
         Content::Payload(_) => false,
-        Content::Links(links) => links.find(name).is_some(),
+        Content::Links(links) => links.find_hashed(name).is_some(),
     }
 }
 

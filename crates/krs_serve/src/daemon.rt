@@ -2,6 +2,7 @@ ghost use Rattle.std.specs.Prelude.{◌≡◌, [], All, IfOk, IfErr, OnErr, map,
 ghost use Rattle.std.specs.IoError.{error_kind};
 ghost use Rattle.std.specs.Vec.Iter.{into_iter_items};
 ghost use Rattle.krs_model.specs.State.{starting_at};
+ghost use Rattle.krs_links.specs.Seeded.{random_seed};
 ghost use Rattle.krs_desk.specs.Sitting.{IsIdleAt, fresh_seats};
 ghost use Rattle.krs_serve.specs.declared.choice.Choice.{Choice as ChoiceIs};
 ghost use Rattle.krs_serve.specs.Choice.{IsUnread, LeadsTo};
@@ -185,11 +186,11 @@ pub fn listen<R: Clock + Files + Net + RandomSource + Threads + Wait + Sync, W: 
 /// What the store hashes names from: the system's random source, since the daemon's clients are strangers. Where it
 /// fails, what every store of one's own has.
 fn seed_of<E: Drop>(source: Result<RandomState, E>) -> Seed
-    ensures random { IfOk source (λ state. result ≡ Seed.Random state) }
-    ensures fixed { OnErr source (result ≡ Seed.Fixed) }
+    ensures random { IfOk source (λ state. result ≡ random_seed state) }
+    ensures fixed { OnErr source (result ≡ Seed.FIXED) }
 {
     match source {
-        Ok(state) => Seed::Random(state),
-        Err(_) => Seed::Fixed,
+        Ok(state) => Seed::random(state),
+        Err(_) => Seed::FIXED,
     }
 }

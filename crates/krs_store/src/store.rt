@@ -61,7 +61,7 @@ impl Store {
         requires { 3 ≤ next }
         ensures { result ≡ starting_at next }
     {
-        Store::beginning(alloc, Seed::Fixed, next)
+        Store::beginning(alloc, Seed::FIXED, next)
     }
 
     fn beginning(alloc: Global, seed: Seed, next: u32) -> Self

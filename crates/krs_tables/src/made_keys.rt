@@ -4,14 +4,15 @@ ghost use Rattle.krs_tables.specs.Making.{maker_key, first_content};
 
 use crate::Tables;
 use krs_keys::{Content, Key};
-use krs_types::{Body, Kind, Name, Perm};
+use krs_links::HashedName;
+use krs_types::{Body, Kind, Perm};
 
 impl Tables {
     /// A new key of its maker: add_key(2).
-    pub fn new_key(&self, name: Name, payload: Body, uid: u32, gid: u32) -> Key
+    pub fn new_key(&self, name: HashedName, payload: Body, uid: u32, gid: u32) -> Key
         ensures { result ≡ maker_key name payload uid gid }
     {
-        let kind = name.kind;
+        let kind = name.kind();
         Key {
             name,
             uid,

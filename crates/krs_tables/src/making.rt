@@ -16,7 +16,7 @@ use crate::holding::{check_room, hold_of, make_room};
 use crate::tables::Tables;
 use krs_ctx::Contexts;
 use krs_keys::{Content, Key, LAST_SERIAL};
-use krs_links::{Links, Seed};
+use krs_links::{HashedName, Links, Seed};
 use krs_types::{Answer, Blob, Body, Context, Desc, Errno, Fault, KeyId, Kind, Name, Perm, Serial};
 use std::alloc::{AllocError, Global};
 
@@ -78,11 +78,11 @@ impl Special {
     }
 
     /// It, with these links: profile, masks of new keys.
-    fn key(self, alloc: Global, maker: Maker, links: Links) -> Result<Key, AllocError>
+    fn key(self, alloc: Global, seed: Seed, maker: Maker, links: Links) -> Result<Key, AllocError>
         ensures { IfOk result (λ key. key ≡ ring_key self maker links) }
     {
         Ok(Key {
-            name: self.name(alloc)?,
+            name: HashedName::new(self.name(alloc)?, seed),
             uid: maker.uid,
             gid: maker.gid,
             perm: Perm::OF_KEY,
@@ -106,12 +106,17 @@ impl Special {
 }
 
 /// One link, to this key under its name.
-fn one_link(alloc: Global, seed: Seed, name: &Name, serial: Serial) -> Result<Links, AllocError>
+fn one_link(
+    alloc: Global,
+    seed: Seed,
+    name: &HashedName,
+    serial: Serial,
+) -> Result<Links, AllocError>
     ensures { IfOk result (λ links. links ≡ (name.now, serial) ∷ []) }
 {
     let mut links = Links::new(alloc, seed);
     let name = name.copy(alloc)?;
-    match links.put(name, serial) {
+    match links.put_hashed(name, serial) {
         Ok(_) => Ok(links),
         Err(_) => Err(AllocError),
     }
@@ -200,7 +205,7 @@ impl Tables {
         ensures err { OnErr result (self.new ≡ self.old) }
     {
         let ring = Serial::new(self.keys.next());
-        let key = special.key(self.alloc, maker, links)?;
+        let key = special.key(self.alloc, self.seed, maker, links)?;
         check_room(&self.holders, &linked)?;
         make_room(&mut self.holders, ring)?;
         self.make_walk_room(1)?;
@@ -221,7 +226,7 @@ impl Tables {
         client: u32,
         number: u32,
         special: Special,
-        name: Name,
+        name: HashedName,
         payload: Body,
     ) -> Result<Answer, Fault>
         requires sound { IsSound self.old }
@@ -242,7 +247,7 @@ impl Tables {
         &mut self,
         special: Special,
         maker: Maker,
-        name: Name,
+        name: HashedName,
         payload: Body,
     ) -> Result<Serial, AllocError>
         requires serials { self.old.next_serial ≤ 2147483646 }
@@ -275,14 +280,14 @@ impl Tables {
         special: Special,
         maker: Maker,
         serial: Serial,
-        name: Name,
+        name: HashedName,
         payload: Body,
     ) -> Result<(Key, Key), AllocError>
         ensures ring { IfOk result (λ keys. keys.0 ≡ ring_key special maker ((name, serial) ∷ [])) }
         ensures key { IfOk result (λ keys. keys.1 ≡ maker_key name payload maker.uid maker.gid) }
     {
         let links = one_link(self.alloc, self.seed, &name, serial)?;
-        let ring = special.key(self.alloc, maker, links)?;
+        let ring = special.key(self.alloc, self.seed, maker, links)?;
         Ok((ring, self.new_key(name, payload, maker.uid, maker.gid)))
     }
 }

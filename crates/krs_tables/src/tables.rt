@@ -16,8 +16,8 @@ ghost use Rattle.krs_tables.specs.Granting.{grants_to};
 use krs_ctx::Contexts;
 use krs_hold::Holders;
 use krs_keys::{Change, Key, KeyTable};
-use krs_links::{Links, Seed};
-use krs_types::{Context, Errno, KeyId, Serial, Want};
+use krs_links::{HashedName, Links, Seed};
+use krs_types::{Context, Errno, KeyId, Name, Serial, Want};
 use krs_walk::Walker;
 use krs_watch::WatchQueues;
 use std::alloc::{AllocError, Global};
@@ -175,6 +175,13 @@ impl Tables {
     {
         self.holders.let_go_taken(&self.keys, serial, &change);
         self.keys.set(serial, change);
+    }
+
+    /// A name, hashed for all the look-ups of an ask.
+    pub fn hashed(&self, name: Name) -> HashedName
+        ensures { result ≡ name }
+    {
+        HashedName::new(name, self.seed)
     }
 
     /// The links of a keyring that is made empty.

@@ -15,7 +15,8 @@ use crate::visits::NoRoom;
 use crate::{Visits, Walker};
 use bitflags::Flags;
 use krs_keys::{Content, Key, KeyTable};
-use krs_types::{Caller, Context, Name, Rights, SEARCH_DEPTH, Serial};
+use krs_links::HashedName;
+use krs_types::{Caller, Context, Rights, SEARCH_DEPTH, Serial};
 
 /// So many levels of keyrings are asked first, with no list of what was seen: a key is mostly linked by an attached
 /// keyring, or by one that it links, as the session keyring links the user keyring.
@@ -332,11 +333,11 @@ fn links_key(
 }
 
 /// The serial that is linked under a name.
-pub(crate) fn find_in(content: &Content, name: &Name) -> Option<Serial>
+pub(crate) fn find_in(content: &Content, name: &HashedName) -> Option<Serial>
     ensures { result ≡ serial_named (named_links_of_content content.now) name.now }
 {
     match content {
         Content::Payload(_) => None,
-        Content::Links(links) => links.find(name),
+        Content::Links(links) => links.find_hashed(name),
     }
 }

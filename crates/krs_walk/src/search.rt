@@ -20,7 +20,8 @@ use crate::keyrings::rings_in;
 use crate::visits::NoRoom;
 use crate::{Visits, Walker};
 use krs_keys::{Content, Key, KeyTable};
-use krs_types::{Context, Errno, Name, SEARCH_DEPTH, Serial};
+use krs_links::HashedName;
+use krs_types::{Context, Errno, SEARCH_DEPTH, Serial};
 
 /// A search: among which keys, by which context, its process's keyring, when, and for what.
 #[derive(Clone, Copy)]
@@ -30,7 +31,7 @@ pub(crate) struct Search<'a> {
     pub(crate) context: &'a Context,
     pub(crate) process_ring: Option<Serial>,
     pub(crate) clock: u64,
-    pub(crate) name: &'a Name,
+    pub(crate) name: &'a HashedName,
 }
 
 impl Walker {
@@ -44,7 +45,7 @@ impl Walker {
         process_ring: Option<Serial>,
         clock: u64,
         head: Serial,
-        name: &Name,
+        name: &HashedName,
     ) -> Result<Serial, Errno>
         requires { AreFit keys.now.keys }
         ensures { Is (λ k. k) result
@@ -70,7 +71,7 @@ impl Walker {
         context: &Context,
         process_ring: Option<Serial>,
         clock: u64,
-        name: &Name,
+        name: &HashedName,
     ) -> Result<Serial, Errno>
         requires { AreFit keys.now.keys }
         ensures { Is (λ k. k) result

@@ -182,7 +182,7 @@ fn check_rows(rt: &impl Abort, links: &mut Linked) {
 fn a_link_takes_the_place_of_its_equal(rt: HostRuntime) {
     let mut links = Linked {
         alloc: rt.alloc(),
-        links: Links::new(rt.alloc(), Seed::Fixed),
+        links: Links::new(rt.alloc(), Seed::FIXED),
     };
     check_rows(&rt, &mut links);
 }

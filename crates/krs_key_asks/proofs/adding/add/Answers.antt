@@ -1,4 +1,4 @@
-use Rattle.std.proofs.Common.{◌≡◌, subst, sym, Some, Ok}
+use Rattle.std.proofs.Common.{◌≡◌, ◌∙◌, ℕ, List, ap, subst, sym, Some, Ok}
 use Rattle.std.specs.Int.{w32}
 use Rattle.std.proofs.lemmas.Int.{to_z-of_z}
 use Rattle.krs_types.specs.declared.name.Name.{Name}
@@ -23,7 +23,12 @@ returns-in-Some c =
     rw (sym c.as_slice.ensures, sym c.as_slice-2.ensures, sym c.as_slice-3.ensures) c.in_ok-kind.ensures.name in
     let same = add_made special s c.args.client c.args.number x c.args.type_name c.args.desc c.args.payload name
     c.args.ring new own admits in
+    let named : List ℕ → Name = λ bytes. record { kind = c.in_ok-kind.kind; desc = bytes } in
+    let hashed : c.hashed-name.result ≡ name = c.hashed-name.ensures ∙ ap named c.new.ensures in
     let told : Leads s c.make_adding.result c.make_adding.new.self
     (adding_made special s c.args.client c.args.number name c.args.payload) =
-    rw (sym c.new.ensures, sym c.into_vec.ensures, sym c.new-payload.ensures) c.make_adding.ensures in
+    subst (λ (n : Name). Leads s c.make_adding.result c.make_adding.new.self (adding_made special s c.args.client
+    c.args.number n c.args.payload)) hashed (subst (λ (bytes : List ℕ). Leads s c.make_adding.result
+    c.make_adding.new.self (adding_made special s c.args.client c.args.number c.hashed-name.result bytes))
+    (c.new-payload.ensures ∙ c.into_vec.ensures) c.make_adding.ensures) in
     subst (Leads s c.make_adding.result c.make_adding.new.self) (sym same) told

@@ -24,8 +24,8 @@ returns-in-Links-clause-place c =
     place_told s x c.args.name.now c.args.ring c.in_ok-ring.ring c.in_ok-ring.key.now links found c.in-Links.is
     c.in_ok-ring.ensures.named in
     let key = seen c.in_ok-ring.key.now in
-    let asked : model.by_match s x (c.new.result, key) (serials links) c.find.result
+    let asked : model.by_match s x (c.new.result, key) (serials links) c.find_hashed.result
     ≡ model.by_match s x (c.in_ok-ring.ring, key) (serials links) (serial_named links c.args.name.now) =
-    ap (λ (r : ℕ). model.by_match s x (r, key) (serials links) c.find.result) c.new.ensures
-    ∙ ap (model.by_match s x (c.in_ok-ring.ring, key) (serials links)) c.find.ensures in
+    ap (λ (r : ℕ). model.by_match s x (r, key) (serials links) c.find_hashed.result) c.new.ensures
+    ∙ ap (model.by_match s x (c.in_ok-ring.ring, key) (serials links)) c.find_hashed.ensures in
     subst (Is meant c.by_match.result) (asked ∙ sym told) c.by_match.ensures.place

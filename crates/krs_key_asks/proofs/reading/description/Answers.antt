@@ -12,8 +12,8 @@ new-requires c =
     length-decimal-le 10 key.uid (omega arith) (omega arith) (omega arith) in
     let gid : length (decimal key.gid) ≤ 10 =
     length-decimal-le 10 key.gid (omega arith) (omega arith) (omega arith) in
-    let name : length (kind_name key.name.kind) ≤ 7 = kind_short key.name.kind in
-    let desc : length c.as_slice-desc.result.now ≤ 4095 = c.as_slice-desc.ensures.bound in
+    let name : length (kind_name c.kind-kind.result) ≤ 7 = kind_short c.kind-kind.result in
+    let desc : length c.desc-desc.result.now ≤ 4095 = c.desc-desc.ensures.bound in
     let hex : length c.hex_8.result ≡ 8 = rw c.hex_8.ensures refl in
     let head = simp length-append at (ap length c.in_ok-bytes.ensures) in
     omega (

@@ -1,21 +1,34 @@
 use Rattle.std.proofs.Common.{◌≡◌, [], ◌∷◌, ◌++◌, sym, ◌∙◌, rules}
+use Rattle.krs_links.specs.Indexed.{linked}
 use Rattle.krs_links.proofs.LinksLemmas.{linked_last}
 use Rattle.krs_links.proofs.PlacesLemmas.{AreLists-last_ring, AreLists-last_other}
 use Rattle.krs_links.proofs.lists.append.Goals as goal
 
-pub returns-then-not-is-clause-lists : goal.returns-then-not-is-clause-lists
-returns-then-not-is-clause-lists c =
-    let links = c.args.entries.now.entries in
-    let other = sym c.is.ensures ∙ c.if-not-is.true in
-    AreLists-last_other c.args.name c.args.serial links c.args.rings.now.items _
-    c.requires.lists c.requires.room c.requires.none other
-    (c.in_ok-insert.ensures.links ∙ linked_last c.args.name c.args.serial links c.requires.none)
+pub returns-then-not-is-clause-links : goal.returns-then-not-is-clause-links
+returns-then-not-is-clause-links c =
+    c.in_ok-push.ensures.ok ∙ sym (linked_last c.args.name c.args.serial (linked c.args.index.now) c.requires.none)
 
-pub returns-clause-lists : goal.returns-clause-lists
-returns-clause-lists c =
-    let links = c.args.entries.now.entries in
-    let ring = sym c.is.ensures ∙ c.if-not-is.false in
-    let pushed : c.push.new.self.items ≡ c.args.rings.now.items ++ c.args.serial ∷ [] = search rules in
-    AreLists-last_ring c.args.name c.args.serial links c.args.rings.now.items _ _
-    c.requires.lists c.requires.room c.requires.none ring
-    (c.in_ok-insert-2.ensures.links ∙ linked_last c.args.name c.args.serial links c.requires.none) pushed
+pub returns-then-not-is-clause-found : goal.returns-then-not-is-clause-found
+returns-then-not-is-clause-found c =
+    let links = linked c.args.index.now in
+    let other = rw c.kind.ensures at (sym c.is.ensures ∙ c.if-not-is.true) in
+    record {
+      lists = AreLists-last_other c.args.name c.args.serial links c.args.rings.now.items _
+          c.requires.found.lists c.requires.room c.requires.none other c.in_ok-push.ensures.ok;
+      indexed = c.in_ok-push.ensures.indexed;
+    }
+
+pub returns-clause-links : goal.returns-clause-links
+returns-clause-links c =
+    c.in_ok-push-2.ensures.ok ∙ sym (linked_last c.args.name c.args.serial (linked c.args.index.now) c.requires.none)
+
+pub returns-clause-found : goal.returns-clause-found
+returns-clause-found c =
+    let links = linked c.args.index.now in
+    let ring = rw c.kind.ensures at (sym c.is.ensures ∙ c.if-not-is.false) in
+    let pushed : c.push-3.new.self.items ≡ c.args.rings.now.items ++ c.args.serial ∷ [] = search rules in
+    record {
+      lists = AreLists-last_ring c.args.name c.args.serial links c.args.rings.now.items _ _
+          c.requires.found.lists c.requires.room c.requires.none ring c.in_ok-push-2.ensures.ok pushed;
+      indexed = c.in_ok-push-2.ensures.indexed;
+    }

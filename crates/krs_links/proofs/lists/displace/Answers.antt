@@ -1,35 +1,41 @@
-use Rattle.std.proofs.Common.{◌∙◌, ◌&&◌, ℕ, sym, ap, rules}
+use Rattle.std.proofs.Common.{◌∙◌, ◌&&◌, ℕ, ap}
 use Rattle.std.specs.Option.{is_none}
-use Rattle.std.proofs.lemmas.Option.{none-some}
 use Rattle.krs_types.specs.declared.name.Name.{Name}
 use Rattle.krs_links.specs.Links.{is_full}
-use Rattle.krs_links.proofs.PlacesLemmas.{linked_as_at, AreLists-displaced}
+use Rattle.krs_links.specs.Indexed.{linked}
+use Rattle.krs_links.proofs.PlacesLemmas.{linked_as_at, serial_at_named, AreLists-displaced}
 use Rattle.krs_links.proofs.IndexLemmas.{never_both}
+use Rattle.krs_links.proofs.IndexedLemmas.{linked_in-set}
+use Rattle.krs_links.proofs.lists.displace.Goals.{After-set_serial}
 use Rattle.krs_links.proofs.lists.displace.Goals as goal
 
-pub unreachable-requires : goal.unreachable-requires
-unreachable-requires c =
-    let link : Name × ℕ = (c.args.name, c.args.serial) in
-    absurd (none-some _ (sym c.in-Err.ensures.absent
-    ∙ linked_as_at c.args.name c.args.entries.now.entries c.args.place link c.requires.place))
+pub set_serial-requires : goal.set_serial-requires
+set_serial-requires c = record { indexed = c.requires.found.indexed }
+
+pub returns-clause-displaced : goal.returns-clause-displaced
+returns-clause-displaced c =
+    c.serial_at-displaced.ensures
+    ∙ serial_at_named c.args.name.now (linked c.args.index.now) c.args.place c.requires.place
 
 pub returns-clause-room : goal.returns-clause-room
 returns-clause-room c =
-    let link : Name × ℕ = (c.args.name, c.args.serial) in
-    let links = c.args.entries.now.entries in
-    ap (λ found. is_full links && is_none found) (linked_as_at c.args.name links c.args.place link c.requires.place)
+    let link : Name × ℕ = (c.args.name.now, c.args.serial) in
+    let links = linked c.args.index.now in
+    ap (λ found. is_full links && is_none found) (linked_as_at c.args.name.now links c.args.place link c.requires.place)
     ∙ never_both (is_full links)
 
-pub returns-clause-lists : goal.returns-clause-lists
-returns-clause-lists c =
-    let links = c.args.entries.now.entries in
-    let after = c.displace_ring.new.rings.items in
-    rw c.in-Ok.ensures.links
-    (AreLists-displaced c.args.name c.args.serial links c.args.rings.now.items after c.args.place
-    c.requires.lists c.requires.place c.displace_ring.ensures)
-
-pub returns-clause-displaced : goal.returns-clause-displaced
-returns-clause-displaced c = search rules
-
 pub returns-clause-links : goal.returns-clause-links
-returns-clause-links c = search rules
+returns-clause-links c =
+    c.set_serial.ensures.links
+    ∙ linked_in-set c.args.name.now c.args.serial c.args.index.now.entries.entries c.args.place c.requires.place
+
+pub returns-clause-found : goal.returns-clause-found
+returns-clause-found c =
+    let links = linked c.args.index.now in
+    let after = c.displace_ring.new.rings.items in
+    record {
+      lists = rw (returns-clause-links c)
+          (AreLists-displaced c.args.name.now c.args.serial links c.args.rings.now.items after c.args.place
+          c.requires.found.lists c.requires.place (rw c.as_name.ensures at c.displace_ring.ensures));
+      indexed = c.set_serial.ensures.indexed;
+    }

@@ -1,9 +1,12 @@
-use Rattle.std.proofs.Common.{◌∙◌}
-use Rattle.krs_links.proofs.IndexLemmas.{lookup_named}
+use Rattle.std.proofs.Common.{◌∙◌, sym}
+use Rattle.krs_links.specs.Indexed.{linked}
+use Rattle.krs_links.proofs.PlacesLemmas.{serial_at_named, none_at}
 use Rattle.krs_links.proofs.lists.find.Goals as goal
 
 pub returns-in-Some : goal.returns-in-Some
-returns-in-Some c = c.in-Some.ensures.value ∙ lookup_named c.args.entries.now.entries c.args.name.now
+returns-in-Some c =
+    c.serial_at.ensures
+    ∙ serial_at_named c.args.name.now (linked c.args.index.now) c.in-Some.place (sym c.in-Some.ensures)
 
 pub returns-in-None : goal.returns-in-None
-returns-in-None c = c.in-None.ensures.value ∙ lookup_named c.args.entries.now.entries c.args.name.now
+returns-in-None c = sym (none_at c.args.name.now (linked c.args.index.now) (sym c.in-None.ensures))

@@ -1,12 +1,13 @@
 use Rattle.std.proofs.Common.{sym}
-use Rattle.std.proofs.lemmas.Bool.{false≢true}
-use Rattle.krs_links.proofs.IndexLemmas.{rings_one_more}
+use Rattle.krs_links.specs.Indexed.{linked}
+use Rattle.krs_links.proofs.IndexLemmas.{rings_one_more, link_named_at, names_within}
 use Rattle.krs_links.proofs.lists.is_ring_at.Goals as goal
 
 pub returns-in-Some : goal.returns-in-Some
 returns-in-Some c =
+    let links = linked c.args.index.now in
     rw c.is.ensures
-    (rings_one_more c.args.entries.now.entries c.args.place _ (sym c.in-Some.ensures.entry))
+    (rings_one_more links c.args.place _ (link_named_at links c.args.place c.in-Some.name.now (sym c.in-Some.ensures)))
 
 pub returns-in-None : goal.returns-in-None
-returns-in-None c = absurd (false≢true (c.in-None.ensures.found.1 c.requires))
+returns-in-None c = absurd (names_within (linked c.args.index.now) c.args.place c.requires (sym c.in-None.ensures))

@@ -25,7 +25,7 @@ found content links name place at_place at_name is placed there reads =
 pub returns-in_default-clause-none : goal.returns-in_default-clause-none
 returns-in_default-clause-none c = λ h.
     none-some c.args.serial
-    (sym (none_at c.args.name.now c.in-Links.links (sym c.place_of.ensures ∙ c.in_default.is))
+    (sym (none_at c.args.name.now c.in-Links.links (sym c.place_of_hashed.ensures ∙ c.in_default.is))
     ∙ (told c.args.self.now.content c.in-Links.links c.args.name.now c.in-Links.is ∙ h))
 
 pub returns-in_default-serial_at-clause-none : goal.returns-in_default-serial_at-clause-none
@@ -33,7 +33,7 @@ returns-in_default-serial_at-clause-none c = λ h.
     none-some c.args.serial
     (sym c.in_default-serial_at.is
     ∙ (found c.args.self.now.content c.in-Links.links c.args.name.now c.in-Some.place c.serial_at.result
-    c.place_of.result c.in-Links.is c.place_of.ensures c.in-Some.is c.serial_at.ensures ∙ h))
+    c.place_of_hashed.result c.in-Links.is c.place_of_hashed.ensures c.in-Some.is c.serial_at.ensures ∙ h))
 
 pub returns-else-number-clause-none : goal.returns-else-number-clause-none
 returns-else-number-clause-none c = λ h.
@@ -42,7 +42,7 @@ returns-else-number-clause-none c = λ h.
     ∙ (same_Some c.in-Some-serial_at.linked c.args.serial
     (sym c.in-Some-serial_at.is
     ∙ (found c.args.self.now.content c.in-Links.links c.args.name.now c.in-Some.place c.serial_at.result
-    c.place_of.result c.in-Links.is c.place_of.ensures c.in-Some.is c.serial_at.ensures ∙ h))
+    c.place_of_hashed.result c.in-Links.is c.place_of_hashed.ensures c.in-Some.is c.serial_at.ensures ∙ h))
     ∙ sym c.number-in-Links.ensures))
 
 pub returns-then-number-clause-there : goal.returns-then-number-clause-there

@@ -69,7 +69,7 @@ returns-in-Some-clause-error c =
     if_err c.link.result (λ e h. h ∙ ap (λ o. link_error (named_links_of_key o) c.args.name) (sym (here c)))
     c.link.ensures.error
 
-nothing : (c : goal.After-drop-name) → at (by_place c.args.self.now) c.args.ring ≡ None
+nothing : (c : goal.After-drop-name-inside) → at (by_place c.args.self.now) c.args.ring ≡ None
 nothing c =
     let slots = c.args.self.now.slots.slots in
     at_in_slots slots c.args.self.now.places.entries c.args.ring ∙ ap (found slots) (sym c.in-None.ensures)

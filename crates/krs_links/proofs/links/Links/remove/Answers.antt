@@ -2,6 +2,7 @@ use Rattle.std.proofs.Common.{◌≡◌, ◌∙◌, ap, sym}
 use Rattle.std.specs.Option.{ok_or}
 use Rattle.krs_types.specs.declared.errno.Errno.TheVariants.{ENOENT}
 use Rattle.krs_links.specs.Links.{serial_named}
+use Rattle.krs_links.specs.Indexed.{linked}
 use Rattle.krs_links.proofs.LinksLemmas.{unlinked_none}
 use Rattle.krs_links.proofs.PlacesLemmas.{serial_at_named, unlinked_at, linked_as_at}
 use Rattle.krs_links.proofs.links.Links.remove.Goals.{After-ok_or}
@@ -9,14 +10,14 @@ use Rattle.krs_links.proofs.links.Links.remove.Goals as goal
 
 pub returns-in_default-clause-links : goal.returns-in_default-clause-links
 returns-in_default-clause-links c =
-    rw (← c.self.view_is) (sym (unlinked_none c.args.name.now c.self.inside.entries.entries c.in_default.ensures.none))
+    rw (← c.self.view_is) (sym (unlinked_none c.args.name.now (linked c.self.inside.entries) c.in_default.ensures.none))
 
 -- the serial at the place of the name is the one that is linked under it
 named : (c : After-ok_or) → c.remove_at.result ≡ serial_named c.args.self.now c.args.name.now
 named c =
     rw (← c.self.view_is)
     (c.remove_at.ensures.removed
-    ∙ serial_at_named c.args.name.now c.self.inside.entries.entries c.in-Some.place (sym c.in-Some.ensures.place))
+    ∙ serial_at_named c.args.name.now (linked c.self.inside.entries) c.in-Some.place (sym c.in-Some.ensures.place))
 
 pub returns-clause-value : goal.returns-clause-value
 returns-clause-value c = c.ok_or.ensures.value ∙ ap (λ found. ok_or found ENOENT) (named c)
@@ -25,15 +26,15 @@ pub returns-clause-links : goal.returns-clause-links
 returns-clause-links c =
     rw (← c.self.view_is)
     (c.remove_at.ensures.links
-    ∙ unlinked_at c.args.name.now c.self.inside.entries.entries c.in-Some.place (c.args.name.now, 0)
-    c.self.invariant.unique (sym c.in-Some.ensures.place))
+    ∙ unlinked_at c.args.name.now (linked c.self.inside.entries) c.in-Some.place (c.args.name.now, 0)
+    c.self.invariant.lists.unique (sym c.in-Some.ensures.place))
 
 pub returns-clause-err : goal.returns-clause-err
 returns-clause-err c =
     rw (
       c.ok_or.ensures.value,
       c.remove_at.ensures.removed,
-      serial_at_named c.args.name.now c.self.inside.entries.entries c.in-Some.place (sym c.in-Some.ensures.place),
-      linked_as_at c.args.name.now c.self.inside.entries.entries c.in-Some.place (c.args.name.now, 0)
+      serial_at_named c.args.name.now (linked c.self.inside.entries) c.in-Some.place (sym c.in-Some.ensures.place),
+      linked_as_at c.args.name.now (linked c.self.inside.entries) c.in-Some.place (c.args.name.now, 0)
           (sym c.in-Some.ensures.place),
     ) tt

@@ -1,0 +1,15 @@
+use Rattle.std.proofs.Common.{◌∙◌, ℕ, ap, sym}
+use Rattle.std.specs.Option.{option_map}
+use Rattle.krs_links.specs.declared.index.Link.{Link}
+use Rattle.krs_links.proofs.IndexedLemmas.{name_in}
+use Rattle.krs_links.proofs.index.LinkIndex.name_at.Goals as goal
+
+pub returns-in-Some : goal.returns-in-Some
+returns-in-Some c =
+    ap (option_map (λ (entry : ℕ × Link). entry.1.name)) c.in-Some.ensures.entry
+    ∙ sym (name_in c.args.self.now.entries.entries c.args.place)
+
+pub returns-in-None : goal.returns-in-None
+returns-in-None c =
+    ap (option_map (λ (entry : ℕ × Link). entry.1.name)) c.in-None.ensures.entry
+    ∙ sym (name_in c.args.self.now.entries.entries c.args.place)

@@ -1,0 +1,218 @@
+//! The links of a keyring in link order, with an index from what their names hash to.
+ghost use Rattle.std.specs.Prelude.{◌≡◌, ◌<◌, [], ◌∷◌, ◌++◌, length, nat_eq, slice_get, None, IfSome, IfNone, OnOk, OnErr};
+ghost use Rattle.std.specs.List.{remove};
+ghost use Rattle.std.specs.Option.{option_copied};
+ghost use Rattle.indexmap.specs.IndexMap.{get};
+ghost use Rattle.krs_links.specs.Seeded.{name_digest};
+ghost use Rattle.krs_links.specs.Links.{place_of, names, serials, IsUnique};
+ghost use Rattle.krs_links.specs.Indexed.{linked, linked_in, behind, with_serial_at};
+ghost use Rattle.krs_links.specs.Indexed.{IsIndexed, StandsNot};
+
+use crate::{HashedName, Seed};
+use indexmap::IndexMap;
+use krs_types::{Name, Serial};
+use std::alloc::{AllocError, Global};
+
+/// No more steps are tried: there are fewer links than these.
+const STEPS: usize = 65536;
+
+/// A link: a name, and the serial that is linked under it.
+#[derive(Drop)]
+pub(crate) struct Link {
+    name: Name,
+    serial: Serial,
+}
+
+/// The links by what their names hash to. Where two names hash alike, which hardly ever happens, the later one stands
+/// some steps behind that.
+#[derive(Drop)]
+pub(crate) struct LinkIndex {
+    entries: IndexMap<u64, Link>,
+    /// Each stands fewer steps than these behind what its name hashes to.
+    span: usize,
+    seed: Seed,
+}
+
+impl LinkIndex {
+    /// No links. It takes no memory.
+    pub(crate) fn new(alloc: Global, seed: Seed) -> Self
+        ensures links { linked result ≡ [] }
+        ensures indexed { IsIndexed result }
+    {
+        LinkIndex {
+            entries: IndexMap::new(alloc),
+            span: 0,
+            seed,
+        }
+    }
+
+    pub(crate) fn len(&self) -> usize
+        ensures { result ≡ length (linked self.now) }
+    {
+        self.entries.len()
+    }
+
+    pub(crate) fn seed(&self) -> Seed {
+        self.seed
+    }
+
+    /// What a name hashes to here.
+    pub(crate) fn digest_of(&self, name: &Name) -> u64
+        ensures { result ≡ name_digest self.now.seed name.now }
+    {
+        self.seed.digest_of(name)
+    }
+
+    /// The same of a name that was hashed.
+    pub(crate) fn digest_in(&self, name: &HashedName) -> u64
+        ensures { result ≡ name_digest self.now.seed name.now }
+    {
+        name.digest_from(&self.seed)
+    }
+
+    /// The name of the link at a place.
+    pub(crate) fn name_at(&self, place: usize) -> Option<&Name>
+        ensures { option_copied result ≡ slice_get (names (linked self.now)) place }
+    {
+        match self.entries.get_index(place) {
+            Some(entry) => Some(&entry.1.name),
+            None => None,
+        }
+    }
+
+    /// The serial of the link at a place.
+    pub(crate) fn serial_at(&self, place: usize) -> Option<Serial>
+        ensures { result ≡ slice_get (serials (linked self.now)) place }
+    {
+        match self.entries.get_index(place) {
+            Some(entry) => Some(entry.1.serial),
+            None => None,
+        }
+    }
+
+    /// Where the link of a name stands.
+    pub(crate) fn place_of(&self, name: &Name, digest: u64) -> Option<usize>
+        requires indexed { IsIndexed self.now }
+        requires unique { IsUnique (linked self.now) }
+        requires digest { digest ≡ name_digest self.now.seed name.now }
+        ensures { result ≡ place_of name.now (linked self.now) }
+    {
+        let _len = self.entries.len();
+        for steps in 0..self.span {
+            if let Some(place) = place_under(&self.entries, behind(digest, steps), name) {
+                return Some(place);
+            }
+        }
+        None
+    }
+
+    /// A link under a new name, last.
+    pub(crate) fn push(&mut self, name: HashedName, serial: Serial) -> Result<(), AllocError>
+        requires indexed { IsIndexed self.old }
+        ensures indexed { IsIndexed self.new }
+        ensures ok { OnOk result (linked self.new ≡ linked self.old ++ (name, serial) ∷ []) }
+        ensures err { OnErr result (linked self.new ≡ linked self.old) }
+    {
+        let digest = self.digest_in(&name);
+        let Some(steps) = free_steps(&self.entries, digest) else {
+            return Err(AllocError);
+        };
+        let link = Link {
+            name: name.into_name(),
+            serial,
+        };
+        put_new(&mut self.entries, behind(digest, steps), link)?;
+        self.span = self.span.max(steps + 1);
+        Ok(())
+    }
+
+    /// Another serial in the link at a place.
+    pub(crate) fn set_serial(&mut self, place: usize, serial: Serial)
+        requires indexed { IsIndexed self.old }
+        ensures indexed { IsIndexed self.new }
+        ensures links { linked self.new
+            ≡ linked_in (with_serial_at self.old.entries.entries place serial) }
+    {
+        set_serial(&mut self.entries, place, serial);
+    }
+
+    /// Without the link at a place, whose serial is answered.
+    pub(crate) fn remove(&mut self, place: usize) -> Option<Serial>
+        requires indexed { IsIndexed self.old }
+        ensures indexed { IsIndexed self.new }
+        ensures removed { result ≡ slice_get (serials (linked self.old)) place }
+        ensures links { linked self.new ≡ remove (linked self.old) place }
+    {
+        match self.entries.shift_remove_index(place) {
+            Some((_number, link)) => Some(link.serial),
+            None => None,
+        }
+    }
+
+    /// Without any link. The memory is given back.
+    pub(crate) fn clear(&mut self)
+        ensures indexed { IsIndexed self.new }
+        ensures links { linked self.new ≡ [] }
+    {
+        self.entries.clear();
+        self.entries.shrink_to_fit();
+        self.span = 0;
+    }
+}
+
+/// So many steps behind a digest.
+#[tactic(auto, unfolding(crate::specs::Indexed::behind))]
+fn behind(digest: u64, steps: usize) -> u64
+    ensures { result ≡ behind digest steps }
+{
+    digest.wrapping_add(steps as u64)
+}
+
+/// The place of the link under a number, where it has this name.
+fn place_under(entries: &IndexMap<u64, Link>, number: u64, name: &Name) -> Option<usize>
+    requires { IsUnique (linked_in entries.now.entries) }
+    ensures there { IfSome result (λ place. place_of name.now (linked_in entries.now.entries) ≡ Some place) }
+    ensures none { IfNone result (StandsNot name.now entries.now.entries number) }
+{
+    let Some((place, _, link)) = entries.get_full(&number) else {
+        return None;
+    };
+    if *name == link.name {
+        Some(place)
+    } else {
+        None
+    }
+}
+
+/// How many steps behind a digest nothing stands. There always are some.
+fn free_steps(entries: &IndexMap<u64, Link>, digest: u64) -> Option<usize>
+    ensures free { IfSome result (λ steps. get nat_eq entries.now (behind digest steps) ≡ None) }
+    ensures bound { IfSome result (λ steps. steps < 65536) }
+{
+    for steps in 0..STEPS {
+        if !entries.contains_key(&behind(digest, steps)) {
+            return Some(steps);
+        }
+    }
+    None
+}
+
+/// A link under a number under which none stands, last.
+fn put_new(entries: &mut IndexMap<u64, Link>, number: u64, link: Link) -> Result<(), AllocError>
+    requires { get nat_eq entries.old number ≡ None }
+    ensures ok { OnOk result (entries.new.entries ≡ entries.old.entries ++ (number, link) ∷ []) }
+    ensures err { OnErr result (entries.new.entries ≡ entries.old.entries) }
+{
+    entries.insert(number, link)?;
+    Ok(())
+}
+
+/// Another serial in the link at a place.
+fn set_serial(entries: &mut IndexMap<u64, Link>, place: usize, serial: Serial)
+    ensures { entries.new.entries ≡ with_serial_at entries.old.entries place serial }
+{
+    match entries.get_index_mut(place) {
+        Some(link) => link.serial = serial,
+        None => {}
+    }
+}
