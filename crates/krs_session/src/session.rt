@@ -85,7 +85,7 @@ fn answer_cut<H, W: Sink, S, D: Keeper<S, H>, C: Clock, G: Gate>(
     writer: &mut W,
     seat: &mut S,
     clock: &mut C,
-    frames: VecDeque<Framed>,
+    frames: Vec<Framed>,
 ) -> Option<Ended>
     requires ready { D.ready setting.now.desk.now seat.old }
     requires failures { W.failures writer.old < u64.MAX }
@@ -96,9 +96,9 @@ fn answer_cut<H, W: Sink, S, D: Keeper<S, H>, C: Clock, G: Gate>(
     ensures ready { D.ready setting.now.desk.now seat.new }
     ensures lane { D.lane_of seat.new ≡ D.lane_of seat.old }
 {
-    let mut frames = frames;
+    let mut frames = VecDeque::from(frames);
     let stop = answer_fed(setting, feed, told, out, writer, seat, clock, &mut frames);
-    feed.reuse(frames);
+    feed.reuse(Vec::from(frames));
     stop
 }
 

@@ -6,7 +6,6 @@ use crate::asks::front_at;
 use crate::reserve::{RESERVE, Reserve};
 use crate::{Framed, WireFault};
 use std::alloc::Global;
-use std::collections::VecDeque;
 use std::marker::Model;
 use std::{mem, thread};
 
@@ -30,7 +29,7 @@ pub struct Feed {
     reserve: Reserve,
 
     // Room for the frames of the next piece.
-    room: VecDeque<Framed>,
+    room: Vec<Framed>,
 }
 
 impl Model for Feed {
@@ -50,7 +49,7 @@ struct Cut {
 }
 
 /// Cuts bytes into frames. What stands in `frames` before means nothing.
-fn cut_stream(alloc: Global, bytes: &[u8], frames: &mut VecDeque<Framed>) -> Result<Cut, WireFault>
+fn cut_stream(alloc: Global, bytes: &[u8], frames: &mut Vec<Framed>) -> Result<Cut, WireFault>
     ensures frames { IfOk result
         (λ c. Frames bytes.now frames.new.items (end_of c.fault (drop c.taken bytes.now))) }
     ensures within { IfOk result (λ c. c.taken ≤ length bytes.now) }
@@ -68,7 +67,7 @@ fn cut_stream(alloc: Global, bytes: &[u8], frames: &mut VecDeque<Framed>) -> Res
                 });
             }
             Ok(Some((framed, more))) => {
-                frames.push_back(framed)?;
+                frames.push(framed)?;
                 after = more;
             }
             Err(fault) => {
@@ -105,7 +104,7 @@ fn take_alone(
     alloc: Global,
     left: &mut Vec<u8>,
     piece: &[u8],
-    frames: &mut VecDeque<Framed>,
+    frames: &mut Vec<Framed>,
 ) -> Result<Option<WireFault>, WireFault>
     requires nothing { left.old.items ≡ [] }
     ensures frames { IfOk result (λ fault. Frames piece.now frames.new.items (end_of fault left.new.items)) }
@@ -123,7 +122,7 @@ fn take_once(
     alloc: Global,
     left: &mut Vec<u8>,
     piece: &[u8],
-    frames: &mut VecDeque<Framed>,
+    frames: &mut Vec<Framed>,
 ) -> Result<Option<WireFault>, WireFault>
     ensures frames { IfOk result
         (λ fault. Frames (left.old.items ++ piece.now) frames.new.items (end_of fault left.new.items)) }
@@ -155,7 +154,7 @@ fn take_in(
     left: &mut Vec<u8>,
     reserve: &mut Reserve,
     piece: &[u8],
-    frames: &mut VecDeque<Framed>,
+    frames: &mut Vec<Framed>,
 ) -> Result<Option<WireFault>, WireFault>
     ensures frames { IfOk result
         (λ fault. Frames (left.old.items ++ piece.now) frames.new.items (end_of fault left.new.items)) }
@@ -187,7 +186,7 @@ impl Feed {
             left: Vec::new(alloc),
             fault: None,
             reserve: Reserve::new(alloc),
-            room: VecDeque::new(alloc),
+            room: Vec::new(alloc),
         }
     }
 
@@ -221,7 +220,7 @@ impl Feed {
     /// Takes the next piece of the stream, and answers the frames that are whole now. A fault behind them shows in
     /// `fault`, and is what every later piece is answered with. A piece that is refused for lack of memory is not
     /// taken, and the feed has failed.
-    pub fn feed(&mut self, piece: &[u8]) -> Result<VecDeque<Framed>, WireFault>
+    pub fn feed(&mut self, piece: &[u8]) -> Result<Vec<Framed>, WireFault>
         ensures frames { IfOk result (λ frames. Feeds self.old piece.now frames.items self.new) }
         ensures refused { IfErr result (Refuses self.old piece.now) }
         ensures failed { IfErr result (λ fault. self.new ≡ bad fault) }
@@ -231,7 +230,7 @@ impl Feed {
         if let Some(fault) = self.fault {
             return Err(fault);
         }
-        let mut frames = mem::replace(&mut self.room, VecDeque::new(self.alloc));
+        let mut frames = mem::replace(&mut self.room, Vec::new(self.alloc));
         match take_in(
             self.alloc,
             &mut self.left,
@@ -255,7 +254,7 @@ impl Feed {
         }
     }
     /// Takes a list that `feed` answered back, whose room then serves the next piece. What still stands there is dropped.
-    pub fn reuse(&mut self, frames: VecDeque<Framed>)
+    pub fn reuse(&mut self, frames: Vec<Framed>)
         ensures { self.new ≡ self.old }
     {
         self.room = frames;

@@ -125,7 +125,7 @@ fn is_answered(alloc: Global, op: &Op, form: Form) -> Result<bool, WireFault> {
 
 /// Whether the frame is read as one ask, which is encoded and answered so.
 fn is_encoded(alloc: Global, frame: &[u8], text: &str, form: Form) -> Result<bool, WireFault> {
-    let frames = Vec::from(Feed::new(alloc).feed(frame)?);
+    let frames = Feed::new(alloc).feed(frame)?;
     let [framed] = frames.as_slice() else {
         return Ok(false);
     };
@@ -142,7 +142,7 @@ fn is_encoded_with_tag(alloc: Global, frame: &[u8], text: &str) -> Result<bool, 
     if let Some(version) = tagged.get_mut(4) {
         *version = 2;
     }
-    let frames = Vec::from(Feed::new(alloc).feed(&tagged)?);
+    let frames = Feed::new(alloc).feed(&tagged)?;
     let [framed] = frames.as_slice() else {
         return Ok(false);
     };
