@@ -9,6 +9,7 @@ use crate::{Clock, Ended, Gate, Keeper, Point, Sink};
 use krs_types::{Ask, Reply};
 use krs_wire::Framed;
 use std::alloc::Global;
+use std::collections::VecDeque;
 
 /// What stays the same over a session: the runtime of the desk's calls, the memory, the desk and the gate.
 #[derive(Drop)]
@@ -71,32 +72,32 @@ fn answer_one<H, W: Sink, S, D: Keeper<S, H>, C: Clock, G: Gate>(
     }
 }
 
-/// Asks what all the frames ask. The replies are held or written while nothing stops the writing.
+/// Asks what all the frames ask, which are taken out. The replies are held or written while nothing stops the writing.
 fn ask_all<H, W: Sink, S, D: Keeper<S, H>, C: Clock, G: Gate>(
     setting: &Setting<'_, H, D, G>,
     writer: &mut W,
     out: &mut Vec<u8>,
     seat: &mut S,
     clock: &mut C,
-    frames: Vec<Framed>,
+    frames: &mut VecDeque<Framed>,
 ) -> Option<Ended>
     requires ready { D.ready setting.now.desk.now seat.old }
     requires failures { W.failures writer.old < u64.MAX }
     requires empty { out.old.items ≡ [] }
     ensures holds { Holds D.leads C.ticked W.took (D.lane_of seat.old) seat.old seat.new clock.old clock.new
-        writer.old writer.new out.new.items frames.items result }
+        writer.old writer.new out.new.items frames.old.items result }
     ensures count { StopsBy (W.failures writer.old) (W.failures writer.new) result }
     ensures ready { D.ready setting.now.desk.now seat.new }
     ensures lane { D.lane_of seat.new ≡ D.lane_of seat.old }
 {
     let mut stop = None;
-    'frames: for framed in frames {
+    'frames: while let Some(framed) = frames.pop_front() {
         stop = answer_one(setting, writer, out, seat, clock, framed, stop);
     }
     stop
 }
 
-/// Asks what all the frames ask, and writes the replies together while nothing stops it. `out` is room for those that
+/// Asks what all the frames ask, which are taken out, and writes the replies together while nothing stops it. `out` is room for those that
 /// are not written yet: what stands there before means nothing.
 pub(crate) fn answer_all<H, W: Sink, S, D: Keeper<S, H>, C: Clock, G: Gate>(
     setting: &Setting<'_, H, D, G>,
@@ -104,12 +105,12 @@ pub(crate) fn answer_all<H, W: Sink, S, D: Keeper<S, H>, C: Clock, G: Gate>(
     out: &mut Vec<u8>,
     seat: &mut S,
     clock: &mut C,
-    frames: Vec<Framed>,
+    frames: &mut VecDeque<Framed>,
 ) -> Option<Ended>
     requires ready { D.ready setting.now.desk.now seat.old }
     requires failures { W.failures writer.old < u64.MAX }
     ensures answers { Answers D.leads C.ticked W.took (D.lane_of seat.old)
-        seat.old seat.new clock.old clock.new writer.old writer.new frames.items result }
+        seat.old seat.new clock.old clock.new writer.old writer.new frames.old.items result }
     ensures count { StopsBy (W.failures writer.old) (W.failures writer.new) result }
     ensures ready { D.ready setting.now.desk.now seat.new }
     ensures lane { D.lane_of seat.new ≡ D.lane_of seat.old }

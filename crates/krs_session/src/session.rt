@@ -10,6 +10,7 @@ use crate::{Clock, Ended, Gate, Keeper, Sink, Source};
 use krs_types::{Ask, Op};
 use krs_wire::{Feed, Framed, RESERVE, WireFault};
 use std::alloc::Global;
+use std::collections::VecDeque;
 
 /// How many bytes a turn reads at most: docs/FORMAT.md, "A connection".
 const READ_SIZE: usize = 4096;
@@ -59,12 +60,12 @@ fn answer_fed<H, W: Sink, S, D: Keeper<S, H>, C: Clock, G: Gate>(
     writer: &mut W,
     seat: &mut S,
     clock: &mut C,
-    frames: Vec<Framed>,
+    frames: &mut VecDeque<Framed>,
 ) -> Option<Ended>
     requires ready { D.ready setting.now.desk.now seat.old }
     requires failures { W.failures writer.old < u64.MAX }
     ensures answers { Answers D.leads C.ticked W.took (D.lane_of seat.old)
-        seat.old seat.new clock.old clock.new writer.old writer.new frames.items result }
+        seat.old seat.new clock.old clock.new writer.old writer.new frames.old.items result }
     ensures count { StopsBy (W.failures writer.old) (W.failures writer.new) result }
     ensures feed { feed.new ≡ feed.old }
     ensures ready { D.ready setting.now.desk.now seat.new }
@@ -78,6 +79,32 @@ fn answer_fed<H, W: Sink, S, D: Keeper<S, H>, C: Clock, G: Gate>(
     let stop = answer_all(setting, writer, out, seat, clock, frames);
     feed.restock();
     setting.desk.tell_lack(told, feed.lacking() as u64);
+    stop
+}
+
+/// Asks what all the frames ask, and writes the replies. The feed has the room of the frames back then.
+fn answer_cut<H, W: Sink, S, D: Keeper<S, H>, C: Clock, G: Gate>(
+    setting: &Setting<'_, H, D, G>,
+    feed: &mut Feed,
+    told: &mut u64,
+    out: &mut Vec<u8>,
+    writer: &mut W,
+    seat: &mut S,
+    clock: &mut C,
+    frames: Vec<Framed>,
+) -> Option<Ended>
+    requires ready { D.ready setting.now.desk.now seat.old }
+    requires failures { W.failures writer.old < u64.MAX }
+    ensures answers { Answers D.leads C.ticked W.took (D.lane_of seat.old)
+        seat.old seat.new clock.old clock.new writer.old writer.new frames.items result }
+    ensures count { StopsBy (W.failures writer.old) (W.failures writer.new) result }
+    ensures feed { feed.new ≡ feed.old }
+    ensures ready { D.ready setting.now.desk.now seat.new }
+    ensures lane { D.lane_of seat.new ≡ D.lane_of seat.old }
+{
+    let mut frames = VecDeque::from(frames);
+    let stop = answer_fed(setting, feed, told, out, writer, seat, clock, &mut frames);
+    feed.reuse(Vec::from(frames));
     stop
 }
 
@@ -107,7 +134,7 @@ fn serve_piece<H, W: Sink, S, D: Keeper<S, H>, C: Clock, G: Gate>(
             WireFault::Memory => Some(Ended::Memory),
             _ => Some(Ended::Wire(fault)),
         },
-        Ok(frames) => match answer_fed(setting, feed, told, out, writer, seat, clock, frames) {
+        Ok(frames) => match answer_cut(setting, feed, told, out, writer, seat, clock, frames) {
             Some(stop) => Some(stop),
             None => match feed.fault() {
                 None => None,

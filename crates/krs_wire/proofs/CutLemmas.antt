@@ -3,7 +3,7 @@ use Rattle.std.proofs.Common.{◌≡◌, ℕ, zero, suc, ◌+◌, ◌-◌, ◌<�
 use Rattle.std.proofs.Common.{◌++◌, length, take, drop, Option, Some, None, Result, Ok, Err, refl, sym, ap, subst}
 use Rattle.std.proofs.Common.{◌∙◌, arith, length-drop, length-append}
 use Rattle.std.proofs.lemmas.Bool.{ltb-false, le-ltb}
-use Rattle.std.proofs.lemmas.List.{drop-drop, append-nil, take-append-le, drop-append-le}
+use Rattle.std.proofs.lemmas.List.{drop-drop, drop_at, append-nil, take-append-le, drop-append-le}
 use Rattle.std.specs.Int.{w32, from_le_bytes}
 use Rattle.krs_wire.specs.declared.framed.Framed.{Framed}
 use Rattle.krs_wire.specs.declared.fault.WireFault.{WireFault}
@@ -19,6 +19,15 @@ suffix m n xs fits =
     let len : length xs - length (drop n (drop m xs)) ≡ m + n =
     omega (arith, ap length joined, length-drop (m + n) xs) in
     joined ∙ ap (λ (k : ℕ). drop k xs) (sym len)
+
+-- behind the front of a list, counted from the end
+pub past_front : (front piece : List ℕ) (count left : ℕ) → left + count ≡ length (front ++ piece)
+    → left ≤ length piece → drop (length piece - left) piece ≡ drop count (front ++ piece)
+past_front front piece count left parts short =
+    let more : ℕ = length piece - left in
+    let is : length front + more ≡ count = omega (arith, length-append front piece, parts, short) in
+    sym (ap (λ (xs : List ℕ). drop more xs) (drop_at front piece (length front) refl))
+    ∙ (drop-drop more (length front) (front ++ piece) ∙ ap (λ (n : ℕ). drop n (front ++ piece)) is)
 
 -- what the frames of the rest say of the whole
 abbrev pub Continues : List ℕ → List Framed → List ℕ → Type 0

@@ -1,4 +1,4 @@
-ghost use Rattle.std.specs.Prelude.{◌≡◌, ◌≢◌, ◌≤◌, ◌++◌, [], length, drop, IfOk, IfErr, OnErr, IsSome, vec_len};
+ghost use Rattle.std.specs.Prelude.{◌≡◌, ◌≢◌, ◌≤◌, ◌++◌, ℕ, List, [], length, drop, IfOk, IfErr, OnErr, IsSome, vec_len};
 ghost use Rattle.krs_wire.specs.Frame.{Frames, rest, bad};
 ghost use Rattle.krs_wire.specs.Feeding.{end_of, Feeds, Refuses, fault_of};
 
@@ -7,7 +7,7 @@ use crate::reserve::{RESERVE, Reserve};
 use crate::{Framed, WireFault};
 use std::alloc::Global;
 use std::marker::Model;
-use std::thread;
+use std::{mem, thread};
 
 /// How many bytes may be left over and a piece behind them: the longest frame but for its last byte, its length, and as
 /// much as is read at once.
@@ -15,6 +15,9 @@ const ROOM: usize = 69_635;
 
 /// So often a piece is tried to be taken.
 const TRIES: u32 = 256;
+
+/// Room for so many frames is kept from piece to piece.
+const MOST_KEPT: usize = 128;
 
 /// The reading end of a connection: pieces of a stream in, whole frames out. A contract sees how the stream ends so
 /// far: in the beginning of a frame, or in a fault. It has a reserve of memory, which no contract sees.
@@ -24,6 +27,9 @@ pub struct Feed {
     left: Vec<u8>,
     fault: Option<WireFault>,
     reserve: Reserve,
+
+    // Room for the frames of the next piece.
+    room: Vec<Framed>,
 }
 
 impl Model for Feed {
@@ -35,28 +41,27 @@ impl Model for Feed {
     ghost view = { λ f. end_of f.fault f.left.items };
 }
 
-/// The frames at the front of some bytes, how many bytes they take, and the fault behind them.
-#[derive(Drop)]
+/// How many bytes the frames at the front of some bytes take, and the fault behind them.
+#[derive(Clone, Copy)]
 struct Cut {
-    frames: Vec<Framed>,
     taken: usize,
     fault: Option<WireFault>,
 }
 
-fn cut_stream(alloc: Global, bytes: &[u8]) -> Result<Cut, WireFault>
+/// Cuts bytes into frames. What stands in `frames` before means nothing.
+fn cut_stream(alloc: Global, bytes: &[u8], frames: &mut Vec<Framed>) -> Result<Cut, WireFault>
     ensures frames { IfOk result
-        (λ c. Frames bytes.now c.frames.items (end_of c.fault (drop c.taken bytes.now))) }
+        (λ c. Frames bytes.now frames.new.items (end_of c.fault (drop c.taken bytes.now))) }
     ensures within { IfOk result (λ c. c.taken ≤ length bytes.now) }
     ensures memory { IfErr result (λ fault. fault ≡ WireFault.Memory) }
     ensures no_memory { IfOk result (λ c. c.fault ≢ Some WireFault.Memory) }
 {
-    let mut frames = Vec::new(alloc);
+    frames.clear();
     let mut after = bytes;
     'frames: loop {
         match front_at(alloc, after) {
             Ok(None) => {
                 return Ok(Cut {
-                    frames,
                     taken: bytes.len() - after.len(),
                     fault: None,
                 });
@@ -69,7 +74,6 @@ fn cut_stream(alloc: Global, bytes: &[u8]) -> Result<Cut, WireFault>
                 return match fault {
                     WireFault::Memory => Err(fault),
                     _ => Ok(Cut {
-                        frames,
                         taken: bytes.len() - after.len(),
                         fault: Some(fault),
                     }),
@@ -79,13 +83,38 @@ fn cut_stream(alloc: Global, bytes: &[u8]) -> Result<Cut, WireFault>
     }
 }
 
-fn drop_front(bytes: &mut Vec<u8>, count: usize)
-    requires { count ≤ vec_len bytes.old }
+/// Drops the front of bytes that end with this piece. What is left then mostly is an end of the piece, and is taken from
+/// there.
+fn drop_front(bytes: &mut Vec<u8>, count: usize, piece: &[u8])
+    requires within { count ≤ vec_len bytes.old }
+    requires ends { (front : List ℕ) × (bytes.old.items ≡ front ++ piece.now) }
     ensures { bytes.new.items ≡ drop count bytes.old.items }
 {
-    if count > 0 {
+    let left = bytes.len() - count;
+    if left > piece.len() {
         bytes.drain(..count);
+        return;
     }
+    bytes.truncate(left);
+    bytes.copy_from_slice(&piece[piece.len() - left..]);
+}
+
+/// Cuts a piece that nothing was left before, and keeps what is left of it.
+fn take_alone(
+    alloc: Global,
+    left: &mut Vec<u8>,
+    piece: &[u8],
+    frames: &mut Vec<Framed>,
+) -> Result<Option<WireFault>, WireFault>
+    requires nothing { left.old.items ≡ [] }
+    ensures frames { IfOk result (λ fault. Frames piece.now frames.new.items (end_of fault left.new.items)) }
+    ensures memory { IfErr result (λ fault. fault ≡ WireFault.Memory) }
+    ensures no_memory { IfOk result (λ fault. fault ≢ Some WireFault.Memory) }
+    ensures stays { OnErr result (left.new.items ≡ []) }
+{
+    let cut = cut_stream(alloc, piece, frames)?;
+    left.extend_from_slice(&piece[cut.taken..])?;
+    Ok(cut.fault)
 }
 
 /// Takes a piece behind what was left, and keeps what is left then. Where there is no memory, nothing was taken.
@@ -93,19 +122,23 @@ fn take_once(
     alloc: Global,
     left: &mut Vec<u8>,
     piece: &[u8],
-) -> Result<(Vec<Framed>, Option<WireFault>), WireFault>
+    frames: &mut Vec<Framed>,
+) -> Result<Option<WireFault>, WireFault>
     ensures frames { IfOk result
-        (λ x. Frames (left.old.items ++ piece.now) x.0.items (end_of x.1 left.new.items)) }
+        (λ fault. Frames (left.old.items ++ piece.now) frames.new.items (end_of fault left.new.items)) }
     ensures memory { IfErr result (λ fault. fault ≡ WireFault.Memory) }
-    ensures no_memory { IfOk result (λ x. x.1 ≢ Some WireFault.Memory) }
+    ensures no_memory { IfOk result (λ fault. fault ≢ Some WireFault.Memory) }
     ensures stays { OnErr result (left.new.items ≡ left.old.items) }
 {
+    if left.is_empty() {
+        return take_alone(alloc, left, piece, frames);
+    }
     let before = left.len();
     left.extend_from_slice(piece)?;
-    match cut_stream(alloc, left) {
+    match cut_stream(alloc, left, frames) {
         Ok(cut) => {
-            drop_front(left, cut.taken);
-            Ok((cut.frames, cut.fault))
+            drop_front(left, cut.taken, piece);
+            Ok(cut.fault)
         }
         Err(fault) => {
             left.truncate(before);
@@ -121,16 +154,18 @@ fn take_in(
     left: &mut Vec<u8>,
     reserve: &mut Reserve,
     piece: &[u8],
-) -> Result<(Vec<Framed>, Option<WireFault>), WireFault>
+    frames: &mut Vec<Framed>,
+) -> Result<Option<WireFault>, WireFault>
     ensures frames { IfOk result
-        (λ x. Frames (left.old.items ++ piece.now) x.0.items (end_of x.1 left.new.items)) }
+        (λ fault. Frames (left.old.items ++ piece.now) frames.new.items (end_of fault left.new.items)) }
     ensures memory { IfErr result (λ fault. fault ≡ WireFault.Memory) }
-    ensures no_memory { IfOk result (λ x. x.1 ≢ Some WireFault.Memory) }
+    ensures no_memory { IfOk result (λ fault. fault ≢ Some WireFault.Memory) }
 {
     'tries: for _ in 0..TRIES {
-        if let Ok(taken) = take_once(alloc, left, piece) {
-            return Ok(taken);
+        if let Ok(fault) = take_once(alloc, left, piece, frames) {
+            return Ok(fault);
         }
+        frames.clear();
         if reserve.lacking() == RESERVE {
             thread::yield_now();
         }
@@ -151,6 +186,7 @@ impl Feed {
             left: Vec::new(alloc),
             fault: None,
             reserve: Reserve::new(alloc),
+            room: Vec::new(alloc),
         }
     }
 
@@ -194,8 +230,15 @@ impl Feed {
         if let Some(fault) = self.fault {
             return Err(fault);
         }
-        match take_in(self.alloc, &mut self.left, &mut self.reserve, piece) {
-            Ok((frames, fault)) => {
+        let mut frames = mem::replace(&mut self.room, Vec::new(self.alloc));
+        match take_in(
+            self.alloc,
+            &mut self.left,
+            &mut self.reserve,
+            piece,
+            &mut frames,
+        ) {
+            Ok(fault) => {
                 self.fault = fault;
                 if let Some(fault) = fault {
                     if frames.is_empty() {
@@ -209,5 +252,13 @@ impl Feed {
                 Err(fault)
             }
         }
+    }
+    /// Takes a list that `feed` answered back, whose room then serves the next piece. What still stands there is dropped.
+    pub fn reuse(&mut self, frames: Vec<Framed>)
+        ensures { self.new ≡ self.old }
+    {
+        self.room = frames;
+        self.room.clear();
+        self.room.shrink_to(MOST_KEPT);
     }
 }

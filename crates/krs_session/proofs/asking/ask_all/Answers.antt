@@ -1,13 +1,18 @@
-use Rattle.std.proofs.Common.{[], ◌∷◌, ◌∙◌, subst, refl, ℕ}
+use Rattle.std.proofs.Common.{List, [], ◌∷◌, ◌++◌, ◌∙◌, subst, refl, sym, ap, append_assoc, ℕ}
+use Rattle.krs_wire.specs.declared.framed.Framed.{Framed}
 use Rattle.krs_session.specs.Serving.{Asked}
 use Rattle.krs_session.proofs.JoinLemmas.{holds_more, holds_none, stops_next}
 use Rattle.krs_session.proofs.asking.ask_all.Goals as goal
 
 pub frames-init : goal.frames-init
 frames-init g c = record {
-  state = holds_none g.D.Keeper.leads g.C.Clock.ticked g.W.Sink.took g.met.D.Keeper.joins g.met.C.Clock.joins
-      g.met.W.Sink.joins _ _ _ _ _ (g.met.D.Keeper.starts _) (g.met.C.Clock.starts _) (g.met.W.Sink.starts _)
-      c.requires.empty;
+  state = (
+    [],
+    refl,
+    holds_none g.D.Keeper.leads g.C.Clock.ticked g.W.Sink.took g.met.D.Keeper.joins g.met.C.Clock.joins
+        g.met.W.Sink.joins _ _ _ _ _ (g.met.D.Keeper.starts _) (g.met.C.Clock.starts _) (g.met.W.Sink.starts _)
+        c.requires.empty,
+  );
   count = refl;
   ready = c.requires.ready;
   lane = refl;
@@ -17,13 +22,20 @@ pub frames-preserved : goal.frames-preserved
 frames-preserved g c =
     let e = c.answer_one-stop.ensures in
     let i = c.frames.invariant in
+    let done : List Framed = i.state.0 in
+    let framed : Framed = c.in-Some.framed in
     let one =
     subst (λ (n : ℕ). Asked g.D.Keeper.leads g.C.Clock.ticked n c.frames.seat c.answer_one-stop.new.seat
     c.frames.clock c.answer_one-stop.new.clock (e.asked.0 ∷ [])) i.lane e.asked.2 in
     record {
-      state = holds_more g.D.Keeper.leads g.C.Clock.ticked g.W.Sink.took g.met.D.Keeper.joins g.met.C.Clock.joins
-          g.met.W.Sink.joins
-          _ _ _ _ _ _ _ _ _ _ _ _ _ _ e.asked.0 _ _ i.state e.asked.1 one e.asked.3;
+      state = (
+        done ++ framed ∷ [],
+        append_assoc done (framed ∷ []) c.pop_front.new.self.items
+            ∙ (ap (λ (l : List Framed). done ++ l) (sym c.in-Some.ensures.items) ∙ i.state.1),
+        holds_more g.D.Keeper.leads g.C.Clock.ticked g.W.Sink.took g.met.D.Keeper.joins g.met.C.Clock.joins
+            g.met.W.Sink.joins
+            _ _ _ _ _ _ _ _ _ _ _ _ _ _ e.asked.0 _ _ i.state.2 e.asked.1 one e.asked.3,
+      );
       count = stops_next _ _ _ _ _ i.count e.count;
       ready = e.ready;
       lane = e.lane ∙ i.lane;

@@ -1,12 +1,17 @@
-use Rattle.std.proofs.Common.{◌≡◌}
+use Rattle.std.proofs.Common.{◌≡◌, ◌++◌, List, length}
+use Rattle.krs_wire.specs.declared.framed.Framed.{Framed}
 use Rattle.krs_session.specs.Serving.{Holds, StopsBy}
 use Rattle.krs_session.proofs.asking.ask_all.Given as goal
 
 abbrev pub invariant-frames : goal.invariant-frames
 invariant-frames g l = record {
-  state : Holds g.D.Keeper.leads g.C.Clock.ticked g.W.Sink.took (g.D.Keeper.lane_of l.initial.seat) l.initial.seat
-      l.seat l.initial.clock l.clock l.initial.writer l.writer l.out.items l.yielded l.stop;
+  state : (done : List Framed) × (done ++ l.frames.items ≡ l.initial.frames.items)
+      × Holds g.D.Keeper.leads g.C.Clock.ticked g.W.Sink.took (g.D.Keeper.lane_of l.initial.seat) l.initial.seat
+      l.seat l.initial.clock l.clock l.initial.writer l.writer l.out.items done l.stop;
   count : StopsBy (g.W.Sink.failures l.initial.writer) (g.W.Sink.failures l.writer) l.stop;
   ready : g.D.Keeper.ready l.setting.desk.now l.seat;
   lane : g.D.Keeper.lane_of l.seat ≡ g.D.Keeper.lane_of l.initial.seat;
 }
+
+abbrev pub decreases-frames : goal.decreases-frames
+decreases-frames g l = length l.frames.items

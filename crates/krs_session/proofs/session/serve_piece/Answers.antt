@@ -1,6 +1,6 @@
 use Rattle.std.proofs.Common.{[], refl, sym, inr, subst}
 use Rattle.krs_wire.specs.Frame.{End}
-use Rattle.krs_wire.specs.Feeding.{Feeds, fault_of}
+use Rattle.krs_wire.specs.Feeding.{Feeds}
 use Rattle.krs_session.proofs.PieceLemmas.{refused_fault, refused_more, faulty_feeds}
 use Rattle.krs_session.proofs.PieceLemmas.{stopped_serves, stopped_ends, stopped_unwired}
 use Rattle.krs_session.proofs.session.serve_piece.Goals as goal

@@ -24,6 +24,7 @@ fn encode(
     for framed in &frames {
         text.extend_from_slice(&encode_ask(alloc, &framed.ask)?)?;
     }
+    feed.reuse(frames);
     Ok(())
 }
 

@@ -9,7 +9,7 @@ use Rattle.krs_wire.proofs.feed.Feed.feed.Goals as goal
 
 pub returns-then-is_empty-clause-refused : goal.returns-then-is_empty-clause-refused
 returns-then-is_empty-clause-refused c =
-    let none : c.in-Ok.frames.items ≡ [] = is_nothing _ (search rules) in
+    let none : c.take_in.new.frames.items ≡ [] = is_nothing _ (search rules) in
     let f =
     subst (λ (x : List Framed). Frames (c.self.inside.left.items ++ c.args.piece.now) x
     (end_of c.in-Ok.fault c.take_in.new.left.items)) none c.in-Ok.ensures.frames in
