@@ -1,16 +1,17 @@
 // A session: turns of one read each, and LEAVE.
-ghost use Rattle.std.specs.Prelude.{◌≡◌, ◌≢◌, ◌<◌, ◌≤◌, ◌+◌, ◌-◌, ℕ, List, [], length};
-ghost use Rattle.krs_wire.specs.Frame.{Frames, rest};
-ghost use Rattle.krs_wire.specs.Feeding.{fault_of};
+ghost use Rattle.std.specs.Prelude.{◌≡◌, ◌≢◌, ◌<◌, ◌≤◌, ◌+◌, ◌-◌, ℕ, List, [], length, IfOk, IfErr, IsSome};
+ghost use Rattle.krs_wire.specs.Frame.{Frames, rest, bad};
+ghost use Rattle.krs_wire.specs.Feeding.{Feeds, Refuses, fault_of};
 ghost use Rattle.krs_session.specs.Session.{Session, EndsBy, HaveRoom, counts_of};
 ghost use Rattle.krs_session.specs.Serving.{Answers, Served, StopsBy, PieceEndsBy, TurnEndsBy, Finished};
 
 use crate::asking::{Setting, answer_all, ask_one};
 use crate::{Clock, Ended, Gate, Keeper, Sink, Source};
 use krs_types::{Ask, Op};
-use krs_wire::{Feed, Framed, RESERVE, WireFault};
+use krs_wire::{Feed, Framed, RESERVE, Warned, WireFault};
 use std::alloc::Global;
 use std::collections::VecDeque;
+use std::marker::PhantomData;
 
 /// How many bytes a turn reads at most: docs/FORMAT.md, "A connection".
 const READ_SIZE: usize = 4096;
@@ -108,6 +109,43 @@ fn answer_cut<H, W: Sink, S, D: Keeper<S, H>, C: Clock, G: Gate>(
     stop
 }
 
+/// Tells a desk that a session comes to lack its reserve, before others can take what is let go of it.
+#[derive(Drop)]
+struct Lacking<'a, S, H, D> {
+    desk: &'a D,
+    told: &'a mut u64,
+    seat: PhantomData<S>,
+    runtime: PhantomData<H>,
+}
+
+impl<S, H, D: Keeper<S, H>> Warned for Lacking<'_, S, H, D> {
+    fn warn(&mut self) {
+        self.desk.tell_lack(self.told, UNMET);
+    }
+}
+
+/// Cuts a piece of the stream. Where there is memory by the reserve alone, the store keeps nothing from then on.
+fn cut<H, S, D: Keeper<S, H>>(
+    desk: &D,
+    feed: &mut Feed,
+    told: &mut u64,
+    piece: &[u8],
+) -> Result<Vec<Framed>, WireFault>
+    ensures frames { IfOk result (λ frames. Feeds feed.old piece.now frames.items feed.new) }
+    ensures refused { IfErr result (Refuses feed.old piece.now) }
+    ensures failed { IfErr result (λ fault. feed.new ≡ bad fault) }
+    ensures no_memory { IfOk result (λ frames. fault_of feed.new ≢ Some WireFault.Memory) }
+    ensures at_once { IfOk result (λ frames. IsSome (fault_of feed.new) → frames.items ≢ []) }
+{
+    let mut lacking = Lacking {
+        desk,
+        told,
+        seat: PhantomData::<S>,
+        runtime: PhantomData::<H>,
+    };
+    feed.feed_warning(piece, &mut lacking)
+}
+
 /// Cuts a piece of the stream, asks what its frames ask, and writes the replies. What ends the session is the answer.
 fn serve_piece<H, W: Sink, S, D: Keeper<S, H>, C: Clock, G: Gate>(
     setting: &Setting<'_, H, D, G>,
@@ -129,7 +167,7 @@ fn serve_piece<H, W: Sink, S, D: Keeper<S, H>, C: Clock, G: Gate>(
     ensures ready { D.ready setting.now.desk.now seat.new }
     ensures lane { D.lane_of seat.new ≡ D.lane_of seat.old }
 {
-    match feed.feed(piece) {
+    match cut::<H, S, D>(setting.desk, feed, told, piece) {
         Err(fault) => match fault {
             WireFault::Memory => Some(Ended::Memory),
             _ => Some(Ended::Wire(fault)),

@@ -4,6 +4,7 @@ ghost use Rattle.krs_wire.specs.Feeding.{end_of, Feeds, Refuses, fault_of};
 
 use crate::asks::front_at;
 use crate::reserve::{RESERVE, Reserve};
+use crate::warned::{Nobody, Warned};
 use crate::{Framed, WireFault};
 use std::alloc::Global;
 use std::marker::Model;
@@ -14,7 +15,7 @@ use std::{mem, thread};
 const ROOM: usize = 69_635;
 
 /// So often a piece is tried to be taken.
-const TRIES: u32 = 256;
+const TRIES: u32 = 1024;
 
 /// Room for so many frames is kept from piece to piece.
 const MOST_KEPT: usize = 128;
@@ -147,14 +148,15 @@ fn take_once(
     }
 }
 
-/// Takes a piece. Where there is no memory, the reserve is let go, and it is tried again for a while: another thread may
-/// have been faster to take what was let go, and will mostly give it back soon.
-fn take_in(
+/// Takes a piece. Where there is no memory, the reserve is let go, with a warning before, and it is tried again for a
+/// while: another thread may have been faster to take what was let go, and will mostly give it back soon.
+fn take_in<A: Warned>(
     alloc: Global,
     left: &mut Vec<u8>,
     reserve: &mut Reserve,
     piece: &[u8],
     frames: &mut Vec<Framed>,
+    warned: &mut A,
 ) -> Result<Option<WireFault>, WireFault>
     ensures frames { IfOk result
         (λ fault. Frames (left.old.items ++ piece.now) frames.new.items (end_of fault left.new.items)) }
@@ -166,6 +168,7 @@ fn take_in(
             return Ok(fault);
         }
         frames.clear();
+        warned.warn();
         if reserve.lacking() == RESERVE {
             thread::yield_now();
         }
@@ -227,6 +230,21 @@ impl Feed {
         ensures no_memory { IfOk result (λ frames. fault_of self.new ≢ Some WireFault.Memory) }
         ensures at_once { IfOk result (λ frames. IsSome (fault_of self.new) → frames.items ≢ []) }
     {
+        self.feed_warning(piece, &mut Nobody)
+    }
+
+    /// The same, with a warning before the reserve is let go.
+    pub fn feed_warning<A: Warned>(
+        &mut self,
+        piece: &[u8],
+        warned: &mut A,
+    ) -> Result<Vec<Framed>, WireFault>
+        ensures frames { IfOk result (λ frames. Feeds self.old piece.now frames.items self.new) }
+        ensures refused { IfErr result (Refuses self.old piece.now) }
+        ensures failed { IfErr result (λ fault. self.new ≡ bad fault) }
+        ensures no_memory { IfOk result (λ frames. fault_of self.new ≢ Some WireFault.Memory) }
+        ensures at_once { IfOk result (λ frames. IsSome (fault_of self.new) → frames.items ≢ []) }
+    {
         if let Some(fault) = self.fault {
             return Err(fault);
         }
@@ -237,6 +255,7 @@ impl Feed {
             &mut self.reserve,
             piece,
             &mut frames,
+            warned,
         ) {
             Ok(fault) => {
                 self.fault = fault;
@@ -253,6 +272,7 @@ impl Feed {
             }
         }
     }
+
     /// Takes a list that `feed` answered back, whose room then serves the next piece. What still stands there is dropped.
     pub fn reuse(&mut self, frames: Vec<Framed>)
         ensures { self.new ≡ self.old }

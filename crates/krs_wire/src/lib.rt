@@ -15,6 +15,7 @@ mod put;
 mod replies;
 mod reserve;
 mod shape;
+mod warned;
 
 pub use encode::{encode_ask, encode_ask2};
 pub use fault::WireFault;
@@ -24,3 +25,4 @@ pub use laws::{one_cut, one_encoding};
 pub use replies::{append_reply, decode_reply, decode_reply2, encode_reply, encode_reply2};
 pub use reserve::RESERVE;
 pub use shape::Shape;
+pub use warned::Warned;

@@ -5,10 +5,10 @@ use Rattle.std.specs.Prelude.{Option}
 use Rattle.krs_wire.specs.Frame.{Frames}
 use Rattle.krs_wire.specs.Feeding.{end_of}
 use Rattle.krs_wire.proofs.CutLemmas.{feeds, refuses, is_nothing}
-use Rattle.krs_wire.proofs.feed.Feed.feed.Goals as goal
+use Rattle.krs_wire.proofs.feed.Feed.feed_warning.Goals as goal
 
 pub returns-then-is_empty-clause-refused : goal.returns-then-is_empty-clause-refused
-returns-then-is_empty-clause-refused c =
+returns-then-is_empty-clause-refused g c =
     let none : c.take_in.new.frames.items ≡ [] = is_nothing _ (search rules) in
     let f =
     subst (λ (x : List Framed). Frames (c.self.inside.left.items ++ c.args.piece.now) x
@@ -19,13 +19,13 @@ returns-then-is_empty-clause-refused c =
     refuses _ _ c.self.inside.left.items _ _ (sym c.self.view_is) c.in_default.is (λ _. g)
 
 pub returns-in-Err-clause-refused : goal.returns-in-Err-clause-refused
-returns-in-Err-clause-refused c =
+returns-in-Err-clause-refused g c =
     refuses _ _ c.self.inside.left.items _ _ (sym c.self.view_is) c.in_default.is
     (λ other. absurd (other c.in-Err.ensures.memory))
 
 pub returns-after-fault-clause-frames : goal.returns-after-fault-clause-frames
-returns-after-fault-clause-frames c =
+returns-after-fault-clause-frames g c =
     feeds _ _ _ c.self.inside.left.items _ _ (sym c.self.view_is) c.in_default.is c.in-Ok.ensures.frames
 
 pub returns-in-Some-clause-failed : goal.returns-in-Some-clause-failed
-returns-in-Some-clause-failed c = search rules
+returns-in-Some-clause-failed g c = search rules
