@@ -14,6 +14,7 @@ use std::sync::Wait;
 impl Desk {
     // Asks the store where the turn is free, after it has answered each call that is posted. The ask comes back where
     // the turn is found taken.
+    #[inline(always)]
     fn call_in_turn(&self, seat: &mut Seat, moment: u64, ask: Ask) -> Result<Reply, Ask>
         requires table { seat.old.table ≡ self.now }
         requires idle { seat.old.part.flight ≡ None }
@@ -54,9 +55,10 @@ impl Desk {
         unreachable!()
     }
 
-    /// Asks the store in a turn of its own, after each call that is posted. Where the turn is taken again and again it
-    /// posts the call, and helps or waits until it is answered.
-    pub fn call<R: Wait>(&self, rt: &R, seat: &mut Seat, moment: u64, ask: Ask) -> Reply
+    // Pauses and tries again to have the turn, and at last posts the call. Apart from `call`, which moves the ask less
+    // often so, and clears no room for it.
+    #[inline(never)]
+    fn call_again<R: Wait>(&self, rt: &R, seat: &mut Seat, moment: u64, ask: Ask) -> Reply
         requires table { seat.old.table ≡ self.now }
         requires idle { seat.old.part.flight ≡ None }
         ensures table { seat.new.table ≡ seat.old.table }
@@ -67,14 +69,33 @@ impl Desk {
         let mut ask = ask;
         let mut spins = FIRST_PAUSE;
         for _ in 0..TRIES {
+            spins = pause(spins);
             if self.is_free() {
                 ask = match self.call_in_turn(seat, moment, ask) {
                     Ok(reply) => return reply,
                     Err(back) => back,
                 };
             }
-            spins = pause(spins);
         }
         self.call_by_post(rt, seat, moment, ask)
+    }
+
+    /// Asks the store in a turn of its own, after each call that is posted. Where the turn is taken again and again it
+    /// posts the call, and helps or waits until it is answered.
+    pub fn call<R: Wait>(&self, rt: &R, seat: &mut Seat, moment: u64, ask: Ask) -> Reply
+        requires table { seat.old.table ≡ self.now }
+        requires idle { seat.old.part.flight ≡ None }
+        ensures table { seat.new.table ≡ seat.old.table }
+        ensures idle { seat.new.part.flight ≡ None }
+        ensures added { Adds seat.old (event_of seat.old.part.lane moment ask result) seat.new }
+        ensures looked { HasLooked self.now seat.old seat.new }
+    {
+        if !self.is_free() {
+            return self.call_again(rt, seat, moment, ask);
+        }
+        match self.call_in_turn(seat, moment, ask) {
+            Ok(reply) => reply,
+            Err(back) => self.call_again(rt, seat, moment, back),
+        }
     }
 }

@@ -13,8 +13,8 @@ use crate::word::{ANSWERED, FREE, POSTED, TURN, cell_of};
 use std::hint;
 use std::sync::Wait;
 
-/// So often a call tries to have the turn before it is posted, and so often a posted call looks at its cell and the turn
-/// before it sleeps. The pauses between them have 5,116 spins, each time.
+/// So often a call that found the turn taken tries again before it is posted, and so often a posted call looks at its cell
+/// and the turn before it sleeps. The pauses between them have 5,116 spins, each time.
 pub(crate) const TRIES: u32 = 16;
 
 /// So long a call pauses after its first try. After each try it pauses twice as long. Mostly the turn is given back at

@@ -1,6 +1,6 @@
 use Rattle.std.proofs.Common.{◌≡◌}
 use Rattle.krs_desk.proofs.Calls.{found_taken}
-use Rattle.krs_desk.proofs.desk.Desk.call.Given as goal
+use Rattle.krs_desk.proofs.desk.Desk.call_again.Given as goal
 
 abbrev pub invariant-loop : goal.invariant-loop
 invariant-loop g l = record {
