@@ -3,7 +3,7 @@ ghost use Rattle.krs_wire.specs.Frame.{Frames, rest, bad};
 ghost use Rattle.krs_wire.specs.Feeding.{end_of, Feeds, Refuses, fault_of};
 
 use crate::asks::front_at;
-use crate::reserve::{RESERVE, Reserve};
+use crate::reserve::Reserve;
 use crate::warned::{Nobody, Warned};
 use crate::{Framed, WireFault};
 use std::alloc::Global;
@@ -14,8 +14,11 @@ use std::{mem, thread};
 /// much as is read at once.
 const ROOM: usize = 69_635;
 
-/// So often a piece is tried to be taken.
+/// So often a piece is tried to be taken, and after so many tries one more quarter of the reserve is let go: an ask that
+/// is served just now may have found memory before the warning, and takes it.
 const TRIES: u32 = 1024;
+
+const TRIES_A_QUARTER: u32 = 64;
 
 /// Room for so many frames is kept from piece to piece.
 const MOST_KEPT: usize = 128;
@@ -148,8 +151,9 @@ fn take_once(
     }
 }
 
-/// Takes a piece. Where there is no memory, the reserve is let go, with a warning before, and it is tried again for a
-/// while: another thread may have been faster to take what was let go, and will mostly give it back soon.
+/// Takes a piece. Where there is no memory, the reserve is let go, a quarter at a time and with a warning before, and it is
+/// tried again for a while: another thread may have been faster to take what was let go, and will mostly give it back
+/// soon.
 fn take_in<A: Warned>(
     alloc: Global,
     left: &mut Vec<u8>,
@@ -163,16 +167,17 @@ fn take_in<A: Warned>(
     ensures memory { IfErr result (λ fault. fault ≡ WireFault.Memory) }
     ensures no_memory { IfOk result (λ fault. fault ≢ Some WireFault.Memory) }
 {
-    'tries: for _ in 0..TRIES {
+    'tries: for tries in 0..TRIES {
         if let Ok(fault) = take_once(alloc, left, piece, frames) {
             return Ok(fault);
         }
         frames.clear();
         warned.warn();
-        if reserve.lacking() == RESERVE {
+        if tries % TRIES_A_QUARTER == 0 {
+            reserve.let_go();
+        } else {
             thread::yield_now();
         }
-        reserve.let_go();
     }
     Err(WireFault::Memory)
 }

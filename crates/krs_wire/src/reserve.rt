@@ -6,8 +6,10 @@ use std::alloc::Global;
 /// wanting, the C library may give each of these texts a page of its own, 4096 bytes.
 pub const RESERVE: usize = 2_097_152;
 
-/// The bytes of its parts where there is no room for it in one, and of those that it takes where there is none for such:
-/// a whole number of them is a whole reserve.
+/// The bytes of its quarters, of its parts where there is no room for a quarter in one, and of those that it takes where
+/// there is none for such: a whole number of them is a quarter.
+const QUARTER: usize = 524_288;
+
 const LARGE: usize = 65_536;
 
 const SMALL: usize = 4096;
@@ -37,17 +39,25 @@ impl Reserve {
         RESERVE.saturating_sub(self.held)
     }
 
-    /// Lets go of all of it.
+    /// Lets go of a quarter of a whole reserve, or of what is left of it.
     pub(crate) fn let_go(&mut self) {
-        self.parts.clear();
-        self.held = 0;
+        let mut gone: usize = 0;
+        for _ in 0..self.parts.len() {
+            if gone >= QUARTER {
+                return;
+            }
+            if let Some(part) = self.parts.pop() {
+                gone = gone.saturating_add(part.capacity());
+                self.held = self.held.saturating_sub(part.capacity());
+            }
+        }
     }
 
     /// Takes what is lacking, as far as there is memory.
     pub(crate) fn take_back(&mut self) {
         let most = RESERVE / SMALL;
         let _ = self.parts.reserve(most.saturating_sub(self.parts.len()));
-        self.fill(RESERVE);
+        self.fill(QUARTER);
         self.fill(LARGE);
         self.fill(SMALL);
     }
@@ -63,8 +73,8 @@ impl Reserve {
             let Ok(part) = Vec::with_capacity(self.alloc, size) else {
                 return;
             };
+            self.held = self.held.saturating_add(part.capacity());
             self.parts.push_reserved(part);
-            self.held = self.held.saturating_add(size);
         }
     }
 }
