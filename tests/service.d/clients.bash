@@ -106,15 +106,18 @@ keeps_all() {
   kill_daemon TERM
 }
 
-# A daemon under a limit of memory, which a client fills: a small one; and one with room for pools of the C library.
+# A daemon under a limit of memory, which one client fills, and eight: a small one; and one with room for pools of the C
+# library.
 try_little_memory() {
   local size
   limited with-little-memory '-Ss 256 && ulimit -Sv 48000'
   limited with-pools '-Ss 256 && ulimit -Sv 262144'
   local keyretaind=$dir/with-little-memory
   for size in 1 20 200 500 1000 2000 4000 8000 16000 32767; do keeps_all "$size" 1; done
+  for size in 200 2000 16000; do keeps_all "$size" 8; done
   keyretaind=$dir/with-pools
   keeps_all 32767 1
+  for size in 2000 32767; do keeps_all "$size" 8; done
 }
 
 # injecting NAME ERROR WHEN: a program that is the daemon, whose accepts of these numbers fail with this error

@@ -78,18 +78,40 @@ class Client(threading.Thread):
         except (OSError, Wrong) as wrong:
             self.wrong = wrong
 
+    def read_first(self):
+        """Reads its first key, for whose reply it gives other keys back where there is no memory. Returns the status."""
+        status, body = ENOMEM, b""
+        while status == ENOMEM:
+            self.end.sendall(encode_ask("READ", self.context, (self.serials[0],)))
+            status, body = self.answer()
+            if status == 0 and body != bytes(size):
+                raise Wrong("its first key has another payload")
+            if status != ENOMEM or len(self.serials) < 2:
+                return status
+            self.ask("UNLINK", (self.serials.pop(), USER_KEYRING))
+
     def check(self):
-        """Reads its first key, for whose reply it gives other keys back where there is no memory."""
+        """It has added keys, and reads its first one, if there is memory once it has given its others back."""
         if self.wrong:
             raise self.wrong
         if len(self.serials) < 2:
             raise Wrong("it could add next to nothing")
-        status, body = ENOMEM, b""
-        while status == ENOMEM and len(self.serials) > 1:
-            self.ask("UNLINK", (self.serials.pop(), USER_KEYRING))
-            self.end.sendall(encode_ask("READ", self.context, (self.serials[0],)))
-            status, body = self.answer()
-        if status != 0 or body != bytes(size):
+        self.ask("UNLINK", (self.serials.pop(), USER_KEYRING))
+        if self.read_first() not in (0, ENOMEM):
+            raise Wrong("its first key is gone")
+
+    def keep_first(self):
+        """Gives back all its keys but the first."""
+        while len(self.serials) > 1:
+            some, self.serials = self.serials[1 : AHEAD + 1], self.serials[:1] + self.serials[AHEAD + 1 :]
+            self.end.sendall(b"".join(encode_ask("UNLINK", self.context, (key, USER_KEYRING)) for key in some))
+            if any(self.answer()[0] for _ in some):
+                raise Wrong("a key of its own is gone")
+
+    def check_first(self):
+        """Once all have given back their other keys there is memory for the reply."""
+        status = self.read_first()
+        if status != 0:
             raise Wrong(f"its first key is read with status {status}")
 
     def give_back(self):
@@ -106,7 +128,7 @@ for client in clients:
     client.start()
 for client in clients:
     client.join()
-for step in (Client.check, Client.give_back, Client.add_again):
+for step in (Client.check, Client.keep_first, Client.check_first, Client.give_back, Client.add_again):
     for client in clients:
         try:
             step(client)
