@@ -1,4 +1,4 @@
-ghost use Rattle.std.specs.Prelude.{◌≡◌, ◌==◌, not, filter, map};
+ghost use Rattle.std.specs.Prelude.{◌≡◌, ◌==◌, ◌↔◌, false, not, filter, map, []};
 ghost use Rattle.std.specs.List.{list_any};
 ghost use Rattle.krs_model.specs.Queues.{no_queues, queues_without};
 ghost use Rattle.krs_model.specs.Notes.Posting.{posts_of, posted, post_all, removal_for};
@@ -166,6 +166,13 @@ impl WatchQueues {
     {
         drop_queues(&mut self.queues, client);
         keep_watches(&mut self.watches, &self.queues);
+    }
+
+    /// Whether any key is watched.
+    pub fn has_watches(&self) -> bool
+        ensures { (result ≡ false) ↔ (self.now.watches ≡ []) }
+    {
+        !self.watches.is_empty()
     }
 
     /// Tells all that watch a key and let it pass what happened, with the other key of a link, or 0.
