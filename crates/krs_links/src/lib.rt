@@ -9,6 +9,7 @@ mod index;
 mod links;
 mod lists;
 mod seed;
+mod table;
 
 pub use hashed::HashedName;
 pub use links::Links;

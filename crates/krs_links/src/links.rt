@@ -1,35 +1,31 @@
-ghost use Rattle.std.specs.Prelude.{◌≡◌, ◌≤◌, [], length, slice_get, false, IfOk, OnOk, IfErr, OnErr, IsOk, IsSome};
+ghost use Rattle.std.specs.Prelude.{◌≡◌, ◌≤◌, [], ◌∷◌, length, slice_get, false, IfOk, OnOk, IfErr, OnErr, IsOk, IsSome};
 ghost use Rattle.std.specs.List.{remove};
 ghost use Rattle.std.specs.Option.{ok_or, option_copied};
 ghost use Rattle.krs_links.specs.Links.{serial_named, place_of, link_put, unlinked, nested, names, serials};
 ghost use Rattle.krs_links.specs.Links.{is_full, is_refused, link_error, IsUnique};
 
-use crate::index::LinkIndex;
-use crate::{HashedName, Seed, lists};
+use crate::table::LinkTable;
+use crate::{HashedName, Seed};
 use krs_types::{Errno, Name, Serial};
-use std::alloc::Global;
+use std::alloc::{AllocError, Global};
 use std::marker::Model;
 
-/// How many links a keyring has at most: profile, full keyrings.
-const MAX_LINKS: usize = 65535;
-
-/// The links of a keyring, in link order, with an index from their names.
+/// The links of a keyring, in link order. Their table is made with the first link, so that a key which links nothing is
+/// small.
 #[derive(Drop)]
 pub struct Links {
-    entries: LinkIndex,
-    /// The serials of the nested keyrings again, so that a walk goes over them alone.
-    rings: Vec<Serial>,
+    kept: Option<Box<LinkTable>>,
+    seed: Seed,
+    alloc: Global,
 }
 
 impl Model for Links {
     ghost use Rattle.krs_links.specs.Links.{LinkList};
-    ghost use Rattle.krs_links.specs.Indexed.{linked, AreFound};
+    ghost use Rattle.krs_links.specs.Kept.{links_kept};
 
     ghost Value = { LinkList };
 
-    ghost view = { λ l. linked l.entries };
-
-    ghost invariant = { λ l. AreFound l.entries l.rings.items };
+    ghost view = { λ l. links_kept l.kept };
 }
 
 impl Links {
@@ -38,8 +34,9 @@ impl Links {
         ensures { result ≡ [] }
     {
         Links {
-            entries: LinkIndex::new(alloc, seed),
-            rings: Vec::new(alloc),
+            kept: None,
+            seed,
+            alloc,
         }
     }
 
@@ -48,56 +45,80 @@ impl Links {
         ensures bound { result ≤ 65535 }
         ensures unique { IsUnique self.now }
     {
-        self.entries.len()
+        match &self.kept {
+            Some(table) => table.len(),
+            None => 0,
+        }
     }
 
     /// Whether a link under a new name would be refused: profile, full keyrings.
     pub fn is_full(&self) -> bool
         ensures { result ≡ is_full self.now }
     {
-        MAX_LINKS <= self.entries.len()
+        match &self.kept {
+            Some(table) => table.is_full(),
+            None => false,
+        }
     }
 
     /// The name of the link at a place of the link order.
     pub fn name_at(&self, place: usize) -> Option<&Name>
         ensures { option_copied result ≡ slice_get (names self.now) place }
     {
-        self.entries.name_at(place)
+        match &self.kept {
+            Some(table) => table.name_at(place),
+            None => None,
+        }
     }
 
     /// The serial that is linked at a place of the link order.
     pub fn serial_at(&self, place: usize) -> Option<Serial>
         ensures { result ≡ slice_get (serials self.now) place }
     {
-        self.entries.serial_at(place)
+        match &self.kept {
+            Some(table) => table.serial_at(place),
+            None => None,
+        }
     }
 
     /// The serial that is linked under a name. Names of different types are different: keyrings(7), "Keyrings".
     pub fn find(&self, name: &Name) -> Option<Serial>
         ensures { result ≡ serial_named self.now name.now }
     {
-        lists::find(&self.entries, name, self.entries.digest_of(name))
+        match &self.kept {
+            Some(table) => table.find(name),
+            None => None,
+        }
     }
 
     /// The same of a name that was hashed.
     pub fn find_hashed(&self, name: &HashedName) -> Option<Serial>
         ensures { result ≡ serial_named self.now name.now }
     {
-        lists::find(&self.entries, name.as_name(), self.entries.digest_in(name))
+        match &self.kept {
+            Some(table) => table.find_hashed(name),
+            None => None,
+        }
     }
 
     /// The place of the link of a name.
     pub fn place_of(&self, name: &Name) -> Option<usize>
         ensures { result ≡ place_of name.now self.now }
     {
-        lists::place_of(&self.entries, name, self.entries.digest_of(name))
+        match &self.kept {
+            Some(table) => table.place_of(name),
+            None => None,
+        }
     }
 
     /// The same of a name that was hashed.
     pub fn place_of_hashed(&self, name: &HashedName) -> Option<usize>
         ensures { result ≡ place_of name.now self.now }
     {
-        lists::place_of(&self.entries, name.as_name(), self.entries.digest_in(name))
+        match &self.kept {
+            Some(table) => table.place_of_hashed(name),
+            None => None,
+        }
     }
 
     /// Whether a link under this name would be refused: there are as many as there may be, and none is displaced.
@@ -119,7 +140,10 @@ impl Links {
     pub fn rings(&self) -> &[Serial]
         ensures { result.now ≡ serials (nested self.now) }
     {
-        self.rings.as_slice()
+        match &self.kept {
+            Some(table) => table.rings(),
+            None => &[],
+        }
     }
 
     /// Links a serial under a name: in the place of the link of that name, whose serial is answered, else last.
@@ -132,7 +156,7 @@ impl Links {
         ensures error { IfErr result (λ error. error ≡ link_error self.old name) }
         ensures err { OnErr result (self.new ≡ self.old) }
     {
-        let seed = self.entries.seed();
+        let seed = self.seed;
         self.put_hashed(HashedName::new(name, seed), serial)
     }
 
@@ -145,12 +169,14 @@ impl Links {
         ensures error { IfErr result (λ error. error ≡ link_error self.old name) }
         ensures err { OnErr result (self.new ≡ self.old) }
     {
-        let digest = self.entries.digest_in(&name);
-        let Some(place) = lists::place_of(&self.entries, name.as_name(), digest) else {
-            return self.append(name, serial);
+        if let Some(table) = &mut self.kept {
+            return table.put_hashed(name, serial);
+        }
+        let Ok(table) = one_link(self.alloc, self.seed, name, serial) else {
+            return Err(Errno::ENOMEM);
         };
-        let displaced = lists::displace(&mut self.entries, &mut self.rings, place, &name, serial);
-        Ok(displaced)
+        self.kept = Some(table);
+        Ok(None)
     }
 
     /// Takes out the link of a name, and answers its serial. keyctl(2), KEYCTL_UNLINK: ENOENT.
@@ -159,11 +185,10 @@ impl Links {
         ensures links { self.new ≡ unlinked self.old name.now }
         ensures err { OnErr result (self.new ≡ self.old) }
     {
-        let digest = self.entries.digest_of(name);
-        let Some(place) = lists::place_of(&self.entries, name, digest) else {
-            return Err(Errno::ENOENT);
-        };
-        lists::remove_at(&mut self.entries, &mut self.rings, place).ok_or(Errno::ENOENT)
+        match &mut self.kept {
+            Some(table) => table.remove(name),
+            None => Err(Errno::ENOENT),
+        }
     }
 
     /// Takes out the link at a place, where there is one, and answers its serial. Those behind it move up. It takes no
@@ -172,33 +197,32 @@ impl Links {
         ensures value { result ≡ slice_get (serials self.old) place }
         ensures links { self.new ≡ remove self.old place }
     {
-        lists::remove_at(&mut self.entries, &mut self.rings, place)
+        match &mut self.kept {
+            Some(table) => table.remove_at(place),
+            None => None,
+        }
     }
 
     /// Takes out all links, and gives their memory back: keyctl(2), KEYCTL_CLEAR.
     pub fn clear(&mut self)
         ensures { self.new ≡ [] }
     {
-        self.entries.clear();
-        self.rings.clear();
-        self.rings.shrink_to_fit();
+        self.kept = None;
     }
+}
 
-    /// A link under a new name, which stands last.
-    fn append(&mut self, name: HashedName, serial: Serial) -> Result<Option<Serial>, Errno>
-        requires { serial_named self.old name ≡ None }
-        ensures displaced { IfOk result (λ old. old ≡ None) }
-        ensures links { OnOk result (self.new ≡ link_put self.old name serial) }
-        ensures room { OnOk result (is_full self.old ≡ false) }
-        ensures error { IfErr result (λ error. error ≡ link_error self.old name) }
-        ensures err { OnErr result (self.new ≡ self.old) }
-    {
-        if self.is_full() {
-            return Err(Errno::ENFILE);
-        }
-        match lists::append(&mut self.entries, &mut self.rings, name, serial) {
-            Ok(()) => Ok(None),
-            Err(_) => Err(Errno::ENOMEM),
-        }
+/// A table with one link.
+fn one_link(
+    alloc: Global,
+    seed: Seed,
+    name: HashedName,
+    serial: Serial,
+) -> Result<Box<LinkTable>, AllocError>
+    ensures { IfOk result (λ table. table.value ≡ (name, serial) ∷ []) }
+{
+    let mut table = Box::new(alloc, LinkTable::new(alloc, seed))?;
+    match table.put_hashed(name, serial) {
+        Ok(_) => Ok(table),
+        Err(_) => Err(AllocError),
     }
 }

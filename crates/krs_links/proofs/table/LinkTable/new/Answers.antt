@@ -1,5 +1,5 @@
 use Rattle.krs_links.proofs.PlacesLemmas.{none_are_lists}
-use Rattle.krs_links.proofs.links.Links.new.Goals as goal
+use Rattle.krs_links.proofs.table.LinkTable.new.Goals as goal
 
 pub invariant_of-result : goal.invariant_of-result
 invariant_of-result c = record {

@@ -5,8 +5,8 @@ use Rattle.krs_links.specs.Links.{serial_named}
 use Rattle.krs_links.specs.Indexed.{linked}
 use Rattle.krs_links.proofs.LinksLemmas.{unlinked_none}
 use Rattle.krs_links.proofs.PlacesLemmas.{serial_at_named, unlinked_at, linked_as_at}
-use Rattle.krs_links.proofs.links.Links.remove.Goals.{After-ok_or}
-use Rattle.krs_links.proofs.links.Links.remove.Goals as goal
+use Rattle.krs_links.proofs.table.LinkTable.remove.Goals.{After-ok_or}
+use Rattle.krs_links.proofs.table.LinkTable.remove.Goals as goal
 
 pub returns-in_default-clause-links : goal.returns-in_default-clause-links
 returns-in_default-clause-links c =

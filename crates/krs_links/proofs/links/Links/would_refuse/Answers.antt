@@ -1,8 +1,0 @@
-use Rattle.std.proofs.Common.{rules}
-use Rattle.krs_links.proofs.links.Links.would_refuse.Goals as goal
-
-pub returns-then-is_full : goal.returns-then-is_full
-returns-then-is_full c = search rules
-
-pub returns-else-is_full : goal.returns-else-is_full
-returns-else-is_full c = search rules
