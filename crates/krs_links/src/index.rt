@@ -148,16 +148,6 @@ impl LinkIndex {
             None => None,
         }
     }
-
-    /// Without any link. The memory is given back.
-    pub(crate) fn clear(&mut self)
-        ensures indexed { IsIndexed self.new }
-        ensures links { linked self.new ≡ [] }
-    {
-        self.entries.clear();
-        self.entries.shrink_to_fit();
-        self.span = 0;
-    }
 }
 
 /// So many steps behind a digest.

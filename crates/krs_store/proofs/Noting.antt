@@ -18,13 +18,14 @@ use Rattle.krs_types.specs.declared.ask.Op.TheVariants.{Move, RestrictKeyring}
 use Rattle.krs_types.specs.declared.note.KeyEvent.TheVariants.{Updated, Linked}
 use Rattle.krs_model.specs.Table.{Table, at}
 use Rattle.krs_model.specs.State.{State, Key, Queue}
+use Rattle.krs_model.specs.Queues as queues
 use Rattle.krs_model.specs.Queues.{Queues, queues_of}
 use Rattle.krs_model.specs.Outcome.{Leads, Is}
 use Rattle.krs_model.specs.Sound.{IsSound}
 use Rattle.krs_model.specs.Step.{outcome_of}
 use Rattle.krs_tables.specs.Serving.{Tells, LeadsTold}
 use Rattle.krs_types.specs.declared.note.Record.{Record}
-use Rattle.krs_model.specs.Notes.Posting.{Note, Post, posts_of, posted_in, note_for, watches_at, passes_at}
+use Rattle.krs_model.specs.Notes.Posting.{Note, Post, posts, posts_of, posted_in, note_for, watches_at, passes_at}
 use Rattle.krs_model.specs.Notes.Posting.{after_note, after_notes, post_all, records_for}
 use Rattle.krs_model.specs.Notes.Filter.{passes_if_any}
 use Rattle.krs_model.proofs.Notes.Posts.{at_post_all, post_all-append}
@@ -149,6 +150,36 @@ ran_told s mid told client context op answer tellings ran foretells posted =
     let same : told ≡ mid = posted ∙ posted_nothing (goes (told_by tellings answer)) mid (ap goes none) in
     subst (λ (t : State). Tells s client context op answer t) (sym same) is.told)
     (ran_as s client context op (Ok answer) mid ran)
+
+-- where nothing is watched no note goes anywhere
+no_posts : (q : Queues) (notes : List Note) → q.watches ≡ [] → flat_map (posts_of q) notes ≡ []
+no_posts q [] none = refl
+no_posts q (note ∷ notes) none =
+    ap (λ (ws : List queues.Watch). filter (λ p. passes_at (at q.queues p.0) p.1) (map (note_for note)
+    (watches_at note.key ws)) ++ flat_map (posts_of q) notes) none
+    ∙ no_posts q notes none
+
+led_untold :
+    (s new : State) (client context : ℕ) (op : Op) (r : Result Answer Fault) → s.watches ≡ []
+    → EndsNone s client context op r new → LeadsTold s client context op r new
+led_untold s new client context op (Err e) none is = is.leads
+led_untold s new client context op (Ok answer) none is =
+    let notes = notes_of s client context op answer in
+    let nothing : posts (queues_of s) notes (ended_by s client context op) ≡ [] =
+    rw (is.none_ended, no_posts (queues_of s) notes none) refl in
+    record {
+      mid = new;
+      meant = is.leads;
+      posted = sym (posted_nothing (posts (queues_of s) notes (ended_by s client context op)) new nothing);
+    }
+
+-- an ask of a store that watches nothing tells nothing
+pub unwatched_told :
+    (s new : State) (client context : ℕ) (op : Op) (r : Result Answer Fault) → s.watches ≡ []
+    → Runs s client context op r new → LeadsTold s client context op r new
+unwatched_told s new client context op r none ran =
+    ⊎_elim (led_untold s new client context op r none)
+    (λ (is : TellsNone s client context op r new). is.told) (ran_as s client context op r new ran)
 
 linked_told :
     (ring : Result ℕ Errno) (n : ℕ)

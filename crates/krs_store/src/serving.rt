@@ -15,8 +15,21 @@ use krs_ring_asks::{
 use krs_tables::Tables;
 use krs_types::{Answer, Ask, Fault, Op};
 
-/// One ask in the state that it finds, and the notes of what it did.
+/// One ask in the state that it finds, and the notes of what it did. Where no key is watched no note goes anywhere, so none
+/// is looked for.
 pub(crate) fn serve(tables: &mut Tables, client: u32, ask: Ask) -> Result<Answer, Fault>
+    requires sound { IsSound tables.old }
+    ensures told { LeadsTold tables.old client ask.context ask.op result tables.new }
+    ensures memory { IsErrOf result Fault.Memory → grows ask.op ≡ true }
+{
+    if !tables.queues.has_watches() {
+        return run(tables, client, ask);
+    }
+    serve_watched(tables, client, ask)
+}
+
+/// The same in a store that watches keys.
+fn serve_watched(tables: &mut Tables, client: u32, ask: Ask) -> Result<Answer, Fault>
     requires sound { IsSound tables.old }
     ensures told { LeadsTold tables.old client ask.context ask.op result tables.new }
     ensures memory { IsErrOf result Fault.Memory → grows ask.op ≡ true }

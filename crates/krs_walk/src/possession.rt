@@ -223,10 +223,10 @@ fn is_linked_within(
     if depth == 0 {
         return false;
     }
-    if links_key(keys, caller, clock, ring, key, serial) {
+    let (linked, rings) = look_into(keys, caller, clock, ring, key, serial);
+    if linked {
         return true;
     }
-    let rings = followed_rings(keys, caller, clock, ring);
     for nested in rings {
         if is_linked_within(keys, caller, clock, *nested, depth - 1, key, serial) {
             return true;
@@ -308,6 +308,30 @@ fn followed_rings<'a>(
     match keys.get(serial) {
         Some(key) if is_followed(key, caller, clock) => rings_in(&key.content),
         _ => &[],
+    }
+}
+
+/// Both at one look at a keyring: whether it links a key, and its possessor follows that; and the nested keyrings that he
+/// follows.
+fn look_into<'a>(
+    keys: &'a KeyTable,
+    caller: &Caller,
+    clock: u64,
+    ring: Serial,
+    key: &Key,
+    serial: Serial,
+) -> (bool, &'a [Serial])
+    requires fit { AreFit keys.now.keys }
+    requires key { at keys.now.keys serial ≡ Some key.now }
+    ensures linked { result.0 ≡ follows_link_to (shown keys.now.keys) clock caller.now serial ring }
+    ensures rings { result.1.now ≡ followed_rings (shown keys.now.keys) clock caller.now ring }
+{
+    match keys.get(ring) {
+        Some(holder) if is_followed(holder, caller, clock) => {
+            let linked = is_found(find_in(&holder.content, &key.name), serial);
+            (linked, rings_in(&holder.content))
+        }
+        _ => (false, &[]),
     }
 }
 

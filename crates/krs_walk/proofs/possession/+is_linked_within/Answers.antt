@@ -11,18 +11,18 @@ returns-then-depth-eq0 t c =
     sym (any_none (follows_link_to keys c.args.clock caller c.args.serial)
     (followed_rings keys c.args.clock caller) c.args.ring c.args.depth c.if-depth-eq0.true)
 
-pub returns-then-links_key : goal.returns-then-links_key
-returns-then-links_key t c =
+pub returns-then-linked : goal.returns-then-linked
+returns-then-linked t c =
     let keys = shown c.args.keys.now.keys in
     let caller = c.args.caller.now in
     sym (any_first (follows_link_to keys c.args.clock caller c.args.serial)
     (followed_rings keys c.args.clock caller) c.args.ring c.args.depth c.if-depth-eq0.false
-    (sym c.links_key.ensures ∙ c.if-links_key.true))
+    (sym c.look_into-linked.ensures.linked ∙ c.if-linked.true))
 
 pub loop-nested-init : goal.loop-nested-init
 loop-nested-init t c =
     let keys = shown c.args.keys.now.keys in
     let caller = c.args.caller.now in
     any_below (follows_link_to keys c.args.clock caller c.args.serial)
-    (followed_rings keys c.args.clock caller) c.args.ring c.args.depth c.followed_rings-rings.result.now
-    c.if-depth-eq0.false (sym c.links_key.ensures ∙ c.if-links_key.false) c.followed_rings-rings.ensures
+    (followed_rings keys c.args.clock caller) c.args.ring c.args.depth c.look_into-linked.result.1.now
+    c.if-depth-eq0.false (sym c.look_into-linked.ensures.linked ∙ c.if-linked.false) c.look_into-linked.ensures.rings
