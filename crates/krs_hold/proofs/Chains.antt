@@ -147,6 +147,33 @@ falling es first k c e f h = pushed es (alter es k (lowered first)) first k (ap 
     ∙ ap Some (lowered_falls first c f)) (λ q n. alter_other es k q (lowered first) n) h
 
 -- a new count
+-- a new count of one holder, which does not wait
+pub held_chained :
+    (es : Table Count) (first : Option ℕ) (k : ℕ) → at es k ≡ None → IsChained es first
+    → IsChained (put es k (record { holders = 1; waiting = false; next = None })) first
+held_chained es first k none h =
+    let c : Count = record { holders = 1; waiting = false; next = None } in
+    let fs = put es k c in
+    let mine : at fs k ≡ Some c = at_put_same es k c in
+    let others : (q : ℕ) → (q ≡ k → ⊥) → at fs q ≡ at es q = λ q n. put_other es k q c n in
+    let out : is_in k h.chain ≡ false = out_of es first h.chain k h.linked (ap is_waiting none) in
+    let apart : (q : ℕ) → is_in q h.chain ≡ true → q ≡ k
+    → ⊥ = λ q i s. true≢false (sym i ∙ (ap (λ (z : ℕ). is_in z h.chain) s ∙ out)) in
+    record {
+      chain = h.chain;
+      linked = chain_same es fs first h.chain
+          (λ q i. (ap is_waiting (others q (apart q i)), ap next_at (others q (apart q i)))) h.linked;
+      whole = λ q w. ⊎_elim
+          (λ s. absurd (true≢false (sym w ∙ ap is_waiting (ap (at fs) s ∙ mine))))
+          (λ n. h.whole q (sym (ap is_waiting (others q n)) ∙ w))
+          (cases_eq q k);
+      due = λ q there zero. ⊎_elim
+          (λ s. let same : 1 ≡ 0 = sym (ap holders_at (ap (at fs) s ∙ mine)) ∙ zero in absurd (omega (arith, same)))
+          (λ n. ap is_waiting (others q n)
+          ∙ h.due q (subst IsSome (others q n) there) (sym (ap holders_at (others q n)) ∙ zero))
+          (cases_eq q k);
+    }
+
 pub made_chained :
     (es : Table Count) (first : Option ℕ) (k : ℕ) → at es k ≡ None → IsChained es first
     → IsChained (put es k (record { holders = 0; waiting = true; next = first })) (Some k)

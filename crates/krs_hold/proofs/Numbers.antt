@@ -3,13 +3,15 @@ use Rattle.std.proofs.Common.{◌≡◌, ℕ, ◌+◌, ◌-◌, List, [], ◌∷
 use Rattle.std.proofs.Common.{refl, ap, ◌∙◌, sym, subst}
 use Rattle.std.proofs.lemmas.Bool.{true≢false}
 use Rattle.std.specs.Option.{is_some}
+use Rattle.std.specs.Ordering.{match_ordering, nat_cmp}
+use Rattle.std.specs.declared.cmp.Ordering.TheVariants.{Less, Equal, Greater}
 use Rattle.krs_model.specs.Table.{Table, at, alter, put}
-use Rattle.krs_model.proofs.Tables.Changes.{put_map, alter_map}
+use Rattle.krs_model.proofs.Tables.Changes.{put_map, alter_map, is_at_same}
 use Rattle.krs_hold.specs.declared.counts.Count.{Count}
 use Rattle.krs_hold.specs.Tally.{number_at, with_number, one_more, one_less, all_less}
 use Rattle.krs_hold.specs.Chain.{numbers_of, holders_at, falls_at, lowered, raised, IsChained, Chained, gone}
 use Rattle.krs_hold.specs.Chain.{gone_all}
-use Rattle.krs_hold.proofs.Chains.{made_chained, raised_chained, gone_chained, gone_all_chained}
+use Rattle.krs_hold.proofs.Chains.{made_chained, held_chained, raised_chained, gone_chained, gone_all_chained}
 use Rattle.krs_hold.proofs.Exact.{holders_lowered, number_is, is_some_shown}
 
 -- what a caller sees of one count
@@ -112,3 +114,50 @@ pub chain_made :
 chain_made es fs first k absent e h =
     subst (λ (zs : Table Count). IsChained zs (Some k)) (sym e) (made_chained es first k (none_from
     (at es k) absent) h)
+
+alter_put : (es : Table ℕ) (k v : ℕ) (f : ℕ → ℕ) → alter (put es k v) k f ≡ put es k (f v)
+alter_put [] k v f = rw (is_at_same k) refl
+alter_put (e ∷ es) k v f =
+    elim (nat_cmp k e.0) as (λ r. nat_cmp k e.0 ≡ r
+    → alter (match_ordering r ((k, v) ∷ e ∷ es) ((e.0, v) ∷ es) (e ∷ put es k v)) k f
+    ≡ match_ordering r ((k, f v) ∷ e ∷ es) ((e.0, f v) ∷ es) (e ∷ put es k (f v))) [
+      | Less ↦ λ t. rw (is_at_same k) refl
+      | Equal ↦ λ t. rw t refl
+      | Greater ↦ λ t. rw t (ap (λ (zs : Table ℕ). e ∷ zs) (alter_put es k v f))
+    ] refl
+
+-- a new count of one holder
+pub number_held :
+    (es fs : Table Count) (numbers : Table ℕ) (k n : ℕ) → n ≡ k → numbers_of es ≡ numbers
+    → is_some (at es n) ≡ false → fs ≡ put es n (record { holders = 1; waiting = false; next = None })
+    → numbers_of fs ≡ one_more k (with_number k numbers)
+number_held es fs numbers k n same seen absent e =
+    let here : is_some (at numbers n) ≡ false =
+    ap (λ (zs : Table ℕ). is_some (at zs n)) (sym seen) ∙ (is_some_shown es n ∙ absent) in
+    let there : is_some (at numbers k) ≡ false = ap (λ z. is_some (at numbers z)) (sym same) ∙ here in
+    ap numbers_of e
+    ∙ (put_map (λ (c : Count). c.holders) es n (record { holders = 1; waiting = false; next = None })
+    ∙ (ap (λ (zs : Table ℕ). put zs n 1) seen
+    ∙ (ap (λ z. put numbers z 1) same
+    ∙ (sym (alter_put numbers k 0 (λ m. m + 1))
+    ∙ ap (λ b. one_more k (cond b numbers (put numbers k 0))) (sym there)))))
+
+pub chain_held :
+    (es fs : Table Count) (first : Option ℕ) (k : ℕ) → is_some (at es k) ≡ false
+    → fs ≡ put es k (record { holders = 1; waiting = false; next = None }) → IsChained es first
+    → IsChained fs first
+chain_held es fs first k absent e h =
+    subst (λ (zs : Table Count). IsChained zs first) (sym e) (held_chained es first k (none_from (at es k) absent) h)
+
+-- a key that has a count has a number
+pub number_there :
+    (es : Table Count) (numbers : Table ℕ) (k n : ℕ) → n ≡ k → numbers_of es ≡ numbers
+    → is_some (at es n) ≡ true → is_some (at numbers k) ≡ true
+number_there es numbers k n same seen there =
+    ap (λ (zs : Table ℕ). is_some (at zs k)) (sym seen)
+    ∙ (ap (λ z. is_some (at (numbers_of es) z)) (sym same) ∙ (is_some_shown es n ∙ there))
+
+-- a number that is there stays
+pub with_number_there :
+    (numbers : Table ℕ) (k : ℕ) → is_some (at numbers k) ≡ true → numbers ≡ with_number k numbers
+with_number_there numbers k there = ap (λ b. cond b numbers (put numbers k 0)) (sym there)

@@ -19,6 +19,13 @@ use std::alloc::Global;
 use std::collections::HashMap;
 use std::marker::Model;
 
+/// The count of a new key, which its first holder holds.
+const HELD_ONCE: Count = Count {
+    holders: 1,
+    waiting: false,
+    next: None,
+};
+
 /// How many links and attachments hold each key. Through the counts runs a chain, which has each
 /// key that nothing holds, and some that something holds again.
 #[derive(Drop)]
@@ -76,6 +83,37 @@ impl Holders {
             }
             Err(_) => Err(Errno::ENOMEM),
         }
+    }
+
+    /// Counts a key that is made next, with its first holder: ENOMEM. Where that key is then not made, the holder lets go of
+    /// it again, and the next sweep drops the count.
+    pub fn made_held(&mut self, serial: Serial) -> Result<(), Errno>
+        ensures ok { OnOk result (self.new ≡ one_more serial (with_number serial self.old)) }
+        ensures error { IfErr result (λ e. e ≡ ENOMEM) }
+        ensures err { OnErr result (self.new ≡ self.old) }
+    {
+        let number = serial.number();
+        if self.counts.contains_key(&number) {
+            return self.hold_again(serial);
+        }
+        let Ok(_) = self.counts.insert(number, HELD_ONCE) else {
+            return Err(Errno::ENOMEM);
+        };
+        Ok(())
+    }
+
+    /// One more link or attachment holds a key that has a count, where that has room.
+    fn hold_again(&mut self, serial: Serial) -> Result<(), Errno>
+        requires { IsSome (at self.old serial) }
+        ensures ok { OnOk result (self.new ≡ one_more serial (with_number serial self.old)) }
+        ensures error { IfErr result (λ e. e ≡ ENOMEM) }
+        ensures err { OnErr result (self.new ≡ self.old) }
+    {
+        if !self.has_room(serial, 1) {
+            return Err(Errno::ENOMEM);
+        }
+        self.hold(serial);
+        Ok(())
     }
 
     /// Whether so many more may hold a key. It is for the caller to ask before it changes anything.
