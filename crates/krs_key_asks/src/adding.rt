@@ -11,7 +11,7 @@ ghost use Rattle.krs_tables.specs.Making.{adding_in};
 
 use krs_keys::{Change, Content, Key, LAST_SERIAL};
 use krs_links::{HashedName, Links};
-use krs_tables::{Tables, check_room};
+use krs_tables::Tables;
 use krs_types::{
     Answer, Blob, Body, Context, Desc, Errno, Fault, Kind, Name, Perm, Rights, Serial, Want,
 };
@@ -132,21 +132,22 @@ fn make(
     ensures ok { OnOk result (tables.new ≡ made tables.old ring name (new_key name payload uid gid)) }
     ensures err { OnErr result (tables.new ≡ tables.old) }
 {
-    tables.make_walk_room(1)?;
+    tables.make_room_for(name.kind())?;
     let serial = Serial::new(tables.keys.next());
     let link = name.copy(tables.alloc)?;
     let key = tables.new_key(name, payload, uid, gid);
-    let Ok(()) = tables.holders.made(serial) else {
+    let Ok(()) = tables.holders.made_held(serial) else {
         return Err(AllocError);
     };
-    check_room(&tables.holders, &Some(serial))?;
     match tables.keys.insert_linked(ring, link, key) {
         Ok(displaced) => {
-            tables.holders.hold(serial);
             tables.holders.let_go_of(displaced);
             Ok(serial)
         }
-        Err(_) => Err(AllocError),
+        Err(_) => {
+            tables.holders.let_go(serial);
+            Err(AllocError)
+        }
     }
 }
 

@@ -17,7 +17,7 @@ use krs_ctx::Contexts;
 use krs_hold::Holders;
 use krs_keys::{Change, Key, KeyTable};
 use krs_links::{HashedName, Links, Seed};
-use krs_types::{Context, Errno, KeyId, Name, Serial, Want};
+use krs_types::{Context, Errno, KeyId, Kind, Name, Serial, Want};
 use krs_walk::Walker;
 use krs_watch::WatchQueues;
 use std::alloc::{AllocError, Global};
@@ -197,6 +197,14 @@ impl Tables {
         self.check_memory()?;
         self.walker
             .room_for(self.keys.ring_count().saturating_add(more))
+    }
+
+    /// The same for a new key of this kind: a walk comes to keyrings alone.
+    pub fn make_room_for(&self, kind: Kind) -> Result<(), AllocError> {
+        match kind {
+            Kind::Keyring => self.make_walk_room(1),
+            Kind::User | Kind::Logon => self.check_memory(),
+        }
     }
 
     /// The clock is at least at this moment from now on.

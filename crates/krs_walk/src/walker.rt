@@ -15,6 +15,8 @@ pub struct Walker {
     pub(crate) held: Cell<Visits>,
     /// Those of a question of possession, which a search may ask on its way.
     pub(crate) followed: Cell<Visits>,
+    /// For so many keyrings each list has room.
+    room: Cell<usize>,
 }
 
 impl Walker {
@@ -25,15 +27,21 @@ impl Walker {
             rings: Cell::new(Visits::new(alloc)),
             held: Cell::new(Visits::new(alloc)),
             followed: Cell::new(Visits::new(alloc)),
+            room: Cell::new(0),
         }
     }
 
     /// Makes room for walks over that many keyrings: what a walk lists are keyrings, each once. No clause can say that
     /// there is room then: it lies in cells.
     pub fn room_for(&self, rings: usize) -> Result<(), AllocError> {
+        if rings <= self.room.get() {
+            return Ok(());
+        }
         self.grow(&self.rings, rings)?;
         self.grow(&self.held, rings)?;
-        self.grow(&self.followed, rings)
+        self.grow(&self.followed, rings)?;
+        self.room.set(rings);
+        Ok(())
     }
 
     /// Makes room in one list.

@@ -11,32 +11,33 @@ use Rattle.krs_tables.specs.View.{state_of, IsConsistent}
 use Rattle.krs_tables.proofs.Definitions.{made_told, seen-maker_key}
 use Rattle.krs_model.specs.Sweep.{roots}
 use Rattle.std.specs.Option.{option_to_list}
-use Rattle.krs_hold.specs.Tally.{AreExact, with_number, one_more, all_less}
-use Rattle.krs_hold.proofs.Tallies.{tallied_with}
+use Rattle.krs_hold.specs.Tally.{AreExact, with_number, one_more, one_less, all_less}
+use Rattle.krs_hold.proofs.Tallies.{tallied_with, tallied_hold, tallied_let_go, some_with}
 use Rattle.krs_tables.proofs.OwedHolders.{made_tallied, first_links}
 use Rattle.krs_tables.specs.declared.tables.Tables.TheInside.{Inside}
 use Rattle.krs_keys.specs.Keys.{IsOfKind}
 use Rattle.krs_tables.proofs.Definitions.{first_kind}
 use Rattle.krs_key_asks.proofs.adding.make.Goals as goal
 
-room_sound : (s : Inside) (numbers : Table ℕ) (k : ℕ) → IsConsistent s → numbers ≡ with_number k s.holders
-    → IsConsistent (record s { holders = numbers })
-room_sound s numbers k sound e = record {
+-- a holder that was counted for a key that is not made lets go of it again
+held_sound : (s : Inside) (numbers fewer : Table ℕ) (k : ℕ) → IsConsistent s
+    → numbers ≡ one_more k (with_number k s.holders) → fewer ≡ one_less k numbers
+    → IsConsistent (record s { holders = fewer })
+held_sound s numbers fewer k sound e f = record {
   fit = sound.fit;
   kinds = sound.kinds;
-  tallied = subst (λ (zs : Table ℕ). AreExact s.keys.keys zs (roots (state_of s))) (sym e)
-      (tallied_with (shown s.keys.keys) (roots (state_of s)) [] s.holders k sound.tallied);
+  tallied = subst (λ (zs : Table ℕ). AreExact s.keys.keys zs (roots (state_of s))) (sym (f ∙ ap (one_less k) e))
+      (tallied_let_go (shown s.keys.keys) (roots (state_of s)) [] (one_more k (with_number k s.holders)) k
+      (tallied_hold (shown s.keys.keys) (roots (state_of s)) [] (with_number k s.holders) k (some_with s.holders k)
+      (tallied_with (shown s.keys.keys) (roots (state_of s)) [] s.holders k sound.tallied)));
 }
-
-pub invariant_of-tables-in_err-check_room : goal.invariant_of-tables-in_err-check_room
-invariant_of-tables-in_err-check_room c =
-    room_sound c.tables.inside c.made.new.self c.new-serial.result c.tables.invariant c.in-Ok.ensures.ok
 
 pub invariant_of-tables-in-Err : goal.invariant_of-tables-in-Err
 invariant_of-tables-in-Err c =
-    subst (λ (k : Keys). IsConsistent (record c.tables.inside { keys = k; holders = c.made.new.self }))
+    subst (λ (k : Keys). IsConsistent (record c.tables.inside { keys = k; holders = c.let_go.new.self }))
     (sym c.in-Err.ensures.err)
-    (room_sound c.tables.inside c.made.new.self c.new-serial.result c.tables.invariant c.in-Ok.ensures.ok)
+    (held_sound c.tables.inside c.made_held.new.self c.let_go.new.self c.new-serial.result c.tables.invariant
+    c.in-Ok.ensures.ok c.let_go.ensures)
 
 pub invariant_of-tables-in-Ok-insert_linked : goal.invariant_of-tables-in-Ok-insert_linked
 invariant_of-tables-in-Ok-insert_linked c =
@@ -64,8 +65,7 @@ invariant_of-tables-in-Ok-insert_linked c =
     (displaced_at (put es n key) c.args.ring c.args.name)) (one_more n (with_number n s.holders)) =
     c.let_go_of.ensures
     ∙ (ap (all_less (option_to_list c.in-Ok-insert_linked.displaced))
-    (c.hold.ensures ∙ (ap (one_more c.new-serial.result) c.in-Ok.ensures.ok
-    ∙ ap (λ k. one_more k (with_number k s.holders)) serial))
+    (c.in-Ok.ensures.ok ∙ ap (λ k. one_more k (with_number k s.holders)) serial)
     ∙ ap (λ (o : Option ℕ). all_less (option_to_list o) (one_more n (with_number n s.holders))) displaced) in
     record {
       fit = told.fit;
