@@ -51,7 +51,7 @@ impl Search<'_> {
     }
 
     /// What the links of a keyring come to, behind this fault.
-    fn find_in_links(&self, ring: Serial, fault: Errno) -> Result<Serial, Errno>
+    pub(crate) fn find_in_links(&self, ring: Serial, fault: Errno) -> Result<Serial, Errno>
         requires fit { AreFit self.now.keys.now.keys }
         ensures { result ≡ sought_behind self.now fault (entered_links self.now ring) }
     {

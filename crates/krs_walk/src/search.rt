@@ -130,13 +130,17 @@ impl Search<'_> {
         }
     }
 
-    /// What it comes to where the head has this fault.
+    /// What it comes to where the head has this fault. Mostly the head links the key: so it is asked before lists are taken
+    /// out for a walk.
     fn find_under(&self, head: Serial, fault: Errno) -> Result<Serial, Errno>
         requires fit { AreFit self.now.keys.now.keys }
         requires only { OnlyRingsLink (shown self.now.keys.now.keys) }
         requires head { sought_in self.now (head ∷ []) ≡ Err fault }
         ensures { result ≡ found_by (searcher_for self.now) head self.now.name.now }
     {
+        if let Ok(linked) = self.find_in_links(head, fault) {
+            return Ok(linked);
+        }
         match self.find_below(head, fault) {
             Ok(found) => found,
             Err(NoRoom) => self.find_by_levels(head, fault),
