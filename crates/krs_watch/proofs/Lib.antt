@@ -4,3 +4,5 @@ pub mod FrontLemmas
 pub mod ChangesLemmas
 pub mod PlacesLemmas
 pub mod WatchersLemmas
+pub mod WatchesLemmas
+pub mod QueuedLemmas

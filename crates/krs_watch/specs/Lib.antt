@@ -1,4 +1,5 @@
 pub mod View
+pub mod Watched
 pub mod Offers
 pub mod Reads
 pub mod Changes

@@ -7,6 +7,7 @@ mod posting;
 mod queue;
 mod queues;
 mod wanted;
+mod watches;
 
 pub use ids::watch_id;
 pub use laws::{

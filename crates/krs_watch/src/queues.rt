@@ -3,15 +3,16 @@ ghost use Rattle.std.specs.List.{list_any};
 ghost use Rattle.krs_model.specs.Queues.{no_queues, queues_without};
 ghost use Rattle.krs_model.specs.Notes.Posting.{posts_of, posted, post_all, removal_for};
 ghost use Rattle.krs_model.specs.Asks.Watching.{opened, filtered, read_out, closed, watched, without_client};
-ghost use Rattle.krs_model.specs.Asks.Watching.{watches_of};
-ghost use Rattle.krs_model.specs.Table.{alter};
+ghost use Rattle.krs_model.specs.Table.{Rises, alter};
 ghost use Rattle.krs_model.specs.Asks.Watching.{with_filter};
 ghost use Rattle.krs_watch.specs.Reads.{ReadsAt};
+ghost use Rattle.krs_watch.specs.Watched.{owns};
 ghost use Rattle.krs_watch.specs.Changes.{LeadsQueues, LeadsAlways, OwnsQueue, watch_ended, swept};
 
 use crate::posting::{Place, around, post, post_note};
 use crate::queue::NoteQueue;
 use crate::wanted::Wanted;
+use crate::watches::Watches;
 use krs_keys::KeySet;
 use krs_notes::Filter;
 use krs_ring::NoteRing;
@@ -30,7 +31,7 @@ const MAX_NUMBER: u64 = 4_294_967_295;
 #[derive(Drop)]
 pub struct WatchQueues {
     queues: BTreeMap<u32, NoteQueue>,
-    watches: BTreeMap<Place, u8>,
+    watches: Watches,
     next_queue: u64,
     alloc: Global,
     /// It is no part of what contracts see.
@@ -42,9 +43,11 @@ impl Model for WatchQueues {
 
     ghost Value = { Queues };
 
-    ghost use Rattle.krs_watch.specs.View.{queues_of};
+    ghost use Rattle.krs_watch.specs.View.{queues_of, AreQueuedInside};
 
     ghost view = { queues_of };
+
+    ghost invariant = { AreQueuedInside };
 }
 
 impl WatchQueues {
@@ -53,7 +56,7 @@ impl WatchQueues {
     {
         WatchQueues {
             queues: BTreeMap::new(alloc),
-            watches: BTreeMap::new(alloc),
+            watches: Watches::new(alloc),
             next_queue: 1,
             alloc,
             wanted: Wanted::new(alloc),
@@ -117,11 +120,11 @@ impl WatchQueues {
     {
         check_own(&self.queues, client, number)?;
         let place = (key.number(), number);
-        if self.watches.contains_key(&place) {
+        if self.watches.all().contains_key(&place) {
             return Err(Fault::Refused(Errno::EBUSY));
         }
         self.check_memory()?;
-        self.watches.insert(place, id)?;
+        self.watches.insert(key.number(), number, id)?;
         Ok(())
     }
 
@@ -131,8 +134,7 @@ impl WatchQueues {
         ensures { LeadsAlways self.old result self.new (watch_ended self.old client number key) }
     {
         check_own(&self.queues, client, number)?;
-        let place = (key.number(), number);
-        let Some(watch) = self.watches.remove(&place) else {
+        let Some(watch) = self.watches.remove(key.number(), number) else {
             return Err(Errno::EBADSLT);
         };
         let id = u64::from(key.number());
@@ -156,7 +158,7 @@ impl WatchQueues {
     {
         check_own(&self.queues, client, number)?;
         let _ = self.queues.remove(&number);
-        end_watches_of(&mut self.watches, number);
+        self.watches.end_all_of(number);
         Ok(())
     }
 
@@ -164,15 +166,15 @@ impl WatchQueues {
     pub fn leave(&mut self, client: u32)
         ensures { self.new ≡ without_client self.old client }
     {
+        end_watches_of(&mut self.watches, &self.queues, client);
         drop_queues(&mut self.queues, client);
-        keep_watches(&mut self.watches, &self.queues);
     }
 
     /// Whether any key is watched.
     pub fn has_watches(&self) -> bool
         ensures { (result ≡ false) ↔ (self.now.watches ≡ []) }
     {
-        !self.watches.is_empty()
+        !self.watches.all().is_empty()
     }
 
     /// Tells all that watch a key and let it pass what happened, with the other key of a link, or 0.
@@ -180,15 +182,21 @@ impl WatchQueues {
         ensures { self.new ≡ posted
             (posts_of self.old (record { event = event; key = key; aux = aux })) self.old }
     {
-        post_note(&mut self.queues, &self.watches, event, key.number(), aux);
+        post_note(
+            &mut self.queues,
+            self.watches.all(),
+            event,
+            key.number(),
+            aux,
+        );
     }
 
     /// The end of the watches of all keys that are gone, of which records go to their queues.
     pub fn sweep<K: KeySet>(&mut self, keys: &K)
         ensures { self.new ≡ swept (K.has keys.now) self.old }
     {
-        post_dropped(&mut self.queues, &self.watches, keys);
-        keep_live(&mut self.watches, keys);
+        post_dropped(&mut self.queues, self.watches.all(), keys);
+        self.watches.keep_live(keys);
     }
 }
 
@@ -197,7 +205,7 @@ impl KeySet for WatchQueues {
 
     /// Whether a key is watched: a look at its own watches alone.
     fn has(&self, key: Serial) -> bool {
-        is_watched(&self.watches, key.number())
+        is_watched(self.watches.all(), key.number())
     }
 }
 
@@ -234,12 +242,6 @@ fn post_dropped<K: KeySet>(
     }
 }
 
-fn keep_live<K: KeySet>(watches: &mut BTreeMap<Place, u8>, keys: &K)
-    ensures { watches.new.entries ≡ filter (λ w. K.has keys.now w.0.0) watches.old.entries }
-{
-    watches.retain(|place, _id| keys.has(Serial::new(place.0)));
-}
-
 /// The queue is the client's: EBADF.
 fn check_own(queues: &BTreeMap<u32, NoteQueue>, client: u32, number: u32) -> Result<(), Errno>
     ensures { OwnsQueue queues.now.entries client number result }
@@ -273,26 +275,20 @@ fn read_at(
     }
 }
 
-fn end_watches_of(watches: &mut BTreeMap<Place, u8>, number: u32)
-    ensures { watches.new.entries ≡ filter (λ w. not (w.0.1 == number)) watches.old.entries }
+/// The end of the watches of a client's queues.
+fn end_watches_of(watches: &mut Watches, queues: &BTreeMap<u32, NoteQueue>, client: u32)
+    ensures { watches.new ≡ filter (λ w. not (owns client w.0.1 queues.now.entries)) watches.old }
 {
-    watches.retain(|place, _id| place.1 != number);
+    for (number, queue) in queues {
+        if queue.is_of(client) {
+            watches.end_all_of(*number);
+        }
+    }
 }
 
 fn drop_queues(queues: &mut BTreeMap<u32, NoteQueue>, client: u32)
-    ensures { queues.new.entries ≡ queues_without client queues.old.entries }
+    ensures queues { queues.new.entries ≡ queues_without client queues.old.entries }
+    ensures rises { Rises queues.old.entries }
 {
     queues.retain(|_number, queue| !queue.is_of(client));
-}
-
-fn has_queue(queues: &BTreeMap<u32, NoteQueue>, number: u32) -> bool
-    ensures { result ≡ list_any (λ e. e.0 == number) queues.now.entries }
-{
-    queues.contains_key(&number)
-}
-
-fn keep_watches(watches: &mut BTreeMap<Place, u8>, queues: &BTreeMap<u32, NoteQueue>)
-    ensures { watches.new.entries ≡ watches_of queues.now.entries watches.old.entries }
-{
-    watches.retain(|place, _id| has_queue(queues, place.1));
 }

@@ -1,8 +1,25 @@
-use Rattle.std.proofs.Common.{nat_eq, not, rules}
-use Rattle.std.proofs.lemmas.Map.Made.{filter_same_pairs}
+use Rattle.std.proofs.Common.{not, filter, ap, ◌∙◌, sym}
+use Rattle.krs_model.specs.Table.{Table}
+use Rattle.krs_model.specs.State.{Queue}
+use Rattle.krs_watch.specs.Watched.{owns}
+use Rattle.krs_watch.proofs.QueuedLemmas.{one_of_them, all_stay}
 use Rattle.krs_watch.proofs.queues.end_watches_of.Goals as goal
+
+pub loop-number-preserved-then-is_of : goal.loop-number-preserved-then-is_of
+loop-number-preserved-then-is_of c =
+    let client = c.args.client in
+    let left = c.next.new.self in
+    ap (filter (λ w. not (owns client w.0.1 left))) c.end_all_of.ensures
+    ∙ (one_of_them client (c.in-Some.number.now, c.in-Some.queue.now) left c.loop-number.watches
+    (sym c.is_of.ensures ∙ c.if-is_of.true)
+    ∙ (ap (λ (es : Table Queue). filter (λ w. not (owns client w.0.1 es)) c.loop-number.watches)
+    (sym c.in-Some.ensures.steps)
+    ∙ c.loop-number.invariant))
 
 pub returns : goal.returns
 returns c =
-    filter_same_pairs _ (λ e. not (nat_eq e.0.1 c.args.number)) _ (λ k v b w f' t. search rules)
-    c.args.watches.now.entries c.retain.new.self.entries c.retain.ensures.filtered
+    let client = c.args.client in
+    sym (all_stay client c.loop-number.watches)
+    ∙ (ap (λ (es : Table Queue). filter (λ w. not (owns client w.0.1 es)) c.loop-number.watches)
+    (sym c.in-None.ensures.steps.0)
+    ∙ c.loop-number.invariant)

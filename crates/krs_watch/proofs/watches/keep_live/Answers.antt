@@ -1,6 +1,6 @@
 use Rattle.std.proofs.Common.{rules}
 use Rattle.std.proofs.lemmas.Map.Made.{filter_same_pairs}
-use Rattle.krs_watch.proofs.queues.keep_live.Goals as goal
+use Rattle.krs_watch.proofs.watches.keep_live.Goals as goal
 
 pub returns : goal.returns
 returns g c =

@@ -1,0 +1,119 @@
+//! What is watched, by key and by queue.
+ghost use Rattle.std.specs.Prelude.{ℕ, ◌≡◌, ◌<◌, ◌==◌, not, filter, length, [], None, IsSome, IfSome, IfNone};
+ghost use Rattle.std.specs.Prelude.{OnOk, OnErr};
+ghost use Rattle.krs_model.specs.Queues.{watch_at, with_watch, without_watch};
+
+use crate::posting::Place;
+use krs_keys::KeySet;
+use krs_types::Serial;
+use std::alloc::{AllocError, Global};
+use std::collections::{BTreeMap, BTreeSet};
+use std::marker::Model;
+
+/// The watches by key, then queue; and where they are once more, by queue, then key. So what is asked of one queue looks
+/// at no other's watches.
+#[derive(Drop)]
+pub(crate) struct Watches {
+    by_key: BTreeMap<Place, u8>,
+    by_queue: BTreeSet<(u32, u32)>,
+}
+
+impl Model for Watches {
+    ghost use Rattle.std.specs.Prelude.{List};
+    ghost use Rattle.krs_model.specs.Queues.{Watch};
+
+    ghost Value = { List Watch };
+
+    ghost use Rattle.krs_watch.specs.Watched.{AreListedInside};
+
+    ghost view = { λ w. w.by_key.entries };
+
+    ghost invariant = { AreListedInside };
+}
+
+impl Watches {
+    /// None. It takes no memory.
+    pub(crate) fn new(alloc: Global) -> Self
+        ensures { result ≡ [] }
+    {
+        Watches {
+            by_key: BTreeMap::new(alloc),
+            by_queue: BTreeSet::new(alloc),
+        }
+    }
+
+    /// The watches by key, then queue.
+    pub(crate) fn all(&self) -> &BTreeMap<Place, u8>
+        ensures { result.now.entries ≡ self.now }
+    {
+        &self.by_key
+    }
+
+    /// A new watch. A refusal leaves it nowhere.
+    pub(crate) fn insert(&mut self, key: u32, number: u32, id: u8) -> Result<(), AllocError>
+        requires { watch_at self.old key number ≡ None }
+        ensures ok { OnOk result (self.new ≡ with_watch self.old key number id) }
+        ensures err { OnErr result (self.new ≡ self.old) }
+    {
+        self.by_queue.insert((number, key))?;
+        if self.by_key.insert((key, number), id).is_err() {
+            self.by_queue.remove(&(number, key));
+            return Err(AllocError);
+        }
+        Ok(())
+    }
+
+    /// The end of a watch, whose id is answered.
+    pub(crate) fn remove(&mut self, key: u32, number: u32) -> Option<u8>
+        ensures id { result ≡ watch_at self.old key number }
+        ensures watches { self.new ≡ without_watch self.old key number }
+        ensures unchanged { IfNone result (self.new ≡ self.old) }
+        ensures fewer { IfSome result (λ id. length self.new < length self.old) }
+    {
+        self.by_queue.remove(&(number, key));
+        self.by_key.remove(&(key, number))
+    }
+
+    /// The first key that a queue watches.
+    fn first_of(&self, number: u32) -> Option<u32>
+        ensures there { IfSome result (λ key. IsSome (watch_at self.now key number)) }
+        ensures none { IfNone result (filter (λ w. not (w.0.1 == number)) self.now ≡ self.now) }
+    {
+        let Some((queue, key)) = self.by_queue.range((number, 0)..).next() else {
+            return None;
+        };
+        if *queue != number {
+            return None;
+        }
+        Some(*key)
+    }
+
+    /// The end of all watches of a queue.
+    pub(crate) fn end_all_of(&mut self, number: u32)
+        ensures { self.new ≡ filter (λ w. not (w.0.1 == number)) self.old }
+    {
+        'ending: while let Some(key) = self.first_of(number) {
+            let _ = self.remove(key, number);
+        }
+    }
+
+    /// The end of the watches of all keys that are not there.
+    pub(crate) fn keep_live<K: KeySet>(&mut self, keys: &K)
+        ensures { self.new ≡ filter (λ w. K.has keys.now w.0.0) self.old }
+    {
+        keep_live(&mut self.by_key, keys);
+        keep_listed(&mut self.by_queue, keys);
+    }
+}
+
+fn keep_live<K: KeySet>(watches: &mut BTreeMap<Place, u8>, keys: &K)
+    ensures { watches.new.entries ≡ filter (λ w. K.has keys.now w.0.0) watches.old.entries }
+{
+    watches.retain(|place, _id| keys.has(Serial::new(place.0)));
+}
+
+fn keep_listed<K: KeySet>(listed: &mut BTreeSet<(u32, u32)>, keys: &K)
+    ensures { listed.new.keys ≡ filter (λ p. K.has keys.now p.1) listed.old.keys }
+{
+    listed.retain(|place| keys.has(Serial::new(place.1)));
+}
