@@ -69,7 +69,7 @@ each_at {X = X} P (e ∷ es) k v h there =
 here_some : {X : Type 0} (e : ℕ × X) (es : Table X) → at (e ∷ es) e.0 ≡ Some e.1
 here_some e es = ap (λ b. cond b (Some e.1) (at es e.0)) (is_at_same e.0)
 
-later_none : {X : Type 0} (e : ℕ × X) (es : Table X) (k : ℕ) → at (e ∷ es) k ≡ None → at es k ≡ None
+pub later_none : {X : Type 0} (e : ℕ × X) (es : Table X) (k : ℕ) → at (e ∷ es) k ≡ None → at es k ≡ None
 later_none e es k h = elim (is_at (nat_cmp k) e.0) as (λ b. cond b (Some e.1) (at es k) ≡ None → at es k ≡ None) [
   | true ↦ λ n. absurd (none-some e.1 (sym n))
   | false ↦ λ n. n

@@ -19,6 +19,7 @@ use Rattle.krs_ctx.specs.Anchors.{Anchors, Each, IsEntered, IsFit}
 use Rattle.krs_model.proofs.Sound.Changes.{there_map}
 use Rattle.krs_ctx.proofs.EachLemmas.{each_on, each_both, each_filter, each_put, each_without, each_alter, each_at}
 use Rattle.krs_ctx.proofs.EachLemmas.{each_below}
+use Rattle.krs_ctx.proofs.OwnerLemmas.{owners_put, owners_own, owners_filter, owners_without, owners_alter, owners_map}
 
 -- a table whose numbers are below one is below the next
 below_more : {X : Type 0} (es : Table X) (n : ℕ) → IsBelow es n → IsBelow es (n + 1)
@@ -96,9 +97,9 @@ known t number c fit there =
 
 -- one more context of a process
 pub thread_fit : (t new : Anchors) (number : ℕ) (maker c : Context) → IsFit t → at t.contexts number ≡ Some maker
-    → c.process ≡ maker.process → new.contexts ≡ put t.contexts t.next_context c → new.processes ≡ t.processes
-    → new.next_context ≡ t.next_context + 1 → IsFit new
-thread_fit t new number maker c fit there same contexts processes next =
+    → c.process ≡ maker.process → c.caller.uid ≡ maker.caller.uid → new.contexts ≡ put t.contexts t.next_context c
+    → new.processes ≡ t.processes → new.next_context ≡ t.next_context + 1 → IsFit new
+thread_fit t new number maker c fit there same same_uid contexts processes next =
     let is = known t number maker fit there in
     let from = is.from in
     let given = is.given in
@@ -108,6 +109,7 @@ thread_fit t new number maker c fit there same contexts processes next =
       entered = rw (contexts, processes)
           (each_put (IsEntered t.processes) t.contexts t.next_context c (rw same is.process, omega arith)
           fit.entered);
+      owners = owners_put t.contexts new.contexts t.next_context number c maker contexts there same same_uid fit.owners;
     }
 
 -- a context in a process of its own
@@ -124,13 +126,15 @@ enter_fit t new c fit own contexts processes next =
           (each_put (IsEntered ps) t.contexts n c (rw (own, at_put_same t.processes n None) refl, omega arith)
           (each_on (IsEntered t.processes) (IsEntered ps) t.contexts
           (λ e h. (still_put t.processes n e.1.process None h.0, h.1)) fit.entered));
+      owners = owners_own t.contexts new.contexts t.processes n c contexts own fit.contexts fit.entered fit.owners;
     }
 
 -- a context changed, but for its process, and others ended
 pub changed_fit : (t new : Anchors) (number : ℕ) (f : Context → Context) (p : ℕ × Context → Bool)
-    → ((c : Context) → (f c).process ≡ c.process) → IsFit t → new.contexts ≡ filter p (alter t.contexts number f)
-    → new.processes ≡ t.processes → new.next_context ≡ t.next_context → IsFit new
-changed_fit t new number f p same fit contexts processes next =
+    → ((c : Context) → (f c).process ≡ c.process) → ((c : Context) → (f c).caller.uid ≡ c.caller.uid) → IsFit t
+    → new.contexts ≡ filter p (alter t.contexts number f) → new.processes ≡ t.processes
+    → new.next_context ≡ t.next_context → IsFit new
+changed_fit t new number f p same same_uid fit contexts processes next =
     let es = alter t.contexts number f in
     record {
       contexts = rw next
@@ -140,16 +144,20 @@ changed_fit t new number f p same fit contexts processes next =
       entered = rw (contexts, processes)
           (each_filter (IsEntered t.processes) p es
           (each_alter (IsEntered t.processes) t.contexts number f (λ e h. rw (same e.1) h) fit.entered));
+      owners = owners_filter es new.contexts p contexts
+          (owners_alter t.contexts es number f same same_uid refl fit.owners);
     }
 
 pub altered_fit : (t new : Anchors) (number : ℕ) (f : Context → Context)
-    → ((c : Context) → (f c).process ≡ c.process) → IsFit t → new.contexts ≡ alter t.contexts number f
-    → new.processes ≡ t.processes → new.next_context ≡ t.next_context → IsFit new
-altered_fit t new number f same fit contexts processes next = record {
+    → ((c : Context) → (f c).process ≡ c.process) → ((c : Context) → (f c).caller.uid ≡ c.caller.uid) → IsFit t
+    → new.contexts ≡ alter t.contexts number f → new.processes ≡ t.processes
+    → new.next_context ≡ t.next_context → IsFit new
+altered_fit t new number f same same_uid fit contexts processes next = record {
   contexts = rw (contexts, next) (below_alter t.contexts number t.next_context f fit.contexts);
   processes = rw (processes, next) fit.processes;
   entered = rw (contexts, processes)
       (each_alter (IsEntered t.processes) t.contexts number f (λ e h. rw (same e.1) h) fit.entered);
+  owners = owners_alter t.contexts new.contexts number f same same_uid contexts fit.owners;
 }
 
 -- another keyring of a process
@@ -163,6 +171,7 @@ ring_fit t new process f fit contexts processes next =
       entered = rw (contexts, processes)
           (each_on (IsEntered t.processes) (IsEntered ps) t.contexts
           (λ e h. (still_alter t.processes process e.1.process f h.0, h.1)) fit.entered);
+      owners = rw contexts fit.owners;
     }
 
 -- a context ends, and its process stays
@@ -172,6 +181,7 @@ ended_fit t new number fit contexts processes next = record {
   contexts = rw (contexts, next) (below_without t.contexts number t.next_context fit.contexts);
   processes = rw (processes, next) fit.processes;
   entered = rw (contexts, processes) (each_without (IsEntered t.processes) t.contexts number fit.entered);
+  owners = owners_without t.contexts new.contexts number contexts fit.owners;
 }
 
 no_process : (es : Table Context) (process : ℕ) → has_process es process ≡ false
@@ -192,6 +202,7 @@ process_fit t new process fit none contexts processes next =
           (each_both (λ e. (e.1.process ≡ process) → ⊥) (IsEntered t.processes) (IsEntered ps) t.contexts
           (λ e other h. (still_without t.processes process e.1.process other h.0, h.1))
           (no_process t.contexts process none) fit.entered);
+      owners = rw contexts fit.owners;
     }
 
 -- contexts end, and their processes stay
@@ -201,26 +212,25 @@ fewer_fit t new p fit contexts processes next = record {
   contexts = rw next (below_filter p t.contexts new.contexts t.next_context contexts fit.contexts);
   processes = rw (processes, next) fit.processes;
   entered = rw (contexts, processes) (each_filter (IsEntered t.processes) p t.contexts fit.entered);
+  owners = owners_filter t.contexts new.contexts p contexts fit.owners;
 }
 
--- contexts end, and what has no context left
-pub left_fit : (t new : Anchors) (p : ℕ × Context → Bool) → IsFit t → new.contexts ≡ filter p t.contexts
-    → new.processes ≡ filter (λ e. has_process new.contexts e.0) t.processes → new.next_context ≡ t.next_context
+-- processes end that have no context
+pub idle_fit : (t new : Anchors) → IsFit t → new.contexts ≡ t.contexts
+    → new.processes ≡ filter (λ e. has_process t.contexts e.0) t.processes → new.next_context ≡ t.next_context
     → IsFit new
-left_fit t new p fit contexts processes next =
-    let es = filter p t.contexts in
-    let kept : Each (IsEntered t.processes) new.contexts =
-    rw contexts (each_filter (IsEntered t.processes) p t.contexts fit.entered) in
+idle_fit t new fit contexts processes next =
+    let ps = filter (λ e. has_process t.contexts e.0) t.processes in
     record {
-      contexts = rw next (below_filter p t.contexts new.contexts t.next_context contexts fit.contexts);
+      contexts = rw (contexts, next) fit.contexts;
       processes = rw next
-          (below_filter (λ e. has_process new.contexts e.0) t.processes new.processes t.next_context processes
+          (below_filter (λ e. has_process t.contexts e.0) t.processes new.processes t.next_context processes
           fit.processes);
-      entered = rw processes
-          (each_both (λ e. has_process new.contexts e.1.process ≡ true) (IsEntered t.processes)
-          (IsEntered (filter (λ e. has_process new.contexts e.0) t.processes)) new.contexts
-          (λ e has h. (rw (at_kept (has_process new.contexts) t.processes e.1.process, has) h.0, h.1))
-          (each_has new.contexts) kept);
+      entered = rw (contexts, processes)
+          (each_both (λ e. has_process t.contexts e.1.process ≡ true) (IsEntered t.processes) (IsEntered ps) t.contexts
+          (λ e has h. (rw (at_kept (has_process t.contexts) t.processes e.1.process, has) h.0, h.1))
+          (each_has t.contexts) fit.entered);
+      owners = rw contexts fit.owners;
     }
 
 -- the last context and its process are taken back
@@ -241,6 +251,7 @@ taken_back_fit t new n fit last gone_context gone_process contexts processes nex
           (λ e given h.
           (still_without t.processes n e.1.process (λ same. before e.1.process e.0 n h.1 given same) h.0, h.1))
           (each_below new.contexts n below) kept);
+      owners = owners_without t.contexts new.contexts n contexts fit.owners;
     }
 
 same_fit : (t new : Anchors) → IsFit t → new.contexts ≡ t.contexts → new.processes ≡ t.processes
@@ -249,6 +260,7 @@ same_fit t new fit contexts processes next = record {
   contexts = rw (contexts, next) fit.contexts;
   processes = rw (processes, next) fit.processes;
   entered = rw (contexts, processes) fit.entered;
+  owners = rw contexts fit.owners;
 }
 
 -- a context ends, and its process where it was the last one of it
@@ -268,12 +280,12 @@ exited_fit t new number process fit contexts processes next =
 -- the other contexts of a process end, and it has another keyring
 pub execed_fit :
     (t new : Anchors) (number process : ℕ) (f : Context → Context) (p : ℕ × Context → Bool)
-    (g : Option ℕ → Option ℕ) → ((c : Context) → (f c).process ≡ c.process) → IsFit t
-    → new.contexts ≡ filter p (alter t.contexts number f) → new.processes ≡ alter t.processes process g
+    (g : Option ℕ → Option ℕ) → ((c : Context) → (f c).process ≡ c.process)
+    → ((c : Context) → (f c).caller.uid ≡ c.caller.uid) → IsFit t → new.contexts ≡ filter p (alter t.contexts number f) → new.processes ≡ alter t.processes process g
     → new.next_context ≡ t.next_context → IsFit new
-execed_fit t new number process f p g same fit contexts processes next =
+execed_fit t new number process f p g same same_uid fit contexts processes next =
     let mid : Anchors = record t { contexts = new.contexts } in
-    ring_fit mid new process g (changed_fit t mid number f p same fit contexts refl refl) refl processes next
+    ring_fit mid new process g (changed_fit t mid number f p same same_uid fit contexts refl refl) refl processes next
 
 entered_mapped : (processes : Table (Option ℕ)) (es : Table Context) (f : Context → Context) (g : Option ℕ → Option ℕ)
     → ((c : Context) → (f c).process ≡ c.process) → Each (IsEntered processes) es
@@ -286,10 +298,21 @@ entered_mapped processes (e ∷ es) f g same h = (
 
 -- changed contexts, processes and uids, under the same numbers
 pub mapped_fit : (t new : Anchors) (f : Context → Context) (g : Option ℕ → Option ℕ)
-    → ((c : Context) → (f c).process ≡ c.process) → IsFit t → new.contexts ≡ map_values f t.contexts
-    → new.processes ≡ map_values g t.processes → new.next_context ≡ t.next_context → IsFit new
-mapped_fit t new f g same fit contexts processes next = record {
+    → ((c : Context) → (f c).process ≡ c.process) → ((c : Context) → (f c).caller.uid ≡ c.caller.uid) → IsFit t
+    → new.contexts ≡ map_values f t.contexts → new.processes ≡ map_values g t.processes
+    → new.next_context ≡ t.next_context → IsFit new
+mapped_fit t new f g same same_uid fit contexts processes next = record {
   contexts = rw (contexts, next) (λ k le. at_map f t.contexts k ∙ ap (option_map f) (fit.contexts k le));
   processes = rw (processes, next) (λ k le. at_map g t.processes k ∙ ap (option_map g) (fit.processes k le));
   entered = rw (contexts, processes) (entered_mapped t.processes t.contexts f g same fit.entered);
+  owners = owners_map t.contexts new.contexts f same same_uid contexts fit.owners;
+}
+
+-- nothing is there yet
+pub none_fit : (new : Anchors) → new.contexts ≡ [] → new.processes ≡ [] → IsFit new
+none_fit new contexts processes = record {
+  contexts = λ k le. ap (λ (es : Table Context). at es k) contexts;
+  processes = λ k le. ap (λ (ps : Table (Option ℕ)). at ps k) processes;
+  entered = subst (λ (es : Table Context). Each (IsEntered new.processes) es) (sym contexts) tt;
+  owners = (λ p. p, subst (λ (es : Table Context). Each (λ e. e.1.caller.uid ≡ e.1.process) es) (sym contexts) tt);
 }

@@ -7,3 +7,6 @@ pub mod GroupLemmas
 pub mod ToldLemmas
 pub mod HelloLemmas
 pub mod LeadsLemmas
+pub mod WholeLemmas
+pub mod LeavingLemmas
+pub mod OwnerLemmas

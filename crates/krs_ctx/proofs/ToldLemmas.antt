@@ -144,7 +144,8 @@ unfolding exec
 exec_told s t old new client number c own is contexts processes uids next =
     rw (own, contexts, processes, uids, next, is) refl
 
-without_none : {X : Type 0} (es : Table X) (k : ℕ) → at es k ≡ None → without es k ≡ es
+-- nothing is there to be taken out
+pub without_none : {X : Type 0} (es : Table X) (k : ℕ) → at es k ≡ None → without es k ≡ es
 without_none [] k h = refl
 without_none (e ∷ es) k h =
     elim (is_at (nat_cmp k) e.0) as (λ b. cond b (Some e.1) (at es k) ≡ None

@@ -1,9 +1,10 @@
 -- What anchors keys: contexts, processes and uids. keyrings(7), "Anchoring keys".
-use Rattle.std.specs.Prelude.{ℕ, ◌≤◌, List, [], ◌∷◌, IsSome, Option}
+use Rattle.std.specs.Prelude.{◌≡◌, ℕ, ◌≤◌, List, [], ◌∷◌, true, IsSome, Option}
 use Rattle.krs_types.specs.declared.context.Context.{Context}
 use Rattle.krs_types.specs.declared.context.UidRings.{UidRings}
 use Rattle.krs_model.specs.Table.{Table, at, IsBelow}
 use Rattle.krs_model.specs.State.{State}
+use Rattle.krs_model.specs.Asks.Leaving.{has_process, has_uid}
 
 -- contexts, processes and uids by number, and the number that the next context gets
 pub record Anchors : Type 0 where
@@ -34,6 +35,10 @@ Each P (x ∷ xs) = P x × Each P xs
 abbrev pub IsEntered : Table (Option ℕ) → ℕ × Context → Type 0
 IsEntered processes e = IsSome (at processes e.1.process) × (e.1.process ≤ e.0)
 
+-- the contexts of a process are of one uid: clone(2)
+abbrev pub HasOwners : Table Context → Type 0
+HasOwners contexts = (owner : ℕ → ℕ) × Each (λ e. e.1.caller.uid ≡ owner e.1.process) contexts
+
 -- what is true of all anchors
 pub record IsFit (t : Anchors) : Type 0 where
   -- numbers not given yet are in no use: profile, context numbers
@@ -41,3 +46,10 @@ pub record IsFit (t : Anchors) : Type 0 where
   pub processes : IsBelow t.processes t.next_context
   -- each context is in a process: process-keyring(7)
   pub entered : Each (IsEntered t.processes) t.contexts
+  -- THREAD makes a context of the same caller
+  pub owners : HasOwners t.contexts
+
+-- no process and no uid is without a context: process-keyring(7), user-keyring(7)
+pub record IsWhole (t : Anchors) : Type 0 where
+  pub processes : Each (λ e. has_process t.contexts e.0 ≡ true) t.processes
+  pub uids : Each (λ e. has_uid t.contexts e.0 ≡ true) t.uids

@@ -1,5 +1,6 @@
 -- How the asks of contexts are told, in every store with these anchors.
-use Rattle.std.specs.Prelude.{◌≡◌, ℕ, Option, None, Some, Result, Ok, Err, IsOk, IfOk}
+use Rattle.std.specs.Prelude.{◌≡◌, ℕ, Option, None, Some, Result, Ok, Err, IsOk, IfOk, filter}
+use Rattle.std.specs.Prelude.{if◌then◌else◌}
 use Rattle.std.specs.Option.{option_or}
 use Rattle.krs_types.specs.declared.errno.Errno.{Errno}
 use Rattle.krs_types.specs.declared.fault.Fault.{Fault}
@@ -16,7 +17,7 @@ use Rattle.krs_model.specs.Outcome.{Outcome}
 use Rattle.krs_model.specs.Asks.Hello.{has_context_left, with_context}
 use Rattle.krs_model.specs.Asks.Entering.{if_context_number}
 use Rattle.krs_model.specs.Asks.Invalidating.{detached, context_without, rings_without}
-use Rattle.krs_model.specs.Asks.Leaving.{contexts_without}
+use Rattle.krs_model.specs.Asks.Leaving.{contexts_without, has_process, has_uid}
 use Rattle.krs_ctx.specs.Anchors.{Anchors, anchored}
 
 -- The new anchors and the number that is answered are what is meant. ENOMEM stands only for what would have
@@ -86,6 +87,40 @@ with_ring t process ring = record t { processes = alter t.processes process (λ 
 -- with no context of this client
 abbrev pub without_contexts_of : Anchors → ℕ → Anchors
 without_contexts_of t client = record t { contexts = contexts_without client t.contexts }
+
+-- without the context of this number, its process and the keyrings of its uid, where these have no other:
+-- process-keyring(7), user-keyring(7)
+abbrev pub ended : Anchors → ℕ → Context → Anchors
+ended t number c =
+    let contexts = without t.contexts number in
+    record t {
+      contexts = contexts;
+      processes = if has_process contexts c.process then t.processes else without t.processes c.process;
+      uids = if has_uid contexts c.caller.uid then t.uids else without t.uids c.caller.uid;
+    }
+
+-- without the context of this number, where there is one
+abbrev pub ended_where : Anchors → ℕ → Option Context → Anchors
+ended_where t number None = t
+ended_where t number (Some c) = ended t number c
+
+-- without the processes and uids that have no context
+abbrev pub without_idle : Anchors → Anchors
+without_idle t = record t {
+  processes = filter (λ e. has_process t.contexts e.0) t.processes;
+  uids = filter (λ e. has_uid t.contexts e.0) t.uids;
+}
+
+-- while contexts of a client end: of what stays where all of them have ended, nothing has gone
+pub record IsLeaving (client : ℕ) (old t : Anchors) : Type 0 where
+  pub contexts : contexts_without client t.contexts ≡ contexts_without client old.contexts
+  pub processes :
+      filter (λ e. has_process (contexts_without client old.contexts) e.0) t.processes
+      ≡ filter (λ e. has_process (contexts_without client old.contexts) e.0) old.processes
+  pub uids :
+      filter (λ e. has_uid (contexts_without client old.contexts) e.0) t.uids
+      ≡ filter (λ e. has_uid (contexts_without client old.contexts) e.0) old.uids
+  pub next : t.next_context ≡ old.next_context
 
 -- with no attachment of this key: keyctl(2), KEYCTL_INVALIDATE
 abbrev pub anchors_without : Anchors → ℕ → Anchors

@@ -1,8 +1,9 @@
 -- What the contexts are seen as.
+use Rattle.std.specs.Prelude.{◌≡◌, true}
 use Rattle.krs_model.specs.Table.{Rises}
 use Rattle.krs_ctx.specs.declared.contexts.Contexts.TheInside.{Inside}
 use Rattle.krs_ctx.specs.declared.table.ContextTable.TheInside as table
-use Rattle.krs_ctx.specs.Anchors.{Anchors, IsFit}
+use Rattle.krs_ctx.specs.Anchors.{Anchors, IsFit, IsWhole}
 use Rattle.krs_ctx.specs.Members.{AreListed}
 
 -- just the contexts are listed, and their numbers rise
@@ -18,5 +19,7 @@ anchors_in t = record {
   next_context = t.next;
 }
 
-abbrev pub IsFitInside : Inside → Type 0
-IsFitInside t = IsFit (anchors_in t)
+-- what is true of all anchors, and of those that are known to be whole
+pub record IsFitInside (t : Inside) : Type 0 where
+  pub fit : IsFit (anchors_in t)
+  pub whole : t.whole ≡ true → IsWhole (anchors_in t)

@@ -1,4 +1,5 @@
-ghost use Rattle.std.specs.Prelude.{◌≡◌, ◌+◌, [], IfOk, OnOk, OnErr, Some, None};
+ghost use Rattle.std.specs.Prelude.{◌≡◌, ◌+◌, ◌==◌, [], not, true, IfOk, OnOk, OnErr, Some, None};
+ghost use Rattle.std.specs.Option.{IfSome, IfNone};
 ghost use Rattle.krs_model.specs.State.{State};
 ghost use Rattle.krs_model.specs.Table.{at};
 ghost use Rattle.krs_model.specs.Possession.{process_ring};
@@ -7,11 +8,12 @@ ghost use Rattle.krs_model.specs.Outcome.{Is};
 ghost use Rattle.krs_model.specs.Making.{thread_to};
 ghost use Rattle.krs_model.specs.Asks.Entering.{thread, fork, exec, without_thread};
 ghost use Rattle.krs_model.specs.Asks.Joining.{session_to};
-ghost use Rattle.krs_model.specs.Asks.Leaving.{exit, has_process, has_uid, left};
-ghost use Rattle.krs_ctx.specs.Anchors.{IsFit, anchored, anchors_of};
+ghost use Rattle.krs_model.specs.Asks.Leaving.{contexts_without, exit, has_process, has_uid, left};
+ghost use Rattle.krs_ctx.specs.Anchors.{IsFit, IsWhole, anchored, anchors_of};
+ghost use Rattle.krs_ctx.specs.Members.{IsThereFailing};
 ghost use Rattle.krs_ctx.specs.Told.{Enters, Does, Opens, OpensWith, enterable, greeted};
 ghost use Rattle.krs_ctx.specs.Told.{CanBeTakenBack, taken_back, changed, with_ring};
-ghost use Rattle.krs_ctx.specs.Told.{anchors_without, without_contexts_of};
+ghost use Rattle.krs_ctx.specs.Told.{anchors_without, ended_where, without_contexts_of, without_idle};
 
 use crate::maps::{
     detach_processes, detach_uids, drop_processes, drop_uids, end_process, end_uid, enter,
@@ -36,6 +38,8 @@ pub struct Contexts {
     processes: BTreeMap<u32, Option<Serial>>,
     uids: BTreeMap<u32, UidRings>,
     next: u64,
+    /// Whether each process and each uid is known to have a context: not after a context was taken back.
+    whole: bool,
     alloc: Global,
 }
 
@@ -61,6 +65,7 @@ impl Contexts {
             processes: BTreeMap::new(alloc),
             uids: BTreeMap::new(alloc),
             next: 1,
+            whole: true,
             alloc,
         }
     }
@@ -264,6 +269,7 @@ impl Contexts {
         take_out(&mut self.processes, number);
         take_out(&mut self.uids, uid);
         self.next = u64::from(number);
+        self.whole = false;
     }
 
     /// One more context of a process, with the session keyring of this one: ESRCH, EINVAL, ENOSPC, ENOMEM.
@@ -309,13 +315,46 @@ impl Contexts {
     pub fn exit(&mut self, client: u32, number: u32) -> Result<(), Errno>
         ensures { Does self.old result self.new (λ s. exit s client number) }
     {
-        let context = self.context_of(client, number)?;
-        let process = context.process;
-        let uid = context.caller.uid;
-        let _ = self.contexts.remove(number);
-        end_process(&mut self.processes, &self.contexts, process);
-        end_uid(&mut self.uids, &self.contexts, uid);
+        let _own = self.context_of(client, number)?;
+        self.end(number);
         Ok(())
+    }
+
+    /// Ends a context, and its process and the keyrings of its uid with their last context.
+    fn end(&mut self, number: u32)
+        ensures { self.new ≡ ended_where self.old number (at self.old.contexts number) }
+    {
+        let Some(context) = self.contexts.remove(number) else {
+            return;
+        };
+        end_process(&mut self.processes, &self.contexts, context.process);
+        end_uid(&mut self.uids, &self.contexts, context.caller.uid);
+    }
+
+    /// A context of a client.
+    pub fn first_of(&self, client: u32) -> Option<u32>
+        ensures there { IfSome result (IsThereFailing
+            (λ e. not (e.1.client == client)) self.now.contexts) }
+        ensures none { IfNone result
+            (contexts_without client self.now.contexts ≡ self.now.contexts) }
+    {
+        self.contexts.first_of(client)
+    }
+
+    /// Whether each process and each uid is known to have a context.
+    pub fn is_whole(&self) -> bool
+        ensures { result ≡ true → IsWhole self.now }
+    {
+        self.whole
+    }
+
+    /// Just the processes and uids stay that have a context.
+    fn end_idle(&mut self)
+        ensures { self.new ≡ without_idle self.old }
+    {
+        drop_processes(&mut self.processes, &self.contexts);
+        drop_uids(&mut self.uids, &self.contexts);
+        self.whole = true;
     }
 
     /// Ends all contexts of a client. Their processes and uids stay.
@@ -323,16 +362,19 @@ impl Contexts {
         ensures { self.new ≡ without_contexts_of self.old client }
     {
         self.contexts.end_all_of(client);
+        self.whole = false;
     }
 
     /// Ends all contexts of a client, and the processes and uids that have no context then.
-    #[tactic(auto, unfolding(krs_model::specs::Asks::Leaving::left))]
     pub fn leave(&mut self, client: u32)
         ensures { (s : State) → self.new ≡ anchors_of (left (anchored s self.old) client) }
     {
-        self.contexts.end_all_of(client);
-        drop_processes(&mut self.processes, &self.contexts);
-        drop_uids(&mut self.uids, &self.contexts);
+        'ending: while let Some(number) = self.first_of(client) {
+            self.end(number);
+        }
+        if !self.is_whole() {
+            self.end_idle();
+        }
     }
 
     /// Takes a key out of every attachment. It takes no memory.

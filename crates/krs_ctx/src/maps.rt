@@ -1,4 +1,4 @@
-ghost use Rattle.std.specs.Prelude.{◌≡◌, filter, if◌then◌else◌, None, OnOk, OnErr};
+ghost use Rattle.std.specs.Prelude.{◌≡◌, filter, false, if◌then◌else◌, None, OnOk, OnErr};
 ghost use Rattle.krs_model.specs.Table.{at, put, without, alter, map_values};
 ghost use Rattle.krs_model.specs.Asks.Invalidating.{detached, context_without, rings_without};
 ghost use Rattle.krs_model.specs.Asks.Leaving.{has_process, has_uid};
@@ -144,8 +144,10 @@ pub(crate) fn end_process(
     contexts: &ContextTable,
     process: u32,
 )
-    ensures { processes.new.entries ≡ (if has_process contexts.now process
+    ensures entries { processes.new.entries ≡ (if has_process contexts.now process
         then processes.old.entries else without processes.old.entries process) }
+    ensures gone { has_process contexts.now process ≡ false
+        → at processes.new.entries process ≡ None }
 {
     if !contexts.has_process(process) {
         take_out(processes, process);
@@ -154,8 +156,9 @@ pub(crate) fn end_process(
 
 /// Lets go of the keyrings of a uid that has no context.
 pub(crate) fn end_uid(uids: &mut BTreeMap<u32, UidRings>, contexts: &ContextTable, uid: u32)
-    ensures { uids.new.entries ≡ (if has_uid contexts.now uid
+    ensures entries { uids.new.entries ≡ (if has_uid contexts.now uid
         then uids.old.entries else without uids.old.entries uid) }
+    ensures gone { has_uid contexts.now uid ≡ false → at uids.new.entries uid ≡ None }
 {
     if !contexts.has_uid(uid) {
         take_out(uids, uid);

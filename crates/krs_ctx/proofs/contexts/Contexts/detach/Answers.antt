@@ -1,10 +1,17 @@
 use Rattle.std.proofs.Common.{refl}
-use Rattle.krs_model.specs.Asks.Invalidating.{detached, context_without}
+use Rattle.krs_model.specs.Asks.Invalidating.{detached, context_without, rings_without}
 use Rattle.krs_ctx.specs.View.{anchors_in}
 use Rattle.krs_ctx.proofs.FitLemmas.{mapped_fit}
+use Rattle.krs_ctx.proofs.WholeLemmas.{mapped_whole}
 use Rattle.krs_ctx.proofs.contexts.Contexts.detach.Goals as goal
 
 pub invariant_of-self : goal.invariant_of-self
 invariant_of-self c =
-    mapped_fit (anchors_in c.self.inside) _ (context_without c.args.serial) (detached c.args.serial) (λ x. refl)
-    c.self.invariant c.detach.ensures c.detach_processes.ensures refl
+    let serial = c.args.serial in
+    record {
+      fit = mapped_fit (anchors_in c.self.inside) _ (context_without serial) (detached serial) (λ x. refl) (λ x. refl)
+          c.self.invariant.fit c.detach.ensures c.detach_processes.ensures refl;
+      whole = λ is. mapped_whole (anchors_in c.self.inside) _ (context_without serial) (detached serial)
+          (rings_without serial) (λ x. refl) (λ x. refl) c.detach.ensures c.detach_processes.ensures
+          c.detach_uids.ensures (c.self.invariant.whole is);
+    }

@@ -1,9 +1,9 @@
-use Rattle.std.proofs.Common.{refl}
-use Rattle.krs_ctx.specs.View.{anchors_in}
-use Rattle.krs_ctx.proofs.FitLemmas.{exited_fit}
+use Rattle.krs_ctx.proofs.LeavingLemmas.{exit_told}
+use Rattle.krs_ctx.proofs.ToldLemmas.{there}
 use Rattle.krs_ctx.proofs.contexts.Contexts.exit.Goals as goal
 
-pub invariant_of-self : goal.invariant_of-self
-invariant_of-self c =
-    exited_fit (anchors_in c.self.inside) _ c.args.number _ c.self.invariant c.remove.ensures.contexts
-    c.end_process.ensures refl
+pub returns : goal.returns
+returns c = λ s.
+    exit_told s c.args.self.now c.end.new.self c.args.client c.args.number c.in_ok-_own._own.now
+    (c.in_ok-_own.ensures s)
+    (there c.args.self.now c.args.client c.args.number c.in_ok-_own._own.now c.in_ok-_own.ensures) c.end.ensures

@@ -1,9 +1,23 @@
-use Rattle.std.proofs.Common.{not, ◌==◌, refl}
-use Rattle.krs_ctx.specs.View.{anchors_in}
-use Rattle.krs_ctx.proofs.FitLemmas.{left_fit}
+use Rattle.std.proofs.Common.{◌==◌, not, refl}
+use Rattle.krs_ctx.proofs.LeavingLemmas.{leaving_one, ended_fewer, left_idle, whole_left}
 use Rattle.krs_ctx.proofs.contexts.Contexts.leave.Goals as goal
 
-pub invariant_of-self : goal.invariant_of-self
-invariant_of-self c =
-    left_fit (anchors_in c.self.inside) _ (λ e. not (e.1.client == c.args.client)) c.self.invariant
-    c.end_all_of.ensures c.drop_processes.ensures refl
+pub ending-preserved : goal.ending-preserved
+ending-preserved c =
+    leaving_one c.args.client c.args.self.now c.ending.self _ c.in-Some.number c.ending.invariant
+    c.in-Some.ensures.there c.end.ensures
+
+pub ending-smaller : goal.ending-smaller
+ending-smaller c =
+    ended_fewer c.ending.self c.end.new.self c.in-Some.number (λ e. not (e.1.client == c.args.client))
+    c.in-Some.ensures.there c.end.ensures
+
+pub returns-then-not-is_whole : goal.returns-then-not-is_whole
+returns-then-not-is_whole c =
+    left_idle c.args.client c.args.self.now c.ending.self c.end_idle.new.self c.ending.invariant
+    c.in_default.ensures.none c.end_idle.ensures
+
+pub returns-else-not-is_whole : goal.returns-else-not-is_whole
+returns-else-not-is_whole c =
+    whole_left c.args.client c.args.self.now c.ending.self c.ending.invariant c.in_default.ensures.none
+    (c.if-not-is_whole.ensures refl)

@@ -5,6 +5,7 @@ use Rattle.krs_model.specs.Lookup.{context_of}
 use Rattle.krs_ctx.specs.Anchors.{Anchors, anchored}
 use Rattle.krs_ctx.specs.View.{anchors_in}
 use Rattle.krs_ctx.proofs.FitLemmas.{thread_fit}
+use Rattle.krs_ctx.proofs.WholeLemmas.{thread_whole}
 use Rattle.krs_ctx.proofs.ToldLemmas.{thread_refused, thread_accepted, thread_told, there, is_ok, refused, wants}
 use Rattle.krs_ctx.proofs.contexts.Contexts.thread.Goals as goal
 
@@ -38,11 +39,17 @@ invariant_of-self-2 c =
     there old c.args.client c.args.number c.in_ok-maker.maker.now
     (λ s. subst (λ (t : Anchors). context_of (anchored s t) c.args.client c.args.number ≡ Ok
     c.in_ok-maker.maker.now) (sym c.self.view_is) (c.in_ok-maker.ensures s)) in
-    thread_fit old _ c.args.number c.in_ok-maker.maker.now c.in_ok-context.context c.self.invariant found
-    (ap (λ (x : Context). x.process) c.in_ok-context.ensures)
-    (c.in_ok-insert.ensures.ok
+    let same = ap (λ (x : Context). x.process) c.in_ok-context.ensures in
+    let same_uid = ap (λ (x : Context). x.caller.uid) c.in_ok-context.ensures in
+    let contexts = c.in_ok-insert.ensures.ok
     ∙ ap (λ n. put old.contexts n c.in_ok-context.context)
-    (c.in_ok-entered.ensures.number ∙ ap (λ (t : Anchors). t.next_context) (sym c.self.view_is))) refl refl
+    (c.in_ok-entered.ensures.number ∙ ap (λ (t : Anchors). t.next_context) (sym c.self.view_is)) in
+    record {
+      fit = thread_fit old _ c.args.number c.in_ok-maker.maker.now c.in_ok-context.context c.self.invariant.fit found
+          same same_uid contexts refl refl;
+      whole = λ is. thread_whole old _ c.in_ok-context.context c.self.invariant.fit contexts refl refl
+          (c.self.invariant.whole is);
+    }
 
 pub returns : goal.returns
 returns c = λ s.

@@ -1,0 +1,179 @@
+-- LEAVE, one context after the other.
+use Rattle.std.proofs.Common.{◌≡◌, ℕ, ◌==◌, ◌||◌, [], ◌∷◌, Option, Some, None, Bool, true, false, cond, not, filter}
+use Rattle.std.proofs.Common.{if◌then◌else◌, ◌<◌, suc, length, arith, Ok, refl, ap, ◌∙◌, sym, subst}
+use Rattle.std.proofs.lemmas.Option.{none-some}
+use Rattle.std.specs.Ordering.{nat_cmp}
+use Rattle.std.specs.BTreeMap.{is_at}
+use Rattle.std.proofs.lemmas.Bool.{true≢false}
+use Rattle.std.specs.List.{list_any}
+use Rattle.std.specs.Map.{values_of}
+use Rattle.krs_types.specs.declared.context.Context.{Context}
+use Rattle.krs_types.specs.declared.context.UidRings.{UidRings}
+use Rattle.krs_types.specs.declared.ask.Answer.TheVariants.{Nothing}
+use Rattle.krs_model.specs.Table.{Table, at, without}
+use Rattle.krs_model.specs.State.{State}
+use Rattle.krs_model.specs.Lookup.{context_of}
+use Rattle.krs_model.specs.Asks.Leaving.{contexts_without, has_process, has_uid, exit, left}
+use Rattle.krs_ctx.specs.Anchors.{Anchors, IsWhole, anchored, anchors_of}
+use Rattle.krs_ctx.specs.Members.{IsThereFailing}
+use Rattle.krs_ctx.specs.Told.{IsLeaving, ended_where, without_idle}
+use Rattle.krs_ctx.proofs.GroupLemmas.{all_kept, ends_one, filter_without}
+use Rattle.krs_ctx.proofs.ToldLemmas.{without_none}
+use Rattle.krs_ctx.proofs.WholeLemmas.{has}
+
+abbrev anchors : Table Context → Table (Option ℕ) → Table UidRings → ℕ → Anchors
+anchors es ps us n = record { contexts = es; processes = ps; uids = us; next_context = n }
+
+same_anchors :
+    (t : Anchors) (es : Table Context) (ps : Table (Option ℕ)) (us : Table UidRings) (n : ℕ) → t.contexts ≡ es
+    → t.processes ≡ ps → t.uids ≡ us → t.next_context ≡ n → t ≡ anchors es ps us n
+same_anchors t es ps us n a b c d =
+    ap (λ (z : Table Context). anchors z t.processes t.uids t.next_context) a
+    ∙ (ap (λ (z : Table (Option ℕ)). anchors es z t.uids t.next_context) b
+    ∙ (ap (λ (z : Table UidRings). anchors es ps z t.next_context) c ∙ ap (λ (z : ℕ). anchors es ps us z) d))
+
+-- EXIT of a context that is the client's
+pub exit_told :
+    (s : State) (old new : Anchors) (client number : ℕ) (c : Context) → context_of (anchored s old) client number ≡ Ok c
+    → at old.contexts number ≡ Some c → new ≡ ended_where old number (at old.contexts number)
+    → exit (anchored s old) client number ≡ Ok (anchored s new, Nothing)
+unfolding exit
+exit_told s old new client number c own there is =
+    rw own (ap (λ (t : Anchors). Ok (anchored s t, Nothing)) (sym (is ∙ ap (ended_where old number) there)))
+
+-- the end of a context that is not there, and of one that is
+pub ended_none :
+    (old t new : Anchors) (number : ℕ) → t ≡ old → at t.contexts number ≡ None
+    → new.contexts ≡ without t.contexts number → new.processes ≡ t.processes → new.uids ≡ t.uids
+    → new.next_context ≡ t.next_context → new ≡ ended_where old number (at old.contexts number)
+ended_none old t new number is none contexts processes uids next =
+    subst (λ (a : Anchors). new ≡ ended_where a number (at a.contexts number)) is
+    (same_anchors new t.contexts t.processes t.uids t.next_context
+    (contexts ∙ without_none t.contexts number none) processes uids next
+    ∙ sym (ap (ended_where t number) none))
+
+less_one : (n : ℕ) → n < suc n
+less_one n = omega arith
+
+one_more : (n m : ℕ) → n < m → suc n < suc m
+one_more n m h = omega arith
+
+-- one fewer is there
+fewer : {X : Type 0} (es : Table X) (k : ℕ) (v : X) → at es k ≡ Some v → length (without es k) < length es
+fewer [] k v h = absurd (none-some v h)
+fewer (e ∷ es) k v h =
+    elim (is_at (nat_cmp k) e.0) as
+    (λ b. cond b (Some e.1) (at es k) ≡ Some v → length (cond b es (e ∷ without es k)) < suc (length es)) [
+      | true ↦ λ t. less_one (length es)
+      | false ↦ λ t. one_more (length (without es k)) (length es) (fewer es k v t)
+    ] h
+
+pub ended_fewer :
+    (t new : Anchors) (number : ℕ) (passes : ℕ × Context → Bool) → IsThereFailing passes t.contexts number
+    → new ≡ ended_where t number (at t.contexts number) → length new.contexts < length t.contexts
+ended_fewer t new number passes there is =
+    subst (λ (a : Anchors). length a.contexts < length t.contexts) (sym (is ∙ ap (ended_where t number) there.1))
+    (fewer t.contexts number there.0 there.1)
+
+-- LEAVE, before a context ends
+pub leaving_none : (client : ℕ) (t : Anchors) → IsLeaving client t t
+leaving_none client t = record { contexts = refl; processes = refl; uids = refl; next = refl }
+
+or_left : (a b : Bool) → (a || b) ≡ false → a ≡ false
+or_left true b h = h
+or_left false b h = refl
+
+or_right : (a b : Bool) → (a || b) ≡ false → b ≡ false
+or_right true b h = absurd (true≢false h)
+or_right false b h = h
+
+none_of_fewer :
+    {X : Type 0} (p : X → Bool) (keep : ℕ × X → Bool) (es : Table X)
+    → list_any p (values_of es) ≡ false → list_any p (values_of (filter keep es)) ≡ false
+none_of_fewer p keep [] h = h
+none_of_fewer p keep (e ∷ es) h =
+    let rest = list_any p (values_of es) in
+    let fewer = none_of_fewer p keep es (or_right (p e.1) rest h) in
+    elim (keep e) as (λ b. list_any p (values_of (cond b (e ∷ filter keep es) (filter keep es))) ≡ false) [
+      | true ↦ ap (λ b. b || list_any p (values_of (filter keep es))) (or_left (p e.1) rest h) ∙ fewer
+      | false ↦ fewer
+    ]
+
+-- a group that ends is not one that is to stay
+group_ended :
+    {Y : Type 0} (group : Context → ℕ) (es kept : Table Context) (xs : Table Y) (g : ℕ)
+    → (has group es g ≡ false → has group kept g ≡ false)
+    → filter (λ e. has group kept e.0) (if has group es g then xs else without xs g)
+    ≡ filter (λ e. has group kept e.0) xs
+group_ended group es kept xs g none =
+    elim (has group es g) as
+    (λ b. has group es g ≡ b
+    → filter (λ e. has group kept e.0) (cond b xs (without xs g)) ≡ filter (λ e. has group kept e.0) xs) [
+      | true ↦ λ t. refl
+      | false ↦ λ t. filter_without (λ e. has group kept e.0) xs g (λ v there. none t)
+    ] refl
+
+none_kept :
+    (group : Context → ℕ) (client : ℕ) (es kept : Table Context) (g : ℕ) → contexts_without client es ≡ kept
+    → has group es g ≡ false → has group kept g ≡ false
+none_kept group client es kept g is none =
+    subst (λ (zs : Table Context). has group zs g ≡ false) is
+    (none_of_fewer (λ x. group x == g) (λ e. not (e.1.client == client)) es none)
+
+-- one more context of the client ends
+pub leaving_one :
+    (client : ℕ) (old t new : Anchors) (number : ℕ) → IsLeaving client old t
+    → IsThereFailing (λ e. not (e.1.client == client)) t.contexts number
+    → new ≡ ended_where t number (at t.contexts number) → IsLeaving client old new
+leaving_one client old t new number so there is =
+    let c = there.0 in
+    let es = without t.contexts number in
+    let kept = contexts_without client old.contexts in
+    let fewer : contexts_without client es ≡ kept =
+    ends_one (λ e. not (e.1.client == client)) t.contexts number there ∙ so.contexts in
+    subst (λ (a : Anchors). IsLeaving client old a) (sym (is ∙ ap (ended_where t number) there.1))
+    (record {
+      contexts = fewer;
+      processes =
+          group_ended (λ x. x.process) es kept t.processes c.process
+          (none_kept (λ x. x.process) client es kept c.process fewer)
+          ∙ so.processes;
+      uids =
+          group_ended (λ x. x.caller.uid) es kept t.uids c.caller.uid
+          (none_kept (λ x. x.caller.uid) client es kept c.caller.uid fewer)
+          ∙ so.uids;
+      next = so.next;
+    })
+
+-- all have ended, and what has no context
+idle_gone :
+    (client : ℕ) (old t : Anchors) → IsLeaving client old t → contexts_without client t.contexts ≡ t.contexts
+    → (s : State) → without_idle t ≡ anchors_of (left (anchored s old) client)
+unfolding left
+idle_gone client old t so none s =
+    let kept = contexts_without client old.contexts in
+    let same : t.contexts ≡ kept = sym none ∙ so.contexts in
+    same_anchors (without_idle t) kept (filter (λ e. has_process kept e.0) old.processes)
+    (filter (λ e. has_uid kept e.0) old.uids) old.next_context same
+    (ap (λ (es : Table Context). filter (λ e. has_process es e.0) t.processes) same ∙ so.processes)
+    (ap (λ (es : Table Context). filter (λ e. has_uid es e.0) t.uids) same ∙ so.uids)
+    so.next
+
+pub left_idle :
+    (client : ℕ) (old t new : Anchors) → IsLeaving client old t → contexts_without client t.contexts ≡ t.contexts
+    → new ≡ without_idle t → (s : State) → new ≡ anchors_of (left (anchored s old) client)
+left_idle client old t new so none is s = is ∙ idle_gone client old t so none s
+
+-- where no process and no uid is without a context, none has to end
+whole_stays : (t : Anchors) → IsWhole t → t ≡ without_idle t
+whole_stays t whole =
+    same_anchors t t.contexts (filter (λ e. has_process t.contexts e.0) t.processes)
+    (filter (λ e. has_uid t.contexts e.0) t.uids) t.next_context refl
+    (sym (all_kept (λ e. has_process t.contexts e.0) t.processes whole.processes))
+    (sym (all_kept (λ e. has_uid t.contexts e.0) t.uids whole.uids))
+    refl
+
+pub whole_left :
+    (client : ℕ) (old t : Anchors) → IsLeaving client old t → contexts_without client t.contexts ≡ t.contexts
+    → IsWhole t → (s : State) → t ≡ anchors_of (left (anchored s old) client)
+whole_left client old t so none whole = left_idle client old t t so none (whole_stays t whole)

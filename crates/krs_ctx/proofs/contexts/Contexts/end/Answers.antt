@@ -1,0 +1,34 @@
+use Rattle.std.proofs.Common.{◌≡◌, ◌∙◌, None, refl, sym}
+use Rattle.krs_model.specs.Table.{at}
+use Rattle.krs_ctx.specs.View.{anchors_in}
+use Rattle.krs_ctx.proofs.FitLemmas.{ended_fit, exited_fit}
+use Rattle.krs_ctx.proofs.ToldLemmas.{without_none}
+use Rattle.krs_ctx.proofs.WholeLemmas.{ended_whole, same_whole}
+use Rattle.krs_ctx.proofs.LeavingLemmas.{ended_none}
+use Rattle.krs_ctx.proofs.contexts.Contexts.end.Goals as goal
+
+pub invariant_of-self : goal.invariant_of-self
+invariant_of-self c =
+    let old = anchors_in c.self.inside in
+    let none : at old.contexts c.args.number ≡ None = sym c.in_default.ensures.value in
+    let same = c.remove.ensures.contexts ∙ without_none old.contexts c.args.number none in
+    record {
+      fit = ended_fit old _ c.args.number c.self.invariant.fit c.remove.ensures.contexts refl refl;
+      whole = λ is. same_whole old _ same refl refl (c.self.invariant.whole is);
+    }
+
+pub returns-in_default : goal.returns-in_default
+returns-in_default c =
+    ended_none c.args.self.now (anchors_in c.self.inside) _ c.args.number c.self.view_is
+    (sym c.in_default.ensures.value) c.remove.ensures.contexts refl refl refl
+
+pub invariant_of-self-2 : goal.invariant_of-self-2
+invariant_of-self-2 c =
+    let old = anchors_in c.self.inside in
+    record {
+      fit = exited_fit old _ c.args.number _ c.self.invariant.fit c.remove.ensures.contexts
+          c.end_process.ensures.entries refl;
+      whole = λ is. ended_whole old _ c.args.number c.in-Some.context (sym c.in-Some.ensures.value)
+          c.remove.ensures.contexts c.end_process.ensures.entries c.end_process.ensures.gone
+          c.end_uid.ensures.entries c.end_uid.ensures.gone (c.self.invariant.whole is);
+    }
