@@ -28,7 +28,8 @@ pub(crate) fn serve(tables: &mut Tables, client: u32, ask: Ask) -> Result<Answer
     serve_watched(tables, client, ask)
 }
 
-/// The same in a store that watches keys.
+/// The same in a store that watches keys. It has a function of its own, so that others don't clear room for notes.
+#[inline(never)]
 fn serve_watched(tables: &mut Tables, client: u32, ask: Ask) -> Result<Answer, Fault>
     requires sound { IsSound tables.old }
     ensures told { LeadsTold tables.old client ask.context ask.op result tables.new }

@@ -1,7 +1,9 @@
+use Rattle.std.proofs.Common.{ap, sym, ◌∙◌}
+use Rattle.krs_model.specs.State.{State}
 use Rattle.krs_store.proofs.Noting.{unwatched_told}
 use Rattle.krs_store.proofs.serving.serve.Goals as goal
 
-pub returns-then-has_watches-clause-told : goal.returns-then-has_watches-clause-told
-returns-then-has_watches-clause-told c =
+pub returns-then-not-has_watches-clause-told : goal.returns-then-not-has_watches-clause-told
+returns-then-not-has_watches-clause-told c =
     unwatched_told c.args.tables.now c.run.new.tables c.args.client c.args.ask.context c.args.ask.op c.run.result
-    (c.has_watches.ensures c.if-has_watches.false) c.run.ensures.step
+    (sym (ap (λ (t : State). t.watches) c.tables.view_is) ∙ c.has_watches.ensures.0 c.if-not-has_watches.true) c.run.ensures.step
