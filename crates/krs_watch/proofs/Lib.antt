@@ -6,3 +6,4 @@ pub mod PlacesLemmas
 pub mod WatchersLemmas
 pub mod WatchesLemmas
 pub mod QueuedLemmas
+pub mod GoneLemmas

@@ -5,8 +5,6 @@ use Rattle.std.proofs.Common.{Result, Ok, Err}
 use Rattle.std.specs.Prelude.{is_err, OnOk, OnErr, slice_get}
 use Rattle.std.proofs.lemmas.Bool.{eqb-true}
 use Rattle.std.proofs.lemmas.Bool.Decides.{nat_tests}
-use Rattle.std.proofs.lemmas.Map.Entries.{lookup-filter-keys}
-use Rattle.std.proofs.lemmas.Map.Views.{any-filter_same}
 use Rattle.std.specs.Cmp.{ranked}
 use Rattle.std.specs.List.{list_any}
 use Rattle.std.specs.Map.{lookup}
@@ -45,7 +43,7 @@ second_of_both false b h = absurd (true≢false (sym h))
 turned : (k n q p : ℕ) → is_at (place_cmp (n, k)) (q, p) ≡ is_at (place_cmp (k, n)) (p, q)
 turned k n q p = tied n k q p ∙ (swap (nat_eq n q) (nat_eq k p) ∙ sym (tied k n p q))
 
-first_same : (a b : ℕ) (e : ℕ × ℕ) → is_at (place_cmp (a, b)) e ≡ true → a ≡ e.0
+pub first_same : (a b : ℕ) (e : ℕ × ℕ) → is_at (place_cmp (a, b)) e ≡ true → a ≡ e.0
 first_same a b e t =
     eqb-true a e.0 (first_of_both (nat_eq a e.0) (nat_eq b e.1) (sym (tied a b e.0 e.1) ∙ t))
 
@@ -53,7 +51,7 @@ second_same : (a b : ℕ) (e : ℕ × ℕ) → is_at (place_cmp (a, b)) e ≡ tr
 second_same a b e t =
     eqb-true b e.1 (second_of_both (nat_eq a e.0) (nat_eq b e.1) (sym (tied a b e.0 e.1) ∙ t))
 
-itself : (a b : ℕ) → is_at (place_cmp (a, b)) (a, b) ≡ true
+pub itself : (a b : ℕ) → is_at (place_cmp (a, b)) (a, b) ≡ true
 itself a b =
     let left : nat_eq a a ≡ true = grind (arith, nat_tests) in
     let right : nat_eq b b ≡ true = grind (arith, nat_tests) in
@@ -99,22 +97,6 @@ taken_back ws ls ms ns k n none lists unlists are p q =
     subst (λ (x : ℕ). is_listed ls x p ≡ false) (first_same n k (q, p) t)
     (subst (λ (y : ℕ). is_listed ls n y ≡ false) (second_same n k (q, p) t) absent))
     ∙ are p q))
-
-some_kept : (b : Bool) (o : Option ℕ) → (b && is_some o) ≡ is_some (cond b o None)
-some_kept true o = refl
-some_kept false o = refl
-
--- those of some keys stay, of both
-pub both_kept :
-    (has : ℕ → Bool) (ws : List Watch) (ls : List (ℕ × ℕ)) → AreListed ws ls
-    → AreListed (filter (λ w. has w.0.0) ws) (filter (λ p. has p.1) ls)
-both_kept has ws ls are p q =
-    any-filter_same (is_at (place_cmp (q, p))) (λ (e : ℕ × ℕ). has e.1) (has p)
-    (λ e t. ap has (sym (second_same q p e t))) ls
-    ∙ (ap (λ b. has p && b) (are p q)
-    ∙ (some_kept (has p) (watch_at ws p q)
-    ∙ ap is_some (sym (lookup-filter-keys (is_at (place_cmp (p, q))) (λ (e : ℕ × ℕ). has e.0) (has p)
-    (λ e t. ap has (sym (first_same p q e t))) ws))))
 
 -- ---- the watches of a queue
 -- a queue without watches has none to end

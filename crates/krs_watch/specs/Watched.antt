@@ -1,7 +1,9 @@
 -- Watches, and what is kept of them beside.
-use Rattle.std.specs.Prelude.{◌≡◌, ℕ, List, Bool, ◌==◌, ◌&&◌, is_some, IsSome}
+use Rattle.std.specs.Prelude.{◌≡◌, ℕ, List, filter, Bool, ◌==◌, ◌&&◌, not, is_some, IsSome}
 use Rattle.std.specs.List.{list_any}
+use Rattle.std.specs.declared.ops.Bound.TheVariants.{Included, Unbounded}
 use Rattle.std.specs.BTreeMap.{is_at}
+use Rattle.std.specs.BTreeMap.Range.{range_contains}
 use Rattle.krs_model.specs.Table.{Table, at}
 use Rattle.krs_model.specs.State.{Queue}
 use Rattle.krs_model.specs.Queues.{Watch, place_cmp, watch_at}
@@ -30,3 +32,13 @@ AreQueued queues watches = Each (IsQueued queues) watches
 -- a queue of that number is the client's
 abbrev pub owns : ℕ → ℕ → Table Queue → Bool
 owns client number queues = list_any (λ e. (e.0 == number) && (e.1.client == client)) queues
+
+-- the watches of keys that are not there
+abbrev pub gone_watches : (ℕ → Bool) → List Watch → List Watch
+gone_watches has watches = filter (λ w. not (has w.0.0)) watches
+
+-- none of them is before a place
+abbrev pub NoneGoneBefore : (ℕ → Bool) → ℕ × ℕ → List Watch → Type 0
+NoneGoneBefore has from watches =
+    gone_watches has (filter (λ w. range_contains place_cmp (Included from) Unbounded w.0) watches)
+    ≡ gone_watches has watches

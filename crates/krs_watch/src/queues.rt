@@ -6,13 +6,13 @@ ghost use Rattle.krs_model.specs.Asks.Watching.{opened, filtered, read_out, clos
 ghost use Rattle.krs_model.specs.Table.{Rises, alter};
 ghost use Rattle.krs_model.specs.Asks.Watching.{with_filter};
 ghost use Rattle.krs_watch.specs.Reads.{ReadsAt};
-ghost use Rattle.krs_watch.specs.Watched.{owns};
+ghost use Rattle.krs_watch.specs.Watched.{gone_watches, owns};
 ghost use Rattle.krs_watch.specs.Changes.{LeadsQueues, LeadsAlways, OwnsQueue, watch_ended, swept};
 
 use crate::posting::{Place, around, post, post_note};
 use crate::queue::NoteQueue;
 use crate::wanted::Wanted;
-use crate::watches::Watches;
+use crate::watches::{Watches, first_gone};
 use krs_keys::KeySet;
 use krs_notes::Filter;
 use krs_ring::NoteRing;
@@ -195,8 +195,7 @@ impl WatchQueues {
     pub fn sweep<K: KeySet>(&mut self, keys: &K)
         ensures { self.new ≡ swept (K.has keys.now) self.old }
     {
-        post_dropped(&mut self.queues, self.watches.all(), keys);
-        self.watches.keep_live(keys);
+        end_dropped(&mut self.queues, &mut self.watches, keys);
     }
 }
 
@@ -221,24 +220,18 @@ fn is_watched(watches: &BTreeMap<Place, u8>, key: u32) -> bool
     false
 }
 
-/// A removal record comes to each queue that watches a key which is not there.
-fn post_dropped<K: KeySet>(
-    queues: &mut BTreeMap<u32, NoteQueue>,
-    watches: &BTreeMap<Place, u8>,
-    keys: &K,
-)
-    ensures { queues.new.entries ≡ post_all
-        (map removal_for (filter (λ w. not (K.has keys.now w.0.0)) watches.now.entries))
-        queues.old.entries }
+/// The end of the watches of all keys that are not there. A removal record comes to the queue of each.
+fn end_dropped<K: KeySet>(queues: &mut BTreeMap<u32, NoteQueue>, watches: &mut Watches, keys: &K)
+    ensures queues { queues.new.entries
+        ≡ post_all (map removal_for (gone_watches (K.has keys.now) watches.old)) queues.old.entries }
+    ensures watches { watches.new ≡ filter (λ w. K.has keys.now w.0.0) watches.old }
 {
-    for (place, id) in watches {
-        if !keys.has(Serial::new(place.0)) {
-            let gone = Record::Removal {
-                watch: *id,
-                id: u64::from(place.0),
-            };
-            post(queues, place.1, gone);
-        }
+    let mut from = (0, 0);
+    'ending: while let Some((place, watch)) = first_gone(watches.all(), from, keys) {
+        let _ = watches.remove(place.0, place.1);
+        let id = u64::from(place.0);
+        post(queues, place.1, Record::Removal { watch, id });
+        from = place;
     }
 }
 

@@ -1,7 +1,10 @@
 //! What is watched, by key and by queue.
 ghost use Rattle.std.specs.Prelude.{ℕ, ◌≡◌, ◌<◌, ◌==◌, not, filter, length, [], None, IsSome, IfSome, IfNone};
-ghost use Rattle.std.specs.Prelude.{OnOk, OnErr};
-ghost use Rattle.krs_model.specs.Queues.{watch_at, with_watch, without_watch};
+ghost use Rattle.std.specs.Prelude.{OnOk, OnErr, Some, slice_get};
+ghost use Rattle.std.specs.List.Sorted.{IsStrictlySortedBy};
+ghost use Rattle.std.specs.Map.{keys_of};
+ghost use Rattle.krs_model.specs.Queues.{place_cmp, watch_at, with_watch, without_watch};
+ghost use Rattle.krs_watch.specs.Watched.{gone_watches, NoneGoneBefore};
 
 use crate::posting::Place;
 use krs_keys::KeySet;
@@ -96,24 +99,24 @@ impl Watches {
             let _ = self.remove(key, number);
         }
     }
+}
 
-    /// The end of the watches of all keys that are not there.
-    pub(crate) fn keep_live<K: KeySet>(&mut self, keys: &K)
-        ensures { self.new ≡ filter (λ w. K.has keys.now w.0.0) self.old }
-    {
-        keep_live(&mut self.by_key, keys);
-        keep_listed(&mut self.by_queue, keys);
+/// The first watch of a key that is not there, with its id. Those before a place are known to be of others.
+pub(crate) fn first_gone<K: KeySet>(
+    watches: &BTreeMap<Place, u8>,
+    from: Place,
+    keys: &K,
+) -> Option<(Place, u8)>
+    requires { NoneGoneBefore (K.has keys.now) from watches.now.entries }
+    ensures first { IfSome result
+        (λ w. slice_get (gone_watches (K.has keys.now) watches.now.entries) 0 ≡ Some w) }
+    ensures none { IfNone result (gone_watches (K.has keys.now) watches.now.entries ≡ []) }
+    ensures rises { IsStrictlySortedBy place_cmp (keys_of watches.now.entries) }
+{
+    for (place, id) in watches.range(from..) {
+        if !keys.has(Serial::new(place.0)) {
+            return Some((*place, *id));
+        }
     }
-}
-
-fn keep_live<K: KeySet>(watches: &mut BTreeMap<Place, u8>, keys: &K)
-    ensures { watches.new.entries ≡ filter (λ w. K.has keys.now w.0.0) watches.old.entries }
-{
-    watches.retain(|place, _id| keys.has(Serial::new(place.0)));
-}
-
-fn keep_listed<K: KeySet>(listed: &mut BTreeSet<(u32, u32)>, keys: &K)
-    ensures { listed.new.keys ≡ filter (λ p. K.has keys.now p.1) listed.old.keys }
-{
-    listed.retain(|place| keys.has(Serial::new(place.1)));
+    None
 }

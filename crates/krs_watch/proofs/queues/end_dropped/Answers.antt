@@ -1,0 +1,60 @@
+use Rattle.std.proofs.Common.{◌≡◌, ℕ, ◌<◌, List, [], ◌∷◌, Some, filter, map, length, refl, ap, ◌∙◌, sym, subst, arith}
+use Rattle.std.specs.Prelude.{slice_get}
+use Rattle.std.specs.List.Sorted.{IsStrictlySortedBy}
+use Rattle.std.specs.Map.{keys_of}
+use Rattle.krs_types.specs.declared.note.Record.TheVariants.{Removal}
+use Rattle.krs_model.specs.Table.{alter}
+use Rattle.krs_model.specs.Queues.{Watch, place_cmp}
+use Rattle.krs_model.specs.Notes.Posting.{removal_for, post_all, after_note}
+use Rattle.krs_watch.specs.Watched.{gone_watches, NoneGoneBefore}
+use Rattle.krs_watch.proofs.GoneLemmas.{from_least, none_before, taken, first_stays, none_gone}
+use Rattle.krs_watch.proofs.queues.end_dropped.Goals as goal
+
+pub ending-init : goal.ending-init
+ending-init g c = record {
+  posts = refl;
+  stay = refl;
+  before = from_least (g.K.KeySet.has c.args.keys.now) c.args.watches.now;
+}
+
+pub ending-smaller : goal.ending-smaller
+ending-smaller g c =
+    let has = g.K.KeySet.has c.args.keys.now in
+    let ws = c.ending.watches in
+    let w : Watch = (c.in-Some.place, c.in-Some.watch) in
+    let first : slice_get (gone_watches has ws) 0 ≡ Some w =
+    ap (λ (vs : List Watch). slice_get (gone_watches has vs) 0) (sym c.all.ensures) ∙ c.in-Some.ensures.first in
+    let more : gone_watches has ws ≡ w ∷ gone_watches has c.remove.new.self =
+    taken has ws w first ∙ ap (λ (vs : List Watch). w ∷ gone_watches has vs) (sym c.remove.ensures.watches) in
+    let fewer : length (gone_watches has c.remove.new.self) < length (gone_watches has ws) =
+    omega (arith, ap length more) in
+    fewer
+
+pub ending-preserved : goal.ending-preserved
+ending-preserved g c =
+    let has = g.K.KeySet.has c.args.keys.now in
+    let ws = c.ending.watches in
+    let queues = c.ending.queues.entries in
+    let number = c.in-Some.place.1 in
+    let w : Watch = (c.in-Some.place, c.in-Some.watch) in
+    let first : slice_get (gone_watches has ws) 0 ≡ Some w =
+    ap (λ (vs : List Watch). slice_get (gone_watches has vs) 0) (sym c.all.ensures) ∙ c.in-Some.ensures.first in
+    let more : gone_watches has ws ≡ w ∷ gone_watches has c.remove.new.self =
+    taken has ws w first ∙ ap (λ (vs : List Watch). w ∷ gone_watches has vs) (sym c.remove.ensures.watches) in
+    record {
+      posts = ap (post_all (map removal_for (gone_watches has c.remove.new.self))) (c.post.ensures
+          ∙ ap (λ (n : ℕ). alter queues number (after_note (Removal c.in-Some.watch n))) c.from-id.ensures)
+          ∙ (ap (λ (vs : List Watch). post_all (map removal_for vs) queues) (sym more) ∙ c.ending.invariant.posts);
+      stay = ap (filter (λ v. has v.0.0)) c.remove.ensures.watches
+          ∙ (first_stays has ws w first ∙ c.ending.invariant.stay);
+      before = subst (λ (vs : List Watch). NoneGoneBefore has c.in-Some.place vs) (sym c.remove.ensures.watches)
+          (none_before has ws w (subst (λ (vs : List Watch). IsStrictlySortedBy place_cmp (keys_of vs)) c.all.ensures
+          c.in-Some.ensures.rises) first);
+    }
+
+pub returns-clause-watches : goal.returns-clause-watches
+returns-clause-watches g c =
+    let has = g.K.KeySet.has c.args.keys.now in
+    let nothing : gone_watches has c.ending.watches ≡ [] =
+    ap (gone_watches has) (sym c.all.ensures) ∙ c.in_default.ensures.none in
+    sym (none_gone has c.ending.watches nothing) ∙ c.ending.invariant.stay
