@@ -1,3 +1,4 @@
 pub mod EndedHolders
 pub mod EnteredHolders
 pub mod JoinedHolders
+pub mod LeftStates

@@ -1,25 +1,58 @@
 ghost use Rattle.std.specs.Prelude.{◌≡◌, ◌≢◌, Err, ◌==◌, filter, not, [], cond};
 ghost use Rattle.krs_types.specs.declared.fault.Fault.TheVariants.{Memory};
-ghost use Rattle.std.specs.Option.{option_to_list};
+ghost use Rattle.std.specs.Option.{IfSome, IfNone, option_to_list};
 ghost use Rattle.krs_model.specs.Outcome.{Leads};
 ghost use Rattle.krs_tables.specs.Holding.{rings_of};
-ghost use Rattle.krs_model.specs.Sweep.{context_roots, process_roots, uid_roots};
+ghost use Rattle.krs_model.specs.Sweep.{process_roots, uid_roots};
 ghost use Rattle.krs_hold.specs.Tally.{all_less};
-ghost use Rattle.krs_model.specs.Asks.Leaving.{has_process, has_uid, left, exit};
+ghost use Rattle.krs_model.specs.Asks.Leaving.{contexts_without, has_process, has_uid, left, exit};
+ghost use Rattle.krs_ctx.specs.Anchors.{anchored, anchors_of};
+ghost use Rattle.krs_ctx.specs.Members.{IsThereFailing};
+ghost use Rattle.krs_ctx.specs.Told.{IsLeaving, without_idle};
 
 use krs_ctx::Contexts;
 use krs_hold::Holders;
 use krs_tables::Tables;
-use krs_types::{Answer, Context, Fault, Serial, UidRings};
-use std::collections::BTreeMap;
+use krs_types::{Answer, Fault, Serial, UidRings};
 
 /// Closes all queues of a client and ends all its contexts, and what has no context then. It takes no memory.
 pub fn leave(tables: &mut Tables, client: u32)
     ensures { tables.new ≡ left tables.old client }
 {
     tables.queues.leave(client);
-    let_go_contexts(&mut tables.holders, tables.contexts.contexts(), client);
-    tables.contexts.end_contexts(client);
+    end_contexts(tables, client);
+    if !tables.contexts.is_whole() {
+        end_idle(tables, client);
+    }
+}
+
+/// Ends all contexts of a client, one after the other, each with its process and the keyrings of its uid where it was
+/// their last.
+fn end_contexts(tables: &mut Tables, client: u32)
+    ensures leaving { IsLeaving client (anchors_of tables.old) (anchors_of tables.new) }
+    ensures all { contexts_without client tables.new.contexts ≡ tables.new.contexts }
+    ensures rest { tables.new ≡ anchored tables.old (anchors_of tables.new) }
+{
+    'ending: while let Some(number) = first_of(tables, client) {
+        let _ = exit(tables, client, number);
+    }
+}
+
+/// A context of a client.
+fn first_of(tables: &Tables, client: u32) -> Option<u32>
+    ensures there { IfSome result (IsThereFailing
+        (λ e. not (e.1.client == client)) tables.now.contexts) }
+    ensures none { IfNone result
+        (contexts_without client tables.now.contexts ≡ tables.now.contexts) }
+{
+    tables.contexts.first_of(client)
+}
+
+/// Ends the processes and uids that have no context, once no context of the client is left.
+fn end_idle(tables: &mut Tables, client: u32)
+    requires { contexts_without client tables.old.contexts ≡ tables.old.contexts }
+    ensures { tables.new ≡ anchored tables.old (without_idle (anchors_of tables.old)) }
+{
     let_go_processes(&mut tables.holders, &tables.contexts);
     let_go_uids(&mut tables.holders, &tables.contexts);
     tables.contexts.leave(client);
@@ -65,20 +98,6 @@ fn let_go_uid(holders: &mut Holders, contexts: &Contexts, uid: u32, rings: Optio
     if let Some(rings) = rings {
         holders.let_go_of(rings.user);
         holders.let_go_of(rings.session);
-    }
-}
-
-/// Lets go of what the contexts of a client attach.
-fn let_go_contexts(holders: &mut Holders, contexts: &BTreeMap<u32, Context>, client: u32)
-    ensures { holders.new ≡ all_less (context_roots (filter
-        (λ e. e.1.client == client) contexts.now.entries)) holders.old }
-{
-    for (number, context) in contexts {
-        let _ = number;
-        if context.client == client {
-            holders.let_go_of(context.thread);
-            holders.let_go_of(context.session);
-        }
     }
 }
 

@@ -205,16 +205,6 @@ process_fit t new process fit none contexts processes next =
       owners = rw contexts fit.owners;
     }
 
--- contexts end, and their processes stay
-pub fewer_fit : (t new : Anchors) (p : ℕ × Context → Bool) → IsFit t → new.contexts ≡ filter p t.contexts
-    → new.processes ≡ t.processes → new.next_context ≡ t.next_context → IsFit new
-fewer_fit t new p fit contexts processes next = record {
-  contexts = rw next (below_filter p t.contexts new.contexts t.next_context contexts fit.contexts);
-  processes = rw (processes, next) fit.processes;
-  entered = rw (contexts, processes) (each_filter (IsEntered t.processes) p t.contexts fit.entered);
-  owners = owners_filter t.contexts new.contexts p contexts fit.owners;
-}
-
 -- processes end that have no context
 pub idle_fit : (t new : Anchors) → IsFit t → new.contexts ≡ t.contexts
     → new.processes ≡ filter (λ e. has_process t.contexts e.0) t.processes → new.next_context ≡ t.next_context

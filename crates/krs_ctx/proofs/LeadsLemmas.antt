@@ -1,8 +1,7 @@
 -- From what contexts answer to what an ask of a store comes to: for the store's own asks.
-use Rattle.std.proofs.Common.{◌≡◌, ℕ, ◌==◌, ◌∙◌, List, [], ◌∷◌, Bool, true, false, not, filter, cond}
-use Rattle.std.proofs.Common.{Result, Ok, Err, IsOk, refl, sym, subst, ap}
+use Rattle.std.proofs.Common.{◌≡◌, ℕ}
+use Rattle.std.proofs.Common.{Result, Ok, Err, IsOk, refl, sym, subst}
 use Rattle.std.specs.Result.{IsErrAnd}
-use Rattle.krs_types.specs.declared.context.Context.{Context}
 use Rattle.krs_types.specs.declared.errno.Errno.{Errno}
 use Rattle.krs_types.specs.declared.fault.Fault.{Fault}
 use Rattle.krs_types.specs.declared.fault.Fault.TheVariants.{Memory, Refused}
@@ -12,7 +11,6 @@ use Rattle.krs_model.specs.Outcome.{Outcome, Leads}
 use Rattle.krs_model.specs.Queues.{queues_without}
 use Rattle.krs_model.specs.Asks.Leaving.{left}
 use Rattle.krs_ctx.specs.Anchors.{Anchors, anchored, anchors_of}
-use Rattle.krs_ctx.specs.Told.{without_contexts_of}
 
 pub leads_refused : (s : State) (old new : Anchors) (r : Result Answer Fault) (e : Errno) (meant : State → Outcome)
     → IsErrAnd r (λ f. f ≡ Refused e) → ((q : State) → meant (anchored q old) ≡ Err e) → new ≡ old
@@ -29,21 +27,6 @@ leads_memory s old new (Ok x) meant is accepted same = absurd is
 leads_memory s old new (Err f) meant is accepted same =
     subst (λ (g : Fault). Leads (anchored s old) (Err g) (anchored s new) (meant (anchored s old))) (sym is)
     (accepted, rw same refl)
-
-filter_twice : {X : Type 0} (p : X → Bool) (xs : List X) → filter p (filter p xs) ≡ filter p xs
-filter_twice p [] = refl
-filter_twice p (x ∷ xs) = elim (p x) as
-    (λ b. p x ≡ b → filter p (cond b (x ∷ filter p xs) (filter p xs)) ≡ cond b (x ∷ filter p xs) (filter p xs)) [
-      | true ↦ λ is. rw is (ap (λ zs. x ∷ zs) (filter_twice p xs))
-      | false ↦ λ is. filter_twice p xs
-    ] refl
-
--- LEAVE after its contexts have ended is LEAVE
-pub left_after : (s : State) (old mid new : Anchors) (client : ℕ) → mid ≡ without_contexts_of old client
-    → new ≡ anchors_of (left (anchored s mid) client) → new ≡ anchors_of (left (anchored s old) client)
-unfolding left
-left_after s old mid new client ended is =
-    is ∙ (rw ended (rw (filter_twice (λ (e : ℕ × Context). not (e.1.client == client)) old.contexts) refl))
 
 -- LEAVE, in any store: its contexts are those that are told, and its queues and watches end by themselves
 pub left_whole : (s : State) (old new : Anchors) (client : ℕ) → new ≡ anchors_of (left (anchored s old) client)

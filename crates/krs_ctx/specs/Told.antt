@@ -84,10 +84,6 @@ changed t number f = record t { contexts = alter t.contexts number f }
 abbrev pub with_ring : Anchors → ℕ → ℕ → Anchors
 with_ring t process ring = record t { processes = alter t.processes process (λ was. Some ring) }
 
--- with no context of this client
-abbrev pub without_contexts_of : Anchors → ℕ → Anchors
-without_contexts_of t client = record t { contexts = contexts_without client t.contexts }
-
 -- without the context of this number, its process and the keyrings of its uid, where these have no other:
 -- process-keyring(7), user-keyring(7)
 abbrev pub ended : Anchors → ℕ → Context → Anchors

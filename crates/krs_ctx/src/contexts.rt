@@ -13,7 +13,7 @@ ghost use Rattle.krs_ctx.specs.Anchors.{IsFit, IsWhole, anchored, anchors_of};
 ghost use Rattle.krs_ctx.specs.Members.{IsThereFailing};
 ghost use Rattle.krs_ctx.specs.Told.{Enters, Does, Opens, OpensWith, enterable, greeted};
 ghost use Rattle.krs_ctx.specs.Told.{CanBeTakenBack, taken_back, changed, with_ring};
-ghost use Rattle.krs_ctx.specs.Told.{anchors_without, ended_where, without_contexts_of, without_idle};
+ghost use Rattle.krs_ctx.specs.Told.{anchors_without, ended_where, without_idle};
 
 use crate::maps::{
     detach_processes, detach_uids, drop_processes, drop_uids, end_process, end_uid, enter,
@@ -355,14 +355,6 @@ impl Contexts {
         drop_processes(&mut self.processes, &self.contexts);
         drop_uids(&mut self.uids, &self.contexts);
         self.whole = true;
-    }
-
-    /// Ends all contexts of a client. Their processes and uids stay.
-    pub fn end_contexts(&mut self, client: u32)
-        ensures { self.new ≡ without_contexts_of self.old client }
-    {
-        self.contexts.end_all_of(client);
-        self.whole = false;
     }
 
     /// Ends all contexts of a client, and the processes and uids that have no context then.

@@ -157,13 +157,4 @@ impl ContextTable {
             let _ = self.remove(other);
         }
     }
-
-    /// No context of a client stays.
-    pub(crate) fn end_all_of(&mut self, client: u32)
-        ensures { self.new ≡ contexts_without client self.old }
-    {
-        'ending: while let Some(number) = self.first_of(client) {
-            let _ = self.remove(number);
-        }
-    }
 }
