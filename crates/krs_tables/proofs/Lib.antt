@@ -11,3 +11,4 @@ pub mod PostsAndSweep
 pub mod WatchedKeys
 pub mod Removals
 pub mod Wanting
+pub mod KeptKeys

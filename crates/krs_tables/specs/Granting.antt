@@ -7,6 +7,10 @@ use Rattle.krs_model.specs.State.{State, Key}
 use Rattle.krs_model.specs.Access.{rights_on}
 use Rattle.krs_model.specs.Possession.{possessed}
 
--- the rights of the context on the key at a serial, with the possessor's where it possesses it, are what is wanted
+-- the rights of the context on a key, with the possessor's where it possesses it, are what is wanted
+abbrev pub allows_held : Want → Key → Context → Bool → Bool
+allows_held want key c possessed = allows want (rights_on key c.caller possessed) possessed
+
+-- the same of the key at a serial
 abbrev pub grants_to : State → Context → ℕ → Key → Want → Bool
-grants_to s c serial key want = allows want (rights_on key c.caller (possessed s c serial)) (possessed s c serial)
+grants_to s c serial key want = allows_held want key c (possessed s c serial)

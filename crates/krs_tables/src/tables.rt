@@ -1,17 +1,17 @@
-ghost use Rattle.std.specs.Prelude.{◌≡◌, ◌≤◌, [], IfSome, IfOk};
+ghost use Rattle.std.specs.Prelude.{◌≡◌, ◌≤◌, [], Some, IfSome, IfOk};
 ghost use Rattle.std.specs.Option.{option_map};
 ghost use Rattle.krs_model.specs.Table.{at};
 ghost use Rattle.krs_model.specs.State.{starting_at, raised};
-ghost use Rattle.krs_model.specs.Possession.{process_ring, possessed};
+ghost use Rattle.krs_model.specs.Possession.{process_ring, possessed, possessed_with};
 ghost use Rattle.krs_model.specs.Lookup.{context_of, serial_of, look_up};
 ghost use Rattle.krs_model.specs.Outcome.{Is};
 ghost use Rattle.krs_tables.specs.Serving.{SweepsOut};
 ghost use Rattle.krs_model.specs.Sweep.{live_watches};
 ghost use Rattle.krs_model.specs.Reach.{IsAcyclic, links_of_key_at};
 ghost use Rattle.krs_model.specs.Asks.Changing.{changed};
-ghost use Rattle.krs_keys.specs.Keys.{seen, FindsByName};
+ghost use Rattle.krs_keys.specs.Keys.{seen, shown, AreFit, FindsByName};
 ghost use Rattle.krs_keys.specs.Changes.{meant_change};
-ghost use Rattle.krs_tables.specs.Granting.{grants_to};
+ghost use Rattle.krs_tables.specs.Granting.{allows_held, grants_to};
 
 use krs_ctx::Contexts;
 use krs_hold::Holders;
@@ -144,14 +144,26 @@ impl Tables {
         ensures named { IfOk result (λ x. FindsByName self.now.keys x.1.now) }
     {
         let serial = self.serial_of(context, id)?;
-        let key = self.key(serial).ok_or(Errno::ENOKEY)?;
+        let Some(key) = self.keys.get(serial) else {
+            return Err(Errno::ENOKEY);
+        };
         if key.revoked {
             return Err(Errno::EKEYREVOKED);
         }
         if key.is_over(self.clock) {
             return Err(Errno::EKEYEXPIRED);
         }
-        if !self.grants(context, serial, key, want) {
+        let ring = self.process_ring(context.process);
+        if !grants_kept(
+            &self.walker,
+            &self.keys,
+            context,
+            ring,
+            self.clock,
+            serial,
+            key,
+            want,
+        ) {
             return Err(Errno::EACCES);
         }
         Ok((serial.number(), key))
@@ -225,4 +237,22 @@ impl Tables {
             self.queues.sweep(&self.keys);
         }
     }
+}
+
+/// Whether a key, which is kept at this serial, grants a context of a process with this keyring what is wanted. It is
+/// `Tables::grants` of a key that needn't be looked up again.
+#[rattlefmt::skip]
+fn grants_kept(
+    walker: &Walker, keys: &KeyTable, context: &Context, ring: Option<Serial>, clock: u64, serial: Serial, key: &Key, want: Want,
+) -> bool
+    requires fit { AreFit keys.now.keys }
+    requires key { at keys.now.keys serial ≡ Some key.now }
+    ensures { result ≡ allows_held want (seen key.now) context.now
+        (possessed_with (shown keys.now.keys) clock context.now ring serial) }
+{
+    if want.allows(key.grants(&context.caller, false), false) {
+        return true;
+    }
+    let possessed = walker.possesses_key(keys, context, ring, clock, key, serial);
+    want.allows(key.grants(&context.caller, possessed), possessed)
 }

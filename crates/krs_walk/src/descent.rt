@@ -75,6 +75,7 @@ impl Search<'_> {
     /// Whether a keyring is entered, and links something.
     fn is_entered(&self, key: &Key, ring: Serial) -> bool
         requires fit { AreFit self.now.keys.now.keys }
+        requires key { at self.now.keys.now.keys ring ≡ Some key.now }
         ensures { result
             ≡ (links_some key.now.content && is_open (searcher_for self.now) ring (seen key.now)) }
     {

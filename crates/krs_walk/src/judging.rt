@@ -74,26 +74,29 @@ impl Search<'_> {
 
     /// Whether a key grants SEARCH. Possession is asked where it makes a difference.
     pub(crate) fn grants(&self, key: &Key, serial: Serial) -> bool
-        requires { AreFit self.now.keys.now.keys }
+        requires fit { AreFit self.now.keys.now.keys }
+        requires key { at self.now.keys.now.keys serial ≡ Some key.now }
         ensures { result ≡ grants_search (searcher_for self.now) serial (seen key.now) }
     {
         let granted = self.is_granted(key, false);
         if granted == self.is_granted(key, true) {
             return granted;
         }
-        let possessed = self.possesses(serial);
+        let possessed = self.possesses(key, serial);
         self.is_granted(key, possessed)
     }
 
-    fn possesses(&self, serial: Serial) -> bool
-        requires { AreFit self.now.keys.now.keys }
+    fn possesses(&self, key: &Key, serial: Serial) -> bool
+        requires fit { AreFit self.now.keys.now.keys }
+        requires key { at self.now.keys.now.keys serial ≡ Some key.now }
         ensures { result ≡ is_held self.now serial }
     {
-        self.walker.possesses(
+        self.walker.possesses_key(
             self.keys,
             self.context,
             self.process_ring,
             self.clock,
+            key,
             serial,
         )
     }

@@ -46,6 +46,27 @@ impl Walker {
         }
     }
 
+    /// The same of a key that is at hand.
+    pub fn possesses_key(
+        &self,
+        keys: &KeyTable,
+        context: &Context,
+        process_ring: Option<Serial>,
+        clock: u64,
+        key: &Key,
+        serial: Serial,
+    ) -> bool
+        requires fit { AreFit keys.now.keys }
+        requires key { at keys.now.keys serial ≡ Some key.now }
+        ensures { result ≡ possessed_with (shown keys.now.keys) clock context.now process_ring serial }
+    {
+        keys.only_keyrings_link();
+        if is_attached(context, &process_ring, serial) {
+            return true;
+        }
+        self.is_linked(keys, context, process_ring, clock, key, serial)
+    }
+
     /// Whether a followed keyring of the first `SEARCH_DEPTH` levels links a key.
     fn is_linked(
         &self,
