@@ -4,6 +4,7 @@ use Rattle.std.proofs.Common.{refl, ap, ◌∙◌, sym, subst, ◌⊎◌, inl, i
 use Rattle.std.specs.Option.{option_to_list, option_map, is_some}
 use Rattle.std.specs.Result.{result_ok}
 use Rattle.std.proofs.lemmas.List.{append-nil}
+use Rattle.std.proofs.lemmas.Bool.{true≢false}
 use Rattle.krs_types.specs.declared.errno.Errno.{Errno}
 use Rattle.krs_types.specs.declared.fault.Fault.{Fault}
 use Rattle.krs_types.specs.declared.ask.Answer.{Answer}
@@ -29,12 +30,12 @@ use Rattle.krs_model.specs.Notes.Posting.{Note, Post, posts, posts_of, posted_in
 use Rattle.krs_model.specs.Notes.Posting.{after_note, after_notes, post_all, records_for}
 use Rattle.krs_model.specs.Notes.Filter.{passes_if_any}
 use Rattle.krs_model.proofs.Notes.Posts.{at_post_all, post_all-append}
-use Rattle.krs_model.specs.Notes.Telling.{named, about, about_link, about_added, notes_of, ended_by}
+use Rattle.krs_model.specs.Notes.Telling.{named, about, about_link, about_added, about_found, notes_of, ended_by}
 use Rattle.krs_model.proofs.Asks.NotedKeys.{add_serial, added_before}
-use Rattle.krs_tables.proofs.PostsAndSweep.{tells_after, posted_nothing}
+use Rattle.krs_tables.proofs.PostsAndSweep.{tells_after, tells_nothing, posted_nothing}
 use Rattle.krs_store.specs.declared.telling.Tellings.{Tellings}
 use Rattle.krs_store.specs.declared.telling.Telling.TheVariants.{OfAdded}
-use Rattle.krs_store.specs.Telling.{only, told_by, added_note, new_note, updated_note, posts_told, Foretells, Runs}
+use Rattle.krs_store.specs.Telling.{only, told_by, added_note, new_note, updated_note, posts_told, may_tell, Foretells, Runs}
 
 -- an ask that ends no watch
 record EndsNone (s : State) (client context : ℕ) (op : Op) (r : Result Answer Fault) (new : State) : Type 0 where
@@ -179,6 +180,56 @@ pub unwatched_told :
     → Runs s client context op r new → LeadsTold s client context op r new
 unwatched_told s new client context op r none ran =
     ⊎_elim (led_untold s new client context op r none)
+    (λ (is : TellsNone s client context op r new). is.told) (ran_as s client context op r new ran)
+
+-- an ask that may not tell tells no note
+tells_none : (s : State) (client context : ℕ) (op : Op) (answer : Answer) → may_tell op ≡ false
+    → notes_of s client context op answer ≡ []
+tells_none s client context (Update id payload) answer h = absurd (true≢false h)
+tells_none s client context (Revoke id) answer h = absurd (true≢false h)
+tells_none s client context (Invalidate id) answer h = absurd (true≢false h)
+tells_none s client context (Clear id) answer h = absurd (true≢false h)
+tells_none s client context (Chown id uid gid) answer h = absurd (true≢false h)
+tells_none s client context (SetPerm id mask) answer h = absurd (true≢false h)
+tells_none s client context (SetTimeout id seconds) answer h = absurd (true≢false h)
+tells_none s client context (Link key ring) answer h = absurd (true≢false h)
+tells_none s client context (Unlink key ring) answer h = absurd (true≢false h)
+tells_none s client context (Move key from to flags) answer h = absurd (true≢false h)
+tells_none s client context (Add type_name desc payload ring) answer h = absurd (true≢false h)
+tells_none s client context (Search head type_name desc dest) answer h =
+    ap (λ b. about_found b (named s client context dest) answer) h
+tells_none s client context (Request type_name desc dest) answer h =
+    ap (λ b. about_found b (named s client context dest) answer) h
+tells_none s client context (Hello caller) answer h = refl
+tells_none s client context Thread answer h = refl
+tells_none s client context Fork answer h = refl
+tells_none s client context Exec answer h = refl
+tells_none s client context (GetId id create) answer h = refl
+tells_none s client context (Join name) answer h = refl
+tells_none s client context (Read id) answer h = refl
+tells_none s client context (Describe id) answer h = refl
+tells_none s client context (Watch id queue watch_id) answer h = refl
+tells_none s client context (OpenQueue capacity) answer h = refl
+tells_none s client context (SetFilter queue entries) answer h = refl
+tells_none s client context (ReadQueue queue room) answer h = refl
+tells_none s client context (CloseQueue queue) answer h = refl
+tells_none s client context (RestrictKeyring ring type_name) answer h = refl
+tells_none s client context Exit answer h = refl
+tells_none s client context Leave answer h = refl
+
+led_quiet :
+    (s new : State) (client context : ℕ) (op : Op) (r : Result Answer Fault) → may_tell op ≡ false
+    → EndsNone s client context op r new → LeadsTold s client context op r new
+led_quiet s new client context op (Err e) quiet is = is.leads
+led_quiet s new client context op (Ok answer) quiet is =
+    tells_nothing is.leads (tells_none s client context op answer quiet) is.none_ended
+
+-- an ask that tells no note has done all that it does
+pub quiet_told :
+    (s new : State) (client context : ℕ) (op : Op) (r : Result Answer Fault) → may_tell op ≡ false
+    → Runs s client context op r new → LeadsTold s client context op r new
+quiet_told s new client context op r quiet ran =
+    ⊎_elim (led_quiet s new client context op r quiet)
     (λ (is : TellsNone s client context op r new). is.told) (ran_as s client context op r new ran)
 
 linked_told :

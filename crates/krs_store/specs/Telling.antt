@@ -1,10 +1,12 @@
 -- What the store tells of an ask that it accepts: known before the ask is served, but for its answer.
-use Rattle.std.specs.Prelude.{◌≡◌, ℕ, nat_lt, List, [], ◌++◌, Option, None, Some, Result, Ok, if◌then◌else◌}
+use Rattle.std.specs.Prelude.{◌≡◌, ℕ, nat_lt, List, [], ◌++◌, Option, None, Some, Result, Ok, Bool, true, false, if◌then◌else◌}
 use Rattle.std.specs.Option.{option_to_list}
 use Rattle.krs_types.specs.declared.ask.Answer.{Answer}
 use Rattle.krs_types.specs.declared.ask.Answer.TheVariants.{Nothing, Number, Bytes}
 use Rattle.krs_types.specs.declared.ask.Op.{Op}
-use Rattle.krs_types.specs.declared.ask.Op.TheVariants.{Watch}
+use Rattle.krs_types.specs.declared.ask.Op.TheVariants.{Search, Request, Add, Update, Revoke, Invalidate, Chown, SetPerm}
+use Rattle.krs_types.specs.declared.ask.Op.TheVariants.{SetTimeout, Link, Unlink, Move, Clear, Watch}
+use Rattle.krs_types.specs.Growth.{has_destination}
 use Rattle.krs_types.specs.declared.fault.Fault.{Fault}
 use Rattle.krs_types.specs.declared.note.KeyEvent.TheVariants.{Updated, Linked}
 use Rattle.krs_model.specs.State.{State}
@@ -77,6 +79,23 @@ abbrev pub Foretells : Tellings → State → ℕ → ℕ → Op → Type 0
 Foretells tellings s client context op =
     (mid : State) (answer : Answer) → outcome_of s client context op ≡ Ok (mid, answer)
     → told_by tellings answer ≡ notes_of s client context op answer
+
+-- the ask tells of something, if it is accepted: uapi linux/watch_queue.h, enum key_notification_subtype
+abbrev pub may_tell : Op → Bool
+may_tell (Update id payload) = true
+may_tell (Revoke id) = true
+may_tell (Invalidate id) = true
+may_tell (Clear id) = true
+may_tell (Chown id uid gid) = true
+may_tell (SetPerm id mask) = true
+may_tell (SetTimeout id seconds) = true
+may_tell (Link key ring) = true
+may_tell (Unlink key ring) = true
+may_tell (Move key from to flags) = true
+may_tell (Add type_name desc payload ring) = true
+may_tell (Search head type_name desc dest) = has_destination dest
+may_tell (Request type_name desc dest) = has_destination dest
+may_tell op = false
 
 -- what is posted of a note, where there is one
 abbrev pub posts_told : Queues → Option Note → List Post

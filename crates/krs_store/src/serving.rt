@@ -4,7 +4,7 @@ ghost use Rattle.krs_tables.specs.Serving.{LeadsTold};
 ghost use Rattle.krs_model.specs.Sound.{IsSound};
 ghost use Rattle.krs_store.specs.Telling.{Runs};
 
-use crate::telling::{foretell, tell};
+use crate::telling::{foretell, may_tell, tell};
 use crate::watching;
 use crate::watching::{close_queue, open_queue, read_queue, set_filter};
 use krs_context_asks::{exec, exit, fork, hello, join, leave, thread};
@@ -15,13 +15,16 @@ use krs_ring_asks::{
 use krs_tables::Tables;
 use krs_types::{Answer, Ask, Fault, Op};
 
-/// One ask in the state that it finds, and the notes of what it did. Where no key is watched no note goes anywhere, so none
-/// is looked for.
+/// One ask in the state that it finds, and the notes of what it did. Where it tells none, or no key is watched, none is
+/// looked for.
 pub(crate) fn serve(tables: &mut Tables, client: u32, ask: Ask) -> Result<Answer, Fault>
     requires sound { IsSound tables.old }
     ensures told { LeadsTold tables.old client ask.context ask.op result tables.new }
     ensures memory { IsErrOf result Fault.Memory → grows ask.op ≡ true }
 {
+    if !may_tell(&ask.op) {
+        return run(tables, client, ask);
+    }
     if !tables.queues.has_watches() {
         return run(tables, client, ask);
     }

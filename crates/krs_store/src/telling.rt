@@ -11,7 +11,7 @@ ghost use Rattle.krs_types.specs.declared.note.KeyEvent.TheVariants.{Linked, Unl
 ghost use Rattle.krs_model.specs.Notes.Telling.{named, about, about_link, about_moved, about_found};
 ghost use Rattle.krs_model.specs.Notes.Telling.{is_one_ring};
 ghost use Rattle.krs_store.specs.Telling.{told_of, told_by, only, meant_note, linked_note, number_of, posts_told};
-ghost use Rattle.krs_store.specs.Telling.{Says, Foretells};
+ghost use Rattle.krs_store.specs.Telling.{Says, Foretells, may_tell};
 ghost use Rattle.krs_store.specs.declared.telling.Telling.TheVariants.{Quiet, OfAdded};
 
 use krs_tables::Tables;
@@ -120,6 +120,22 @@ fn number_of(answer: &Answer) -> Option<u32>
     match answer {
         Answer::Number(number) => Some(*number),
         Answer::Nothing | Answer::Bytes(_) => None,
+    }
+}
+
+/// Whether an ask tells of something, if it is accepted. The others need no look for it.
+pub(crate) fn may_tell(op: &Op) -> bool
+    ensures { result ≡ may_tell op.now }
+{
+    match op {
+        Op::Update { .. } | Op::Revoke { .. } | Op::Invalidate { .. } | Op::Clear { .. } => true,
+        Op::Chown { .. } | Op::SetPerm { .. } | Op::SetTimeout { .. } => true,
+        Op::Link { .. } | Op::Unlink { .. } | Op::Move { .. } | Op::Add { .. } => true,
+        Op::Search { dest, .. } | Op::Request { dest, .. } => *dest != 0,
+        Op::Hello(_) | Op::Thread | Op::Fork | Op::Exec | Op::GetId { .. } => false,
+        Op::Join { .. } | Op::Read { .. } | Op::Describe { .. } | Op::Watch { .. } => false,
+        Op::OpenQueue { .. } | Op::SetFilter { .. } | Op::ReadQueue { .. } => false,
+        Op::CloseQueue { .. } | Op::RestrictKeyring { .. } | Op::Exit | Op::Leave => false,
     }
 }
 
