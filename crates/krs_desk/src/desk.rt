@@ -89,7 +89,9 @@ impl Desk {
     /// A user of a seat lacks so many bytes of what it keeps in reserve, in place of those of which it told last, and which
     /// it keeps in `told`: 0 at first, and to tell at the end. The store leaves what is lacking: it refuses asks that would
     /// keep memory with ENOMEM, where less is left and nothing else refuses them.
-    pub fn tell_lack(&self, told: &mut u64, lack: u64) {
+    pub fn tell_lack(&self, told: &mut u64, lack: u64)
+        ensures { told.new ≡ lack }
+    {
         if *told == lack {
             return;
         }

@@ -32,7 +32,8 @@ pub trait Keeper<S, R> {
     /// The session of a seat lacks so many bytes of its reserve, in place of those of which it told last. What is lacking
     /// should be left: asks that would keep memory, whoever makes them, refused with ENOMEM where there is less. No law
     /// says so.
-    fn tell_lack(&self, told: &mut u64, lack: u64);
+    fn tell_lack(&self, told: &mut u64, lack: u64)
+        ensures { told.new ≡ lack };
 
     ghost starts: { (s : S) → leads s [] s };
 

@@ -1,4 +1,4 @@
-ghost use Rattle.std.specs.Prelude.{◌<◌};
+ghost use Rattle.std.specs.Prelude.{◌≡◌, ◌-◌, ◌<◌};
 
 use std::alloc::Global;
 
@@ -35,7 +35,9 @@ impl Reserve {
     }
 
     /// How many bytes are lacking.
-    pub(crate) fn lacking(&self) -> usize {
+    pub(crate) fn lacking(&self) -> usize
+        ensures { result ≡ 2097152 - self.now.held }
+    {
         RESERVE.saturating_sub(self.held)
     }
 

@@ -260,7 +260,9 @@ impl<R> Keeper<Chair, R> for Table {
         false
     }
 
-    fn tell_lack(&self, _told: &mut u64, _lack: u64) {}
+    fn tell_lack(&self, told: &mut u64, lack: u64) {
+        *told = lack;
+    }
 
     ghost starts = { λ s. tt };
 

@@ -152,7 +152,9 @@ impl<R> Keeper<u32, R> for Counts {
         false
     }
 
-    fn tell_lack(&self, _told: &mut u64, _lack: u64) {}
+    fn tell_lack(&self, told: &mut u64, lack: u64) {
+        *told = lack;
+    }
 
     ghost starts = { λ s. tt };
 
