@@ -51,13 +51,28 @@ impl Search<'_> {
     }
 
     /// What the links of a keyring come to, behind this fault.
-    pub(crate) fn find_in_links(&self, ring: Serial, fault: Errno) -> Result<Serial, Errno>
+    fn find_in_links(&self, ring: Serial, fault: Errno) -> Result<Serial, Errno>
         requires fit { AreFit self.now.keys.now.keys }
         ensures { result ≡ sought_behind self.now fault (entered_links self.now ring) }
     {
         match self.keys.get(ring) {
             Some(key) if self.is_entered(key, ring) => self.judge_behind(&key.content, fault),
             _ => Err(fault),
+        }
+    }
+
+    /// The same at one look with the keyrings that it links, where it is entered.
+    pub(crate) fn look_in(&self, ring: Serial, fault: Errno) -> (Result<Serial, Errno>, &[Serial])
+        requires fit { AreFit self.now.keys.now.keys }
+        ensures sought { result.0 ≡ sought_behind self.now fault (entered_links self.now ring) }
+        ensures rings { result.1.now ≡ rings_by self.now ring }
+    {
+        match self.keys.get(ring) {
+            Some(key) if self.is_entered(key, ring) => (
+                self.judge_behind(&key.content, fault),
+                rings_in(&key.content),
+            ),
+            _ => (Err(fault), &[]),
         }
     }
 

@@ -1,6 +1,7 @@
 ghost use Rattle.std.specs.Prelude.{◌≡◌, ◌≤◌, ◌&&◌, [], ◌∷◌, Some, Err, true, drop, length};
 ghost use Rattle.std.specs.Prelude.{IfOk, OnOk};
 ghost use Rattle.std.specs.Option.{option_to_list};
+ghost use Rattle.krs_types.specs.declared.errno.Errno as errno;
 ghost use Rattle.krs_model.specs.Table.{at};
 ghost use Rattle.krs_model.specs.Possession.{attached_with};
 ghost use Rattle.krs_model.specs.Search.{found_with, requested_with, found_by, is_open};
@@ -138,26 +139,34 @@ impl Search<'_> {
         requires head { sought_in self.now (head ∷ []) ≡ Err fault }
         ensures { result ≡ found_by (searcher_for self.now) head self.now.name.now }
     {
-        if let Ok(linked) = self.find_in_links(head, fault) {
-            return Ok(linked);
-        }
-        match self.find_below(head, fault) {
-            Ok(found) => found,
-            Err(NoRoom) => self.find_by_levels(head, fault),
+        let (linked, rings) = self.look_in(head, fault);
+        match linked {
+            Ok(serial) => Ok(serial),
+            Err(more) => match self.find_below(head, rings, more) {
+                Ok(found) => found,
+                Err(NoRoom) => self.find_by_levels(head, fault),
+            },
         }
     }
 
-    /// The same, by a walk from the head.
-    fn find_below(&self, head: Serial, fault: Errno) -> Result<Result<Serial, Errno>, NoRoom>
+    /// The same, by a walk from the keyrings that the head links, where the head and its links have this fault.
+    fn find_below(
+        &self,
+        head: Serial,
+        rings: &[Serial],
+        fault: Errno,
+    ) -> Result<Result<Serial, Errno>, NoRoom>
         requires fit { AreFit self.now.keys.now.keys }
         requires only { OnlyRingsLink (shown self.now.keys.now.keys) }
-        requires head { sought_in self.now (head ∷ []) ≡ Err fault }
+        requires rings { rings.now ≡ rings_by self.now head }
+        requires passed { (before : errno.Errno) × ((sought_in self.now (head ∷ []) ≡ Err before)
+            × (Err fault ≡ sought_behind self.now before (entered_links self.now head))) }
         ensures { IfOk result (λ r. r ≡ found_by (searcher_for self.now) head self.now.name.now) }
     {
         let walker = self.walker;
         let mut seen = walker.take(&walker.rings);
         let mut held = HeldRings::new(walker.take(&walker.held));
-        let found = self.walk_below(&mut held, &mut seen, head, fault);
+        let found = self.walk_below(&mut held, &mut seen, head, rings, fault);
         walker.rings.set(seen);
         walker.held.set(held.into_list());
         found
@@ -169,19 +178,21 @@ impl Search<'_> {
         held: &mut HeldRings,
         seen: &mut Visits,
         head: Serial,
+        rings: &[Serial],
         fault: Errno,
     ) -> Result<Result<Serial, Errno>, NoRoom>
         requires fit { AreFit self.now.keys.now.keys }
         requires only { OnlyRingsLink (shown self.now.keys.now.keys) }
         requires held { AreHeld self.now held.old }
         requires seen { seen.old ≡ [] }
-        requires head { sought_in self.now (head ∷ []) ≡ Err fault }
+        requires rings { rings.now ≡ rings_by self.now head }
+        requires passed { (before : errno.Errno) × ((sought_in self.now (head ∷ []) ≡ Err before)
+            × (Err fault ≡ sought_behind self.now before (entered_links self.now head))) }
         ensures { IfOk result (λ r. r ≡ found_by (searcher_for self.now) head self.now.name.now) }
     {
-        let mut fault = match self.visit(held, seen, head, fault)? {
-            Ok(linked) => return Ok(Ok(linked)),
-            Err(linked) => linked,
-        };
+        let _ = head;
+        seen.join(rings)?;
+        let mut fault = fault;
         let mut start = 0usize;
         for level in 0..SEARCH_DEPTH - 1 {
             let _ = level;

@@ -1,4 +1,4 @@
-use Rattle.std.proofs.Common.{◌+◌, ℕ, ap, sym, ◌∙◌, subst, arith, drop, Result}
+use Rattle.std.proofs.Common.{[], ◌+◌, ℕ, ap, sym, ◌∙◌, subst, arith, drop, Result}
 use Rattle.std.specs.List.{flat_map}
 use Rattle.krs_types.specs.declared.errno.Errno.{Errno}
 use Rattle.krs_walk.specs.Lists.{join}
@@ -6,31 +6,24 @@ use Rattle.krs_walk.specs.Searching.{searcher_for, entered_rings, Joins}
 use Rattle.krs_walk.proofs.FindingLemmas.{IsSeek, first_finds, seek_starts, seek_goes_on, seek_finds, seek_fails}
 use Rattle.krs_walk.proofs.search.Search.walk_below.Goals as goal
 
-pub returns-in-Ok : goal.returns-in-Ok
-returns-in-Ok c =
-    let s = c.args.self.now in
-    sym (first_finds (searcher_for s) s.name.now c.args.head c.args.fault c.in-Ok.linked c.requires.only
-    c.requires.head (sym c.in-Ok.is ∙ c.in_ok-linked.ensures.sought))
-
 pub loop-level-init : goal.loop-level-init
 loop-level-init c =
     let s = c.args.self.now in
     record {
-      held = c.in_ok-linked.ensures.held;
-      seek = seek_starts (searcher_for s) s.name.now c.args.head c.visit.new.seen c.args.fault c.in-Err.linked
-          c.requires.head (sym c.in-Err.is ∙ c.in_ok-linked.ensures.sought)
-          (subst (λ (r : Result ℕ Errno). Joins r c.args.seen.now (entered_rings (searcher_for s) c.args.head)
-          c.visit.new.seen) c.in-Err.is c.in_ok-linked.ensures.joined
-          ∙ ap (λ zs. join zs (entered_rings (searcher_for s) c.args.head)) c.requires.seen);
+      held = c.requires.held;
+      seek = seek_starts (searcher_for s) s.name.now c.args.head c.join.new.self c.requires.passed.0 c.args.fault
+          c.requires.passed.1.0 c.requires.passed.1.1
+          (c.in_ok-join.ensures ∙ (ap (λ zs. join zs c.args.rings.now) c.requires.seen
+          ∙ ap (join []) c.requires.rings));
     }
 
-pub returns-in-Ok-2 : goal.returns-in-Ok-2
-returns-in-Ok-2 c =
+pub returns-in-Ok : goal.returns-in-Ok
+returns-in-Ok c =
     let s = c.args.self.now in
     let l = c.loop-level in
-    sym (seek_finds (searcher_for s) s.name.now c.args.head l.level l.start l.seen l.fault c.in-Ok-2.found
+    sym (seek_finds (searcher_for s) s.name.now c.args.head l.level l.start l.seen l.fault c.in-Ok.found
     c.requires.only l.invariant.seek c.loop-level-test.true
-    (sym c.in-Ok-2.is ∙ c.in_ok-found.ensures.sought))
+    (sym c.in-Ok.is ∙ c.in_ok-found.ensures.sought))
 
 pub loop-level-preserved : goal.loop-level-preserved
 loop-level-preserved c =
@@ -40,11 +33,11 @@ loop-level-preserved c =
     record {
       held = c.in_ok-found.ensures.held;
       seek = subst (λ (end : ℕ). IsSeek (searcher_for s) s.name.now c.args.head (l.level + 1) end
-          c.visit_level.new.seen c.in-Err-2.more) (sym c.len-end.ensures.is)
+          c.visit_level.new.seen c.in-Err.more) (sym c.len-end.ensures.is)
           (seek_goes_on (searcher_for s) s.name.now c.args.head l.level l.start l.seen c.visit_level.new.seen l.fault
-          c.in-Err-2.more l.invariant.seek
-          (sym c.in-Err-2.is ∙ c.in_ok-found.ensures.sought)
-          (subst (λ (r : Result ℕ Errno). Joins r l.seen linked c.visit_level.new.seen) c.in-Err-2.is
+          c.in-Err.more l.invariant.seek
+          (sym c.in-Err.is ∙ c.in_ok-found.ensures.sought)
+          (subst (λ (r : Result ℕ Errno). Joins r l.seen linked c.visit_level.new.seen) c.in-Err.is
           c.in_ok-found.ensures.joined));
     }
 
