@@ -1,6 +1,7 @@
 pub mod CaseLemmas
 pub mod FieldLemmas
 pub mod CountLemmas
+pub mod SizeLemmas
 pub mod TagLemmas
 pub mod CutLemmas
 pub mod OpLemmas

@@ -1,5 +1,5 @@
 // The fields of frames, each read from the front of the bytes, which the reader answers with what follows it.
-ghost use Rattle.std.specs.Prelude.{◌≡◌, ◌==◌, IfErr, length, option_map, if◌then◌else◌};
+ghost use Rattle.std.specs.Prelude.{◌≡◌, ◌==◌, ◌<◌, ◌*◌, Err, IfErr, length, option_map, if◌then◌else◌};
 ghost use Rattle.std.specs.Int.{w16, w32};
 ghost use Rattle.krs_wire.specs.Bodies.{id_field, text_field, blob_field, groups_field, entry_field, entries_field};
 ghost use Rattle.krs_wire.specs.Field.{flag, number, many_read, repeated};
@@ -87,10 +87,15 @@ pub(crate) fn blob_at(alloc: Global, bytes: &[u8]) -> Result<(Blob, &[u8]), Wire
     Ok((Blob::from_slice(alloc, blob)?, rest))
 }
 
+/// So many numbers. A count of more than there are bytes for is refused before any memory is taken.
 fn numbers_at(alloc: Global, count: u32, bytes: &[u8]) -> Result<(Vec<u32>, &[u8]), WireFault>
-    ensures { GivesRead (λ x. (x.0.items, x.1.now)) result
+    ensures read { GivesRead (λ x. (x.0.items, x.1.now)) result
         (or_bad_body (many_read (number w32) count bytes.now)) }
+    ensures refused { length bytes.now < 4 * count → result ≡ Err WireFault.BadBody }
 {
+    if bytes.len() < 4 * count as usize {
+        return Err(WireFault::BadBody);
+    }
     let mut numbers = Vec::new(alloc);
     let mut rest = bytes;
     for _ in 0..count {
@@ -147,14 +152,19 @@ fn entry_at(bytes: &[u8]) -> Result<(FilterEntry, &[u8]), WireFault>
     Ok((entry, rest))
 }
 
+/// So many entries. A count of more than there are bytes for is refused before any memory is taken.
 fn so_many_entries_at(
     alloc: Global,
     count: u32,
     bytes: &[u8],
 ) -> Result<(Vec<FilterEntry>, &[u8]), WireFault>
-    ensures { GivesRead (λ x. (x.0.items, x.1.now)) result
+    ensures read { GivesRead (λ x. (x.0.items, x.1.now)) result
         (or_bad_body (many_read entry_field count bytes.now)) }
+    ensures refused { length bytes.now < 44 * count → result ≡ Err WireFault.BadBody }
 {
+    if bytes.len() < 44 * count as usize {
+        return Err(WireFault::BadBody);
+    }
     let mut entries = Vec::new(alloc);
     let mut rest = bytes;
     for _ in 0..count {

@@ -1,7 +1,8 @@
-use Rattle.std.proofs.Common.{rules, ◌≡◌, ◌++◌, ◌-◌, ◌+◌, List, ℕ, [], ◌∷◌, ap, sym, subst}
+use Rattle.std.proofs.Common.{rules, ◌≡◌, ◌++◌, ◌-◌, ◌+◌, List, ℕ, [], ◌∷◌, ap, sym, subst, arith}
 use Rattle.std.specs.Int.{w32}
 use Rattle.krs_wire.specs.Field.{number, many_read}
 use Rattle.krs_wire.specs.Faulting.{or_bad_body}
+use Rattle.krs_wire.proofs.SizeLemmas.{too_many, number_long}
 use Rattle.krs_wire.proofs.CountLemmas.{with_front, many_on, many_ends, many_done}
 use Rattle.krs_wire.proofs.fields.numbers_at.Goals as goal
 
@@ -14,12 +15,16 @@ loop-preserved c =
     subst (λ (xs : List ℕ). with_front xs (many_read (number w32) (c.args.count - (c.loop.counter + 1))
     c.in-Ok.after.now) ≡ many_read (number w32) c.args.count c.args.bytes.now) (sym pushed) next
 
-pub returns : goal.returns
-returns c =
+pub returns-clause-read : goal.returns-clause-read
+returns-clause-read c =
     ap (λ o. or_bad_body o) (many_done (number w32) c.loop.numbers.items c.args.count c.loop.counter c.loop.rest.now _
     c.loop-test.false c.loop.invariant)
 
-pub returns-in-Err : goal.returns-in-Err
-returns-in-Err c =
+pub returns-in-Err-clause-read : goal.returns-in-Err-clause-read
+returns-in-Err-clause-read c =
     λ other. many_ends (number w32) c.loop.numbers.items c.args.count c.loop.counter c.loop.rest.now c.in-Err.fault _
     c.loop-test.true (c.in-Err.ensures.read other) c.loop.invariant
+
+pub returns-then-bytes-count-clause-read : goal.returns-then-bytes-count-clause-read
+returns-then-bytes-count-clause-read c = λ other.
+    ap (λ o. or_bad_body o) (too_many (number w32) 4 number_long c.args.count c.args.bytes.now (omega (arith, c.if-bytes-count.true)))

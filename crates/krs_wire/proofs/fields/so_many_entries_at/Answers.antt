@@ -1,8 +1,9 @@
-use Rattle.std.proofs.Common.{rules, ◌≡◌, ◌++◌, ◌-◌, ◌+◌, List, [], ◌∷◌, ap, sym, subst}
+use Rattle.std.proofs.Common.{rules, ◌≡◌, ◌++◌, ◌-◌, ◌+◌, List, [], ◌∷◌, ap, sym, subst, arith}
 use Rattle.krs_types.specs.declared.note.FilterEntry.{FilterEntry}
 use Rattle.krs_wire.specs.Bodies.{entry_field}
 use Rattle.krs_wire.specs.Field.{many_read}
 use Rattle.krs_wire.specs.Faulting.{or_bad_body}
+use Rattle.krs_wire.proofs.SizeLemmas.{too_many, entry_long}
 use Rattle.krs_wire.proofs.CountLemmas.{with_front, many_on, many_ends, many_done}
 use Rattle.krs_wire.proofs.fields.so_many_entries_at.Goals as goal
 
@@ -15,12 +16,16 @@ loop-preserved c =
     with_front xs (many_read entry_field (c.args.count - (c.loop.counter + 1)) c.in-Ok.after.now)
     ≡ many_read entry_field c.args.count c.args.bytes.now) (sym pushed) next
 
-pub returns : goal.returns
-returns c =
+pub returns-clause-read : goal.returns-clause-read
+returns-clause-read c =
     ap (λ o. or_bad_body o) (many_done entry_field c.loop.entries.items c.args.count c.loop.counter c.loop.rest.now _
     c.loop-test.false c.loop.invariant)
 
-pub returns-in-Err : goal.returns-in-Err
-returns-in-Err c = λ other.
+pub returns-in-Err-clause-read : goal.returns-in-Err-clause-read
+returns-in-Err-clause-read c = λ other.
     many_ends entry_field c.loop.entries.items c.args.count c.loop.counter c.loop.rest.now c.in-Err.fault _
     c.loop-test.true (c.in-Err.ensures other) c.loop.invariant
+
+pub returns-then-bytes-count-clause-read : goal.returns-then-bytes-count-clause-read
+returns-then-bytes-count-clause-read c = λ other.
+    ap (λ o. or_bad_body o) (too_many entry_field 44 entry_long c.args.count c.args.bytes.now (omega (arith, c.if-bytes-count.true)))
