@@ -37,12 +37,16 @@ pub struct Feed {
 }
 
 impl Model for Feed {
+    ghost use Rattle.std.specs.Prelude.{◌≡◌, []};
     ghost use Rattle.krs_wire.specs.Frame.{End};
     ghost use Rattle.krs_wire.specs.Feeding.{end_of};
 
     ghost Value = { End };
 
     ghost view = { λ f. end_of f.fault f.left.items };
+
+    // No ask stays behind in the room for the next.
+    ghost invariant = { λ f. f.room.items ≡ [] };
 }
 
 /// How many bytes the frames at the front of some bytes take, and the fault behind them.
