@@ -3,3 +3,4 @@ pub mod PlacesLemmas
 pub mod KeyLinks
 pub mod IndexLemmas
 pub mod IndexedLemmas
+pub mod FreeLemmas

@@ -1,8 +1,9 @@
 //! The links of a keyring in link order, with an index from what their names hash to.
-ghost use Rattle.std.specs.Prelude.{◌≡◌, ◌<◌, [], ◌∷◌, ◌++◌, length, nat_eq, slice_get, None, IfSome, IfNone, OnOk, OnErr};
+ghost use Rattle.std.specs.Prelude.{◌≡◌, ◌<◌, ◌≤◌, ◌^◌, [], ◌∷◌, ◌++◌, length, nat_eq, slice_get};
+ghost use Rattle.std.specs.Prelude.{None, IfSome, IfNone, IsOk, OnOk, OnErr};
 ghost use Rattle.std.specs.List.{remove};
 ghost use Rattle.std.specs.Option.{option_copied};
-ghost use Rattle.indexmap.specs.IndexMap.{get};
+ghost use Rattle.indexmap.specs.IndexMap.{get, spare};
 ghost use Rattle.krs_links.specs.Seeded.{name_digest};
 ghost use Rattle.krs_links.specs.Links.{place_of, names, serials, IsUnique};
 ghost use Rattle.krs_links.specs.Indexed.{linked, linked_in, behind, with_serial_at};
@@ -12,9 +13,6 @@ use crate::{HashedName, Seed};
 use indexmap::IndexMap;
 use krs_types::{Name, Serial};
 use std::alloc::{AllocError, Global};
-
-/// No more steps are tried: there are fewer links than these.
-const STEPS: usize = 65536;
 
 /// A link: a name, and the serial that is linked under it.
 #[derive(Drop)]
@@ -106,17 +104,17 @@ impl LinkIndex {
         None
     }
 
-    /// A link under a new name, last.
+    /// A link under a new name, last. Where names hash alike it is kept all the same: it fails for memory alone, which
+    /// it takes only where the index has no room left.
     pub(crate) fn push(&mut self, name: HashedName, serial: Serial) -> Result<(), AllocError>
         requires indexed { IsIndexed self.old }
         ensures indexed { IsIndexed self.new }
         ensures ok { OnOk result (linked self.new ≡ linked self.old ++ (name, serial) ∷ []) }
         ensures err { OnErr result (linked self.new ≡ linked self.old) }
+        ensures succeeds { 0 < spare self.old.entries → IsOk result }
     {
         let digest = self.digest_in(&name);
-        let Some(steps) = free_steps(&self.entries, digest) else {
-            return Err(AllocError);
-        };
+        let steps = free_steps(&self.entries, digest);
         let link = Link {
             name: name.into_name(),
             serial,
@@ -174,17 +172,18 @@ fn place_under(entries: &IndexMap<u64, Link>, number: u64, name: &Name) -> Optio
     }
 }
 
-/// How many steps behind a digest nothing stands. There always are some.
-fn free_steps(entries: &IndexMap<u64, Link>, digest: u64) -> Option<usize>
-    ensures free { IfSome result (λ steps. get nat_eq entries.now (behind digest steps) ≡ None) }
-    ensures bound { IfSome result (λ steps. steps < 65536) }
+/// How many steps behind a digest nothing stands. There are some, as each number that is passed over is a link's.
+fn free_steps(entries: &IndexMap<u64, Link>, digest: u64) -> usize
+    ensures free { get nat_eq entries.now (behind digest result) ≡ None }
+    ensures bound { result ≤ length entries.now.entries }
+    ensures small { result < 2 ^ 63 }
 {
-    for steps in 0..STEPS {
-        if !entries.contains_key(&behind(digest, steps)) {
-            return Some(steps);
-        }
+    let _len = entries.len();
+    let mut steps = 0;
+    'taken: while entries.contains_key(&behind(digest, steps)) {
+        steps += 1;
     }
-    None
+    steps
 }
 
 /// A link under a number under which none stands, last.
@@ -192,6 +191,7 @@ fn put_new(entries: &mut IndexMap<u64, Link>, number: u64, link: Link) -> Result
     requires { get nat_eq entries.old number ≡ None }
     ensures ok { OnOk result (entries.new.entries ≡ entries.old.entries ++ (number, link) ∷ []) }
     ensures err { OnErr result (entries.new.entries ≡ entries.old.entries) }
+    ensures succeeds { 0 < spare entries.old → IsOk result }
 {
     entries.insert(number, link)?;
     Ok(())

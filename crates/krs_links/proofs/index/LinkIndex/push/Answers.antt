@@ -8,7 +8,7 @@ returns-clause-indexed c =
     let index = c.args.self.now in
     let more = c.max-self.ensures in
     rw (c.in_ok-put_new.ensures.ok, c.behind.ensures)
-    (AllStand-last index.seed index.span c.max-self.result c.digest_in-digest.result c.in-Some.steps
+    (AllStand-last index.seed index.span c.max-self.result c.digest_in-digest.result c.free_steps-steps.result
     index.entries.entries (record { name = c.into_name.result; serial = c.args.serial }) (omega (arith, more))
     (omega (arith, more)) (c.digest_in-digest.ensures ∙ ap (name_digest index.seed) (sym c.into_name.ensures))
     c.requires.indexed)

@@ -1,0 +1,77 @@
+-- Numbers behind a digest that are all taken are no more than the entries: so soon one is free.
+use Rattle.std.proofs.Common.{◌≡◌, ℕ, zero, suc, ◌+◌, ◌<◌, ◌≤◌, ◌^◌, List, [], ◌∷◌, true, false, length, ap, subst}
+use Rattle.std.proofs.Common.{refl, sym, ◌∙◌, nat_eq, is_some, IsSome, ⊎_elim, arith}
+use Rattle.std.specs.List.{list_any, AllByRecursion, IsDistinct}
+use Rattle.std.specs.Cmp.{nat_eq_equiv}
+use Rattle.std.specs.Map.{lookup}
+use Rattle.std.proofs.lemmas.Bool.{cases_eq}
+use Rattle.std.proofs.lemmas.Bool.Decides.{nat_tests, eqb_tells}
+use Rattle.std.proofs.lemmas.Map.Keys.{IsDistinct-from_apart, IsDistinct-cons}
+use Rattle.std.proofs.lemmas.Map.Steps.{length-le_from_keys}
+use Rattle.krs_links.specs.declared.index.Link.{Link}
+use Rattle.krs_links.specs.Indexed.{behind}
+
+-- each number fewer steps behind a digest than these, the last first
+abbrev numbers_behind : ℕ → ℕ → List ℕ
+numbers_behind digest zero = []
+numbers_behind digest (suc steps) = behind digest steps ∷ numbers_behind digest steps
+
+length-numbers_behind : (digest steps : ℕ) → length (numbers_behind digest steps) ≡ steps
+length-numbers_behind digest zero = refl
+length-numbers_behind digest (suc steps) = ap (λ k. suc k) (length-numbers_behind digest steps)
+
+-- two of them are apart
+apart : (digest few many : ℕ) → few < many → many < 2 ^ 64 → nat_eq (behind digest many) (behind digest few) ≡ false
+unfolding behind
+apart digest few many less small = grind (arith, nat_tests)
+
+apart_from_all : (digest steps many : ℕ) → steps ≤ many → many < 2 ^ 64 →
+    AllByRecursion (λ k. nat_eq (behind digest many) k ≡ false) (numbers_behind digest steps)
+apart_from_all digest zero many le small = tt
+apart_from_all digest (suc steps) many le small =
+    (apart digest steps many (omega arith) small, apart_from_all digest steps many (omega arith) small)
+
+all_apart : (digest steps : ℕ) → steps ≤ 2 ^ 64 → IsDistinct nat_eq (numbers_behind digest steps)
+all_apart digest zero small = IsDistinct-from_apart nat_eq [] (λ i j d below within. absurd (omega arith))
+all_apart digest (suc steps) small =
+    IsDistinct-cons nat_eq (behind digest steps) (numbers_behind digest steps)
+    (apart_from_all digest steps steps (omega arith) (omega arith)) (all_apart digest steps (omega arith))
+
+-- what is said of each of them is said of a number among them
+said_of_all : (P : ℕ → Type 0) (digest steps q : ℕ) → ((s : ℕ) → s < steps → P (behind digest s)) →
+    list_any (nat_eq q) (numbers_behind digest steps) ≡ true → P q
+said_of_all P digest zero q said among = cc
+said_of_all P digest (suc steps) q said among =
+    ⊎_elim
+    (λ same. subst P (sym same.1) (said steps (omega arith)))
+    (λ other. said_of_all P digest steps q (λ s below. said s (omega (arith, below))) (rw other.0 at among))
+    (eqb_tells q (behind digest steps))
+
+-- each number fewer steps behind a digest than these is taken
+abbrev pub AreTaken : ℕ → ℕ → List (ℕ × Link) → Type 0
+AreTaken digest steps entries = (s : ℕ) → s < steps → IsSome (lookup (nat_eq (behind digest s)) entries)
+
+-- there are at least as many entries
+taken_at_most : (digest steps : ℕ) (entries : List (ℕ × Link)) → steps ≤ 2 ^ 64 → AreTaken digest steps entries →
+    steps ≤ length entries
+taken_at_most digest steps entries small taken =
+    let most = length-le_from_keys nat_eq_equiv (numbers_behind digest steps) entries (all_apart digest steps small)
+    (λ q among. said_of_all (λ k. IsSome (lookup (nat_eq k) entries)) digest steps q taken among) in
+    rw length-numbers_behind at most
+
+one_more_taken : (digest steps : ℕ) (entries : List (ℕ × Link)) → AreTaken digest steps entries →
+    is_some (lookup (nat_eq (behind digest steps)) entries) ≡ true → AreTaken digest (steps + 1) entries
+one_more_taken digest steps entries taken here s below =
+    ⊎_elim
+    (λ last. subst (λ k. IsSome (lookup (nat_eq (behind digest k)) entries)) (sym last) here)
+    (λ before. taken s (omega (arith, below, before)))
+    (cases_eq s steps)
+
+-- where the next is taken too, there is one entry more than steps
+pub taken_further : (digest steps next : ℕ) (entries : List (ℕ × Link)) → steps < 2 ^ 64 → AreTaken digest steps entries →
+    next ≡ behind digest steps → true ≡ is_some (lookup (nat_eq next) entries) →
+    (steps + 1 ≤ length entries) × AreTaken digest (steps + 1) entries
+taken_further digest steps next entries small taken is here =
+    let further = one_more_taken digest steps entries taken
+    (ap (λ k. is_some (lookup (nat_eq k) entries)) (sym is) ∙ sym here) in
+    (taken_at_most digest (steps + 1) entries (omega (arith, small)) further, further)
