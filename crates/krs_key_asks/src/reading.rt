@@ -2,12 +2,10 @@ ghost use Rattle.std.specs.Prelude.{◌≡◌, ◌<◌, ◌++◌, ◌∷◌, [],
 ghost use Rattle.std.specs.Fmt.{decimal};
 ghost use Rattle.krs_types.specs.Kind.{kind_name};
 ghost use Rattle.krs_model.specs.Outcome.{Leads};
-ghost use Rattle.krs_model.specs.Asks.Reading.{read, describe, description, serial_bytes, hex_8, hex_digit};
+ghost use Rattle.krs_model.specs.Asks.Reading.{read, describe, description, hex_8, hex_digit};
 ghost use Rattle.krs_keys.specs.Keys.{seen};
-ghost use Rattle.krs_links.specs.Links.{serials};
 
 use krs_keys::{Content, Key};
-use krs_links::Links;
 use krs_tables::Tables;
 use krs_types::{Answer, Body, Errno, Fault, Kind, Rights, Want};
 use std::alloc::{AllocError, Global};
@@ -27,7 +25,7 @@ pub fn read(tables: &Tables, client: u32, context: u32, id: i32) -> Result<Answe
     match (key.name.kind(), &key.content) {
         (Kind::User, Content::Payload(bytes)) => Ok(Answer::Bytes(bytes.copy(tables.alloc)?)),
         (Kind::Keyring, Content::Links(links)) => {
-            Ok(Answer::Bytes(serial_bytes(tables.alloc, links)?))
+            Ok(Answer::Bytes(Body::new(links.serial_bytes(tables.alloc)?)))
         }
         _ => Err(Fault::Refused(Errno::EOPNOTSUPP)),
     }
@@ -41,19 +39,6 @@ pub fn describe(tables: &Tables, client: u32, context: u32, id: i32) -> Result<A
     let context = tables.context_of(client, context)?;
     let (_, key) = tables.look_up(context, id, Want::Granted(Rights::VIEW))?;
     Ok(Answer::Bytes(description(tables.alloc, key)?))
-}
-
-/// The serials that a keyring links, 4 bytes each, the lowest first.
-fn serial_bytes(alloc: Global, links: &Links) -> Result<Body, AllocError>
-    ensures { IfOk result (λ b. b ≡ serial_bytes (serials links.now)) }
-{
-    let mut bytes = Vec::with_capacity(alloc, 4 * links.len())?;
-    for place in 0..links.len() {
-        if let Some(serial) = links.serial_at(place) {
-            bytes.extend_from_slice(&serial.number().to_le_bytes())?;
-        }
-    }
-    Ok(Body::new(bytes))
 }
 
 /// Type, uid, gid, mask and description, with ';' between them.

@@ -1,12 +1,14 @@
 -- What a link, and the removal of one, change.
-use Rattle.std.proofs.Common.{◌≡◌, ℕ, [], ◌∷◌, ◌++◌, Some, None, true, false, cond, not, refl, sym, ap, subst}
+use Rattle.std.proofs.Common.{◌≡◌, ◌*◌, ℕ, List, [], ◌∷◌, ◌++◌, Some, None, true, false, cond, not, refl, sym, ap, subst}
+use Rattle.std.proofs.Common.{w32, length, length-append, arith}
+use Rattle.std.specs.Int.{to_le_bytes}
 use Rattle.std.specs.Option.{option_map}
 use Rattle.std.specs.List.{find, IsDistinct, AllByRecursion}
 use Rattle.std.proofs.lemmas.Option.{none-some}
 use Rattle.std.proofs.lemmas.Map.Keys.{IsDistinct-head, IsDistinct-tail, IsDistinct-cons}
 use Rattle.krs_types.specs.declared.name.Name.{Name}
 use Rattle.krs_types.specs.Name.{same_name}
-use Rattle.krs_links.specs.Links.{LinkList, names, IsUnique, serial_named, link_put, unlinked}
+use Rattle.krs_links.specs.Links.{LinkList, names, IsUnique, serial_named, link_put, unlinked, bytes_of}
 use Rattle.krs_types.proofs.Names.{equal_names, other_way}
 
 -- what is linked as nothing is linked last
@@ -72,3 +74,9 @@ unlinked_none name (x ∷ xs) h =
       | true ↦ λ q. absurd (none-some x.1 (sym q))
       | false ↦ λ q. ap (λ zs. x ∷ zs) (unlinked_none name xs q)
     ] h
+
+-- a serial has four bytes
+pub length-bytes_of : (xs : List ℕ) → length (bytes_of xs) ≡ 4 * length xs
+length-bytes_of [] = refl
+length-bytes_of (x ∷ xs) =
+    let rest = length-bytes_of xs in rw (length-append (to_le_bytes w32 x) (bytes_of xs)) (omega (arith, rest))

@@ -1,7 +1,8 @@
 -- What a keyring links: keyrings(7), "Keyrings". Names and serials, in link order.
 use Rattle.std.specs.Prelude.{ℕ, ◌==◌, Bool, ◌&&◌, cond, not, nat_le, if◌then◌else◌, List, [], ◌∷◌, length, map}
-use Rattle.std.specs.Prelude.{filter, find, position, Option, is_none}
+use Rattle.std.specs.Prelude.{filter, find, position, Option, is_none, flat_map}
 use Rattle.std.specs.Option.{option_map}
+use Rattle.std.specs.Int.{to_le_bytes, w32}
 use Rattle.std.specs.List.{IsDistinct, list_any}
 use Rattle.krs_types.specs.declared.kind.Kind.TheVariants.{Keyring}
 use Rattle.krs_types.specs.declared.name.Name.{Name}
@@ -21,6 +22,10 @@ names links = map (λ link. link.0) links
 -- the serials alone, as the definitions have them
 abbrev pub serials : LinkList → List ℕ
 serials links = map (λ link. link.1) links
+
+-- serials as bytes, 4 each, the lowest first: keyctl(2), KEYCTL_READ
+abbrev pub bytes_of : List ℕ → List ℕ
+bytes_of serials = flat_map (λ k. to_le_bytes w32 k) serials
 
 -- no two links have equal names: keyrings(7), "Keyrings"
 abbrev pub IsUnique : LinkList → Type 0

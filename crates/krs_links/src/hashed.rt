@@ -7,7 +7,57 @@ ghost use Rattle.krs_links.specs.Seeded.{name_digest};
 use crate::Seed;
 use krs_types::{Kind, Name};
 use std::alloc::{AllocError, Global};
+use std::hash::{BuildHasher, DefaultHasher, Hash, Hasher};
 use std::marker::Model;
+
+/// Hashes the names of asks from a seed: it keeps the hasher that has taken the seed in. A contract sees the seed.
+#[derive(Drop)]
+pub struct NameHasher {
+    seed: Seed,
+    begun: DefaultHasher,
+}
+
+impl Model for NameHasher {
+    ghost use Rattle.std.specs.Prelude.{◌≡◌};
+    ghost use Rattle.krs_links.specs.declared.seed.Seed.{Seed};
+    ghost use Rattle.krs_links.specs.Seeded.{first_hasher};
+
+    ghost Value = { Seed };
+
+    ghost view = { λ h. h.seed };
+
+    ghost invariant = { λ h. h.begun ≡ first_hasher h.seed };
+}
+
+impl NameHasher {
+    pub fn new(seed: Seed) -> NameHasher
+        ensures { result ≡ seed }
+    {
+        let begun = seed.build_hasher();
+        NameHasher { seed, begun }
+    }
+
+    pub fn seed(&self) -> Seed
+        ensures { result ≡ self.now }
+    {
+        self.seed
+    }
+
+    /// A name, hashed.
+    #[tactic(auto, unfolding(crate::specs::Seeded::name_digest))]
+    pub fn hashed(&self, name: Name) -> HashedName
+        ensures { result ≡ name }
+    {
+        let mut hasher = self.begun;
+        name.hash(&mut hasher);
+        let digest = hasher.finish();
+        HashedName {
+            name,
+            digest,
+            seed: self.seed,
+        }
+    }
+}
 
 /// A name with what it hashes to, so that it is hashed once, however many keyrings are looked into. A contract sees the
 /// name.

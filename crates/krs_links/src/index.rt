@@ -1,11 +1,11 @@
 //! The links of a keyring in link order, with an index from what their names hash to.
 ghost use Rattle.std.specs.Prelude.{◌≡◌, ◌<◌, ◌≤◌, ◌^◌, [], ◌∷◌, ◌++◌, length, nat_eq, slice_get};
-ghost use Rattle.std.specs.Prelude.{None, IfSome, IfNone, IsOk, OnOk, OnErr};
+ghost use Rattle.std.specs.Prelude.{None, IfSome, IfNone, IsOk, IfOk, OnOk, OnErr};
 ghost use Rattle.std.specs.List.{remove};
 ghost use Rattle.std.specs.Option.{option_copied};
 ghost use Rattle.indexmap.specs.IndexMap.{get, spare};
 ghost use Rattle.krs_links.specs.Seeded.{name_digest};
-ghost use Rattle.krs_links.specs.Links.{place_of, names, serials, IsUnique};
+ghost use Rattle.krs_links.specs.Links.{place_of, names, serials, bytes_of, IsUnique};
 ghost use Rattle.krs_links.specs.Indexed.{linked, linked_in, behind, with_serial_at};
 ghost use Rattle.krs_links.specs.Indexed.{IsIndexed, StandsNot};
 
@@ -86,6 +86,21 @@ impl LinkIndex {
             Some(entry) => Some(entry.1.serial),
             None => None,
         }
+    }
+
+    /// All serials as bytes, 4 each, the lowest first. The loop goes over the table itself, since a listing may be long.
+    pub(crate) fn serial_bytes(&self, alloc: Global) -> Result<Vec<u8>, AllocError>
+        requires { length (linked self.now) ≤ 65535 }
+        ensures bytes { IfOk result (λ bytes. bytes.items ≡ bytes_of (serials (linked self.now))) }
+        ensures bound { IfOk result (λ bytes. length bytes.items ≤ 262140) }
+    {
+        let mut bytes = Vec::with_capacity(alloc, 4 * self.entries.len())?;
+        for place in 0..self.entries.len() {
+            if let Some(serial) = self.serial_at(place) {
+                bytes.extend_from_slice(&serial.number().to_le_bytes())?;
+            }
+        }
+        Ok(bytes)
     }
 
     /// Where the link of a name stands.

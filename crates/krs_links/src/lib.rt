@@ -11,6 +11,6 @@ mod lists;
 mod seed;
 mod table;
 
-pub use hashed::HashedName;
+pub use hashed::{HashedName, NameHasher};
 pub use links::Links;
 pub use seed::Seed;

@@ -1,7 +1,7 @@
 ghost use Rattle.std.specs.Prelude.{◌≡◌, ◌≤◌, [], ◌∷◌, length, slice_get, false, IfOk, OnOk, IfErr, OnErr, IsOk, IsSome};
 ghost use Rattle.std.specs.List.{remove};
 ghost use Rattle.std.specs.Option.{ok_or, option_copied};
-ghost use Rattle.krs_links.specs.Links.{serial_named, place_of, link_put, unlinked, nested, names, serials};
+ghost use Rattle.krs_links.specs.Links.{serial_named, place_of, link_put, unlinked, nested, names, serials, bytes_of};
 ghost use Rattle.krs_links.specs.Links.{is_full, is_refused, link_error, IsUnique};
 
 use crate::table::LinkTable;
@@ -78,6 +78,17 @@ impl Links {
         match &self.kept {
             Some(table) => table.serial_at(place),
             None => None,
+        }
+    }
+
+    /// The serials in link order, as bytes, 4 each, the lowest first: keyctl(2), KEYCTL_READ.
+    pub fn serial_bytes(&self, alloc: Global) -> Result<Vec<u8>, AllocError>
+        ensures bytes { IfOk result (λ bytes. bytes.items ≡ bytes_of (serials self.now)) }
+        ensures bound { IfOk result (λ bytes. length bytes.items ≤ 262140) }
+    {
+        match &self.kept {
+            Some(table) => table.serial_bytes(alloc),
+            None => Ok(Vec::new(alloc)),
         }
     }
 

@@ -1,13 +1,13 @@
 ghost use Rattle.std.specs.Prelude.{◌≡◌, ◌≤◌, [], length, slice_get, false, IfOk, OnOk, IfErr, OnErr, IsOk, IsSome};
 ghost use Rattle.std.specs.List.{remove};
 ghost use Rattle.std.specs.Option.{ok_or, option_copied};
-ghost use Rattle.krs_links.specs.Links.{serial_named, place_of, link_put, unlinked, nested, names, serials};
+ghost use Rattle.krs_links.specs.Links.{serial_named, place_of, link_put, unlinked, nested, names, serials, bytes_of};
 ghost use Rattle.krs_links.specs.Links.{is_full, is_refused, link_error, IsUnique};
 
 use crate::index::LinkIndex;
 use crate::{HashedName, Seed, lists};
 use krs_types::{Errno, Name, Serial};
-use std::alloc::Global;
+use std::alloc::{AllocError, Global};
 use std::marker::Model;
 
 /// How many links a keyring has at most: profile, full keyrings.
@@ -70,6 +70,14 @@ impl LinkTable {
         ensures { result ≡ slice_get (serials self.now) place }
     {
         self.entries.serial_at(place)
+    }
+
+    /// The serials in link order, as bytes.
+    pub(crate) fn serial_bytes(&self, alloc: Global) -> Result<Vec<u8>, AllocError>
+        ensures bytes { IfOk result (λ bytes. bytes.items ≡ bytes_of (serials self.now)) }
+        ensures bound { IfOk result (λ bytes. length bytes.items ≤ 262140) }
+    {
+        self.entries.serial_bytes(alloc)
     }
 
     /// The serial that is linked under a name. Names of different types are different: keyrings(7), "Keyrings".

@@ -18,6 +18,7 @@ use Rattle.krs_model.specs.Reach.{links_of_key_at, is_ring}
 use Rattle.krs_model.specs.Linking.{has_room, link_named, linking}
 use Rattle.krs_model.specs.Asks.Linked.{name_of}
 use Rattle.krs_model.proofs.Tables.Changes.{at_map, alter_map}
+use Rattle.krs_links.proofs.LinksLemmas.{length-bytes_of}
 use Rattle.krs_links.specs.Links.{has_link, LinkList, serial_named, serials, is_refused}
 use Rattle.krs_keys.specs.declared.key.Key.{Key}
 use Rattle.krs_keys.specs.declared.key.Content.{Content}
@@ -149,7 +150,4 @@ refused_full false h = absurd cc
 
 -- four bytes each
 pub length-serial_bytes : (xs : List ℕ) → length (serial_bytes xs) ≡ 4 * length xs
-length-serial_bytes [] = refl
-length-serial_bytes (x ∷ xs) =
-    let rest = length-serial_bytes xs in rw (length-append (to_le_bytes w32 x) (serial_bytes xs))
-    (omega (arith, rest))
+length-serial_bytes xs = length-bytes_of xs

@@ -184,7 +184,7 @@ impl Tables {
         let key = self.key(serial).ok_or(Errno::ENOKEY)?;
         let _height = self.walker.height_of(&self.keys, serial)?;
         self.check_serial()?;
-        let links = one_link(self.alloc, self.seed, &key.name, serial)?;
+        let links = one_link(self.alloc, self.names.seed(), &key.name, serial)?;
         self.make_ring(special, maker, links, Some(serial))?;
         Ok(answer)
     }
@@ -205,7 +205,7 @@ impl Tables {
         ensures err { OnErr result (self.new ≡ self.old) }
     {
         let ring = Serial::new(self.keys.next());
-        let key = special.key(self.alloc, self.seed, maker, links)?;
+        let key = special.key(self.alloc, self.names.seed(), maker, links)?;
         check_room(&self.holders, &linked)?;
         make_room(&mut self.holders, ring)?;
         self.make_walk_room(1)?;
@@ -286,8 +286,8 @@ impl Tables {
         ensures ring { IfOk result (λ keys. keys.0 ≡ ring_key special maker ((name, serial) ∷ [])) }
         ensures key { IfOk result (λ keys. keys.1 ≡ maker_key name payload maker.uid maker.gid) }
     {
-        let links = one_link(self.alloc, self.seed, &name, serial)?;
-        let ring = special.key(self.alloc, self.seed, maker, links)?;
+        let links = one_link(self.alloc, self.names.seed(), &name, serial)?;
+        let ring = special.key(self.alloc, self.names.seed(), maker, links)?;
         Ok((ring, self.new_key(name, payload, maker.uid, maker.gid)))
     }
 }

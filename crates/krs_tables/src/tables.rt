@@ -16,7 +16,7 @@ ghost use Rattle.krs_tables.specs.Granting.{allows_held, grants_to};
 use krs_ctx::Contexts;
 use krs_hold::Holders;
 use krs_keys::{Change, Key, KeyTable};
-use krs_links::{HashedName, Links, Seed};
+use krs_links::{HashedName, Links, NameHasher, Seed};
 use krs_types::{Context, Errno, KeyId, Kind, Name, Serial, Want};
 use krs_walk::Walker;
 use krs_watch::WatchQueues;
@@ -35,7 +35,7 @@ pub struct Tables {
     pub walker: Walker,
     pub alloc: Global,
     /// Of the names of links. It is no part of what contracts see.
-    pub(crate) seed: Seed,
+    pub(crate) names: NameHasher,
 }
 
 impl Model for Tables {
@@ -64,7 +64,7 @@ impl Tables {
             holders: Holders::new(alloc),
             walker: Walker::new(alloc),
             alloc,
-            seed,
+            names: NameHasher::new(seed),
         }
     }
 
@@ -193,14 +193,14 @@ impl Tables {
     pub fn hashed(&self, name: Name) -> HashedName
         ensures { result ≡ name }
     {
-        HashedName::new(name, self.seed)
+        self.names.hashed(name)
     }
 
     /// The links of a keyring that is made empty.
     pub fn no_links(&self) -> Links
         ensures { result ≡ [] }
     {
-        Links::new(self.alloc, self.seed)
+        Links::new(self.alloc, self.names.seed())
     }
 
     /// Room for walks over the keyrings and so many keys more, which may be keyrings: it is made before the keys are,
