@@ -1,8 +1,6 @@
 -- Room in a count of holders, by the links and attachments of a store.
-use Rattle.std.proofs.Common.{◌≡◌, ℕ, ◌+◌, ◌-◌, ◌<◌, ◌^◌, [], arith}
-use Rattle.krs_model.specs.Sweep.{roots}
-use Rattle.krs_keys.specs.Keys.{shown}
-use Rattle.krs_hold.specs.Tally.{number_at, times, all_links}
+use Rattle.std.proofs.Common.{◌≡◌, ℕ, ◌+◌, ◌-◌, ◌<◌, ◌^◌, arith}
+use Rattle.krs_hold.specs.Tally.{number_at}
 use Rattle.krs_tables.specs.declared.tables.Tables.TheInside.{Inside}
 use Rattle.krs_tables.specs.Holding.{holders_in}
 use Rattle.krs_tables.specs.View.{state_of, IsConsistent}

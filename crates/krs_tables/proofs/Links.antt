@@ -1,6 +1,6 @@
 -- What one link more, or one less, comes to in the definitions.
 use Rattle.std.proofs.Common.{◌≡◌, ℕ, ◌==◌, ◌&&◌, ◌||◌, List, [], ◌∷◌, Option, Some, None, Bool, true, false, cond}
-use Rattle.std.proofs.Common.{Ok, Err, length, suc, ◌*◌, length-append, arith, refl, ap, ◌∙◌, sym}
+use Rattle.std.proofs.Common.{Ok, Err, length, suc, ◌*◌, refl, ap, ◌∙◌, sym}
 use Rattle.std.proofs.Common.{subst}
 use Rattle.std.specs.Option.{option_map}
 use Rattle.std.specs.Prelude.{nat_le}
@@ -28,7 +28,6 @@ use Rattle.krs_keys.specs.Keys.{AreFit, IsOfKind, AreOfKind, with_entry, entered
 use Rattle.krs_keys.proofs.LinkNames.{fit_alter, named_linked, ring_named}
 use Rattle.krs_keys.proofs.KeysLemmas.{serials-content, found_named, seen-with_entry}
 use Rattle.krs_tables.specs.declared.tables.Tables.TheInside.{Inside}
-use Rattle.std.specs.Int.{w32, to_le_bytes}
 use Rattle.krs_model.specs.Asks.Reading.{serial_bytes}
 use Rattle.krs_model.specs.Asks.Adding.{IsKeyringAt}
 use Rattle.krs_tables.specs.View.{state_of}

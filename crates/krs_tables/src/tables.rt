@@ -1,7 +1,7 @@
 ghost use Rattle.std.specs.Prelude.{◌≡◌, ◌≤◌, [], Some, IfSome, IfOk};
 ghost use Rattle.std.specs.Option.{option_map};
 ghost use Rattle.krs_model.specs.Table.{at};
-ghost use Rattle.krs_model.specs.State.{starting_at, raised};
+ghost use Rattle.krs_model.specs.State.{State, starting_at, raised};
 ghost use Rattle.krs_model.specs.Possession.{process_ring, possessed, possessed_with};
 ghost use Rattle.krs_model.specs.Lookup.{context_of, serial_of, look_up};
 ghost use Rattle.krs_model.specs.Outcome.{Is};
@@ -9,6 +9,7 @@ ghost use Rattle.krs_tables.specs.Serving.{SweepsOut};
 ghost use Rattle.krs_model.specs.Sweep.{live_watches};
 ghost use Rattle.krs_model.specs.Reach.{IsAcyclic, links_of_key_at};
 ghost use Rattle.krs_model.specs.Asks.Changing.{changed};
+ghost use Rattle.krs_ctx.specs.Anchors.{anchored};
 ghost use Rattle.krs_keys.specs.Keys.{seen, shown, AreFit, FindsByName};
 ghost use Rattle.krs_keys.specs.Changes.{meant_change};
 ghost use Rattle.krs_tables.specs.Granting.{allows_held, grants_to};
@@ -153,12 +154,11 @@ impl Tables {
         if key.is_over(self.clock) {
             return Err(Errno::EKEYEXPIRED);
         }
-        let ring = self.process_ring(context.process);
         if !grants_kept(
             &self.walker,
             &self.keys,
+            &self.contexts,
             context,
-            ring,
             self.clock,
             serial,
             key,
@@ -239,20 +239,21 @@ impl Tables {
     }
 }
 
-/// Whether a key, which is kept at this serial, grants a context of a process with this keyring what is wanted. It is
-/// `Tables::grants` of a key that needn't be looked up again.
+/// Whether a key, which is kept at this serial, grants a context what is wanted. It is `Tables::grants` of a key that
+/// needn't be looked up again.
 #[rattlefmt::skip]
 fn grants_kept(
-    walker: &Walker, keys: &KeyTable, context: &Context, ring: Option<Serial>, clock: u64, serial: Serial, key: &Key, want: Want,
+    walker: &Walker, keys: &KeyTable, contexts: &Contexts, context: &Context, clock: u64, serial: Serial, key: &Key, want: Want,
 ) -> bool
     requires fit { AreFit keys.now.keys }
     requires key { at keys.now.keys serial ≡ Some key.now }
-    ensures { result ≡ allows_held want (seen key.now) context.now
-        (possessed_with (shown keys.now.keys) clock context.now ring serial) }
+    ensures { (s : State) → result ≡ allows_held want (seen key.now) context.now (possessed_with (shown keys.now.keys)
+        clock context.now (process_ring (anchored s contexts.now) context.now.process) serial) }
 {
     if want.allows(key.grants(&context.caller, false), false) {
         return true;
     }
+    let ring = contexts.process_ring(context.process);
     let possessed = walker.possesses_key(keys, context, ring, clock, key, serial);
     want.allows(key.grants(&context.caller, possessed), possessed)
 }

@@ -1,10 +1,13 @@
-use Rattle.std.proofs.Common.{◌≡◌, ap, sym, ◌∙◌, Option, ℕ, true, false, Ok}
+use Rattle.std.proofs.Common.{ap, sym, ◌∙◌, ℕ, Ok}
 use Rattle.std.specs.Int.{w32}
 use Rattle.std.proofs.lemmas.Int.{to_z-of_z}
 use Rattle.std.specs.Option.{option_copied}
 use Rattle.krs_model.specs.State.{State}
 use Rattle.krs_model.specs.Access.{is_over}
 use Rattle.krs_model.specs.Lookup.{serial_of}
+use Rattle.krs_model.specs.Possession.{process_ring}
+use Rattle.krs_ctx.specs.Anchors.{anchored}
+use Rattle.krs_tables.specs.View.{state_of}
 use Rattle.krs_keys.specs.Keys.{seen}
 use Rattle.krs_keys.proofs.KeysLemmas.{finds_by_name}
 use Rattle.krs_tables.specs.Granting.{allows_held}
@@ -48,9 +51,10 @@ returns-then-not-grants_kept-clause-found c =
     let key = seen c.in-Some.key.now in
     let under = ap (λ (s : State). is_over s.clock key.expiry) (sym c.self.view_is)
     ∙ (sym c.is_over.ensures ∙ c.if-is_over.false) in
-    let held = possessed_as_kept c.self.inside t c.args.context.now c.process_ring-ring.result n c.self.view_is
-    c.process_ring-ring.ensures in
-    let refused = sym (c.grants_kept.ensures ∙ ap (allows_held c.args.want key c.args.context.now) held)
+    let ring = process_ring (anchored (state_of c.self.inside) c.self.inside.contexts) c.args.context.now.process in
+    let held = possessed_as_kept c.self.inside t c.args.context.now ring n c.self.view_is
+    (ap (λ (u : State). process_ring u c.args.context.now.process) c.self.view_is) in
+    let refused = sym (c.grants_kept.ensures (state_of c.self.inside) ∙ ap (allows_held c.args.want key c.args.context.now) held)
     ∙ c.if-not-grants_kept.true in
     looked_up t c.args.context.now c.args.id c.args.want n key
     (ap (serial_of t c.args.context.now) (sym (to_z-of_z w32 c.args.id c.ranges.id)) ∙ c.in_ok-serial.ensures)
@@ -64,9 +68,10 @@ returns-clause-found c =
     let key = seen c.in-Some.key.now in
     let under = ap (λ (s : State). is_over s.clock key.expiry) (sym c.self.view_is)
     ∙ (sym c.is_over.ensures ∙ c.if-is_over.false) in
-    let held = possessed_as_kept c.self.inside t c.args.context.now c.process_ring-ring.result n c.self.view_is
-    c.process_ring-ring.ensures in
-    let granted = sym (c.grants_kept.ensures ∙ ap (allows_held c.args.want key c.args.context.now) held)
+    let ring = process_ring (anchored (state_of c.self.inside) c.self.inside.contexts) c.args.context.now.process in
+    let held = possessed_as_kept c.self.inside t c.args.context.now ring n c.self.view_is
+    (ap (λ (u : State). process_ring u c.args.context.now.process) c.self.view_is) in
+    let granted = sym (c.grants_kept.ensures (state_of c.self.inside) ∙ ap (allows_held c.args.want key c.args.context.now) held)
     ∙ c.if-not-grants_kept.false in
     looked_up t c.args.context.now c.args.id c.args.want n key
     (ap (serial_of t c.args.context.now) (sym (to_z-of_z w32 c.args.id c.ranges.id)) ∙ c.in_ok-serial.ensures)
