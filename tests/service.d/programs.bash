@@ -109,6 +109,10 @@ try_remote_scripts() {
     calls "single call: $word" 2 $'usage\n' $word
   done
   prints 'single call: uid and gid are 0' 0 $'keyring;0;0;1f3f0000;_uid.0\n' --socket "$path" rdescribe @u </dev/null
+  prints 'single call: a uid and a gid' 0 $'keyring;1000;100;1f3f0000;_uid.1000\n' \
+    --socket "$path" --gid 100 --uid 1000 rdescribe @u </dev/null
+  prints 'single call: a uid alone' 0 $'keyring;1000;0;1f3f0000;_uid.1000\n' --socket "$path" --uid 1000 rdescribe @u </dev/null
+  prints 'single call: a gid alone' 0 $'keyring;0;100;1f3f0000;_uid.0\n' --socket "$path" --gid 100 rdescribe @u </dev/null
   prints 'single call: no uid' 1 $'error 22 EINVAL\n' --socket "$path" --uid 4294967295 id @u </dev/null
   is 'single call: a uid that is no number' 2 \
     "$(timeout "$patience" "$keyretain" --socket "$path" --uid x id @u >/dev/null 2>&1 </dev/null; echo $?)"

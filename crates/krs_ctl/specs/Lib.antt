@@ -1,4 +1,5 @@
 pub mod Listing
 pub mod Running
 pub mod Choice
+pub mod CommandLine
 pub mod Program

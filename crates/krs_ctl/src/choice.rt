@@ -1,7 +1,11 @@
-ghost use Rattle.std.specs.Prelude.{IfErr};
+ghost use Rattle.std.specs.Prelude.{◌≡◌, IfOk, IfErr, OnErr, map, codes, false, string_bytes};
 ghost use Rattle.std.specs.IoError.{error_kind};
-ghost use Rattle.clap.specs.Words.{kind_of};
+ghost use Rattle.std.specs.Vec.Iter.{into_iter_items};
+ghost use Rattle.clap.specs.Words.{FailsBy, kind_of, fault_of, found_of, app_of, rule_of};
+ghost use Rattle.krs_ctl.specs.declared.choice.Choice.TheVariants.{Memory};
 ghost use Rattle.krs_ctl.specs.Choice.{IsUnread, Tells};
+ghost use Rattle.krs_ctl.specs.CommandLine.{Calls, Chooses, LeadsTo, Names, Spells, client};
+ghost use Rattle.krs_ctl.specs.CommandLine.{named, number_rule, option_rule, words_rule};
 
 use clap::error::ErrorKind;
 use clap::{Arg, ArgAction, ArgMatches, Command, Error, value_parser};
@@ -117,24 +121,31 @@ pub struct Call {
 
 /// What the words lead to, the first of which is the program's name. Words that are no text are usage.
 pub fn choose(alloc: Global, words: io::Result<Args>) -> Choice
-    ensures { IfErr words (λ error. IsUnread (error_kind error) result) }
+    ensures read { IfOk words (λ words. LeadsTo (map string_bytes (into_iter_items words)) result) }
+    ensures unread { IfErr words (λ error. IsUnread (error_kind error) result) }
 {
     match words {
-        Ok(words) => choice_of_all(alloc, words),
+        Ok(words) => choice_of_all(alloc, words.collect(alloc)),
         Err(error) if error.kind() == io::ErrorKind::OutOfMemory => Choice::Memory,
         Err(_) => Choice::Usage,
     }
 }
 
-fn choice_of_all(alloc: Global, words: Args) -> Choice {
-    let words: Result<Vec<String>, AllocError> = words.collect(alloc);
+/// What all the words lead to, for which there may be no memory.
+fn choice_of_all(alloc: Global, words: Result<Vec<String>, AllocError>) -> Choice
+    ensures words { IfOk words (λ words. LeadsTo (map string_bytes words.items) result) }
+    ensures memory { OnErr words (result ≡ Memory) }
+{
     match words {
         Ok(words) => choice_of(alloc, words.as_slice()),
         Err(_) => Choice::Memory,
     }
 }
 
-fn choice_of(alloc: Global, words: &[String]) -> Choice {
+/// What the words lead to: the choice that they spell, or what the reader of options tells.
+fn choice_of(alloc: Global, words: &[String]) -> Choice
+    ensures { LeadsTo (map string_bytes words.now) result }
+{
     match read_words(alloc, words) {
         Ok(choice) => choice,
         Err(error) => told(alloc, &error),
@@ -157,39 +168,56 @@ fn told(alloc: Global, error: &Error) -> Choice
 
 /// The choice that the words, behind the program's name, call for. An error is `clap`'s refusal of them, or the text of
 /// `--help` or `--version`.
-fn read_words(alloc: Global, words: &[String]) -> Result<Choice, Error> {
+fn read_words(alloc: Global, words: &[String]) -> Result<Choice, Error>
+    ensures spelled { IfOk result (Spells (map string_bytes words.now)) }
+    ensures faults { FailsBy (fault_of client (map string_bytes words.now)) result }
+{
     let matches = command_line(alloc)?.try_get_matches_from(words)?;
     Ok(choice_among(alloc, &matches)?)
 }
 
-fn choice_among(alloc: Global, matches: &ArgMatches<'_>) -> Result<Choice, AllocError> {
+/// The choice that these arguments make.
+fn choice_among(alloc: Global, matches: &ArgMatches<'_>) -> Result<Choice, AllocError>
+    ensures { IfOk result (Chooses (found_of matches.now)) }
+{
     let words = matches.get_strs(WORDS).unwrap_or_default();
-    let (uid, gid) = (matches.get_one::<u32>(UID), matches.get_one::<u32>(GID));
     let is_script = words == ["script"].as_slice();
-    let names_caller = uid.is_some() || gid.is_some();
+    let names_caller = matches.get_str(UID).is_some() || matches.get_str(GID).is_some();
     match matches.get_str(SOCKET) {
         None if is_script && !names_caller => Ok(Choice::Script),
         Some(path) if is_script && !names_caller => {
             Ok(Choice::Remote(String::from_str(alloc, path)?))
         }
         Some(path) if !is_script => {
-            let caller = Caller {
-                uid: uid.unwrap_or(0),
-                gid: gid.unwrap_or(0),
-                groups: Groups::new(Vec::new(alloc)),
-            };
-            choice_of_call(alloc, path, caller, words)
+            choice_of_call(alloc, path, caller_of(alloc, matches), words)
         }
         _ => Ok(Choice::Usage),
     }
 }
 
+/// For whom a single call makes a context: of the uid and the gid that are given, each 0 where it is left out, and in no
+/// groups.
+fn caller_of(alloc: Global, matches: &ArgMatches<'_>) -> Caller
+    ensures { Names (found_of matches.now) result }
+{
+    let uid = matches.get_one::<u32>(UID);
+    let gid = matches.get_one::<u32>(GID);
+    Caller {
+        uid: uid.unwrap_or(0),
+        gid: gid.unwrap_or(0),
+        groups: Groups::new(Vec::new(alloc)),
+    }
+}
+
+/// The single call that these words make, for a caller over a connection to a path.
 fn choice_of_call(
     alloc: Global,
     path: &str,
     caller: Caller,
     words: &[&str],
-) -> Result<Choice, AllocError> {
+) -> Result<Choice, AllocError>
+    ensures { IfOk result (Calls path.now caller) }
+{
     let words: Vec<&[u8]> = words.iter().map(|word| word.as_bytes()).collect(alloc)?;
     match call_command(alloc, words.as_slice()) {
         Ok(command) => Ok(Choice::Call(Call {
@@ -202,22 +230,11 @@ fn choice_of_call(
     }
 }
 
-fn command_line<'a>(alloc: Global) -> Result<Command<'a>, AllocError> {
-    let socket = Arg::new(alloc, SOCKET)
-        .long("socket")
-        .value_name("PATH")
-        .help("The path where a server listens");
-    let words = Arg::new(alloc, WORDS)
-        .action(ArgAction::Append)
-        .num_args(0..)
-        .trailing_var_arg(true)
-        .help(WORDS_HELP);
-    Command::new(alloc, "keyretain")
-        .version(VERSION)
-        .about(ABOUT)
-        .override_usage(USES)
-        .after_help(COMMANDS)
-        .arg(socket)?
+fn command_line<'a>(alloc: Global) -> Result<Command<'a>, AllocError>
+    ensures { IfOk result (λ command. app_of command ≡ client) }
+{
+    program(alloc)
+        .arg(socket(alloc))?
         .arg(number(
             alloc,
             UID,
@@ -228,10 +245,48 @@ fn command_line<'a>(alloc: Global) -> Result<Command<'a>, AllocError> {
             GID,
             "The gid of a single command, 0 where it is left out",
         ))?
-        .arg(words)
+        .arg(command_words(alloc))
 }
 
-fn number<'a>(alloc: Global, name: &'a str, help: &'a str) -> Arg<'a> {
+/// The program, before it has any option.
+fn program<'a>(alloc: Global) -> Command<'a>
+    ensures app { app_of result ≡ named }
+{
+    Command::new(alloc, "keyretain")
+        .version(VERSION)
+        .about(ABOUT)
+        .override_usage(USES)
+        .after_help(COMMANDS)
+}
+
+/// `--socket PATH`.
+fn socket<'a>(alloc: Global) -> Arg<'a>
+    ensures rule { rule_of result ≡ option_rule (codes "socket") }
+    ensures local { result.global ≡ false }
+{
+    Arg::new(alloc, SOCKET)
+        .long(SOCKET)
+        .value_name("PATH")
+        .help("The path where a server listens")
+}
+
+/// All words from the command on.
+fn command_words<'a>(alloc: Global) -> Arg<'a>
+    ensures rule { rule_of result ≡ words_rule }
+    ensures local { result.global ≡ false }
+{
+    Arg::new(alloc, WORDS)
+        .action(ArgAction::Append)
+        .num_args(0..)
+        .trailing_var_arg(true)
+        .help(WORDS_HELP)
+}
+
+/// An option that is written `--NAME`, with a number of 32 bits.
+fn number<'a>(alloc: Global, name: &'a str, help: &'a str) -> Arg<'a>
+    ensures rule { rule_of result ≡ number_rule name.entry.now }
+    ensures local { result.global ≡ false }
+{
     Arg::new(alloc, name)
         .long(name)
         .value_name("N")

@@ -1,9 +1,11 @@
-ghost use Rattle.std.specs.Prelude.{IfErr, codes};
+ghost use Rattle.std.specs.Prelude.{IfOk, IfErr, map, codes, string_bytes};
 ghost use Rattle.std.specs.IoError.{error_kind};
+ghost use Rattle.std.specs.Vec.Iter.{into_iter_items};
 ghost use Rattle.krs_words.specs.Writing.{WritesFront};
 ghost use Rattle.krs_script.specs.Ending.{Says};
 ghost use Rattle.krs_ctl.specs.declared.choice.Choice.{Choice as ChoiceIs};
 ghost use Rattle.krs_ctl.specs.Choice.{IsUnread};
+ghost use Rattle.krs_ctl.specs.CommandLine.{LeadsTo};
 ghost use Rattle.krs_ctl.specs.Program.{Answers};
 
 use crate::choice::{Choice, choose};
@@ -32,6 +34,7 @@ pub fn run_program<N: Net, R: Read + Drop, W: Write, E: Write>(
     errors: &mut E,
 ) -> u8
     ensures { (choice : ChoiceIs)
+        × IfOk words (λ words. LeadsTo (map string_bytes (into_iter_items words)) choice)
         × IfErr words (λ error. IsUnread (error_kind error) choice)
         × Answers choice (R.remaining input) (W.contents output.old) (W.contents output.new)
         (E.contents errors.old) (E.contents errors.new) result }

@@ -2,4 +2,9 @@
 use Rattle.krs_ctl.proofs.program.run_program.Goals as goal
 
 pub returns : goal.returns
-returns g c = (c.choose-choice.result, c.choose-choice.ensures, c.answer.ensures)
+returns g c = (
+  c.choose-choice.result,
+  c.choose-choice.ensures.read,
+  c.choose-choice.ensures.unread,
+  c.answer.ensures,
+)

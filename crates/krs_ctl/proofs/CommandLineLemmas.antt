@@ -1,0 +1,59 @@
+-- Where words lead.
+use Rattle.std.proofs.Common.{◌≡◌, ℕ, List, [], Result, inl, inr, rules, ◌∙◌, refl, subst, sym}
+use Rattle.std.specs.Prelude.{IfOk, OnErr, Ok, Err}
+use Rattle.krs_ctl.specs.declared.choice.Choice.{Choice}
+use Rattle.clap.specs.Words.{Kinds, HasKind, fault_of, kind_of}
+use Rattle.clap.specs.declared.error.Error.{Error}
+use Rattle.clap.specs.declared.error.kind.ErrorKind.TheVariants.{DisplayHelp, DisplayVersion, OutOfMemory}
+use Rattle.krs_ctl.specs.declared.choice.Choice.TheVariants.{Script, Remote, Call, Usage, NoCommand, Memory, Shown, Refused}
+use Rattle.krs_ctl.specs.Choice.{Tells}
+use Rattle.krs_ctl.specs.CommandLine.{LeadsTo, Spells, client}
+
+-- what words lead to that were all had, or for which there was no memory
+pub leads_of_all : {V E : Type 0} (had : Result V E) (texts : V → List (List ℕ)) (all : List (List ℕ)) (choice : Choice)
+    → IfOk had (λ v. LeadsTo (texts v) choice) → OnErr had (choice ≡ Memory) → IfOk had (λ v. texts v ≡ all)
+    → LeadsTo all choice
+leads_of_all (Ok v) texts all choice leads memory same = subst (λ (ts : List (List ℕ)). LeadsTo ts choice) same leads
+leads_of_all (Err e) texts all choice leads memory same = subst (λ (ch : Choice). LeadsTo all ch) (sym memory) tt
+
+not_help : OutOfMemory ≡ DisplayHelp → ⊥
+not_help e = search rules
+
+not_version : OutOfMemory ≡ DisplayVersion → ⊥
+not_version e = search rules
+
+-- what is told of an error that `clap` found in the words
+pub leads_by_fault : (faults : Kinds) (error : Error) (choice : Choice) → HasKind faults error
+    → Tells (kind_of error) choice → (words : List (List ℕ)) → faults ≡ fault_of client words → LeadsTo words choice
+leads_by_fault faults error Script has told words same = absurd told
+leads_by_fault faults error (Remote path) has told words same = absurd told
+leads_by_fault faults error (Call call) has told words same = absurd told
+leads_by_fault faults error Usage has told words same = absurd told
+leads_by_fault faults error (NoCommand text) has told words same = absurd told
+leads_by_fault faults error Memory has told words same = tt
+leads_by_fault faults error (Shown text) has told words same = elim has [
+  | inl out ↦ elim told [
+    | inl help ↦ absurd (not_help (sym out ∙ help))
+    | inr version ↦ absurd (not_version (sym out ∙ version))
+  ]
+  | inr among ↦ elim told [
+    | inl help ↦ inl (rw (help, same) at among)
+    | inr version ↦ inr (rw (version, same) at among)
+  ]
+]
+leads_by_fault faults error (Refused text) has told words same = elim has [
+  | inl out ↦ absurd (told.2 out)
+  | inr among ↦ (kind_of error, rw same at among, told.0, told.1)
+]
+
+-- the choice that words spell, in which `clap` finds no fault
+pub leads_of_spelled : (words : List (List ℕ)) (choice : Choice) → Spells words choice → fault_of client words ≡ []
+    → LeadsTo words choice
+leads_of_spelled words Script spelled none = (spelled, none)
+leads_of_spelled words (Remote path) spelled none = (spelled, none)
+leads_of_spelled words (Call call) spelled none = (spelled, none)
+leads_of_spelled words Usage spelled none = (spelled, none)
+leads_of_spelled words (NoCommand text) spelled none = (spelled, none)
+leads_of_spelled words Memory spelled none = tt
+leads_of_spelled words (Shown text) spelled none = absurd spelled.2
+leads_of_spelled words (Refused text) spelled none = absurd spelled.2

@@ -1,0 +1,100 @@
+-- Which choice the words of the client make: docs/FORMAT.md, "The client, keyretain". `matches_of` says what `clap` finds
+-- in words for a command line.
+use Rattle.std.specs.Prelude.{◌≡◌, ◌≢◌, ◌⊎◌, ◌<◌, ◌^◌, ⊤, ℕ, List, [], Option, Some, None, unwrap_or}
+use Rattle.std.specs.Prelude.{codes, string_bytes, pos, true}
+use Rattle.std.specs.Str.Parse.{IsNumeral, digits_value, without_leading_plus}
+use Rattle.clap.specs.Words.{App, Rule, found_of, rows_of, matches_of, new_app, new_rule, with_rule}
+use Rattle.clap.specs.Words.{first_value, one_text, IsAmong, fault_of}
+use Rattle.clap.specs.declared.error.kind.ErrorKind.{ErrorKind}
+use Rattle.clap.specs.declared.error.kind.ErrorKind.TheVariants.{DisplayHelp, DisplayVersion}
+use Rattle.clap.specs.Lexer.{usize_max}
+use Rattle.clap.specs.declared.parser.matches.Found.{Found}
+use Rattle.clap.specs.declared.parser.matches.ArgMatches.{ArgMatches}
+use Rattle.clap.specs.declared.builder.action.ArgAction.TheVariants.{Append}
+use Rattle.clap.specs.declared.builder.value_parser.ValueParser.TheVariants as parser
+use Rattle.krs_types.specs.declared.caller.Caller.{Caller}
+use Rattle.krs_ctl.specs.declared.choice.Choice.{Choice}
+use Rattle.krs_ctl.specs.declared.choice.Choice.TheVariants.{Script, Remote, Call, Usage, NoCommand, Memory, Shown, Refused}
+
+-- `--socket PATH`; `--uid N` and `--gid N`, of 32 bits; and all words from the command on, whatever they begin with
+abbrev pub option_rule : List ℕ → Rule
+option_rule name = record (new_rule name) { long = Some name; value_names = 1 }
+
+abbrev pub number_rule : List ℕ → Rule
+number_rule name = record (option_rule name) { parser = Some (parser.Signed (pos 0) (pos 4294967295)) }
+
+abbrev pub words_rule : Rule
+words_rule = record (new_rule (codes "COMMAND")) {
+  action = Some Append;
+  range = Some (record { start_inclusive = 0; end_inclusive = usize_max });
+  trailing_var_arg = true;
+}
+
+-- the client's command line
+abbrev pub named : App
+named = record (new_app (codes "keyretain")) { top = record (new_app (codes "keyretain")).top { has_version = true } }
+
+abbrev pub client : App
+client =
+    with_rule (with_rule (with_rule (with_rule named (option_rule (codes "socket"))) (number_rule (codes "uid")))
+    (number_rule (codes "gid"))) words_rule
+
+-- the number that a text is in decimal digits, if there is a text and it is one
+abbrev pub IsGiven : Option (List ℕ) → Option ℕ → Type 0
+IsGiven None number = number ≡ None
+IsGiven (Some text) (Some number) =
+    IsNumeral 10 (without_leading_plus text) × (number ≡ digits_value 10 (without_leading_plus text))
+IsGiven (Some text) None =
+    ¬ (IsNumeral 10 (without_leading_plus text) × (digits_value 10 (without_leading_plus text) < 2 ^ 32))
+
+-- the caller that arguments name: of the uid and the gid that they give, each 0 where they give none, and in no groups
+pub record Names (found : Found) (caller : Caller) : Type 0 where
+  pub uid : Option ℕ
+  pub gid : Option ℕ
+  pub given_uid : IsGiven (one_text found (codes "uid")) uid
+  pub given_gid : IsGiven (one_text found (codes "gid")) gid
+  pub caller_uid : caller.uid ≡ unwrap_or uid 0
+  pub caller_gid : caller.gid ≡ unwrap_or gid 0
+  pub groups : caller.groups ≡ []
+
+-- what a single call is for a caller over a connection to a path; its words may be no command
+abbrev pub Calls : List ℕ → Caller → Choice → Type 0
+Calls path caller Script = ⊥
+Calls path caller (Remote other) = ⊥
+Calls path caller (Call call) = (string_bytes call.path ≡ path) × (call.caller ≡ caller)
+Calls path caller Usage = ⊥
+Calls path caller (NoCommand text) = ⊤
+Calls path caller Memory = ⊤
+Calls path caller (Shown text) = ⊥
+Calls path caller (Refused text) = ⊥
+
+-- What arguments choose: a script on a store of its own where they give no path, and else over a connection to that path,
+-- as a single call does, which is for the caller that they name.
+abbrev pub Chooses : Found → Choice → Type 0
+Chooses found Script = first_value found (codes "socket") ≡ None
+Chooses found (Remote path) = first_value found (codes "socket") ≡ Some (string_bytes path)
+Chooses found (Call call) = (first_value found (codes "socket") ≡ Some (string_bytes call.path)) × Names found call.caller
+Chooses found Usage = ⊤
+Chooses found (NoCommand text) = ⊤
+Chooses found Memory = ⊤
+Chooses found (Shown text) = ⊥
+Chooses found (Refused text) = ⊥
+
+-- the choice that words spell: `clap` finds these arguments in them, which choose it
+abbrev pub Spells : List (List ℕ) → Choice → Type 0
+Spells words choice = (matches : ArgMatches)
+    × (rows_of (found_of matches) ≡ matches_of client words) × Chooses (found_of matches) choice
+
+-- Where words lead: those in which `clap` finds no fault to the choice that they spell; a question for help or the version
+-- is shown an answer, and any other fault is refused; and memory may run out for any.
+abbrev pub LeadsTo : List (List ℕ) → Choice → Type 0
+LeadsTo words Script = Spells words Script × (fault_of client words ≡ [])
+LeadsTo words (Remote path) = Spells words (Remote path) × (fault_of client words ≡ [])
+LeadsTo words (Call call) = Spells words (Call call) × (fault_of client words ≡ [])
+LeadsTo words Usage = Spells words Usage × (fault_of client words ≡ [])
+LeadsTo words (NoCommand text) = Spells words (NoCommand text) × (fault_of client words ≡ [])
+LeadsTo words Memory = ⊤
+LeadsTo words (Shown text) =
+    IsAmong DisplayHelp (fault_of client words) ⊎ IsAmong DisplayVersion (fault_of client words)
+LeadsTo words (Refused text) = (kind : ErrorKind) × IsAmong kind (fault_of client words)
+    × (kind ≢ DisplayHelp) × (kind ≢ DisplayVersion)
