@@ -153,6 +153,28 @@ try_passing_causes() {
   for cause in EAGAIN ENOMEM ENFILE EMFILE ECONNABORTED ENOBUFS; do passes "$cause"; done
 }
 
+# A cause that passes, and lasts: accepts are tried for ten seconds where no connection is served, and for as long as one
+# is.
+try_lasting_causes() {
+  injecting with-all-failing EMFILE 1+
+  local keyretaind=$dir/with-all-failing
+  start
+  finish "$daemon"
+  is 'accepts that all fail: the status' 3 "$status"
+  is 'accepts that all fail: what is printed' "listening $path"$'\nerror: accept' "$(<"$log")"
+  is 'accepts that all fail: the path is gone' gone "$(path_state)"
+  injecting with-many-failing EMFILE 2..120
+  keyretaind=$dir/with-many-failing
+  start --accept 2
+  open_client first
+  answers first 'hello 1000 1000' 1
+  open_client second
+  answers second 'hello 1000 1000' 2
+  close_client second 0
+  close_client first 0
+  is_served 'accepts that fail for longer' 2
+}
+
 # A cause that doesn't pass. The daemon says so at once, refuses who comes, serves those that it has accepted to their
 # ends, and then ends, without its path.
 try_failed_accept() {
