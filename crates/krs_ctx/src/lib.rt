@@ -4,6 +4,8 @@
 #![tactic(auto)]
 
 mod contexts;
+mod entering;
+mod leaving;
 mod listed;
 mod maps;
 mod members;
