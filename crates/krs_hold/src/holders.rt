@@ -6,6 +6,7 @@ ghost use Rattle.krs_model.specs.Table.{at};
 ghost use Rattle.krs_model.specs.Reach.{IsAcyclic, links_of_key_at};
 ghost use Rattle.krs_links.specs.Links.{serials};
 ghost use Rattle.krs_keys.specs.Keys.{named_links_of_content, shown};
+ghost use Rattle.krs_keys.specs.Hashed.{by_serial};
 ghost use Rattle.krs_keys.specs.Kept.{KeepsAnchored, KeepsAll, Sweeps};
 ghost use Rattle.krs_hold.specs.Tally.{number_at, with_number, one_more, one_less, all_less};
 ghost use Rattle.krs_hold.specs.Tally.{AreExact};
@@ -18,6 +19,9 @@ use krs_types::{Errno, Serial};
 use std::alloc::Global;
 use std::collections::HashMap;
 use std::marker::Model;
+
+/// A table with room for so many counts is never too large.
+const KEPT: usize = 1024;
 
 /// The count of a new key, which its first holder holds.
 const HELD_ONCE: Count = Count {
@@ -188,7 +192,20 @@ impl Holders {
         ensures next { keys.new.next ≡ keys.old.next }
     {
         let told = sweep(keys, &mut self.counts, self.first, watched);
+        if self.first.is_some() {
+            give_back(&mut self.counts);
+        }
         self.first = None;
         told
+    }
+}
+
+/// Counts of which three quarters have gone give back what memory they can. It takes none that could be refused.
+fn give_back(counts: &mut HashMap<u32, Count>)
+    ensures { by_serial counts.new.entries ≡ by_serial counts.old.entries }
+{
+    let room = counts.capacity();
+    if KEPT < room && counts.len() < room / 4 {
+        counts.shrink_to_fit();
     }
 }

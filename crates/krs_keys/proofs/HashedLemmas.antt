@@ -27,6 +27,14 @@ at_by_serial (e ∷ es) q =
     ∙ (ap (λ b. cond b (Some e.1) (at (by_serial es) q)) (unsigned_tied q e.0)
     ∙ ap (λ o. cond (nat_eq q e.0) (Some e.1) o) (at_by_serial es q))
 
+-- a map that has at each serial what another has shows the same table
+pub by_serial_same :
+    {X : Type 0} (m n : List (ℕ × X)) → ((q : ℕ) → lookup (nat_eq q) n ≡ lookup (nat_eq q) m)
+    → by_serial n ≡ by_serial m
+by_serial_same m n same =
+    same_tables (by_serial n) (by_serial m) (rises_by_serial n) (rises_by_serial m)
+    (λ q. at_by_serial n q ∙ (same q ∙ sym (at_by_serial m q)))
+
 -- the map has w at a serial, and at each other what it had
 abbrev pub IsUpdated : {X : Type 0} → List (ℕ × X) → List (ℕ × X) → ℕ → Option X → Type 0
 IsUpdated m n k w = (q : ℕ) → lookup (nat_eq q) n ≡ cond (nat_eq k q) w (lookup (nat_eq q) m)

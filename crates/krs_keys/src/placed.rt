@@ -19,6 +19,9 @@ use krs_types::{Caller, Errno, Serial};
 use slab::Slab;
 use std::alloc::{AllocError, Global};
 
+/// Tables with room for so many keys are never too large.
+const KEPT: usize = 1024;
+
 /// The keys by place, with an index from their serials.
 #[derive(Drop)]
 pub(crate) struct PlacedKeys {
@@ -28,6 +31,8 @@ pub(crate) struct PlacedKeys {
     places: IndexMap<u32, usize>,
     /// The serials of the keyrings, so that what concerns keyrings alone passes over no other key.
     rings: IndexSet<u32>,
+    /// How many keys have gone since the tables last gave memory back. No clause speaks of it.
+    gone: usize,
 }
 
 impl PlacedKeys {
@@ -40,6 +45,7 @@ impl PlacedKeys {
             slots: Slab::new(alloc),
             places: IndexMap::new(alloc),
             rings: IndexSet::new(alloc),
+            gone: 0,
         }
     }
 
@@ -183,10 +189,48 @@ impl PlacedKeys {
         ensures keys { by_place self.new ≡ without (by_place self.old) serial }
         ensures gone { at (by_place self.new) serial ≡ None }
     {
+        let key = self.take_out(serial)?;
+        self.gone = self.gone.saturating_add(1);
+        if self.is_slack() {
+            self.give_back();
+        }
+        Some(key)
+    }
+
+    /// The same, with tables that stay as large.
+    fn take_out(&mut self, serial: u32) -> Option<Key>
+        requires { ArePlaced self.old }
+        ensures placed { ArePlaced self.new }
+        ensures key { result ≡ at (by_place self.old) serial }
+        ensures keys { by_place self.new ≡ without (by_place self.old) serial }
+        ensures gone { at (by_place self.new) serial ≡ None }
+    {
         let place = self.places.swap_remove(&serial)?;
         let key = self.slots.remove(place);
         unlist(&mut self.rings, serial, &key);
         Some(key)
+    }
+
+    /// Whether the tables may be far too large: large ones have no key left, or fewer than have gone since they last
+    /// gave memory back. So whoever gives keys back pays for it with a few steps for each.
+    fn is_slack(&self) -> bool {
+        let left = self.places.len();
+        if left == 0 {
+            return KEPT < self.slots.capacity();
+        }
+        KEPT < self.gone && left < self.gone
+    }
+
+    /// The tables give back what memory they can. It takes none that could be refused.
+    fn give_back(&mut self)
+        requires { ArePlaced self.old }
+        ensures placed { ArePlaced self.new }
+        ensures keys { by_place self.new ≡ by_place self.old }
+    {
+        self.slots.shrink_to_fit();
+        self.places.shrink_to_fit();
+        self.rings.shrink_to_fit();
+        self.gone = 0;
     }
 
     /// Makes room for that many more keys, in all three parts.

@@ -1,4 +1,4 @@
-use Rattle.std.proofs.Common.{◌≡◌, ℕ, ◌+◌, ap, ◌∙◌, arith}
+use Rattle.std.proofs.Common.{◌+◌, ap, ◌∙◌, arith}
 use Rattle.krs_model.specs.Table.{Table, at, put, without}
 use Rattle.krs_model.proofs.Tables.Changes.{at_put_none, without_put}
 use Rattle.krs_keys.specs.declared.key.Key.{Key}

@@ -5,7 +5,7 @@ use Rattle.krs_keys.specs.Places.{by_place, in_slots, is_keyring, AreRings}
 use Rattle.krs_keys.proofs.PlacesLemmas.{found, at_in_slots, rises_in_slots, in_slots_without, HavePlaces-without}
 use Rattle.krs_keys.proofs.RisingTables.{without_absent, gone_without}
 use Rattle.krs_keys.proofs.RingsLemmas.{rings_without}
-use Rattle.krs_keys.proofs.placed.PlacedKeys.remove.Goals as goal
+use Rattle.krs_keys.proofs.placed.PlacedKeys.take_out.Goals as goal
 
 nothing : (c : goal.After-from_residual) → at (by_place c.args.self.now) c.args.serial ≡ None
 nothing c =
