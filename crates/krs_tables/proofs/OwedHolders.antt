@@ -218,17 +218,6 @@ left_tallied keys contexts processes uids p r u numbers h =
     let l = times-append q cs ps in
     omega (arith, a, b, d, e, f, g, i, j, k, l)) h))
 
-pub left_told : (keys : Table model.Key) (contexts cs : Table Context) (processes ps : Table (Option ℕ))
-    (uids us : Table UidRings) (p : ℕ × Context → Bool) (r : ℕ × Option ℕ → Bool) (u : ℕ × UidRings → Bool)
-    (numbers one two three : Table ℕ) → cs ≡ filter (λ e. not (p e)) contexts → ps ≡ filter r processes
-    → us ≡ filter u uids → one ≡ all_less (context_roots (filter p contexts)) numbers
-    → two ≡ all_less (process_roots (filter (λ e. not (r e)) processes)) one
-    → three ≡ all_less (uid_roots (filter (λ e. not (u e)) uids)) two
-    → IsTallied keys (context_roots contexts ++ (process_roots processes ++ uid_roots uids)) [] numbers
-    → IsTallied keys (context_roots cs ++ (process_roots ps ++ uid_roots us)) [] three
-left_told keys contexts cs processes ps uids us p r u numbers one two three a b c d e f h =
-    rw (a, b, c, f, e, d) (left_tallied keys contexts processes uids p r u numbers h)
-
 -- two new keys: the first is linked by the second, and attached; the second is attached twice
 pub first_tallied : (es : Table Key) (before after : List ℕ) (numbers : Table ℕ) (n m : ℕ) (a b : Key)
     → at es n ≡ None → at (put es n a) m ≡ None → named_links_of_content a.content ≡ []
