@@ -3,16 +3,15 @@ use Rattle.std.proofs.Common.{◌≡◌, ℕ, ◌+◌, ◌-◌, List, [], ◌∷
 use Rattle.std.proofs.Common.{refl, ap, ◌∙◌, sym, subst}
 use Rattle.std.proofs.lemmas.Bool.{true≢false}
 use Rattle.std.specs.Option.{is_some}
-use Rattle.std.specs.Ordering.{match_ordering, nat_cmp}
-use Rattle.std.specs.declared.cmp.Ordering.TheVariants.{Less, Equal, Greater}
 use Rattle.krs_model.specs.Table.{Table, at, alter, put}
-use Rattle.krs_model.proofs.Tables.Changes.{put_map, alter_map, is_at_same}
+use Rattle.krs_model.proofs.Tables.Changes.{put_map, alter_map}
 use Rattle.krs_hold.specs.declared.counts.Count.{Count}
 use Rattle.krs_hold.specs.Tally.{number_at, with_number, one_more, one_less, all_less}
 use Rattle.krs_hold.specs.Chain.{numbers_of, holders_at, falls_at, lowered, raised, IsChained, Chained, gone}
 use Rattle.krs_hold.specs.Chain.{gone_all}
 use Rattle.krs_hold.proofs.Chains.{made_chained, held_chained, raised_chained, gone_chained, gone_all_chained}
 use Rattle.krs_hold.proofs.Exact.{holders_lowered, number_is, is_some_shown}
+use Rattle.krs_hold.proofs.Places.{alter_put}
 
 -- what a caller sees of one count
 pub number_seen :
@@ -114,17 +113,6 @@ pub chain_made :
 chain_made es fs first k absent e h =
     subst (λ (zs : Table Count). IsChained zs (Some k)) (sym e) (made_chained es first k (none_from
     (at es k) absent) h)
-
-alter_put : (es : Table ℕ) (k v : ℕ) (f : ℕ → ℕ) → alter (put es k v) k f ≡ put es k (f v)
-alter_put [] k v f = rw (is_at_same k) refl
-alter_put (e ∷ es) k v f =
-    elim (nat_cmp k e.0) as (λ r. nat_cmp k e.0 ≡ r
-    → alter (match_ordering r ((k, v) ∷ e ∷ es) ((e.0, v) ∷ es) (e ∷ put es k v)) k f
-    ≡ match_ordering r ((k, f v) ∷ e ∷ es) ((e.0, f v) ∷ es) (e ∷ put es k (f v))) [
-      | Less ↦ λ t. rw (is_at_same k) refl
-      | Equal ↦ λ t. rw t refl
-      | Greater ↦ λ t. rw t (ap (λ (zs : Table ℕ). e ∷ zs) (alter_put es k v f))
-    ] refl
 
 -- a new count of one holder
 pub number_held :

@@ -1,13 +1,15 @@
--- Laws of tables: what is at another number after a change, and a value that is written back.
+-- Laws of tables: what is at another number after a change, a value that is written back, and one that is changed
+-- where it was put.
 use Rattle.std.proofs.Common.{◌≡◌, ℕ, [], ◌∷◌, Option, Some, None, true, false, cond, refl, ap, ◌∙◌, sym, ⊎_elim}
 use Rattle.std.proofs.Common.{subst}
 use Rattle.std.proofs.lemmas.Bool.{cases_eq}
 use Rattle.std.specs.Option.{option_map, is_some}
-use Rattle.std.specs.Ordering.{nat_cmp}
+use Rattle.std.specs.Ordering.{match_ordering, nat_cmp}
+use Rattle.std.specs.declared.cmp.Ordering.TheVariants.{Less, Equal, Greater}
 use Rattle.std.specs.BTreeMap.{is_at}
 use Rattle.std.specs.Map.{set_value}
 use Rattle.krs_model.specs.Table.{Table, at, alter, put, without}
-use Rattle.krs_model.proofs.Tables.Changes.{same_at, alter_some, at_alter_same, at_alter_other, at_put_other}
+use Rattle.krs_model.proofs.Tables.Changes.{same_at, is_at_same, alter_some, at_alter_same, at_alter_other, at_put_other}
 
 -- a number is not at another
 pub other_at : (q k : ℕ) → (q ≡ k → ⊥) → is_at (nat_cmp q) k ≡ false
@@ -56,3 +58,15 @@ is_some_alter es k q f =
     (ap is_some (at_alter_same es k f) ∙ is_some_map f (at es k)))
     (λ (n : q ≡ k → ⊥). ap is_some (alter_other es k q f n))
     (cases_eq q k)
+
+-- what is changed where it was put
+pub alter_put : {X : Type 0} (es : Table X) (k : ℕ) (v : X) (f : X → X) → alter (put es k v) k f ≡ put es k (f v)
+alter_put {X = X} [] k v f = rw (is_at_same k) refl
+alter_put {X = X} (e ∷ es) k v f =
+    elim (nat_cmp k e.0) as (λ r. nat_cmp k e.0 ≡ r
+    → alter (match_ordering r ((k, v) ∷ e ∷ es) ((e.0, v) ∷ es) (e ∷ put es k v)) k f
+    ≡ match_ordering r ((k, f v) ∷ e ∷ es) ((e.0, f v) ∷ es) (e ∷ put es k (f v))) [
+      | Less ↦ λ t. rw (is_at_same k) refl
+      | Equal ↦ λ t. rw t refl
+      | Greater ↦ λ t. rw t (ap (λ (zs : Table X). e ∷ zs) (alter_put es k v f))
+    ] refl

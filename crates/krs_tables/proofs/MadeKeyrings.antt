@@ -3,8 +3,7 @@ use Rattle.std.proofs.Common.{◌≡◌, ◌+◌, ◌≤◌, ℕ, List, [], ◌�
 use Rattle.std.proofs.Common.{refl, ap, ◌∙◌, sym, subst, arith, ⊎_elim}
 use Rattle.std.specs.Prelude.{nat_lt, Result, Ok, codes, IfOk, IsOk}
 use Rattle.std.specs.Option.{IsSome, option_map, option_to_list, unwrap_or}
-use Rattle.std.specs.Ordering.{nat_cmp, match_ordering}
-use Rattle.std.specs.declared.cmp.Ordering.TheVariants.{Less, Equal, Greater}
+use Rattle.std.specs.Ordering.{nat_cmp}
 use Rattle.std.specs.BTreeMap.{is_at}
 use Rattle.std.proofs.lemmas.Option.{none-some}
 use Rattle.std.proofs.lemmas.Bool.{true≢false}
@@ -37,7 +36,7 @@ use Rattle.krs_ctx.specs.Anchors.{Anchors, anchored, anchors_of}
 use Rattle.krs_hold.specs.Tally.{times, number_at, with_number, one_more, IsTallied}
 use Rattle.krs_hold.proofs.Times.{times-append, times-cons}
 use Rattle.krs_hold.proofs.Gathered.{times-alter}
-use Rattle.krs_hold.proofs.Places.{is_some_alter}
+use Rattle.krs_hold.proofs.Places.{alter_put, is_some_alter}
 use Rattle.krs_hold.proofs.Tallies.{tallied_with, tallied_hold, tallied_attached, some_with, number_with}
 use Rattle.krs_hold.proofs.Tallies.{number_other}
 use Rattle.krs_hold.proofs.KeyTallies.{tallied_insert}
@@ -287,18 +286,6 @@ alone_accepted special s client number c own few =
     let maker = maker_of number c in
     accepted _ _ (alone_done special s (ring_at special maker [] s) client number s.next_serial c maker own refl few refl
     refl)
-
--- what is changed where it was put
-pub alter_put : {X : Type 0} (es : Table X) (k : ℕ) (v : X) (f : X → X) → alter (put es k v) k f ≡ put es k (f v)
-alter_put {X = X} [] k v f = rw (is_at_same k) refl
-alter_put {X = X} (e ∷ es) k v f =
-    elim (nat_cmp k e.0) as (λ r. nat_cmp k e.0 ≡ r
-    → alter (match_ordering r ((k, v) ∷ e ∷ es) ((e.0, v) ∷ es) (e ∷ put es k v)) k f
-    ≡ match_ordering r ((k, f v) ∷ e ∷ es) ((e.0, f v) ∷ es) (e ∷ put es k (f v))) [
-      | Less ↦ λ t. rw (is_at_same k) refl
-      | Equal ↦ λ t. rw t refl
-      | Greater ↦ λ t. rw t (ap (λ (zs : Table X). e ∷ zs) (alter_put es k v f))
-    ] refl
 
 -- the made keyring of the definitions, with a link
 pub ring_linking :

@@ -22,7 +22,7 @@ use Rattle.krs_keys.specs.Keys.{seen, with_entry, displaced_at, displaced_by}
 use Rattle.krs_keys.specs.Table.{Keys, with_key}
 use Rattle.krs_hold.specs.Tally.{number_at, with_number, one_more, all_less, AreExact}
 use Rattle.krs_hold.proofs.Tallies.{number_other}
-use Rattle.krs_hold.proofs.Places.{is_some_alter}
+use Rattle.krs_hold.proofs.Places.{alter_put, is_some_alter}
 use Rattle.krs_ctx.specs.Anchors.{Anchors}
 use Rattle.krs_tables.proofs.Wanting.{accepted}
 use Rattle.krs_tables.specs.declared.tables.Tables.TheInside.{Inside}
@@ -32,7 +32,7 @@ use Rattle.krs_tables.specs.Making.{maker_key}
 use Rattle.krs_tables.specs.Specials.{ring_key, ring_at, attached_as, maker_of}
 use Rattle.krs_tables.specs.Specials.{HasPlace, adding_made}
 use Rattle.krs_tables.specs.View.{state_of, IsConsistent}
-use Rattle.krs_tables.proofs.MadeKeyrings.{ring_alone, ring_sound, ring_told, alter_put}
+use Rattle.krs_tables.proofs.MadeKeyrings.{ring_alone, ring_sound, ring_told}
 use Rattle.krs_tables.proofs.OwedHolders.{made_tallied, first_links}
 use Rattle.krs_tables.proofs.Definitions.{made_told, seen-maker_key}
 
