@@ -157,13 +157,13 @@ try_passing_causes() {
 # is.
 try_lasting_causes() {
   injecting with-all-failing EMFILE 1+
+  injecting with-many-failing EMFILE 2..120
   local keyretaind=$dir/with-all-failing
   start
   finish "$daemon"
   is 'accepts that all fail: the status' 3 "$status"
   is 'accepts that all fail: what is printed' "listening $path"$'\nerror: accept' "$(<"$log")"
   is 'accepts that all fail: the path is gone' gone "$(path_state)"
-  injecting with-many-failing EMFILE 2..120
   keyretaind=$dir/with-many-failing
   start --accept 2
   open_client first

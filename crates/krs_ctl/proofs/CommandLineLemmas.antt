@@ -1,5 +1,5 @@
 -- Where words lead.
-use Rattle.std.proofs.Common.{◌≡◌, ℕ, List, [], Result, inl, inr, rules, ◌∙◌, refl, subst, sym}
+use Rattle.std.proofs.Common.{◌≡◌, ℕ, List, [], Result, inl, inr, rules, ◌∙◌, subst, sym}
 use Rattle.std.specs.Prelude.{IfOk, OnErr, Ok, Err}
 use Rattle.krs_ctl.specs.declared.choice.Choice.{Choice}
 use Rattle.clap.specs.Words.{Kinds, HasKind, fault_of, kind_of}
