@@ -5,7 +5,8 @@ ghost use Rattle.krs_desk.specs.Sitting.{IsIdleAt};
 ghost use Rattle.krs_session.specs.Over.{over_reads, over_empties, over_failures};
 
 use super::fakes::watches;
-use super::{ASKS, HELLO, converse, with_room};
+use super::memory::{converse, with_room};
+use super::{ASKS, HELLO};
 use crate::tests::serve::{Open, Still};
 use krs_desk::{Desk, Seat};
 use krs_desk_tests::{one_seat, two_seats};

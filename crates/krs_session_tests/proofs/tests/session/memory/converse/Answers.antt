@@ -1,5 +1,5 @@
 use Rattle.std.specs.Prelude.{[], ◌∷◌, ◌++◌}
-use Rattle.krs_session_tests.proofs.tests.session.converse.Goals as goal
+use Rattle.krs_session_tests.proofs.tests.session.memory.converse.Goals as goal
 
 pub returns-clause-session : goal.returns-clause-session
 returns-clause-session g c =
