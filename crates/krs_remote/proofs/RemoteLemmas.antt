@@ -7,14 +7,12 @@ use Rattle.krs_types.specs.declared.caller.Caller.{Caller}
 use Rattle.krs_types.specs.declared.ask.Ask.{Ask as AskIs}
 use Rattle.krs_types.specs.declared.ask.Op.{Op}
 use Rattle.krs_types.specs.declared.ask.Op.TheVariants as op
-use Rattle.krs_script.specs.Ending.{context_after}
-use Rattle.krs_remote.specs.Asked.{is_hello}
 use Rattle.krs_commands.specs.declared.command.Command.{Command}
 use Rattle.krs_commands.specs.declared.command.Command.TheVariants.{Context, Moment, Ask, Rlist, Readq}
 use Rattle.krs_words.specs.declared.stop.Stop.{Stop}
 use Rattle.krs_words.specs.declared.stop.Stop.TheVariants.{Usage, Memory, Reading, TooLong, Printing, Connection}
 use Rattle.krs_remote.specs.Talking.{GivesUp}
-use Rattle.krs_remote.specs.Remote.{Talk, next_tag, ask_of, Breaks, BreaksCall, StopsList, GivesUpAsk, noted_context}
+use Rattle.krs_remote.specs.Remote.{Talk, next_tag, ask_of, Breaks, BreaksCall, StopsList, GivesUpAsk}
 use Rattle.krs_remote.specs.Call.{StopsCall}
 
 -- the causes for which a command breaks off
@@ -48,15 +46,6 @@ breaks_by old new (Ask asked) stop g = ask_gives_up_by old new asked stop g
 breaks_by old new (Rlist id) stop (inl g) = ask_gives_up_by old new (op.Read id) stop g
 breaks_by old new (Rlist id) stop (inr (reply, mid, asks, g)) = list_stops_by mid new id reply stop g
 breaks_by old new (Readq queue room) stop g = ask_gives_up_by old new (op.ReadQueue queue room) stop g
-
--- what is kept of a reply names the context that the script goes on in
-pub noted_context-after : (context : ℕ) (asked : Op) (reply : Result Answer Errno)
-    → noted_context context (is_hello asked) reply ≡ context_after context asked reply
-noted_context-after context (op.Hello caller) (Ok (Number n)) = refl
-noted_context-after context (op.Hello caller) (Ok Nothing) = refl
-noted_context-after context (op.Hello caller) (Ok (Bytes bytes)) = refl
-noted_context-after context (op.Hello caller) (Err e) = refl
-noted_context-after context _ _ = refl
 
 -- a call that broke off prints no line
 pub call_stops : (old new : Talk) (caller : Caller) (command : Command) (stop : Stop)

@@ -1,5 +1,5 @@
 -- What commands do over a connection: docs/FORMAT.md, "Commands", "Scripts over a socket" and "Single calls".
-use Rattle.std.specs.Prelude.{ℕ, ℤ, ◌≡◌, ◌+◌, ◌⊎◌, ◌||◌, Bool, true, false, List, Option, Result, Ok, Err}
+use Rattle.std.specs.Prelude.{ℕ, ℤ, ◌≡◌, ◌+◌, ◌⊎◌, ◌||◌, Bool, false, List, Option, Result, Ok, Err}
 use Rattle.std.specs.Result.{is_err}
 use Rattle.std.specs.Io.Buffered.{reader_remaining}
 use Rattle.krs_types.specs.declared.errno.Errno.{Errno}
@@ -46,14 +46,6 @@ next_tag talk = talk.asked + 1
 -- the ask for this, in the current context
 abbrev pub ask_of : Talk → Op → AskIs
 ask_of talk asked = record { context = talk.context; op = asked }
-
--- the current context after a reply: the one that an accepted `hello` gave, else as before
-abbrev pub noted_context : ℕ → Bool → Result Answer Errno → ℕ
-noted_context context false reply = context
-noted_context context true (Ok (Number n)) = n
-noted_context context true (Ok Nothing) = context
-noted_context context true (Ok (Bytes bytes)) = context
-noted_context context true (Err e) = context
 
 -- an ask in the current context, with the next tag, and its reply, which is not shown: nothing else changes
 pub record AsksUnseen (old : Talk) (asked : Op) (reply : Result Answer Errno) (new : Talk) : Type 0 where

@@ -51,7 +51,9 @@ impl<F: Read> Remote<F> {
     ghost use Rattle.std.specs.Prelude.{◌||◌, ◌+◌, ◌<◌, ◌≤◌, ◌^◌};
     ghost use Rattle.std.specs.Result.{is_err};
     ghost use Rattle.krs_remote.specs.Remote.{Acts, AsksOver, AsksUnseen, Breaks, BreaksList, CallsFor, BreaksCall};
-    ghost use Rattle.krs_remote.specs.Remote.{GivesUpAsk, Lists, ListsBy, StopsList, noted_context, talk_of};
+    ghost use Rattle.krs_remote.specs.Remote.{GivesUpAsk, Lists, ListsBy, StopsList, talk_of};
+    ghost use Rattle.krs_types.specs.declared.ask.Op.{Op};
+    ghost use Rattle.krs_script.specs.Ending.{context_after};
 
     /// What a command comes to. There is no moment to set: the server has its own clock.
     pub(crate) fn act<T: Write>(
@@ -157,7 +159,8 @@ impl<F: Read> Remote<F> {
 
     /// Keeps what the lines that follow need to know of a reply.
     fn note(&mut self, names_context: bool, reply: &Reply)
-        ensures context { self.new.context ≡ noted_context self.old.context names_context reply.now }
+        ensures context { (asked : Op) → names_context ≡ is_hello asked
+            → self.new.context ≡ context_after self.old.context asked reply.now }
         ensures refused { self.new.refused ≡ (self.old.refused || is_err reply.now) }
         ensures stays { self.new.from ≡ self.old.from }
         ensures asked { self.new.asked ≡ self.old.asked }
