@@ -274,7 +274,12 @@ class Client:
     def _connect(self):
         self.socket = socket.socket(socket.AF_UNIX)
         self.socket.settimeout(self.timeout)
-        self.socket.connect(self.path)
+        try:
+            self.socket.connect(self.path)
+        except OSError as error:
+            self.socket.close()
+            error.filename = self.path
+            raise
         self._received, self._waiting, self._asked = bytearray(), [], 0
 
     def close(self):
