@@ -265,7 +265,7 @@ def default_path():
 class Client:
     """A connection. `version` is that of the frames: 1, 2, or None to find out with the first ask whether the daemon
     understands 2. It may be set anew between asks: a reply is of its ask's version. `timeout` is how many seconds the
-    daemon may let pass."""
+    daemon may let pass; then a call raises socket.timeout."""
 
     def __init__(self, path=None, version=None, timeout=None):
         self.path, self.version, self.timeout = path or default_path(), version, timeout
@@ -280,7 +280,8 @@ class Client:
             self.socket.close()
             error.filename = self.path
             raise
-        self._received, self._waiting, self._asked = bytearray(), [], 0
+        self._received, self._asked = bytearray(), 0
+        self._waiting, self._given_up, self._come = [], set(), []
 
     def close(self):
         self.socket.close()
@@ -295,40 +296,66 @@ class Client:
         """Sends an ask without waiting for its reply; answers its tag. receive() gives the replies, in order."""
         self._asked += 1
         version = self.version or VERSIONS[-1]
-        self.socket.sendall(encode_ask(name, context, values, version, self._asked))
+        whole = encode_ask(name, context, values, version, self._asked)
+        try:
+            self.socket.sendall(whole)
+        except (socket.timeout, KeyboardInterrupt):
+            self.close()  # the frame may be cut short, and what follows it would be read as its rest
+            raise
         self._waiting.append((name, version, self._asked))
         return self._asked
 
+    def _next_reply(self):
+        """The next reply, with the name and the tag of its ask; those to asks that were given up are passed over."""
+        while True:
+            name, version, tag = self._waiting[0]
+            while (reply := decode_reply(self._received, version)) is None:
+                piece = self.socket.recv(1 << 16)
+                if not piece:
+                    raise Lost(errno.ECONNRESET, f"the connection ended before the reply to {name}")
+                self._received += piece
+            if reply.tag not in (None, tag):
+                raise Malformed(errno.EPROTO, f"a reply to {reply.tag}, not to {tag}")
+            del self._received[:reply.length], self._waiting[0]
+            if tag not in self._given_up:
+                return name, tag, reply
+            self._given_up.remove(tag)
+
     def receive(self):
-        """The answer to the first ask that has none yet."""
-        name, version, tag = self._waiting[0]
-        while (reply := decode_reply(self._received, version)) is None:
-            piece = self.socket.recv(1 << 16)
-            if not piece:
-                raise Lost(errno.ECONNRESET, f"the connection ended before the reply to {name}")
-            self._received += piece
-        if reply.tag not in (None, tag):
-            raise Malformed(errno.EPROTO, f"a reply to {reply.tag}, not to {tag}")
-        del self._received[:reply.length], self._waiting[0]
+        """The answer to the first ask that was sent and has none yet."""
+        name, _, reply = self._come.pop(0) if self._come else self._next_reply()
         return answer_of(name, reply)
 
     def ask(self, name, context=0, *values):
-        """One ask and its answer."""
+        """One ask and its answer. If it ends before the reply is there, as by `timeout`, it isn't known whether the
+        ask was carried out; a reply that comes late is dropped."""
         if self.version is None:
             return self._first_ask(name, context, values)
-        self.send(name, context, *values)
-        return self.receive()
+        asked = self.send(name, context, *values)
+        try:
+            while (come := self._next_reply())[1] != asked:
+                self._come.append(come)
+        except (socket.timeout, KeyboardInterrupt):
+            self._given_up.add(asked)
+            raise
+        return answer_of(name, come[2])
 
     def _first_ask(self, name, context, values):
-        """A daemon that doesn't understand the newest frames ends the connection, and has carried nothing out."""
+        """A daemon that doesn't understand the newest frames ends the connection, and has carried nothing out. The
+        version is found out once there is a reply."""
         try:
             self.version = VERSIONS[-1]
             return self.ask(name, context, *values)
+        except Refused:
+            raise
         except (Lost, ConnectionError):
             self.version = VERSIONS[0]
             self.close()
             self._connect()
             return self.ask(name, context, *values)
+        except BaseException:
+            self.version = None
+            raise
 
     # The asks. Numbers that these answer: contexts, serials and queues.
 

@@ -118,20 +118,25 @@ def try_all():
         compare(f"{what} what is printed", wanted_lines(version), printed)
 
 
+def late():
+    """Replies to REVOKE come late, before that to the next other ask."""
+    kept = []
+
+    def answer(version, tag, name, values):
+        if name == "REVOKE":
+            kept.append(reply(version, tag, 126 if values == [5] else 0))
+            return b""
+        sent = b"".join(kept) + plain(version, tag, name, values)
+        kept.clear()
+        return sent
+
+    return answer
+
+
 def try_late():
-    """Replies to REVOKE come late; each call has its own answer all the same."""
+    """Each call has its own answer all the same."""
     for version in keyretain.VERSIONS:
-        kept = []
-
-        def answer(_, tag, name, values):
-            if name == "REVOKE":
-                kept.append(reply(version, tag, 126 if values == [5] else 0))
-                return b""
-            sent = b"".join(kept) + plain(version, tag, name, values)
-            kept.clear()
-            return sent
-
-        printed, _ = run("late", version, answer)
+        printed, _ = run("late", version, late())
         compare(f"late replies, version {version}",
                 ["hello: 77", "interrupted: EINTR", "the next: 77", "out of patience: ETIMEDOUT",
                  "out of patience again: ETIMEDOUT", "the next: 77", f"version {version}"], printed)
@@ -212,7 +217,48 @@ def try_python():
                                         for name, _, _ in ALL_ASKED], answers)
 
 
-for case in (try_python, try_all, try_late, try_first, try_restarted, try_child, try_statuses, try_broken):
+def answer_in_time(run, *words):
+    try:
+        return run(*words)
+    except socket.timeout:
+        return "no answer"
+
+
+def try_python_late():
+    """Calls of the Python client that are out of patience, and an ask between others that were sent ahead."""
+    for version in keyretain.VERSIONS:
+        with tempfile.TemporaryDirectory(prefix="keyretain.") as folder:
+            Server(folder + "/sock", late(), (1, 2))
+            with keyretain.Client(folder + "/sock", version, timeout=0.2) as client:
+                answers = [answer_in_time(client.revoke, 1, 5), answer_in_time(client.revoke, 1, 6),
+                           client.read(1, 7), client.describe(1, 8), answer_in_time(client.revoke, 1, 5),
+                           client.get_id(1, 9)]
+                for name in ("READ", "THREAD"):
+                    client.send(name, 1, *([7] if name == "READ" else []))
+                answers += [client.describe(1, 8), client.receive(), client.receive(), client.read(1, 7)]
+        compare(f"late replies to the Python client, version {version}",
+                ["no answer", "no answer", b"READ", b"DESCRIBE", "no answer", 77, b"DESCRIBE", b"READ", 77,
+                 b"READ"], answers)
+
+
+def try_python_first():
+    """A first call of the Python client whose frame can't be made, and one that is out of patience."""
+    for versions in ((1,), (1, 2)):
+        with tempfile.TemporaryDirectory(prefix="keyretain.") as folder:
+            Server(folder + "/sock", late(), versions)
+            with keyretain.Client(folder + "/sock", None, timeout=0.1) as client:
+                try:
+                    client.update(1, 5, bytes(65536))
+                except ValueError:
+                    answers = ["no frame", client.version]
+                answers += [answer_in_time(client.revoke, 1, 6), client.version, client.read(1, 7),
+                            client.version, client.read(1, 7)]
+        compare(f"a first call of the Python client, a server of {versions}",
+                ["no frame", None, "no answer", None, b"READ", versions[-1], b"READ"], answers)
+
+
+for case in (try_python, try_python_late, try_python_first, try_all, try_late, try_first, try_restarted, try_child,
+             try_statuses, try_broken):
     case()
 print(f"{compared} compared, {different} different")
 sys.exit(different != 0)
