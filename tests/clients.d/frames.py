@@ -31,11 +31,12 @@ def reply(version, tag, status=0, body=b""):
 
 class Server(threading.Thread):
     """Takes connections one after the other and answers each ask by `answer(version, tag, name, values)`: bytes, or
-    None to end the connection. `asked` has what came."""
+    None to end the connection. `asked` has what came. A frame of another version than these ends the connection after
+    `pause` seconds, so that a call can be interrupted before it sees the end."""
 
-    def __init__(self, path, answer, versions):
+    def __init__(self, path, answer, versions, pause=0.2):
         super().__init__(daemon=True)
-        self.answer, self.versions, self.asked = answer, versions, []
+        self.answer, self.versions, self.pause, self.asked = answer, versions, pause, []
         self.listener = socket.socket(socket.AF_UNIX)
         self.listener.bind(path)
         self.listener.listen(8)
@@ -54,7 +55,7 @@ class Server(threading.Thread):
             rest = end.recv(struct.unpack("<I", head)[0], socket.MSG_WAITALL)
             version, number, context = struct.unpack_from("<HHI", rest)
             if version not in self.versions:
-                time.sleep(0.2)  # so that a call can be interrupted before it sees the end
+                time.sleep(self.pause)
                 return
             tag = struct.unpack_from("<Q", rest, 8)[0] if version == 2 else None
             name = keyretain.name_of(number)
@@ -217,11 +218,15 @@ def try_python():
                                         for name, _, _ in ALL_ASKED], answers)
 
 
-def answer_in_time(run, *words):
+def give_up(client, run, *words):
+    """What a call answers that has little patience."""
+    client.socket.settimeout(0.1)
     try:
         return run(*words)
     except socket.timeout:
         return "no answer"
+    finally:
+        client.socket.settimeout(20)
 
 
 def try_python_late():
@@ -229,30 +234,30 @@ def try_python_late():
     for version in keyretain.VERSIONS:
         with tempfile.TemporaryDirectory(prefix="keyretain.") as folder:
             Server(folder + "/sock", late(), (1, 2))
-            with keyretain.Client(folder + "/sock", version, timeout=0.2) as client:
-                answers = [answer_in_time(client.revoke, 1, 5), answer_in_time(client.revoke, 1, 6),
-                           client.read(1, 7), client.describe(1, 8), answer_in_time(client.revoke, 1, 5),
+            with keyretain.Client(folder + "/sock", version, timeout=20) as client:
+                answers = [give_up(client, client.revoke, 1, 5), give_up(client, client.revoke, 1, 6),
+                           client.read(1, 7), client.describe(1, 8), give_up(client, client.revoke, 1, 5),
                            client.get_id(1, 9)]
-                for name in ("READ", "THREAD"):
-                    client.send(name, 1, *([7] if name == "READ" else []))
+                for name, values in (("READ", [7]), ("THREAD", [])):
+                    client.send(name, 1, *values)
                 answers += [client.describe(1, 8), client.receive(), client.receive(), client.read(1, 7)]
         compare(f"late replies to the Python client, version {version}",
-                ["no answer", "no answer", b"READ", b"DESCRIBE", "no answer", 77, b"DESCRIBE", b"READ", 77,
-                 b"READ"], answers)
+                ["no answer", "no answer", b"READ", b"DESCRIBE", "no answer", 77, b"DESCRIBE", b"READ", 77, b"READ"],
+                answers)
 
 
 def try_python_first():
-    """A first call of the Python client whose frame can't be made, and one that is out of patience."""
+    """A first call of the Python client that no frame holds, and one that is out of patience."""
     for versions in ((1,), (1, 2)):
         with tempfile.TemporaryDirectory(prefix="keyretain.") as folder:
-            Server(folder + "/sock", late(), versions)
-            with keyretain.Client(folder + "/sock", None, timeout=0.1) as client:
+            Server(folder + "/sock", late(), versions, pause=1)
+            with keyretain.Client(folder + "/sock", timeout=20) as client:
                 try:
-                    client.update(1, 5, bytes(65536))
+                    answers = [client.update(1, 5, bytes(65536))]
                 except ValueError:
-                    answers = ["no frame", client.version]
-                answers += [answer_in_time(client.revoke, 1, 6), client.version, client.read(1, 7),
-                            client.version, client.read(1, 7)]
+                    answers = ["no frame"]
+                answers += [client.version, give_up(client, client.revoke, 1, 6), client.version]
+                answers += [client.read(1, 7), client.version, client.read(1, 7)]
         compare(f"a first call of the Python client, a server of {versions}",
                 ["no frame", None, "no answer", None, b"READ", versions[-1], b"READ"], answers)
 
