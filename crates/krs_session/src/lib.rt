@@ -10,6 +10,7 @@ mod ended;
 mod ends;
 mod gate;
 mod keeper;
+mod lack;
 mod laws;
 mod over;
 mod session;

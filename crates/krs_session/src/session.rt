@@ -6,6 +6,7 @@ ghost use Rattle.krs_session.specs.Session.{Session, EndsBy, HaveRoom, counts_of
 ghost use Rattle.krs_session.specs.Serving.{Answers, Served, StopsBy, PieceEndsBy, TurnEndsBy, Finished};
 
 use crate::asking::{Setting, answer_all, ask_one};
+use crate::lack::Lack;
 use crate::{Clock, Ended, Gate, Keeper, Sink, Source};
 use krs_types::{Ask, Op};
 use krs_wire::{Feed, Framed, RESERVE, Warned, WireFault};
@@ -52,11 +53,11 @@ impl Held {
 }
 
 /// Asks what all the frames ask, and writes the replies, as `answer_all`. Where this session lacks memory, the store
-/// keeps nothing until the session has taken back what it can, and leaves what it lacks then.
+/// keeps nothing until the session has taken back what it can, and leaves what it lacks then, a whole reserve at most.
 fn answer_fed<H, W: Sink, S, D: Keeper<S, H>, C: Clock, G: Gate>(
     setting: &Setting<'_, H, D, G>,
     feed: &mut Feed,
-    told: &mut u64,
+    lack: &mut Lack,
     out: &mut Vec<u8>,
     writer: &mut W,
     seat: &mut S,
@@ -69,17 +70,18 @@ fn answer_fed<H, W: Sink, S, D: Keeper<S, H>, C: Clock, G: Gate>(
         seat.old seat.new clock.old clock.new writer.old writer.new frames.old.items result }
     ensures count { StopsBy (W.failures writer.old) (W.failures writer.new) result }
     ensures feed { feed.new ≡ feed.old }
+    ensures told { lack.new ≤ 2097152 }
     ensures ready { D.ready setting.now.desk.now seat.new }
     ensures lane { D.lane_of seat.new ≡ D.lane_of seat.old }
 {
     if feed.lacking() == 0 {
-        setting.desk.tell_lack(told, 0);
+        lack.tell::<S, H, D>(setting.desk, 0);
         return answer_all(setting, writer, out, seat, clock, frames);
     }
-    setting.desk.tell_lack(told, UNMET);
+    lack.tell::<S, H, D>(setting.desk, UNMET);
     let stop = answer_all(setting, writer, out, seat, clock, frames);
     feed.restock();
-    setting.desk.tell_lack(told, feed.lacking() as u64);
+    lack.tell::<S, H, D>(setting.desk, feed.lacking() as u64);
     stop
 }
 
@@ -87,7 +89,7 @@ fn answer_fed<H, W: Sink, S, D: Keeper<S, H>, C: Clock, G: Gate>(
 fn answer_cut<H, W: Sink, S, D: Keeper<S, H>, C: Clock, G: Gate>(
     setting: &Setting<'_, H, D, G>,
     feed: &mut Feed,
-    told: &mut u64,
+    lack: &mut Lack,
     out: &mut Vec<u8>,
     writer: &mut W,
     seat: &mut S,
@@ -100,11 +102,12 @@ fn answer_cut<H, W: Sink, S, D: Keeper<S, H>, C: Clock, G: Gate>(
         seat.old seat.new clock.old clock.new writer.old writer.new frames.items result }
     ensures count { StopsBy (W.failures writer.old) (W.failures writer.new) result }
     ensures feed { feed.new ≡ feed.old }
+    ensures told { lack.new ≤ 2097152 }
     ensures ready { D.ready setting.now.desk.now seat.new }
     ensures lane { D.lane_of seat.new ≡ D.lane_of seat.old }
 {
     let mut frames = VecDeque::from(frames);
-    let stop = answer_fed(setting, feed, told, out, writer, seat, clock, &mut frames);
+    let stop = answer_fed(setting, feed, lack, out, writer, seat, clock, &mut frames);
     feed.reuse(Vec::from(frames));
     stop
 }
@@ -113,14 +116,14 @@ fn answer_cut<H, W: Sink, S, D: Keeper<S, H>, C: Clock, G: Gate>(
 #[derive(Drop)]
 struct Lacking<'a, S, H, D> {
     desk: &'a D,
-    told: &'a mut u64,
+    lack: &'a mut Lack,
     seat: PhantomData<S>,
     runtime: PhantomData<H>,
 }
 
 impl<S, H, D: Keeper<S, H>> Warned for Lacking<'_, S, H, D> {
     fn warn(&mut self) {
-        self.desk.tell_lack(self.told, UNMET);
+        self.lack.tell::<S, H, D>(self.desk, UNMET);
     }
 }
 
@@ -128,7 +131,7 @@ impl<S, H, D: Keeper<S, H>> Warned for Lacking<'_, S, H, D> {
 fn cut<H, S, D: Keeper<S, H>>(
     desk: &D,
     feed: &mut Feed,
-    told: &mut u64,
+    lack: &mut Lack,
     piece: &[u8],
 ) -> Result<Vec<Framed>, WireFault>
     ensures frames { IfOk result (λ frames. Feeds feed.old piece.now frames.items feed.new) }
@@ -139,7 +142,7 @@ fn cut<H, S, D: Keeper<S, H>>(
 {
     let mut lacking = Lacking {
         desk,
-        told,
+        lack,
         seat: PhantomData::<S>,
         runtime: PhantomData::<H>,
     };
@@ -150,7 +153,7 @@ fn cut<H, S, D: Keeper<S, H>>(
 fn serve_piece<H, W: Sink, S, D: Keeper<S, H>, C: Clock, G: Gate>(
     setting: &Setting<'_, H, D, G>,
     feed: &mut Feed,
-    told: &mut u64,
+    lack: &mut Lack,
     out: &mut Vec<u8>,
     piece: &[u8],
     writer: &mut W,
@@ -164,15 +167,16 @@ fn serve_piece<H, W: Sink, S, D: Keeper<S, H>, C: Clock, G: Gate>(
         seat.old seat.new clock.old clock.new writer.old writer.new feed.old feed.new piece.now result }
     ensures count { PieceEndsBy (W.failures writer.old) (W.failures writer.new) result }
     ensures not_wire { result ≢ Some (Ended.Wire WireFault.Memory) }
+    ensures told { result ≡ None → lack.new ≤ 2097152 }
     ensures ready { D.ready setting.now.desk.now seat.new }
     ensures lane { D.lane_of seat.new ≡ D.lane_of seat.old }
 {
-    match cut::<H, S, D>(setting.desk, feed, told, piece) {
+    match cut::<H, S, D>(setting.desk, feed, lack, piece) {
         Err(fault) => match fault {
             WireFault::Memory => Some(Ended::Memory),
             _ => Some(Ended::Wire(fault)),
         },
-        Ok(frames) => match answer_cut(setting, feed, told, out, writer, seat, clock, frames) {
+        Ok(frames) => match answer_cut(setting, feed, lack, out, writer, seat, clock, frames) {
             Some(stop) => Some(stop),
             None => match feed.fault() {
                 None => None,
@@ -188,7 +192,7 @@ fn serve_piece<H, W: Sink, S, D: Keeper<S, H>, C: Clock, G: Gate>(
 fn serve_read<H, W: Sink, S, D: Keeper<S, H>, C: Clock, G: Gate>(
     setting: &Setting<'_, H, D, G>,
     feed: &mut Feed,
-    told: &mut u64,
+    lack: &mut Lack,
     out: &mut Vec<u8>,
     piece: &[u8],
     writer: &mut W,
@@ -202,23 +206,24 @@ fn serve_read<H, W: Sink, S, D: Keeper<S, H>, C: Clock, G: Gate>(
         seat.old seat.new clock.old clock.new writer.old writer.new feed.old feed.new piece.now result }
     ensures count { PieceEndsBy (W.failures writer.old) (W.failures writer.new) result }
     ensures not_wire { result ≢ Some (Ended.Wire WireFault.Memory) }
+    ensures told { result ≡ None → lack.new ≤ 2097152 }
     ensures ready { D.ready setting.now.desk.now seat.new }
     ensures lane { D.lane_of seat.new ≡ D.lane_of seat.old }
 {
     if setting.desk.is_short() {
-        if *told > 0 {
+        if feed.lacking() > 0 {
             feed.restock();
         }
-        setting.desk.tell_lack(told, RESERVE as u64);
+        lack.tell::<S, H, D>(setting.desk, RESERVE as u64);
     }
-    serve_piece(setting, feed, told, out, piece, writer, seat, clock)
+    serve_piece(setting, feed, lack, out, piece, writer, seat, clock)
 }
 
 /// One read, and what it leads to. While it waits, it holds no more room for replies than it began with.
 fn turn<H, R: Source, W: Sink, S, D: Keeper<S, H>, C: Clock, G: Gate>(
     setting: &Setting<'_, H, D, G>,
     held: &mut Held,
-    told: &mut u64,
+    lack: &mut Lack,
     reader: &mut R,
     writer: &mut W,
     seat: &mut S,
@@ -235,6 +240,7 @@ fn turn<H, R: Source, W: Sink, S, D: Keeper<S, H>, C: Clock, G: Gate>(
         (counts_of R.reads R.empties R.failures W.failures reader.old writer.old)
         (counts_of R.reads R.empties R.failures W.failures reader.new writer.new) result }
     ensures not_wire { result ≢ Some (Ended.Wire WireFault.Memory) }
+    ensures told { result ≡ None → lack.new ≤ 2097152 }
     ensures ready { D.ready setting.now.desk.now seat.new }
     ensures lane { D.lane_of seat.new ≡ D.lane_of seat.old }
 {
@@ -249,7 +255,7 @@ fn turn<H, R: Source, W: Sink, S, D: Keeper<S, H>, C: Clock, G: Gate>(
             serve_read(
                 setting,
                 &mut held.feed,
-                told,
+                lack,
                 &mut held.out,
                 piece,
                 writer,
@@ -263,7 +269,7 @@ fn turn<H, R: Source, W: Sink, S, D: Keeper<S, H>, C: Clock, G: Gate>(
 /// Turns until something ends the session.
 fn serve<H, R: Source, W: Sink, S, D: Keeper<S, H>, C: Clock, G: Gate>(
     setting: &Setting<'_, H, D, G>,
-    told: &mut u64,
+    lack: &mut Lack,
     reader: &mut R,
     writer: &mut W,
     seat: &mut S,
@@ -285,7 +291,7 @@ fn serve<H, R: Source, W: Sink, S, D: Keeper<S, H>, C: Clock, G: Gate>(
 {
     let mut held = Held::new(setting.alloc);
     for made in 0..turns {
-        if let Some(ended) = turn(setting, &mut held, told, reader, writer, seat, clock) {
+        if let Some(ended) = turn(setting, &mut held, lack, reader, writer, seat, clock) {
             return ended;
         }
     }
@@ -330,9 +336,9 @@ pub fn run<H, R: Source, W: Sink, S, D: Keeper<S, H>, C: Clock, G: Gate>(
         desk,
         gate,
     };
-    let mut told = 0;
-    let ended = serve(&setting, &mut told, reader, writer, seat, clock, turns);
-    desk.tell_lack(&mut told, 0);
+    let mut lack = Lack::new();
+    let ended = serve(&setting, &mut lack, reader, writer, seat, clock, turns);
+    lack.end::<S, H, D>(desk);
     let leave = Ask {
         context: 0,
         op: Op::Leave,

@@ -218,7 +218,9 @@ impl Feed {
 
     /// How many bytes are lacking of the reserve, which has `RESERVE` where it is whole. What is lacking should be left by
     /// whoever answers what was fed, so that it can be taken back.
-    pub fn lacking(&self) -> usize {
+    pub fn lacking(&self) -> usize
+        ensures { result ≤ 2097152 }
+    {
         self.reserve.lacking()
     }
 
