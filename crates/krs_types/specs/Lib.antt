@@ -6,4 +6,5 @@ pub mod Perm
 pub mod KeyId
 pub mod Kind
 pub mod Name
+pub mod TypeName
 pub mod Growth

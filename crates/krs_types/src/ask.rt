@@ -1,7 +1,7 @@
 ghost use Rattle.std.specs.Prelude.{◌≡◌, ◌↔◌, IfOk, IsTrue};
 ghost use Rattle.krs_types.specs.Growth.{grows};
 
-use crate::{Blob, Body, Caller, Errno, FilterEntries};
+use crate::{Blob, Body, Caller, Errno, FilterEntries, TypeName};
 use std::alloc::{AllocError, Global};
 
 /// The one flag of MOVE, that the destination must have no link of equal type and description: uapi linux/keyctl.h,
@@ -40,20 +40,20 @@ pub enum Op {
     /// KEYCTL_SEARCH.
     Search {
         head: i32,
-        type_name: Blob,
+        type_name: TypeName,
         desc: Blob,
         dest: i32,
     },
     /// A key of that type and description, from the attached keyrings on, linked to the destination where it is not 0:
     /// request_key(2).
     Request {
-        type_name: Blob,
+        type_name: TypeName,
         desc: Blob,
         dest: i32,
     },
     /// A new key in a keyring, or a new payload for the one that stands there: add_key(2).
     Add {
-        type_name: Blob,
+        type_name: TypeName,
         desc: Blob,
         payload: Blob,
         ring: i32,
@@ -112,7 +112,7 @@ pub enum Op {
     /// No further link in a keyring, for good, where no type is named: keyctl(2), KEYCTL_RESTRICT_KEYRING.
     RestrictKeyring {
         ring: i32,
-        type_name: Blob,
+        type_name: TypeName,
     },
     /// The payload of a key, or the serials that a keyring links: keyctl(2), KEYCTL_READ.
     Read {
