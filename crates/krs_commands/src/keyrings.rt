@@ -6,7 +6,7 @@ ghost use Rattle.krs_commands.specs.Command.{flags_of, move_of, restrict_of};
 ghost use Rattle.krs_words.specs.Parsed.{Reads};
 
 use crate::command::Command;
-use krs_types::{Blob, MOVE_EXCL, Op};
+use krs_types::{Blob, MOVE_EXCL, Op, TypeName};
 use krs_words::{NoCommand, key_word};
 use std::alloc::Global;
 
@@ -18,7 +18,7 @@ pub(crate) fn newring(alloc: Global, args: &[&[u8]]) -> Result<Command, NoComman
     };
     let ring = key_word(ring).ok_or(NoCommand::Usage)?;
     Ok(Command::Ask(Op::Add {
-        type_name: Blob::from_slice(alloc, b"keyring")?,
+        type_name: TypeName::from_slice(alloc, b"keyring")?,
         desc: Blob::from_slice(alloc, desc)?,
         payload: Blob::from_slice(alloc, b"")?,
         ring,
@@ -95,7 +95,7 @@ pub(crate) fn restrict(alloc: Global, args: &[&[u8]]) -> Result<Command, NoComma
     let ring = key_word(ring).ok_or(NoCommand::Usage)?;
     Ok(Command::Ask(Op::RestrictKeyring {
         ring,
-        type_name: Blob::from_slice(alloc, b"")?,
+        type_name: TypeName::from_slice(alloc, b"")?,
     }))
 }
 
@@ -120,7 +120,7 @@ pub(crate) fn search_from(alloc: Global, args: &[&[u8]]) -> Result<Command, NoCo
     let dest = destination(words)?;
     Ok(Command::Ask(Op::Search {
         head,
-        type_name: Blob::from_slice(alloc, type_name)?,
+        type_name: TypeName::from_slice(alloc, type_name)?,
         desc: Blob::from_slice(alloc, desc)?,
         dest,
     }))
@@ -134,7 +134,7 @@ pub(crate) fn request(alloc: Global, args: &[&[u8]]) -> Result<Command, NoComman
     };
     let dest = destination(words)?;
     Ok(Command::Ask(Op::Request {
-        type_name: Blob::from_slice(alloc, type_name)?,
+        type_name: TypeName::from_slice(alloc, type_name)?,
         desc: Blob::from_slice(alloc, desc)?,
         dest,
     }))

@@ -6,7 +6,7 @@ ghost use Rattle.krs_commands.specs.Command.{invalidate_of, chown_of, chgrp_of, 
 ghost use Rattle.krs_words.specs.Parsed.{Reads};
 
 use crate::command::Command;
-use krs_types::{Blob, Op, UNCHANGED};
+use krs_types::{Blob, Op, TypeName, UNCHANGED};
 use krs_words::{NoCommand, data_word, hexadecimal_word, key_word, u32_word};
 use std::alloc::Global;
 
@@ -19,7 +19,7 @@ pub(crate) fn add(alloc: Global, args: &[&[u8]]) -> Result<Command, NoCommand>
     let payload = data_word(alloc, payload)?;
     let ring = key_word(ring).ok_or(NoCommand::Usage)?;
     Ok(Command::Ask(Op::Add {
-        type_name: Blob::from_slice(alloc, type_name)?,
+        type_name: TypeName::from_slice(alloc, type_name)?,
         desc: Blob::from_slice(alloc, desc)?,
         payload,
         ring,

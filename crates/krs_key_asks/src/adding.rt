@@ -13,7 +13,8 @@ use krs_keys::{Change, Content, Key, LAST_SERIAL};
 use krs_links::{HashedName, Links};
 use krs_tables::Tables;
 use krs_types::{
-    Answer, Blob, Body, Context, Desc, Errno, Fault, Kind, Name, Perm, Rights, Serial, Want,
+    Answer, Blob, Body, Context, Desc, Errno, Fault, Kind, Name, Perm, Rights, Serial, TypeName,
+    Want,
 };
 use std::alloc::AllocError;
 
@@ -27,13 +28,13 @@ enum Place {
 
 /// What is asked for is a key that may be made: its kind.
 #[tactic(auto, unfolding(krs_model::specs::Asks::Adding::admitted))]
-fn admitted(type_name: &[u8], desc: &[u8], payload: &[u8]) -> Result<Kind, Errno>
+fn admitted(type_name: &TypeName, desc: &[u8], payload: &[u8]) -> Result<Kind, Errno>
     ensures name { Is (λ k. record { kind = k; desc = desc.now }) result
         (admitted type_name.now desc.now payload.now) }
     ensures desc { OnOk result (length desc.now ≤ 4095) }
     ensures payload { OnOk result (length payload.now ≤ 32767) }
 {
-    let kind = Kind::named(type_name)?;
+    let kind = type_name.kind()?;
     kind.check(desc, payload)?;
     Ok(kind)
 }
@@ -158,7 +159,7 @@ pub fn add(
     tables: &mut Tables,
     client: u32,
     number: u32,
-    type_name: Blob,
+    type_name: TypeName,
     desc: Blob,
     payload: Blob,
     ring: i32,
@@ -167,7 +168,7 @@ pub fn add(
     ensures { Leads tables.old result tables.new (add tables.old client number type_name desc payload ring) }
 {
     let context = tables.context_of(client, number)?;
-    let kind = admitted(type_name.as_slice(), desc.as_slice(), payload.as_slice())?;
+    let kind = admitted(&type_name, desc.as_slice(), payload.as_slice())?;
     let name = tables.hashed(Name {
         kind,
         desc: Desc::new(desc),

@@ -16,15 +16,16 @@ use krs_keys::Key;
 use krs_links::HashedName;
 use krs_tables::{Special, Tables};
 use krs_types::{
-    Answer, Blob, Context, Desc, Errno, Fault, Kind, Name, Rights, Serial, Want, check_description,
+    Answer, Blob, Context, Desc, Errno, Fault, Name, Rights, Serial, TypeName, Want,
+    check_description,
 };
 
 /// What is looked for: EINVAL, EPERM and ENODEV of the type's name, EINVAL of the description. Profile, search names.
 #[tactic(auto, unfolding(krs_model::specs::Asks::Finding::sought_name))]
-fn sought_name(tables: &Tables, type_name: Blob, desc: Blob) -> Result<HashedName, Errno>
+fn sought_name(tables: &Tables, type_name: TypeName, desc: Blob) -> Result<HashedName, Errno>
     ensures { Is (λ name. name) result (sought_name type_name desc) }
 {
-    let kind = Kind::named(type_name.as_slice())?;
+    let kind = type_name.kind()?;
     check_description(desc.as_slice())?;
     Ok(tables.hashed(Name {
         kind,
@@ -40,7 +41,7 @@ pub fn search(
     client: u32,
     number: u32,
     head: i32,
-    type_name: Blob,
+    type_name: TypeName,
     desc: Blob,
     dest: i32,
 ) -> Result<Answer, Fault>
@@ -73,7 +74,7 @@ pub fn request(
     tables: &mut Tables,
     client: u32,
     number: u32,
-    type_name: Blob,
+    type_name: TypeName,
     desc: Blob,
     dest: i32,
 ) -> Result<Answer, Fault>

@@ -9,7 +9,7 @@ ghost use Rattle.krs_keys.specs.Keys.{seen};
 use crate::linking::links_of;
 use krs_keys::{Change, Key};
 use krs_tables::Tables;
-use krs_types::{Answer, Blob, Errno, Fault, Rights, Serial, Want};
+use krs_types::{Answer, Errno, Fault, Rights, Serial, TypeName, Want};
 
 /// A keyring closed against further links, for good: keyctl(2), KEYCTL_RESTRICT_KEYRING. It takes no memory.
 #[tactic(auto, unfolding(krs_model::specs::Asks::Restricting::restrict_keyring))]
@@ -18,7 +18,7 @@ pub fn restrict_keyring(
     client: u32,
     context: u32,
     ring: i32,
-    type_name: Blob,
+    type_name: TypeName,
 ) -> Result<Answer, Fault>
     ensures step { Leads tables.old result tables.new
         (restrict_keyring tables.old client context ring type_name) }
@@ -34,7 +34,7 @@ pub fn restrict_keyring(
 }
 
 /// No type restricts the links: EINVAL. Profile, closed keyrings.
-fn check_untyped(type_name: Blob) -> Result<(), Errno>
+fn check_untyped(type_name: TypeName) -> Result<(), Errno>
     ensures { Is (λ done. done) result (no_type type_name) }
 {
     match type_name.as_slice() {

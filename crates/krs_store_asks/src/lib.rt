@@ -5,7 +5,7 @@ ghost use Rattle.std.specs.Prelude.{◌≡◌, [], IfOk};
 ghost use Rattle.krs_store_asks.specs.Wanted.{is_wanted};
 ghost use Rattle.krs_types.specs.declared.ask.Op.TheVariants.{Hello, Add, Read, Describe, Update, Leave};
 
-use krs_types::{Answer, Ask, Blob, Caller, Errno, Groups, Op, Reply};
+use krs_types::{Answer, Ask, Blob, Caller, Errno, Groups, Op, Reply, TypeName};
 use std::alloc::{AllocError, Global};
 
 /// What an ask is answered with.
@@ -68,7 +68,7 @@ pub fn add(
     }) }
 {
     let op = Op::Add {
-        type_name: Blob::from_slice(alloc, type_name)?,
+        type_name: TypeName::from_slice(alloc, type_name)?,
         desc: Blob::from_slice(alloc, desc)?,
         payload: Blob::from_slice(alloc, payload)?,
         ring,

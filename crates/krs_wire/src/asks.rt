@@ -15,7 +15,8 @@ ghost use Rattle.krs_wire.specs.Bodies.{restrict_of};
 ghost use Rattle.krs_wire.specs.Frame.{op_of, said_by, framed_of, front_of};
 
 use crate::fields::{
-    blob_at, ended, entries_at, flag_at, groups_at, id_at, tag_at, text_at, u16_at, u32_at,
+    blob_at, ended, entries_at, flag_at, groups_at, id_at, tag_at, text_at, type_name_at, u16_at,
+    u32_at,
 };
 use crate::framed::{MAX_LENGTH, MIN_LENGTH, TAGGED, UNTAGGED};
 use crate::{Framed, WireFault};
@@ -51,7 +52,7 @@ fn search_at(alloc: Global, body: &[u8]) -> Result<Op, WireFault>
     ensures { GivesRead (λ op. op) result (or_bad_body (whole search_fields search_of body.now)) }
 {
     let (head, rest) = id_at(body)?;
-    let (type_name, rest) = text_at(alloc, rest)?;
+    let (type_name, rest) = type_name_at(alloc, rest)?;
     let (desc, rest) = text_at(alloc, rest)?;
     let (dest, rest) = id_at(rest)?;
     let op = Op::Search {
@@ -66,7 +67,7 @@ fn search_at(alloc: Global, body: &[u8]) -> Result<Op, WireFault>
 fn request_at(alloc: Global, body: &[u8]) -> Result<Op, WireFault>
     ensures { GivesRead (λ op. op) result (or_bad_body (whole request_fields request_of body.now)) }
 {
-    let (type_name, rest) = text_at(alloc, body)?;
+    let (type_name, rest) = type_name_at(alloc, body)?;
     let (desc, rest) = text_at(alloc, rest)?;
     let (dest, rest) = id_at(rest)?;
     let op = Op::Request {
@@ -80,7 +81,7 @@ fn request_at(alloc: Global, body: &[u8]) -> Result<Op, WireFault>
 fn add_at(alloc: Global, body: &[u8]) -> Result<Op, WireFault>
     ensures { GivesRead (λ op. op) result (or_bad_body (whole add_fields add_of body.now)) }
 {
-    let (type_name, rest) = text_at(alloc, body)?;
+    let (type_name, rest) = type_name_at(alloc, body)?;
     let (desc, rest) = text_at(alloc, rest)?;
     let (payload, rest) = blob_at(alloc, rest)?;
     let (ring, rest) = id_at(rest)?;
@@ -183,7 +184,7 @@ fn restrict_at(alloc: Global, body: &[u8]) -> Result<Op, WireFault>
     ensures { GivesRead (λ op. op) result (or_bad_body (whole restrict_fields restrict_of body.now)) }
 {
     let (ring, rest) = id_at(body)?;
-    let (type_name, rest) = text_at(alloc, rest)?;
+    let (type_name, rest) = type_name_at(alloc, rest)?;
     ended(Op::RestrictKeyring { ring, type_name }, rest)
 }
 

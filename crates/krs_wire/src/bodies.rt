@@ -11,7 +11,7 @@ ghost use Rattle.krs_wire.specs.Encoding.{IsTooLong};
 
 use crate::WireFault;
 use crate::put::{put_blob, put_entries, put_flag, put_groups, put_id, put_text, put_u32};
-use krs_types::{Blob, Caller, FilterEntries, Op};
+use krs_types::{Blob, Caller, FilterEntries, Op, TypeName};
 
 fn put_hello(out: &mut Vec<u8>, caller: &Caller) -> Result<(), WireFault>
     ensures ok { OnOk result
@@ -26,7 +26,7 @@ fn put_hello(out: &mut Vec<u8>, caller: &Caller) -> Result<(), WireFault>
 
 fn put_add(
     out: &mut Vec<u8>,
-    type_name: &Blob,
+    type_name: &TypeName,
     desc: &Blob,
     payload: &Blob,
     ring: i32,
@@ -37,8 +37,8 @@ fn put_add(
     ensures long { IfErr result
         (IsTooLong 65536 (add_fields.encode (add_parts type_name.now desc.now payload.now ring))) }
 {
-    put_text(out, type_name)?;
-    put_text(out, desc)?;
+    put_text(out, type_name.as_slice())?;
+    put_text(out, desc.as_slice())?;
     put_blob(out, payload)?;
     put_id(out, ring)
 }
@@ -99,14 +99,14 @@ fn put_move(out: &mut Vec<u8>, key: i32, from: i32, to: i32, flags: u32) -> Resu
     put_route(out, from, to, flags)
 }
 
-fn put_restrict(out: &mut Vec<u8>, ring: i32, type_name: &Blob) -> Result<(), WireFault>
+fn put_restrict(out: &mut Vec<u8>, ring: i32, type_name: &TypeName) -> Result<(), WireFault>
     ensures ok { OnOk result
         (out.new.items ≡ out.old.items ++ restrict_fields.encode (restrict_parts ring type_name.now)) }
     ensures fits { OnOk result (restrict_fields.Fits (restrict_parts ring type_name.now)) }
     ensures long { IfErr result (IsTooLong 65536 (restrict_fields.encode (restrict_parts ring type_name.now))) }
 {
     put_id(out, ring)?;
-    put_text(out, type_name)
+    put_text(out, type_name.as_slice())
 }
 
 fn put_get_id(out: &mut Vec<u8>, id: i32, create: bool) -> Result<(), WireFault>
@@ -118,22 +118,27 @@ fn put_get_id(out: &mut Vec<u8>, id: i32, create: bool) -> Result<(), WireFault>
     put_flag(out, create)
 }
 
-fn put_request(out: &mut Vec<u8>, type_name: &Blob, desc: &Blob, dest: i32) -> Result<(), WireFault>
+fn put_request(
+    out: &mut Vec<u8>,
+    type_name: &TypeName,
+    desc: &Blob,
+    dest: i32,
+) -> Result<(), WireFault>
     ensures ok { OnOk result (out.new.items ≡
         out.old.items ++ request_fields.encode (request_parts type_name.now desc.now dest)) }
     ensures fits { OnOk result (request_fields.Fits (request_parts type_name.now desc.now dest)) }
     ensures long { IfErr result (IsTooLong 65536
         (request_fields.encode (request_parts type_name.now desc.now dest))) }
 {
-    put_text(out, type_name)?;
-    put_text(out, desc)?;
+    put_text(out, type_name.as_slice())?;
+    put_text(out, desc.as_slice())?;
     put_id(out, dest)
 }
 
 fn put_search(
     out: &mut Vec<u8>,
     head: i32,
-    type_name: &Blob,
+    type_name: &TypeName,
     desc: &Blob,
     dest: i32,
 ) -> Result<(), WireFault>
@@ -185,7 +190,7 @@ pub(crate) fn put_body(out: &mut Vec<u8>, op: &Op) -> Result<(), WireFault>
 {
     match op {
         Op::GetId { id, create } => put_get_id(out, *id, *create),
-        Op::Join { name } => put_text(out, name),
+        Op::Join { name } => put_text(out, name.as_slice()),
         Op::Update { id, payload } => put_update(out, *id, payload),
         Op::Revoke { id } => put_id(out, *id),
         Op::Chown { id, uid, gid } => put_chown(out, *id, *uid, *gid),

@@ -8,7 +8,7 @@ ghost use Rattle.krs_wire.specs.Tag.{tag_field};
 
 use crate::WireFault;
 use byteorder::{ByteOrder, LittleEndian};
-use krs_types::{Blob, FilterEntries, FilterEntry, Groups};
+use krs_types::{Blob, FilterEntries, FilterEntry, Groups, TypeName};
 use std::alloc::Global;
 
 pub(crate) fn u16_at(bytes: &[u8]) -> Result<(u16, &[u8]), WireFault>
@@ -63,16 +63,31 @@ pub(crate) fn flag_at(bytes: &[u8]) -> Result<(bool, &[u8]), WireFault>
     }
 }
 
-pub(crate) fn text_at(alloc: Global, bytes: &[u8]) -> Result<(Blob, &[u8]), WireFault>
-    ensures { GivesRead (λ x. (x.0, x.1.now)) result (or_bad_body (text_field.read bytes.now)) }
+/// A text, where it stands.
+fn text_in(bytes: &[u8]) -> Result<(&[u8], &[u8]), WireFault>
+    ensures { GivesRead (λ x. (x.0.now, x.1.now)) result (or_bad_body (text_field.read bytes.now)) }
 {
     let (len, rest) = u16_at(bytes)?;
     let len = len as usize;
     if rest.len() < len {
         return Err(WireFault::BadBody);
     }
-    let (text, rest) = rest.split_at(len);
+    Ok(rest.split_at(len))
+}
+
+pub(crate) fn text_at(alloc: Global, bytes: &[u8]) -> Result<(Blob, &[u8]), WireFault>
+    ensures { GivesRead (λ x. (x.0, x.1.now)) result (or_bad_body (text_field.read bytes.now)) }
+{
+    let (text, rest) = text_in(bytes)?;
     Ok((Blob::from_slice(alloc, text)?, rest))
+}
+
+/// The name of a type. That of a known type takes no memory.
+pub(crate) fn type_name_at(alloc: Global, bytes: &[u8]) -> Result<(TypeName, &[u8]), WireFault>
+    ensures { GivesRead (λ x. (x.0, x.1.now)) result (or_bad_body (text_field.read bytes.now)) }
+{
+    let (name, rest) = text_in(bytes)?;
+    Ok((TypeName::from_slice(alloc, name)?, rest))
 }
 
 pub(crate) fn blob_at(alloc: Global, bytes: &[u8]) -> Result<(Blob, &[u8]), WireFault>

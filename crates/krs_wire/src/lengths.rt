@@ -3,10 +3,10 @@ ghost use Rattle.std.specs.Prelude.{◌≡◌, ◌+◌, length, min};
 ghost use Rattle.krs_wire.specs.Bodies.{body_of_op, entry_field, entries_field};
 ghost use Rattle.krs_wire.specs.Encoding.{ask_text};
 
-use krs_types::{Ask, Blob, FilterEntries, FilterEntry, Op};
+use krs_types::{Ask, Blob, FilterEntries, FilterEntry, Op, TypeName};
 
 /// The length of two texts, or the greatest number where it is above that.
-fn texts_length(one: &Blob, other: &Blob) -> usize
+fn texts_length(one: &TypeName, other: &Blob) -> usize
     ensures { result ≡ min (length one.now + length other.now) usize.MAX }
 {
     let more = other.as_slice().len();

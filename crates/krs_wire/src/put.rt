@@ -64,18 +64,17 @@ pub(crate) fn put_flag(out: &mut Vec<u8>, is_set: bool) -> Result<(), WireFault>
     Ok(())
 }
 
-pub(crate) fn put_text(out: &mut Vec<u8>, text: &Blob) -> Result<(), WireFault>
+pub(crate) fn put_text(out: &mut Vec<u8>, text: &[u8]) -> Result<(), WireFault>
     ensures ok { OnOk result (out.new.items ≡ out.old.items ++ text_field.encode text.now) }
     ensures fits { OnOk result (length text.now < 65536) }
     ensures long { IfErr result (IsTooLong 65536 text.now) }
     ensures refused { 65535 < length text.now → result ≡ Err WireFault.BadLength }
 {
-    let bytes = text.as_slice();
-    if bytes.len() > 65535 {
+    if text.len() > 65535 {
         return Err(WireFault::BadLength);
     }
-    put_u16(out, bytes.len() as u16)?;
-    out.extend_from_slice(bytes)?;
+    put_u16(out, text.len() as u16)?;
+    out.extend_from_slice(text)?;
     Ok(())
 }
 

@@ -6,7 +6,7 @@ use crate::opened;
 use krs_desk::{Desk, Seat};
 use krs_store::Store;
 use krs_store_asks::{Want, hello, is_wanted, number_of, read};
-use krs_types::{Ask, Blob, Op};
+use krs_types::{Ask, Blob, Op, TypeName};
 use std::alloc::{AllocError, Global};
 use std::sync::Wait;
 use std::test::*;
@@ -31,7 +31,7 @@ fn reads_its_own<R: Wait>(
         hello(alloc, 1000u32.saturating_add(lane)),
     ));
     let op = Op::Add {
-        type_name: Blob::from_slice(alloc, b"user")?,
+        type_name: TypeName::from_slice(alloc, b"user")?,
         desc: Blob::from_slice(alloc, b"a")?,
         payload: Blob::from_slice(alloc, digits.as_bytes())?,
         ring: -4,

@@ -7,7 +7,7 @@ use crate::{opened, three_seats, two_seats};
 use krs_desk::{Desk, Helped, Seat};
 use krs_store::Store;
 use krs_store_asks::{hello, number_of};
-use krs_types::{Ask, Blob, Op, Reply};
+use krs_types::{Ask, Blob, Op, Reply, TypeName};
 use std::alloc::{AllocError, Global};
 use std::sync::Wait;
 use std::sync::atomic::{AtomicU64, Ordering};
@@ -147,7 +147,7 @@ const CALLS: u32 = 125_000;
 /// ADD of a keyring of the name `r` to the user keyring.
 fn add_ring(alloc: Global, context: u32) -> Result<Ask, AllocError> {
     let op = Op::Add {
-        type_name: Blob::from_slice(alloc, b"keyring")?,
+        type_name: TypeName::from_slice(alloc, b"keyring")?,
         desc: Blob::from_slice(alloc, b"r")?,
         payload: Blob::from_slice(alloc, b"")?,
         ring: -4,

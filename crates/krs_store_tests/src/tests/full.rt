@@ -2,7 +2,7 @@
 use super::{expect, reply};
 use krs_store::Store;
 use krs_store_asks::{Want, add, change, hello, read};
-use krs_types::{Answer, Ask, Blob, Errno, Op, Reply};
+use krs_types::{Answer, Ask, Blob, Errno, Op, Reply, TypeName};
 use std::alloc::{AllocError, Global};
 use std::process::Abort;
 use std::test::*;
@@ -18,7 +18,7 @@ fn ask_at(alloc: Global, step: u8) -> Result<Ask, AllocError> {
         5 => Ok(moved(2)),
         6 => Ok(change(Op::RestrictKeyring {
             ring: 5,
-            type_name: Blob::from_slice(alloc, b"user")?,
+            type_name: TypeName::from_slice(alloc, b"user")?,
         })),
         7 => add(alloc, b"user", b"k0", b"x", -4),
         8 => Ok(change(Op::Link {

@@ -50,7 +50,7 @@ static ASKS: [(&[u8], &str, Form); 32] = [
         "0 Hello(Caller { uid: 1000, gid: 1000, groups: Groups { gids: [] } })", NUMBER),
     (&[0x1f, 0, 0, 0, 1, 0, 6, 1, 1, 0, 0, 0, 4, 0, 0x75, 0x73, 0x65, 0x72, 5, 0, 0x61, 0x6c, 0x70, 0x68, 0x61,
         2, 0, 0, 0, 0x73, 0x33, 0xfc, 0xff, 0xff, 0xff],
-        "1 Add { type_name: Blob { bytes: [117, 115, 101, 114] }, desc: Blob { bytes: [97, 108, 112, 104, 97] }, \
+        "1 Add { type_name: TypeName { given: Known(User) }, desc: Blob { bytes: [97, 108, 112, 104, 97] }, \
         payload: Blob { bytes: [115, 51] }, ring: -4 }", NUMBER),
     (&READ, "1 Read { id: 5 }", S3),
     (&[0x12, 0, 0, 0, 1, 0, 2, 0, 1, 0, 0, 0, 5, 0, 0, 0, 2, 0, 0, 0, 0x73, 0x34],
@@ -66,7 +66,7 @@ static ASKS: [(&[u8], &str, Form); 32] = [
     (&[0x18, 0, 0, 0, 1, 0, 0x1e, 0, 1, 0, 0, 0, 7, 0, 0, 0, 5, 0, 0, 0, 6, 0, 0, 0, 1, 0, 0, 0],
         "1 Move { key: 7, from: 5, to: 6, flags: 1 }", DONE),
     (&[0x0e, 0, 0, 0, 1, 0, 0x1d, 0, 1, 0, 0, 0, 5, 0, 0, 0, 0, 0],
-        "1 RestrictKeyring { ring: 5, type_name: Blob { bytes: [] } }", DONE),
+        "1 RestrictKeyring { ring: 5, type_name: TypeName { given: Other(Blob { bytes: [] }) } }", DONE),
     (&[0x0c, 0, 0, 0, 1, 0, 7, 0, 1, 0, 0, 0, 5, 0, 0, 0], "1 Clear { id: 5 }", DONE),
     (&[0x0d, 0, 0, 0, 1, 0, 0, 0, 1, 0, 0, 0, 0xff, 0xff, 0xff, 0xff, 1], "1 GetId { id: -1, create: true }", NUMBER),
     (&[0x0d, 0, 0, 0, 1, 0, 0, 0, 1, 0, 0, 0, 5, 0, 0, 0, 0], "1 GetId { id: 5, create: false }", NUMBER),
@@ -76,11 +76,11 @@ static ASKS: [(&[u8], &str, Form); 32] = [
     (&[8, 0, 0, 0, 1, 0, 2, 1, 1, 0, 0, 0], "1 Fork", NUMBER),
     (&[0x1d, 0, 0, 0, 1, 0, 0x0a, 0, 1, 0, 0, 0, 0xfd, 0xff, 0xff, 0xff, 4, 0, 0x75, 0x73, 0x65, 0x72,
         5, 0, 0x61, 0x6c, 0x70, 0x68, 0x61, 6, 0, 0, 0],
-        "1 Search { head: -3, type_name: Blob { bytes: [117, 115, 101, 114] }, \
+        "1 Search { head: -3, type_name: TypeName { given: Known(User) }, \
         desc: Blob { bytes: [97, 108, 112, 104, 97] }, dest: 6 }", NUMBER),
     (&[0x19, 0, 0, 0, 1, 0, 7, 1, 1, 0, 0, 0, 4, 0, 0x75, 0x73, 0x65, 0x72, 5, 0, 0x61, 0x6c, 0x70, 0x68, 0x61,
         0, 0, 0, 0],
-        "1 Request { type_name: Blob { bytes: [117, 115, 101, 114] }, \
+        "1 Request { type_name: TypeName { given: Known(User) }, \
         desc: Blob { bytes: [97, 108, 112, 104, 97] }, dest: 0 }", NUMBER),
     (&[0x0c, 0, 0, 0, 1, 0, 0x15, 0, 1, 0, 0, 0, 6, 0, 0, 0], "1 Invalidate { id: 6 }", DONE),
     (&[0x0c, 0, 0, 0, 1, 0, 0x15, 0, 1, 0, 0, 0, 0xfc, 0xff, 0xff, 0xff], "1 Invalidate { id: -4 }", DONE),
