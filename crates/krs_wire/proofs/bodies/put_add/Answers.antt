@@ -15,7 +15,9 @@ returns-clause-ok c =
     let second = c.put_text-2.new.out.items in
     let third = c.put_blob.new.out.items in
     let all = c.put_id.new.out.items in
+    let named : first ≡ out ++ type_name = search rules in
+    let described : second ≡ first ++ desc = search rules in
     let last : OnOk r (all ≡ third ++ ring) = search rules in
-    then_put r out type_name (desc ++ (payload ++ ring)) first all c.in_ok-put_text.ensures.ok
-    (then_put r first desc (payload ++ ring) second all c.in_ok-put_text-2.ensures.ok
+    then_put r out type_name (desc ++ (payload ++ ring)) first all named
+    (then_put r first desc (payload ++ ring) second all described
     (then_put r second payload ring third all c.in_ok-put_blob.ensures.ok last))
