@@ -20,7 +20,7 @@ returns-in-Some c =
     let new = is_new special s c.args.client c.args.number x c.args.ring makes c.requires.sound own in
     let name : Name = record { kind = c.in_ok-kind.kind; desc = c.args.desc } in
     let admits : admitted c.args.type_name c.args.desc c.args.payload ≡ Ok name =
-    rw (sym c.as_slice.ensures, sym c.as_slice-2.ensures, sym c.as_slice-3.ensures) c.in_ok-kind.ensures.name in
+    rw (sym c.as_slice.ensures, sym c.as_slice-2.ensures) c.in_ok-kind.ensures.name in
     let same = add_made special s c.args.client c.args.number x c.args.type_name c.args.desc c.args.payload name
     c.args.ring new own admits in
     let named : List ℕ → Name = λ bytes. record { kind = c.in_ok-kind.kind; desc = bytes } in
