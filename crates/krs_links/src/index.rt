@@ -1,6 +1,7 @@
 //! The links of a keyring in link order, with an index from what their names hash to.
-ghost use Rattle.std.specs.Prelude.{◌≡◌, ◌<◌, ◌≤◌, ◌^◌, [], ◌∷◌, ◌++◌, length, nat_eq, slice_get};
-ghost use Rattle.std.specs.Prelude.{None, IfSome, IfNone, IsOk, IfOk, OnOk, OnErr};
+ghost use Rattle.std.specs.Prelude.{◌≡◌, ◌<◌, ◌≤◌, ◌+◌, ◌^◌, [], ◌∷◌, ◌++◌, length, nat_eq, slice_get};
+ghost use Rattle.std.specs.Prelude.{None, IfSome, IfNone, IsOk, IfOk, OnOk, OnErr, vec_len, vec_capacity};
+ghost use Rattle.std.specs.Int.{w32, to_le_bytes};
 ghost use Rattle.std.specs.List.{remove};
 ghost use Rattle.std.specs.Option.{option_copied};
 ghost use Rattle.indexmap.specs.IndexMap.{get, spare};
@@ -94,11 +95,10 @@ impl LinkIndex {
         ensures bytes { IfOk result (λ bytes. bytes.items ≡ bytes_of (serials (linked self.now))) }
         ensures bound { IfOk result (λ bytes. length bytes.items ≤ 262140) }
     {
-        let mut bytes = Vec::with_capacity(alloc, 4 * self.entries.len())?;
-        for place in 0..self.entries.len() {
-            if let Some(serial) = self.serial_at(place) {
-                bytes.extend_from_slice(&serial.number().to_le_bytes())?;
-            }
+        let links = self.entries.values().as_slice();
+        let mut bytes = Vec::with_capacity(alloc, 4 * links.len())?;
+        for link in links {
+            push_serial(&mut bytes, link.serial);
         }
         Ok(bytes)
     }
@@ -161,6 +161,20 @@ impl LinkIndex {
             None => None,
         }
     }
+}
+
+/// A serial as 4 bytes, the lowest first, behind bytes that have room for it.
+fn push_serial(bytes: &mut Vec<u8>, serial: Serial)
+    requires { vec_len bytes.old + 4 ≤ vec_capacity bytes.old }
+    ensures items { bytes.new.items ≡ bytes.old.items ++ to_le_bytes w32 serial }
+    ensures len { vec_len bytes.new ≡ vec_len bytes.old + 4 }
+    ensures capacity { vec_capacity bytes.new ≡ vec_capacity bytes.old }
+{
+    let [first, second, third, fourth] = serial.number().to_le_bytes();
+    bytes.push_reserved(first);
+    bytes.push_reserved(second);
+    bytes.push_reserved(third);
+    bytes.push_reserved(fourth);
 }
 
 /// So many steps behind a digest.

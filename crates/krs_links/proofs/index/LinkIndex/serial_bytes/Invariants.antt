@@ -1,8 +1,13 @@
-use Rattle.std.proofs.Common.{◌≡◌, take}
+use Rattle.std.proofs.Common.{◌≡◌, ◌*◌, ◌≤◌, take, length, vec_len}
+use Rattle.std.specs.Prelude.{vec_capacity}
 use Rattle.krs_links.specs.Indexed.{linked}
 use Rattle.krs_links.specs.Links.{serials, bytes_of}
 use Rattle.krs_links.proofs.index.LinkIndex.serial_bytes.Given as goal
 
--- the serials of what the loop has passed
-abbrev pub invariant-loop-place : goal.invariant-loop-place
-invariant-loop-place l = l.bytes.items ≡ bytes_of (take l.place (serials (linked l.self)))
+-- the serials of what the loop has passed, and room for the others
+abbrev pub invariant-loop-link : goal.invariant-loop-link
+invariant-loop-link l = record {
+  bytes : l.bytes.items ≡ bytes_of (take l.link-index (serials (linked l.self)));
+  len : vec_len l.bytes ≡ 4 * l.link-index;
+  room : 4 * length l.links ≤ vec_capacity l.bytes;
+}
