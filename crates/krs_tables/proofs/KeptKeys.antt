@@ -11,10 +11,10 @@ use Rattle.krs_model.specs.Lookup.{serial_of, look_up, if_usable}
 use Rattle.krs_model.specs.State as state
 use Rattle.krs_model.specs.Table.{at}
 use Rattle.krs_model.specs.State.{State}
-use Rattle.krs_model.specs.Possession.{process_ring, possessed, possessed_with}
+use Rattle.krs_model.specs.Possession.{possessed}
 use Rattle.krs_model.proofs.Tables.Changes.{at_map}
 use Rattle.krs_keys.specs.declared.key.Key.{Key}
-use Rattle.krs_keys.specs.Keys.{seen, shown}
+use Rattle.krs_keys.specs.Keys.{seen}
 use Rattle.krs_tables.specs.Granting.{allows_held}
 use Rattle.krs_tables.specs.View.{state_of}
 use Rattle.krs_tables.specs.declared.tables.Tables.TheInside.{Inside}
@@ -30,15 +30,6 @@ pub kept_nowhere : (s : Inside) (t : State) (serial : ℕ) → state_of s ≡ t 
     → at t.keys serial ≡ None
 kept_nowhere s t serial is absent =
     ap (λ (u : State). at u.keys serial) (sym is) ∙ (at_map seen s.keys.keys serial ∙ ap (option_map seen) absent)
-
--- possession over what is kept is that of the definitions
-pub possessed_as_kept : (s : Inside) (t : State) (c : Context) (ring : Option ℕ) (serial : ℕ) → state_of s ≡ t
-    → ring ≡ process_ring t c.process
-    → possessed_with (shown s.keys.keys) s.clock c ring serial ≡ possessed t c serial
-unfolding possessed
-possessed_as_kept s t c ring serial is own =
-    ap (λ (u : State). possessed_with u.keys u.clock c ring serial) is
-    ∙ ap (λ (o : Option ℕ). possessed_with t.keys t.clock c o serial) own
 
 -- a key that an id names is looked up as far as its rights
 pub looked_up : (t : State) (c : Context) (id : ℤ) (want : Want) (serial : ℕ) (key : state.Key)

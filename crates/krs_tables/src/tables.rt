@@ -1,18 +1,18 @@
 ghost use Rattle.std.specs.Prelude.{◌≡◌, ◌≤◌, [], Some, IfSome, IfOk};
 ghost use Rattle.std.specs.Option.{option_map};
 ghost use Rattle.krs_model.specs.Table.{at};
-ghost use Rattle.krs_model.specs.State.{State, starting_at, raised};
-ghost use Rattle.krs_model.specs.Possession.{process_ring, possessed, possessed_with};
+ghost use Rattle.krs_model.specs.State.{starting_at, raised};
+ghost use Rattle.krs_model.specs.Possession.{process_ring, possessed};
 ghost use Rattle.krs_model.specs.Lookup.{context_of, serial_of, look_up};
 ghost use Rattle.krs_model.specs.Outcome.{Is};
 ghost use Rattle.krs_tables.specs.Serving.{SweepsOut};
 ghost use Rattle.krs_model.specs.Sweep.{live_watches};
 ghost use Rattle.krs_model.specs.Reach.{IsAcyclic, links_of_key_at};
 ghost use Rattle.krs_model.specs.Asks.Changing.{changed};
-ghost use Rattle.krs_ctx.specs.Anchors.{anchored};
-ghost use Rattle.krs_keys.specs.Keys.{seen, shown, AreFit, FindsByName};
+ghost use Rattle.krs_keys.specs.Keys.{seen, FindsByName};
 ghost use Rattle.krs_keys.specs.Changes.{meant_change};
-ghost use Rattle.krs_tables.specs.Granting.{allows_held, grants_to};
+ghost use Rattle.krs_tables.specs.Granting.{grants_to};
+ghost use Rattle.krs_tables.specs.Linked.{name_in};
 
 use krs_ctx::Contexts;
 use krs_hold::Holders;
@@ -104,6 +104,17 @@ impl Tables {
             .possesses(&self.keys, context, ring, self.clock, serial)
     }
 
+    /// The same of a key whose name is at hand, so that it needn't be looked up again.
+    #[tactic(auto, unfolding(krs_model::specs::Possession::possessed))]
+    fn possesses_named(&self, context: &Context, serial: Serial, name: &HashedName) -> bool
+        requires { name_in self.now serial ≡ Some name.now }
+        ensures { result ≡ possessed self.now context.now serial }
+    {
+        let ring = self.process_ring(context.process);
+        self.walker
+            .possesses_named(&self.keys, context, ring, self.clock, name, serial)
+    }
+
     /// The serial that an id stands for.
     #[tactic(auto, unfolding(krs_model::specs::Lookup::serial_of))]
     pub fn serial_of(&self, context: &Context, id: i32) -> Result<Serial, Errno>
@@ -154,30 +165,22 @@ impl Tables {
         if key.is_over(self.clock) {
             return Err(Errno::EKEYEXPIRED);
         }
-        if !grants_kept(
-            &self.walker,
-            &self.keys,
-            &self.contexts,
-            context,
-            self.clock,
-            serial,
-            key,
-            want,
-        ) {
+        if !self.grants(context, serial, key, want) {
             return Err(Errno::EACCES);
         }
         Ok((serial.number(), key))
     }
 
-    /// Whether a key grants a context what is wanted. Possession is looked for only where it may add something: what is
-    /// granted without it is granted with it.
+    /// Whether the key at a serial grants a context what is wanted. Possession is looked for only where it may add
+    /// something: what is granted without it is granted with it.
     pub fn grants(&self, context: &Context, serial: Serial, key: &Key, want: Want) -> bool
+        requires { at self.now.keys serial ≡ Some (seen key.now) }
         ensures { result ≡ grants_to self.now context.now serial (seen key.now) want }
     {
         if want.allows(key.grants(&context.caller, false), false) {
             return true;
         }
-        let possessed = self.possesses(context, serial);
+        let possessed = self.possesses_named(context, serial, &key.name);
         want.allows(key.grants(&context.caller, possessed), possessed)
     }
 
@@ -237,23 +240,4 @@ impl Tables {
             self.queues.sweep(&self.keys);
         }
     }
-}
-
-/// Whether a key, which is kept at this serial, grants a context what is wanted. It is `Tables::grants` of a key that
-/// needn't be looked up again.
-#[rattlefmt::skip]
-fn grants_kept(
-    walker: &Walker, keys: &KeyTable, contexts: &Contexts, context: &Context, clock: u64, serial: Serial, key: &Key, want: Want,
-) -> bool
-    requires fit { AreFit keys.now.keys }
-    requires key { at keys.now.keys serial ≡ Some key.now }
-    ensures { (s : State) → result ≡ allows_held want (seen key.now) context.now (possessed_with (shown keys.now.keys)
-        clock context.now (process_ring (anchored s contexts.now) context.now.process) serial) }
-{
-    if want.allows(key.grants(&context.caller, false), false) {
-        return true;
-    }
-    let ring = contexts.process_ring(context.process);
-    let possessed = walker.possesses_key(keys, context, ring, clock, key, serial);
-    want.allows(key.grants(&context.caller, possessed), possessed)
 }

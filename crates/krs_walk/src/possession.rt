@@ -5,7 +5,7 @@ ghost use Rattle.krs_model.specs.Levels.{is_in};
 ghost use Rattle.krs_model.specs.Table.{at};
 ghost use Rattle.krs_model.specs.Possession.{attached_with, is_followed, possessed_with};
 ghost use Rattle.krs_links.specs.Links.{serial_named};
-ghost use Rattle.krs_keys.specs.Keys.{named_links_of_content, seen, shown, AreFit};
+ghost use Rattle.krs_keys.specs.Keys.{name_at, named_links_of_content, seen, shown, AreFit};
 ghost use Rattle.krs_walk.specs.Lists.{join};
 ghost use Rattle.krs_walk.specs.Walks.{followed_rings, is_found, is_linked, is_linked_within};
 ghost use Rattle.krs_walk.specs.Walks.{follows_link_to, with_next};
@@ -41,7 +41,7 @@ impl Walker {
             return true;
         }
         match keys.get(serial) {
-            Some(key) => self.is_linked(keys, context, process_ring, clock, key, serial),
+            Some(key) => self.is_linked(keys, context, process_ring, clock, &key.name, serial),
             None => false,
         }
     }
@@ -60,11 +60,28 @@ impl Walker {
         requires key { at keys.now.keys serial ≡ Some key.now }
         ensures { result ≡ possessed_with (shown keys.now.keys) clock context.now process_ring serial }
     {
+        self.possesses_named(keys, context, process_ring, clock, &key.name, serial)
+    }
+
+    /// The same of a key whose name is at hand: what links it has that name.
+    pub fn possesses_named(
+        &self,
+        keys: &KeyTable,
+        context: &Context,
+        process_ring: Option<Serial>,
+        clock: u64,
+        name: &HashedName,
+        serial: Serial,
+    ) -> bool
+        requires fit { AreFit keys.now.keys }
+        requires name { name_at keys.now.keys serial ≡ Some name.now }
+        ensures { result ≡ possessed_with (shown keys.now.keys) clock context.now process_ring serial }
+    {
         keys.only_keyrings_link();
         if is_attached(context, &process_ring, serial) {
             return true;
         }
-        self.is_linked(keys, context, process_ring, clock, key, serial)
+        self.is_linked(keys, context, process_ring, clock, name, serial)
     }
 
     /// Whether a followed keyring of the first `SEARCH_DEPTH` levels links a key.
@@ -74,11 +91,11 @@ impl Walker {
         context: &Context,
         process_ring: Option<Serial>,
         clock: u64,
-        key: &Key,
+        name: &HashedName,
         serial: Serial,
     ) -> bool
         requires fit { AreFit keys.now.keys }
-        requires key { at keys.now.keys serial ≡ Some key.now }
+        requires name { name_at keys.now.keys serial ≡ Some name.now }
         ensures { result ≡ is_linked (shown keys.now.keys) clock context.now process_ring serial }
     {
         if is_linked_within_reach(
@@ -86,13 +103,13 @@ impl Walker {
             context,
             &process_ring,
             clock,
-            key,
+            name,
             serial,
             NEAR_LEVELS,
         ) {
             return true;
         }
-        match self.is_linked_below(keys, context, process_ring, clock, key, serial) {
+        match self.is_linked_below(keys, context, process_ring, clock, name, serial) {
             Ok(linked) => linked,
             Err(NoRoom) => {
                 is_linked_within_reach(
@@ -100,7 +117,7 @@ impl Walker {
                     context,
                     &process_ring,
                     clock,
-                    key,
+                    name,
                     serial,
                     SEARCH_DEPTH,
                 )
@@ -115,17 +132,17 @@ impl Walker {
         context: &Context,
         process_ring: Option<Serial>,
         clock: u64,
-        key: &Key,
+        name: &HashedName,
         serial: Serial,
     ) -> Result<bool, NoRoom>
         requires fit { AreFit keys.now.keys }
-        requires key { at keys.now.keys serial ≡ Some key.now }
+        requires name { name_at keys.now.keys serial ≡ Some name.now }
         requires near { list_any (is_linked_within (shown keys.now.keys) clock context.now.caller serial 2)
             (attached_with context.now process_ring) ≡ false }
         ensures { IfOk result (λ b. b ≡ is_linked (shown keys.now.keys) clock context.now process_ring serial) }
     {
         let mut seen = self.take(&self.followed);
-        let linked = is_linked_below(keys, context, process_ring, clock, key, serial, &mut seen);
+        let linked = is_linked_below(keys, context, process_ring, clock, name, serial, &mut seen);
         self.followed.set(seen);
         linked
     }
@@ -138,12 +155,12 @@ fn is_linked_below(
     context: &Context,
     process_ring: Option<Serial>,
     clock: u64,
-    key: &Key,
+    name: &HashedName,
     serial: Serial,
     seen: &mut Visits,
 ) -> Result<bool, NoRoom>
     requires fit { AreFit keys.now.keys }
-    requires key { at keys.now.keys serial ≡ Some key.now }
+    requires name { name_at keys.now.keys serial ≡ Some name.now }
     requires near { list_any (is_linked_within (shown keys.now.keys) clock context.now.caller serial 2)
         (attached_with context.now process_ring) ≡ false }
     requires seen { seen.old ≡ [] }
@@ -154,7 +171,7 @@ fn is_linked_below(
     let mut start = next_level(keys, &context.caller, clock, seen, below)?;
     for level in NEAR_LEVELS..SEARCH_DEPTH {
         let _ = level;
-        if level_links(keys, &context.caller, clock, seen, start, key, serial) {
+        if level_links(keys, &context.caller, clock, seen, start, name, serial) {
             return Ok(true);
         }
         start = next_level(keys, &context.caller, clock, seen, start)?;
@@ -191,19 +208,19 @@ fn is_linked_within_reach(
     context: &Context,
     process_ring: &Option<Serial>,
     clock: u64,
-    key: &Key,
+    name: &HashedName,
     serial: Serial,
     depth: u8,
 ) -> bool
     requires fit { AreFit keys.now.keys }
-    requires key { at keys.now.keys serial ≡ Some key.now }
+    requires name { name_at keys.now.keys serial ≡ Some name.now }
     ensures { result ≡ list_any (is_linked_within (shown keys.now.keys) clock context.now.caller serial depth)
         (attached_with context.now process_ring.now) }
 {
     let caller = &context.caller;
-    one_leads_to(keys, caller, clock, context.thread, key, serial, depth)
-        || one_leads_to(keys, caller, clock, *process_ring, key, serial, depth)
-        || one_leads_to(keys, caller, clock, context.session, key, serial, depth)
+    one_leads_to(keys, caller, clock, context.thread, name, serial, depth)
+        || one_leads_to(keys, caller, clock, *process_ring, name, serial, depth)
+        || one_leads_to(keys, caller, clock, context.session, name, serial, depth)
 }
 
 /// The same from one keyring, where there is one.
@@ -212,17 +229,17 @@ fn one_leads_to(
     caller: &Caller,
     clock: u64,
     ring: Option<Serial>,
-    key: &Key,
+    name: &HashedName,
     serial: Serial,
     depth: u8,
 ) -> bool
     requires fit { AreFit keys.now.keys }
-    requires key { at keys.now.keys serial ≡ Some key.now }
+    requires name { name_at keys.now.keys serial ≡ Some name.now }
     ensures { result ≡
         list_any (is_linked_within (shown keys.now.keys) clock caller.now serial depth) (option_to_list ring) }
 {
     match ring {
-        Some(ring) => is_linked_within(keys, caller, clock, ring, depth, key, serial),
+        Some(ring) => is_linked_within(keys, caller, clock, ring, depth, name, serial),
         None => false,
     }
 }
@@ -234,22 +251,22 @@ fn is_linked_within(
     clock: u64,
     ring: Serial,
     depth: u8,
-    key: &Key,
+    name: &HashedName,
     serial: Serial,
 ) -> bool
     requires fit { AreFit keys.now.keys }
-    requires key { at keys.now.keys serial ≡ Some key.now }
+    requires name { name_at keys.now.keys serial ≡ Some name.now }
     ensures { result ≡ is_linked_within (shown keys.now.keys) clock caller.now serial depth ring }
 {
     if depth == 0 {
         return false;
     }
-    let (linked, rings) = look_into(keys, caller, clock, ring, key, serial);
+    let (linked, rings) = look_into(keys, caller, clock, ring, name, serial);
     if linked {
         return true;
     }
     for nested in rings {
-        if is_linked_within(keys, caller, clock, *nested, depth - 1, key, serial) {
+        if is_linked_within(keys, caller, clock, *nested, depth - 1, name, serial) {
             return true;
         }
     }
@@ -272,16 +289,16 @@ fn level_links(
     clock: u64,
     seen: &Visits,
     start: usize,
-    key: &Key,
+    name: &HashedName,
     serial: Serial,
 ) -> bool
     requires fit { AreFit keys.now.keys }
-    requires key { at keys.now.keys serial ≡ Some key.now }
+    requires name { name_at keys.now.keys serial ≡ Some name.now }
     requires start { start ≤ length seen.now }
     ensures { result ≡ list_any (follows_link_to (shown keys.now.keys) clock caller.now serial) (drop start seen.now) }
 {
     for place in start..seen.len() {
-        if links_key(keys, caller, clock, seen.at(place), key, serial) {
+        if links_key(keys, caller, clock, seen.at(place), name, serial) {
             return true;
         }
     }
@@ -339,17 +356,17 @@ fn look_into<'a>(
     caller: &Caller,
     clock: u64,
     ring: Serial,
-    key: &Key,
+    name: &HashedName,
     serial: Serial,
 ) -> (bool, &'a [Serial])
     requires fit { AreFit keys.now.keys }
-    requires key { at keys.now.keys serial ≡ Some key.now }
+    requires name { name_at keys.now.keys serial ≡ Some name.now }
     ensures linked { result.0 ≡ follows_link_to (shown keys.now.keys) clock caller.now serial ring }
     ensures rings { result.1.now ≡ followed_rings (shown keys.now.keys) clock caller.now ring }
 {
     match keys.get(ring) {
         Some(holder) if is_followed(holder, caller, clock) => {
-            let linked = is_found(find_in(&holder.content, &key.name), serial);
+            let linked = is_found(find_in(&holder.content, name), serial);
             (linked, rings_in(&holder.content))
         }
         _ => (false, &[]),
@@ -362,16 +379,16 @@ fn links_key(
     caller: &Caller,
     clock: u64,
     ring: Serial,
-    key: &Key,
+    name: &HashedName,
     serial: Serial,
 ) -> bool
     requires fit { AreFit keys.now.keys }
-    requires key { at keys.now.keys serial ≡ Some key.now }
+    requires name { name_at keys.now.keys serial ≡ Some name.now }
     ensures { result ≡ follows_link_to (shown keys.now.keys) clock caller.now serial ring }
 {
     match keys.get(ring) {
         Some(holder) if is_followed(holder, caller, clock) => {
-            is_found(find_in(&holder.content, &key.name), serial)
+            is_found(find_in(&holder.content, name), serial)
         }
         _ => false,
     }

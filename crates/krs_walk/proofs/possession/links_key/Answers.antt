@@ -1,6 +1,5 @@
 use Rattle.std.proofs.Common.{ap, sym, ◌∙◌}
-use Rattle.std.specs.Option.{option_copied, option_map}
-use Rattle.krs_keys.specs.declared.key.Key.{Key}
+use Rattle.std.specs.Option.{option_copied}
 use Rattle.krs_model.specs.Levels.{is_in}
 use Rattle.krs_walk.specs.Walks.{is_found}
 use Rattle.krs_walk.proofs.PossessionLemmas.{followed_links, followed_absent, unfollowed}
@@ -10,9 +9,9 @@ pub returns-in-Some : goal.returns-in-Some
 returns-in-Some c =
     c.is_found.ensures ∙ (ap (is_found c.args.serial) c.find_in.ensures
     ∙ followed_links c.args.keys.now.keys c.args.clock c.args.caller.now c.args.ring c.args.serial
-    c.in-Some.holder.now c.args.key.now.name c.requires.fit
+    c.in-Some.holder.now c.args.name.now c.requires.fit
     (sym c.get.ensures ∙ ap option_copied c.in-Some.is) (sym c.is_followed.ensures ∙ c.if-is_followed.true)
-    (ap (option_map (λ (k : Key). k.name)) c.requires.key))
+    c.requires.name)
 
 pub returns-in_default : goal.returns-in_default
 returns-in_default c =

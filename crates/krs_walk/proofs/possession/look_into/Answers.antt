@@ -1,6 +1,5 @@
 use Rattle.std.proofs.Common.{ap, sym, ◌∙◌, filter}
-use Rattle.std.specs.Option.{option_copied, option_map}
-use Rattle.krs_keys.specs.declared.key.Key.{Key}
+use Rattle.std.specs.Option.{option_copied}
 use Rattle.krs_model.specs.Table.{at}
 use Rattle.krs_model.specs.Levels.{is_in}
 use Rattle.krs_model.specs.Reach.{is_ring}
@@ -15,9 +14,9 @@ pub returns-in-Some-clause-linked : goal.returns-in-Some-clause-linked
 returns-in-Some-clause-linked c =
     c.is_found-linked.ensures ∙ (ap (is_found c.args.serial) c.find_in.ensures
     ∙ followed_links c.args.keys.now.keys c.args.clock c.args.caller.now c.args.ring c.args.serial
-    c.in-Some.holder.now c.args.key.now.name c.requires.fit
+    c.in-Some.holder.now c.args.name.now c.requires.fit
     (sym c.get.ensures ∙ ap option_copied c.in-Some.is) (sym c.is_followed.ensures ∙ c.if-is_followed.true)
-    (ap (option_map (λ (k : Key). k.name)) c.requires.key))
+    c.requires.name)
 
 pub returns-in-Some-clause-rings : goal.returns-in-Some-clause-rings
 returns-in-Some-clause-rings c =

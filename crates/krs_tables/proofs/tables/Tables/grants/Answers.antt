@@ -1,8 +1,10 @@
 -- What is granted without possession.
 use Rattle.std.proofs.Common.{◌≡◌, true, false, sym, ap, ◌∙◌, rules, tests}
+use Rattle.std.specs.Option.{option_map}
 use Rattle.krs_types.specs.Rights.{allows}
 use Rattle.krs_model.specs.Access.{rights_on}
 use Rattle.krs_model.specs.Possession.{possessed}
+use Rattle.krs_model.specs.Asks.Linked.{name_of}
 use Rattle.krs_keys.specs.Keys.{seen}
 use Rattle.krs_tables.proofs.Grants.{allows_more}
 use Rattle.krs_tables.proofs.tables.Tables.grants.Goals as goal
@@ -13,6 +15,9 @@ returns-then-allows c =
     ap (λ n. allows c.args.want n false) (sym c.grants.ensures) ∙ sym c.if-allows.ensures in
     sym (allows_more c.args.want (seen c.args.key.now) c.args.context.now.caller
     (possessed c.args.self.now c.args.context.now c.args.serial) granted)
+
+pub possesses_named-possessed-requires : goal.possesses_named-possessed-requires
+possesses_named-possessed-requires c = ap (option_map name_of) c.requires
 
 pub returns : goal.returns
 returns c = search (rules, tests)

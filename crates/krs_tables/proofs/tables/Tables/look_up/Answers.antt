@@ -5,13 +5,9 @@ use Rattle.std.specs.Option.{option_copied}
 use Rattle.krs_model.specs.State.{State}
 use Rattle.krs_model.specs.Access.{is_over}
 use Rattle.krs_model.specs.Lookup.{serial_of}
-use Rattle.krs_model.specs.Possession.{process_ring}
-use Rattle.krs_ctx.specs.Anchors.{anchored}
-use Rattle.krs_tables.specs.View.{state_of}
 use Rattle.krs_keys.specs.Keys.{seen}
 use Rattle.krs_keys.proofs.KeysLemmas.{finds_by_name}
-use Rattle.krs_tables.specs.Granting.{allows_held}
-use Rattle.krs_tables.proofs.KeptKeys.{kept_there, kept_nowhere, possessed_as_kept, looked_up, looked_for}
+use Rattle.krs_tables.proofs.KeptKeys.{kept_there, kept_nowhere, looked_up, looked_for}
 use Rattle.krs_tables.proofs.KeptKeys.{revoked_usable, over_usable, granted_usable, refused_usable}
 use Rattle.krs_tables.proofs.tables.Tables.look_up.Goals as goal
 
@@ -44,22 +40,23 @@ returns-then-is_over-clause-found c =
     (kept_there c.self.inside t n c.in-Some.key.now c.self.view_is (sym c.get.ensures ∙ ap option_copied c.in-Some.is))
     ∙ over_usable t c.args.context.now c.args.want n key c.if-key.false over
 
-pub returns-then-not-grants_kept-clause-found : goal.returns-then-not-grants_kept-clause-found
-returns-then-not-grants_kept-clause-found c =
+pub grants-requires : goal.grants-requires
+grants-requires c =
+    kept_there c.self.inside c.args.self.now c.in_ok-serial.serial c.in-Some.key.now c.self.view_is
+    (sym c.get.ensures ∙ ap option_copied c.in-Some.is)
+
+pub returns-then-not-grants-clause-found : goal.returns-then-not-grants-clause-found
+returns-then-not-grants-clause-found c =
     let t = c.args.self.now in
     let n = c.in_ok-serial.serial in
     let key = seen c.in-Some.key.now in
     let under = ap (λ (s : State). is_over s.clock key.expiry) (sym c.self.view_is)
     ∙ (sym c.is_over.ensures ∙ c.if-is_over.false) in
-    let ring = process_ring (anchored (state_of c.self.inside) c.self.inside.contexts) c.args.context.now.process in
-    let held = possessed_as_kept c.self.inside t c.args.context.now ring n c.self.view_is
-    (ap (λ (u : State). process_ring u c.args.context.now.process) c.self.view_is) in
-    let refused = sym (c.grants_kept.ensures (state_of c.self.inside) ∙ ap (allows_held c.args.want key c.args.context.now) held)
-    ∙ c.if-not-grants_kept.true in
     looked_up t c.args.context.now c.args.id c.args.want n key
     (ap (serial_of t c.args.context.now) (sym (to_z-of_z w32 c.args.id c.ranges.id)) ∙ c.in_ok-serial.ensures)
     (kept_there c.self.inside t n c.in-Some.key.now c.self.view_is (sym c.get.ensures ∙ ap option_copied c.in-Some.is))
-    ∙ refused_usable t c.args.context.now c.args.want n key c.if-key.false under refused
+    ∙ refused_usable t c.args.context.now c.args.want n key c.if-key.false under
+    (sym c.grants.ensures ∙ c.if-not-grants.true)
 
 pub returns-clause-found : goal.returns-clause-found
 returns-clause-found c =
@@ -68,15 +65,11 @@ returns-clause-found c =
     let key = seen c.in-Some.key.now in
     let under = ap (λ (s : State). is_over s.clock key.expiry) (sym c.self.view_is)
     ∙ (sym c.is_over.ensures ∙ c.if-is_over.false) in
-    let ring = process_ring (anchored (state_of c.self.inside) c.self.inside.contexts) c.args.context.now.process in
-    let held = possessed_as_kept c.self.inside t c.args.context.now ring n c.self.view_is
-    (ap (λ (u : State). process_ring u c.args.context.now.process) c.self.view_is) in
-    let granted = sym (c.grants_kept.ensures (state_of c.self.inside) ∙ ap (allows_held c.args.want key c.args.context.now) held)
-    ∙ c.if-not-grants_kept.false in
     looked_up t c.args.context.now c.args.id c.args.want n key
     (ap (serial_of t c.args.context.now) (sym (to_z-of_z w32 c.args.id c.ranges.id)) ∙ c.in_ok-serial.ensures)
     (kept_there c.self.inside t n c.in-Some.key.now c.self.view_is (sym c.get.ensures ∙ ap option_copied c.in-Some.is))
-    ∙ (granted_usable t c.args.context.now c.args.want n key c.if-key.false under granted
+    ∙ (granted_usable t c.args.context.now c.args.want n key c.if-key.false under
+    (sym c.grants.ensures ∙ c.if-not-grants.false)
     ∙ ap (λ (m : ℕ). Ok (m, key)) (sym c.number.ensures))
 
 pub returns-clause-named : goal.returns-clause-named

@@ -1,7 +1,7 @@
 use Rattle.std.proofs.Common.{sym, ◌∙◌}
 use Rattle.krs_keys.specs.Keys.{shown}
 use Rattle.krs_walk.proofs.PossessionLemmas.{head_possessed, linked_possessed}
-use Rattle.krs_walk.proofs.walker.Walker.possesses_key.Goals as goal
+use Rattle.krs_walk.proofs.walker.Walker.possesses_named.Goals as goal
 
 pub returns-then-is_attached : goal.returns-then-is_attached
 returns-then-is_attached c =
