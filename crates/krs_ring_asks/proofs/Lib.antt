@@ -3,3 +3,4 @@ pub mod SearchAndRequest
 pub mod SearchWithMade
 pub mod MovedLinks
 mod KeyDetached
+mod PayloadLinks

@@ -1,6 +1,7 @@
-ghost use Rattle.std.specs.Prelude.{◌≡◌, IfOk, IsErrOf, true};
+ghost use Rattle.std.specs.Prelude.{◌≡◌, Some, IfOk, IsErrOf, true};
 ghost use Rattle.krs_types.specs.Growth.{has_destination};
 ghost use Rattle.krs_model.specs.Outcome.{Leads, Is};
+ghost use Rattle.krs_model.specs.Table.{at};
 ghost use Rattle.krs_model.specs.Search.{found, requested};
 ghost use Rattle.krs_model.specs.Asks.Adding.{IsKeyringAt};
 ghost use Rattle.krs_model.specs.Lookup.{context_of};
@@ -166,18 +167,19 @@ fn link_found(
     ensures { Leads tables.old result tables.new (link_found tables.old client number into serial) }
 {
     let context = tables.context_of(client, number)?;
-    let _found = linkable(tables, context, serial)?;
+    let found = linkable(tables, context, serial)?;
     let into = Serial::new(into);
     let ring = tables.key(into).ok_or(Errno::ENOKEY)?;
     check_open(ring)?;
-    check_nesting(tables, into, serial)?;
+    check_nesting(tables, into, serial, found)?;
     put_link(tables, into, serial)?;
     Ok(Answer::Number(serial.number()))
 }
 
 /// The key at a serial, where it grants LINK: EACCES.
 fn linkable<'a>(tables: &'a Tables, context: &Context, serial: Serial) -> Result<&'a Key, Errno>
-    ensures { Is (λ key. seen key.now) result (linkable tables.now context.now serial) }
+    ensures key { Is (λ key. seen key.now) result (linkable tables.now context.now serial) }
+    ensures there { IfOk result (λ key. at tables.now.keys serial ≡ Some (seen key.now)) }
 {
     let key = tables.key(serial).ok_or(Errno::ENOKEY)?;
     if !tables.grants(context, serial, key, Want::Granted(Rights::LINK)) {

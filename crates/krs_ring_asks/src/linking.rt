@@ -88,10 +88,10 @@ fn link_to(
 {
     let context = tables.context_of(client, number)?;
     let (ring, into) = tables.look_up(context, ring, Want::Granted(Rights::WRITE))?;
-    let (serial, _found) = tables.look_up(context, key, Want::Granted(Rights::LINK))?;
+    let (serial, found) = tables.look_up(context, key, Want::Granted(Rights::LINK))?;
     links_of(into)?;
     check_open(into)?;
-    check_nesting(tables, Serial::new(ring), Serial::new(serial))?;
+    check_nesting(tables, Serial::new(ring), Serial::new(serial), found)?;
     put_link(tables, Serial::new(ring), Serial::new(serial))?;
     Ok(Answer::Nothing)
 }
@@ -149,17 +149,26 @@ pub(crate) fn check_open(ring: &Key) -> Result<(), Errno>
     Ok(())
 }
 
-/// Whether a link from the keyring to the key closes a cycle, or nests a keyring too deep: EDEADLK, ELOOP.
+/// Whether a link from the keyring to the key closes a cycle, or nests a keyring too deep: EDEADLK, ELOOP. A link to a
+/// payload does neither.
 #[tactic(auto, unfolding(krs_model::specs::Asks::Linked::nestable))]
-pub(crate) fn check_nesting(tables: &Tables, ring: Serial, key: Serial) -> Result<(), Errno>
+pub(crate) fn check_nesting(
+    tables: &Tables,
+    ring: Serial,
+    serial: Serial,
+    found: &Key,
+) -> Result<(), Errno>
     requires ring { IsKeyringAt tables.now ring }
-    requires key { IsSome (at tables.now.keys key) }
-    ensures { Is (λ done. done) result (nestable tables.now.keys ring key) }
+    requires key { at tables.now.keys serial ≡ Some (seen found.now) }
+    ensures { Is (λ done. done) result (nestable tables.now.keys ring serial) }
 {
-    if tables.walker.would_cycle(&tables.keys, key, ring) {
+    if let Content::Payload(_) = &found.content {
+        return Ok(());
+    }
+    if tables.walker.would_cycle(&tables.keys, serial, ring) {
         return Err(Errno::EDEADLK);
     }
-    let _height = tables.walker.height_of(&tables.keys, key)?;
+    let _height = tables.walker.height_of(&tables.keys, serial)?;
     Ok(())
 }
 

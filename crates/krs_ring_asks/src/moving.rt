@@ -84,7 +84,7 @@ fn move_to(
     check_free(ring, &key.name, flags)?;
     check_open(ring)?;
     let into = Serial::new(into);
-    check_nesting(tables, into, serial)?;
+    check_nesting(tables, into, serial, key)?;
     move_over(tables, from, into, serial)?;
     Ok(Answer::Nothing)
 }

@@ -16,18 +16,15 @@ check_nesting-requires-clause-ring c =
 
 pub check_nesting-requires-clause-key : goal.check_nesting-requires-clause-key
 check_nesting-requires-clause-key c =
-    rw (
-      c.new-2.ensures,
-      key_looked_up c.args.tables.now _ c.in_ok-context.context.now _
-          (c.in_ok-serial.serial, seen c.in_ok-serial._found.now) c.in_ok-serial.ensures.found,
-    ) refl
+    rw c.new-2.ensures (key_looked_up c.args.tables.now _ c.in_ok-context.context.now _
+    (c.in_ok-serial.serial, seen c.in_ok-serial.found.now) c.in_ok-serial.ensures.found)
 
 pub put_link-requires : goal.put_link-requires
 put_link-requires c = record {
   there = rw (
     c.new-4.ensures,
     key_looked_up c.args.tables.now _ c.in_ok-context.context.now _
-        (c.in_ok-serial.serial, seen c.in_ok-serial._found.now) c.in_ok-serial.ensures.found,
+        (c.in_ok-serial.serial, seen c.in_ok-serial.found.now) c.in_ok-serial.ensures.found,
   ) refl;
   ring = rw c.new-3.ensures (ring_looked_up c.args.tables.now c.args.ring c.in_ok-context.context.now
       (c.in_ok-ring.ring, seen c.in_ok-ring.into.now) _ c.ranges.ring c.in_ok-ring.ensures.found
@@ -38,7 +35,7 @@ pub returns-in_err-put_link : goal.returns-in_err-put_link
 returns-in_err-put_link c =
     let s = c.args.tables.now in
     let into : ℕ × Key = (c.in_ok-ring.ring, seen c.in_ok-ring.into.now) in
-    let found : ℕ × Key = (c.in_ok-serial.serial, seen c.in_ok-serial._found.now) in
+    let found : ℕ × Key = (c.in_ok-serial.serial, seen c.in_ok-serial.found.now) in
     let nests : nestable s.keys into.0 found.0 ≡ Ok (tt {0}) =
     rw (sym c.new.ensures, sym c.new-2.ensures) c.in_ok-check_nesting.ensures in
     let x = c.in_ok-context.context.now in
@@ -61,7 +58,7 @@ pub returns : goal.returns
 returns c =
     let s = c.args.tables.now in
     let into : ℕ × Key = (c.in_ok-ring.ring, seen c.in_ok-ring.into.now) in
-    let found : ℕ × Key = (c.in_ok-serial.serial, seen c.in_ok-serial._found.now) in
+    let found : ℕ × Key = (c.in_ok-serial.serial, seen c.in_ok-serial.found.now) in
     let nests : nestable s.keys into.0 found.0 ≡ Ok (tt {0}) =
     rw (sym c.new.ensures, sym c.new-2.ensures) c.in_ok-check_nesting.ensures in
     let x = c.in_ok-context.context.now in

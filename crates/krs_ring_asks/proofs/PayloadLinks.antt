@@ -1,0 +1,77 @@
+-- A link to a key that holds a payload, which links nothing.
+use Rattle.std.proofs.Common.{◌≡◌, ◌≢◌, ℕ, zero, suc, List, [], ◌∷◌, ◌++◌, Some, true, false, Ok, filter, length}
+use Rattle.std.proofs.Common.{refl, ap, sym, ◌∙◌, subst, ⊎_elim}
+use Rattle.std.specs.List.{flat_map}
+use Rattle.std.proofs.lemmas.Bool.{true≢false}
+use Rattle.std.proofs.lemmas.Option.{same_Some}
+use Rattle.krs_model.specs.Table.{Table, at}
+use Rattle.krs_model.specs.State.{State, Key, Payload, Links}
+use Rattle.krs_model.specs.Levels.{level, levels, is_in}
+use Rattle.krs_model.specs.Possession.{links_of_content}
+use Rattle.krs_model.specs.Sweep.{links_of_key}
+use Rattle.krs_model.specs.Reach.{links_of_key_at, closes, is_ring, nested_in, is_some_in, has_chain, nesting_depth}
+use Rattle.krs_model.specs.Asks.Adding.{IsKeyringAt}
+use Rattle.krs_model.specs.Asks.Linked.{nestable}
+use Rattle.krs_model.proofs.Reach.Levels.{in_one, only_in}
+
+-- below a key that links nothing there are no levels
+no_level : (links : ℕ → List ℕ) (k n : ℕ) → links k ≡ [] → level links (k ∷ []) (suc n) ≡ []
+unfolding level
+no_level links k zero leaf = ap (λ (zs : List ℕ). zs ++ []) leaf
+no_level links k (suc n) leaf = ap (flat_map links) (no_level links k n leaf)
+
+at_level : (links : ℕ → List ℕ) (k j n : ℕ) → links k ≡ [] → j ≢ k → is_in j (level links (k ∷ []) n) ≡ true → ⊥
+unfolding level
+at_level links k j zero leaf apart h = apart (only_in j k h)
+at_level links k j (suc n) leaf apart h =
+    true≢false (sym (subst (λ (zs : List ℕ). is_in j zs ≡ true) (no_level links k n leaf) h))
+
+-- so it reaches no other key
+reaches_none : (links : ℕ → List ℕ) (k j n : ℕ) → links k ≡ [] → j ≢ k → is_in j (levels links (k ∷ []) n) ≡ true → ⊥
+unfolding levels
+reaches_none links k j zero leaf apart h = true≢false (sym h)
+reaches_none links k j (suc n) leaf apart h =
+    ⊎_elim (λ (before : is_in j (levels links (k ∷ []) n) ≡ true). reaches_none links k j n leaf apart before)
+    (λ (last : is_in j (level links (k ∷ []) n) ≡ true). at_level links k j n leaf apart last)
+    (in_one j (levels links (k ∷ []) n) (level links (k ∷ []) n) h)
+
+payload_alone : (keys : Table Key) (serial : ℕ) (key : Key) (bytes : List ℕ) → at keys serial ≡ Some key
+    → key.content ≡ Payload bytes → links_of_key_at keys serial ≡ []
+payload_alone keys serial key bytes there is = ap links_of_key there ∙ ap links_of_content is
+
+-- it is no keyring
+payload_apart : (s : State) (ring serial : ℕ) (key : Key) (bytes : List ℕ) → IsKeyringAt s ring
+    → at s.keys serial ≡ Some key → key.content ≡ Payload bytes → ring ≢ serial
+payload_apart s ring serial key bytes keyring there is = λ e.
+    let same : key ≡ keyring.0 =
+    same_Some key keyring.0 (sym there ∙ (ap (at s.keys) (sym e) ∙ keyring.1)) in
+    let both : Payload bytes ≡ Links keyring.2 = sym is ∙ (ap (λ (k : Key). k.content) same ∙ keyring.3) in
+    absurd cc
+
+payload_closes_none : (s : State) (ring serial : ℕ) (key : Key) (bytes : List ℕ) → IsKeyringAt s ring
+    → at s.keys serial ≡ Some key → key.content ≡ Payload bytes → closes s.keys serial ring ≡ false
+unfolding closes
+payload_closes_none s ring serial key bytes keyring there is =
+    elim (is_in ring (levels (links_of_key_at s.keys) (serial ∷ []) (length s.keys)))
+    as (λ b. (b ≡ true → ⊥) → b ≡ false) [
+      | true ↦ λ no. absurd (no refl)
+      | false ↦ λ no. refl
+    ] (reaches_none (links_of_key_at s.keys) serial ring (length s.keys)
+    (payload_alone s.keys serial key bytes there is) (payload_apart s ring serial key bytes keyring there is))
+
+payload_has_no_chain : (keys : Table Key) (serial : ℕ) (key : Key) (bytes : List ℕ) → at keys serial ≡ Some key
+    → key.content ≡ Payload bytes → has_chain keys serial nesting_depth ≡ false
+unfolding has_chain
+payload_has_no_chain keys serial key bytes there is =
+    ap is_some_in (no_level (nested_in keys) serial 5
+    (ap (filter (λ k. is_ring (at keys k))) (payload_alone keys serial key bytes there is)))
+
+-- a keyring may link it, however deep that is nested
+pub payload_nests : (s : State) (ring serial : ℕ) (key : Key) (bytes : List ℕ) → IsKeyringAt s ring
+    → at s.keys serial ≡ Some key → key.content ≡ Payload bytes → nestable s.keys ring serial ≡ Ok (tt {0})
+unfolding nestable
+payload_nests s ring serial key bytes keyring there is =
+    rw (
+      payload_closes_none s ring serial key bytes keyring there is,
+      payload_has_no_chain s.keys serial key bytes there is,
+    ) refl
