@@ -1,13 +1,19 @@
 -- Where words lead.
-use Rattle.std.proofs.Common.{◌≡◌, ℕ, List, [], Result, inl, inr, rules, ◌∙◌, subst, sym}
-use Rattle.std.specs.Prelude.{IfOk, OnErr, Ok, Err}
+use Rattle.std.proofs.Common.{◌≡◌, ◌↔◌, ◌≤◌, ◌<◌, ℕ, List, [], ◌∷◌, length, map, Bool, nat_eq, Bor, IsTrue, Result, inl, inr, rules, tests}
+use Rattle.std.proofs.Common.{arith, ap, refl, ◌∙◌, subst, sym}
+use Rattle.std.specs.Cmp.Lexicographic.{pointwise, same_text}
+use Rattle.std.specs.Prelude.{◌≢◌, IfOk, OnErr, Ok, Err, Some, codes}
+use Rattle.std.proofs.lemmas.Option.{none-some}
 use Rattle.krs_ctl.specs.declared.choice.Choice.{Choice}
-use Rattle.clap.specs.Words.{Kinds, HasKind, fault_of, kind_of}
+use Rattle.clap.specs.Words.{Kinds, HasKind, fault_of, kind_of, first_value}
+use Rattle.clap.specs.declared.parser.matches.Found.{Found}
+use Rattle.krs_types.specs.declared.caller.Caller.{Caller}
 use Rattle.clap.specs.declared.error.Error.{Error}
 use Rattle.clap.specs.declared.error.kind.ErrorKind.TheVariants.{DisplayHelp, DisplayVersion, OutOfMemory}
 use Rattle.krs_ctl.specs.declared.choice.Choice.TheVariants.{Script, Remote, Call, Usage, NoCommand, Memory, Shown, Refused}
 use Rattle.krs_ctl.specs.Choice.{Tells}
-use Rattle.krs_ctl.specs.CommandLine.{LeadsTo, Spells, client}
+use Rattle.krs_ctl.specs.CommandLine.{LeadsTo, Spells, Chooses, Runs, Calls, CallsOver, Names}
+use Rattle.krs_ctl.specs.CommandLine.{IsScript, command_in, client}
 
 -- what words lead to that were all had, or for which there was no memory
 pub leads_of_all : {V E : Type 0} (had : Result V E) (texts : V → List (List ℕ)) (all : List (List ℕ)) (choice : Choice)
@@ -55,5 +61,44 @@ leads_of_spelled words (Call call) spelled none = (spelled, none)
 leads_of_spelled words Usage spelled none = (spelled, none)
 leads_of_spelled words (NoCommand text) spelled none = (spelled, none)
 leads_of_spelled words Memory spelled none = tt
-leads_of_spelled words (Shown text) spelled none = absurd spelled.2
-leads_of_spelled words (Refused text) spelled none = absurd spelled.2
+leads_of_spelled words (Shown text) spelled none = absurd (spelled.2.1 spelled.2.0)
+leads_of_spelled words (Refused text) spelled none = absurd (spelled.2.1 spelled.2.0)
+
+-- what the one word `script` chooses
+pub script_chooses : {E : Type 0} (found : Found) (r : Result Choice E) → IsScript found → IfOk r (Runs found)
+    → IfOk r (Chooses found)
+script_chooses found (Ok choice) is runs = ((λ _. runs), λ other. absurd (other is))
+script_chooses found (Err e) is runs = tt
+
+-- what other words choose, where there are some and a path is given
+call_chooses_one : (found : Found) (choice : Choice) (path : List ℕ) (caller : Caller)
+    → first_value found (codes "socket") ≡ Some path → Names found caller → command_in found ≢ []
+    → CallsOver path caller (command_in found) choice → Calls found choice
+call_chooses_one found Script path caller given names some calls = absurd calls
+call_chooses_one found (Remote other) path caller given names some calls = absurd calls
+call_chooses_one found (Call call) path caller given names some calls =
+    (given ∙ ap Some (sym calls.0), subst (Names found) (sym calls.1) names, some, calls.2)
+call_chooses_one found Usage path caller given names some calls = absurd calls
+call_chooses_one found (NoCommand text) path caller given names some calls =
+    ((λ none. none-some path (sym none ∙ given)), some, calls)
+call_chooses_one found Memory path caller given names some calls = tt
+call_chooses_one found (Shown text) path caller given names some calls = absurd calls
+call_chooses_one found (Refused text) path caller given names some calls = absurd calls
+
+pub call_chooses : {E : Type 0} (found : Found) (r : Result Choice E) (path : List ℕ) (caller : Caller)
+    → ¬ IsScript found → first_value found (codes "socket") ≡ Some path → Names found caller → command_in found ≢ []
+    → IfOk r (CallsOver path caller (command_in found)) → IfOk r (Chooses found)
+call_chooses found (Ok choice) path caller other given names some calls =
+    ((λ is. absurd (other is)), λ _. call_chooses_one found choice path caller given names some calls)
+call_chooses found (Err e) path caller other given names some calls = tt
+
+-- one word is a text just where all words are that text alone
+text_alone : (text word : List ℕ) (b : Bool) → b ≡ pointwise nat_eq word text → IsTrue b ↔ (word ∷ [] ≡ text ∷ [])
+text_alone text word b is = search (rules, tests)
+
+pub word_alone : (text : List ℕ) (words : List (Bor (List ℕ))) (b : Bool) → 1 ≤ length words → length words < 2
+    → ((word : Bor (List ℕ)) → words ≡ word ∷ [] → b ≡ pointwise nat_eq word.now text)
+    → IsTrue b ↔ (map (λ (w : Bor (List ℕ)). w.now) words ≡ text ∷ [])
+word_alone text [] b least most is = absurd (omega (arith, least))
+word_alone text (word ∷ []) b least most is = text_alone text word.now b (is word refl)
+word_alone text (word ∷ (other ∷ more)) b least most is = absurd (omega (arith, most))

@@ -1,10 +1,10 @@
 -- Which choice the words of the client make: docs/FORMAT.md, "The client, keyretain". `matches_of` says what `clap` finds
 -- in words for a command line.
-use Rattle.std.specs.Prelude.{◌≡◌, ◌≢◌, ◌⊎◌, ◌<◌, ◌^◌, ⊤, ℕ, List, [], Option, Some, None, unwrap_or}
-use Rattle.std.specs.Prelude.{codes, string_bytes, pos, true}
+use Rattle.std.specs.Prelude.{◌≡◌, ◌≢◌, ◌⊎◌, ◌<◌, ◌^◌, ⊤, ℕ, List, [], ◌∷◌, Option, Some, None, unwrap_or}
+use Rattle.std.specs.Prelude.{codes, string_bytes, pos, true, option_map}
 use Rattle.std.specs.Str.Parse.{IsNumeral, digits_value, without_leading_plus}
 use Rattle.clap.specs.Words.{App, Rule, found_of, rows_of, matches_of, new_app, new_rule, with_rule}
-use Rattle.clap.specs.Words.{first_value, one_text, IsAmong, fault_of}
+use Rattle.clap.specs.Words.{first_value, one_text, raw_values, matched_of, IsAmong, fault_of}
 use Rattle.clap.specs.declared.error.kind.ErrorKind.{ErrorKind}
 use Rattle.clap.specs.declared.error.kind.ErrorKind.TheVariants.{DisplayHelp, DisplayVersion}
 use Rattle.clap.specs.Lexer.{usize_max}
@@ -13,6 +13,7 @@ use Rattle.clap.specs.declared.parser.matches.ArgMatches.{ArgMatches}
 use Rattle.clap.specs.declared.builder.action.ArgAction.TheVariants.{Append}
 use Rattle.clap.specs.declared.builder.value_parser.ValueParser.TheVariants as parser
 use Rattle.krs_types.specs.declared.caller.Caller.{Caller}
+use Rattle.krs_remote.specs.Call.{call_of}
 use Rattle.krs_ctl.specs.declared.choice.Choice.{Choice}
 use Rattle.krs_ctl.specs.declared.choice.Choice.TheVariants.{Script, Remote, Call, Usage, NoCommand, Memory, Shown, Refused}
 
@@ -57,28 +58,60 @@ pub record Names (found : Found) (caller : Caller) : Type 0 where
   pub caller_gid : caller.gid ≡ unwrap_or gid 0
   pub groups : caller.groups ≡ []
 
--- what a single call is for a caller over a connection to a path; its words may be no command
-abbrev pub Calls : List ℕ → Caller → Choice → Type 0
-Calls path caller Script = ⊥
-Calls path caller (Remote other) = ⊥
-Calls path caller (Call call) = (string_bytes call.path ≡ path) × (call.caller ≡ caller)
-Calls path caller Usage = ⊥
-Calls path caller (NoCommand text) = ⊤
-Calls path caller Memory = ⊤
-Calls path caller (Shown text) = ⊥
-Calls path caller (Refused text) = ⊥
+-- the words of the command, none where there are none
+abbrev pub command_in : Found → List (List ℕ)
+command_in found = unwrap_or (option_map raw_values (matched_of found (codes "COMMAND"))) []
 
--- What arguments choose: a script on a store of its own where they give no path, and else over a connection to that path,
--- as a single call does, which is for the caller that they name.
+-- they are the one word `script`
+abbrev pub IsScript : Found → Type 0
+IsScript found = command_in found ≡ codes "script" ∷ []
+
+-- arguments name no caller
+abbrev pub NameNone : Found → Type 0
+NameNone found = (first_value found (codes "uid") ≡ None) × (first_value found (codes "gid") ≡ None)
+
+-- what `script` chooses, which names no caller: a script over a connection to the path that is given, and on a store of
+-- its own where none is
+abbrev pub Runs : Found → Choice → Type 0
+Runs found Script = NameNone found × (first_value found (codes "socket") ≡ None)
+Runs found (Remote path) = NameNone found × (first_value found (codes "socket") ≡ Some (string_bytes path))
+Runs found (Call call) = ⊥
+Runs found Usage = ¬ NameNone found
+Runs found (NoCommand text) = ⊥
+Runs found Memory = ⊤
+Runs found (Shown text) = ⊥
+Runs found (Refused text) = ⊥
+
+-- what the words of a single call choose for a caller over a connection to a path: the command that they spell, if any
+abbrev pub CallsOver : List ℕ → Caller → List (List ℕ) → Choice → Type 0
+CallsOver path caller words Script = ⊥
+CallsOver path caller words (Remote other) = ⊥
+CallsOver path caller words (Call call) =
+    (string_bytes call.path ≡ path) × (call.caller ≡ caller) × (call_of words ≡ Some call.command)
+CallsOver path caller words Usage = ⊥
+CallsOver path caller words (NoCommand text) = call_of words ≡ None
+CallsOver path caller words Memory = ⊤
+CallsOver path caller words (Shown text) = ⊥
+CallsOver path caller words (Refused text) = ⊥
+
+-- what words other than `script` choose: a single call over a connection to the path that is given, for the caller that is
+-- named; where there is no word or no path, they are none that the program takes
+abbrev pub Calls : Found → Choice → Type 0
+Calls found Script = ⊥
+Calls found (Remote path) = ⊥
+Calls found (Call call) =
+    (first_value found (codes "socket") ≡ Some (string_bytes call.path)) × Names found call.caller
+    × (command_in found ≢ []) × (call_of (command_in found) ≡ Some call.command)
+Calls found Usage = (command_in found ≡ []) ⊎ (first_value found (codes "socket") ≡ None)
+Calls found (NoCommand text) =
+    (first_value found (codes "socket") ≢ None) × (command_in found ≢ []) × (call_of (command_in found) ≡ None)
+Calls found Memory = ⊤
+Calls found (Shown text) = ⊥
+Calls found (Refused text) = ⊥
+
+-- what arguments choose: the lines of a script, or a single call
 abbrev pub Chooses : Found → Choice → Type 0
-Chooses found Script = first_value found (codes "socket") ≡ None
-Chooses found (Remote path) = first_value found (codes "socket") ≡ Some (string_bytes path)
-Chooses found (Call call) = (first_value found (codes "socket") ≡ Some (string_bytes call.path)) × Names found call.caller
-Chooses found Usage = ⊤
-Chooses found (NoCommand text) = ⊤
-Chooses found Memory = ⊤
-Chooses found (Shown text) = ⊥
-Chooses found (Refused text) = ⊥
+Chooses found choice = (IsScript found → Runs found choice) × (¬ IsScript found → Calls found choice)
 
 -- the choice that words spell: `clap` finds these arguments in them, which choose it
 abbrev pub Spells : List (List ℕ) → Choice → Type 0

@@ -1,11 +1,11 @@
-ghost use Rattle.std.specs.Prelude.{◌≡◌, IfOk, IfErr, OnErr, map, codes, false, string_bytes};
+ghost use Rattle.std.specs.Prelude.{◌≡◌, ◌↔◌, [], ◌∷◌, IfOk, IfErr, IsTrue, OnErr, map, codes, false, string_bytes};
 ghost use Rattle.std.specs.IoError.{error_kind};
 ghost use Rattle.std.specs.Vec.Iter.{into_iter_items};
 ghost use Rattle.clap.specs.Words.{FailsBy, kind_of, fault_of, found_of, app_of, rule_of};
 ghost use Rattle.krs_ctl.specs.declared.choice.Choice.TheVariants.{Memory};
 ghost use Rattle.krs_ctl.specs.Choice.{IsUnread, Tells};
-ghost use Rattle.krs_ctl.specs.CommandLine.{Calls, Chooses, LeadsTo, Names, Spells, client};
-ghost use Rattle.krs_ctl.specs.CommandLine.{named, number_rule, option_rule, words_rule};
+ghost use Rattle.krs_ctl.specs.CommandLine.{CallsOver, Chooses, LeadsTo, Names, Runs, Spells, client};
+ghost use Rattle.krs_ctl.specs.CommandLine.{command_in, named, number_rule, option_rule, words_rule};
 
 use clap::error::ErrorKind;
 use clap::{Arg, ArgAction, ArgMatches, Command, Error, value_parser};
@@ -180,18 +180,45 @@ fn read_words(alloc: Global, words: &[String]) -> Result<Choice, Error>
 fn choice_among(alloc: Global, matches: &ArgMatches<'_>) -> Result<Choice, AllocError>
     ensures { IfOk result (Chooses (found_of matches.now)) }
 {
-    let words = matches.get_strs(WORDS).unwrap_or_default();
-    let is_script = words == ["script"].as_slice();
-    let names_caller = matches.get_str(UID).is_some() || matches.get_str(GID).is_some();
+    let words = words_in(matches);
+    if is_script(words) {
+        return choice_of_script(alloc, matches);
+    }
     match matches.get_str(SOCKET) {
-        None if is_script && !names_caller => Ok(Choice::Script),
-        Some(path) if is_script && !names_caller => {
-            Ok(Choice::Remote(String::from_str(alloc, path)?))
-        }
-        Some(path) if !is_script => {
+        Some(path) if !words.is_empty() => {
             choice_of_call(alloc, path, caller_of(alloc, matches), words)
         }
         _ => Ok(Choice::Usage),
+    }
+}
+
+/// The words of the command, none where there are none.
+fn words_in<'m, 'a>(matches: &'m ArgMatches<'a>) -> &'m [&'a str]
+    ensures { map (λ word. word.now) result.now ≡ command_in (found_of matches.now) }
+{
+    matches.get_strs(WORDS).unwrap_or_default()
+}
+
+/// Whether these words are the one word `script`.
+fn is_script(words: &[&str]) -> bool
+    ensures { IsTrue result ↔ (map (λ word. word.now) words.now ≡ codes "script" ∷ []) }
+{
+    match words {
+        [word] => *word == "script",
+        _ => false,
+    }
+}
+
+/// The choice that `script` makes, which is for no caller.
+fn choice_of_script(alloc: Global, matches: &ArgMatches<'_>) -> Result<Choice, AllocError>
+    ensures { IfOk result (Runs (found_of matches.now)) }
+{
+    if matches.get_str(UID).is_some() || matches.get_str(GID).is_some() {
+        return Ok(Choice::Usage);
+    }
+    match matches.get_str(SOCKET) {
+        None => Ok(Choice::Script),
+        Some(path) => Ok(Choice::Remote(String::from_str(alloc, path)?)),
     }
 }
 
@@ -216,9 +243,9 @@ fn choice_of_call(
     caller: Caller,
     words: &[&str],
 ) -> Result<Choice, AllocError>
-    ensures { IfOk result (Calls path.now caller) }
+    ensures { IfOk result (CallsOver path.now caller (map (λ w. w.now) words.now)) }
 {
-    let words: Vec<&[u8]> = words.iter().map(|word| word.as_bytes()).collect(alloc)?;
+    let words = bytes_of(alloc, words)?;
     match call_command(alloc, words.as_slice()) {
         Ok(command) => Ok(Choice::Call(Call {
             path: String::from_str(alloc, path)?,
@@ -228,6 +255,13 @@ fn choice_of_call(
         Err(NoCommand::Usage) => Ok(Choice::NoCommand(no_command(alloc, words.as_slice())?)),
         Err(NoCommand::Memory) => Ok(Choice::Memory),
     }
+}
+
+/// The bytes of each word.
+fn bytes_of<'a>(alloc: Global, words: &[&'a str]) -> Result<Vec<&'a [u8]>, AllocError>
+    ensures { IfOk result (λ bytes. map (λ word. word.now) bytes.items ≡ map (λ word. word.now) words.now) }
+{
+    words.iter().map(|word| word.as_bytes()).collect(alloc)
 }
 
 fn command_line<'a>(alloc: Global) -> Result<Command<'a>, AllocError>
