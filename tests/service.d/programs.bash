@@ -44,6 +44,7 @@ try_causes() {
   tells 'a path that is cut' "keyretain: /${long:0:63}...: path must be shorter than SUN_LEN" \
     --socket "/$long$long" print 5 </dev/null
   tells 'a call that is no command' 'keyretain: no such command: frobnicate' --socket "$path" frobnicate 5 </dev/null
+  tells 'a call of no word' 'keyretain: see keyretain --help' --socket "$path" </dev/null
   tells 'a call without its words' 'keyretain: not as it is used, see keyretain --help: print' \
     --socket "$path" print </dev/null
   tells 'a line that is no command' 'keyretain: line 2: no such command: \x1b[31mh\xe9' script \

@@ -1,5 +1,6 @@
 -- Where words lead.
-use Rattle.std.proofs.Common.{◌≡◌, ◌↔◌, ◌≤◌, ◌<◌, ℕ, List, [], ◌∷◌, length, map, Bool, nat_eq, Bor, IsTrue, Result, inl, inr, rules, tests}
+use Rattle.std.proofs.Common.{◌≡◌, ◌↔◌, ◌≤◌, ◌<◌, ℕ, List, [], ◌∷◌, length, map, Bool, nat_eq, Bor, IsTrue}
+use Rattle.std.proofs.Common.{Result, inl, inr, rules, tests}
 use Rattle.std.proofs.Common.{arith, ap, refl, ◌∙◌, subst, sym}
 use Rattle.std.specs.Cmp.Lexicographic.{pointwise, same_text}
 use Rattle.std.specs.Prelude.{◌≢◌, IfOk, OnErr, Ok, Err, Some, codes}

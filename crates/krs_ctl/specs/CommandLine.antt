@@ -94,8 +94,8 @@ CallsOver path caller words Memory = ⊤
 CallsOver path caller words (Shown text) = ⊥
 CallsOver path caller words (Refused text) = ⊥
 
--- what words other than `script` choose: a single call over a connection to the path that is given, for the caller that is
--- named; where there is no word or no path, they are none that the program takes
+-- what words other than `script` choose: a single call over a connection to the path that is given, for the caller that
+-- is named; where there is no word or no path, they are none that the program takes
 abbrev pub Calls : Found → Choice → Type 0
 Calls found Script = ⊥
 Calls found (Remote path) = ⊥
