@@ -40,7 +40,7 @@ client =
     with_rule (with_rule (with_rule (with_rule named (option_rule (codes "socket"))) (number_rule (codes "uid")))
     (number_rule (codes "gid"))) words_rule
 
--- the number that a text is in decimal digits, if there is a text and it is one
+-- the number that a text is in decimal digits, behind a `+` or not, if there is a text and it is one
 abbrev pub IsGiven : Option (List ℕ) → Option ℕ → Type 0
 IsGiven None number = number ≡ None
 IsGiven (Some text) (Some number) =

@@ -31,18 +31,18 @@ CallsAt call old new status =
     ⊎ ((sent0 : Option (List ℕ)) × (sent1 : Option (List ℕ)) × (left : Option (List ℕ))
     × EndsCall call.caller call.command old new sent0 sent1 left status)
 
--- What is printed, and the status. A script runs on a new store, or over a connection; one that came to its end with
--- nothing refused tells nothing on standard error, nor does a single call whose status is not 3. What is refused of the
--- words is told there, as far as that takes it, and nothing is printed; of words that are none, where help is to be had,
--- and of those that are no command, which one that is. Every other choice says one text on standard output, and nothing
--- on standard error.
+-- What is printed, and the status. A script runs on a new store, or over a connection; one with status 0, which came to
+-- its end with nothing refused, tells nothing on standard error, nor does a single call whose status is not 3. What is
+-- refused of the words is told there, as far as that takes it, and nothing is printed; of words that are none, where help
+-- is to be had, and of those that are no command, some text. Every other choice says one text on standard output, and
+-- nothing on standard error.
 abbrev pub Answers : Choice → Option (List ℕ) → Option (List ℕ) → Option (List ℕ) → Option (List ℕ) → Option (List ℕ)
     → ℕ → Type 0
 Answers Script input old new old_errors new_errors status =
     ((end : ScriptEnd) × EndsScript input old new (starting_at 3) end × (status ≡ end.status))
     × MayTell old_errors new_errors × (status ≡ 0 → new_errors ≡ old_errors)
 Answers (Remote path) input old new old_errors new_errors status =
-    RunsAt input old new status × MayTell old_errors new_errors
+    RunsAt input old new status × MayTell old_errors new_errors × (status ≡ 0 → new_errors ≡ old_errors)
 Answers (Call call) input old new old_errors new_errors status =
     CallsAt call old new status × MayTell old_errors new_errors × (status ≢ 3 → new_errors ≡ old_errors)
 Answers Usage input old new old_errors new_errors status =

@@ -29,6 +29,7 @@ pub(crate) fn script_at<N: Net, R: Read + Drop, W: Write, E: Write>(
 ) -> u8
     ensures runs { RunsAt (R.remaining input) (W.contents output.old) (W.contents output.new) result }
     ensures told { MayTell (E.contents errors.old) (E.contents errors.new) }
+    ensures well { result ≡ 0 → E.contents errors.new ≡ E.contents errors.old }
 {
     let mut place = Place::start(alloc);
     match UnixStream::connect(net, path) {

@@ -32,7 +32,7 @@ choice_by None = Usage
 choice_by (Some options) = Serve options
 
 -- Where words lead: those in which `clap` finds no fault spell options, which are served, or none, which is usage; a
--- question for help or the version is shown an answer, and any other fault is refused.
+-- question for help or the version is shown an answer, and any other fault is refused; and memory may run out for any.
 abbrev pub LeadsTo : List (List ℕ) → Choice → Type 0
 LeadsTo words (Serve options) = Spells words (Some options) × (fault_of daemon words ≡ [])
 LeadsTo words Usage = Spells words None × (fault_of daemon words ≡ [])

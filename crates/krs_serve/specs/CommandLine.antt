@@ -40,7 +40,7 @@ named = record (new_app (codes "keyretaind")) { top = record (new_app (codes "ke
 abbrev pub daemon : App
 daemon = with_rule (with_rule (with_rule named socket_rule) lanes_rule) accept_rule
 
--- the number that a text is in decimal digits, if there is a text and it is one
+-- the number that a text is in decimal digits, behind a `+` or not, if there is a text and it is one
 abbrev pub IsGiven : Option (List ℕ) → Option ℕ → Type 0
 IsGiven None number = number ≡ None
 IsGiven (Some text) (Some number) =
