@@ -31,7 +31,8 @@ run: build
 	contrib/first-run
 
 # Proves everything from nothing, runs the tests, has each wrong body refused by itself, runs the tests of memory with
-# each allocation refused in turn, and tries the programs that were built so and the clients over real sockets.
+# each allocation refused in turn, tries the programs that were built so and the clients over real sockets, renders the
+# manual pages, and reads the scripts with shellcheck.
 test:
 	@tools/check-toolchain
 	tests/gate

@@ -73,7 +73,7 @@ int kr_descriptor(const struct kr *connection);
 int kr_frame_version(const struct kr *connection);
 
 /* Leaves the descriptor open over execve(2), so that the connection lasts as long as what is executed, and its
- * children, have it open. Its number becomes at least 200, out of the way of shells. */
+ * children, have it open. Its number becomes at least 200, out of the way of shells, where so many are allowed. */
 int kr_keep_over_exec(struct kr *connection);
 
 /* ---- Contexts: the first three answer the number that other asks take as `context` ---- */
