@@ -20,9 +20,8 @@ all_links keys = flat_map (λ e. links_of_content e.1.content) keys
 abbrev pub number_at : Table ℕ → ℕ → ℕ
 number_at numbers k = unwrap_or (at numbers k) 0
 
--- The numbers are exact: each key has one, and the number of a serial is how often it is attached or linked. What
--- is owed
--- counts too: holders that were counted and are not there yet, or are gone and are still counted.
+-- The numbers are exact: each key has one, and the number of a serial is how often it is attached or linked. What is
+-- owed counts too: holders that were counted and are not there yet, or are gone and are still counted.
 pub record IsTallied (keys : Table Key) (attached owed : List ℕ) (numbers : Table ℕ) : Type 0 where
   pub counted : (k : ℕ) → IsSome (at keys k) → IsSome (at numbers k)
   pub exact : (k : ℕ) → number_at numbers k ≡ times k owed + (times k attached + times k (all_links keys))

@@ -63,7 +63,7 @@ impl Holders {
         }
     }
 
-    /// Makes room for the count of a key that is made next: ENOMEM. No other call takes memory.
+    /// Makes room for the count of a key that is made next: ENOMEM. Beside `made_held` no other call takes memory.
     /// Where that key is then not made, nothing has to be undone: the next sweep drops the count.
     pub fn made(&mut self, serial: Serial) -> Result<(), Errno>
         ensures ok { OnOk result (self.new ≡ with_number serial self.old) }

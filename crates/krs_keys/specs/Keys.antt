@@ -100,7 +100,7 @@ abbrev pub IsOfKind : Kind → Content → Type 0
 IsOfKind kind (Payload bytes) = Unit {0}
 IsOfKind kind (Links links) = same_kind kind Keyring ≡ true
 
--- each key holds what keys of its type hold: keyrings(7), "Key types"
+-- only keyrings have links: keyrings(7), "Key types"
 abbrev pub AreOfKind : Table Key → Type 0
 AreOfKind keys = (serial : ℕ) (key : Key) → at keys serial ≡ Some key → IsOfKind key.name.kind key.content
 

@@ -15,8 +15,7 @@ pub record Keys : Type 0 where
   pub keys : Table Key
   pub next : ℕ
 
--- The serial that comes next and those above it are in no use. Each key holds what keys of its type hold: so only
--- keyrings link keys.
+-- The serial that comes next and those above it are in no use, and only keyrings have links.
 pub record AreKept (keys : Table Key) (listed : Sessions) (next : ℕ) : Type 0 where
   pub below : IsBelow keys next
   pub kinds : AreOfKind keys

@@ -67,7 +67,7 @@ impl KeyTable {
         self.next
     }
 
-    /// Each key holds what keys of its type hold: so only keyrings link keys. It does nothing.
+    /// Only keyrings have links: so only keyrings link keys. It does nothing.
     pub fn only_keyrings_link(&self)
         ensures kinds { AreOfKind self.now.keys }
         ensures only { OnlyRingsLink (shown self.now.keys) }

@@ -17,7 +17,7 @@ use Rattle.krs_tables.specs.declared.making.Special.TheVariants.{Thread, Process
 use Rattle.krs_tables.specs.Specials.{special_name, linking_made}
 use Rattle.krs_ring_asks.specs.Found.{linkable}
 
--- the same of a key that was found, where it grants LINK
+-- a keyring is made and linked to a key that was found, where that grants LINK
 abbrev pub found_made : Special → State → ℕ → ℕ → ℕ → Outcome
 found_made special s client number serial = do
   c ← context_of s client number

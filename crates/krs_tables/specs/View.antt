@@ -19,7 +19,7 @@ state_of s = record {
   clock = s.clock;
 }
 
--- Each link has the name of its key. Every key is held, where none was let go of.
+-- Each link has the name of its key, only keyrings have links, and the numbers of holders are exact.
 pub record IsConsistent (s : Inside) : Type 0 where
   pub fit : AreFit s.keys.keys
   pub kinds : AreOfKind s.keys.keys

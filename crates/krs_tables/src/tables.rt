@@ -173,6 +173,7 @@ impl Tables {
 
     /// Whether the key at a serial grants a context what is wanted. Possession is looked for only where it may add
     /// something: what is granted without it is granted with it.
+    #[inline(always)]
     pub fn grants(&self, context: &Context, serial: Serial, key: &Key, want: Want) -> bool
         requires { at self.now.keys serial ≡ Some (seen key.now) }
         ensures { result ≡ grants_to self.now context.now serial (seen key.now) want }

@@ -1,21 +1,22 @@
-ghost use Rattle.std.specs.Prelude.{◌≡◌, IfOk, IsOk};
+ghost use Rattle.std.specs.Prelude.{◌≡◌, [], IfOk, IsOk};
 ghost use Rattle.krs_types.specs.Kind.{kind_named};
 
 use crate::{Blob, Errno, Kind};
 use std::alloc::{AllocError, Global};
 use std::marker::Model;
 
-/// The name of a key's type, as a client gave it. That of a known type takes no memory.
+/// The name of a key's type, as a client gave it. That of a known type takes no memory, nor does an empty one.
 #[derive(Debug, Drop)]
 pub struct TypeName {
     given: Given,
 }
 
-/// A name that is given: the known type that it names, or else its bytes.
+/// A name that is given: an empty one, the known type that it names, or else its bytes.
 #[derive(Debug, Drop)]
 enum Given {
+    Empty,
     Known(Kind),
-    Other(Blob),
+    Other(Box<Blob>),
 }
 
 impl Model for TypeName {
@@ -32,10 +33,16 @@ impl TypeName {
     pub fn from_slice(alloc: Global, name: &[u8]) -> Result<TypeName, AllocError>
         ensures value { IfOk result (λ t. t ≡ name.now) }
         ensures memory { IsOk (kind_named name.now) → IsOk result }
+        ensures empty { name.now ≡ [] → IsOk result }
     {
+        if let [] = name {
+            return Ok(TypeName {
+                given: Given::Empty,
+            });
+        }
         let given = match Kind::named(name) {
             Ok(kind) => Given::Known(kind),
-            Err(_) => Given::Other(Blob::from_slice(alloc, name)?),
+            Err(_) => Given::Other(Box::new(alloc, Blob::from_slice(alloc, name)?)?),
         };
         Ok(TypeName { given })
     }
@@ -44,6 +51,7 @@ impl TypeName {
         ensures { result.now ≡ self.now }
     {
         match &self.given {
+            Given::Empty => &[],
             Given::Known(kind) => kind.name().as_bytes(),
             Given::Other(name) => name.as_slice(),
         }
@@ -54,6 +62,7 @@ impl TypeName {
         ensures { result ≡ kind_named self.now }
     {
         match &self.given {
+            Given::Empty => Err(Errno::EINVAL),
             Given::Known(kind) => Ok(*kind),
             Given::Other(name) => Kind::named(name.as_slice()),
         }
@@ -64,8 +73,9 @@ impl TypeName {
         ensures { IfOk result (λ copy. copy ≡ self.now) }
     {
         let given = match &self.given {
+            Given::Empty => Given::Empty,
             Given::Known(kind) => Given::Known(*kind),
-            Given::Other(name) => Given::Other(name.copy(alloc)?),
+            Given::Other(name) => Given::Other(Box::new(alloc, name.copy(alloc)?)?),
         };
         Ok(TypeName { given })
     }

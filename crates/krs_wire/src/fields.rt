@@ -82,7 +82,7 @@ pub(crate) fn text_at(alloc: Global, bytes: &[u8]) -> Result<(Blob, &[u8]), Wire
     Ok((Blob::from_slice(alloc, text)?, rest))
 }
 
-/// The name of a type. That of a known type takes no memory.
+/// The name of a type.
 pub(crate) fn type_name_at(alloc: Global, bytes: &[u8]) -> Result<(TypeName, &[u8]), WireFault>
     ensures { GivesRead (λ x. (x.0, x.1.now)) result (or_bad_body (text_field.read bytes.now)) }
 {

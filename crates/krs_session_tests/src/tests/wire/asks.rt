@@ -66,7 +66,7 @@ static ASKS: [(&[u8], &str, Form); 32] = [
     (&[0x18, 0, 0, 0, 1, 0, 0x1e, 0, 1, 0, 0, 0, 7, 0, 0, 0, 5, 0, 0, 0, 6, 0, 0, 0, 1, 0, 0, 0],
         "1 Move { key: 7, from: 5, to: 6, flags: 1 }", DONE),
     (&[0x0e, 0, 0, 0, 1, 0, 0x1d, 0, 1, 0, 0, 0, 5, 0, 0, 0, 0, 0],
-        "1 RestrictKeyring { ring: 5, type_name: TypeName { given: Other(Blob { bytes: [] }) } }", DONE),
+        "1 RestrictKeyring { ring: 5, type_name: TypeName { given: Empty } }", DONE),
     (&[0x0c, 0, 0, 0, 1, 0, 7, 0, 1, 0, 0, 0, 5, 0, 0, 0], "1 Clear { id: 5 }", DONE),
     (&[0x0d, 0, 0, 0, 1, 0, 0, 0, 1, 0, 0, 0, 0xff, 0xff, 0xff, 0xff, 1], "1 GetId { id: -1, create: true }", NUMBER),
     (&[0x0d, 0, 0, 0, 1, 0, 0, 0, 1, 0, 0, 0, 5, 0, 0, 0, 0], "1 GetId { id: 5, create: false }", NUMBER),
