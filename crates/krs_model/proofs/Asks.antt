@@ -1,7 +1,9 @@
 -- What accepted asks do, and when they are refused.
 pub mod Effects
 pub mod Later
+pub mod Outcomes
 pub mod LaterByAsk
+pub mod Houses
 pub mod LaterByStep
 pub mod NewSerials
 pub mod GreatestSerial

@@ -15,3 +15,7 @@ pub mod Clients
 pub mod Sets
 pub mod Refusals
 pub mod Readers
+pub mod Told
+pub mod Others
+pub mod Gone
+pub mod Invalidated

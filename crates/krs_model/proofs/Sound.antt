@@ -7,5 +7,6 @@ pub mod NewContexts
 pub mod Contexts
 pub mod Contents
 pub mod Attached
+pub mod InUse
 pub mod Queues
 pub mod Watches

@@ -4,3 +4,4 @@ pub mod Distinct
 pub mod Rising
 pub mod Counts
 pub mod Tests
+pub mod Entries

@@ -31,5 +31,6 @@ pub mod Receiving
 pub mod Revocation
 pub mod Hiding
 pub mod Secrecy
+pub mod Confidentiality
 pub mod Joined
 pub mod Laws

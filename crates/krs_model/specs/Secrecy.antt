@@ -2,7 +2,7 @@
 -- "Security Policies and Security Models", 1982: noninterference, with READ as the one declassifier; keyctl(2),
 -- KEYCTL_READ.
 use Rattle.std.specs.Prelude.{◌≡◌, ◌≢◌, ◌⊎◌, ℕ, ◌==◌, List, [], ◌∷◌, ◌++◌, map, filter, Bool, true, false, Some}
-use Rattle.std.specs.Prelude.{Result, Ok, Err, IsOk}
+use Rattle.std.specs.Prelude.{Result, Ok, Err, IsOk, is_ok, ◌&&◌, ◌<◌, length, nat_le, if◌then◌else◌}
 use Rattle.krs_types.specs.declared.errno.Errno.{Errno}
 use Rattle.krs_types.specs.declared.errno.Errno.TheVariants.{ENOMEM}
 use Rattle.krs_types.specs.declared.kind.Kind.TheVariants.{User, Logon}
@@ -86,6 +86,56 @@ TellsNoUnread start events =
     (hide : Hiding) (client : ℕ) (other : State) (others : List Event) → Hides hide
     → AreAskedAlike hide start other events others → ReadsShown hide client start events
     → replies_to client events ≡ replies_to client others
+
+-- the event is an accepted READ
+abbrev pub tells : Event → Bool
+tells event = is_read event.ask.op && is_ok event.reply
+
+-- what a client is told by READ: the replies to its accepted READs, in order
+abbrev pub reads_to : ℕ → List Event → List (Result Answer Errno)
+reads_to client events = map (λ e. e.reply) (filter (λ e. (e.lane == client) && tells e) events)
+
+-- A client learns what its READs answer, and nothing else. Whatever payloads are hidden, of keys that it reads too: where
+-- its READs are answered the same in other events that differ in these alone, it is told the same by all its asks
+abbrev pub TellsByReadsAlone : State → List Event → Type 0
+TellsByReadsAlone start events =
+    (hide : Hiding) (client : ℕ) (other : State) (others : List Event) → Hides hide
+    → AreAskedAlike hide start other events others → reads_to client events ≡ reads_to client others
+    → replies_to client events ≡ replies_to client others
+
+-- other payloads in the place of hidden ones: hidden, they are what those were
+pub record Changes (hide change : Hiding) : Type 0 where
+  pub lawful : Hides change
+  pub hidden : (n : ℕ) (bytes : List ℕ) → hide n (change n bytes) ≡ hide n bytes
+
+-- one such: this payload in the place of those of a set of keys, where a key may have them
+abbrev pub putting : (ℕ → Bool) → List ℕ → Hiding
+putting secret payload n bytes =
+    if secret n && (nat_le 1 (length bytes) && nat_le (length bytes) 32767) then payload else bytes
+
+-- Each legal history has others that are asked alike: whatever other payloads take the place of hidden ones, in the store
+-- that it began with and in what it was asked
+abbrev pub HasOthers : Type 0
+HasOthers =
+    (hide change : Hiding) (start end : State) (events : List Event) → Changes hide change → IsLegal start events end
+    → (others : List Event) × IsBlinded change start events end others
+    × AreAskedAlike hide start (blind change start) events others
+
+-- the key that had this serial is gone: it is revoked, or no key has the serial any more, as once it was invalidated or
+-- dropped
+pub record IsGone (s : State) (serial : ℕ) : Type 0 where
+  pub given : serial < s.next_serial
+  pub gone : (key : Key) → at s.keys serial ≡ Some key → key.revoked ≡ true
+
+-- the payloads of no other key are hidden
+abbrev pub HidesOnly : ℕ → Hiding → Type 0
+HidesOnly serial hide = (n : ℕ) → n ≢ serial → IsShown hide n
+
+-- no client is told in these events of the payload that the key at this serial had
+abbrev pub TellsNobody : ℕ → State → List Event → Type 0
+TellsNobody serial start events =
+    (hide : Hiding) (client : ℕ) (other : State) (others : List Event) → Hides hide → HidesOnly serial hide
+    → AreAskedAlike hide start other events others → replies_to client events ≡ replies_to client others
 
 -- so it is in all events from this state on
 abbrev pub KeepsSecrets : State → Type 0

@@ -54,6 +54,23 @@ pub record AreHoused (contexts : Table Context) (processes : Table (Option ℕ))
   -- a uid has one user keyring and one user-session keyring: user-keyring(7), user-session-keyring(7)
   pub uids_rise : Rises uids
 
+-- a context of which this holds is there
+pub record HasContext (contexts : Table Context) (holds : Context → Type 0) : Type 0 where
+  pub number : ℕ
+  pub context : Context
+  pub there : at contexts number ≡ Some context
+  pub so : holds context
+
+-- what holds of contexts, and of processes and uids, which end with them
+pub record AreInUse (contexts : Table Context) (processes : Table (Option ℕ)) (uids : Table UidRings) : Type 0 where
+  -- a process ends with its last context: process-keyring(7)
+  pub process : (number : ℕ) → IsSome (at processes number) → HasContext contexts (λ c. c.process ≡ number)
+  -- the keyrings of a uid are let go of with its last context: user-keyring(7); profile, user keyrings stay
+  pub owner : (uid : ℕ) → IsSome (at uids uid) → HasContext contexts (λ c. c.caller.uid ≡ uid)
+  -- the contexts of a process are of one uid: credentials(7); profile, believed caller
+  pub alike : (m n : ℕ) (c d : Context) → at contexts m ≡ Some c → at contexts n ≡ Some d → c.process ≡ d.process
+      → c.caller.uid ≡ d.caller.uid
+
 -- it is links, and no payload
 abbrev pub is_links : Content → Bool
 is_links (Payload bytes) = false
@@ -83,6 +100,8 @@ pub record IsSound (s : State) : Type 0 where
   pub placed : AllPlaced s
   -- contexts, processes and uids have numbers of their own, and a uid stands with its contexts: user-keyring(7)
   pub housed : AreHoused s.contexts s.processes s.uids s.next_context
+  -- and a process and a uid end with their last context: process-keyring(7), user-keyring(7)
+  pub used : AreInUse s.contexts s.processes s.uids
   -- a keyring has links, and any other key a payload: keyrings(7), "Keyrings"
   pub fitting : AllFitting s.keys
   -- a serial is of one key: profile, rising serials

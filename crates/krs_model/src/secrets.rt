@@ -18,7 +18,11 @@ ghost use Rattle.krs_model.specs.Step.{Step, outcome_of};
 ghost use Rattle.krs_model.specs.History.{IsLegal};
 ghost use Rattle.krs_model.specs.Hiding.{Hiding, Hides, hiding, blind, blind_ask, blind_outcome};
 ghost use Rattle.krs_model.specs.Hiding.{blind_event, IsBlinded};
+ghost use Rattle.krs_model.specs.Table.{IsBelow};
+ghost use Rattle.krs_types.specs.declared.ask.Op.TheVariants.{Invalidate};
+ghost use Rattle.krs_model.specs.Revocation.{IsServed, Revokes};
 ghost use Rattle.krs_model.specs.Secrecy.{AreAskedAlike, DifferInReads, KeepsSecrets, ReadsByRight};
+ghost use Rattle.krs_model.specs.Secrecy.{TellsByReadsAlone, HasOthers, Changes, putting, IsGone, TellsNobody};
 
 /// The payloads of any set of keys may be hidden: any two that a user key may have are then one, and those of other
 /// keys are as they were.
@@ -91,6 +95,33 @@ pub fn hidden_payloads_flow_nowhere()
 /// payloads of keys that it doesn't read, all that it is told is the same.
 pub fn unread_payloads_stay_secret()
     ensures { (start : State) → KeepsSecrets start }
+{}
+
+/// A client learns what its READs answer, and nothing else: in two histories that are asked alike, but for payloads,
+/// those of keys that it reads too, it is told the same where its READs are answered the same.
+pub fn clients_learn_by_reads_alone()
+    ensures { (start : State) (events : List Event) → TellsByReadsAlone start events }
+{}
+
+/// Each legal history has others that are asked alike: with any other payloads in the place of hidden ones, as with any
+/// that a user key may have in the place of those of any set of keys.
+pub fn other_histories_are_asked_alike()
+    ensures others { HasOthers }
+    ensures any { (secret : ℕ → Bool) (payload : List ℕ) → paid User payload ≡ Ok tt
+        → Changes (hiding secret) (putting secret payload) }
+{}
+
+/// Once a key is gone, its payload is told to nobody, whoever had read it: it is gone once it was revoked or invalidated,
+/// and stays so.
+pub fn payloads_of_gone_keys_are_told_to_nobody()
+    ensures told { (start : State) (serial : ℕ) (events : List Event) → IsGone start serial
+        → TellsNobody serial start events }
+    ensures revoked { (old new : State) (event : Event) (serial : ℕ) → IsBelow old.keys old.next_serial
+        → Step old event new → Revokes old event serial → IsGone new serial }
+    ensures invalidated { (old new : State) (event : Event) (serial : ℕ) → IsBelow old.keys old.next_serial
+        → Step old event new → IsServed old event Invalidate serial → IsGone new serial }
+    ensures stays { (start end : State) (events : List Event) (serial : ℕ) → IsLegal start events end
+        → IsGone start serial → IsGone end serial }
 {}
 
 /// Each key that an accepted READ names may be read by the context that asks, at that moment: keyctl(2), KEYCTL_READ.

@@ -173,7 +173,7 @@ unread_tells_none hide s client context (Read id) answer un = absurd (true≢fal
 unread_tells_none hide s client context op answer un = refl
 
 -- events whose blinded ones are the same have the same reply, but where they are accepted READs
-reply_or_read :
+pub reply_or_read :
     (hide : Hiding) (s t : State) (event other : Event) (b : Bool) → blind_event hide s event ≡ blind_event hide t other
     → is_read event.ask.op ≡ b → is_read other.ask.op ≡ b
     → (event.reply ≡ other.reply) ⊎ (IsRead event × IsRead other)
@@ -193,7 +193,7 @@ reply_or_read hide s t event other b same first second =
           (λ accepted x. unread_tells_none hide top other.lane other.ask.context other.ask.op x q) alike)
     ] first second
 
-read_alike : (hide : Hiding) (s t : State) (event other : Event) → blind_event hide s event ≡ blind_event hide t other
+pub read_alike : (hide : Hiding) (s t : State) (event other : Event) → blind_event hide s event ≡ blind_event hide t other
     → is_read other.ask.op ≡ is_read event.ask.op
 read_alike hide s t event other same =
     sym (same_read hide (raised t other.moment) other.lane other.ask.context other.ask.op)

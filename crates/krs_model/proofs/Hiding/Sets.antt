@@ -11,7 +11,7 @@ use Rattle.krs_types.specs.declared.kind.Kind.TheVariants.{User, Logon, Keyring}
 use Rattle.krs_types.specs.Kind.{paid}
 use Rattle.krs_model.specs.Hiding.{Hides, hiding}
 
-not_empty : (n : ℕ) → (nat_le 1 n && nat_le n 32767) ≡ true → (n == 0) ≡ false
+pub not_empty : (n : ℕ) → (nat_le 1 n && nat_le n 32767) ≡ true → (n == 0) ≡ false
 not_empty n h = grind (arith, nat_tests)
 
 one_byte : (kind : Kind) (bytes : List ℕ) (secret : Bool)

@@ -41,7 +41,7 @@ pub record Finds {X : Type 0} (s : State) (client context : ℕ) (id : ℤ) (f :
   pub live : key.revoked ≡ false
   pub then : f (serial, key) ≡ Ok x
 
-accepted_finds :
+pub accepted_finds :
     {X : Type 0} (s : State) (client context : ℕ) (id : ℤ) (want : Want) (f : (ℕ × Key) → Result X Errno) (x : X)
     → (context_of s client context >>= (λ c. look_up s c id want >>= f)) ≡ Ok x → Finds s client context id f x
 accepted_finds s client context id want f x h =
@@ -58,7 +58,7 @@ accepted_finds s client context id want f x h =
     }
 
 -- an id names one serial
-one_named :
+pub one_named :
     (s : State) (client context : ℕ) (id : ℤ) (a b : ℕ) → Names s client context id a → Names s client context id b
     → a ≡ b
 one_named s client context id a b n m =
@@ -71,14 +71,14 @@ pub record IsSpent (s : State) (serial : ℕ) : Type 0 where
   pub given : serial < s.next_serial
   pub gone : is_gone (at s.keys serial) ≡ true
 
-spent_follows : (old new : State) (serial : ℕ) → Follows old new → IsSpent old serial → IsSpent new serial
+pub spent_follows : (old new : State) (serial : ℕ) → Follows old new → IsSpent old serial → IsSpent new serial
 spent_follows old new serial follows spent =
     let next : old.next_serial ≤ new.next_serial = follows.next in
     let given : serial < old.next_serial = spent.given in
     record { given = omega arith; gone = follows.gone serial spent.given spent.gone }
 
 -- a key has a serial that was given
-given_serial :
+pub given_serial :
     (s : State) (serial : ℕ) (key : Key) → IsBelow s.keys s.next_serial → at s.keys serial ≡ Some key
     → serial < s.next_serial
 given_serial s serial key below there =
@@ -107,7 +107,7 @@ read_finds s new client context id answer h =
     accepted_finds s client context id ToRead (if_read s) (new, answer) h
 
 -- the key is spent that an accepted REVOKE names
-revoke_spends :
+pub revoke_spends :
     (s new : State) (client context : ℕ) (id : ℤ) (answer : Answer) (serial : ℕ) → IsBelow s.keys s.next_serial
     → Names s client context id serial → revoke s client context id ≡ Ok (new, answer) → IsSpent new serial
 revoke_spends s new client context id answer serial below names h =
@@ -123,7 +123,7 @@ revoke_spends s new client context id answer serial below names h =
     subst (IsSpent new) here (subst (λ (t : State). IsSpent t k) same spent)
 
 -- no key is spent that an accepted READ names
-read_is_not_spent :
+pub read_is_not_spent :
     (s new : State) (client context : ℕ) (id : ℤ) (answer : Answer) (serial : ℕ)
     → Names s client context id serial → read s client context id ≡ Ok (new, answer) → IsSpent s serial → ⊥
 read_is_not_spent s new client context id answer serial names h spent =

@@ -6,15 +6,17 @@ use Rattle.std.specs.Option.{option_to_list}
 use Rattle.std.specs.Ordering.{nat_cmp, match_ordering}
 use Rattle.std.specs.declared.cmp.Ordering.TheVariants.{Less, Equal, Greater}
 use Rattle.std.specs.BTreeMap.{is_at}
+use Rattle.std.proofs.lemmas.Bool.{true≢false}
 use Rattle.std.proofs.lemmas.Option.{none-some, same_Some}
 use Rattle.krs_types.specs.declared.context.Context.{Context}
 use Rattle.krs_types.specs.declared.context.UidRings.{UidRings}
-use Rattle.krs_model.specs.Table.{Table, at, put, without, alter, map_values}
+use Rattle.krs_model.specs.Table.{Table, at, put, without, alter, map_values, IsDistinct}
 use Rattle.krs_model.specs.State.{State}
 use Rattle.krs_model.specs.Levels.{is_in}
 use Rattle.krs_model.specs.Sound.{processes_of}
 use Rattle.krs_model.specs.Sweep.{roots, context_roots, process_roots, uid_roots}
 use Rattle.krs_model.proofs.Reach.Levels.{in_left, in_right, in_one}
+use Rattle.krs_model.proofs.Tables.Entries.{IsEntry, first_entry, later_entry}
 
 -- the keys that a context, a uid, and the entries of a table attach
 abbrev pub context_keys : Context → List ℕ
@@ -124,6 +126,16 @@ attached_at {X = X} g (e ∷ es) k v q h i =
           (subst (λ (x : X). is_in q (g x) ≡ true) (sym (same_Some e.1 v t)) i)
       | false ↦ λ t. in_right q (g e.1) (attachments g es) (attached_at g es k v q t i)
     ] h
+
+-- what is attached an entry attaches, where no number stands twice
+pub attached_entry :
+    {X : Type 0} (g : X → List ℕ) (es : Table X) (q : ℕ) → IsDistinct es → is_in q (attachments g es) ≡ true
+    → IsEntry es (λ v. is_in q (g v) ≡ true)
+attached_entry {X = X} g [] q distinct h = absurd (true≢false (sym h))
+attached_entry {X = X} g (e ∷ es) q distinct h =
+    ⊎_elim (λ here. first_entry (λ (v : X). is_in q (g v) ≡ true) e es here)
+    (λ later. later_entry (λ (v : X). is_in q (g v) ≡ true) e es distinct (attached_entry g es q distinct.1 later))
+    (in_one q (g e.1) (attachments g es) h)
 
 -- an attachment is of a context, a process or a uid
 pub attached_by :

@@ -82,11 +82,11 @@ less_once old new less once = λ ring name.
     omega arith
 
 -- at the number of a change, where its value is changed
-abbrev IsChanged : {X : Type 0} → Table X → ℕ → (X → X) → ℕ → Type 0
+abbrev pub IsChanged : {X : Type 0} → Table X → ℕ → (X → X) → ℕ → Type 0
 IsChanged es n f k = (k ≡ n) × (at (alter es n f) k ≡ option_map f (at es k))
 
 -- what is at a number after a change at one
-at_change :
+pub at_change :
     {X : Type 0} (es : Table X) (n k : ℕ) (f : X → X) → (IsChanged es n f k) ⊎ (at (alter es n f) k ≡ at es k)
 at_change es n k f =
     let there : at (alter es n f) n ≡ option_map f (at es n) = at_alter_same es n f in
@@ -279,7 +279,7 @@ pub there_put :
 there_put es n k v h =
     ⊎_elim (λ (r : IsPut es n v k). rw r.1 refl) (λ same. subst IsSome (sym same) h) (at_put es n k v)
 
-pub not_there : (o : Option Key) → IsSome o → o ≡ None → ⊥
+pub not_there : {X : Type 0} (o : Option X) → IsSome o → o ≡ None → ⊥
 not_there None h e = true≢false (sym h)
 not_there (Some v) h e = none-some v (sym e)
 
@@ -326,7 +326,7 @@ key_stands s key linked few fits stands =
       unused = below_put s.keys keys n key refl stands.unused;
     }
 
-in_linked_content :
+pub in_linked_content :
     (displaced : ℕ → Bool) (serial : ℕ) (content : Content) (k : ℕ)
     → is_in k (links_of_content (linked_content displaced serial content)) ≡ true
     → (is_in k (links_of_content content) ≡ true) ⊎ (k ≡ serial)

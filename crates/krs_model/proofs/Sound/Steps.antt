@@ -25,8 +25,8 @@ use Rattle.krs_model.specs.State.{State, Queue, Key, starting_at, raised}
 use Rattle.krs_model.specs.Lookup.{context_of, look_up}
 use Rattle.krs_model.specs.Reach.{Reaches, Directly, Further, IsAcyclic, links_of_key_at}
 use Rattle.krs_model.specs.History.{IsLegal}
-use Rattle.krs_model.specs.Sweep.{IsSwept}
-use Rattle.krs_model.specs.Sound.{AreHoused, IsSound}
+use Rattle.krs_model.specs.Sweep.{IsSwept, IsSweep}
+use Rattle.krs_model.specs.Sound.{AreHoused, AreInUse, IsSound}
 use Rattle.krs_model.specs.Step.{Step, Serves, Ends, outcome_of, posts_by, watches_left}
 use Rattle.krs_model.specs.Queues as queues
 use Rattle.krs_model.specs.Queues.{Queues, queues_of, with_queues}
@@ -36,6 +36,8 @@ use Rattle.krs_model.specs.Notes.Telling.{notes_of}
 use Rattle.krs_model.specs.Asks.Watching.{opened, filtered, read_out, closed, with_watching, watch_id_of}
 use Rattle.krs_model.specs.Asks.Watching.{open_queue, set_filter, read_queue, close_queue, watch}
 use Rattle.krs_model.proofs.Sweep.Laws.{sweep_swept}
+use Rattle.krs_model.proofs.Asks.Houses.{outcome_houses}
+use Rattle.krs_model.proofs.Sound.InUse.{houses_in_use}
 use Rattle.krs_model.proofs.Sound.Changes.{Stands, same_stands}
 use Rattle.krs_model.proofs.Sound.Changes.{sweep_stands}
 use Rattle.krs_model.proofs.Notes.Fitting.{FitsRecord, ArePosts, each_filter, each_on, posts_fit}
@@ -147,13 +149,15 @@ sound_stands s sound = record {
 }
 
 stands_sound :
-    (s : State) → Stands s → IsBelow s.keys 2147483648 → IsSwept s → AreOrderly (queues_of s) → IsSound s
-stands_sound s stands few swept orderly = record {
+    (s : State) → Stands s → AreInUse s.contexts s.processes s.uids → IsBelow s.keys 2147483648 → IsSwept s
+    → AreOrderly (queues_of s) → IsSound s
+stands_sound s stands used few swept orderly = record {
   acyclic = stands.acyclic;
   linked = stands.linked;
   attached = stands.attached;
   placed = stands.placed;
   housed = stands.housed;
+  used = used;
   fitting = stands.fitting;
   rising = stands.rising;
   once = stands.once;
@@ -168,7 +172,7 @@ pub raised_sound : (s : State) (moment : ℕ) → IsSound s → IsSound (raised 
 raised_sound s moment sound =
     let up = raised s moment in
     stands_sound up (same_stands s up refl refl sound.attached sound.placed sound.housed (sound_stands s sound))
-    sound.few (record { keys = sound.swept.keys; watches = sound.swept.watches }) sound.orderly
+    sound.used sound.few (record { keys = sound.swept.keys; watches = sound.swept.watches }) sound.orderly
 
 each_append : (P : queues.Watch → Type 0) (vs ws : List queues.Watch) → Each P vs → Each P ws → Each P (vs ++ ws)
 each_append P [] ws f g = g
@@ -195,6 +199,12 @@ posts_by_fit s mid client context op answer keys sound meant =
     (notes_small s mid client context few op answer meant)
     (each_append FitsRecord _ _ (fits_on s.queues _ ended) dropped)
 
+-- a sweep is of keys
+swept_in_use :
+    (old new : State) → IsSweep old new → AreInUse old.contexts old.processes old.uids
+    → AreInUse new.contexts new.processes new.uids
+swept_in_use old new s used = subst (λ (z : State). AreInUse z.contexts z.processes z.uids) (sym s.rest) used
+
 -- what an accepted ask leaves is sound
 pub served_sound :
     {s new : State} {client context : ℕ} {op : Op} {answer : Answer} → IsSound s
@@ -211,10 +221,13 @@ served_sound {s} {new} {client} {context} {op} {answer} sound serves =
     let effect = effect_of s client context op mid answer meant in
     let orderly = sweep_orderly mid swept serves.sweep
     (effect_orderly s client context op mid answer effect sound.few sound.orderly) in
+    let used = houses_in_use s client context op mid.contexts mid.processes mid.uids (sound_stands s sound) sound.used
+    ((outcome_houses s client context op).meets mid answer meant) in
     let ps = posts_by s client context op answer swept.keys in
     let fit = posts_by_fit s mid client context op answer swept.keys sound meant in
     subst IsSound (sym serves.posted)
-    (stands_sound (posted_in ps swept) (posted_stands ps swept stands) kept
+    (stands_sound (posted_in ps swept) (posted_stands ps swept stands)
+    (swept_in_use mid swept serves.sweep used) kept
     (record { keys = still.keys; watches = still.watches }) (posted_orderly ps (queues_of swept) fit orderly))
 
 end_sound :
@@ -264,6 +277,11 @@ start_sound n = record {
   attached = λ k i. absurd (true≢false (sym i));
   placed = λ p i. absurd (true≢false (sym i));
   housed = none_housed;
+  used = record {
+    process = λ p there. absurd (true≢false (sym there));
+    owner = λ uid there. absurd (true≢false (sym there));
+    alike = λ m k c d is. absurd (none-some c is);
+  };
   fitting = λ serial key no. absurd (none-some key no);
   rising = none_rise Key;
   once = λ ring name. omega arith;

@@ -1,5 +1,5 @@
 -- MOVE: a link out of one keyring and into another, in one step. keyctl(2), KEYCTL_MOVE; keyctl_move(3).
-use Rattle.std.specs.Prelude.{ℕ, ℤ, ◌==◌, ◌&&◌, Bool, List, nat_lt, is_some, if◌then◌else◌, Result, Ok, Err}
+use Rattle.std.specs.Prelude.{ℕ, ℤ, ◌==◌, ◌&&◌, Bool, List, nat_lt, is_some, if◌then◌else◌, Result, Ok}
 use Rattle.krs_types.specs.declared.errno.Errno.{Errno}
 use Rattle.krs_types.specs.declared.errno.Errno.TheVariants.{EINVAL, EEXIST}
 use Rattle.krs_types.specs.declared.context.Context.{Context}

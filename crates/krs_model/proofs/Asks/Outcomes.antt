@@ -1,0 +1,35 @@
+-- What an ask comes to meets a predicate of states, where it is accepted: test by test.
+use Rattle.std.proofs.Common.{◌≡◌, Bool, true, false, cond, Result, Ok, Err, refl, subst}
+use Rattle.krs_types.specs.declared.errno.Errno.{Errno}
+use Rattle.krs_types.specs.declared.ask.Answer.{Answer}
+use Rattle.krs_types.specs.Refusing.{◌>>=◌}
+use Rattle.krs_model.specs.State.{State}
+use Rattle.krs_model.specs.Outcome.{Outcome}
+use Rattle.krs_model.specs.Making.{within_serials}
+use Rattle.krs_model.proofs.Asks.Later.{within_ok, same_state}
+
+-- the state that it comes to meets this, where it is accepted
+pub record Meets (P : State → Type 0) (meant : Outcome) : Type 0 where
+  pub meets : (new : State) (answer : Answer) → meant ≡ Ok (new, answer) → P new
+
+pub meets_ok : {P : State → Type 0} {new : State} {answer : Answer} → P new → Meets P (Ok (new, answer))
+meets_ok {P} {new} {answer} h = record {
+  meets = λ t a e. subst P (same_state (Ok (new, answer)) new t answer a refl e) h;
+}
+
+-- after a test that may refuse
+pub meets_after :
+    {P : State → Type 0} {A : Type 0} (r : Result A Errno) (f : A → Outcome)
+    → ((x : A) → r ≡ Ok x → Meets P (f x)) → Meets P (r >>= f)
+meets_after (Ok x) f h = h x refl
+meets_after (Err e) f h = record { meets = λ t a no. cc }
+
+pub meets_within :
+    {P : State → Type 0} (old : State) (r : Outcome) → Meets P r → Meets P (within_serials old r)
+meets_within old r h = record { meets = λ t a e. h.meets t a (within_ok old r (t, a) e) }
+
+-- one ask or the other, by a test
+pub meets_either :
+    {P : State → Type 0} (b : Bool) (x y : Outcome) → Meets P x → Meets P y → Meets P (cond b x y)
+meets_either true x y h k = h
+meets_either false x y h k = k

@@ -1,0 +1,484 @@
+-- What changes of attachments leave a uid to itself.
+use Rattle.std.proofs.Common.{◌≡◌, ◌≢◌, ℕ, ◌+◌, ◌==◌, ◌||◌, List, [], ◌∷◌, ◌++◌, Option, None, Some, Bool, true, false}
+use Rattle.std.proofs.Common.{cond, not, filter, refl, ap, ◌∙◌, sym, subst, arith, ◌⊎◌, inl, inr, ⊎_elim}
+use Rattle.std.specs.Option.{option_map, option_to_list, unwrap_or}
+use Rattle.std.specs.Ordering.{nat_cmp}
+use Rattle.std.specs.BTreeMap.{is_at}
+use Rattle.std.proofs.lemmas.Bool.{true≢false}
+use Rattle.std.proofs.lemmas.Bool.Decides.{nat_tests}
+use Rattle.std.proofs.lemmas.Option.{none-some, same_Some}
+use Rattle.krs_types.specs.declared.caller.Caller.{Caller}
+use Rattle.krs_types.specs.declared.context.Context.{Context}
+use Rattle.krs_types.specs.declared.context.UidRings.{UidRings}
+use Rattle.krs_model.specs.Table.{Table, at, put, alter, without, Rises}
+use Rattle.krs_model.specs.State.{State}
+use Rattle.krs_model.specs.Levels.{is_in}
+use Rattle.krs_model.specs.Possession.{process_ring}
+use Rattle.krs_model.specs.Making.{thread_to, with_thread, with_process}
+use Rattle.krs_model.specs.Asks.Hello.{with_uid, with_context, first_session}
+use Rattle.krs_model.specs.Asks.Entering.{without_thread, execed}
+use Rattle.krs_model.specs.Asks.Joining.{session_to, joined_to}
+use Rattle.krs_model.specs.Confidentiality.{foreign_keys, foreign_process, AreUnattached}
+use Rattle.krs_model.proofs.Tables.Changes.{at_map, at_kept, at_or_apart, at_without_other}
+use Rattle.krs_model.proofs.Reach.Levels.{same_is, in_left, in_right, in_one, only_in}
+use Rattle.krs_model.proofs.Sound.Changes.{IsChanged, at_change, IsPut, at_put}
+use Rattle.krs_model.proofs.Sound.Attached.{context_keys, uid_keys, attachments, own_process, attached_at, attached_either}
+use Rattle.krs_model.proofs.Sound.KeyAsks.{both_in}
+use Rattle.krs_model.proofs.Sound.NewContexts.{placed_in}
+use Rattle.krs_model.specs.Sound.{AllPlaced}
+use Rattle.std.specs.Option.{IsSome}
+use Rattle.krs_model.proofs.Tables.Distinct.{at_without_same}
+use Rattle.krs_model.specs.Asks.Invalidating.{detached, context_without, rings_without, invalidated}
+use Rattle.krs_model.specs.Asks.Leaving.{left, exited, has_process, has_uid, contexts_without}
+use Rattle.std.specs.List.{list_any}
+use Rattle.std.specs.Map.{values_of}
+use Rattle.krs_model.proofs.Sound.Attached.{attached_alter, attached_fewer, attached_without, attached_mapped}
+use Rattle.krs_model.proofs.Isolation.Keys.{AttachesNone}
+use Rattle.krs_model.proofs.Tables.Entries.{rises_distinct}
+
+-- what a context of another uid attaches is a foreign key, and its process a foreign one
+pub apart_is : (a b : ℕ) → a ≢ b → (a == b) ≡ false
+apart_is a b h = grind (arith, nat_tests)
+
+pub is_foreign :
+    (uid : ℕ) (c : Context) → c.caller.uid ≢ uid
+    → (foreign_keys uid c ≡ context_keys c) × (foreign_process uid c ≡ c.process ∷ [])
+is_foreign uid c other =
+    let apart = apart_is c.caller.uid uid other in (
+      ap (λ (b : Bool). cond b [] (context_keys c)) apart,
+      ap (λ (b : Bool). cond b [] (c.process ∷ [])) apart,
+    )
+
+-- foreign keys are those of a context of another uid
+pub of_foreign :
+    (uid : ℕ) (c : Context) (k : ℕ) → is_in k (foreign_keys uid c) ≡ true
+    → (c.caller.uid ≢ uid) × (is_in k (context_keys c) ≡ true)
+of_foreign uid c k i =
+    elim (c.caller.uid == uid) as (λ b. (c.caller.uid == uid) ≡ b → is_in k (cond b [] (context_keys c)) ≡ true
+    → (c.caller.uid ≢ uid) × (is_in k (context_keys c) ≡ true)) [
+      | true ↦ λ t h. absurd (true≢false (sym h))
+      | false ↦ λ t h. (λ e. true≢false (sym (same_is c.caller.uid uid e) ∙ t), h)
+    ] refl i
+
+pub of_foreign_process :
+    (uid : ℕ) (c : Context) (p : ℕ) → is_in p (foreign_process uid c) ≡ true → (c.caller.uid ≢ uid) × (p ≡ c.process)
+of_foreign_process uid c p i =
+    elim (c.caller.uid == uid) as (λ b. (c.caller.uid == uid) ≡ b → is_in p (cond b [] (c.process ∷ [])) ≡ true
+    → (c.caller.uid ≢ uid) × (p ≡ c.process)) [
+      | true ↦ λ t h. absurd (true≢false (sym h))
+      | false ↦ λ t h. (λ e. true≢false (sym (same_is c.caller.uid uid e) ∙ t), only_in p c.process h)
+    ] refl i
+
+ring_is :
+    (o : Option (Option ℕ)) (k : ℕ) → is_in k (option_to_list (unwrap_or o None)) ≡ true → o ≡ Some (Some k)
+ring_is None k h = absurd (true≢false (sym h))
+ring_is (Some None) k h = absurd (true≢false (sym h))
+ring_is (Some (Some n)) k h = ap (λ (z : ℕ). Some (Some z)) (sym (only_in k n h))
+
+-- a context of another uid attaches none of these keys
+pub attaches_none :
+    (uid : ℕ) (private : ℕ → Bool) (s : State) (number : ℕ) (c : Context) → AreUnattached uid private s
+    → at s.contexts number ≡ Some c → c.caller.uid ≢ uid → AttachesNone private s c
+attaches_none uid private s number c alone there other = λ k m i.
+    let foreign = is_foreign uid c other in
+    let keys : is_in k (context_keys c) ≡ true → ⊥ = λ h.
+    alone.contexts k m (attached_at (foreign_keys uid) s.contexts number c k there (subst (λ (xs : List ℕ). is_in k xs ≡ true) (sym foreign.0) h)) in
+    let ring = process_ring s c.process in
+    let self : is_in c.process (c.process ∷ []) ≡ true = rw (same_is c.process c.process refl) refl in
+    ⊎_elim (λ h. keys (in_left k (option_to_list c.thread) (option_to_list c.session) h))
+    (λ h. ⊎_elim
+    (λ r. alone.processes c.process k m (ring_is (at s.processes c.process) k r)
+    (attached_at (foreign_process uid) s.contexts number c c.process there
+    (subst (λ (xs : List ℕ). is_in c.process xs ≡ true) (sym foreign.1) self)))
+    (λ r. keys (in_right k (option_to_list c.thread) (option_to_list c.session) r))
+    (in_one k (option_to_list ring) (option_to_list c.session) h))
+    (in_one k (option_to_list c.thread) (option_to_list ring ++ option_to_list c.session) i)
+
+-- the same attachments
+pub same_unattached :
+    (uid : ℕ) (private : ℕ → Bool) (old new : State) → new.contexts ≡ old.contexts → new.processes ≡ old.processes
+    → new.uids ≡ old.uids → AreUnattached uid private old → AreUnattached uid private new
+same_unattached uid private old new contexts processes uids alone = record {
+  contexts = rw contexts alone.contexts;
+  processes = rw (contexts, processes) alone.processes;
+  uids = rw uids alone.uids;
+}
+
+some_some : (a : Option ℕ) (k : ℕ) → Some a ≡ Some (Some k) → a ≡ Some k
+some_some a k h = cc
+
+some_one : (n k : ℕ) → Some n ≡ Some k → n ≡ k
+some_one n k h = cc
+
+abbrev AttachesTo : Option (Option ℕ) → ℕ → Type 0
+AttachesTo o k = o ≡ Some (Some k)
+
+none_some_there : (o : Option (Option ℕ)) → IsSome o → o ≡ None → ⊥
+none_some_there None h e = true≢false (sym h)
+none_some_there (Some v) h e = none-some v (sym e)
+
+foreign_own :
+    (uid : ℕ) (es : Table Context) (p : ℕ) → is_in p (attachments (foreign_process uid) es) ≡ true
+    → is_in p (attachments own_process es) ≡ true
+foreign_own uid [] p i = i
+foreign_own uid (e ∷ es) p i =
+    ⊎_elim
+    (λ h. let r = of_foreign_process uid e.1 p h in
+    in_left p (own_process e.1) (attachments own_process es)
+    (subst (λ (z : ℕ). is_in p (z ∷ []) ≡ true) r.1 (rw (same_is p p refl) refl)))
+    (λ h. in_right p (own_process e.1) (attachments own_process es) (foreign_own uid es p h))
+    (in_one p (foreign_process uid e.1) (attachments (foreign_process uid) es) i)
+
+-- a further context of a process of its own, whose session keyring is none of these, or which is of this uid
+pub entered_unattached :
+    (uid : ℕ) (private : ℕ → Bool) (s : State) (client : ℕ) (c : Caller) (session : Option ℕ)
+    → (c.uid ≢ uid → (k : ℕ) → private k ≡ true → is_in k (option_to_list session) ≡ true → ⊥)
+    → at s.processes s.next_context ≡ None → AllPlaced s → AreUnattached uid private s
+    → AreUnattached uid private (with_context s client c session)
+entered_unattached uid private s client c session none unused placed alone =
+    let n = s.next_context in
+    let no_context : (p : ℕ) → p ≡ n → is_in p (attachments own_process s.contexts) ≡ true → ⊥ = λ p e i.
+    none_some_there (at s.processes p) (placed_in s placed p i) (ap (at s.processes) e ∙ unused) in
+    let new : Context = record { client = client; process = n; caller = c; thread = None; session = session } in
+    record {
+      contexts = λ k m i. ⊎_elim
+          (λ h. let r = of_foreign uid new k h in none r.0 k m r.1)
+          (λ was. alone.contexts k m was)
+          (attached_either (foreign_keys uid) s.contexts n new k i);
+      processes = λ p k m there i. ⊎_elim
+          (λ (r : IsPut s.processes n None p).
+          let no : None ≡ Some k = some_some None k (sym r.1 ∙ there) in none-some k no)
+          (λ same. ⊎_elim
+          (λ h. let mine_is : p ≡ n = (of_foreign_process uid new p h).1 in
+          none-some (Some k) (sym unused ∙ (ap (at s.processes) (sym mine_is) ∙ (sym same ∙ there))))
+          (λ was. alone.processes p k m (sym same ∙ there) was)
+          (attached_either (foreign_process uid) s.contexts n new p i))
+          (at_put s.processes n p None);
+      uids = alone.uids;
+    }
+
+-- a further context with the caller, the process and the session keyring of one that is there
+pub threaded_unattached :
+    (uid : ℕ) (private : ℕ → Bool) (s : State) (number : ℕ) (c : Context) → at s.contexts number ≡ Some c
+    → AreUnattached uid private s
+    → AreUnattached uid private (record s {
+      contexts = put s.contexts s.next_context (without_thread c);
+      next_context = s.next_context + 1;
+    })
+threaded_unattached uid private s number c there alone =
+    let n = s.next_context in
+    let new = without_thread c in
+    record {
+      contexts = λ k m i. ⊎_elim
+          (λ h. let r = of_foreign uid new k h in
+          let foreign = is_foreign uid c r.0 in
+          let had : is_in k (context_keys c) ≡ true = in_right k (option_to_list c.thread) (option_to_list c.session) r.1 in
+          alone.contexts k m (attached_at (foreign_keys uid) s.contexts number c k there
+          (subst (λ (xs : List ℕ). is_in k xs ≡ true) (sym foreign.0) had)))
+          (λ was. alone.contexts k m was)
+          (attached_either (foreign_keys uid) s.contexts n new k i);
+      processes = λ p k m at_p i. ⊎_elim
+          (λ h. alone.processes p k m at_p (attached_at (foreign_process uid) s.contexts number c p there h))
+          (λ was. alone.processes p k m at_p was)
+          (attached_either (foreign_process uid) s.contexts n new p i);
+      uids = alone.uids;
+    }
+
+-- a changed context, which attaches a key that is none of these
+pub altered_unattached :
+    (uid : ℕ) (private : ℕ → Bool) (s : State) (number n : ℕ) (f : Context → Context)
+    → ((v : Context) (k : ℕ) → is_in k (foreign_keys uid (f v)) ≡ true → (is_in k (foreign_keys uid v) ≡ true) ⊎ (k ≡ n))
+    → ((v : Context) (p : ℕ) → is_in p (foreign_process uid (f v)) ≡ true → is_in p (foreign_process uid v) ≡ true)
+    → (private n ≡ true → ⊥) → AreUnattached uid private s
+    → AreUnattached uid private (record s { contexts = alter s.contexts number f })
+altered_unattached uid private s number n f keys process fresh alone = record {
+  contexts = λ k m i. ⊎_elim (λ was. alone.contexts k m was)
+      (λ (e : k ≡ n). fresh (subst (λ (z : ℕ). private z ≡ true) e m))
+      (attached_alter (foreign_keys uid) s.contexts number f k (λ v h. keys v k h) i);
+  processes = λ p k m there i. ⊎_elim (λ was. alone.processes p k m there was) (λ (no : ⊥). no)
+      (attached_alter (foreign_process uid) s.contexts number f p (λ v h. inl (process v p h)) i);
+  uids = alone.uids;
+}
+
+foreign_joined :
+    (uid : ℕ) (n : ℕ) (v : Context) (k : ℕ) → is_in k (foreign_keys uid (session_to n v)) ≡ true
+    → (is_in k (foreign_keys uid v) ≡ true) ⊎ (k ≡ n)
+foreign_joined uid n v k i =
+    let r = of_foreign uid (session_to n v) k i in
+    let foreign = is_foreign uid v r.0 in
+    ⊎_elim
+    (λ h. inl (subst (λ (xs : List ℕ). is_in k xs ≡ true) (sym foreign.0)
+    (in_left k (option_to_list v.thread) (option_to_list v.session) h)))
+    (λ h. inr (only_in k n h)) (in_one k (option_to_list v.thread) (n ∷ []) r.1)
+
+foreign_threaded :
+    (uid : ℕ) (n : ℕ) (v : Context) (k : ℕ) → is_in k (foreign_keys uid (thread_to n v)) ≡ true
+    → (is_in k (foreign_keys uid v) ≡ true) ⊎ (k ≡ n)
+foreign_threaded uid n v k i =
+    let r = of_foreign uid (thread_to n v) k i in
+    let foreign = is_foreign uid v r.0 in
+    ⊎_elim (λ h. inr (only_in k n h))
+    (λ h. inl (subst (λ (xs : List ℕ). is_in k xs ≡ true) (sym foreign.0)
+    (in_right k (option_to_list v.thread) (option_to_list v.session) h)))
+    (in_one k (n ∷ []) (option_to_list v.session) r.1)
+
+-- another session keyring, which is none of these
+pub joined_unattached :
+    (uid : ℕ) (private : ℕ → Bool) (s : State) (number n : ℕ) → (private n ≡ true → ⊥) → AreUnattached uid private s
+    → AreUnattached uid private (joined_to s number n)
+joined_unattached uid private s number n fresh alone =
+    altered_unattached uid private s number n (session_to n) (foreign_joined uid n) (λ v p h. h) fresh alone
+
+-- a change of one entry is a change to what it comes to
+pub alter_to :
+    {X : Type 0} (es : Table X) (k : ℕ) (f : X → X) (v : X) → at es k ≡ Some v
+    → alter es k f ≡ alter es k (λ any. f v)
+alter_to [] k f v h = refl
+alter_to (e ∷ es) k f v h =
+    elim (is_at (nat_cmp k) e.0) as (λ b. cond b (Some e.1) (at es k) ≡ Some v
+    → cond b ((e.0, f e.1) ∷ es) (e ∷ alter es k f)
+    ≡ cond b ((e.0, f v) ∷ es) (e ∷ alter es k (λ any. f v))) [
+      | true ↦ λ t. ap (λ z. (e.0, f z) ∷ es) (same_Some e.1 v t)
+      | false ↦ λ t. ap (λ zs. e ∷ zs) (alter_to es k f v t)
+    ] h
+
+-- another session keyring of a context of this uid, whichever it is
+pub own_joined_unattached :
+    (uid : ℕ) (private : ℕ → Bool) (s : State) (number n : ℕ) (c : Context) → at s.contexts number ≡ Some c
+    → c.caller.uid ≡ uid → AreUnattached uid private s → AreUnattached uid private (joined_to s number n)
+own_joined_unattached uid private s number n c there own alone =
+    let to : Context → Context = λ any. session_to n c in
+    let same = alter_to s.contexts number (session_to n) c there in
+    let after : State = record s { contexts = alter s.contexts number to } in
+    let still : AreUnattached uid private after = record {
+      contexts = λ k m i. ⊎_elim (λ was. alone.contexts k m was) (λ (no : ⊥). no)
+          (attached_alter (foreign_keys uid) s.contexts number to k
+          (λ v h. inr ((of_foreign uid (session_to n c) k h).0 own)) i);
+      processes = λ p k m at_p i. ⊎_elim (λ was. alone.processes p k m at_p was) (λ (no : ⊥). no)
+          (attached_alter (foreign_process uid) s.contexts number to p
+          (λ v h. inr ((of_foreign_process uid (session_to n c) p h).0 own)) i);
+      uids = alone.uids;
+    } in
+    same_unattached uid private after (joined_to s number n) same refl refl still
+
+-- a new thread keyring
+pub thread_unattached :
+    (uid : ℕ) (private : ℕ → Bool) (s : State) (number : ℕ) (c : Context) → (private s.next_serial ≡ true → ⊥)
+    → AreUnattached uid private s → AreUnattached uid private (with_thread s number c)
+thread_unattached uid private s number c fresh alone =
+    let n = s.next_serial in
+    let still = altered_unattached uid private s number n (thread_to n) (foreign_threaded uid n) (λ v p h. h) fresh alone in
+    same_unattached uid private (record s { contexts = alter s.contexts number (thread_to n) })
+    (with_thread s number c) refl refl refl still
+
+ring_changed :
+    (f : Option ℕ → Option ℕ) (o : Option (Option ℕ)) (k : ℕ) (P : Type 0)
+    → ((v : Option ℕ) → f v ≡ Some k → (v ≡ Some k) ⊎ P) → AttachesTo (option_map f o) k → AttachesTo o k ⊎ P
+ring_changed f None k P was h = cc
+ring_changed f (Some v) k P was h =
+    ⊎_elim (λ (e : v ≡ Some k). inl (ap (λ (z : Option ℕ). Some z) e)) (λ p. inr p) (was v (some_some (f v) k h))
+
+-- a changed process, which attaches nothing further but a key that is none of these
+pub process_unattached :
+    (uid : ℕ) (private : ℕ → Bool) (s : State) (q : ℕ) (f : Option ℕ → Option ℕ)
+    → ((v : Option ℕ) (k : ℕ) → private k ≡ true → f v ≡ Some k → (v ≡ Some k) ⊎ ⊥) → AreUnattached uid private s
+    → AreUnattached uid private (record s { processes = alter s.processes q f })
+process_unattached uid private s q f keeps alone = record {
+  contexts = alone.contexts;
+  processes = λ p k m there i. ⊎_elim
+      (λ (r : IsChanged s.processes q f p). ⊎_elim
+      (λ was. alone.processes p k m was i) (λ (no : ⊥). no)
+      (ring_changed f (at s.processes p) k ⊥ (λ v h. keeps v k m h) (sym r.1 ∙ there)))
+      (λ same. alone.processes p k m (sym same ∙ there) i) (at_change s.processes q p f);
+  uids = alone.uids;
+}
+
+-- a new process keyring
+pub with_process_unattached :
+    (uid : ℕ) (private : ℕ → Bool) (s : State) (c : Context) → (private s.next_serial ≡ true → ⊥)
+    → AreUnattached uid private s → AreUnattached uid private (with_process s c)
+with_process_unattached uid private s c fresh alone =
+    let n = s.next_serial in
+    let still = process_unattached uid private s c.process (λ none. Some n)
+    (λ v k m e. absurd (fresh (subst (λ (z : ℕ). private z ≡ true) (sym (some_one n k e)) m))) alone in
+    same_unattached uid private (record s { processes = alter s.processes c.process (λ none. Some n) })
+    (with_process s c) refl refl refl still
+
+-- fewer contexts
+pub fewer_unattached :
+    (uid : ℕ) (private : ℕ → Bool) (s : State) (p : ℕ × Context → Bool) → AreUnattached uid private s
+    → AreUnattached uid private (record s { contexts = filter p s.contexts })
+fewer_unattached uid private s keeps alone = record {
+  contexts = λ k m i. alone.contexts k m (attached_fewer (foreign_keys uid) keeps s.contexts k i);
+  processes = λ p k m there i. alone.processes p k m there (attached_fewer (foreign_process uid) keeps s.contexts p i);
+  uids = alone.uids;
+}
+
+foreign_unthreaded :
+    (uid n : ℕ) (v : Context) (k : ℕ) → is_in k (foreign_keys uid (without_thread v)) ≡ true
+    → (is_in k (foreign_keys uid v) ≡ true) ⊎ (k ≡ n)
+foreign_unthreaded uid n v k i =
+    let r = of_foreign uid (without_thread v) k i in
+    let foreign = is_foreign uid v r.0 in
+    inl (subst (λ (xs : List ℕ). is_in k xs ≡ true) (sym foreign.0)
+    (in_right k (option_to_list v.thread) (option_to_list v.session) r.1))
+
+pub execed_unattached :
+    (uid : ℕ) (private : ℕ → Bool) (s : State) (number : ℕ) (c : Context) → (private s.next_serial ≡ true → ⊥)
+    → AreUnattached uid private s → AreUnattached uid private (execed s number c)
+execed_unattached uid private s number c fresh alone =
+    let n = s.next_serial in
+    let one : State = record s { contexts = alter s.contexts number without_thread } in
+    let first : AreUnattached uid private one =
+    altered_unattached uid private s number n without_thread (foreign_unthreaded uid n) (λ v p h. h) fresh alone in
+    let keeps : ℕ × Context → Bool = λ e. not (e.1.process == c.process) || (e.0 == number) in
+    let second = fewer_unattached uid private one keeps first in
+    let none : Option ℕ → Option ℕ = λ ring. None in
+    process_unattached uid private (record one { contexts = filter keeps one.contexts }) c.process none
+    (λ v k m e. absurd (none-some k e)) second
+
+-- the two new keyrings of a uid
+pub with_uid_unattached :
+    (uid : ℕ) (private : ℕ → Bool) (s : State) (c : Caller) (rings : Option UidRings)
+    → (private s.next_serial ≡ true → ⊥) → (private (s.next_serial + 1) ≡ true → ⊥) → AreUnattached uid private s
+    → AreUnattached uid private (with_uid s c rings)
+with_uid_unattached uid private s c (Some rings) first second alone = alone
+with_uid_unattached uid private s c None first second alone =
+    let n = s.next_serial in
+    let new : UidRings = record { user = Some n; session = Some (n + 1) } in
+    let fresh : (k : ℕ) → private k ≡ true → is_in k (uid_keys new) ≡ true → ⊥ = λ k m i.
+    ⊎_elim (λ h. first (subst (λ (z : ℕ). private z ≡ true) (only_in k n h) m))
+    (λ h. second (subst (λ (z : ℕ). private z ≡ true) (only_in k (n + 1) h) m))
+    (in_one k (n ∷ []) ((n + 1) ∷ []) i) in
+    record {
+      contexts = alone.contexts;
+      processes = alone.processes;
+      uids = λ v k rings m other there i. ⊎_elim
+          (λ (r : IsPut s.uids c.uid new v).
+          let same : new ≡ rings = same_Some new rings (sym r.1 ∙ there) in
+          fresh k m (subst (λ (z : UidRings). is_in k (uid_keys z) ≡ true) (sym same) i))
+          (λ same. alone.uids v k rings m other (sym same ∙ there) i) (at_put s.uids c.uid v new);
+    }
+
+-- the session keyring that HELLO of another uid takes is none of these
+pub first_session_apart :
+    (uid : ℕ) (private : ℕ → Bool) (s : State) (c : Caller) (rings : Option UidRings) (k : ℕ)
+    → at s.uids c.uid ≡ rings → (private (s.next_serial + 1) ≡ true → ⊥) → AreUnattached uid private s → c.uid ≢ uid
+    → private k ≡ true → is_in k (option_to_list (first_session s.next_serial rings)) ≡ true → ⊥
+first_session_apart uid private s c (Some rings) k is fresh alone other m i =
+    alone.uids c.uid k rings m other is (in_right k (option_to_list rings.user) (option_to_list rings.session) i)
+first_session_apart uid private s c None k is fresh alone other m i =
+    fresh (subst (λ (z : ℕ). private z ≡ true) (only_in k (s.next_serial + 1) i) m)
+
+detached_some :
+    (serial k : ℕ) (o : Option ℕ) → detached serial o ≡ Some k → o ≡ Some k
+detached_some serial k None h = cc
+detached_some serial k (Some j) h =
+    elim (j == serial) as (λ b. cond b None (Some j) ≡ Some k → Some j ≡ Some k) [
+      | true ↦ λ no. absurd (none-some k no)
+      | false ↦ λ is. is
+    ] h
+
+foreign_without :
+    (uid serial : ℕ) (v : Context) (k : ℕ) → is_in k (foreign_keys uid (context_without serial v)) ≡ true
+    → is_in k (foreign_keys uid v) ≡ true
+foreign_without uid serial v k i =
+    let r = of_foreign uid (context_without serial v) k i in
+    let foreign = is_foreign uid v r.0 in
+    subst (λ (xs : List ℕ). is_in k xs ≡ true) (sym foreign.0) (both_in serial k v.thread v.session r.1)
+
+ring_detached :
+    (serial : ℕ) (o : Option (Option ℕ)) (k : ℕ) → AttachesTo (option_map (detached serial) o) k → AttachesTo o k
+ring_detached serial None k h = cc
+ring_detached serial (Some v) k h =
+    ap (λ (z : Option ℕ). Some z) (detached_some serial k v (some_some (detached serial v) k h))
+
+rings_detached :
+    (serial : ℕ) (o : Option UidRings) (rings : UidRings) (k : ℕ)
+    → option_map (rings_without serial) o ≡ Some rings → is_in k (uid_keys rings) ≡ true
+    → (was : UidRings) × (o ≡ Some was) × (is_in k (uid_keys was) ≡ true)
+rings_detached serial None rings k h i = absurd (none-some rings h)
+rings_detached serial (Some v) rings k h i =
+    let same : rings_without serial v ≡ rings = same_Some (rings_without serial v) rings h in
+    let here = subst (λ (z : UidRings). is_in k (uid_keys z) ≡ true) (sym same) i in
+    (v, refl, both_in serial k v.user v.session here)
+
+-- a key out of every attachment
+pub invalidated_unattached :
+    (uid : ℕ) (private : ℕ → Bool) (s : State) (serial : ℕ) → AreUnattached uid private s
+    → AreUnattached uid private (invalidated s serial)
+invalidated_unattached uid private s serial alone = record {
+  contexts = λ k m i. alone.contexts k m
+      (attached_mapped (foreign_keys uid) (context_without serial) s.contexts k
+      (λ v h. foreign_without uid serial v k h) i);
+  processes = λ p k m there i. alone.processes p k m
+      (ring_detached serial (at s.processes p) k (sym (at_map (detached serial) s.processes p) ∙ there))
+      (attached_mapped (foreign_process uid) (context_without serial) s.contexts p (λ v h. h) i);
+  uids = λ v k rings m other there i.
+      let r = rings_detached serial (at s.uids v) rings k (sym (at_map (rings_without serial) s.uids v) ∙ there) i in
+      alone.uids v k r.0 m other r.1 r.2;
+}
+
+cond_is : {X : Type 0} (b : Bool) (o : Option X) (x : X) → cond b o None ≡ Some x → o ≡ Some x
+cond_is true o x h = h
+cond_is false o x h = absurd (none-some x h)
+
+-- all that a client attaches is let go of
+pub left_unattached :
+    (uid : ℕ) (private : ℕ → Bool) (s : State) (client : ℕ) → AreUnattached uid private s
+    → AreUnattached uid private (left s client)
+unfolding left
+left_unattached uid private s client alone =
+    let contexts = contexts_without client s.contexts in
+    record {
+      contexts = λ k m i. alone.contexts k m (attached_fewer (foreign_keys uid) _ s.contexts k i);
+      processes = λ p k m there i. alone.processes p k m
+          (cond_is (has_process contexts p) (at s.processes p) (Some k)
+          (sym (at_kept (has_process contexts) s.processes p) ∙ there))
+          (attached_fewer (foreign_process uid) _ s.contexts p i);
+      uids = λ v k rings m other there i. alone.uids v k rings m other
+          (cond_is (has_uid contexts v) (at s.uids v) rings (sym (at_kept (has_uid contexts) s.uids v) ∙ there)) i;
+    }
+
+-- where an entry goes whose test fails, the others stay as they were
+was_unless :
+    {X : Type 0} (es : Table X) (k q : ℕ) (stays : Bool) (x : X) → (stays ≡ false → q ≡ k → ⊥)
+    → at (cond stays es (without es k)) q ≡ Some x → at es q ≡ Some x
+was_unless es k q true x apart h = h
+was_unless es k q false x apart h =
+    ⊎_elim (λ (same : q ≡ k). absurd (apart refl same)) (λ other. sym (at_without_other es k q other) ∙ h)
+    (at_or_apart q k)
+
+process_of_one :
+    (es : Table Context) (p : ℕ)
+    → list_any (λ c. c.process == p) (values_of es) ≡ is_in p (attachments own_process es)
+process_of_one [] p = refl
+process_of_one (e ∷ es) p = ap (λ (b : Bool). (e.1.process == p) || b) (process_of_one es p)
+
+was_left :
+    {X : Type 0} (es : Table X) (k q : ℕ) (stays : Bool) (x : X) → Rises es
+    → at (cond stays es (without es k)) q ≡ Some x → at es q ≡ Some x
+was_left es k q true x rises h = h
+was_left es k q false x rises h =
+    ⊎_elim (λ (same : q ≡ k). absurd (none-some x (sym (at_without_same es k (rises_distinct es rises)) ∙ (ap (at (without es k)) (sym same) ∙ h))))
+    (λ other. sym (at_without_other es k q other) ∙ h)
+    (at_or_apart q k)
+
+-- one context less, and its process and its uid where they have none left
+pub exited_unattached :
+    (uid : ℕ) (private : ℕ → Bool) (s : State) (number : ℕ) (c : Context) → Rises s.uids → AreUnattached uid private s
+    → AreUnattached uid private (exited s number c)
+exited_unattached uid private s number c rises alone =
+    let contexts = without s.contexts number in
+    record {
+      contexts = λ k m i. alone.contexts k m (attached_without (foreign_keys uid) s.contexts number k i);
+      processes = λ p k m there i.
+          let has : has_process contexts p ≡ true = process_of_one contexts p ∙ foreign_own uid contexts p i in
+          alone.processes p k m
+          (was_unless s.processes c.process p (has_process contexts c.process) (Some k)
+          (λ gone same. true≢false (sym has ∙ (ap (has_process contexts) same ∙ gone))) there)
+          (attached_without (foreign_process uid) s.contexts number p i);
+      uids = λ v k rings m other there i.
+          alone.uids v k rings m other
+          (was_left s.uids c.caller.uid v (has_uid contexts c.caller.uid) rings rises there) i;
+    }

@@ -1,0 +1,421 @@
+-- A new key is its maker's own, and linked from nowhere but where it was put.
+use Rattle.std.proofs.Common.{◌≡◌, ℕ, ℤ, ◌+◌, ◌≤◌, ◌==◌, ◌&&◌, ◌||◌, nat_le, nat_lt, length, List, [], ◌∷◌, Option, Some, None}
+use Rattle.std.proofs.Common.{Bool, true, false, cond, Result, Ok, Err, refl, ap, ◌∙◌, sym, subst, arith, inr, ⊎_elim}
+use Rattle.std.specs.Option.{IsSome}
+use Rattle.std.specs.Prelude.{codes}
+use Rattle.std.proofs.lemmas.Bool.{true≢false, leb-true}
+use Rattle.std.proofs.lemmas.Bool.Decides.{nat_tests}
+use Rattle.std.proofs.lemmas.Option.{same_Some}
+use Rattle.krs_types.specs.declared.errno.Errno.{Errno}
+use Rattle.krs_types.specs.declared.kind.Kind.{Kind}
+use Rattle.krs_types.specs.declared.kind.Kind.TheVariants.{User, Logon, Keyring}
+use Rattle.krs_types.specs.declared.caller.Caller.{Caller}
+use Rattle.krs_types.specs.declared.context.Context.{Context}
+use Rattle.krs_types.specs.declared.context.UidRings.{UidRings}
+use Rattle.krs_types.specs.declared.key_id.KeyId.{KeyId}
+use Rattle.krs_types.specs.declared.name.Name.{Name}
+use Rattle.krs_types.specs.declared.rights.Want.TheVariants.{Granted}
+use Rattle.krs_types.specs.declared.ask.Answer.{Answer}
+use Rattle.krs_types.specs.declared.ask.Op.{Op}
+use Rattle.krs_types.specs.declared.ask.Op.TheVariants.{Hello, Thread, Fork, Exec, GetId, Join, Search, Request, Add}
+use Rattle.krs_types.specs.declared.ask.Op.TheVariants.{Update, Revoke, Invalidate, Chown, SetPerm, SetTimeout, Link}
+use Rattle.krs_types.specs.declared.ask.Op.TheVariants.{Unlink}
+use Rattle.krs_types.specs.declared.ask.Op.TheVariants.{Clear, Read, Describe, Watch, OpenQueue, SetFilter, ReadQueue}
+use Rattle.krs_types.specs.declared.ask.Op.TheVariants.{CloseQueue, Exit, Leave}
+use Rattle.krs_types.specs.declared.ask.Op.TheVariants.{Move, RestrictKeyring}
+use Rattle.krs_types.specs.declared.event.Event.{Event}
+use Rattle.krs_types.specs.Perm.{group_byte, other_byte}
+use Rattle.krs_types.specs.Rights.{SEARCH, WRITE}
+use Rattle.krs_types.specs.Caller.{caller_check}
+use Rattle.krs_types.specs.KeyId.{key_id_of}
+use Rattle.krs_model.specs.Table.{Table, at, put, IsBelow}
+use Rattle.krs_model.specs.State.{State, Key, raised}
+use Rattle.krs_model.specs.Levels.{is_in}
+use Rattle.krs_model.specs.Lookup.{context_of, serial_of, look_up}
+use Rattle.krs_model.specs.Linking.{is_named, ring_links, link_named}
+use Rattle.krs_model.specs.Reach.{links_of_key_at}
+use Rattle.krs_model.specs.Sweep.{IsSweep}
+use Rattle.krs_model.specs.Sound.{IsSound}
+use Rattle.krs_model.specs.Step.{Step, Ends, outcome_of, posts_by}
+use Rattle.krs_model.specs.Notes.Posting.{Post, posted_in}
+use Rattle.krs_model.specs.Making.{own_ring, special_ring, made_for}
+use Rattle.krs_model.specs.Asks.Hello.{hello, has_context_left, has_numbers, with_uid, uid_ring}
+use Rattle.krs_model.specs.Asks.Joining.{join, joinable, session_named, session_joined, session_ring}
+use Rattle.krs_model.specs.Asks.Finding.{get_id, made_where}
+use Rattle.krs_model.specs.Asks.Adding.{Place, Updated, Made, add, added, admitted, place_of, new_key, first_perm}
+use Rattle.krs_model.specs.Asks.Changing.{updated}
+use Rattle.krs_model.specs.Confidentiality.{is_own, AreEnclosed, HasToItself, IsGivenAway, IsFor, may_make, with_made}
+use Rattle.krs_model.specs.Confidentiality.{ActsAs, IsWithin, MakesForItself}
+use Rattle.krs_model.proofs.Reach.Levels.{true_or, or_true}
+use Rattle.krs_model.proofs.Lookups.Serials.{found_serial}
+use Rattle.krs_model.proofs.Lookups.Laws.{in_by_match}
+use Rattle.krs_model.proofs.Asks.Later.{same_ok, bind_ok}
+use Rattle.krs_model.proofs.MadeKeyring.Which.{IsMade, NoneMade, ThreadMade, ProcessMade, made_for_is}
+use Rattle.krs_model.proofs.Sweep.Laws.{linking_is_there}
+use Rattle.krs_model.proofs.Sound.Changes.{Stands, LinksTo, IsPut, at_put, not_there, with_linked}
+use Rattle.krs_model.proofs.Sound.KeyAsks.{updated_lessens}
+use Rattle.krs_model.proofs.Sound.Steps.{sound_stands, raised_sound, step_sound}
+use Rattle.krs_model.proofs.Isolation.Keys.{KeepsOwn, changed_enclosed, kept_enclosed}
+use Rattle.krs_model.proofs.Asks.Outcomes.{Meets, meets_ok, meets_after, meets_within}
+use Rattle.krs_model.proofs.Isolation.KeyAsks.{lessens_keeps}
+use Rattle.krs_model.proofs.Isolation.Steps.{raised_alone}
+use Rattle.krs_model.proofs.Isolation.Growth.{step_grows, of_made, same_owner, IsNew}
+
+-- these keys, and all serials that are not given yet
+abbrev or_late : (ℕ → Bool) → ℕ → ℕ → Bool
+or_late private n k = private k || nat_le n k
+
+in_late : (private : ℕ → Bool) (n : ℕ) → or_late private n n ≡ true
+in_late private n = or_true (private n) (nat_le n n) (grind (arith, nat_tests))
+
+after_late : (private : ℕ → Bool) (n : ℕ) → or_late private n (n + 1) ≡ true
+after_late private n = or_true (private (n + 1)) (nat_le n (n + 1)) (grind (arith, nat_tests))
+
+late_enclosed :
+    (uid : ℕ) (private : ℕ → Bool) (s : State) → Stands s → HasToItself uid private s
+    → AreEnclosed uid (or_late private s.next_serial) s.keys
+late_enclosed uid private s stands alone =
+    let n = s.next_serial in
+    let none : (k : ℕ) → nat_le n k ≡ true → IsSome (at s.keys k) → ⊥ = λ k m there.
+    not_there (at s.keys k) there (stands.unused k (leb-true n k m)) in
+    record {
+      own = λ k key m is. ⊎_elim (λ (h : private k ≡ true). alone.enclosed.own k key h is)
+          (λ (h : nat_le n k ≡ true). absurd (none k h (rw is refl)))
+          (true_or (private k) (nat_le n k) m);
+      linked = λ j k m i. ⊎_elim
+          (λ (h : private k ≡ true). ap (λ (b : Bool). b || nat_le n j) (alone.enclosed.linked j k h i))
+          (λ (h : nat_le n k ≡ true). absurd (none k h (stands.linked j k i)))
+          (true_or (private k) (nat_le n k) m);
+    }
+
+put_own :
+    (uid : ℕ) (set : ℕ → Bool) (es : Table Key) (n : ℕ) (key : Key) → set n ≡ true → is_own uid key ≡ true
+    → AreEnclosed uid set es → AreEnclosed uid set (put es n key)
+put_own uid set es n key private own alone = record {
+  own = λ k v m is. ⊎_elim
+      (λ (r : IsPut es n key k). subst (λ (z : Key). is_own uid z ≡ true) (same_Some key v (sym r.1 ∙ is)) own)
+      (λ same. alone.own k v m (sym same ∙ is)) (at_put es n k key);
+  linked = λ j k m i. ⊎_elim (λ (r : IsPut es n key j). subst (λ (z : ℕ). set z ≡ true) (sym r.0) private)
+      (λ same. alone.linked j k m (subst (LinksTo k) same i)) (at_put es n j key);
+}
+
+made_own :
+    (uid : ℕ) (key : Key) → key.uid ≡ uid → group_byte key.perm ≡ 0 → other_byte key.perm ≡ 0 → is_own uid key ≡ true
+made_own uid key own group other = grind (arith, nat_tests)
+
+first_own :
+    (uid : ℕ) (kind : Kind) → (group_byte (first_perm kind) ≡ 0) × (other_byte (first_perm kind) ≡ 0)
+first_own uid User = (refl, refl)
+first_own uid Logon = (refl, refl)
+first_own uid Keyring = (refl, refl)
+
+-- these keys are the uid's own, and linked among themselves
+abbrev Encloses : ℕ → (ℕ → Bool) → State → Type 0
+Encloses uid set s = AreEnclosed uid set s.keys
+
+-- the next serial is one of these, and all after it
+IsOnward : (ℕ → Bool) → ℕ → Type 0
+IsOnward set n = (set n ≡ true) × (set (n + 1) ≡ true)
+
+is_made_own :
+    (uid : ℕ) (set : ℕ → Bool) (s : State) (number : ℕ) (c : Context) (id : Result KeyId Errno) (made : State × Context)
+    → IsMade s number c id made → set s.next_serial ≡ true → c.caller.uid ≡ uid → AreEnclosed uid set s.keys
+    → AreEnclosed uid set made.0.keys
+is_made_own uid set s number c id _ NoneMade next own alone = alone
+is_made_own uid set s number c id _ (ThreadMade is none) next own alone =
+    put_own uid set s.keys s.next_serial (special_ring (codes "_tid") c.caller) next
+    (made_own uid (special_ring (codes "_tid") c.caller) own refl refl) alone
+is_made_own uid set s number c id _ (ProcessMade is none) next own alone =
+    put_own uid set s.keys s.next_serial (special_ring (codes "_pid") c.caller) next
+    (made_own uid (special_ring (codes "_pid") c.caller) own refl refl) alone
+
+made_for_own :
+    (uid : ℕ) (set : ℕ → Bool) (s : State) (number : ℕ) (c : Context) (id : ℤ) → set s.next_serial ≡ true
+    → c.caller.uid ≡ uid → AreEnclosed uid set s.keys → AreEnclosed uid set (made_for s number c id).0.keys
+made_for_own uid set s number c id next own alone =
+    is_made_own uid set s number c (key_id_of id) (made_for s number c id) (made_for_is s number c id) next own alone
+
+is_made_next :
+    (set : ℕ → Bool) (s : State) (number : ℕ) (c : Context) (id : Result KeyId Errno) (made : State × Context)
+    → IsMade s number c id made → set s.next_serial ≡ true → set (s.next_serial + 1) ≡ true
+    → (set made.0.next_serial ≡ true) × (made.1.caller ≡ c.caller)
+is_made_next set s number c id _ NoneMade here next = (here, refl)
+is_made_next set s number c id _ (ThreadMade is none) here next = (next, refl)
+is_made_next set s number c id _ (ProcessMade is none) here next = (next, refl)
+
+where_own :
+    (uid : ℕ) (set : ℕ → Bool) (create : Bool) (s : State) (number : ℕ) (c : Context) (id : ℤ)
+    → set s.next_serial ≡ true → c.caller.uid ≡ uid → AreEnclosed uid set s.keys
+    → AreEnclosed uid set (made_where create s number c id).0.keys
+where_own uid set true s number c id next own alone = made_for_own uid set s number c id next own alone
+where_own uid set false s number c id next own alone = alone
+
+get_id_keeps :
+    (uid : ℕ) (set : ℕ → Bool) (s : State) (client context : ℕ) (id : ℤ) (create : Bool) → ActsAs uid s client context
+    → set s.next_serial ≡ true → AreEnclosed uid set s.keys → Meets (Encloses uid set) (get_id s client context id create)
+unfolding get_id
+get_id_keeps uid set s client context id create ask next alone =
+    meets_after (context_of s client context) _ (λ c own.
+    let made = made_where create s context c id in
+    let still = where_own uid set create s context c id next (same_owner uid s client context c ask own) alone in
+    meets_within s _ (meets_after (look_up made.0 made.1 id (Granted SEARCH)) _ (λ key _. meets_ok still)))
+
+session_own : (uid : ℕ) (name : List ℕ) (c : Caller) → c.uid ≡ uid → is_own uid (session_ring name c) ≡ true
+session_own uid name c own =
+    elim (length name == 0) as (λ b. is_own uid (cond b (own_ring (codes "_ses") 1057161216 true c)
+    (own_ring name 1058209792 true c)) ≡ true) [
+      | true ↦ made_own uid (own_ring (codes "_ses") 1057161216 true c) own refl refl
+      | false ↦ made_own uid (own_ring name 1058209792 true c) own refl refl
+    ]
+
+joined_keeps :
+    (uid : ℕ) (set : ℕ → Bool) (s : State) (number : ℕ) (c : Context) (name : List ℕ) (answer : Option (ℕ × Key))
+    → set s.next_serial ≡ true → c.caller.uid ≡ uid → AreEnclosed uid set s.keys
+    → Meets (Encloses uid set) (session_joined s number c name answer)
+joined_keeps uid set s number c name (Some found) next own alone = meets_ok alone
+joined_keeps uid set s number c name None next own alone =
+    meets_ok (put_own uid set s.keys s.next_serial (session_ring name c.caller) next
+    (session_own uid name c.caller own) alone)
+
+join_keeps :
+    (uid : ℕ) (set : ℕ → Bool) (s : State) (client context : ℕ) (name : List ℕ) → ActsAs uid s client context
+    → set s.next_serial ≡ true → AreEnclosed uid set s.keys → Meets (Encloses uid set) (join s client context name)
+unfolding join
+join_keeps uid set s client context name ask next alone =
+    meets_after (context_of s client context) _ (λ c own.
+    meets_after (session_named name) _ (λ fit _.
+    meets_within s _ (joined_keeps uid set s context c name (joinable s c.caller name) next
+    (same_owner uid s client context c ask own) alone)))
+
+uid_keeps :
+    (uid : ℕ) (set : ℕ → Bool) (s : State) (c : Caller) (rings : Option UidRings) → set s.next_serial ≡ true
+    → set (s.next_serial + 1) ≡ true → c.uid ≡ uid → AreEnclosed uid set s.keys
+    → AreEnclosed uid set (with_uid s c rings).keys
+uid_keeps uid set s c (Some rings) here next own alone = alone
+uid_keeps uid set s c None here next own alone =
+    let n = s.next_serial in
+    let user = uid_ring (codes "_uid.") [] c in
+    let session = uid_ring (codes "_uid_ses.") (n ∷ []) c in
+    put_own uid set (put s.keys n user) (n + 1) session next (made_own uid session own refl refl)
+    (put_own uid set s.keys n user here (made_own uid user own refl refl) alone)
+
+hello_keeps :
+    (uid : ℕ) (set : ℕ → Bool) (s : State) (client : ℕ) (c : Caller) → c.uid ≡ uid → set s.next_serial ≡ true
+    → set (s.next_serial + 1) ≡ true → AreEnclosed uid set s.keys → Meets (Encloses uid set) (hello s client c)
+unfolding hello
+hello_keeps uid set s client c own here next alone =
+    let rings = at s.uids c.uid in
+    meets_after (caller_check c) _ (λ known _.
+    meets_after (has_context_left s client) _ (λ room _.
+    meets_after (has_numbers s rings) _ (λ numbers _.
+    meets_ok (uid_keeps uid set s c rings here next own alone))))
+
+-- where a key is made, it is in the keyring that the id names
+made_named :
+    (s : State) (c : Context) (name : Name) (id : ℤ) (r : ℕ) → place_of s c name id ≡ Ok (Made r)
+    → serial_of s c id ≡ Ok r
+unfolding place_of
+made_named s c name id r h =
+    let a = bind_ok (look_up s c id (Granted WRITE)) _ (Made r) h in
+    let b = bind_ok (ring_links a.0.1.content) _ (Made r) a.2 in
+    let here : r ≡ a.0.0 = in_by_match s c a.0 r b.0 (link_named s.keys name b.0) b.2 in
+    found_serial s c id (Granted WRITE) a.0 a.1 ∙ ap (λ (z : ℕ). Ok z) (sym here)
+
+added_keeps :
+    (uid : ℕ) (set : ℕ → Bool) (s : State) (c : Context) (name : Name) (payload : List ℕ) (id : ℤ) (place : Place)
+    → place_of s c name id ≡ Ok place → ((into : ℕ) → serial_of s c id ≡ Ok into → set into ≡ true)
+    → set s.next_serial ≡ true → c.caller.uid ≡ uid → AreEnclosed uid set s.keys
+    → AreEnclosed uid set (added s c name payload place).keys
+added_keeps uid set s c name payload id (Updated serial) is within next own alone =
+    changed_enclosed uid set s.keys serial (updated payload)
+    (lessens_keeps uid set serial (updated payload) (updated_lessens payload) (λ v m h. h)) alone
+added_keeps uid set s c name payload id (Made ring) is within next own alone =
+    let n = s.next_serial in
+    let key = new_key name payload c.caller.uid c.caller.gid in
+    let rights = first_own uid name.kind in
+    let displaced : ℕ → Bool = λ k. is_named name (at s.keys k) in
+    let private : set ring ≡ true = within ring (made_named s c name id ring is) in
+    let keeps : KeepsOwn uid set ring (with_linked displaced n) = record {
+      own = λ v m h. h;
+      links = λ v k m i. inr private;
+    } in
+    changed_enclosed uid set (put s.keys n key) ring (with_linked displaced n) keeps
+    (put_own uid set s.keys n key next (made_own uid key own rights.0 rights.1) alone)
+
+add_keeps :
+    (uid : ℕ) (set : ℕ → Bool) (s : State) (client context : ℕ) (type_name desc payload : List ℕ) (ring : ℤ)
+    → ((c : Context) → context_of s client context ≡ Ok c → (into : ℕ)
+    → serial_of (made_for s context c ring).0 (made_for s context c ring).1 ring ≡ Ok into → set into ≡ true)
+    → ActsAs uid s client context → set s.next_serial ≡ true → set (s.next_serial + 1) ≡ true
+    → AreEnclosed uid set s.keys → Meets (Encloses uid set) (add s client context type_name desc payload ring)
+unfolding add
+add_keeps uid set s client context type_name desc payload ring within ask here next alone =
+    meets_after (context_of s client context) _ (λ c own.
+    meets_after (admitted type_name desc payload) _ (λ name _.
+    let made = made_for s context c ring in
+    let private = same_owner uid s client context c ask own in
+    let after = is_made_next set s context c (key_id_of ring) made (made_for_is s context c ring) here next in
+    let owner : made.1.caller.uid ≡ uid = ap (λ (z : Caller). z.uid) after.1 ∙ private in
+    meets_after (place_of made.0 made.1 name ring) _ (λ place is.
+    meets_ok (added_keeps uid set made.0 made.1 name payload ring place is (within c own) after.0 owner
+    (made_for_own uid set s context c ring here private alone)))))
+
+outcome_keeps :
+    (uid : ℕ) (private : ℕ → Bool) (s : State) (client context : ℕ) (op : Op) → Stands s → HasToItself uid private s
+    → MakesForItself uid private s client context op
+    → Meets (Encloses uid (or_late private s.next_serial)) (outcome_of s client context op)
+outcome_keeps uid private s client context (Hello caller) stands alone makes =
+    hello_keeps uid (or_late private s.next_serial) s client caller makes (in_late private s.next_serial)
+    (after_late private s.next_serial) (late_enclosed uid private s stands alone)
+outcome_keeps uid private s client context (GetId id create) stands alone makes =
+    get_id_keeps uid (or_late private s.next_serial) s client context id create makes.1 (in_late private s.next_serial)
+    (late_enclosed uid private s stands alone)
+outcome_keeps uid private s client context (Join name) stands alone makes =
+    join_keeps uid (or_late private s.next_serial) s client context name makes (in_late private s.next_serial)
+    (late_enclosed uid private s stands alone)
+outcome_keeps uid private s client context (Add type_name desc payload ring) stands alone makes =
+    let acts = makes.0 in
+    let within : (c : Context) → context_of s client context ≡ Ok c → IsWithin private s context c ring = λ c own.
+    subst (λ (d : Context). IsWithin private s context d ring)
+    (same_ok (context_of s client context) acts.context c acts.there own) makes.1 in
+    add_keeps uid (or_late private s.next_serial) s client context type_name desc payload ring within acts (in_late private s.next_serial) (after_late private s.next_serial)
+    (late_enclosed uid private s stands alone)
+outcome_keeps uid private s client context (Search head type_name desc dest) stands alone makes = absurd makes
+outcome_keeps uid private s client context (Request type_name desc dest) stands alone makes = absurd makes
+outcome_keeps uid private s client context (Link key ring) stands alone makes = absurd makes
+outcome_keeps uid private s client context (Move key from to flags) stands alone makes = absurd makes
+outcome_keeps uid private s client context Thread stands alone makes = absurd makes
+outcome_keeps uid private s client context Fork stands alone makes = absurd makes
+outcome_keeps uid private s client context Exec stands alone makes = absurd makes
+outcome_keeps uid private s client context (Update id payload) stands alone makes = absurd makes
+outcome_keeps uid private s client context (Revoke id) stands alone makes = absurd makes
+outcome_keeps uid private s client context (Invalidate id) stands alone makes = absurd makes
+outcome_keeps uid private s client context (Chown id to gid) stands alone makes = absurd makes
+outcome_keeps uid private s client context (SetPerm id mask) stands alone makes = absurd makes
+outcome_keeps uid private s client context (SetTimeout id seconds) stands alone makes = absurd makes
+outcome_keeps uid private s client context (Unlink key ring) stands alone makes = absurd makes
+outcome_keeps uid private s client context (RestrictKeyring ring type_name) stands alone makes = absurd makes
+outcome_keeps uid private s client context (Clear id) stands alone makes = absurd makes
+outcome_keeps uid private s client context (Read id) stands alone makes = absurd makes
+outcome_keeps uid private s client context (Describe id) stands alone makes = absurd makes
+outcome_keeps uid private s client context (Watch id queue watch_id) stands alone makes = absurd makes
+outcome_keeps uid private s client context (OpenQueue capacity) stands alone makes = absurd makes
+outcome_keeps uid private s client context (SetFilter queue entries) stands alone makes = absurd makes
+outcome_keeps uid private s client context (ReadQueue queue room) stands alone makes = absurd makes
+outcome_keeps uid private s client context (CloseQueue queue) stands alone makes = absurd makes
+outcome_keeps uid private s client context Exit stands alone makes = absurd makes
+outcome_keeps uid private s client context Leave stands alone makes = absurd makes
+
+same_acts :
+    (uid : ℕ) (s : State) (moment client number : ℕ) → ActsAs uid (raised s moment) client number
+    → ActsAs uid s client number
+unfolding context_of
+same_acts uid s moment client number acts = record { context = acts.context; there = acts.there; own = acts.own }
+
+-- such an ask may make keys, and is for the uid
+makes_may :
+    (uid : ℕ) (private : ℕ → Bool) (s : State) (moment client context : ℕ) (op : Op)
+    → MakesForItself uid private (raised s moment) client context op
+    → (may_make op ≡ true) × IsFor uid s client context op
+makes_may uid private s moment client context (Hello caller) makes = (refl, makes)
+makes_may uid private s moment client context (GetId id create) makes =
+    (makes.0, same_acts uid s moment client context makes.1)
+makes_may uid private s moment client context (Join name) makes = (refl, same_acts uid s moment client context makes)
+makes_may uid private s moment client context (Add type_name desc payload ring) makes =
+    (refl, same_acts uid s moment client context makes.0)
+makes_may uid private s moment client context (Search head type_name desc dest) makes = absurd makes
+makes_may uid private s moment client context (Request type_name desc dest) makes = absurd makes
+makes_may uid private s moment client context (Link key ring) makes = absurd makes
+makes_may uid private s moment client context (Move key from to flags) makes = absurd makes
+makes_may uid private s moment client context Thread makes = absurd makes
+makes_may uid private s moment client context Fork makes = absurd makes
+makes_may uid private s moment client context Exec makes = absurd makes
+makes_may uid private s moment client context (Update id payload) makes = absurd makes
+makes_may uid private s moment client context (Revoke id) makes = absurd makes
+makes_may uid private s moment client context (Invalidate id) makes = absurd makes
+makes_may uid private s moment client context (Chown id to gid) makes = absurd makes
+makes_may uid private s moment client context (SetPerm id mask) makes = absurd makes
+makes_may uid private s moment client context (SetTimeout id seconds) makes = absurd makes
+makes_may uid private s moment client context (Unlink key ring) makes = absurd makes
+makes_may uid private s moment client context (RestrictKeyring ring type_name) makes = absurd makes
+makes_may uid private s moment client context (Clear id) makes = absurd makes
+makes_may uid private s moment client context (Read id) makes = absurd makes
+makes_may uid private s moment client context (Describe id) makes = absurd makes
+makes_may uid private s moment client context (Watch id queue watch_id) makes = absurd makes
+makes_may uid private s moment client context (OpenQueue capacity) makes = absurd makes
+makes_may uid private s moment client context (SetFilter queue entries) makes = absurd makes
+makes_may uid private s moment client context (ReadQueue queue room) makes = absurd makes
+makes_may uid private s moment client context (CloseQueue queue) makes = absurd makes
+makes_may uid private s moment client context Exit makes = absurd makes
+makes_may uid private s moment client context Leave makes = absurd makes
+
+swept_keeps :
+    (uid : ℕ) (set : ℕ → Bool) (old new : State) → IsSweep old new → AreEnclosed uid set old.keys
+    → AreEnclosed uid set new.keys
+swept_keeps uid set old new s alone =
+    subst (AreEnclosed uid set) (sym s.keys) (kept_enclosed uid set old.keys s.kept alone)
+
+posted_keys : (ps : List Post) (s : State) → (posted_in ps s).keys ≡ s.keys
+posted_keys ps s = refl
+
+ended_keeps :
+    (uid : ℕ) (private : ℕ → Bool) (s new : State) (client context : ℕ) (op : Op) (reply : Result Answer Errno)
+    → IsSound s → HasToItself uid private s → MakesForItself uid private s client context op
+    → Ends s client context op reply new → AreEnclosed uid (or_late private s.next_serial) new.keys
+ended_keeps uid private s new client context op (Ok answer) sound alone makes serves =
+    let set : ℕ → Bool = or_late private s.next_serial in
+    let mid = (outcome_keeps uid private s client context op (sound_stands s sound) alone makes).meets serves.mid answer
+    serves.meant in
+    let swept = swept_keeps uid set serves.mid serves.swept serves.sweep mid in
+    let ps : List Post = posts_by s client context op answer serves.swept.keys in
+    subst (λ (z : State). AreEnclosed uid set z.keys) (sym serves.posted)
+    (subst (AreEnclosed uid set) (sym (posted_keys ps serves.swept)) swept)
+ended_keeps uid private s new client context op (Err e) sound alone makes ends =
+    subst (λ (z : State). AreEnclosed uid (or_late private s.next_serial) z.keys) (sym ends.1)
+    (late_enclosed uid private s (sound_stands s sound) alone)
+
+late_is_made :
+    (private : ℕ → Bool) (old new : State) (j : ℕ) → IsBelow new.keys new.next_serial → IsSome (at new.keys j)
+    → or_late private old.next_serial j ≡ true → with_made private old new j ≡ true
+late_is_made private old new j unused there m =
+    ⊎_elim (λ (h : private j ≡ true). ap (λ (b : Bool). b || (nat_le old.next_serial j && nat_lt j new.next_serial)) h)
+    (λ (h : nat_le old.next_serial j ≡ true).
+    or_true (private j) (nat_le old.next_serial j && nat_lt j new.next_serial)
+    (elim (nat_lt j new.next_serial) as
+    (λ b. nat_lt j new.next_serial ≡ b → (nat_le old.next_serial j && b) ≡ true) [
+      | true ↦ λ t. ap (λ (b : Bool). b && true) h
+      | false ↦ λ t. let above : new.next_serial ≤ j = grind (arith, nat_tests) in
+          absurd (not_there (at new.keys j) there (unused j above))
+    ] refl))
+    (true_or (private j) (nat_le old.next_serial j) m)
+
+-- an ask that makes keys for its own uid gives none away
+none_given :
+    (uid : ℕ) (private : ℕ → Bool) (old new : State) → IsBelow new.keys new.next_serial
+    → AreEnclosed uid (or_late private old.next_serial) new.keys → IsGivenAway uid (with_made private old new) new.keys → ⊥
+none_given uid private old new unused alone given =
+    let k = given.serial in
+    let late_is : or_late private old.next_serial k ≡ true =
+    ⊎_elim (λ (h : private k ≡ true). ap (λ (b : Bool). b || nat_le old.next_serial k) h)
+    (λ (h : IsNew old new k). or_true (private k) (nat_le old.next_serial k) h.late) (of_made private old new k given.own) in
+    ⊎_elim
+    (λ (h : (key : Key) × (at new.keys k ≡ Some key) × (is_own uid key ≡ false)).
+    true≢false (sym (alone.own k h.0 late_is h.1) ∙ h.2))
+    (λ (h : (ring : ℕ) × (with_made private old new ring ≡ false) × (is_in k (links_of_key_at new.keys ring) ≡ true)).
+    let there = linking_is_there k (at new.keys h.0) h.2 in
+    true≢false (sym (late_is_made private old new h.0 unused there (alone.linked h.0 k late_is h.2)) ∙ h.1)) given.how
+
+pub step_births :
+    (uid : ℕ) (private : ℕ → Bool) (old new : State) (event : Event) → IsSound old → HasToItself uid private old
+    → Step old event new
+    → MakesForItself uid private (raised old event.moment) event.lane event.ask.context event.ask.op
+    → HasToItself uid (with_made private old new) new
+unfolding Step
+step_births uid private old new event sound alone step makes =
+    let up = raised old event.moment in
+    let above = raised_sound old event.moment sound in
+    let may = makes_may uid private old event.moment event.lane event.ask.context event.ask.op makes in
+    let kept = ended_keeps uid private up new event.lane event.ask.context event.ask.op event.reply above
+    (raised_alone uid private old event.moment alone) makes step in
+    let after = step_sound old new event sound step in
+    step_grows uid private old new event sound alone step may.0 may.1 (none_given uid private old new after.unused kept)

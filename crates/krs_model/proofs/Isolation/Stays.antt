@@ -1,0 +1,486 @@
+-- An ask in no context of a uid drops none of the keys that the uid has to itself: what holds them stays.
+use Rattle.std.proofs.Common.{◌≡◌, ◌≢◌, ℕ, ℤ, ◌==◌, ◌||◌, List, [], ◌∷◌, ◌++◌, Option, Some, None, Bool, true, false}
+use Rattle.std.proofs.Common.{cond, not, filter, Result, Ok, Err, refl, ap, ◌∙◌, sym, subst, arith, ◌⊎◌, inl, inr, ⊎_elim}
+use Rattle.std.specs.Option.{IsSome, option_map, option_to_list}
+use Rattle.std.specs.Result.{IsOk}
+use Rattle.std.proofs.lemmas.Bool.{true≢false}
+use Rattle.std.proofs.lemmas.Bool.Decides.{nat_tests}
+use Rattle.std.proofs.lemmas.Option.{none-some, same_Some}
+use Rattle.krs_types.specs.declared.context.Context.{Context}
+use Rattle.krs_types.specs.declared.context.UidRings.{UidRings}
+use Rattle.krs_types.specs.declared.ask.Op.{Op}
+use Rattle.krs_types.specs.declared.ask.Op.TheVariants.{Leave, Invalidate}
+use Rattle.krs_types.specs.declared.ask.Answer.{Answer}
+use Rattle.krs_types.specs.declared.errno.Errno.{Errno}
+use Rattle.krs_types.specs.declared.event.Event.{Event}
+use Rattle.krs_types.specs.declared.rights.Want.TheVariants.{Granted}
+use Rattle.krs_types.specs.Rights.{SEARCH}
+use Rattle.krs_model.specs.Table.{Table, at, put, alter}
+use Rattle.krs_model.specs.State.{State, Key, Payload, Links, raised}
+use Rattle.krs_model.specs.Levels.{is_in}
+use Rattle.krs_model.specs.Lookup.{context_of, serial_of}
+use Rattle.krs_model.specs.Possession.{links_of_content}
+use Rattle.krs_model.specs.Reach.{links_of_key_at}
+use Rattle.krs_model.specs.Sweep.{IsHeld, Attached, Linked, IsSweep, links_of_key, roots, context_roots, process_roots, uid_roots}
+use Rattle.krs_model.specs.Sound.{IsSound}
+use Rattle.krs_model.specs.Step.{Step, Ends, Serves}
+use Rattle.krs_model.specs.Asks.Invalidating.{detached, context_without, rings_without}
+use Rattle.krs_model.specs.Asks.Leaving.{left, has_process, has_uid, contexts_without}
+use Rattle.krs_model.specs.Asks.Linked.{without_link}
+use Rattle.krs_model.specs.Confidentiality.{foreign_keys, foreign_process, HasToItself, IsAskedBy, AreUnchanged}
+use Rattle.krs_model.proofs.Tables.Changes.{at_map, at_kept}
+use Rattle.krs_model.proofs.Tables.Entries.{IsEntry, rises_distinct, entry_passes, filter_still, still_unless}
+use Rattle.krs_model.proofs.Reach.Levels.{same_is, in_left, in_right, in_one, only_in}
+use Rattle.krs_model.proofs.Lookups.Serials.{own_there, found_serial}
+use Rattle.krs_model.proofs.Asks.Houses.{Houses, Same, Begins, Enters, Threads, Alters, Rings, Execs, Detaches, Exits}
+use Rattle.krs_model.proofs.Asks.Houses.{Departs, outcome_houses}
+use Rattle.krs_model.proofs.Sound.Changes.{IsChanged, at_change, IsPut, at_put}
+use Rattle.krs_model.proofs.Sound.Attached.{context_keys, uid_keys, attached_at, attached_entry, attached_by}
+use Rattle.krs_model.proofs.Sound.Attached.{in_context, in_process, in_uid}
+use Rattle.krs_model.proofs.Sound.Steps.{sound_stands, raised_sound}
+use Rattle.krs_model.proofs.Isolation.Attachments.{is_foreign}
+use Rattle.krs_model.proofs.Isolation.Keys.{false_where}
+use Rattle.krs_model.proofs.Sound.InUse.{was_mapped}
+use Rattle.krs_model.proofs.Isolation.KeyAsks.{NotBy, none_found}
+use Rattle.krs_model.proofs.Isolation.Steps.{raised_alone, same_context}
+use Rattle.krs_model.proofs.Isolation.Untouched.{KeysAfter, IsDetached, AreSame, outcome_keeps}
+
+-- no context of the uid asks, nor leaves
+pub record IsOutside (uid : ℕ) (s : State) (client context : ℕ) (op : Op) : Type 0 where
+  pub other : NotBy uid s client context
+  pub stays : op ≡ Leave → (n : ℕ) (c : Context) → at s.contexts n ≡ Some c → c.client ≡ client → c.caller.uid ≢ uid
+
+put_stays :
+    {X : Type 0} (es : Table X) (n k : ℕ) (x v : X) → at es n ≡ None → at es k ≡ Some v → at (put es n x) k ≡ Some v
+put_stays es n k x v none there =
+    ⊎_elim (λ (r : IsPut es n x k). absurd (none-some v (sym none ∙ (ap (at es) (sym r.0) ∙ there))))
+    (λ same. same ∙ there) (at_put es n k x)
+
+alter_stays :
+    {X : Type 0} (es : Table X) (n k : ℕ) (f : X → X) (v : X) → (k ≡ n → ⊥) → at es k ≡ Some v
+    → at (alter es n f) k ≡ Some v
+alter_stays es n k f v apart there =
+    ⊎_elim (λ (r : IsChanged es n f k). absurd (apart r.0)) (λ same. same ∙ there) (at_change es n k f)
+
+-- what attaches one of these keys is of the uid
+own_context :
+    (uid : ℕ) (private : ℕ → Bool) (s : State) (n k : ℕ) (c : Context) → HasToItself uid private s → private k ≡ true
+    → at s.contexts n ≡ Some c → is_in k (context_keys c) ≡ true → c.caller.uid ≡ uid
+own_context uid private s n k c alone m there i =
+    elim (c.caller.uid == uid) as (λ b. (c.caller.uid == uid) ≡ b → c.caller.uid ≡ uid) [
+      | true ↦ λ t. grind (arith, nat_tests)
+      | false ↦ λ t. absurd (alone.unattached.contexts k m (attached_at (foreign_keys uid) s.contexts n c k there
+          (subst (λ (xs : List ℕ). is_in k xs ≡ true)
+          (sym (is_foreign uid c (λ e. true≢false (sym (same_is c.caller.uid uid e) ∙ t))).0) i)))
+    ] refl
+
+own_process :
+    (uid : ℕ) (private : ℕ → Bool) (s : State) (n p k : ℕ) (c : Context) → HasToItself uid private s
+    → private k ≡ true → at s.processes p ≡ Some (Some k) → at s.contexts n ≡ Some c → c.process ≡ p
+    → c.caller.uid ≡ uid
+own_process uid private s n p k c alone m is there same =
+    let self : is_in p (c.process ∷ []) ≡ true = ap (λ (b : Bool). b || false) (same_is c.process p same) in
+    elim (c.caller.uid == uid) as (λ b. (c.caller.uid == uid) ≡ b → c.caller.uid ≡ uid) [
+      | true ↦ λ t. grind (arith, nat_tests)
+      | false ↦ λ t. absurd (alone.unattached.processes p k m is (attached_at (foreign_process uid) s.contexts n c p there
+          (subst (λ (xs : List ℕ). is_in p xs ≡ true)
+          (sym (is_foreign uid c (λ e. true≢false (sym (same_is c.caller.uid uid e) ∙ t))).1) self)))
+    ] refl
+
+own_uid :
+    (uid : ℕ) (private : ℕ → Bool) (s : State) (v k : ℕ) (rings : UidRings) → HasToItself uid private s
+    → private k ≡ true → at s.uids v ≡ Some rings → is_in k (uid_keys rings) ≡ true → v ≡ uid
+own_uid uid private s v k rings alone m is i =
+    elim (v == uid) as (λ b. (v == uid) ≡ b → v ≡ uid) [
+      | true ↦ λ t. grind (arith, nat_tests)
+      | false ↦ λ t. absurd (alone.unattached.uids v k rings m
+          (λ e. true≢false (sym (same_is v uid e) ∙ t)) is i)
+    ] refl
+
+-- what attaches one of these keys attaches it still
+record StaysAttached (private : ℕ → Bool) (s : State) (contexts : Table Context) (processes : Table (Option ℕ))
+    (uids : Table UidRings) : Type 0 where
+  pub by_context : (n k : ℕ) (c : Context) → private k ≡ true → at s.contexts n ≡ Some c
+      → is_in k (context_keys c) ≡ true → IsEntry contexts (λ d. is_in k (context_keys d) ≡ true)
+  pub by_process : (p k : ℕ) → private k ≡ true → at s.processes p ≡ Some (Some k) → at processes p ≡ Some (Some k)
+  pub by_uid : (v k : ℕ) (rings : UidRings) → private k ≡ true → at s.uids v ≡ Some rings
+      → is_in k (uid_keys rings) ≡ true → IsEntry uids (λ r. is_in k (uid_keys r) ≡ true)
+
+entry :
+    {X : Type 0} (es : Table X) (P : X → Type 0) (n : ℕ) (v : X) → at es n ≡ Some v → P v → IsEntry es P
+entry {X} es P n v there holds = record { number = n; value = v; there = there; holds = holds }
+
+-- the context that asks attaches none of these keys
+not_asking :
+    (uid : ℕ) (private : ℕ → Bool) (s : State) (client context n k : ℕ) (c d : Context) → HasToItself uid private s
+    → NotBy uid s client context → context_of s client context ≡ Ok c → private k ≡ true → at s.contexts n ≡ Some d
+    → is_in k (context_keys d) ≡ true → n ≡ context → ⊥
+not_asking uid private s client context n k c d alone other own m there i same =
+    let asker : d ≡ c = same_Some d c (sym there ∙ (ap (at s.contexts) same ∙ own_there s client context c own)) in
+    other c own (ap (λ (z : Context). z.caller.uid) (sym asker) ∙ own_context uid private s n k d alone m there i)
+
+-- nor does its process
+not_its_process :
+    (uid : ℕ) (private : ℕ → Bool) (s : State) (client context p k : ℕ) (c : Context) → HasToItself uid private s
+    → NotBy uid s client context → context_of s client context ≡ Ok c → private k ≡ true
+    → at s.processes p ≡ Some (Some k) → p ≡ c.process → ⊥
+not_its_process uid private s client context p k c alone other own m there same =
+    other c own (own_process uid private s context p k c alone m there (own_there s client context c own) (sym same))
+
+not_gone : (private : ℕ → Bool) (k gone : ℕ) → private k ≡ true → (private gone ≡ true → ⊥) → (k == gone) ≡ false
+not_gone private k gone m apart =
+    elim (k == gone) as (λ b. (k == gone) ≡ b → b ≡ false) [
+      | true ↦ λ t. let e : k ≡ gone = grind (arith, nat_tests) in
+          absurd (apart (subst (λ (z : ℕ). private z ≡ true) e m))
+      | false ↦ λ t. refl
+    ] refl
+
+still_attached :
+    (gone k : ℕ) (o : Option ℕ) → (k == gone) ≡ false → is_in k (option_to_list o) ≡ true
+    → is_in k (option_to_list (detached gone o)) ≡ true
+still_attached gone k None apart i = i
+still_attached gone k (Some n) apart i =
+    let same : k ≡ n = only_in k n i in
+    let here : (n == gone) ≡ false = ap (λ (z : ℕ). z == gone) (sym same) ∙ apart in
+    rw here i
+
+still_both :
+    (gone k : ℕ) (a b : Option ℕ) → (k == gone) ≡ false → is_in k (option_to_list a ++ option_to_list b) ≡ true
+    → is_in k (option_to_list (detached gone a) ++ option_to_list (detached gone b)) ≡ true
+still_both gone k a b apart i =
+    ⊎_elim (λ h. in_left k (option_to_list (detached gone a)) (option_to_list (detached gone b)) (still_attached gone k a apart h))
+    (λ h. in_right k (option_to_list (detached gone a)) (option_to_list (detached gone b)) (still_attached gone k b apart h))
+    (in_one k (option_to_list a) (option_to_list b) i)
+
+left_stays :
+    (uid : ℕ) (private : ℕ → Bool) (s : State) (client context : ℕ) (op : Op) → IsSound s → HasToItself uid private s
+    → IsOutside uid s client context op → op ≡ Leave
+    → StaysAttached private s (left s client).contexts (left s client).processes (left s client).uids
+unfolding left
+left_stays uid private s client context op sound alone outside is =
+    let contexts = contexts_without client s.contexts in
+    let test : ℕ × Context → Bool = λ e. not (e.1.client == client) in
+    let stays : (n : ℕ) (c : Context) → at s.contexts n ≡ Some c → c.caller.uid ≡ uid → at contexts n ≡ Some c =
+    λ n c there own. filter_still test s.contexts n c there (elim (c.client == client) as
+    (λ b. (c.client == client) ≡ b → not b ≡ true) [
+      | true ↦ λ t. absurd (outside.stays is n c there (grind (arith, nat_tests)) own)
+      | false ↦ λ t. refl
+    ] refl) in
+    record {
+      by_context = λ n k c m there i. entry contexts (λ d. is_in k (context_keys d) ≡ true) n c
+          (stays n c there (own_context uid private s n k c alone m there i)) i;
+      by_process = λ p k m there.
+          let has = sound.used.process p (rw there refl) in
+          let own = own_process uid private s has.number p k has.context alone m there has.there has.so in
+          let passes : has_process contexts p ≡ true = entry_passes (λ (c : Context). c.process == p) contexts has.number
+          has.context (stays has.number has.context has.there own) (same_is has.context.process p has.so) in
+          at_kept (has_process contexts) s.processes p ∙ (ap (λ (b : Bool). cond b (at s.processes p) None) passes ∙ there);
+      by_uid = λ v k rings m there i.
+          let own : v ≡ uid = own_uid uid private s v k rings alone m there i in
+          let has = sound.used.owner v (rw there refl) in
+          let passes : has_uid contexts v ≡ true = entry_passes (λ (c : Context). c.caller.uid == v) contexts has.number
+          has.context (stays has.number has.context has.there (has.so ∙ own)) (same_is has.context.caller.uid v has.so) in
+          entry _ (λ r. is_in k (uid_keys r) ≡ true) v rings
+          (at_kept (has_uid contexts) s.uids v ∙ (ap (λ (b : Bool). cond b (at s.uids v) None) passes ∙ there)) i;
+    }
+
+-- whatever an ask does to contexts, processes and uids in no context of the uid
+houses_stay :
+    (uid : ℕ) (private : ℕ → Bool) (s : State) (client context : ℕ) (op : Op) (contexts : Table Context)
+    (processes : Table (Option ℕ)) (uids : Table UidRings) → IsSound s → HasToItself uid private s
+    → IsOutside uid s client context op → Houses s client context op contexts processes uids
+    → StaysAttached private s contexts processes uids
+houses_stay uid private s client context op _ _ _ sound alone outside Same = record {
+  by_context = λ n k c m there i. entry s.contexts _ n c there i;
+  by_process = λ p k m there. there;
+  by_uid = λ v k rings m there i. entry s.uids _ v rings there i;
+}
+houses_stay uid private s client context op _ _ _ sound alone outside (Begins c session rings is none) =
+    let n = s.next_context in record {
+      by_context = λ q k d m there i.
+          entry _ _ q d (put_stays s.contexts n q _ d (sound.housed.unused n (omega arith)) there) i;
+      by_process = λ p k m there.
+          put_stays s.processes n p None (Some k) (sound.housed.no_process n (omega arith)) there;
+      by_uid = λ v k were m there i. entry _ _ v were (put_stays s.uids c.uid v rings were none there) i;
+    }
+houses_stay uid private s client context op _ _ _ sound alone outside (Enters c session who) =
+    let n = s.next_context in record {
+      by_context = λ q k d m there i.
+          entry _ _ q d (put_stays s.contexts n q _ d (sound.housed.unused n (omega arith)) there) i;
+      by_process = λ p k m there.
+          put_stays s.processes n p None (Some k) (sound.housed.no_process n (omega arith)) there;
+      by_uid = λ v k rings m there i. entry s.uids _ v rings there i;
+    }
+houses_stay uid private s client context op _ _ _ sound alone outside (Threads c is own) = record {
+  by_context = λ q k d m there i. entry _ _ q d
+      (put_stays s.contexts s.next_context q _ d (sound.housed.unused s.next_context (omega arith)) there) i;
+  by_process = λ p k m there. there;
+  by_uid = λ v k rings m there i. entry s.uids _ v rings there i;
+}
+houses_stay uid private s client context op _ _ _ sound alone outside (Alters c f own stays) = record {
+  by_context = λ n k d m there i. entry _ _ n d (alter_stays s.contexts context n f d
+      (not_asking uid private s client context n k c d alone outside.other own m there i) there) i;
+  by_process = λ p k m there. there;
+  by_uid = λ v k rings m there i. entry s.uids _ v rings there i;
+}
+houses_stay uid private s client context op _ _ _ sound alone outside (Rings c n own) = record {
+  by_context = λ q k d m there i. entry s.contexts _ q d there i;
+  by_process = λ p k m there. alter_stays s.processes c.process p (λ none. Some n) (Some k)
+      (not_its_process uid private s client context p k c alone outside.other own m there) there;
+  by_uid = λ v k rings m there i. entry s.uids _ v rings there i;
+}
+houses_stay uid private s client context op _ _ _ sound alone outside (Execs c is own) = record {
+  by_context = λ n k d m there i. entry _ _ n d (filter_still _ _ n d
+      (alter_stays s.contexts context n _ d
+      (not_asking uid private s client context n k c d alone outside.other own m there i) there)
+      (ap (λ (b : Bool). not b || (n == context)) (elim (d.process == c.process) as
+      (λ b. (d.process == c.process) ≡ b → b ≡ false) [
+        | true ↦ λ t.
+            let same : d.process ≡ c.process = grind (arith, nat_tests) in
+            let alike = sound.used.alike n context d c there (own_there s client context c own) same in
+            absurd (outside.other c own (sym alike ∙ own_context uid private s n k d alone m there i))
+        | false ↦ λ t. refl
+      ] refl))) i;
+  by_process = λ p k m there. alter_stays s.processes c.process p (λ ring. None) (Some k)
+      (not_its_process uid private s client context p k c alone outside.other own m there) there;
+  by_uid = λ v k rings m there i. entry s.uids _ v rings there i;
+}
+houses_stay uid private s client context op _ _ _ sound alone outside (Detaches c id gone is own found) =
+    let apart : private gone.0 ≡ true → ⊥ =
+    λ m. none_found uid private s client context c id (Granted SEARCH) gone alone own outside.other refl found m in
+    record {
+      by_context = λ n k d m there i. entry _ _ n (context_without gone.0 d)
+          (at_map (context_without gone.0) s.contexts n ∙ ap (option_map (context_without gone.0)) there)
+          (still_both gone.0 k d.thread d.session (not_gone private k gone.0 m apart) i);
+      by_process = λ p k m there.
+          at_map (detached gone.0) s.processes p ∙ (ap (option_map (detached gone.0)) there
+          ∙ ap (λ (b : Bool). Some (cond b None (Some k))) (not_gone private k gone.0 m apart));
+      by_uid = λ v k rings m there i. entry _ _ v (rings_without gone.0 rings)
+          (at_map (rings_without gone.0) s.uids v ∙ ap (option_map (rings_without gone.0)) there)
+          (still_both gone.0 k rings.user rings.session (not_gone private k gone.0 m apart) i);
+    }
+houses_stay uid private s client context op _ _ _ sound alone outside (Exits c is own) = record {
+  by_context = λ n k d m there i. entry _ _ n d (still_unless s.contexts context n false
+      (not_asking uid private s client context n k c d alone outside.other own m there i) ∙ there) i;
+  by_process = λ p k m there. still_unless s.processes c.process p _
+      (not_its_process uid private s client context p k c alone outside.other own m there) ∙ there;
+  by_uid = λ v k rings m there i. entry _ _ v rings (still_unless s.uids c.caller.uid v _
+      (λ e. outside.other c own (sym e ∙ own_uid uid private s v k rings alone m there i)) ∙ there) i;
+}
+houses_stay uid private s client context op _ _ _ sound alone outside (Departs is) =
+    left_stays uid private s client context op sound alone outside is
+
+one_in : (k : ℕ) (ring : Option ℕ) → is_in k (option_to_list ring) ≡ true → ring ≡ Some k
+one_in k None i = absurd (true≢false (sym i))
+one_in k (Some n) i = ap (λ (z : ℕ). Some z) (sym (only_in k n i))
+
+-- so it is among all attachments
+roots_stay :
+    (private : ℕ → Bool) (s new : State) (k : ℕ) → IsSound s
+    → StaysAttached private s new.contexts new.processes new.uids → private k ≡ true → is_in k (roots s) ≡ true
+    → is_in k (roots new) ≡ true
+roots_stay private s new k sound stays m i =
+    attached_by (context_roots s.contexts) (process_roots s.processes) (uid_roots s.uids) k
+    (λ h.
+    let e = attached_entry context_keys s.contexts k (rises_distinct s.contexts sound.housed.contexts_rise) h in
+    let after = stays.by_context e.number k e.value m e.there e.holds in
+    in_context new k (attached_at context_keys new.contexts after.number after.value k after.there after.holds))
+    (λ h.
+    let e = attached_entry option_to_list s.processes k (rises_distinct s.processes sound.housed.processes_rise) h in
+    let there = stays.by_process e.number k m (e.there ∙ ap (λ (z : Option ℕ). Some z) (one_in k e.value e.holds)) in
+    in_process new k (attached_at option_to_list new.processes e.number (Some k) k there
+    (ap (λ (b : Bool). b || false) (same_is k k refl))))
+    (λ h.
+    let e = attached_entry uid_keys s.uids k (rises_distinct s.uids sound.housed.uids_rise) h in
+    let after = stays.by_uid e.number k e.value m e.there e.holds in
+    in_uid new k (attached_at uid_keys new.uids after.number after.value k after.there after.holds)) i
+
+-- held keys are held still, where attachments and links of them stay
+held_stays :
+    (private : ℕ → Bool) (old new : Table Key) (before after : List ℕ) (k : ℕ)
+    → ((j q : ℕ) → private q ≡ true → is_in q (links_of_key_at old j) ≡ true → private j ≡ true)
+    → ((q : ℕ) → private q ≡ true → is_in q before ≡ true → is_in q after ≡ true)
+    → ((j q : ℕ) → private j ≡ true → private q ≡ true → is_in q (links_of_key_at old j) ≡ true
+    → is_in q (links_of_key_at new j) ≡ true) → IsHeld old before k → private k ≡ true → IsHeld new after k
+held_stays private old new before after _ up attached links (Attached k i) m = Attached k (attached k m i)
+held_stays private old new before after _ up attached links (Linked j k held i) m =
+    let above = up j k m i in
+    Linked j k (held_stays private old new before after j up attached links held above) (links j k above m i)
+
+still_linked :
+    (gone k : ℕ) (links : List ℕ) → (k == gone) ≡ false → is_in k links ≡ true
+    → is_in k (filter (λ q. not (q == gone)) links) ≡ true
+still_linked gone k [] apart i = i
+still_linked gone k (q ∷ links) apart i =
+    elim (q == gone) as (λ b. (q == gone) ≡ b
+    → is_in k (cond (not b) (q ∷ filter (λ r. not (r == gone)) links) (filter (λ r. not (r == gone)) links)) ≡ true) [
+      | true ↦ λ t. ⊎_elim
+          (λ (here : is_in k (q ∷ []) ≡ true).
+          let same : k ≡ q = only_in k q here in
+          absurd (true≢false (sym (ap (λ (z : ℕ). z == gone) same ∙ t) ∙ apart)))
+          (λ later. still_linked gone k links apart later) (in_one k (q ∷ []) links i)
+      | false ↦ λ t. ⊎_elim (λ here. in_left k (q ∷ []) (filter (λ r. not (r == gone)) links) here)
+          (λ later. in_right k (q ∷ []) (filter (λ r. not (r == gone)) links) (still_linked gone k links apart later))
+          (in_one k (q ∷ []) links i)
+    ] refl
+
+still_in_content :
+    (gone k : ℕ) (key : Key) → (k == gone) ≡ false → is_in k (links_of_content key.content) ≡ true
+    → is_in k (links_of_content (without_link gone key).content) ≡ true
+still_in_content gone k key apart i =
+    elim key.content as (λ content. is_in k (links_of_content content) ≡ true
+    → is_in k (links_of_content (without_link gone (record key { content = content })).content) ≡ true) [
+      | Payload bytes ↦ λ h. h
+      | Links links ↦ λ h. still_linked gone k links apart h
+    ] i
+
+still_in_key :
+    (gone k : ℕ) (o : Option Key) → (k == gone) ≡ false → is_in k (links_of_key o) ≡ true
+    → is_in k (links_of_key (option_map (without_link gone) o)) ≡ true
+still_in_key gone k None apart i = i
+still_in_key gone k (Some key) apart i = still_in_content gone k key apart i
+
+-- links of these keys to one another stay
+links_stay :
+    (uid : ℕ) (private : ℕ → Bool) (s new : State) (client context j k : ℕ) (op : Op) → HasToItself uid private s
+    → NotBy uid s client context → KeysAfter private s client context op new → private j ≡ true → private k ≡ true
+    → is_in k (links_of_key_at s.keys j) ≡ true → is_in k (links_of_key_at new.keys j) ≡ true
+links_stay uid private s new client context j k op alone other after above m i =
+    ⊎_elim
+    (λ (same : AreSame private s.keys new.keys).
+    subst (λ (o : Option Key). is_in k (links_of_key o) ≡ true) (sym (same j above)) i)
+    (λ (d : IsDetached s client context op new.keys).
+    let apart : private d.gone.0 ≡ true → ⊥ =
+    λ h. none_found uid private s client context d.whose d.id (Granted SEARCH) d.gone alone d.own other refl d.found h in
+    subst (λ (o : Option Key). is_in k (links_of_key o) ≡ true)
+    (sym (ap (λ (es : Table Key). at es j) d.left ∙ at_map (without_link d.gone.0) s.keys j))
+    (still_in_key d.gone.0 k (at s.keys j) (not_gone private k d.gone.0 m apart) i)) after
+
+-- one of these keys is there where it was
+was_there :
+    (private : ℕ → Bool) (s new : State) (client context k : ℕ) (op : Op) → KeysAfter private s client context op new
+    → private k ≡ true → IsSome (at new.keys k) → IsSome (at s.keys k)
+was_there private s new client context k op after m there =
+    ⊎_elim (λ (same : AreSame private s.keys new.keys). subst (λ (o : Option Key). IsSome o) (same k m) there)
+    (λ (d : IsDetached s client context op new.keys). was_mapped (without_link d.gone.0) (at s.keys k)
+    (subst (λ (o : Option Key). IsSome o)
+    (ap (λ (es : Table Key). at es k) d.left ∙ at_map (without_link d.gone.0) s.keys k) there)) after
+
+kept_same : (b : Bool) (o : Option Key) → (IsSome o → b ≡ true) → cond b o None ≡ o
+kept_same true o h = refl
+kept_same false None h = refl
+kept_same false (Some v) h = absurd (true≢false (sym (h refl)))
+
+-- a sweep leaves a key that is held where it is there
+swept_same :
+    (old new : State) (k : ℕ) → IsSweep old new → (IsSome (at old.keys k) → IsHeld old.keys (roots old) k)
+    → at new.keys k ≡ at old.keys k
+swept_same old new k sweep held =
+    ap (λ (es : Table Key). at es k) sweep.keys ∙ (at_kept sweep.kept old.keys k
+    ∙ kept_same (sweep.kept k) (at old.keys k) (λ there. sweep.picks.each k (held there) there))
+
+-- these keys, where the ask is an accepted INVALIDATE of another
+record IsTakenOut (private : ℕ → Bool) (s : State) (client context : ℕ) (op : Op) (new : Table Key) : Type 0 where
+  pub id : ℤ
+  pub whose : Context
+  pub gone : ℕ
+  pub asked : op ≡ Invalidate id
+  pub own : context_of s client context ≡ Ok whose
+  pub named : serial_of s whose id ≡ Ok gone
+  pub other : private gone ≡ false
+  pub rest : (k : ℕ) → private k ≡ true → at new k ≡ option_map (without_link gone) (at s.keys k)
+
+-- an accepted ask in no context of the uid leaves these keys as they were
+served_unchanged :
+    (uid : ℕ) (private : ℕ → Bool) (s new : State) (client context : ℕ) (op : Op) (answer : Answer) → IsSound s
+    → HasToItself uid private s → IsOutside uid s client context op → Serves s client context op answer new
+    → (AreSame private s.keys new.keys) ⊎ IsTakenOut private s client context op new.keys
+served_unchanged uid private s new client context op answer sound alone outside serves =
+    let mid = serves.mid in
+    let after = (outcome_keeps uid private s client context op (sound_stands s sound) alone outside.other).meets mid answer
+    serves.meant in
+    let houses = houses_stay uid private s client context op mid.contexts mid.processes mid.uids sound alone outside
+    ((outcome_houses s client context op).meets mid answer serves.meant) in
+    let held : (k : ℕ) → private k ≡ true → IsSome (at mid.keys k) → IsHeld mid.keys (roots mid) k = λ k m there.
+    held_stays private s.keys mid.keys (roots s) (roots mid) k (λ j q h i. alone.enclosed.linked j q h i)
+    (λ q h i. roots_stay private s mid q sound houses h i)
+    (λ j q h g i. links_stay uid private s mid client context j q op alone outside.other after h g i)
+    (sound.swept.keys k (was_there private s mid client context k op after m there)) m in
+    let same : AreSame private mid.keys new.keys = λ k m.
+    ap (λ (z : State). at z.keys k) serves.posted ∙ swept_same mid serves.swept k serves.sweep (held k m) in
+    ⊎_elim (λ (was : AreSame private s.keys mid.keys). inl (λ k m. same k m ∙ was k m))
+    (λ (d : IsDetached s client context op mid.keys). inr (record {
+      id = d.id;
+      whose = d.whose;
+      gone = d.gone.0;
+      asked = d.asked;
+      own = d.own;
+      named = found_serial s d.whose d.id (Granted SEARCH) d.gone d.found;
+      other = false_where (private d.gone.0) (λ h. none_found uid private s client context d.whose d.id (Granted SEARCH)
+          d.gone alone d.own outside.other refl d.found h);
+      rest = λ k m. same k m ∙ (ap (λ (es : Table Key). at es k) d.left ∙ at_map (without_link d.gone.0) s.keys k);
+    })) after
+
+-- so does any ask, whether it is accepted or not
+ended_unchanged :
+    (uid : ℕ) (private : ℕ → Bool) (s new : State) (client context : ℕ) (op : Op) (reply : Result Answer Errno)
+    → IsSound s → HasToItself uid private s → IsOutside uid s client context op
+    → Ends s client context op reply new
+    → (AreSame private s.keys new.keys) ⊎ (IsOk reply × IsTakenOut private s client context op new.keys)
+ended_unchanged uid private s new client context op (Ok answer) sound alone outside serves =
+    ⊎_elim (λ (same : AreSame private s.keys new.keys). inl same)
+    (λ (out : IsTakenOut private s client context op new.keys). inr (refl, out))
+    (served_unchanged uid private s new client context op answer sound alone outside serves)
+ended_unchanged uid private s new client context op (Err e) sound alone outside ends =
+    inl (λ k m. ap (λ (z : State). at z.keys k) ends.1)
+
+context_is :
+    (s : State) (client n : ℕ) (c : Context) → at s.contexts n ≡ Some c → c.client ≡ client
+    → context_of s client n ≡ Ok c
+unfolding context_of
+context_is s client n c there own = rw (there, same_is c.client client own) refl
+
+-- an ask that the uid does not make
+outside_of :
+    (uid : ℕ) (s : State) (event : Event) → (IsAskedBy uid s event → ⊥)
+    → IsOutside uid (raised s event.moment) event.lane event.ask.context event.ask.op
+outside_of uid s event none = record {
+  other = λ c own e. none (record {
+    number = event.ask.context;
+    acts = record {
+      context = c;
+      there = sym (same_context s event.moment event.lane event.ask.context) ∙ own;
+      own = e;
+    };
+    asks = inl refl;
+  });
+  stays = λ is n c there client e. none (record {
+    number = n;
+    acts = record { context = c; there = context_is s event.lane n c there client; own = e };
+    asks = inr is;
+  });
+}
+
+-- an ask in no context of a uid changes none of the keys that the uid has to itself, nor drops one
+pub step_unchanged :
+    (uid : ℕ) (private : ℕ → Bool) (old new : State) (event : Event) → IsSound old → HasToItself uid private old
+    → Step old event new → (IsAskedBy uid old event → ⊥) → AreUnchanged private old event new
+unfolding Step
+step_unchanged uid private old new event sound alone step none =
+    let up = raised old event.moment in
+    ⊎_elim (λ (same : AreSame private up.keys new.keys). inl same)
+    (λ (out : IsOk event.reply × IsTakenOut private up event.lane event.ask.context event.ask.op new.keys).
+    inr (record {
+      gone = out.1.gone;
+      invalidates = record {
+        id = out.1.id;
+        asked = out.1.asked;
+        accepted = out.0;
+        names = record { whose = out.1.whose; own = out.1.own; named = out.1.named };
+      };
+      other = out.1.other;
+      rest = out.1.rest;
+    }))
+    (ended_unchanged uid private up new event.lane event.ask.context event.ask.op event.reply
+    (raised_sound old event.moment sound) (raised_alone uid private old event.moment alone)
+    (outside_of uid old event none) step)

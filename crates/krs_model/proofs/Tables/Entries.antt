@@ -1,0 +1,131 @@
+-- Entries of tables in which no number stands twice: where they are found, and where they stay.
+use Rattle.std.proofs.Common.{◌≡◌, ℕ, ◌||◌, [], ◌∷◌, Option, Some, None, Bool, true, false, cond, filter, refl, ap, ◌∙◌}
+use Rattle.std.proofs.Common.{sym, subst, ⊎_elim}
+use Rattle.std.specs.Option.{IsSome}
+use Rattle.std.specs.Ordering.{nat_cmp}
+use Rattle.std.specs.BTreeMap.{is_at}
+use Rattle.std.specs.List.{list_any, AllByRecursion}
+use Rattle.std.specs.List.Sorted.{IsStrictlySortedBy}
+use Rattle.std.specs.Map.{values_of, keys_of}
+use Rattle.std.proofs.lemmas.Bool.{true≢false}
+use Rattle.std.proofs.lemmas.Option.{none-some, same_Some}
+use Rattle.krs_model.specs.Table.{Table, at, without, Rises, IsDistinct}
+use Rattle.krs_model.proofs.Tables.Changes.{is_at_same, same_at, at_or_apart, at_without_other}
+use Rattle.krs_model.proofs.Tables.Distinct.{at_without_same}
+use Rattle.krs_model.proofs.Tables.Rising.{Above}
+
+none_above :
+    {X : Type 0} (es : Table X) (n : ℕ) → AllByRecursion (Above n) (keys_of es) → at es n ≡ None
+none_above [] n all = refl
+none_above (e ∷ es) n all = rw all.0 (none_above es n all.1)
+
+pub rises_distinct : {X : Type 0} (es : Table X) → Rises es → IsDistinct es
+unfolding IsStrictlySortedBy
+rises_distinct [] rises = tt
+rises_distinct (e ∷ es) rises = (none_above es e.0 rises.0, rises_distinct es rises.1)
+
+-- an entry that is there
+pub record IsEntry {X : Type 0} (es : Table X) (P : X → Type 0) : Type 0 where
+  pub number : ℕ
+  pub value : X
+  pub there : at es number ≡ Some value
+  pub holds : P value
+
+-- the entry of a first number, or a later one
+pub later_entry :
+    {X : Type 0} (P : X → Type 0) (e : ℕ × X) (es : Table X) → IsDistinct (e ∷ es) → IsEntry es P → IsEntry (e ∷ es) P
+later_entry {X} P e es distinct entry = record {
+  number = entry.number;
+  value = entry.value;
+  there = elim (is_at (nat_cmp entry.number) e.0) as
+      (λ b. is_at (nat_cmp entry.number) e.0 ≡ b → cond b (Some e.1) (at es entry.number) ≡ Some entry.value) [
+        | true ↦ λ t. absurd (none-some entry.value (sym distinct.0
+            ∙ (ap (at es) (sym (same_at entry.number e.0 t)) ∙ entry.there)))
+        | false ↦ λ t. entry.there
+      ] refl;
+  holds = entry.holds;
+}
+
+pub first_entry : {X : Type 0} (P : X → Type 0) (e : ℕ × X) (es : Table X) → P e.1 → IsEntry (e ∷ es) P
+first_entry {X} P e es h = record { number = e.0; value = e.1; there = rw (is_at_same e.0) refl; holds = h }
+
+-- an entry that passes a test
+pub find_entry :
+    {X : Type 0} (test : X → Bool) (es : Table X) → IsDistinct es → list_any test (values_of es) ≡ true
+    → IsEntry es (λ v. test v ≡ true)
+find_entry test [] distinct h = absurd (true≢false (sym h))
+find_entry test (e ∷ es) distinct h =
+    elim (test e.1) as (λ b. test e.1 ≡ b → IsEntry (e ∷ es) (λ v. test v ≡ true)) [
+      | true ↦ λ t. first_entry (λ v. test v ≡ true) e es t
+      | false ↦ λ t. later_entry (λ v. test v ≡ true) e es distinct (find_entry test es distinct.1
+          (ap (λ (b : Bool). b || list_any test (values_of es)) (sym t) ∙ h))
+    ] refl
+
+-- a value that passes a test is among those that are tested
+pub entry_passes :
+    {X : Type 0} (test : X → Bool) (es : Table X) (k : ℕ) (v : X) → at es k ≡ Some v → test v ≡ true
+    → list_any test (values_of es) ≡ true
+entry_passes test [] k v there h = absurd (none-some v there)
+entry_passes test (e ∷ es) k v there h =
+    elim (test e.1) as (λ b. test e.1 ≡ b → list_any test (values_of (e ∷ es)) ≡ true) [
+      | true ↦ λ t. rw t refl
+      | false ↦ λ t. rw t (elim (is_at (nat_cmp k) e.0) as (λ b. cond b (Some e.1) (at es k) ≡ Some v
+          → list_any test (values_of es) ≡ true) [
+            | true ↦ λ same. absurd (true≢false (sym h ∙ (ap test (sym (same_Some e.1 v same)) ∙ t)))
+            | false ↦ λ later. entry_passes test es k v later h
+          ] there)
+    ] refl
+
+-- an entry that passes stays
+pub filter_still :
+    {X : Type 0} (p : ℕ × X → Bool) (es : Table X) (k : ℕ) (v : X) → at es k ≡ Some v → p (k, v) ≡ true
+    → at (filter p es) k ≡ Some v
+filter_still p [] k v there h = absurd (none-some v there)
+filter_still p (e ∷ es) k v there h =
+    elim (is_at (nat_cmp k) e.0) as (λ b. is_at (nat_cmp k) e.0 ≡ b → cond b (Some e.1) (at es k) ≡ Some v
+    → at (filter p (e ∷ es)) k ≡ Some v) [
+      | true ↦ λ t is.
+          let value : e.1 ≡ v = same_Some e.1 v is in
+          let number : k ≡ e.0 = same_at k e.0 t in
+          let passes : p e ≡ true =
+          ap (λ (n : ℕ). p (n, e.1)) (sym number) ∙ (ap (λ (x : _). p (k, x)) value ∙ h) in
+          rw (passes, t) is
+      | false ↦ λ t is.
+          let later = filter_still p es k v is h in
+          elim (p e) as (λ c. at (cond c (e ∷ filter p es) (filter p es)) k ≡ Some v) [
+            | true ↦ rw t later
+            | false ↦ later
+          ]
+    ] refl there
+
+-- what is left where an entry goes unless it stays was there; and that entry stays where it is left
+pub record IsLeft {X : Type 0} (es : Table X) (k : ℕ) (stays : Bool) (q : ℕ) : Type 0 where
+  pub was : IsSome (at es q)
+  pub same : q ≡ k → stays ≡ true
+
+pub left_unless :
+    {X : Type 0} (es : Table X) (k q : ℕ) (stays : Bool) → IsDistinct es → IsSome (at (cond stays es (without es k)) q)
+    → IsLeft es k stays q
+left_unless es k q true distinct there = record { was = there; same = λ e. refl }
+left_unless es k q false distinct there =
+    ⊎_elim
+    (λ (e : q ≡ k). absurd (true≢false (sym (subst (λ (o : Option _). IsSome o)
+    (ap (at (without es k)) e ∙ at_without_same es k distinct) there))))
+    (λ apart. record {
+      was = subst (λ (o : Option _). IsSome o) (at_without_other es k q apart) there;
+      same = λ e. absurd (true≢false (sym (ap (λ (n : ℕ). is_at (nat_cmp n) k) e ∙ is_at_same k) ∙ apart));
+    }) (at_or_apart q k)
+
+-- another entry stays
+pub still_unless :
+    {X : Type 0} (es : Table X) (k q : ℕ) (stays : Bool) → (q ≡ k → ⊥) → at (cond stays es (without es k)) q ≡ at es q
+still_unless es k q true other = refl
+still_unless es k q false other =
+    ⊎_elim (λ (e : q ≡ k). absurd (other e)) (λ apart. at_without_other es k q apart) (at_or_apart q k)
+
+-- what is left was there
+pub without_was :
+    {X : Type 0} (es : Table X) (k q : ℕ) (v : X) → IsDistinct es → at (without es k) q ≡ Some v → at es q ≡ Some v
+without_was es k q v distinct h =
+    ⊎_elim (λ (e : q ≡ k). absurd (none-some v (sym (ap (at (without es k)) e ∙ at_without_same es k distinct) ∙ h)))
+    (λ apart. sym (at_without_other es k q apart) ∙ h) (at_or_apart q k)
