@@ -1,13 +1,16 @@
-ghost use Rattle.std.specs.Prelude.{◌≡◌, ◌≤◌, ◌≢◌, false};
+ghost use Rattle.std.specs.Prelude.{◌≡◌, ◌≤◌, ◌≢◌, ℕ, List, Bool, false};
 ghost use Rattle.krs_types.specs.declared.errno.Errno.TheVariants.{ENOMEM};
+ghost use Rattle.krs_types.specs.declared.event.Event.{Event};
 ghost use Rattle.krs_types.specs.Growth.{grows};
-ghost use Rattle.krs_model.specs.State.{starting_at, raised};
+ghost use Rattle.krs_model.specs.State.{State, starting_at, raised};
 ghost use Rattle.krs_model.specs.Step.{Step};
 ghost use Rattle.krs_model.specs.History.{event_of};
 ghost use Rattle.krs_model.specs.Sound.{IsSound};
 ghost use Rattle.krs_model.specs.Revocation.{StaysUnread};
 ghost use Rattle.krs_model.specs.Receiving.{GivesStreams};
 ghost use Rattle.krs_model.specs.Secrecy.{KeepsSecrets, ReadsByRight};
+ghost use Rattle.krs_model.specs.Confidentiality.{HasToItself, KeepsPrivate, ReadsAlone};
+ghost use Rattle.krs_model.specs.Confidentiality.{LeavesAlone, TellsNoStranger};
 
 use crate::serving::serve;
 use krs_links::Seed;
@@ -126,6 +129,38 @@ impl Store {
     /// asks, at that moment. keyctl(2), KEYCTL_READ; profile, reading by possession.
     pub fn keys_are_read_by_right(&self)
         ensures { ReadsByRight self.now }
+    {
+        let _tables = &self.tables;
+    }
+
+    /// A law of every store: whatever it is asked from now on, no user reads another's keys, unless it was given them.
+    /// Each accepted READ of a key that a uid has to itself, and has not given away since, is in a context of that uid; a
+    /// uid may begin with none of the keys. keyrings(7), "Possession" and "Access rights".
+    pub fn no_user_reads_anothers_keys(&self)
+        ensures reads { (uid : ℕ) (private : ℕ → Bool) → HasToItself uid private self.now
+            → ReadsAlone uid private self.now }
+        ensures kept { (uid : ℕ) (private last : ℕ → Bool) (events : List Event) (end : State)
+            → HasToItself uid private self.now → KeepsPrivate uid private self.now events end last
+            → HasToItself uid last end }
+        ensures begins { (uid : ℕ) → HasToItself uid (λ k. false) self.now }
+    {
+        let _tables = &self.tables;
+    }
+
+    /// A law of every store: whatever it is asked from now on, an ask in no context of a uid changes no key that the uid
+    /// has to itself, and has not given away since, nor drops one; only an invalidated key goes out of its links.
+    pub fn others_neither_change_nor_drop_a_key(&self)
+        ensures { (uid : ℕ) (private : ℕ → Bool) → HasToItself uid private self.now
+            → LeavesAlone uid private self.now }
+    {
+        let _tables = &self.tables;
+    }
+
+    /// A law of every store: whatever it is asked from now on, a client that asks nothing in a context of a uid is told
+    /// the same, whatever the payloads are of the keys that the uid has to itself in the end.
+    pub fn nothing_flows_between_users(&self)
+        ensures { (uid : ℕ) (private : ℕ → Bool) → HasToItself uid private self.now
+            → TellsNoStranger uid private self.now }
     {
         let _tables = &self.tables;
     }
