@@ -9,18 +9,19 @@ use Rattle.krs_types.specs.declared.errno.Errno.TheVariants.{ENOMEM, ENOSPC}
 use Rattle.krs_types.specs.declared.event.Event.{Event}
 use Rattle.krs_model.specs.State.{State}
 use Rattle.krs_world.specs.declared.view.Cell.{Cell}
+use Rattle.krs_world.specs.declared.view.Cell.TheVariants as cells
 use Rattle.krs_world.specs.declared.view.Part.{Part}
 use Rattle.krs_world.specs.declared.step.Kind.{Kind}
-use Rattle.krs_world.specs.declared.step.Kind.TheVariants.{Take, TakeFound, Put, Load, Answer, LookAt}
+use Rattle.krs_world.specs.declared.step.Kind.TheVariants.{Take, TakeFound, Put, Load, Post, Answer, LookAt}
 use Rattle.krs_world.specs.declared.view.Service.{Service}
 use Rattle.krs_world.specs.declared.lane.Lane.{Lane}
 use Rattle.krs_world.specs.declared.lane.Slot.{Slot}
 use Rattle.krs_world.specs.declared.lane.Slot.TheVariants as slots
-use Rattle.krs_world.specs.World.{World, IsHolder, StepsAs, MovesBy, RefusedBy}
-use Rattle.krs_world.specs.Kept.{part_by, lane_cell, cell_by, flight_by, turn_by, world_of, IsKept}
+use Rattle.krs_world.specs.World.{World, Out, IsHolder, StepsAs, MovesBy, RefusedBy}
+use Rattle.krs_world.specs.Kept.{part_by, lane_cell, cell_by, flight_by, turn_by, world_of, IsKept, IsIdle, MayPut}
 use Rattle.krs_world.proofs.Worlds.{get_map, of_map}
 use Rattle.krs_world.proofs.KeptHistory.{seats_by, cells_by, at_in, in_bounds}
-use Rattle.krs_world.proofs.Slots.{cond_none}
+use Rattle.krs_world.proofs.Slots.{cond_none, slot_empty, cell_idle}
 use Rattle.krs_world.proofs.Moves.{holder, no_load, no_holder}
 use Rattle.krs_world.proofs.ServedMoves.{unposted}
 use Rattle.krs_world.proofs.AnsweredMoves.{server}
@@ -88,6 +89,46 @@ pub busy : (w : World) (store : State) (out : Option ℕ) (serving : Option Serv
 busy w store out serving log lanes i kind k is not holds = moves_not w store out serving log lanes i kind is
     (λ p other e steps. let m = of_map (part_by log serving) lanes i p e in let s = some_of serving not in
     no_holder store out serving log lanes i m.0 k m.1 s.0 s.1 p e (holds p other steps))
+
+-- where the turn is out
+out_by : (store : State) (out : Option ℕ) (i : ℕ) → turn_by store out ≡ Out i → out ≡ Some i
+out_by store None i e = absurd (cc)
+out_by store (Some j) i e = cc
+
+unserved : (o : Option Service) → ((s : Service) → o ≡ Some s → ⊥) → o ≡ None
+unserved None not = refl
+unserved (Some s) not = absurd (not s refl)
+
+-- a seat puts a call of its own only where it may
+puts_where_it_may : (store : State) (out : Option ℕ) (serving : Option Service) (log : List Event) (lanes : List Lane) (i : ℕ)
+    (call : ℕ × Ask) → IsKept store out serving log lanes → (p : Part) (other : World)
+    → get_elem? (seats_by log serving lanes) i ≡ some p
+    → StepsAs (world_of store out serving log lanes) i p (Put (Some call)) other → MayPut out serving lanes i
+puts_where_it_may store out serving log lanes i call k p other e steps =
+    let m = of_map (part_by log serving) lanes i p e in let x : Lane = m.0 in
+    let idle : flight_by (take x.after log) (lane_cell log serving x) ≡ None =
+    ap (λ (q : Part). q.flight) m.2 ∙ steps.3 in (
+      out_by store out i steps.0.out,
+      unserved serving (λ s is. no_holder store out serving log lanes i x k m.1 s is p e steps.0),
+      (x, m.1, slot_empty serving log i x.slot (k.each i x m.1).slot (cell_idle (take x.after log) (lane_cell log serving x) idle)),
+    )
+
+-- a put of a call where it may not
+pub puts_not : (w : World) (store : State) (out : Option ℕ) (serving : Option Service) (log : List Event) (lanes : List Lane) (i : ℕ)
+    (call : ℕ × Ask) → IsKept store out serving log lanes → world_of store out serving log lanes ≡ w
+    → (MayPut out serving lanes i → ⊥) → MovesBy w i (Put (Some call)) false w
+puts_not w store out serving log lanes i call k is not =
+    moves_not w store out serving log lanes i (Put (Some call)) is
+    (λ p other e steps. not (puts_where_it_may store out serving log lanes i call k p other e steps))
+
+-- a call that is posted where something is in the cell
+pub posts_not : (w : World) (store : State) (out : Option ℕ) (serving : Option Service) (log : List Event) (lanes : List Lane) (i : ℕ)
+    (moment : ℕ) (ask : Ask) → IsKept store out serving log lanes → world_of store out serving log lanes ≡ w
+    → (IsIdle lanes i → ⊥) → MovesBy w i (Post moment ask) false w
+posts_not w store out serving log lanes i moment ask k is not =
+    moves_not w store out serving log lanes i (Post moment ask) is
+    (λ p other e steps. let m = of_map (lane_cell log serving) lanes i cells.Empty steps.0 in
+    not (m.0, m.1, slot_empty serving log i m.0.slot (k.each i m.0 m.1).slot m.2))
 
 -- a load outside of what may be seen
 pub loads_not : (w : World) (store : State) (out : Option ℕ) (serving : Option Service) (log : List Event) (lanes : List Lane) (i : ℕ) (x : Lane)

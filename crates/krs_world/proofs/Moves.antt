@@ -34,7 +34,7 @@ use Rattle.krs_world.proofs.Worlds.{get_map, step_as}
 use Rattle.krs_world.proofs.KeptHistory.{seats_by, cells_by, begins_take, begins_further, begins_short, map_else}
 use Rattle.krs_world.proofs.KeptHistory.{map_alike, each_at, not_true, history_kept, kept_history}
 use Rattle.krs_world.proofs.KeptHistory.{IsSeenWhole, whole_now, seen_whole, reseats}
-use Rattle.krs_world.proofs.Slots.{cond_none, slot_more, cell_more, slot_empty, cell_idle}
+use Rattle.krs_world.proofs.Slots.{cond_none, slot_more, cell_more}
 use Rattle.krs_world.proofs.KeptLanes.{lane_out, lane_more, part_more, held_true}
 
 -- The steps, by the lane at its place.
@@ -365,12 +365,3 @@ module _ (store : State) (out : Option ℕ) (serving : Option Service) (log : Li
       let holds : x.holding ≡ true = held_true x.holding log h.log (ap (λ (q : Part). q.holding) (sym same) ∙ h.held) in
       let no : Some s ≡ None = sym is ∙ (ap (λ (b : Bool). cond b serving None) (sym holds)
       ∙ (ap (λ (q : Part). q.serving) (sym same) ∙ h.unserving)) in cc
-
-  -- nor who has a call in flight
-  pub no_put : (call : ℕ × Ask) → (x.slot ≡ slots.Empty → ⊥) → (p : Part) (other : World)
-      → get_elem? (seats_by log serving lanes) i ≡ some p → StepsAs w i p (Put (Some call)) other → ⊥
-  no_put call not p other e steps =
-      let same : p ≡ part_by log serving x = seat_is p e in
-      let idle : (part_by log serving x).flight ≡ None = ap (λ (q : Part). q.flight) (sym same) ∙ steps.3 in
-      not (slot_empty serving log i x.slot (k.each i x at).slot (cell_idle (take x.after log)
-      (lane_cell log serving x) idle))

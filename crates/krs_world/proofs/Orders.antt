@@ -28,7 +28,7 @@ use Rattle.krs_world.proofs.Worlds.{get_map, prefix_none, history_is, history_is
 use Rattle.krs_world.proofs.Beginning.{begins_world}
 
 -- two lists that begin one
-either_begins : {A : Type 0} (xs ys zs : List A) → Begins xs zs → Begins ys zs → Begins xs ys ⊎ Begins ys xs
+pub either_begins : {A : Type 0} (xs ys zs : List A) → Begins xs zs → Begins ys zs → Begins xs ys ⊎ Begins ys xs
 either_begins [] ys zs p q = inl (ys, refl)
 either_begins (x ∷ xs) [] zs p q = inr (x ∷ xs, refl)
 either_begins (x ∷ xs) (y ∷ ys) [] p q = absurd (let e = p.1 in cc)
@@ -219,13 +219,13 @@ one_order lanes before after mid end i j p q first second at there =
     (prefix_trans p.seen grown.0.seen last.history.log grown.2 (seen_begins end last i grown.0 grown.1))
     (seen_begins end last j q there)
 
-pub real_time : (lanes : ℕ) (before after : List WorldStep) (mid next end : World) (lane : ℕ) (p : Part)
+pub session_order : (lanes : ℕ) (before after : List WorldStep) (mid next end : World) (lane : ℕ) (p : Part)
     (call : ℕ × Ask) (log : List Event) → Runs (new_world lanes) before mid → get_elem? mid.seats lane ≡ some p
     → StepsAs mid lane p (Put (Some call)) next → Runs next after end → IsHistory end log
     → (reply : Result answer.Answer Errno) × (q : Part) × (get_elem? next.seats lane ≡ some q)
     × (q.mine ≡ p.mine ++ event_of lane call.0 call.1 reply ∷ [])
     × StandsAfter p.seen (event_of lane call.0 call.1 reply) log
-real_time lanes before after mid next end lane p call log first at step second history =
+session_order lanes before after mid next end lane p call log first at step second history =
     let o : IsOneHistory mid = runs_keep (new_world lanes) before mid (begins_world lanes) first in
     let put : IsOneHistory next = step_as mid lane p (Put (Some call)) next o at step in
     let last : IsOneHistory end = runs_keep next after end put second in

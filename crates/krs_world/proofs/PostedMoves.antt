@@ -31,7 +31,7 @@ use Rattle.krs_world.proofs.Lanes.{prefix_both, events_prefix, own_event, set_el
 use Rattle.krs_world.proofs.Worlds.{get_map, cell_at}
 use Rattle.krs_world.proofs.KeptHistory.{begins_take, begins_further, begins_short, each_at}
 use Rattle.krs_world.proofs.KeptHistory.{history_kept, kept_history, recells}
-use Rattle.krs_world.proofs.Slots.{slot_empty, slot_answered}
+use Rattle.krs_world.proofs.Slots.{slot_answered}
 use Rattle.krs_world.proofs.Moves.{after, still, seat_is}
 
 take_next : {A : Type 0} (l : List A) (n : ℕ) (e : A) → get_elem? l n ≡ some e → take (suc n) l ≡ take n l ++ e ∷ []
@@ -205,12 +205,6 @@ module _ (store : State) (out : Option ℕ) (serving : Option Service) (log : Li
   )
 
   -- Steps that aren't possible.
-
-  pub no_post : (m : ℕ) (ask : Ask) → (x.slot ≡ slots.Empty → ⊥) → (q : Part) (other : World)
-      → get_elem? w.seats i ≡ some q → StepsAs w i q (Post m ask) other → ⊥
-  no_post m ask not q other e steps = not (slot_empty serving log i x.slot (k.each i x at).slot
-      (some-injective (lane_cell log serving x) cells.Empty
-      (sym (get_map (lane_cell log serving) lanes i x at) ∙ steps.0)))
 
   -- the slot that a reply was found in
   pub answered_slot : (m : ℕ) (ask : Ask) (r : Result answer.Answer Errno)

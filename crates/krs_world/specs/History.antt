@@ -2,8 +2,8 @@
 -- After Herlihy and Wing, "Linearizability: A Correctness Condition for Concurrent Objects" (1990). An `Event` here is
 -- one of their operations whole: an invocation (lane, moment, ask) with its response (reply). A lane is a process; a
 -- call in flight is pending. `log` is their legal sequential history; `events_of` is a process subhistory of it. Their
--- real-time order isn't asserted: a posted operation stands after what its lane had seen, and lanes that never met
--- have no order. The form is this project's own.
+-- real-time order isn't a part of it, and follows from it at two moments (specs/Between.antt): with it, what holds here
+-- between any two steps is their linearizability. The form is this project's own.
 --
 -- The turn: 0 free, 1 out, 2 while the seats are dealt. A seat is a place j in `views` and stands for lanes; `seat`
 -- tells which place a lane has, `dealt` how many lanes have one, `holder` the place that has the turn, `serving` the

@@ -135,6 +135,14 @@ has_reply (Posted moment ask) = false
 has_reply Serving = false
 has_reply (Answered place) = true
 
+-- there is a lane of this number, with nothing in its cell
+abbrev pub IsIdle : List Lane → ℕ → Type 0
+IsIdle lanes lane = (l : Lane) × (get_elem? lanes lane ≡ some l) × (l.slot ≡ Empty)
+
+-- the lane has the turn, serves no posted call, and has none of its own in its cell
+abbrev pub MayPut : Option ℕ → Option Service → List Lane → ℕ → Type 0
+MayPut out serving lanes lane = (out ≡ Some lane) × (serving ≡ None) × IsIdle lanes lane
+
 -- a store answered an ask of this lane at this moment, and the call was appended to the list
 abbrev pub Serves : State → List Event → (lane moment : ℕ) → Ask → State → List Event → Type 0
 Serves store log lane moment ask next longer =

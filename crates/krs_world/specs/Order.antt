@@ -1,5 +1,6 @@
--- What follows for those who call: seats see one order, and real-time order is kept for callers that met. Herlihy and
--- Wing, "Linearizability" (1990).
+-- What follows for those who call: the history only grows, seats see one order, and a call stands behind all that its
+-- own seat had seen, which is session order. Real-time order, of clients that never met, is in specs/Between.antt.
+-- Herlihy and Wing, "Linearizability" (1990).
 use Rattle.std.specs.Prelude.{◌≡◌, ◌⊎◌, ℕ, List, [], ◌∷◌, ◌++◌, Some, Result}
 use mathlib.Core.Option.{some}
 use lib.ListN.{get_elem?}
@@ -35,8 +36,8 @@ SeesOneOrder = (lanes : ℕ) (before after : List WorldStep) (mid end : World) (
 
 -- An own call of a lane, whatever happens before and after: its event stands in the history, for ever after, behind all
 -- that its seat had seen as the call was made, events of other lanes among it.
-abbrev pub KeepsRealTime : Type 0
-KeepsRealTime = (lanes : ℕ) (before after : List WorldStep) (mid next end : World) (lane : ℕ) (p : Part)
+abbrev pub KeepsSessionOrder : Type 0
+KeepsSessionOrder = (lanes : ℕ) (before after : List WorldStep) (mid next end : World) (lane : ℕ) (p : Part)
     (call : ℕ × Ask) (log : List Event) → Runs (new_world lanes) before mid → get_elem? mid.seats lane ≡ some p
     → StepsAs mid lane p (Put (Some call)) next → Runs next after end → IsHistory end log
     → (reply : Result Answer Errno) × (q : Part) × (get_elem? next.seats lane ≡ some q)

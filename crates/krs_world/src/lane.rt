@@ -1,5 +1,6 @@
 //! What the machine keeps of a lane.
 ghost use Rattle.std.specs.Prelude.{◌≡◌, true, false, cond};
+ghost use Rattle.krs_world.specs.Kept.{IsIdle};
 
 use krs_types::Ask;
 
@@ -45,6 +46,17 @@ pub(crate) struct Lane {
     pub slot: Slot,
     pub checked: Vec<u32>,
     pub done: bool,
+}
+
+/// Whether there is a lane of this number, with nothing in its cell.
+pub(crate) fn is_idle(lanes: &[Lane], lane: u32) -> bool
+    ensures idle { result ≡ true → IsIdle lanes.now lane }
+    ensures not { result ≡ false → ¬ IsIdle lanes.now lane }
+{
+    match lanes.get(lane as usize) {
+        Some(seat) => matches!(seat.slot, Slot::Empty),
+        None => false,
+    }
 }
 
 /// Whether a lane is done after its seat looked at a cell: it was, or the cell is its own, and has a reply.

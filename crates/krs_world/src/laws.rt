@@ -1,6 +1,7 @@
 //! The laws of the machine.
 ghost use Rattle.krs_world.specs.World.{StaysOne};
-ghost use Rattle.krs_world.specs.Order.{OnlyGrows, SeesOneOrder, KeepsRealTime, KeepsPostedOrder};
+ghost use Rattle.krs_world.specs.Order.{OnlyGrows, SeesOneOrder, KeepsSessionOrder, KeepsPostedOrder};
+ghost use Rattle.krs_world.specs.Between.{KeepsRealTimeBetween, KeepsPostedBetween, KeepsCollectedBetween};
 
 /// However many seats there are, and whatever steps they make in whatever order, there is one history of all calls.
 pub fn there_is_one_history()
@@ -17,13 +18,26 @@ pub fn seats_see_one_order()
     ensures { SeesOneOrder }
 {}
 
-/// A call stands in the history behind all that its seat had seen before it: real-time order, for callers that met.
-pub fn real_time_order_is_kept()
-    ensures { KeepsRealTime }
+/// A call stands in the history behind all that its seat had seen before it: session order.
+pub fn session_order_is_kept()
+    ensures { KeepsSessionOrder }
 {}
 
 /// A call that was posted stands in the history behind all that its seat had seen as it posted it, once its reply is
 /// collected.
-pub fn posted_calls_keep_real_time_order()
+pub fn posted_calls_keep_session_order()
     ensures { KeepsPostedOrder }
+{}
+
+/// Real-time order, for callers that never met: of two moments of one history, a call that was asked after the first
+/// stands behind all that any seat had seen at the first.
+pub fn later_calls_stand_behind()
+    ensures { KeepsRealTimeBetween }
+{}
+
+/// A posted call stands behind all that any seat had seen at a moment where it wasn't answered yet, as that at which it
+/// was posted: once it is answered, and once its reply is collected.
+pub fn later_answers_stand_behind()
+    ensures answered { KeepsPostedBetween }
+    ensures collected { KeepsCollectedBetween }
 {}

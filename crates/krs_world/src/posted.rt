@@ -4,8 +4,8 @@ ghost use Rattle.krs_world.specs.declared.step.Kind.TheVariants.{Post, Grab, Ans
 ghost use Rattle.krs_world.specs.World.{MovesBy, RefusedBy};
 
 use crate::Service;
-use crate::lane::{Slot, is_done};
-use crate::world::{World, serve};
+use crate::lane::{Slot, is_done, is_idle};
+use crate::world::{World, copy_with_room, serve};
 use krs_types::{Ask, Errno};
 use std::mem;
 
@@ -14,14 +14,10 @@ impl World {
     pub(crate) fn post(&mut self, lane: u32, moment: u64, ask: Ask) -> bool
         ensures { MovesBy self.old lane (Post moment ask) result self.new }
     {
-        let at = lane as usize;
-        let Some(seat) = self.lanes.get(at) else {
+        if !is_idle(&self.lanes, lane) {
             return false;
-        };
-        let Slot::Empty = seat.slot else {
-            return false;
-        };
-        let seat = &mut self.lanes[at];
+        }
+        let seat = &mut self.lanes[lane as usize];
         seat.after = seat.seen;
         seat.done = false;
         seat.slot = Slot::Posted(moment, ask);
@@ -113,16 +109,14 @@ impl World {
             return Ok(false);
         };
         let other = call.lane;
-        let Ok(copy) = call.ask.copy(*self.log.allocator()) else {
-            return Err(Errno::ENOMEM);
-        };
-        let Ok(()) = self.log.reserve(1) else {
-            return Err(Errno::ENOMEM);
-        };
         let seat = &mut self.lanes[lane as usize];
-        let Ok(()) = seat.checked.push(other) else {
+        let Ok(()) = seat.checked.reserve(1) else {
             return Err(Errno::ENOMEM);
         };
+        let Ok(copy) = copy_with_room(&mut self.log, &call.ask) else {
+            return Err(Errno::ENOMEM);
+        };
+        seat.checked.push_reserved(other);
         seat.done = is_done(seat.done, other == lane, true);
         self.lanes[other as usize].slot = Slot::Answered(self.log.len());
         let Some(call) = self.serving.take() else {

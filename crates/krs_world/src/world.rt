@@ -1,10 +1,10 @@
 //! The machine: it runs the steps, and a contract sees what every seat knows.
-ghost use Rattle.std.specs.Prelude.{◌≡◌, ◌<◌, ◌≤◌, Some, None, IfOk, IfErr, vec_len, vec_capacity};
-ghost use Rattle.krs_world.specs.Kept.{Serves};
+ghost use Rattle.std.specs.Prelude.{◌≡◌, ◌<◌, ◌≤◌, Some, None, IfOk, IfErr, true, false, vec_len, vec_capacity};
+ghost use Rattle.krs_world.specs.Kept.{MayPut, Serves};
 ghost use Rattle.krs_world.specs.declared.step.Kind.TheVariants.{Take, TakeFound, Put, Load};
 ghost use Rattle.krs_world.specs.World.{new_world, MovesBy, RefusedBy};
 
-use crate::lane::{Lane, Slot};
+use crate::lane::{Lane, Slot, is_idle};
 use crate::{Kind, Service, WorldStep};
 use krs_store::Store;
 use krs_types::{Ask, Errno, Event};
@@ -158,28 +158,14 @@ impl World {
         ensures moved { IfOk result (λ done. MovesBy self.old lane (Put (Some (moment, ask))) done self.new) }
         ensures refused { IfErr result (λ error. RefusedBy self.old lane (Put (Some (moment, ask))) error self.new) }
     {
-        let Some(holder) = self.out else {
-            return Ok(false);
-        };
-        if holder != lane {
+        if !may_put(self.out, &self.serving, &self.lanes, lane) {
             return Ok(false);
         }
-        let None = self.serving else {
-            return Ok(false);
-        };
-        let at = lane as usize;
-        let Slot::Empty = self.lanes[at].slot else {
-            return Ok(false);
-        };
-        let alloc = *self.log.allocator();
-        let Ok(copy) = ask.copy(alloc) else {
-            return Err(Errno::ENOMEM);
-        };
-        let Ok(()) = self.log.reserve(1) else {
+        let Ok(copy) = copy_with_room(&mut self.log, &ask) else {
             return Err(Errno::ENOMEM);
         };
         serve(&mut self.store, &mut self.log, lane, moment, ask, copy);
-        let seat = &mut self.lanes[at];
+        let seat = &mut self.lanes[lane as usize];
         seat.seen = self.log.len();
         seat.holding = false;
         self.out = None;
@@ -203,6 +189,33 @@ impl World {
         self.lanes[at].seen = seen;
         true
     }
+}
+
+/// Whether the lane has the turn, serves no posted call, and has none of its own in its cell.
+fn may_put(out: Option<u32>, serving: &Option<Service>, lanes: &[Lane], lane: u32) -> bool
+    ensures may { result ≡ true → MayPut out serving.now lanes.now lane }
+    ensures not { result ≡ false → ¬ MayPut out serving.now lanes.now lane }
+{
+    let Some(holder) = out else {
+        return false;
+    };
+    if holder != lane {
+        return false;
+    }
+    let None = serving else {
+        return false;
+    };
+    is_idle(lanes, lane)
+}
+
+/// A copy of an ask for the list, which then has room for its call.
+pub(crate) fn copy_with_room(log: &mut Vec<Event>, ask: &Ask) -> Result<Ask, AllocError>
+    ensures same { log.new.items ≡ log.old.items }
+    ensures room { IfOk result (λ _. vec_len log.new < vec_capacity log.new) }
+    ensures copy { IfOk result (λ copy. copy ≡ ask.now) }
+{
+    log.reserve(1)?;
+    ask.copy(*log.allocator())
 }
 
 /// Has the store answer an ask, and appends the call to the list, which has room for it, with a copy of the ask.

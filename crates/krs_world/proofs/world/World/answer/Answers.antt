@@ -9,7 +9,7 @@ use Rattle.krs_world.specs.declared.view.Service.{Service}
 use Rattle.krs_world.specs.declared.lane.Lane.{Lane}
 use Rattle.krs_world.specs.declared.step.Kind.TheVariants.{Answer}
 use Rattle.krs_world.specs.Kept.{world_of, IsKept}
-use Rattle.krs_world.proofs.KeptHistory.{out_at, out_within, in_bounds}
+use Rattle.krs_world.proofs.KeptHistory.{out_within, in_bounds}
 use Rattle.krs_world.proofs.ServedMoves.{room_refused}
 use Rattle.krs_world.proofs.AnsweredMoves.{answers_at}
 use Rattle.krs_world.proofs.Answering.{lane_here, moves, serves_none, answer_refused}
@@ -22,53 +22,52 @@ pub returns-in_default-serving-clause-moved : goal.returns-in_default-serving-cl
 returns-in_default-serving-clause-moved c = let w = c.self.inside in
     serves_none c.args.self.now w.store w.out w.serving w.log.items w.lanes.items c.args.lane c.self.view_is c.in_default-serving.is
 
-pub returns-in_default-copy-clause-refused : goal.returns-in_default-copy-clause-refused
-returns-in_default-copy-clause-refused c = let w = c.self.inside in
-    let here : w.out ≡ Some c.args.lane = c.in-Some.is ∙ ap (λ (n : ℕ). Some n) c.if-holder-lane.false in
-    let h = out_at w.store w.out w.serving w.log.items w.lanes.items c.args.lane c.self.invariant here in let x = h.0 in
-    let at : get_elem? w.lanes.items c.args.lane ≡ some x = h.1 in
-    answer_refused c.args.self.now w.store w.out w.serving w.log.items w.lanes.items c.args.lane x c.in-Some-serving.call c.self.invariant at c.self.view_is here
-    c.in-Some-serving.is
-
-pub returns-in_default-reserve-clause-refused : goal.returns-in_default-reserve-clause-refused
-returns-in_default-reserve-clause-refused c = let w = c.self.inside in
-    let here : w.out ≡ Some c.args.lane = c.in-Some.is ∙ ap (λ (n : ℕ). Some n) c.if-holder-lane.false in
-    let h = out_at w.store w.out w.serving w.log.items w.lanes.items c.args.lane c.self.invariant here in let x = h.0 in
-    let at : get_elem? w.lanes.items c.args.lane ≡ some x = h.1 in
-    let refused = answer_refused c.args.self.now w.store w.out w.serving w.log.items w.lanes.items c.args.lane x c.in-Some-serving.call c.self.invariant at c.self.view_is here
-    c.in-Some-serving.is in (
-      ap (λ (l : List Event). world_of w.store w.out w.serving l w.lanes.items) c.reserve.ensures.items
-          ∙ c.self.view_is,
-      refused.1,
-    )
-
 pub index_mut-seat-requires : goal.index_mut-seat-requires
 index_mut-seat-requires c = let w = c.self.inside in
     let here : w.out ≡ Some c.args.lane = c.in-Some.is ∙ ap (λ (n : ℕ). Some n) c.if-holder-lane.false in
     let within : c.args.lane < length w.lanes.items = out_within w.store w.out w.serving w.log.items w.lanes.items c.args.lane c.self.invariant here in
     subst (λ (n : ℕ). c.args.lane < n) (sym w.lanes.ok.0) within
 
-pub invariant_of-self-in_default-push : goal.invariant_of-self-in_default-push
-invariant_of-self-in_default-push c = let w = c.self.inside in let x = c.index_mut-seat.result.now in
+pub invariant_of-self : goal.invariant_of-self
+invariant_of-self c = let w = c.self.inside in let x = c.index_mut-seat.result.now in
     let here : w.out ≡ Some c.args.lane = c.in-Some.is ∙ ap (λ (n : ℕ). Some n) c.if-holder-lane.false in
     let within : c.args.lane < length w.lanes.items = out_within w.store w.out w.serving w.log.items w.lanes.items c.args.lane c.self.invariant here in
     let at : get_elem? w.lanes.items c.args.lane ≡ some x =
     lane_here w.lanes.items c.args.lane x within c.index_mut-seat.ensures.value in
-    subst (λ (l : List Event). IsKept w.store w.out w.serving l
-    (set w.lanes.items c.args.lane (record x { checked = c.push.new.self }))) (sym c.reserve.ensures.items)
-    (room_refused w.store w.out w.serving w.log.items w.lanes.items c.args.lane x c.self.invariant at c.push.new.self c.in_default-push.ensures.items).0
+    (room_refused w.store w.out w.serving w.log.items w.lanes.items c.args.lane x c.self.invariant at c.reserve.new.self c.reserve.ensures.items).0
 
-pub returns-in_default-push-clause-refused : goal.returns-in_default-push-clause-refused
-returns-in_default-push-clause-refused c = let w = c.self.inside in let x = c.index_mut-seat.result.now in
+pub returns-in_default-reserve-clause-refused : goal.returns-in_default-reserve-clause-refused
+returns-in_default-reserve-clause-refused c = let w = c.self.inside in let x = c.index_mut-seat.result.now in
     let here : w.out ≡ Some c.args.lane = c.in-Some.is ∙ ap (λ (n : ℕ). Some n) c.if-holder-lane.false in
     let within : c.args.lane < length w.lanes.items = out_within w.store w.out w.serving w.log.items w.lanes.items c.args.lane c.self.invariant here in
     let at : get_elem? w.lanes.items c.args.lane ≡ some x =
     lane_here w.lanes.items c.args.lane x within c.index_mut-seat.ensures.value in
     let refused = answer_refused c.args.self.now w.store w.out w.serving w.log.items w.lanes.items c.args.lane x c.in-Some-serving.call c.self.invariant at c.self.view_is here
     c.in-Some-serving.is in
-    let room = room_refused w.store w.out w.serving w.log.items w.lanes.items c.args.lane x c.self.invariant at c.push.new.self c.in_default-push.ensures.items in (
+    let room = room_refused w.store w.out w.serving w.log.items w.lanes.items c.args.lane x c.self.invariant at c.reserve.new.self c.reserve.ensures.items in
+    (room.1 ∙ c.self.view_is, refused.1)
+
+pub invariant_of-self-in_default-copy_with_room : goal.invariant_of-self-in_default-copy_with_room
+invariant_of-self-in_default-copy_with_room c = let w = c.self.inside in let x = c.index_mut-seat.result.now in
+    let here : w.out ≡ Some c.args.lane = c.in-Some.is ∙ ap (λ (n : ℕ). Some n) c.if-holder-lane.false in
+    let within : c.args.lane < length w.lanes.items = out_within w.store w.out w.serving w.log.items w.lanes.items c.args.lane c.self.invariant here in
+    let at : get_elem? w.lanes.items c.args.lane ≡ some x =
+    lane_here w.lanes.items c.args.lane x within c.index_mut-seat.ensures.value in
+    subst (λ (l : List Event). IsKept w.store w.out w.serving l
+    (set w.lanes.items c.args.lane (record x { checked = c.reserve.new.self }))) (sym c.copy_with_room.ensures.same)
+    (room_refused w.store w.out w.serving w.log.items w.lanes.items c.args.lane x c.self.invariant at c.reserve.new.self c.reserve.ensures.items).0
+
+pub returns-in_default-copy_with_room-clause-refused : goal.returns-in_default-copy_with_room-clause-refused
+returns-in_default-copy_with_room-clause-refused c = let w = c.self.inside in let x = c.index_mut-seat.result.now in
+    let here : w.out ≡ Some c.args.lane = c.in-Some.is ∙ ap (λ (n : ℕ). Some n) c.if-holder-lane.false in
+    let within : c.args.lane < length w.lanes.items = out_within w.store w.out w.serving w.log.items w.lanes.items c.args.lane c.self.invariant here in
+    let at : get_elem? w.lanes.items c.args.lane ≡ some x =
+    lane_here w.lanes.items c.args.lane x within c.index_mut-seat.ensures.value in
+    let refused = answer_refused c.args.self.now w.store w.out w.serving w.log.items w.lanes.items c.args.lane x c.in-Some-serving.call c.self.invariant at c.self.view_is here
+    c.in-Some-serving.is in
+    let room = room_refused w.store w.out w.serving w.log.items w.lanes.items c.args.lane x c.self.invariant at c.reserve.new.self c.reserve.ensures.items in (
       ap (λ (l : List Event). world_of w.store w.out w.serving l
-          (set w.lanes.items c.args.lane (record x { checked = c.push.new.self }))) c.reserve.ensures.items
+          (set w.lanes.items c.args.lane (record x { checked = c.reserve.new.self }))) c.copy_with_room.ensures.same
           ∙ (room.1 ∙ c.self.view_is),
       refused.1,
     )
@@ -85,7 +84,7 @@ serve-requires-clause-copy c =
     let both : Some c.in-Some-take.call ≡ Some c.in-Some-serving.call =
     sym c.in-Some-take.is ∙ (c.take.ensures.value ∙ c.in-Some-serving.is) in
     let same_call = one_call c.in-Some-take.call c.in-Some-serving.call both in
-    c.in-Ok.ensures ∙ ap (λ (v : Service). v.ask) (sym same_call)
+    c.in-Ok-copy_with_room.ensures.copy ∙ ap (λ (v : Service). v.ask) (sym same_call)
 
 pub invariant_of-self-2 : goal.invariant_of-self-2
 invariant_of-self-2 c = let w = c.self.inside in let x = c.index_mut-seat.result.now in
@@ -103,10 +102,10 @@ invariant_of-self-2 c = let w = c.self.inside in let x = c.index_mut-seat.result
     c.serve.ensures.1 in
     let longer : c.serve.new.log.items ≡ w.log.items ++ event_of call.lane call.moment call.ask reply ∷ [] =
     c.serve.ensures.2
-    ∙ (λ j. c.reserve.ensures.items j ++ event_of call.lane (same_call j).moment (same_call j).ask reply ∷ []) in
-    let counted : c.len.result ≡ length c.reserve.new.self.items = c.len.ensures ∙ c.reserve.new.self.ok.0 in
-    let size : c.len.result ≡ length w.log.items = counted ∙ ap length c.reserve.ensures.items in
-    let y : Lane = record x { checked = c.push.new.self; done = c.is_done-seat.result } in
+    ∙ (λ j. c.copy_with_room.ensures.same j ++ event_of call.lane (same_call j).moment (same_call j).ask reply ∷ []) in
+    let counted : c.len.result ≡ length c.copy_with_room.new.log.items = c.len.ensures ∙ c.copy_with_room.new.log.ok.0 in
+    let size : c.len.result ≡ length w.log.items = counted ∙ ap length c.copy_with_room.ensures.same in
+    let y : Lane = record x { checked = c.push_reserved.new.self; done = c.is_done-seat.result } in
     let k = c.self.invariant.served call serves in
     let inside : call.lane < length w.lanes.items = in_bounds w.lanes.items call.lane k.0 k.1 in
     let long : length (set w.lanes.items c.args.lane y) ≡ length w.lanes.items =
@@ -116,7 +115,7 @@ invariant_of-self-2 c = let w = c.self.inside in let x = c.index_mut-seat.result
     (subst (λ (n : ℕ). call.lane < n) (sym long) inside)
     c.index_mut.ensures.value in
     (answers_at w.store w.out w.serving w.log.items w.lanes.items c.args.lane x c.self.invariant at call reply
-    c.push.new.self c.is_done-seat.result c.index_mut.result.now here serves c.in-Ok-push.ensures.items c.is_done-seat.ensures there
+    c.push_reserved.new.self c.is_done-seat.result c.index_mut.result.now here serves (c.push_reserved.ensures.items ∙ ap (λ (l : List ℕ). l ++ c.in-Some-serving.call.lane ∷ []) c.reserve.ensures.items) c.is_done-seat.ensures there
     c.serve.new.store c.take.new.self c.serve.new.log.items c.len.result step c.take.ensures.after longer
     size).0
 
@@ -136,10 +135,10 @@ returns-clause-moved c = let w = c.self.inside in let x = c.index_mut-seat.resul
     c.serve.ensures.1 in
     let longer : c.serve.new.log.items ≡ w.log.items ++ event_of call.lane call.moment call.ask reply ∷ [] =
     c.serve.ensures.2
-    ∙ (λ j. c.reserve.ensures.items j ++ event_of call.lane (same_call j).moment (same_call j).ask reply ∷ []) in
-    let counted : c.len.result ≡ length c.reserve.new.self.items = c.len.ensures ∙ c.reserve.new.self.ok.0 in
-    let size : c.len.result ≡ length w.log.items = counted ∙ ap length c.reserve.ensures.items in
-    let y : Lane = record x { checked = c.push.new.self; done = c.is_done-seat.result } in
+    ∙ (λ j. c.copy_with_room.ensures.same j ++ event_of call.lane (same_call j).moment (same_call j).ask reply ∷ []) in
+    let counted : c.len.result ≡ length c.copy_with_room.new.log.items = c.len.ensures ∙ c.copy_with_room.new.log.ok.0 in
+    let size : c.len.result ≡ length w.log.items = counted ∙ ap length c.copy_with_room.ensures.same in
+    let y : Lane = record x { checked = c.push_reserved.new.self; done = c.is_done-seat.result } in
     let k = c.self.invariant.served call serves in
     let inside : call.lane < length w.lanes.items = in_bounds w.lanes.items call.lane k.0 k.1 in
     let long : length (set w.lanes.items c.args.lane y) ≡ length w.lanes.items =
@@ -150,6 +149,6 @@ returns-clause-moved c = let w = c.self.inside in let x = c.index_mut-seat.resul
     c.index_mut.ensures.value in
     moves c.args.self.now _ w.store w.out w.serving w.log.items w.lanes.items c.args.lane x Answer c.self.view_is at
     (answers_at w.store w.out w.serving w.log.items w.lanes.items c.args.lane x c.self.invariant at call reply
-    c.push.new.self c.is_done-seat.result c.index_mut.result.now here serves c.in-Ok-push.ensures.items c.is_done-seat.ensures there
+    c.push_reserved.new.self c.is_done-seat.result c.index_mut.result.now here serves (c.push_reserved.ensures.items ∙ ap (λ (l : List ℕ). l ++ c.in-Some-serving.call.lane ∷ []) c.reserve.ensures.items) c.is_done-seat.ensures there
     c.serve.new.store c.take.new.self c.serve.new.log.items c.len.result step c.take.ensures.after longer
     size).1
