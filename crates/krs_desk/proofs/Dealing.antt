@@ -135,7 +135,7 @@ picked a slots id lane room s r len at small =
           (λ j l v not e lies. lies_apart a s r id p is j l v not e lies)
           (subst (λ (c : ℕ → Cell). OneHistory a (turn s) r.home c (set views id (one a p)))
           (sym (same_cells r.cell lane free.0)) h),
-      (refl, (refl, (move.stays, tt, refl))),
+      (refl, (refl, (move.stays, (refl, (get_or s.words (lane + 1) 0, refl, λ e. omega arith), refl), refl))),
     )
 
 pub picks_at :

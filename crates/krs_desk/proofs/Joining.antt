@@ -62,7 +62,7 @@ views_snoc : (l : List Sight) (y : Sight) → views_of (l ++ y ∷ []) ≡ views
 views_snoc [] y = refl
 views_snoc (x ∷ xs) y = ap (λ l. x.view ∷ l) (views_snoc xs y)
 
-views_cut :
+pub views_cut :
     (l : List Sight) (i : ℕ) (x y : Sight) → views_of (set l i x ++ y ∷ []) ≡ set (views_of l) i x.view ++ y.view ∷ []
 views_cut l i x y = views_snoc (set l i x) y ∙ ap (λ k. k ++ y.view ∷ []) (views_set l i x)
 
@@ -150,7 +150,7 @@ cuts_of key id v w is h =
 
 -- Joins.
 
-views_twice :
+pub views_twice :
     (l : List Sight) (i j : ℕ) (x y : Sight)
     → views_of (set (set l i x) j y) ≡ set (set (views_of l) i x.view) j y.view
 views_twice l i j x y = views_set (set l i x) j y ∙ ap (λ k. set k j y.view) (views_set l i x)
@@ -276,7 +276,7 @@ checks_at key slots id m is =
           (r.housed id (sat a p) at)
           (subst (λ (b : State). OneHistory b (turn s) r.home r.cell (set views id (one a p))) e
           (law.stays a views id p here (turn s) r.home r.cell h p refl refl (λ e. e) k)),
-      ((refl, e), (refl, (move.stays, tt, refl))),
+      ((refl, e), (refl, (move.loads p.seen, ((refl, refl, refl, (turn s, refl)), law.prefix_self p.seen), refl))),
     ))
 
 abbrev pub pair : State → Part → Part → Sight
@@ -317,7 +317,7 @@ looks_at key a p q c slots id m is =
             mine = λ idle. law.idle_mine q h.log (r.cell q.lane) idle k.1.fits;
           },
         ),
-        (refl, (refl, (h.log, refl))),
+        (refl, ((refl, refl, refl, (turn s, refl)), (h.log, k.0.seen, k.1.seen, refl))),
       ),
     ))
 

@@ -3,6 +3,7 @@ pub mod Cells
 pub mod Joining
 pub mod Dealing
 pub mod Seen
+pub mod ReadAlone
 pub mod Seats
 pub mod Posts
 pub mod Serves
@@ -11,3 +12,7 @@ pub mod Turns
 pub mod Calls
 pub mod Ending
 pub mod Words
+pub mod Between
+pub mod Looking
+pub mod Running
+pub mod Adding

@@ -60,7 +60,7 @@ posts_allowed a slots id p m ask idle room s r len at small =
             let em : m ≡ m' = cc in
             let ea : ask ≡ ask' = cc in
             λ i. (sat a (posted p (em i) (ea i)), [])),
-        (refl, (move.posts m ask, refl, refl)),
+        (refl, (move.posts m ask, (refl, refl, refl, idle), refl)),
       ),
     )
 
@@ -135,10 +135,10 @@ done_of x slot (cells.Serving m ask) log p is f d = absurd (let no : true ≡ fa
 done_of x slot (cells.Answered m ask r) log p is f d = is.0
 
 collects_allowed :
-    (a : State) (slots id : ℕ) (p : Part) (c : List (ℕ × Place)) → p.lane + 1 < slots
+    (a : State) (slots id : ℕ) (p : Part) (c : List (ℕ × Place)) → p.holding ≡ None → p.lane + 1 < slots
     → Allows (InOneOrder a) slots id (sat a p, c) (p.lane + 1) (λ n. either (eqb n 3) 0 n)
     (moved_told collects_told (step slots (p.lane + 1) 3 0 none) (sat a p, c))
-collects_allowed a slots id p c room s r len at small =
+collects_allowed a slots id p c empty room s r len at small =
     let lane : ℕ = p.lane in
     let x : ℕ = get_or s.words (lane + 1) 0 in
     let views : List View = views_of s.views in
@@ -181,7 +181,7 @@ collects_allowed a slots id p c room s r len at small =
           )),
           λ not. absurd (not hit),
         ),
-        (refl, (move.collects log e, (refl, ap (λ (n : ℕ). Some n) hit), refl)),
+        (refl, (move.collects log e, (refl, ap (λ (n : ℕ). Some n) hit, empty, k.seen, refl, refl), refl)),
       ),
     ))
     (λ miss. (
@@ -201,7 +201,7 @@ collects_allowed a slots id p c room s r len at small =
                 (done_of x (get_elem? s.homes (lane + 1)) (r.cell lane) r.history.log p (r.cells lane) k.fits d),
           ),
         ),
-        (refl, (move.stays, tt, refl)),
+        (refl, (move.stays, (refl, (x, refl, miss), empty), refl)),
       ),
     ))
 
@@ -219,7 +219,7 @@ collects_at key slots id lane idle m seated room =
     (moved_told collects_told (step slots (z.0 + 1) 3 0 none) z.1)) (λ i. (sym is i, sym seated.rests.0 i))
     (any_key key a slots id (p.lane + 1) p c (λ n. either (eqb n 3) 0 n)
     (moved_told collects_told (step slots (p.lane + 1) 3 0 none) (sat a p, c))
-    (collects_allowed a slots id p c (subst (λ (l : ℕ). l + 1 < slots) is room)))
+    (collects_allowed a slots id p c seated.rests.1 (subst (λ (l : ℕ). l + 1 < slots) is room)))
 
 -- the reply that was told is the one that was read
 same_reply : (i : ℕ) (told : Result Answer Errno) (x : Place) (reply : Result Answer Errno) (c d : List (ℕ × Place))

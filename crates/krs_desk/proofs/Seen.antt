@@ -1,15 +1,20 @@
 -- The laws of a store, told of the list that a seat has seen.
-use Rattle.std.proofs.Common.{◌≡◌, List, [], ◌∷◌, ◌++◌, refl, subst}
+use Rattle.std.proofs.Common.{◌≡◌, ℕ, List, [], ◌∷◌, ◌++◌, refl, subst, ⊎_elim}
 use Rattle.krs_types.specs.declared.event.Event.{Event}
 use Rattle.krs_model.specs.State.{State}
 use Rattle.krs_model.specs.Sound.{IsSound}
 use Rattle.krs_model.specs.Step.{Step}
 use Rattle.krs_model.specs.History.{IsLegal}
-use Rattle.krs_model.specs.Revocation.{StaysUnread}
+use Rattle.krs_types.specs.declared.ask.Op.TheVariants.{Invalidate}
+use Rattle.krs_model.specs.Revocation.{StaysUnread, Revokes, IsServed}
 use Rattle.krs_model.specs.Secrecy.{ReadsByRight}
 use Rattle.krs_model.proofs.History.Determined.{one_history, legal_moves}
 use Rattle.krs_model.proofs.History.Streams.{gives_streams}
-use Rattle.krs_desk.specs.Seen.{IsNotReadRevoked, AreReadByRight, GivesItsStreams}
+use Rattle.krs_model.specs.Table.{IsBelow}
+use Rattle.krs_model.proofs.Asks.LaterByStep.{legal_follows}
+use Rattle.krs_model.proofs.Hiding.Gone.{revoked_gone, stays_gone, tells_nobody}
+use Rattle.krs_model.proofs.Hiding.Invalidated.{invalidated_gone}
+use Rattle.krs_desk.specs.Seen.{IsNotReadRevoked, AreReadByRight, GivesItsStreams, TellsNobodyAfter}
 
 -- a legal history, cut in two
 pub legal_cut :
@@ -28,13 +33,21 @@ unfolding IsLegal
 legal_first a c x xs legal = legal
 
 -- the event behind a history that led to this state
-next_step :
+pub next_step :
     (a b c : State) (xs : List Event) (x : Event) (rest : List Event) → IsLegal a xs b → IsLegal a (xs ++ x ∷ rest) c
     → (d : State) × Step b x d × IsLegal d rest c
 next_step a b c xs x rest front whole =
     let t = legal_cut a c xs (x ∷ rest) whole in
     let same : t.0 ≡ b = one_history a t.0 b xs t.1 front in
     legal_first b c x rest (subst (λ (s : State). IsLegal s (x ∷ rest) c) same t.2)
+
+-- the last step of a history
+pub last_step :
+    (a last end : State) (log : List Event) (e : Event) → IsLegal a log last → IsLegal a (log ++ e ∷ []) end
+    → Step last e end
+unfolding IsLegal
+last_step a last end log e front whole =
+    let t = next_step a last end log e [] front whole in subst (Step last e) t.2 t.1
 
 pub not_read_revoked :
     (a end : State) (seen : List Event) → StaysUnread a → IsLegal a seen end → IsNotReadRevoked a seen
@@ -63,3 +76,12 @@ gives_its_streams a end seen sound legal q capacity =
       still_open = λ queue opened stays. gives.still_open end seen some.0 q capacity queue some.1 opened stays;
       begun = λ opened. gives.begun end seen some.0 q capacity some.1 opened;
     }
+
+pub told_to_nobody : (a : State) → IsBelow a.keys a.next_serial → TellsNobodyAfter a
+told_to_nobody a below before later events ending old mid serial front ends legal =
+    let next = next_step a old mid before ending later front legal in
+    let unused : IsBelow old.keys old.next_serial = (legal_follows a before old front).unused below in
+    let gone =
+    ⊎_elim (λ (r : Revokes old ending serial). revoked_gone old next.0 ending serial unused next.1 r)
+    (λ (i : IsServed old ending Invalidate serial). invalidated_gone old next.0 ending serial unused next.1 i) ends in
+    tells_nobody mid serial events (stays_gone next.0 mid later serial next.2 gone)

@@ -38,7 +38,7 @@ use Rattle.krs_desk.proofs.Cells.{moved_cell}
 use Rattle.krs_desk.proofs.Posts.{answered_of}
 
 -- what a lane's cell is whose word is 1
-posted_of :
+pub posted_of :
     (x : ℕ) (slot : maybe.Option Slot) (c : Cell) → CellIs x slot c → x ≡ 1
     → (m : ℕ) × (ask : Ask) × (c ≡ cells.Posted m ask) × (slot ≡ some (some (Asked m ask)))
 posted_of x slot cells.Empty is e = absurd (let zero_is : x ≡ 0 = is in omega arith)
@@ -109,7 +109,10 @@ glances_allowed a slots id p c lane log held idle s r len at small =
       unmoved a s r (lane + 1) id (sat a p) c (λ l lies. sat_lies (IsVacant s.homes r.cell) a p l lies)
           (r.housed id (sat a p) at)
           (law.stays a views id p is (turn s) r.home r.cell r.history p refl refl (λ e. e) k),
-      ((λ lane' word. ((λ _. refl), λ not. absurd (not hit))), (refl, (move.stays, tt, refl))),
+      (
+        (λ lane' word. ((λ _. refl), λ not. absurd (not hit))),
+        (refl, (move.finds lane, (refl, ap (λ (n : ℕ). Some n) hit, (log, held)), refl)),
+      ),
     ))
     (λ miss. (
       sat a (looked_at p lane (finished x lane p.lane)),
@@ -125,7 +128,7 @@ glances_allowed a slots id p c lane log held idle s r len at small =
                 λ same has. own_answered a s r id p lane log is held idle miss (e ∙ same) has,
               ),
             )),
-        (refl, (move.looks lane (finished x lane p.lane), (refl, (x, refl, miss, refl)), refl)),
+        (refl, (move.looks lane (finished x lane p.lane), (refl, (x, refl, miss, refl), (log, held)), refl)),
       ),
     ))
 
@@ -158,7 +161,7 @@ grabs_allowed a slots id p c lane log held idle room s r len at small =
               (λ _. (t.0, t.1, λ i. (sat a (grabbed p (e i) t.0 t.1), (lane + 1, Asked t.0 t.1) ∷ c))),
               λ not. absurd (not hit),
             )),
-        (refl, (move.grabs lane t.0 t.1, (refl, ap (λ (n : ℕ). Some n) hit), refl)),
+        (refl, (move.grabs lane t.0 t.1, (refl, ap (λ (n : ℕ). Some n) hit, (log, held), refl, refl, idle), refl)),
       ),
     ))
     (λ miss. (
@@ -177,7 +180,7 @@ grabs_allowed a slots id p c lane log held idle room s r len at small =
                 λ same has. own_answered a s r id p lane log is held idle miss (e ∙ same) has,
               ),
             )),
-        (refl, (move.looks lane (finished x lane p.lane), (refl, (x, refl, miss, refl)), refl)),
+        (refl, (move.looks lane (finished x lane p.lane), (refl, (x, refl, miss, refl), (log, held)), refl)),
       ),
     ))
 
@@ -212,7 +215,7 @@ answers_allowed a slots id p c lane m ask reply log last next held serves legal 
             let said : Replied reply ≡ Replied reply' = ap (λ (q : ℕ × Place). q.1) head in
             let er : reply ≡ reply' = cc in
             λ i. (sat a (answered p (el i) (event_of (es i).lane (es i).moment (es i).ask (er i))), c)),
-        (refl, (move.answers log (event_of lane m ask reply), (refl, held, serves), refl)),
+        (refl, (move.answers log (event_of lane m ask reply), (refl, refl, held, serves, refl), refl)),
       ),
     )
 
@@ -243,7 +246,7 @@ brings_allowed a slots id p c store log held idle legal s r len at small =
               (λ i. (sat a (put_none p (el i)), c)),
               λ quiet. ap (events_of p.lane) (sym el) ∙ mine quiet,
             )),
-        (refl, (move.puts_none log, (refl, held), refl)),
+        (refl, (move.puts_none log, ((refl, refl, refl), ap (λ (n : ℕ). Some n) t.0, held, idle), refl)),
       ),
     )
 

@@ -212,7 +212,7 @@ takes_allowed a slots id p c empty s r len at small =
           )),
           λ out. absurd (out free),
         ),
-        (refl, (move.takes h.log, (refl, ap (λ (n : ℕ). Some n) free), refl)),
+        (refl, (move.takes h.log, ((refl, refl, refl), ap (λ (n : ℕ). Some n) free, empty), refl)),
       ),
     ))
     (λ out.
@@ -224,7 +224,7 @@ takes_allowed a slots id p c empty s r len at small =
           (unmoved a s r 0 id w c (λ lane is. sat_lies (IsVacant s.homes r.cell) a (missed p) lane is)
           (r.housed id (sat a p) at)
           (law.misses a views id p is x r.home r.cell r.history)),
-      (((λ free. absurd (out free)), λ _. refl), (refl, (move.misses, (refl, (x, refl, out)), refl))),
+      (((λ free. absurd (out free)), λ _. refl), (refl, (move.misses, ((refl, refl, refl), (x, refl, out), empty), refl))),
     ))
 
 -- the turn is given back, with the list that was held and one event more
@@ -257,7 +257,7 @@ puts_allowed a slots id p store c e log last held legal unserving idle does lane
               ap (λ (z : List Event × Event). (sat a (put_own p z.0 z.1), c)) (λ i. (same_log i, same_event i)),
               ap (events_of p.lane) (sym same_log) ∙ mine,
             )),
-        (refl, (move.puts_own log e, (refl, held), refl)),
+        (refl, (move.puts_own log e, ((refl, refl, refl), ap (λ (n : ℕ). Some n) t.0, held, unserving, idle), refl)),
       ),
     )
 

@@ -6,3 +6,6 @@ pub mod Sitting
 pub mod Seated
 pub mod Helping
 pub mod Seen
+pub mod Confidentiality
+pub mod Between
+pub mod Running

@@ -1,11 +1,13 @@
--- Which steps a token may make on the table: those of the machine (krs_world), and no others. So what a lane knows of
--- its turns is what they say of it: how often it took the turn, the history that it took it with, how often it found the
--- turn taken, and which cells it looked at. The form is this project's own.
-use Rattle.std.specs.Prelude.{◌≡◌, ◌≢◌, ℕ, ◌==◌, ◌&&◌, Bool, List, Option, Some, None}
+-- Which steps a token may make on the table: those of the machine (krs_world), and one that the machine doesn't have,
+-- at which a call is found posted and nothing else is known by it. So what a lane knows of its turns is what they say of
+-- it: how often it took the turn, the history that it took it with, how often it found the turn taken, and which cells
+-- it looked at. The form is this project's own.
+use Rattle.std.specs.Prelude.{◌≡◌, ◌≢◌, ℕ, ◌==◌, ◌&&◌, Bool, List, [], ◌∷◌, ◌++◌, Option, Some, None}
 use Rattle.atomic_table.specs.Seated.{TableId}
 use Rattle.atomic_table.specs.Table.{Step}
 use Rattle.krs_types.specs.declared.ask.Ask.{Ask}
 use Rattle.krs_types.specs.declared.event.Event.{Event}
+use Rattle.krs_model.specs.Lists.{Begins}
 use Rattle.krs_model.specs.State.{State}
 use Rattle.krs_world.specs.declared.view.Part.{Part}
 use Rattle.krs_world.specs.declared.view.Standing.{Standing}
@@ -13,7 +15,7 @@ use Rattle.krs_world.specs.declared.view.Standing.TheVariants.{Spent, One, Two, 
 use Rattle.krs_world.specs.Knowing.{service, taken, missed, put_own, put_none, loaded}
 use Rattle.krs_world.specs.Knowing.{posted, grabbed, answered, collected, looked_at}
 use Rattle.krs_desk.specs.declared.place.Place.{Place}
-use Rattle.krs_desk.specs.declared.word.TheConstants.{TURN, FREE, POSTED, ANSWERED}
+use Rattle.krs_desk.specs.declared.word.TheConstants.{TURN, FREE, OUT, EMPTY, POSTED, SERVING, ANSWERED}
 use Rattle.krs_desk.specs.Parts.{cell_of}
 use Rattle.krs_desk.specs.Told.{Known}
 
@@ -24,6 +26,7 @@ pub record Tabled : Type 0 where
 
 -- The kinds of steps, each with what it brings: the history that was found or is held, the event that is added to it,
 -- the call that is posted or taken up, the lane whose cell is looked at and whether that is the token's own, answered.
+-- Two bring nothing: a collect that finds no reply (`stays`), and a look that finds a call posted (`finds`).
 pub data Move : Type 0 where
   stays : Move
   takes : List Event → Move
@@ -32,6 +35,7 @@ pub data Move : Type 0 where
   puts_none : List Event → Move
   loads : List Event → Move
   posts : ℕ → Ask → Move
+  finds : ℕ → Move
   grabs : ℕ → ℕ → Ask → Move
   answers : List Event → Event → Move
   collects : List Event → Event → Move
@@ -46,48 +50,107 @@ after p (puts_own log e) = put_own p log e
 after p (puts_none log) = put_none p log
 after p (loads log) = loaded p log
 after p (posts moment ask) = posted p moment ask
+after p (finds lane) = p
 after p (grabs lane moment ask) = grabbed p lane moment ask
 after p (answers log e) = answered p log e
 after p (collects log e) = collected p log e
 after p (looks lane finished) = looked_at p lane finished
 
--- On which word a step is made, and what was found there: nothing at a store. The turn is taken where it was free, and
--- missed where it wasn't; who gives it back, or answers, holds the history; a call is posted in the lane's own cell, and
--- taken up where one is posted; a reply is collected where the cell was answered.
-abbrev pub IsMadeAt : ℕ → Option ℕ → Part → Move → Type 0
-IsMadeAt word found p stays = Unit {0}
-IsMadeAt word found p (takes log) = (word ≡ TURN) × (found ≡ Some FREE)
-IsMadeAt word found p misses = (word ≡ TURN) × ((n : ℕ) × (found ≡ Some n) × (n ≢ FREE))
-IsMadeAt word found p (puts_own log e) = (word ≡ TURN) × (p.holding ≡ Some log)
-IsMadeAt word found p (puts_none log) = (word ≡ TURN) × (p.holding ≡ Some log)
-IsMadeAt word found p (loads log) = word ≡ TURN
-IsMadeAt word found p (posts moment ask) = word ≡ cell_of p.lane
-IsMadeAt word found p (grabs lane moment ask) = (word ≡ cell_of lane) × (found ≡ Some POSTED)
-IsMadeAt word found p (answers log e) =
-    (word ≡ cell_of e.lane) × (p.holding ≡ Some log) × (p.serving ≡ Some (service e.lane e.moment e.ask))
-IsMadeAt word found p (collects log e) = (word ≡ cell_of p.lane) × (found ≡ Some ANSWERED)
-IsMadeAt word found p (looks lane finished) =
-    (word ≡ cell_of lane)
+-- the step tries to have the turn
+abbrev pub IsTry : Step Place → Type 0
+IsTry made = (made.word ≡ TURN) × (made.first ≡ FREE) × (made.second ≡ OUT)
+
+-- it gives the turn back, where it is out
+abbrev pub IsReturn : Step Place → Type 0
+IsReturn made = (made.word ≡ TURN) × (made.first ≡ OUT) × (made.second ≡ FREE)
+
+-- it reads the turn's word, and leaves it as it is
+abbrev pub IsReading : Step Place → Option ℕ → Type 0
+IsReading made found =
+    (made.word ≡ TURN) × (made.first ≡ 0) × (made.second ≡ 0) × ((n : ℕ) × (found ≡ Some n))
+
+-- the token has the turn
+abbrev pub HasTurn : Part → Type 0
+HasTurn p = (log : List Event) × (p.holding ≡ Some log)
+
+-- By which step on which word each is made, and what was found there: nothing at a store. The turn is taken by a try
+-- that finds it free, and missed by one that finds it out, at another token; who gives it back, finds, takes up or
+-- answers a call, or looks at a cell, has the turn. A call is posted in the lane's own cell, and taken up where one is
+-- posted; a reply is collected where the cell was answered, by who hasn't the turn, and there alone a step may find
+-- something and tell nothing of it. What was seen begins what is seen then.
+abbrev pub IsMadeAt : Step Place → Option ℕ → Part → Move → Type 0
+IsMadeAt made found p stays =
+    (made.word ≡ cell_of p.lane) × ((n : ℕ) × (found ≡ Some n) × (n ≢ ANSWERED)) × (p.holding ≡ None)
+IsMadeAt made found p (takes log) = IsTry made × (found ≡ Some FREE) × (p.holding ≡ None)
+IsMadeAt made found p misses = IsTry made × ((n : ℕ) × (found ≡ Some n) × (n ≢ FREE)) × (p.holding ≡ None)
+IsMadeAt made found p (puts_own log e) =
+    IsReturn made × (found ≡ Some OUT) × (p.holding ≡ Some log) × (p.serving ≡ None) × (p.flight ≡ None)
+IsMadeAt made found p (puts_none log) =
+    IsReturn made × (found ≡ Some OUT) × (p.holding ≡ Some log) × (p.serving ≡ None)
+IsMadeAt made found p (loads log) = IsReading made found × Begins p.seen log
+IsMadeAt made found p (posts moment ask) =
+    (made.word ≡ cell_of p.lane) × (found ≡ None) × (made.first ≡ POSTED) × (p.flight ≡ None)
+IsMadeAt made found p (finds lane) = (made.word ≡ cell_of lane) × (found ≡ Some POSTED) × HasTurn p
+IsMadeAt made found p (grabs lane moment ask) =
+    (made.word ≡ cell_of lane) × (found ≡ Some POSTED) × HasTurn p × (made.first ≡ POSTED)
+    × (made.second ≡ SERVING) × (p.serving ≡ None)
+IsMadeAt made found p (answers log e) =
+    (made.word ≡ cell_of e.lane) × (found ≡ None) × (p.holding ≡ Some log)
+    × (p.serving ≡ Some (service e.lane e.moment e.ask)) × (made.first ≡ ANSWERED)
+IsMadeAt made found p (collects log e) =
+    (made.word ≡ cell_of p.lane) × (found ≡ Some ANSWERED) × (p.holding ≡ None) × Begins p.seen log
+    × (made.first ≡ ANSWERED) × (made.second ≡ EMPTY)
+IsMadeAt made found p (looks lane finished) =
+    (made.word ≡ cell_of lane)
     × ((n : ℕ) × (found ≡ Some n) × (n ≢ POSTED) × (finished ≡ ((n == ANSWERED) && (lane == p.lane))))
+    × HasTurn p
 
 -- One lane's token makes one of these steps. A token of two lanes looks at the history for both. One that deals the
 -- others may end, and one that stands for no lane stays.
-abbrev pub IsMoved : ℕ → Option ℕ → Standing → Standing → Type 0
-IsMoved word found Spent t = t ≡ Spent
-IsMoved word found (One p) t = (move : Move) × IsMadeAt word found p move × (t ≡ One (after p move))
-IsMoved word found (Two p q) t = (word ≡ TURN) × ((log : List Event) × (t ≡ Two (loaded p log) (loaded q log)))
-IsMoved word found (Opening n) t = t ≡ Spent
+abbrev pub IsMoved : Step Place → Option ℕ → Standing → Standing → Type 0
+IsMoved made found Spent t = t ≡ Spent
+IsMoved made found (One p) t = (move : Move) × IsMadeAt made found p move × (t ≡ One (after p move))
+IsMoved made found (Two p q) t =
+    IsReading made found
+    × ((log : List Event) × Begins p.seen log × Begins q.seen log × (t ≡ Two (loaded p log) (loaded q log)))
+IsMoved made found (Opening n) t = t ≡ Spent
+
+-- Whatever a step tells: where it adds a lane to those whose cells were looked at, its token has the turn
+abbrev pub LooksInTurn : Type 0
+LooksInTurn =
+    (made : Step Place) (found : Option ℕ) (p q : Part) (lane : ℕ) → IsMoved made found (One p) (One q)
+    → q.checked ≡ p.checked ++ lane ∷ [] → HasTurn p
+
+-- and where a token that has the turn finds anything but a posted call in a lane's cell, that lane is added to those,
+-- and its own cell is known to be answered where it is: no look is forgotten.
+abbrev pub CountsLooks : Type 0
+CountsLooks =
+    (made : Step Place) (n : ℕ) (p q : Part) (lane : ℕ) → IsMoved made (Some n) (One p) (One q)
+    → made.word ≡ cell_of lane → n ≢ POSTED → HasTurn p
+    → q ≡ looked_at p lane ((n == ANSWERED) && (lane == p.lane))
+
+-- Whatever a step tells: a try that finds the turn taken is counted as that, and tells nothing else.
+abbrev pub CountsMisses : Type 0
+CountsMisses =
+    (made : Step Place) (n : ℕ) (p q : Part) → IsMoved made (Some n) (One p) (One q) → IsTry made → n ≢ FREE
+    → q ≡ missed p
+
+-- and one that finds it free is counted as a turn that was had, with the history of that moment
+abbrev pub CountsTurns : Type 0
+CountsTurns =
+    (made : Step Place) (p q : Part) → IsMoved made (Some FREE) (One p) (One q) → IsTry made
+    → (log : List Event) × (q ≡ taken p log)
 
 -- it has the same state of the store at the opening after the step
-abbrev pub Moves : ℕ → Option ℕ → Known → Known → Type 0
-Moves word found m n =
-    (n.0.view.opening ≡ m.0.view.opening) × IsMoved word found m.0.view.stands n.0.view.stands
+abbrev pub Moves : Step Place → Option ℕ → Known → Known → Type 0
+Moves made found m n =
+    (n.0.view.opening ≡ m.0.view.opening) × IsMoved made found m.0.view.stands n.0.view.stands
 
 -- what a step tells that found a number, and one that only stored one: it is one of these steps, and this is so
 abbrev pub moved_told :
     (Step Place → Known → ℕ → Known → Type 0) → Step Place → Known → ℕ → Known → Type 0
-moved_told told step m found n = told step m found n × Moves step.word (Some found) m n
+moved_told told step m found n = told step m found n × Moves step (Some found) m n
 
 abbrev pub stored_told :
     (Step Place → Known → ℕ → Known → Type 0) → Step Place → Known → ℕ → Known → Type 0
-stored_told told step m found n = told step m found n × Moves step.word None m n
+stored_told told step m found n = told step m found n × Moves step None m n

@@ -110,6 +110,14 @@ given_sight s = sight (view s.view.opening (given_of s.view.stands)) (given_laid
 abbrev pub both_sights : Sight → Sight → Sight
 both_sights s t = sight (view s.view.opening (Two (part_of s.view.stands) (part_of t.view.stands))) false
 
+-- each of two tokens stands for one lane
+abbrev pub AreOnes : Sight → Sight → Type 0
+AreOnes s t = ((p : Part) × (s.view.stands ≡ One p)) × ((q : Part) × (t.view.stands ≡ One q))
+
+-- the first stands for none, and the other for one
+abbrev pub IsSpentFor : Sight → Sight → Type 0
+IsSpentFor s t = (s.view.stands ≡ Spent) × ((q : Part) × (t.view.stands ≡ One q))
+
 -- the lane of the other token
 abbrev pub settled_sight : Sight → Sight → Sight
 settled_sight s t = sat t.view.opening (part_of t.view.stands)

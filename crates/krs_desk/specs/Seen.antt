@@ -1,12 +1,13 @@
 -- What holds of every list that a seat has seen. The form is this project's own.
-use Rattle.std.specs.Prelude.{◌≡◌, ℕ, List, ◌∷◌, ◌++◌, Some}
+use Rattle.std.specs.Prelude.{◌≡◌, ◌⊎◌, ℕ, List, ◌∷◌, ◌++◌, Some}
+use Rattle.krs_types.specs.declared.ask.Op.TheVariants.{Invalidate}
 use Rattle.krs_types.specs.declared.event.Event.{Event}
 use Rattle.krs_model.specs.Table.{at}
 use Rattle.krs_model.specs.State.{State, Queue, raised}
 use Rattle.krs_model.specs.Lists.{Begins}
 use Rattle.krs_model.specs.History.{IsLegal}
-use Rattle.krs_model.specs.Revocation.{Revokes, Reads}
-use Rattle.krs_model.specs.Secrecy.{MayBeRead, TellsNoUnread}
+use Rattle.krs_model.specs.Revocation.{IsServed, Revokes, Reads}
+use Rattle.krs_model.specs.Secrecy.{MayBeRead, TellsNobody}
 use Rattle.krs_model.specs.Receiving.{HasMoves, IsOpened}
 use Rattle.krs_model.specs.Notes.Stream.{Move, taken, stream}
 
@@ -23,12 +24,17 @@ IsNotReadRevoked opening seen =
     → IsLegal opening before old → Revokes old revoking serial
     → IsLegal opening (before ++ revoking ∷ later) late → Reads late reading serial → ⊥
 
--- Wherever one begins in the list, what a client is told from there on tells of no payload that it doesn't read from
--- there on, whatever it, or an earlier connection of its lane, had read before: krs_model/specs/Secrecy.antt
-abbrev pub TellsNoUnreadSince : State → List Event → Type 0
-TellsNoUnreadSince opening seen =
-    (before after : List Event) (mid : State) → seen ≡ before ++ after → IsLegal opening before mid
-    → TellsNoUnread mid after
+-- an accepted REVOKE or INVALIDATE of the key: keyctl(2), KEYCTL_REVOKE, KEYCTL_INVALIDATE
+abbrev pub EndsKey : State → Event → ℕ → Type 0
+EndsKey s event serial = Revokes s event serial ⊎ IsServed s event Invalidate serial
+
+-- Wherever in a history a key was revoked or invalidated, nobody is told from anywhere behind that of the payload that
+-- it had, whoever had read it: krs_model/specs/Secrecy.antt
+abbrev pub TellsNobodyAfter : State → Type 0
+TellsNobodyAfter opening =
+    (before later events : List Event) (ending : Event) (old mid : State) (serial : ℕ)
+    → IsLegal opening before old → EndsKey old ending serial
+    → IsLegal opening (before ++ ending ∷ later) mid → TellsNobody serial mid events
 
 -- Each key that an accepted READ of the list names may be read by the context that asks, at that moment: keyctl(2),
 -- KEYCTL_READ. Which key an id stands for is a matter of the state that the events before have left.

@@ -6,7 +6,7 @@ ghost use prog.Atomic.{either};
 ghost use Rattle.atomic_table.specs.Table.{step, Allows, Splits, Joins, rest, opening as opened};
 ghost use Rattle.krs_model.specs.State.{State, starting_at};
 ghost use Rattle.krs_model.specs.History.{event_of};
-ghost use Rattle.krs_desk.specs.Parts.{kept_sight, given_sight, both_sights, settled_sight, spent};
+ghost use Rattle.krs_desk.specs.Parts.{kept_sight, given_sight, both_sights, settled_sight, spent, AreOnes, IsSpentFor};
 ghost use Rattle.krs_desk.specs.Rule.{InOneOrder, first_sight};
 ghost use Rattle.krs_desk.specs.Moves.{moved_told, stored_told};
 ghost use Rattle.krs_desk.specs.Seated.{Has, Serves};
@@ -189,7 +189,8 @@ impl Board {
         requires { (seat.old.table_id ≡ self.now.id) × (other.table_id ≡ self.now.id) × (other.me.1 ≡ [])
             × (0 < self.now.id.words)
             × Joins (InOneOrder self.now.key) seat.old.id seat.old.me.0 other.id other.me.0
-            (both_sights seat.old.me.0 other.me.0) (spent (starting_at 3)) }
+            (both_sights seat.old.me.0 other.me.0) (spent (starting_at 3))
+            × AreOnes seat.old.me.0 other.me.0 }
         ensures { (seat.new.table_id ≡ seat.old.table_id) × (seat.new.id ≡ seat.old.id)
             × (seat.new.me ≡ (both_sights seat.old.me.0 other.me.0, seat.old.me.1)) }
     {
@@ -201,7 +202,8 @@ impl Board {
         requires { (seat.old.table_id ≡ self.now.id) × (other.table_id ≡ self.now.id) × (other.me.1 ≡ [])
             × (0 < self.now.id.words)
             × Joins (InOneOrder self.now.key) seat.old.id seat.old.me.0 other.id other.me.0
-            (settled_sight seat.old.me.0 other.me.0) (spent (starting_at 3)) }
+            (settled_sight seat.old.me.0 other.me.0) (spent (starting_at 3))
+            × IsSpentFor seat.old.me.0 other.me.0 }
         ensures { (seat.new.table_id ≡ seat.old.table_id) × (seat.new.id ≡ seat.old.id)
             × (seat.new.me ≡ (settled_sight seat.old.me.0 other.me.0, seat.old.me.1)) }
     {

@@ -146,6 +146,7 @@ impl Desk {
         ensures table { seat.new.table ≡ seat.old.table }
         ensures idle { seat.new.part.flight ≡ None }
         ensures added { IfOk result (λ reply. Adds seat.old (event_of seat.old.part.lane moment ask reply) seat.new) }
+        ensures alone { IfOk result (λ reply. seat.new.part.checked ≡ []) }
         ensures missed { IfErr result (λ back. (back ≡ ask) × (seat.new ≡ missed_by seat.old)) }
     {
         if self.take(&mut seat.token) != FREE {

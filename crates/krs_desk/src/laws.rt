@@ -1,9 +1,17 @@
 //! What holds of all that a seat has seen.
 ghost use Rattle.krs_model.specs.Receiving.{GivesStreams};
 ghost use Rattle.krs_model.specs.Revocation.{StaysUnread};
-ghost use Rattle.krs_model.specs.Secrecy.{TellsNoUnread, KeepsSecrets, ReadsByRight};
+ghost use Rattle.std.specs.Prelude.{ℕ, List};
+ghost use Rattle.krs_types.specs.declared.event.Event.{Event};
+ghost use Rattle.krs_model.specs.State.{State};
+ghost use Rattle.krs_model.specs.Secrecy.{TellsNoUnread, ReadsByRight};
+ghost use Rattle.krs_model.specs.Secrecy.{TellsByReadsAlone, HasOthers, IsGone, TellsNobody};
 ghost use Rattle.krs_desk.specs.Seen.{IsOneHistory, IsNotReadRevoked, AreReadByRight, GivesItsStreams};
-ghost use Rattle.krs_desk.specs.Seen.{TellsNoUnreadSince};
+ghost use Rattle.krs_desk.specs.Seen.{TellsNobodyAfter};
+ghost use Rattle.krs_desk.specs.Moves.{LooksInTurn, CountsLooks, CountsMisses, CountsTurns};
+ghost use Rattle.krs_desk.specs.Between.{KeepsRealTimeBetween, KeepsCollectedBetween, KeepsPostedBetween, RefusesRevoked};
+ghost use Rattle.krs_desk.specs.Running.{StepsAsNamed, KeepsSeenLists, OnlyGrows, SeesOneOrder};
+ghost use Rattle.krs_desk.specs.Running.{KeepsRealTime, StaysRefused};
 
 use crate::seat::Seat;
 
@@ -15,22 +23,70 @@ impl Seat {
         let _token = &self.token;
     }
 
-    /// In what a seat has seen, no READ of a key is accepted after an accepted REVOKE of it. So it is in every history
-    /// of the desk. keyctl(2), KEYCTL_REVOKE.
-    pub fn revoked_keys_are_not_read(&self)
-        ensures seen { IsNotReadRevoked self.now.opening self.now.part.seen }
-        ensures always { StaysUnread self.now.opening }
+    /// Each step of a seat does to the one history what the machine's step of that name does: a call that is put or
+    /// answered stands at its end, and the others leave it as it is.
+    pub fn steps_are_the_machines(&self)
+        ensures { StepsAsNamed self.now.opening }
     {
         let _token = &self.token;
     }
 
-    /// What a client hasn't read, it can't tell from another secret: what it is told in what a seat has seen, it is
-    /// told in each legal history that is asked alike, but for payloads of keys that it doesn't read. So it is from
-    /// wherever in what was seen one begins, and in every history of the desk.
+    /// Whatever steps threads make, the history only grows, what a seat has seen stays seen, and of the lists that two
+    /// seats have seen one begins the other.
+    pub fn the_history_only_grows(&self)
+        ensures grows { OnlyGrows self.now.opening }
+        ensures seen { KeepsSeenLists self.now.opening }
+        ensures order { SeesOneOrder self.now.opening }
+    {
+        let _token = &self.token;
+    }
+
+    /// Real-time order, for callers that never met: whatever steps threads make between two moments, a call that was
+    /// asked after the first, or was posted and not answered yet then, stands behind all that any seat had seen at the
+    /// first. So calls are linearizable. The same of any two moments at which it is seen, however they came about.
+    pub fn later_calls_stand_behind(&self)
+        ensures running { KeepsRealTime self.now.opening }
+        ensures asked { KeepsRealTimeBetween self.now.opening }
+        ensures answered { KeepsPostedBetween self.now.opening }
+        ensures collected { KeepsCollectedBetween self.now.opening }
+    {
+        let _token = &self.token;
+    }
+
+    /// In what a seat has seen, no READ of a key is accepted after an accepted REVOKE of it. So it is in every history
+    /// of the desk; and of any two seats, whether or not they ever met, once one has seen the reply to a REVOKE, no READ
+    /// by the other is accepted that wasn't answered by then. keyctl(2), KEYCTL_REVOKE.
+    pub fn revoked_keys_are_not_read(&self)
+        ensures seen { IsNotReadRevoked self.now.opening self.now.part.seen }
+        ensures always { StaysUnread self.now.opening }
+        ensures between { RefusesRevoked self.now.opening }
+        ensures running { StaysRefused self.now.opening }
+    {
+        let _token = &self.token;
+    }
+
+    /// Of keys that it reads a client learns what its READs answer, and nothing else; those of others it can't tell
+    /// from another secret, and there is a history for any other secret that they could be. So it is from wherever in
+    /// what was seen one begins, in every history of the desk. Of a key that is gone nobody is told any more, as of one
+    /// that was revoked or invalidated.
     pub fn unread_payloads_stay_secret(&self)
-        ensures seen { TellsNoUnread self.now.opening self.now.part.seen }
-        ensures since { TellsNoUnreadSince self.now.opening self.now.part.seen }
-        ensures always { KeepsSecrets self.now.opening }
+        ensures alone { (start : State) (events : List Event) → TellsByReadsAlone start events }
+        ensures unread { (start : State) (events : List Event) → TellsNoUnread start events }
+        ensures others { HasOthers }
+        ensures gone { (start : State) (serial : ℕ) (events : List Event) → IsGone start serial
+            → TellsNobody serial start events }
+        ensures ended { TellsNobodyAfter self.now.opening }
+    {
+        let _token = &self.token;
+    }
+
+    /// No body can look at a lane's cell out of its turn, nor forget a turn, a try that found it taken, or a look:
+    /// whatever a step tells, what its token knows says which of these it was.
+    pub fn steps_are_counted(&self)
+        ensures turns { CountsTurns }
+        ensures misses { CountsMisses }
+        ensures looks { CountsLooks }
+        ensures in_turn { LooksInTurn }
     {
         let _token = &self.token;
     }

@@ -8,6 +8,7 @@ mod board;
 mod boxed;
 mod calling;
 mod closing;
+mod confidentiality;
 mod desk;
 mod helping;
 mod laws;

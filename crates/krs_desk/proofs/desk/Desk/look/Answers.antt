@@ -26,6 +26,10 @@ join_seat-requires c =
       search rules,
       glues_at _ (opening m) (opening n) (part m) (part n) _ _ _ m c.split_seat-other.result.me c.requires.rest.0.0
           other_is c.requires.rest.0.1 c.requires.rest.1.1,
+      (
+        (part m, ap (λ k. k.0.view.stands) c.requires.rest.0.0),
+        (part n, ap (λ k. k.0.view.stands) other_is),
+      ),
     )
 
 pub load-requires : goal.load-requires
@@ -70,6 +74,10 @@ settle_seat-requires c =
       search rules,
       settles_at _ (opening n) (opening m) (loaded (part n) told.0) _ _ _ c.split_seat-other.new.seat.me
           c.split_seat-back.result.me left_is back_is c.requires.rest.1.1,
+      (
+        ap (λ k. k.0.view.stands) left_is,
+        (loaded (part n) told.0, ap (λ k. k.0.view.stands) back_is),
+      ),
     )
 
 pub returns-clause-seen : goal.returns-clause-seen

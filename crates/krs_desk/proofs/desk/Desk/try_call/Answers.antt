@@ -47,3 +47,9 @@ returns-clause-idle c =
     turn_idle seat.token.me c.take.new.token.me c.take.new.token.me c.finish.new.token.me 0 0 _
     (ap (λ (s : Sitting). s.part.flight) c.seat.view_is ∙ c.requires.idle) had (starts _ held.0 held.1)
     c.finish.ensures.finished
+
+pub returns-clause-alone : goal.returns-clause-alone
+returns-clause-alone c =
+    let had = c.take.ensures.had c.if-take-ne-FREE.false in
+    ap (λ (k : Me). (part k).checked) c.finish.ensures.finished.has
+    ∙ ap (λ (k : Me). (part k).checked) had.has
