@@ -1,40 +1,25 @@
 -- What answers two sessions that are asked alike.
 use Rattle.std.proofs.Common.{◌≡◌, ◌≢◌, ℕ, ◌==◌, List, [], ◌∷◌, ◌++◌, Bool, true, false, cond, Result}
-use Rattle.std.proofs.Common.{refl, sym, ap, subst, ◌∙◌, length}
+use Rattle.std.proofs.Common.{refl, ap, subst, ◌∙◌, length, ⊎_elim}
 use Rattle.std.specs.Prelude.{◌⊎◌}
-use Rattle.std.proofs.lemmas.List.{length-map, map-append}
 use Rattle.krs_types.specs.declared.ask.Answer.{Answer}
 use Rattle.krs_types.specs.declared.errno.Errno.{Errno}
 use Rattle.krs_types.specs.declared.event.Event.{Event}
-use Rattle.krs_model.specs.Secrecy.{DifferInReads, IsRead, replies_to}
-use Rattle.krs_model.proofs.Hiding.Clients.{tells_no_unread, differ_in_reads}
+use Rattle.krs_model.specs.Lists.{Begins}
+use Rattle.krs_model.specs.Secrecy.{DifferInReads, IsRead}
+use Rattle.krs_model.proofs.Hiding.Clients.{differ_in_reads}
 use Rattle.krs_world.specs.Knowing.{events_of}
+use Rattle.krs_world.proofs.Keeping.{prefix_self}
+use Rattle.krs_world.proofs.Orders.{either_begins}
 use Rattle.krs_desk.specs.Sitting.{Sitting}
 use Rattle.krs_wire.specs.declared.framed.Framed.{Framed}
 use Rattle.krs_wire.specs.Reply.{reply_frame}
+use Rattle.krs_session.specs.declared.ended.Ended.{Ended}
+use Rattle.krs_session.specs.declared.ended.Ended.TheVariants.{Closed, Wire, Read, Write, Memory, Turns}
 use Rattle.krs_session.specs.Events.{tags_in, replies_of, session_text}
+use Rattle.krs_session.specs.Session.{ServesBytes, TookFront, AreAll, AreFirst}
 use Rattle.krs_session.specs.Leads.{GainsSession}
-use Rattle.krs_session.specs.Alike.{AnswersDifferInReads, WritesNoUnread}
-
-same_rest : {A : Type 0} (xs ys a b : List A) → length xs ≡ length ys → xs ++ a ≡ ys ++ b → a ≡ b
-same_rest [] [] a b n e = e
-same_rest [] (y ∷ ys) a b n e = absurd (cc)
-same_rest (x ∷ xs) [] a b n e = absurd (cc)
-same_rest (x ∷ xs) (y ∷ ys) a b n e =
-    let many : length xs ≡ length ys = cc in
-    let rest : xs ++ a ≡ ys ++ b = cc in
-    same_rest xs ys a b many rest
-
-same_front : {A : Type 0} (xs ys : List A) (x y : A) → xs ++ x ∷ [] ≡ ys ++ y ∷ [] → xs ≡ ys
-same_front [] [] x y e = refl
-same_front [] (z ∷ []) x y e = absurd (cc)
-same_front [] (z ∷ w ∷ ys) x y e = absurd (cc)
-same_front (z ∷ []) [] x y e = absurd (cc)
-same_front (z ∷ w ∷ xs) [] x y e = absurd (cc)
-same_front (z ∷ xs) (w ∷ ys) x y e =
-    let first : z ≡ w = cc in
-    let more = same_front xs ys x y cc in
-    λ i. first i ∷ more i
+use Rattle.krs_session.specs.Alike.{AnswersDifferInReads, ReadAlike, AnswersByReadsAlone, WritesByReadsAlone}
 
 not_none : (xs : List Event) (x : Event) → xs ++ x ∷ [] ≢ []
 not_none [] x = λ e. absurd (cc)
@@ -52,32 +37,6 @@ same_texts (f ∷ fs) (g ∷ gs) (r ∷ rs) e =
     let tags : tags_in fs ≡ tags_in gs = cc in
     let more = same_texts fs gs rs tags in
     λ i. reply_frame (tag i) r ++ more i
-
--- the lane's replies: those before the session, its own, and that of LEAVE
-own_replies : (s t : Sitting) (frames : List Framed) (events : List Event) (last : Event)
-    → GainsSession s frames (events ++ last ∷ []) t
-    → replies_to t.part.lane t.part.seen ≡ replies_of s.part.mine ++ (replies_of events ++ last.reply ∷ [])
-own_replies s t frames events last gains =
-    let reply : Event → Result Answer Errno = λ e. e.reply in
-    ap replies_of (gains.gains.own (not_none events last) ∙ gains.mine)
-    ∙ (map-append reply s.part.mine (events ++ last ∷ [])
-    ∙ ap (λ (l : List (Result Answer Errno)). replies_of s.part.mine ++ l) (map-append reply events (last ∷ [])))
-
-pub alike_texts : WritesNoUnread
-alike_texts hide s t u v frames others events further hides alike shown tags =
-    let told : replies_to t.part.lane t.part.seen ≡ replies_to t.part.lane v.part.seen =
-    tells_no_unread t.opening t.part.seen hide t.part.lane v.opening v.part.seen hides alike.asked shown in
-    let lane : replies_to t.part.lane v.part.seen ≡ replies_to v.part.lane v.part.seen =
-    ap (λ (n : ℕ). replies_to n v.part.seen) alike.lane in
-    let many : length (replies_of s.part.mine) ≡ length (replies_of u.part.mine) =
-    length-map s.part.mine (λ e. e.reply) ∙ (alike.before ∙ sym (length-map u.part.mine (λ e. e.reply))) in
-    let replies : replies_of events ≡ replies_of further =
-    same_front (replies_of events) (replies_of further) alike.last.reply alike.final.reply
-    (same_rest (replies_of s.part.mine) (replies_of u.part.mine) (replies_of events ++ alike.last.reply ∷ [])
-    (replies_of further ++ alike.final.reply ∷ []) many
-    (sym (own_replies s t frames events alike.last alike.one)
-    ∙ (told ∙ (lane ∙ own_replies u v others further alike.final alike.other)))) in
-    ap (session_text frames) replies ∙ same_texts frames others (replies_of further) tags
 
 differ_rest : (xs ys a b : List Event) → length xs ≡ length ys → DifferInReads (xs ++ a) (ys ++ b) → DifferInReads a b
 differ_rest [] [] a b n d = d
@@ -131,3 +90,49 @@ alike_answers hide s t u v frames others events further hides alike =
     (own_events u v others further alike.final alike.other) own) in
     differ_front events further alike.last alike.final
     (differ_rest s.part.mine u.part.mine (events ++ alike.last ∷ []) (further ++ alike.final ∷ []) alike.before mine)
+
+-- where their READs are answered the same, all of them are
+same_replies : (events others : List Event) → DifferInReads events others → ReadAlike events others
+    → replies_of events ≡ replies_of others
+same_replies [] [] differ alike = refl
+same_replies [] (f ∷ fs) differ alike = absurd differ
+same_replies (e ∷ es) [] differ alike = absurd differ
+same_replies (e ∷ es) (f ∷ fs) differ alike =
+    let head : e.reply ≡ f.reply =
+    ⊎_elim (λ (one : e.reply ≡ f.reply). one) (λ (both : IsRead e × IsRead f). alike.0 both.0 both.1) differ.1 in
+    let rest : replies_of es ≡ replies_of fs = same_replies es fs differ.2 alike.1 in
+    λ i. head i ∷ rest i
+
+pub alike_texts : AnswersByReadsAlone
+alike_texts hide s t u v frames others events further hides alike reads tags =
+    let replies : replies_of events ≡ replies_of further =
+    same_replies events further (alike_answers hide s t u v frames others events further hides alike) reads in
+    ap (session_text frames) replies ∙ same_texts frames others (replies_of further) tags
+
+-- however a session ended, a front of the text was written
+front_written : (took : List ℕ → Type 0) (bytes : List ℕ) (frames : List Framed) (text : List ℕ) (ended : Ended)
+    → ServesBytes took bytes frames text ended → TookFront took text
+front_written took bytes frames text Closed h = (text, prefix_self text, h.1)
+front_written took bytes frames text Read h = (text, prefix_self text, h.1)
+front_written took bytes frames text Turns h = (text, prefix_self text, h.1)
+front_written took bytes frames text (Wire fault) h = (text, prefix_self text, h.1)
+front_written took bytes frames text Write h = h.1
+front_written took bytes frames text Memory h =
+    ⊎_elim (λ (cut : AreAll bytes frames × TookFront took text). cut.1)
+    (λ (whole : AreFirst bytes frames × took text). (text, prefix_self text, whole.1)) h
+
+pub alike_written : {W : Type 0} (took : W → List ℕ → W → Type 0) → WritesByReadsAlone took
+alike_written took hide s t u v frames others events further old new other_old other_new hides alike reads tags one
+    two =
+    let same = alike_texts hide s t u v frames others events further hides alike reads tags in
+    let text = session_text others (replies_of further) in
+    let front = front_written (λ x. took old x new) one.bytes frames (session_text frames (replies_of events)) one.ended
+    one.served in
+    let other = front_written (λ x. took other_old x other_new) two.bytes others text two.ended two.served in
+    record {
+      text = front.0;
+      other = other.0;
+      taken = front.2;
+      other_taken = other.2;
+      either = either_begins front.0 other.0 text (subst (λ (l : List ℕ). Begins front.0 l) same front.1) other.1;
+    }

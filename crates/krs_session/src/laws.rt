@@ -5,7 +5,7 @@ ghost use Rattle.krs_desk.specs.Sitting.{Sitting};
 ghost use Rattle.krs_session.specs.declared.ended.Ended.{Ended};
 ghost use Rattle.krs_session.specs.Session.{Session};
 ghost use Rattle.krs_session.specs.Leads.{Leads, GainsTheirCalls, GainsSession};
-ghost use Rattle.krs_session.specs.Alike.{AnswersDifferInReads, WritesNoUnread};
+ghost use Rattle.krs_session.specs.Alike.{AnswersDifferInReads, AnswersByReadsAlone, WritesByReadsAlone};
 
 use crate::{Clock, Sink, Source};
 
@@ -25,10 +25,12 @@ pub fn a_session_is_its_asks_and_leave<R: Source, W: Sink, C: Clock>()
         → GainsSession s session.frames (session.events ++ session.last ∷ []) t }
 {}
 
-/// What a client hasn't read, nothing that is written to it tells from another secret. Of two sessions of one lane that
-/// are asked alike, as are all other clients, but for hidden payloads, the replies are the same, but those to accepted
-/// READs; and the texts of all replies are the same where the lane reads no hidden payload.
-pub fn unread_payloads_are_not_written()
+/// A session tells a client what its READs answer, and nothing else, whatever earlier connections of its lane had read.
+/// Of two sessions of one lane that are asked alike, as are all other clients, but for hidden payloads, the replies are
+/// the same, but those to accepted READs. Where these are the same too, so are the texts of all replies; and what is
+/// written in the one session begins what is written in the other, or the other way round.
+pub fn a_session_tells_by_its_reads_alone<W: Sink>()
     ensures replies { AnswersDifferInReads }
-    ensures texts { WritesNoUnread }
+    ensures texts { AnswersByReadsAlone }
+    ensures written { WritesByReadsAlone W.took }
 {}

@@ -22,7 +22,7 @@ pub use ends::{Failed, Sink, Source};
 pub use gate::{Gate, Point};
 pub use keeper::Keeper;
 pub use laws::{
-    a_seat_gains_its_calls, a_session_is_its_asks_and_leave, unread_payloads_are_not_written,
+    a_seat_gains_its_calls, a_session_is_its_asks_and_leave, a_session_tells_by_its_reads_alone,
 };
 pub use over::Over;
 pub use session::run;
