@@ -2,3 +2,4 @@ mod SessionsLemmas
 mod DaemonLemmas
 mod CommandLineLemmas
 mod EndLemmas
+mod OneDeskLemmas

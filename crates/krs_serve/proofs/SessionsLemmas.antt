@@ -1,6 +1,6 @@
 -- Two lists, place by place.
 use Rattle.std.proofs.Common.{◌≡◌, ◌<◌, ℕ, suc, List, [], ◌∷◌, ◌++◌, length, arith, slice_index_or, reverse, refl}
-use Rattle.std.proofs.Common.{Option, Some, option_to_list, ap}
+use Rattle.std.proofs.Common.{Option, Some, option_to_list, ap, map}
 use Rattle.std.specs.List.{AllZip, zip}
 use Rattle.std.proofs.lemmas.List.{reverse-append, append_assoc}
 use Rattle.std.proofs.lemmas.Slice.Zip.{length-zip}
@@ -39,3 +39,11 @@ pair_taken xs rest ys others r s x y taken more all xs_is r_is ys_is s_is same m
     let pairs : zip xs ys ≡ zip rest others ++ (x, y) ∷ [] = rw (front, front') (zip-push rest others x y same) in
     let back : reverse more ≡ (x, y) ∷ reverse taken = rw (more_is, reverse-append taken ((x, y) ∷ [])) refl in
     rw back (rw (pairs, append_assoc (zip rest others) ((x, y) ∷ []) (reverse taken)) at before)
+
+-- what holds of each pair holds of its second part
+pub each_second : {J X Y : Type 0} (P : J → X × Y → Type 0) (Q : J → Y → Type 0)
+    → ((j : J) (d : X × Y) → P j d → Q j d.1) → (jobs : List J) (done : List (X × Y)) → AllZip P jobs done → AllZip Q jobs (map (λ d. d.1) done)
+each_second P Q so [] [] h = tt
+each_second P Q so [] (d ∷ done) h = absurd h
+each_second P Q so (j ∷ jobs) [] h = absurd h
+each_second P Q so (j ∷ jobs) (d ∷ done) h = (so j d h.0, each_second P Q so jobs done h.1)

@@ -6,3 +6,4 @@ pub mod Daemon
 pub mod Saying
 pub mod Timeline
 pub mod Sessions
+pub mod OneDesk

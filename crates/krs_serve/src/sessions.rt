@@ -1,13 +1,18 @@
-ghost use Rattle.std.specs.Prelude.{◌≡◌, ◌<◌, ℕ, All, IfOk, IfErr, vec_len, slice_index_or};
+ghost use Rattle.std.specs.Prelude.{◌≡◌, ◌<◌, ℕ, All, IfOk, IfErr, map, vec_len, slice_index_or};
 ghost use Rattle.std.specs.List.{AllZip, zip};
 ghost use Rattle.krs_types.specs.declared.errno.Errno.TheVariants.{ENOMEM};
 ghost use Rattle.krs_session.specs.Session.{HaveRoom, counts_of};
-ghost use Rattle.krs_serve.specs.Sessions.{EndsSession};
+ghost use Rattle.krs_desk.specs.Sitting.{IsIdleAt};
+ghost use Rattle.krs_serve.specs.OneDesk.{ServeInOneHistory};
+ghost use Rattle.krs_serve.specs.Sessions.{EndsSession, ServesEntry};
 
+use crate::meeting::meet_all;
 use crate::{Entry, serve_entry};
+use krs_desk::{Desk, Seat};
 use krs_session::{Clock, Ended, Gate, Keeper, Sink, Source};
 use krs_types::Errno;
 use std::alloc::{AllocError, Global};
+use std::sync::Wait;
 use std::thread;
 use std::thread::Threads;
 
@@ -43,13 +48,89 @@ pub fn run_sessions<
         (zip list.items seats.items) ends.items) }
     ensures memory { IfErr result (λ error. error ≡ ENOMEM) }
 {
+    let served = serve_sessions(rt, alloc, list, desk, seats, gate, turns)?;
+    match ends_of(alloc, &served) {
+        Ok(ends) => Ok(ends),
+        Err(_) => Err(Errno::ENOMEM),
+    }
+}
+
+/// How each ended.
+fn ends_of<S>(alloc: Global, served: &[(S, Ended)]) -> Result<Vec<Ended>, AllocError>
+    ensures { IfOk result (λ ends. ends.items ≡ map (λ done. done.1) served.now) }
+{
+    served.iter().map(|done| done.1).collect(alloc)
+}
+
+/// The same, and gives the seats back, each with how its connection ended.
+pub fn serve_sessions<
+    H: Threads + Sync,
+    R: Source + Send + Drop,
+    W: Sink + Send + Drop,
+    C: Clock + Send + Drop,
+    S: Send + Drop,
+    D: Keeper<S, H> + Sync,
+    G: Gate + Sync,
+>(
+    rt: &H,
+    alloc: Global,
+    list: Vec<Entry<R, W, C>>,
+    desk: &D,
+    seats: Vec<S>,
+    gate: &G,
+    turns: u64,
+) -> Result<Vec<(S, Ended)>, Errno>
+    requires places { vec_len seats ≡ vec_len list }
+    requires ready { All (λ seat. D.ready desk.now seat) seats.items }
+    requires room { All (λ entry. HaveRoom turns
+        (counts_of R.reads R.empties R.failures W.failures entry.reader entry.writer)) list.items }
+    ensures one_each { IfOk result (λ served. vec_len served ≡ vec_len list) }
+    ensures in_order { IfOk result (λ served. AllZip
+        (λ job done. ServesEntry R.gave D.leads C.ticked W.took D.lane_of
+        R.reads R.empties R.failures W.failures turns
+        job.0.reader job.1 job.0.clock job.0.writer done.0 done.1)
+        (zip list.items seats.items) served.items) }
+    ensures ready { IfOk result (λ served. All (λ done. D.ready desk.now done.0) served.items) }
+    ensures memory { IfErr result (λ error. error ≡ ENOMEM) }
+{
     let Ok(jobs) = jobs_of(alloc, list, seats) else {
         return Err(Errno::ENOMEM);
     };
     match serve_jobs(rt, alloc, jobs, desk, gate, turns) {
-        Ok(ends) => Ok(ends),
+        Ok(served) => Ok(served),
         Err(_) => Err(Errno::ENOMEM),
     }
+}
+
+/// Serves many connections at once on seats of one desk, as `serve_sessions` does, and has the seats meet then. There is
+/// one legal history of them all: in it each connection's asks are those of the frames that it sent, in order, and then
+/// one LEAVE; and what was written to it is the text of their replies, as far as the connection took it.
+pub fn serve_at_one_desk<
+    H: Threads + Wait + Sync,
+    R: Source + Send + Drop,
+    W: Sink + Send + Drop,
+    C: Clock + Send + Drop,
+    G: Gate + Sync,
+>(
+    rt: &H,
+    alloc: Global,
+    list: Vec<Entry<R, W, C>>,
+    desk: &Desk,
+    seats: Vec<Seat>,
+    gate: &G,
+    turns: u64,
+) -> Result<Vec<(Seat, Ended)>, Errno>
+    requires places { vec_len seats ≡ vec_len list }
+    requires ready { All (IsIdleAt desk.now) seats.items }
+    requires room { All (λ entry. HaveRoom turns
+        (counts_of R.reads R.empties R.failures W.failures entry.reader entry.writer)) list.items }
+    ensures one_history { IfOk result (λ served. ServeInOneHistory R.gave C.ticked W.took
+        R.reads R.empties R.failures W.failures turns (zip list.items seats.items) served.items) }
+    ensures ready { IfOk result (λ served. All (λ done. IsIdleAt desk.now done.0) served.items) }
+    ensures memory { IfErr result (λ error. error ≡ ENOMEM) }
+{
+    let served = serve_sessions(rt, alloc, list, desk, seats, gate, turns)?;
+    Ok(meet_all(desk, served))
 }
 
 /// Each entry beside the seat of its place. They are taken from the back, as that moves no other.
@@ -90,16 +171,18 @@ fn serve_jobs<
     desk: &D,
     gate: &G,
     turns: u64,
-) -> Result<Vec<Ended>, AllocError>
+) -> Result<Vec<(S, Ended)>, AllocError>
     requires { All (λ job. D.ready desk.now job.1 × HaveRoom turns
         (counts_of R.reads R.empties R.failures W.failures job.0.reader job.0.writer)) jobs.items }
-    ensures len { IfOk result (λ ends. vec_len ends ≡ vec_len jobs) }
-    ensures each { IfOk result (λ ends. (i : ℕ) (d : _) (e : _) → i < vec_len jobs
-        → EndsSession R.gave D.leads C.ticked W.took D.lane_of
+    ensures len { IfOk result (λ served. vec_len served ≡ vec_len jobs) }
+    ensures each { IfOk result (λ served. (i : ℕ) (d : _) (e : _) → i < vec_len jobs
+        → ServesEntry R.gave D.leads C.ticked W.took D.lane_of
         R.reads R.empties R.failures W.failures turns
         (slice_index_or jobs.items i d).0.reader (slice_index_or jobs.items i d).1
         (slice_index_or jobs.items i d).0.clock (slice_index_or jobs.items i d).0.writer
-        (slice_index_or ends.items i e)) }
+        (slice_index_or served.items i e).0 (slice_index_or served.items i e).1) }
+    ensures ready { IfOk result (λ served. (i : ℕ) (e : _) → i < vec_len jobs
+        → D.ready desk.now (slice_index_or served.items i e).0) }
 {
     let work = |job: (Entry<R, W, C>, S)| serve_one(rt, alloc, job, desk, gate, turns);
     thread::map_vec(rt, jobs, &work)
@@ -114,15 +197,15 @@ fn serve_one<
     S: Drop,
     D: Keeper<S, H>,
     G: Gate,
->(rt: &H, alloc: Global, job: (Entry<R, W, C>, S), desk: &D, gate: &G, turns: u64) -> Ended
+>(rt: &H, alloc: Global, job: (Entry<R, W, C>, S), desk: &D, gate: &G, turns: u64) -> (S, Ended)
     requires ready { D.ready desk.now job.1 }
     requires room { HaveRoom turns
         (counts_of R.reads R.empties R.failures W.failures job.0.reader job.0.writer) }
-    ensures { EndsSession R.gave D.leads C.ticked W.took D.lane_of
+    ensures session { ServesEntry R.gave D.leads C.ticked W.took D.lane_of
         R.reads R.empties R.failures W.failures turns
-        job.0.reader job.1 job.0.clock job.0.writer result }
+        job.0.reader job.1 job.0.clock job.0.writer result.0 result.1 }
+    ensures ready { D.ready desk.now result.0 }
 {
     let (connection, seat) = job;
-    let (_seat, ended) = serve_entry(rt, alloc, connection, desk, seat, gate, turns);
-    ended
+    serve_entry(rt, alloc, connection, desk, seat, gate, turns)
 }

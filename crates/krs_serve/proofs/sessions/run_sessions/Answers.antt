@@ -1,43 +1,27 @@
-use Rattle.std.proofs.Common.{◌≡◌, ◌<◌, length, arith}
-use Rattle.std.specs.List.{zip}
-use Rattle.std.proofs.lemmas.Slice.Zip.{length-zip, get_or-zip}
-use Rattle.krs_serve.specs.Sessions.{EndsSession}
-use Rattle.krs_serve.proofs.SessionsLemmas.{all_zip_at, as_many}
+use Rattle.std.proofs.Common.{◌≡◌, length, arith, map, ap, ◌∙◌}
+use Rattle.std.proofs.lemmas.List.{length-map}
+use Rattle.krs_serve.specs.Sessions.{ServesEntry, EndsSession}
+use Rattle.krs_serve.proofs.SessionsLemmas.{each_second}
 use Rattle.krs_serve.proofs.sessions.run_sessions.Goals as goal
 
-pub serve_jobs-requires-after_bounds : goal.serve_jobs-requires-after_bounds
-serve_jobs-requires-after_bounds g c κs within = λ k d lt.
-    let list = c.args.list.items in
-    let seats = c.args.seats.items in
-    let in_pairs : k < length (zip list seats) = rw c.in-Ok.ensures at lt in
-    let same : length seats ≡ length list = omega (arith, c.requires.places, c.args.seats.ok.0, c.args.list.ok.0) in
-    let in_list : k < length list = omega (arith, in_pairs, same, length-zip list seats) in
-    let in_seats : k < length seats = omega (arith, in_list, same) in
-    rw (c.in-Ok.ensures, get_or-zip list seats k d in_list in_seats) (
-      c.requires.ready k d.1 in_seats,
-      c.requires.room k d.0 in_list,
-    )
+pub returns-in-Ok-clause-one_each : goal.returns-in-Ok-clause-one_each
+returns-in-Ok-clause-one_each g c =
+    let served = c.in_ok-served.served in
+    let ends = c.in-Ok.ends in
+    let all : ends.items ≡ map (λ done. done.1) served.items =
+    c.in-Ok.ensures ∙ ap (λ l. map (λ done. done.1) l) c.deref.ensures.value in
+    let many : length ends.items ≡ length served.items = ap length all ∙ length-map served.items (λ done. done.1) in
+    omega (arith, many, c.in_ok-served.ensures.one_each, ends.ok.0, served.ok.0)
 
-pub returns-in-Ok-serve_jobs-clause-one_each : goal.returns-in-Ok-serve_jobs-clause-one_each
-returns-in-Ok-serve_jobs-clause-one_each g c =
-    let list = c.args.list in
-    let seats = c.args.seats in
-    let ends = c.in-Ok-serve_jobs.ends in
-    let jobs = c.in-Ok.jobs in
-    let same : length seats.items ≡ length list.items = omega (arith, c.requires.places, seats.ok.0, list.ok.0) in
-    let each : length ends.items ≡ length jobs.items =
-    omega (arith, c.in-Ok-serve_jobs.ensures.len, ends.ok.0, jobs.ok.0) in
-    let all = as_many list.items seats.items ends.items jobs.items c.in-Ok.ensures same each in
-    omega (arith, all, ends.ok.0, list.ok.0)
-
-pub returns-in-Ok-serve_jobs-clause-in_order : goal.returns-in-Ok-serve_jobs-clause-in_order
-returns-in-Ok-serve_jobs-clause-in_order g c =
-    let ends = c.in-Ok-serve_jobs.ends in
-    let jobs = c.in-Ok.jobs in
-    let each : length ends.items ≡ length jobs.items =
-    omega (arith, c.in-Ok-serve_jobs.ensures.len, ends.ok.0, jobs.ok.0) in
-    let all = all_zip_at jobs.items ends.items
+-- each ended so, whatever it left of its seat
+pub returns-in-Ok-clause-in_order : goal.returns-in-Ok-clause-in_order
+returns-in-Ok-clause-in_order g c =
+    rw (c.in-Ok.ensures, c.deref.ensures.value) (each_second
+    (λ job done. ServesEntry g.R.Source.gave g.D.Keeper.leads g.C.Clock.ticked g.W.Sink.took g.D.Keeper.lane_of
+    g.R.Source.reads g.R.Source.empties g.R.Source.failures g.W.Sink.failures c.args.turns
+    job.0.reader job.1 job.0.clock job.0.writer done.0 done.1)
     (λ job ended. EndsSession g.R.Source.gave g.D.Keeper.leads g.C.Clock.ticked g.W.Sink.took g.D.Keeper.lane_of
-    g.R.Source.reads g.R.Source.empties g.R.Source.failures g.W.Sink.failures c.args.turns job.0.reader job.1 job.0.clock job.0.writer ended) each
-    (λ i d e lt. c.in-Ok-serve_jobs.ensures.each i d e (omega (arith, lt, jobs.ok.0))) in
-    rw c.in-Ok.ensures at all
+    g.R.Source.reads g.R.Source.empties g.R.Source.failures g.W.Sink.failures c.args.turns
+    job.0.reader job.1 job.0.clock job.0.writer ended)
+    (λ job done one. record { last_seat = done.0; served = one }) _ c.in_ok-served.served.items
+    c.in_ok-served.ensures.in_order)
