@@ -12,7 +12,7 @@ use Rattle.krs_commands.specs.Command.{command_of}
 use Rattle.krs_words.specs.Printing.{shown}
 use Rattle.krs_words.specs.Writing.{Prints, WritesFront}
 use Rattle.krs_words.proofs.WritingLemmas.{Prints-nil}
-use Rattle.krs_script.specs.Running.{is_skipped, TakesLine, TakesLines, BreaksOff, ObeysLine}
+use Rattle.krs_script.specs.Running.{is_skipped, TakesLine, TakesLines, ObeysLine}
 
 module _ {S : Type 0} (acts : S → Command → Output → S → Type 0) (breaks : S → Command → Stop → S → Type 0) where
   -- a line that is a command, and was obeyed

@@ -1,4 +1,4 @@
-ghost use Rattle.std.specs.Prelude.{◌≡◌, ◌⊎◌, ◌∷◌, [], true, false, Ok, IfErr};
+ghost use Rattle.std.specs.Prelude.{◌≡◌, ◌⊎◌, ◌+◌, ◌∷◌, min, [], true, false, Ok, IfErr};
 ghost use Rattle.std.specs.Io.Buffered.{reader_remaining};
 ghost use Rattle.std.specs.Io.KnownBytes.{IsAtEnd};
 ghost use Rattle.krs_words.specs.Lines.{ReadsLines};
@@ -33,6 +33,7 @@ impl Place {
             (reader_remaining R.remaining reader.new) (self.new.line.items ∷ []) }
         ensures end { result ≡ Ok false → IsAtEnd (reader_remaining R.remaining reader.old) }
         ensures causes { IfErr result (λ stop. (stop ≡ Stop.Memory) ⊎ (stop ≡ Stop.Reading)) }
+        ensures number { self.new.number ≡ min (self.old.number + 1) 4294967295 }
     {
         self.number = self.number.saturating_add(1);
         read_line(reader, &mut self.line)

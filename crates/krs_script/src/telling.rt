@@ -1,5 +1,11 @@
-ghost use Rattle.std.specs.Prelude.{Ok, ◌≡◌};
-ghost use Rattle.krs_script.specs.Telling.{MayTell};
+ghost use Rattle.std.specs.Prelude.{Ok, ◌≡◌, ◌++◌, IfOk, IfErr, OnOk, get_or, map, codes, if◌then◌else◌, []};
+ghost use Rattle.std.specs.Char.Escape.{escape_ascii};
+ghost use Rattle.std.specs.List.{flat_map};
+ghost use Rattle.std.specs.Option.{is_some};
+ghost use Rattle.krs_commands.specs.Command.{name_of_word};
+ghost use Rattle.krs_words.specs.Words.{words_of};
+ghost use Rattle.krs_words.specs.Writing.{WritesFront};
+ghost use Rattle.krs_script.specs.Telling.{MayTell, cause_text, no_command_text, quoted, refusal_text, stop_text};
 
 use crate::place::Place;
 use krs_commands::CommandName;
@@ -14,67 +20,136 @@ const QUOTED: usize = 64;
 /// Tells those who look at standard error why a script stopped, and at which line, as far as memory and the writer
 /// allow. Of one that came to its end nothing is told.
 pub fn tell<E: Write>(alloc: Global, errors: &mut E, place: &Place, stopped: Result<(), Stop>)
+    ensures exact { IfErr stopped (λ stop. WritesFront (E.contents errors.old) (E.contents errors.new)
+        (stop_text place.now.number place.now.line.items stop)) }
     ensures told { MayTell (E.contents errors.old) (E.contents errors.new) }
     ensures ended { stopped ≡ Ok tt → errors.new ≡ errors.old }
 {
-    let Err(cause) = stopped else {
-        return;
-    };
+    match stopped {
+        Ok(()) => (),
+        Err(cause) => tell_cause(alloc, errors, place, cause),
+    }
+}
+
+/// Tells why a script stopped.
+fn tell_cause<E: Write>(alloc: Global, errors: &mut E, place: &Place, cause: Stop)
+    ensures told { MayTell (E.contents errors.old) (E.contents errors.new) }
+    ensures exact { WritesFront (E.contents errors.old) (E.contents errors.new)
+        (stop_text place.now.number place.now.line.items cause) }
+{
     if let Ok(text) = text_of(alloc, place, cause) {
         let _ = write_text(errors, text.as_slice());
     }
 }
 
 /// The line that is told.
-fn text_of(alloc: Global, place: &Place, cause: Stop) -> Result<Vec<u8>, AllocError> {
+#[tactic(auto, unfolding(crate::specs::Telling::stop_text))]
+fn text_of(alloc: Global, place: &Place, cause: Stop) -> Result<Vec<u8>, AllocError>
+    ensures { IfOk result (λ text. text.items ≡ stop_text place.now.number place.now.line.items cause) }
+{
     let number = place.number;
     let mut text = format!(in alloc; "keyretain: line {number}: ")?.into_bytes();
-    match cause {
-        Stop::Usage => push_usage(alloc, &mut text, place.line.as_slice())?,
-        Stop::Memory => text.extend_from_slice(b"out of memory")?,
-        Stop::Reading => text.extend_from_slice(b"cannot be read")?,
-        Stop::TooLong => text.extend_from_slice(b"is the last that a script may have")?,
-        Stop::Printing => text.extend_from_slice(b"standard output cannot be written")?,
-        Stop::Connection => text.extend_from_slice(b"the connection failed")?,
-    }
+    push_cause(alloc, &mut text, place.line.as_slice(), cause)?;
     text.push(b'\n')?;
     Ok(text)
 }
 
-/// Why these words are no command here.
-fn push_usage(alloc: Global, text: &mut Vec<u8>, line: &[u8]) -> Result<(), AllocError> {
+/// Why a script stopped at this line.
+#[tactic(auto, unfolding(crate::specs::Telling::cause_text))]
+fn push_cause(alloc: Global, text: &mut Vec<u8>, line: &[u8], cause: Stop) -> Result<(), AllocError>
+    ensures { OnOk result (text.new.items ≡ text.old.items ++ cause_text cause line.now) }
+{
+    match cause {
+        Stop::Usage => push_usage(alloc, text, line),
+        Stop::Memory => text.extend_from_slice(b"out of memory"),
+        Stop::Reading => text.extend_from_slice(b"cannot be read"),
+        Stop::TooLong => text.extend_from_slice(b"is the last that a script may have"),
+        Stop::Printing => text.extend_from_slice(b"standard output cannot be written"),
+        Stop::Connection => text.extend_from_slice(b"the connection failed"),
+    }
+}
+
+/// Why the words of a line are no command here.
+fn push_usage(alloc: Global, text: &mut Vec<u8>, line: &[u8]) -> Result<(), AllocError>
+    ensures { OnOk result (text.new.items
+        ≡ text.old.items ++ no_command_text (get_or (words_of line.now) 0 [])) }
+{
     let words = words(alloc, line)?;
-    push_reason(text, words.first().copied().unwrap_or_default())
+    push_reason(text, first_of(words.as_slice()))
 }
 
 /// What is told of the words of a single call that are no command.
-pub fn no_command(alloc: Global, words: &[&[u8]]) -> Result<Vec<u8>, AllocError> {
+#[tactic(auto, unfolding(crate::specs::Telling::refusal_text))]
+pub fn no_command(alloc: Global, words: &[&[u8]]) -> Result<Vec<u8>, AllocError>
+    ensures { IfOk result (λ text. text.items ≡ refusal_text (map (λ word. word.now) words.now)) }
+{
     let mut text = Vec::from_slice(alloc, b"keyretain: ")?;
-    push_reason(&mut text, words.first().copied().unwrap_or_default())?;
+    push_reason(&mut text, first_of(words))?;
     text.push(b'\n')?;
     Ok(text)
 }
 
+/// The first word, or the empty one.
+fn first_of<'a>(words: &[&'a [u8]]) -> &'a [u8]
+    ensures { result.now ≡ get_or (map (λ word. word.now) words.now) 0 [] }
+{
+    match words.first() {
+        Some(word) => word,
+        None => b"",
+    }
+}
+
 /// Why words are no command whose first one this is.
-fn push_reason(text: &mut Vec<u8>, word: &[u8]) -> Result<(), AllocError> {
-    let reason = match CommandName::of_word(word) {
-        None => b"no such command: ".as_slice(),
-        Some(_) => b"not as it is used, see keyretain --help: ".as_slice(),
-    };
-    text.extend_from_slice(reason)?;
+#[tactic(auto, unfolding(crate::specs::Telling::no_command_text))]
+fn push_reason(text: &mut Vec<u8>, word: &[u8]) -> Result<(), AllocError>
+    ensures { OnOk result (text.new.items ≡ text.old.items ++ no_command_text word.now) }
+{
+    text.extend_from_slice(reason_of(word))?;
     push_quoted(text, word)
+}
+
+/// What stands before the word.
+fn reason_of(word: &[u8]) -> &'static [u8]
+    ensures { result.now ≡ (if is_some (name_of_word word.now)
+        then codes "not as it is used, see keyretain --help: "
+        else codes "no such command: ") }
+{
+    match CommandName::of_word(word) {
+        None => b"no such command: ",
+        Some(_) => b"not as it is used, see keyretain --help: ",
+    }
 }
 
 /// A word as it is quoted: the first of its bytes, each that isn't printable as an escape, so that it does no harm to a
 /// terminal or a log.
-pub fn push_quoted(text: &mut Vec<u8>, word: &[u8]) -> Result<(), AllocError> {
-    for byte in &word[..word.len().min(QUOTED)] {
-        for shown in escape_default(*byte) {
-            text.push(shown)?;
-        }
+#[tactic(auto, unfolding(crate::specs::Telling::quoted, crate::specs::Telling::most_quoted))]
+pub fn push_quoted(text: &mut Vec<u8>, word: &[u8]) -> Result<(), AllocError>
+    ensures { OnOk result (text.new.items ≡ text.old.items ++ quoted word.now) }
+{
+    if word.len() <= QUOTED {
+        return push_all_escaped(text, word);
     }
-    if word.len() > QUOTED {
-        text.extend_from_slice(b"...")?;
+    let front = &word[..QUOTED];
+    push_all_escaped(text, front)?;
+    text.extend_from_slice(b"...")
+}
+
+/// Bytes as Rust's `escape_default` writes them.
+fn push_all_escaped(text: &mut Vec<u8>, bytes: &[u8]) -> Result<(), AllocError>
+    ensures { OnOk result (text.new.items ≡ text.old.items ++ flat_map escape_ascii bytes.now) }
+{
+    for byte in bytes {
+        push_escaped(text, *byte)?;
+    }
+    Ok(())
+}
+
+/// A byte as Rust's `escape_default` writes it.
+fn push_escaped(text: &mut Vec<u8>, byte: u8) -> Result<(), AllocError>
+    ensures { OnOk result (text.new.items ≡ text.old.items ++ escape_ascii byte) }
+{
+    for shown in escape_default(byte) {
+        text.push(shown)?;
     }
     Ok(())
 }

@@ -1,7 +1,7 @@
-ghost use Rattle.std.specs.Prelude.{◌≡◌, ◌≢◌, ◌⊎◌, ◌∷◌, [], true, false, Ok, IfErr};
+ghost use Rattle.std.specs.Prelude.{◌≡◌, ◌≢◌, ◌↔◌, ◌⊎◌, ◌∷◌, [], true, false, Contains, Ok, IfErr};
 ghost use Rattle.std.specs.IoError.{error_kind};
 ghost use Rattle.std.specs.declared.io.ErrorKind.TheVariants.{OutOfMemory};
-ghost use Rattle.std.specs.Io.Buffered.{reader_remaining};
+ghost use Rattle.std.specs.Io.Buffered.{reader_buffer, reader_remaining};
 ghost use Rattle.std.specs.Io.KnownBytes.{IsAtEnd};
 ghost use Rattle.std.specs.Io.BufRead.{strip_last};
 ghost use Rattle.krs_words.specs.Lines.{ReadsLines};
@@ -40,7 +40,9 @@ fn cause_of(error: &Error) -> Stop
 }
 
 /// Whether the next line is read without asking for more bytes.
-pub fn has_line_at_hand<R: Read>(reader: &BufReader<R>) -> bool {
+pub fn has_line_at_hand<R: Read>(reader: &BufReader<R>) -> bool
+    ensures { result ≡ true ↔ Contains (reader_buffer reader.now) 10 }
+{
     reader.buffer().contains(&b'\n')
 }
 
