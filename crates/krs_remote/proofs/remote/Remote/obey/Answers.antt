@@ -1,4 +1,5 @@
-use Rattle.std.proofs.Common.{◌≡◌, [], false, Some}
+use Rattle.std.proofs.Common.{◌≡◌, [], false, Some, arith}
+use Rattle.std.proofs.lemmas.Grind.{common_steps}
 use Rattle.std.proofs.lemmas.Result.{err_from_is_err_and}
 use Rattle.krs_words.proofs.WritingLemmas.{Prints-nil}
 use Rattle.krs_words.specs.Words.{words_of}
@@ -40,3 +41,30 @@ returns-clause-obeyed g c =
     c.in_ok-output.output _ _ _ _
     c.print_output.result kept is c.in_ok-output.ensures.ok c.print_output.ensures.ok c.print_output.ensures.memory
     c.print_output.ensures.printing c.print_output.ensures.causes
+
+pub returns-then-is_comment-clause-obeyed : goal.returns-then-is_comment-clause-obeyed
+returns-then-is_comment-clause-obeyed g c = grind (arith, common_steps)
+
+pub returns-then-is_comment-clause-few : goal.returns-then-is_comment-clause-few
+returns-then-is_comment-clause-few g c = grind (arith, common_steps)
+
+pub returns-in_err-words-clause-obeyed : goal.returns-in_err-words-clause-obeyed
+returns-in_err-words-clause-obeyed g c = grind (arith, common_steps)
+
+pub returns-in_err-words-clause-few : goal.returns-in_err-words-clause-few
+returns-in_err-words-clause-few g c = grind (arith, common_steps)
+
+pub returns-then-is_empty-clause-few : goal.returns-then-is_empty-clause-few
+returns-then-is_empty-clause-few g c = grind (arith, common_steps)
+
+pub returns-in_err-command-clause-obeyed : goal.returns-in_err-command-clause-obeyed
+returns-in_err-command-clause-obeyed g c = grind (arith, common_steps)
+
+pub returns-in_err-command-clause-few : goal.returns-in_err-command-clause-few
+returns-in_err-command-clause-few g c = grind (arith, common_steps)
+
+pub returns-in_err-output-clause-few : goal.returns-in_err-output-clause-few
+returns-in_err-output-clause-few g c = grind (arith, common_steps)
+
+pub returns-clause-few : goal.returns-clause-few
+returns-clause-few g c = grind (arith, common_steps)
