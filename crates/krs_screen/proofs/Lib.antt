@@ -1,0 +1,14 @@
+pub mod Knowing
+pub mod Voiding
+pub mod Seeing
+pub mod Staying
+pub mod Claiming
+pub mod Queueing
+pub mod Following
+pub mod Numbering
+pub mod Growing
+pub mod Running
+pub mod Faithful
+pub mod Answering
+pub mod Naming
+pub mod Arriving

@@ -1,0 +1,25 @@
+-- A peer's groups count for HELLOs alone.
+use Rattle.std.proofs.Common.{refl, ap, ◌≡◌, ◌-◌, min, ℕ, List, length, Bool, true, false, cond, nat_lt}
+use Rattle.krs_screen.specs.Front.{front_of, is_hello}
+use Rattle.krs_screen.specs.Step.{Done, ask_step, front_step}
+use Rattle.krs_screen.specs.declared.claim.Peer.{Peer}
+use Rattle.krs_screen.specs.declared.counting.Screen.{Screen}
+use Rattle.krs_screen.specs.declared.front.Front.{Front}
+use Rattle.krs_screen.specs.declared.front.Front.TheVariants.{Part, Fault, Other, Crowd, Hello}
+
+same_front : (peer : Peer) (groups others : List ℕ) (s : Screen) (bytes : List ℕ) (front : Front)
+    → is_hello front ≡ false
+    → front_step peer groups s bytes front ≡ front_step peer others s bytes front
+same_front peer groups others s bytes Part isnt = refl
+same_front peer groups others s bytes Fault isnt = refl
+same_front peer groups others s bytes (Other frame) isnt = refl
+same_front peer groups others s bytes (Crowd frame at) isnt = refl
+same_front peer groups others s bytes (Hello at count) isnt = absurd cc
+
+pub same_step : (peer : Peer) (groups others : List ℕ) (s : Screen) (bytes : List ℕ) → is_hello (front_of bytes) ≡ false
+    → ask_step peer groups s bytes ≡ ask_step peer others s bytes
+unfolding ask_step
+same_step peer groups others s bytes isnt =
+    ap (λ (done : Done). cond s.ask_fault (0, (bytes, s)) (cond (nat_lt 0 s.ask_left)
+    (min s.ask_left (length bytes), (bytes, record s { ask_left = s.ask_left - min s.ask_left (length bytes) })) done))
+    (same_front peer groups others s bytes (front_of bytes) isnt)

@@ -1,0 +1,80 @@
+-- What a HELLO says that was made void: its uid is 4294967295, and nothing else has changed.
+use Rattle.std.proofs.Common.{arith, refl, sym, ap, subst, ◌≡◌, ◌+◌, ◌≤◌, ◌++◌, ℕ, List, [], ◌∷◌, length, take, drop}
+use Rattle.std.proofs.Common.{◌∙◌}
+use Rattle.std.proofs.lemmas.List.{length-append, drop-append-le, take-append-le, take-append-drop, length-drop}
+use Rattle.std.proofs.lemmas.List.{length-take-le}
+use Rattle.std.proofs.Math.Seq.{drop-append-add}
+use Rattle.std.specs.Int.{w16, w32, from_le_bytes}
+use Rattle.krs_screen.specs.Front.{le16, le32}
+use Rattle.krs_screen.specs.Claim.{voided, is_void, some_nobody}
+use Rattle.std.proofs.Common.{true, ◌==◌, ◌||◌}
+
+abbrev nobody : List ℕ
+nobody = 255 ∷ 255 ∷ 255 ∷ 255 ∷ []
+
+pub front_only : (xs ys : List ℕ) (i n : ℕ) → i + n ≤ length xs → take n (drop i (xs ++ ys)) ≡ take n (drop i xs)
+front_only xs ys i n h =
+    let e : drop i (xs ++ ys) ≡ drop i xs ++ ys = drop-append-le i xs ys (omega arith) in
+    let l : n ≤ length (drop i xs) = grind (arith, length-drop) in
+    ap (λ zs. take n zs) e ∙ take-append-le n (drop i xs) ys l
+
+pub before : (bytes ys : List ℕ) (at i n : ℕ) → i + n ≤ at → at ≤ length bytes
+    → take n (drop i (take at bytes ++ ys)) ≡ take n (drop i bytes)
+before bytes ys at i n h k =
+    let l : length (take at bytes) ≡ at = length-take-le at bytes k in
+    let b : i + n ≤ length (take at bytes) = omega (arith, l, h) in
+    let whole : take n (drop i (take at bytes ++ drop at bytes)) ≡ take n (drop i bytes) =
+    ap (λ zs. take n (drop i zs)) (take-append-drop at bytes) in
+    front_only (take at bytes) ys i n b ∙ sym (front_only (take at bytes) (drop at bytes) i n b) ∙ whole
+
+pub behind : (bytes ys : List ℕ) (at n : ℕ) → at ≤ length bytes → drop (at + n) (take at bytes ++ ys) ≡ drop n ys
+behind bytes ys at n k =
+    subst (λ m. drop (m + n) (take at bytes ++ ys)
+    ≡ drop n ys) (length-take-le at bytes k) (drop-append-add (take at bytes) ys n)
+
+pub drop_voided : (bytes : List ℕ) (at : ℕ) → at ≤ length bytes
+    → drop at (voided bytes at) ≡ nobody ++ drop 4 (drop at bytes)
+unfolding voided
+drop_voided bytes at h =
+    let zero : at + 0 ≡ at = omega arith in
+    subst (λ m. drop m (take at bytes ++ (nobody ++ drop 4 (drop at bytes))) ≡ nobody ++ drop 4 (drop at bytes)) zero
+    (behind bytes (nobody ++ drop 4 (drop at bytes)) at 0 h)
+
+pub le32_voided : (bytes : List ℕ) (at : ℕ) → at ≤ length bytes → le32 (voided bytes at) at ≡ 4294967295
+unfolding le32
+le32_voided bytes at h =
+    subst (λ zs. from_le_bytes w32 (take 4 zs) ≡ 4294967295) (sym (drop_voided bytes at h)) refl
+
+pub length_voided : (bytes : List ℕ) (at : ℕ) → at + 4 ≤ length bytes → length (voided bytes at) ≡ length bytes
+unfolding voided
+length_voided bytes at h =
+    let k : at ≤ length bytes = omega (arith, h) in
+    let l = length-take-le at bytes k in
+    let d = length-drop at bytes in
+    let e = length-drop 4 (drop at bytes) in
+    let m : length (nobody ++ drop 4 (drop at bytes))
+    ≡ 4 + length (drop 4 (drop at bytes)) = length-append nobody (drop 4 (drop at bytes)) in
+    omega (arith, length-append (take at bytes) (nobody ++ drop 4 (drop at bytes)), l, d, e, m, h)
+
+pub le32_before : (bytes : List ℕ) (at i : ℕ) → i + 4 ≤ at → at ≤ length bytes → le32 (voided bytes at) i ≡ le32 bytes i
+unfolding le32 voided
+le32_before bytes at i h k = ap (λ zs. from_le_bytes w32 zs) (before bytes (nobody ++ drop 4
+    (drop at bytes)) at i 4 h k)
+
+pub le16_before : (bytes : List ℕ) (at i : ℕ) → i + 2 ≤ at → at ≤ length bytes → le16 (voided bytes at) i ≡ le16 bytes i
+unfolding le16 voided
+le16_before bytes at i h k = ap (λ zs. from_le_bytes w16 zs) (before bytes (nobody ++ drop 4
+    (drop at bytes)) at i 2 h k)
+
+pub drop_behind : (bytes : List ℕ) (at n : ℕ) → at ≤ length bytes
+    → drop (at + (4 + n)) (voided bytes at) ≡ drop n (drop 4 (drop at bytes))
+unfolding voided
+drop_behind bytes at n h = behind bytes (nobody ++ drop 4 (drop at bytes)) at (4 + n) h
+    ∙ drop-append-add nobody (drop 4 (drop at bytes)) n
+
+pub void_is_void : (bytes : List ℕ) (at count : ℕ) → at ≤ length bytes → is_void (voided bytes at) at count ≡ true
+unfolding is_void
+void_is_void bytes at count h =
+    subst (λ n. (n == 4294967295 || (le32 (voided bytes at) (at + 4) == 4294967295
+    || some_nobody (voided bytes at) (at + 12) count)) ≡ true)
+    (sym (le32_voided bytes at h)) refl
