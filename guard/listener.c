@@ -1,0 +1,63 @@
+/* listener.c: see listener.h. */
+#define _GNU_SOURCE
+#include "listener.h"
+
+#include <errno.h>
+#include <fcntl.h>
+#include <stdbool.h>
+#include <stdlib.h>
+#include <string.h>
+#include <sys/socket.h>
+#include <sys/stat.h>
+#include <unistd.h>
+
+#include "options.h"
+
+enum { FIRST_PASSED_DESCRIPTOR = 3 };
+
+static bool has_option(int socket, int option, int wanted) {
+    int value = 0;
+    socklen_t length = sizeof value;
+    return getsockopt(socket, SOL_SOCKET, option, &value, &length) == 0 && value == wanted;
+}
+
+int take_passed_listener(void) {
+    const char *pid = getenv("LISTEN_PID"), *count = getenv("LISTEN_FDS");
+    int listener = FIRST_PASSED_DESCRIPTOR;
+    if (!pid || !count || atol(pid) != getpid() || strcmp(count, "1") != 0) return -1;
+    if (!has_option(listener, SO_DOMAIN, AF_UNIX) || !has_option(listener, SO_TYPE, SOCK_STREAM)) return -1;
+    if (!has_option(listener, SO_ACCEPTCONN, 1) || fcntl(listener, F_SETFD, FD_CLOEXEC) < 0) return -1;
+    return fcntl(listener, F_SETFL, fcntl(listener, F_GETFL) | O_NONBLOCK) < 0 ? -1 : listener;
+}
+
+/* Whether a socket lies there that nobody listens to, as a process that was killed leaves it. */
+static bool is_stale(const struct sockaddr_un *address) {
+    struct stat status;
+    /* a listener whose queue is full would have a socket that waits wait */
+    int probe = socket(AF_UNIX, SOCK_STREAM | SOCK_CLOEXEC | SOCK_NONBLOCK, 0);
+    if (probe < 0) return false;
+    int refused = connect(probe, (const struct sockaddr *)address, sizeof *address) < 0 && errno == ECONNREFUSED;
+    close(probe);
+    return refused && lstat(address->sun_path, &status) == 0 && S_ISSOCK(status.st_mode);
+}
+
+static bool bind_at(int listener, const struct sockaddr_un *address) {
+    const struct sockaddr *there = (const struct sockaddr *)address;
+    if (bind(listener, there, sizeof *address) == 0) return true;
+    if (errno != EADDRINUSE || !is_stale(address) || unlink(address->sun_path) < 0) return false;
+    return bind(listener, there, sizeof *address) == 0;
+}
+
+int open_listener(const char *path, unsigned mode) {
+    struct sockaddr_un address;
+    if (!put_address(&address, path)) return -1;
+    int listener = socket(AF_UNIX, SOCK_STREAM | SOCK_NONBLOCK | SOCK_CLOEXEC, 0);
+    if (listener < 0) return -1;
+    umask(~mode & 0777);
+    bool is_bound = bind_at(listener, &address);
+    umask(0077);
+    if (is_bound && listen(listener, SOMAXCONN) == 0) return listener;
+    if (is_bound) unlink(path);
+    close(listener);
+    return -1;
+}

@@ -1,0 +1,74 @@
+/* peer.c: see peer.h. */
+#define _GNU_SOURCE
+#include "peer.h"
+
+#include <poll.h>
+#include <stdio.h>
+#include <string.h>
+#include <time.h>
+#include <unistd.h>
+
+enum {
+    GROUPS_MAX = 65536, /* of a process: NGROUPS_MAX */
+    UNKNOWN = 65534,    /* unless the system says otherwise */
+    LINES_A_SECOND = 10,
+};
+
+uint32_t unknown_uid = UINT32_MAX, unknown_gid = UINT32_MAX;
+
+static_assert(sizeof(gid_t) == sizeof(uint32_t), "gid_t");
+
+/* Where the namespace has all ids none is unknown: user_namespaces(7). */
+static uint32_t unknown_of(const char *map_path, const char *unknown_path) {
+    unsigned inside = 1, outside = 1, count = 0, unknown = UNKNOWN;
+    FILE *map = fopen(map_path, "re"), *file = fopen(unknown_path, "re");
+    bool has_all = map && fscanf(map, "%u %u %u", &inside, &outside, &count) == 3 && inside == 0 && outside == 0 &&
+                   count == UINT32_MAX;
+    if (!file || fscanf(file, "%u", &unknown) != 1) unknown = UNKNOWN;
+    if (map) fclose(map);
+    if (file) fclose(file);
+    return has_all ? UINT32_MAX : unknown;
+}
+
+void find_unknown_ids(void) {
+    unknown_uid = unknown_of("/proc/self/uid_map", "/proc/sys/kernel/overflowuid");
+    unknown_gid = unknown_of("/proc/self/gid_map", "/proc/sys/kernel/overflowgid");
+}
+
+bool find_peer(int client, struct ucred *peer) {
+    socklen_t length = sizeof *peer;
+    return getsockopt(client, SOL_SOCKET, SO_PEERCRED, peer, &length) == 0 && length == sizeof *peer;
+}
+
+const uint32_t *groups_of(int client, size_t *count) {
+    static uint32_t groups[GROUPS_MAX];
+    socklen_t size = sizeof groups;
+    bool are_known = getsockopt(client, SOL_SOCKET, SO_PEERGROUPS, groups, &size) == 0;
+    *count = are_known ? size / sizeof *groups : 0;
+    return groups;
+}
+
+int64_t milliseconds(void) {
+    struct timespec time;
+    clock_gettime(CLOCK_MONOTONIC_COARSE, &time);
+    return time.tv_sec * 1000 + time.tv_nsec / 1000000;
+}
+
+void tell(const char *line) {
+    struct pollfd error = { .fd = STDERR_FILENO, .events = POLLOUT };
+    /* a pipe that takes something takes a short line */
+    if (poll(&error, 1, 0) == 1 && (error.revents & POLLOUT) && write(STDERR_FILENO, line, strlen(line)) < 0) return;
+}
+
+void tell_refusal(const struct ucred *peer, const struct screen_claim *claim) {
+    static int64_t second;
+    static unsigned told;
+    char line[160];
+    int64_t now = milliseconds() / 1000;
+    if (now != second) told = 0;
+    second = now;
+    if (told++ >= LINES_A_SECOND) return;
+    snprintf(line, sizeof line, "refused: uid %u, gid %u (pid %d) named uid %u, gid %u, %u groups\n", peer->uid, peer->gid,
+             peer->pid, claim->uid, claim->gid, claim->count);
+    tell(line);
+}

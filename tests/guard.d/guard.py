@@ -1,0 +1,1029 @@
+#!/usr/bin/env python3
+"""guard.py GUARD KEYRETAIND KEYRETAIN [plain | sanitized]: tries the guard over real sockets. As root the checks that need
+other uids are made with a child that changes its uid, connects and hands the socket back: the kernel remembers who
+connected. Without root those are skipped. A sanitized guard runs without its filter of system calls."""
+
+import ctypes
+import fcntl
+import os
+import random
+import re
+import resource
+import select
+import shutil
+import signal
+import socket
+import struct
+import subprocess
+import sys
+import tempfile
+import termios
+import time
+
+GUARD, DAEMON, CLIENT = sys.argv[1:4]
+IS_SANITIZED = "sanitized" in sys.argv[4:]
+ONLY = next((it for it in sys.argv[4:] if it not in ("plain", "sanitized")), "")
+HELLO, ADD, READ, EXEC = 256, 262, 11, 259
+EPERM, ESRCH, EACCES, EINVAL = 1, 3, 13, 22
+ROOT = os.geteuid() == 0
+USER_A, USER_B = 4001, 4002
+GROUP_A = 4101  # of user A
+NOBODY = 2**32 - 1
+NO_FILTER = ["--no-filter"] if IS_SANITIZED else []
+TMP = tempfile.mkdtemp(prefix="keyretain.", dir="/tmp")
+os.chmod(TMP, 0o755)
+PATIENCE = 60  # seconds that an answer may take on a busy machine
+passed = failed = 0
+
+
+def check(name, got, wanted):
+    global passed, failed
+    if got == wanted:
+        passed += 1
+    else:
+        failed += 1
+        print(f"fails: {name}: wanted {wanted!r}, got {got!r}", flush=True)
+
+
+def check_soon(name, found, wanted):
+    """The same of what comes to be so."""
+    end = time.monotonic() + PATIENCE
+    while (got := found()) != wanted and time.monotonic() < end:
+        time.sleep(0.02)
+    check(name, got, wanted)
+
+
+def skipped(what):
+    print(f"skipped: {what}", flush=True)
+
+
+def ask(op, context=0, body=b"", tag=None, version=None):
+    rest = struct.pack("<HHI", version or (1 if tag is None else 2), op, context)
+    rest += b"" if tag is None else struct.pack("<Q", tag)
+    return struct.pack("<I", len(rest + body)) + rest + body
+
+
+def hello(uid, gid, groups=(), tag=None):
+    return ask(HELLO, 0, struct.pack(f"<III{len(groups)}I", uid, gid, len(groups), *groups), tag)
+
+
+def add(context, name, payload, tag=None, ring=-4):
+    body = struct.pack("<H4sH", 4, b"user", len(name)) + name + struct.pack("<I", len(payload)) + payload
+    return ask(ADD, context, body + struct.pack("<i", ring), tag)
+
+
+def read_key(context, serial, tag=None):
+    return ask(READ, context, struct.pack("<i", serial), tag)
+
+
+class Client:
+    def __init__(self, sock):
+        self.sock, self.have = sock, b''
+        sock.settimeout(PATIENCE)
+
+    def send(self, *frames):
+        try:
+            self.sock.sendall(b''.join(frames))
+        except (BrokenPipeError, ConnectionResetError):
+            pass                                    # what was answered before can still be read
+
+    def send_apart(self, stream):
+        """Sends each byte once the one before it has been read."""
+        waiting, end = bytearray(4), time.monotonic() + PATIENCE
+        for byte in stream:
+            self.send(bytes([byte]))
+            while time.monotonic() < end:
+                fcntl.ioctl(self.sock, termios.TIOCOUTQ, waiting)
+                if waiting == b'\0\0\0\0':
+                    break
+
+    def exactly(self, count):
+        while len(self.have) < count:
+            try:
+                piece = self.sock.recv(65536)
+            except ConnectionResetError:
+                piece = b''
+            if not piece:
+                return None
+            self.have += piece
+        taken, self.have = self.have[:count], self.have[count:]
+        return taken
+
+    def reply(self, tagged=False):
+        """(status, answer) or (status, tag, answer); 'end' where the connection has ended"""
+        head = self.exactly(4)
+        if head is None:
+            return 'end'
+        rest = self.exactly(struct.unpack('<I', head)[0])
+        if rest is None:
+            return 'broken'
+        status = struct.unpack('<I', rest[:4])[0]
+        if not tagged:
+            return status, rest[4:]
+        return status, struct.unpack('<Q', rest[4:12])[0], rest[12:]
+
+    def status(self, *frames, tagged=False):
+        self.send(*frames)
+        reply = self.reply(tagged)
+        return reply if isinstance(reply, str) else reply[0]
+
+    def context(self, uid, gid, groups=()):
+        status, answer = self.ask(hello(uid, gid, groups))
+        assert status == 0, status
+        return struct.unpack('<I', answer)[0]
+
+    def ask(self, frame):
+        self.send(frame)
+        return self.reply()
+
+    def close(self):
+        self.sock.close()
+
+
+def connect_as(path, uid=None, gid=None, groups=(), count=1, before=None):
+    """Connections that a child of that uid has made."""
+    if uid is None:
+        made = []
+        for _ in range(count):
+            sock = socket.socket(socket.AF_UNIX)
+            sock.connect(path)
+            made.append(Client(sock))
+        return made
+    ours, theirs = socket.socketpair()
+    child = os.fork()
+    if child == 0:
+        try:
+            os.setgroups(groups); os.setresgid(gid, gid, gid); os.setresuid(uid, uid, uid)
+            if before:
+                before()
+            for _ in range(count):
+                sock = socket.socket(socket.AF_UNIX)
+                sock.connect(path)
+                socket.send_fds(theirs, [b'x'], [sock.fileno()])
+                sock.close()
+            os._exit(0)
+        except BaseException as error:
+            print('child:', error, flush=True)
+            os._exit(1)
+    theirs.close()
+    made = []
+    for _ in range(count):
+        data, fds, _, _ = socket.recv_fds(ours, 1, 1)
+        if not fds:
+            break
+        made.append(Client(socket.socket(fileno=fds[0])))
+    os.waitpid(child, 0)
+    ours.close()
+    return made
+
+
+ALL = set()
+
+
+class Running:
+    number = 0
+
+    def __init__(self, *options, daemon=True, lanes=64, limit=None):
+        Running.number += 1
+        ALL.add(self)
+        self.private = f'{TMP}/{Running.number}.private'
+        self.public = f'{TMP}/{Running.number}.public'
+        self.daemon = self.guard = None
+        self.lanes = lanes
+        if daemon:
+            self.start_daemon()
+        self.options, self.limit = options, limit
+        self.start_guard()
+
+    def start_daemon(self):
+        words = [DAEMON, '--socket', self.private, '--lanes', str(self.lanes)]
+        self.daemon = subprocess.Popen(words, stdout=subprocess.PIPE, stderr=subprocess.DEVNULL)
+        self.daemon.stdout.readline()
+
+    def start_guard(self):
+        self.errors = open(f'{TMP}/{Running.number}.errors', 'ab')
+        self.guard = subprocess.Popen([GUARD, '--listen', self.public, '--daemon', self.private, *NO_FILTER,
+                                       *self.options], stdout=subprocess.PIPE, stderr=self.errors,
+                                      preexec_fn=self.limit)
+        self.line = self.guard.stdout.readline()
+
+    def one(self, *who, **more):
+        return connect_as(self.public, *who, **more)[0]
+
+    def many(self, count, *who, **more):
+        return connect_as(self.public, *who, count=count, **more)
+
+    def end(self):
+        self.guard.send_signal(signal.SIGTERM)
+        status = self.guard.wait(PATIENCE)
+        if self.daemon:
+            self.daemon.kill()
+            self.daemon.wait()
+        ALL.discard(self)
+        errors = open(self.errors.name).read()
+        if 'Sanitizer' in errors or 'runtime error' in errors:
+            check('no report', errors, '')
+        return status
+
+    def memory(self):
+        status = open(f'/proc/{self.guard.pid}/status').read()
+        return int(re.search(r'VmRSS:\s+(\d+)', status).group(1))
+
+
+def is_alive(client):
+    """Whether the guard has not ended it."""
+    ready, _, _ = select.select([client.sock], [], [], 0)
+    if not ready:
+        return True
+    try:
+        return client.sock.recv(1, socket.MSG_PEEK) != b''
+    except OSError:
+        return False
+
+
+def alive(clients):
+    return sum(map(is_alive, clients))
+
+
+def descriptors(run):
+    return len(os.listdir(f'/proc/{run.guard.pid}/fd')) if ROOT else 0  # it isn't dumpable
+
+
+def ticks(run):
+    """Of the processor that the guard has used, a hundredth of a second each."""
+    return sum(map(int, open(f'/proc/{run.guard.pid}/stat').read().split()[13:15]))
+
+
+# ---- who may say what
+
+def try_own():
+    run = Running()
+    me, group = os.geteuid(), os.getegid()
+    who = (USER_A, GROUP_A, [4100, 4200]) if ROOT else ()
+    uid, gid, extra = (USER_A, GROUP_A, [4100, 4200]) if ROOT else (me, group, os.getgroups()[:2])
+    for tag in (None, 7):
+        tagged = tag is not None
+        client = run.one(*who)
+        check('own', client.status(hello(uid, gid, tag=tag), tagged=tagged), 0)
+        check('own, with groups', client.status(hello(uid, gid, extra, tag=tag), tagged=tagged), 0)
+        check('own, own gid among the groups', client.status(hello(uid, gid, [gid], tag=tag), tagged=tagged), 0)
+        if extra:
+            check('a group as gid', client.status(hello(uid, extra[0], tag=tag), tagged=tagged), 0)
+        check('another uid', client.status(hello(uid + 1, gid, tag=tag), tagged=tagged), EPERM)
+        check('uid 0', client.status(hello(0 if ROOT else 1, gid, tag=tag), tagged=tagged), EPERM)
+        check('another gid', client.status(hello(uid, 7777, tag=tag), tagged=tagged), EPERM)
+        if uid != gid and uid not in os.getgroups():
+            check('the uid as gid', client.status(hello(uid, uid, tag=tag), tagged=tagged), EPERM)
+        check('gid 0', client.status(hello(uid, 0 if ROOT else 1, tag=tag), tagged=tagged), EPERM)
+        check('another group', client.status(hello(uid, gid, [*extra, 7777], tag=tag), tagged=tagged), EPERM)
+        check('another group, first', client.status(hello(uid, gid, [7777, *extra], tag=tag), tagged=tagged), EPERM)
+        check('32 groups', client.status(hello(uid, gid, [gid] * 32, tag=tag), tagged=tagged), 0)
+        check('32 groups, the last foreign', client.status(hello(uid, gid, [gid] * 31 + [7777], tag=tag),
+                                                           tagged=tagged), EPERM)
+        check('33 groups', client.status(hello(uid, gid, [gid] * 33, tag=tag), tagged=tagged), EINVAL)
+        check('33 foreign groups', client.status(hello(uid, gid, [5] * 33, tag=tag), tagged=tagged), EINVAL)
+        check('1000 groups', client.status(hello(uid, gid, [5] * 1000, tag=tag), tagged=tagged), EINVAL)
+        check('no uid', client.status(hello(2**32 - 1, gid, tag=tag), tagged=tagged), EINVAL)
+        check('no gid', client.status(hello(uid, 2**32 - 1, tag=tag), tagged=tagged), EINVAL)
+        check('no group', client.status(hello(uid, gid, [2**32 - 1], tag=tag), tagged=tagged), EINVAL)
+        check('own, after all these', client.status(hello(uid, gid, tag=tag), tagged=tagged), 0)
+    check('ends well', run.end(), 0)
+
+
+def try_root():
+    if not ROOT:
+        return skipped('other uids: not root')
+    run = Running('--trust', str(USER_B))
+    client = run.one()
+    check('root may not name others', client.status(hello(1234, 77, [5, 6])), EPERM)
+    check('but itself', client.status(hello(0, 0)), 0)
+    client = run.one(USER_B, 1, [])
+    check('a trusted uid may name any', client.status(hello(1234, 77, [5, 6])), 0)
+    client = run.one(USER_A, 1, [])
+    check('another may not', client.status(hello(1234, 77, [5, 6])), EPERM)
+    user_a = run.one(USER_A, GROUP_A, [])
+    context = user_a.context(USER_A, GROUP_A)
+    status, answer = user_a.ask(add(context, b'k', b'secret'))
+    check('adds', status, 0)
+    user_b = run.one(4003, 4003, [])
+    other = user_b.context(4003, 4003)
+    check('a stranger may not read', user_b.ask(read_key(other, struct.unpack('<I', answer)[0]))[0], 13)
+    check("nor by user_a's context", user_b.ask(read_key(context, struct.unpack('<I', answer)[0]))[0], ESRCH)
+    # who was root when it connected stays so: the kernel tells who connected
+    groups = list(range(100000, 165530))
+    many = run.one(USER_A, GROUP_A, groups)
+    check('65530 groups: the last', many.status(hello(USER_A, groups[-1], [groups[0], groups[-1]])), 0)
+    check('65530 groups: another', many.status(hello(USER_A, groups[-1] + 1)), EPERM)
+    run.end()
+
+
+def try_namespace():
+    """A client in a user namespace of its own, in which it is uid 0."""
+    if not ROOT:
+        return skipped('user namespaces: not root')
+    libc = ctypes.CDLL(None, use_errno=True)
+
+    def unshare():
+        libc.prctl(4, 1, 0, 0, 0)
+        if libc.unshare(0x10000000) != 0:
+            raise OSError(ctypes.get_errno(), 'unshare')
+        open('/proc/self/setgroups', 'w').write('deny')
+        open('/proc/self/uid_map', 'w').write(f'0 {USER_A} 1')
+        open('/proc/self/gid_map', 'w').write(f'0 {GROUP_A} 1')
+        assert os.geteuid() == 0
+
+    run = Running()
+    made = run.many(1, USER_A, GROUP_A, [GROUP_A], before=unshare)
+    if not made:
+        return skipped('user namespaces: not allowed here')
+    check('uid 0 of a namespace', made[0].status(hello(0, 0)), EPERM)
+    check('its uid outside', made[0].status(hello(USER_A, GROUP_A)), 0)
+    run.end()
+
+
+def try_inherited():
+    """A connection that a root process made and its child of another uid has inherited, as by su(1)."""
+    if not ROOT:
+        return
+    for options, wanted in ((['--trust', '0'], 0), ([], EPERM)):
+        run = Running(*options)
+        client = run.one()
+        check('root greets', client.status(hello(0, 0)), 0)
+        child = os.fork()
+        if child == 0:
+            os.setgroups([]); os.setresgid(USER_B, USER_B, USER_B); os.setresuid(USER_B, USER_B, USER_B)
+            os._exit(client.status(hello(USER_A, USER_A)))
+        check(f'an inherited connection, {options}', os.waitstatus_to_exitcode(os.waitpid(child, 0)[1]), wanted)
+        run.end()
+
+
+def try_changed_uid():
+    """A process that changes its uid stays who it was when it connected."""
+    if not ROOT:
+        return
+    run = Running()
+    client = run.one(USER_A, GROUP_A, [])
+    os.seteuid(USER_B)
+    check('the new uid', client.status(hello(USER_B, 4001)), EPERM)
+    check('the old uid', client.status(hello(USER_A, GROUP_A)), 0)
+    os.seteuid(0)
+    run.end()
+
+
+# ---- streams
+
+def identity():
+    return ((USER_A, GROUP_A, [4100]), USER_A, GROUP_A) if ROOT else ((), os.geteuid(), os.getegid())
+
+
+def try_pieces():
+    run = Running()
+    who, uid, gid = identity()
+    for version in (1, 2):
+        def tag(n): return None if version == 1 else n
+        client = run.one(*who)
+        stream = (hello(uid, gid, tag=tag(1)) + hello(9, gid, tag=tag(2)) + ask(EXEC, 1 << 31, tag=tag(3))
+                  + hello(uid, 9, [gid], tag=tag(4)) + hello(uid, gid, [gid, gid], tag=tag(5)))
+        client.send_apart(stream)
+        got = [client.reply(version == 2) for _ in range(5)]
+        check(f'byte by byte, version {version}', [r[0] for r in got], [0, EPERM, ESRCH, EPERM, 0])
+        if version == 2:
+            check('tags', [r[1] for r in got], [1, 2, 3, 4, 5])
+    run.end()
+
+
+def draw_asks(chance, uid, gid, context, serial):
+    """200 asks of both versions, at most 64 refused HELLOs among them, and the replies that they are to get."""
+    stream, wanted, refused = b'', [], 0
+    for _ in range(200):
+        tag = None if chance.random() < 0.5 else chance.getrandbits(64)
+        kind = chance.randrange(5)
+        if kind == 0 and refused < 64:
+            refused += 1
+            foreign = [(uid + 1, gid, []), (uid, 9999, []), (uid, gid, [9999]), (0 if uid else 1, 0, [])]
+            stream, status, answer = stream + hello(*chance.choice(foreign), tag=tag), EPERM, b''
+        elif kind == 1:
+            stream, status, answer = stream + hello(NOBODY, gid, tag=tag), EINVAL, b''
+        elif kind == 2:
+            stream, status, answer = stream + ask(EXEC, 1 << 31, tag=tag), ESRCH, b''
+        elif kind == 3:
+            stream, status, answer = stream + read_key(context, serial, tag), 0, b'x' * 3000
+        else:
+            stream, status, answer = stream + hello(uid, gid, [9999] * 33, tag), EINVAL, b''
+        wanted.append((status, tag, answer))
+    return stream, wanted
+
+
+def exchange(client, chance, stream, tags):
+    """Sends a stream in random pieces, and reads as randomly: the replies to asks with these tags."""
+    at, got = 0, []
+    client.sock.setblocking(False)
+    while len(got) < len(tags):
+        select.select([client.sock], [client.sock] if at < len(stream) else [], [], PATIENCE)
+        try:
+            at += client.sock.send(stream[at:at + chance.choice([1, 2, 3, 7, 20, 500, 5000])])
+        except BlockingIOError:
+            pass
+        try:
+            piece = client.sock.recv(chance.choice([1, 5, 100, 65536]))
+            if not piece:
+                break
+            client.have += piece
+        except BlockingIOError:
+            pass
+        while len(client.have) >= 4 and len(client.have) >= 4 + struct.unpack('<I', client.have[:4])[0]:
+            reply = client.reply(tags[len(got)] is not None)
+            got.append(reply if len(reply) == 3 else (reply[0], None, reply[1]))
+    return got
+
+
+def try_pipelines():
+    """Long random pipelines of asks of both versions in random pieces, with refused HELLOs among them."""
+    run = Running()
+    who, uid, gid = identity()
+    chance = random.Random(5)
+    for _ in range(12):
+        client = run.one(*who)
+        context = client.context(uid, gid)
+        serial = struct.unpack('<I', client.ask(add(context, b'big', b'x' * 3000))[1])[0]
+        stream, wanted = draw_asks(chance, uid, gid, context, serial)
+        check('pipeline', exchange(client, chance, stream, [it[1] for it in wanted]), wanted)
+        client.close()
+    run.end()
+
+
+def try_many_refused():
+    """More refused HELLOs in flight than are remembered: it ends, behind good replies."""
+    run = Running('--hello-seconds', '600')
+    who, uid, gid = identity()
+    client, began = run.one(*who), time.monotonic()
+    client.send(*[hello(uid + 1, gid) for _ in range(1000)])
+    replies = []
+    while not isinstance(reply := client.reply(), str):
+        replies.append(reply[0])
+    check('1000 refused at once', set(replies), {EPERM})
+    client = run.one(*who)
+    check('1000 refused, one by one', {client.status(hello(uid + 1, gid)) for _ in range(1000)}, {EPERM})
+    check('and then an own one', client.status(hello(uid, gid)), 0)
+    run.end()
+    told, seconds = open(run.errors.name).read().count('refused:'), int(time.monotonic() - began) + 2
+    check('ten a second are told, and no more', 0 < told <= 10 * seconds, True)
+
+
+def try_bad_frames():
+    run = Running()
+    who, uid, gid = identity()
+    good = hello(uid, gid) + hello(uid + 1, gid) + ask(EXEC, 1 << 31)
+    bad = {
+        'length 0': b'\0\0\0\0', 'length 7': b'\7\0\0\0', 'length 65537': struct.pack('<I', 65537),
+        'length -1': b'\xff' * 4, 'version 0': struct.pack('<IHHI', 8, 0, EXEC, 0),
+        'version 3': struct.pack('<IHHI', 8, 3, EXEC, 0), 'version 257': struct.pack('<IHHI', 8, 257, EXEC, 0),
+        'no room for a tag': struct.pack('<IHHI', 8, 2, EXEC, 0),
+        'operation 12': ask(12), 'operation 33': ask(33), 'operation 255': ask(255), 'operation 268': ask(268),
+        'operation 65535': ask(65535), 'operation 512': ask(512),
+        'HELLO without a body': ask(HELLO), 'HELLO of 11 bytes': ask(HELLO, 0, b'\0' * 11),
+        'HELLO with a byte too many': ask(HELLO, 0, struct.pack('<III', uid, gid, 0) + b'x'),
+        'HELLO with a group too many': ask(HELLO, 0, struct.pack('<IIII', uid, gid, 0, gid)),
+        'HELLO with a group too few': ask(HELLO, 0, struct.pack('<III', uid, gid, 1)),
+        'HELLO with 2^30 groups': ask(HELLO, 0, struct.pack('<III', uid, gid, 1 << 30)),
+        'HELLO with 2^32-1 groups': ask(HELLO, 0, struct.pack('<III', uid, gid, 2**32 - 1)),
+        'tagged HELLO without a body': ask(HELLO, tag=3),
+        'tagged HELLO, too long': ask(HELLO, 0, struct.pack('<III', uid, gid, 0) + b'x', tag=3),
+        'EXEC with a body': ask(EXEC, 0, b'x'),
+    }
+    for name, frame in bad.items():
+        for pieces in (False, True):
+            client = run.one(*who)
+            if pieces:
+                client.send_apart(good + frame)
+            else:
+                client.send(good, frame, hello(uid, gid) * 3)
+            got = []
+            while not isinstance(reply := client.reply(), str):
+                got.append(reply[0])
+            check(name, (got, reply), ([0, EPERM, ESRCH], 'end'))
+            client.close()
+            client = run.one(*who)
+            client.send(frame)
+            check(name + ', alone', client.reply(), 'end')
+    run.end()
+
+
+def try_halves():
+    run = Running()
+    who, uid, gid = identity()
+    client = run.one(*who)
+    client.send(hello(uid, gid), hello(uid + 1, gid), ask(EXEC, 1 << 31), hello(uid, gid)[:-1])
+    client.sock.shutdown(socket.SHUT_WR)
+    got = []
+    while not isinstance(reply := client.reply(), str):
+        got.append(reply[0])
+    check('half-closed within a frame', (got, reply), ([0, EPERM, ESRCH], 'end'))
+    client = run.one(*who)
+    client.sock.shutdown(socket.SHUT_WR)
+    check('half-closed at once', client.reply(), 'end')
+    client = run.one(*who)
+    context = client.context(uid, gid)
+    serial = struct.unpack('<I', client.ask(add(context, b'k', b'y' * 30000))[1])[0]
+    client.send(*[read_key(context, serial)] * 200)
+    client.sock.shutdown(socket.SHUT_WR)
+    got = 0
+    while not isinstance(reply := client.reply(), str):
+        got += reply == (0, b'y' * 30000)
+    check('half-closed, 6 MB of replies', (got, reply), (200, 'end'))
+    run.end()
+
+
+def try_odd_clients():
+    run = Running()
+    who, uid, gid = identity()
+    client = run.one(*who)
+    client.context(uid, gid)
+    client.sock.shutdown(socket.SHUT_RD)
+    client.send(hello(uid, gid))
+    check('after one that reads no more', run.one(*who).status(hello(uid, gid)), 0)
+    client = run.one(*who)
+    client.sock.send(b'!', socket.MSG_OOB)
+    client.send(hello(uid + 1, gid))
+    reply = client.reply()
+    check('a byte out of band is nothing or the end', reply == 'end' or reply[0] == EPERM, True)
+    client = run.one(*who)
+    for _ in range(100):
+        socket.send_fds(client.sock, [hello(uid, gid)[:10]], [0, 1, 2])
+        client.send(hello(uid, gid)[10:])
+        if client.reply()[0] not in (0, EINVAL):
+            check('descriptors that are sent along', 'refused', 0)
+    check('descriptors that are sent along are not kept', descriptors(run) < 40, True)
+    run.end()
+
+
+def try_never_reads():
+    run = Running('--per-uid', '40')
+    who, uid, gid = identity()
+    before = run.memory()
+    stuck = []
+    for _ in range(30):
+        client = run.one(*who)
+        context = client.context(uid, gid)
+        serial = struct.unpack('<I', client.ask(add(context, b'k', b'z' * 30000))[1])[0]
+        client.sock.setblocking(False)
+        sent = 0
+        try:
+            while sent < 4 << 20:
+                sent += client.sock.send(read_key(context, serial) * 100)
+        except BlockingIOError:
+            pass
+        stuck.append(client)
+    time.sleep(0.5)
+    check('what never reads is held back', sent < 4 << 20, True)
+    other = run.one(*(4002, 4002, []) if ROOT else who)
+    replies = {other.status(hello((4002 if ROOT else uid), (4002 if ROOT else gid))) for _ in range(200)}
+    check('the others are served', replies <= {0, EINVAL}, True)
+    check('memory for 30 that never read', run.memory() - before < (64 if IS_SANITIZED else 8) << 10, True)
+    cpu = ticks(run)
+    time.sleep(1)
+    spent = ticks(run) - cpu
+    check('no spinning', spent <= 2, True)
+    for client in stuck[:15]:
+        client.close()
+    for client in stuck[15:]:     # and those that go on reading get it all
+        client.sock.setblocking(True)
+        client.sock.settimeout(PATIENCE)
+        if client.reply()[1] != b'z' * 30000:
+            check('goes on reading', 'wrong', 'right')
+    other.close()
+    for client in stuck:
+        client.close()
+    check('all lanes are free again', run.one(*who).status(hello(uid, gid)), 0)
+    check_soon('descriptors', lambda: descriptors(run) < 12, True)
+    run.end()
+
+
+def try_full_log():
+    """Refusals are told to a pipe that nobody reads and that is full."""
+    who, uid, gid = identity()
+    reader, writer = os.pipe()
+    os.set_blocking(writer, False)
+    try:
+        while os.write(writer, b'x' * 4096):
+            pass
+    except BlockingIOError:
+        pass
+    os.set_blocking(writer, True)
+    run = Running()
+    run.guard.kill()
+    run.guard.wait()
+    words = [GUARD, '--listen', run.public, '--daemon', run.private, *NO_FILTER]
+    run.guard = subprocess.Popen(words, stdout=subprocess.PIPE, stderr=writer)
+    run.guard.stdout.readline()
+    client = run.one(*who)
+    check('refused, with a log that is full', client.status(hello(uid + 1, gid)), EPERM)
+    check('and then an own one', client.status(hello(uid, gid)), 0)
+    os.close(reader)
+    os.close(writer)
+    check('ends, with a log that is gone', run.end(), 0)
+
+
+def try_log():
+    who, uid, gid = identity()
+    run = Running()
+    client = run.one(*who)
+    check('refused', client.status(hello(uid + 5, gid, [9999, 9998])), EPERM)
+    check('refused, tagged', client.status(hello(uid, 9999, tag=3), tagged=True), EPERM)
+    run.end()
+    told = [re.sub(r'pid \d+', 'pid N', line) for line in open(run.errors.name)]
+    check('what is told', told, [
+        f'refused: uid {uid}, gid {gid} (pid N) named uid {uid + 5}, gid {gid}, 2 groups\n',
+        f'refused: uid {uid}, gid {gid} (pid N) named uid {uid}, gid 9999, 0 groups\n'])
+
+
+def try_strangers():
+    """A guard in a user namespace that has one id alone: all others have one number there, and are refused."""
+    if not ROOT:
+        return skipped('a guard in a user namespace: not root')
+    libc = ctypes.CDLL(None, use_errno=True)
+
+    def unshare():
+        if libc.unshare(0x10000000) != 0:
+            os._exit(77)
+        open('/proc/self/setgroups', 'w').write('deny')
+        open('/proc/self/uid_map', 'w').write('0 0 1')
+        open('/proc/self/gid_map', 'w').write('0 0 1')
+
+    run = Running(limit=unshare)
+    if run.guard.poll() is not None or not run.line:
+        skipped('a guard in a user namespace: not allowed here')
+    else:
+        check('a stranger', run.one(USER_A, GROUP_A, []).status(hello(65534, 65534)), 'end')
+        check('one that it knows', run.one().status(hello(0, 0)), 0)
+    run.end()
+
+
+def try_two_users():
+    """The walk of the README, by the client program: two users share a daemon, and neither can claim to be the other."""
+    if not ROOT:
+        return skipped('two users: not root')
+    run = Running()
+    program = f'{TMP}/keyretain'
+    shutil.copy(CLIENT, program)
+    os.chmod(program, 0o755)
+
+    def does(uid, script):
+        return subprocess.run([program, '--socket', run.public, 'script'], input=script, capture_output=True, text=True,
+                              user=uid, group=uid, extra_groups=[]).stdout
+
+    held = run.one(USER_A, USER_A, [])
+    held.context(USER_A, USER_A)
+    check('user A', does(USER_A, f'hello {USER_A} {USER_A}\nadd user token s3 @u\n'), '2\n5\n')
+    check('user B as user A', does(USER_B, f'hello {USER_A} {USER_A}\n'), 'error 1 EPERM\n')
+    check('user B as root', does(USER_B, 'hello 0 0\n'), 'error 1 EPERM\n')
+    check("user B, of user A's key", does(USER_B, f'hello {USER_B} {USER_B}\nprint 5\n'), '3\nerror 13 EACCES\n')
+    check('user A again', does(USER_A, f'hello {USER_A} {USER_A}\nprint 5\n'), '4\ns3\n')
+    run.end()
+
+
+def try_limit_of_one():
+    """One uid's connections."""
+    who, uid, gid = identity()
+    run = Running('--per-uid', '4')
+    made = run.many(10, *who)
+    check_soon('4 of 10', lambda: alive(made), 4)
+    run.end()
+    run = Running()
+    made = run.many(300, *who)
+    check_soon('16 of 300', lambda: alive(made), 16)
+    check('they are the first', alive(made[:16]), 16)
+    if ROOT:
+        check('another uid gets in', run.one(USER_B, 4002).status(hello(USER_B, 4002)), 0)
+    made[0].close()
+    check_soon('a place is free again', lambda: run.one(*who).status(hello(uid, gid)), 0)
+    run.end()
+
+
+def try_limit_of_all():
+    """All connections, of many uids."""
+    if not ROOT:
+        return skipped('limits of many uids: not root')
+    run = Running('--connections', '20', '--per-uid', '8')
+    made = [c for uid in range(5000, 5010) for c in run.many(10, uid, uid)]
+    check_soon('20 for all, and the rest waits', lambda: [alive(made[10 * n:10 * n + 10]) for n in range(4)],
+               [8, 8, 10, 10])
+    cpu = ticks(run)
+    root = run.one()
+    root.send(hello(0, 0))
+    root.sock.settimeout(0.5)
+    try:
+        check('root waits too', root.reply(), 'nothing')
+    except TimeoutError:
+        pass
+    check('waiting costs nothing', ticks(run) - cpu <= 2, True)
+    check("the daemon's own socket", connect_as(run.private)[0].status(hello(1, 1)), 0)
+    for client in made:
+        client.close()
+    root.sock.settimeout(PATIENCE)
+    check('and is served', root.reply()[0], 0)
+    run.end()
+
+
+def try_silence():
+    who, uid, gid = identity()
+    run = Running('--hello-seconds', '4')
+    began = time.monotonic()
+    silent, greeted, slow, refused = (run.one(*who) for _ in range(4))
+    greeted.context(uid, gid)
+    slow.send(hello(uid, gid)[:9])
+    check('refused', refused.status(hello(uid + 1, gid)), EPERM)
+    living = alive([silent, greeted, slow, refused])
+    if time.monotonic() < began + 3:
+        check('not yet', living, 4)
+    check_soon('after its time', lambda: [is_alive(c) for c in (silent, greeted, slow, refused)],
+               [False, True, False, False])
+    check('the greeted one', greeted.status(hello(uid, gid)), 0)
+    run.end()
+
+
+def try_daemon_gone():
+    who, uid, gid = identity()
+    run = Running(daemon=False)
+    client = run.one(*who)
+    client.send(hello(uid, gid))
+    check('no daemon', client.reply(), 'end')
+    run.start_daemon()
+    client = run.one(*who)
+    check('a daemon', client.status(hello(uid, gid)), 0)
+    run.daemon.kill()
+    run.daemon.wait()
+    check('the daemon is killed', client.reply(), 'end')
+    os.unlink(run.private)
+    run.start_daemon()
+    check('a daemon again', run.one(*who).status(hello(uid, gid)), 0)
+    run.end()
+
+
+class Liar:
+    """A daemon that answers what it is told to."""
+
+    def __init__(self, path, answers):
+        self.listener = socket.socket(socket.AF_UNIX)
+        self.listener.bind(path)
+        self.listener.listen(4)
+        self.answers = answers
+
+    def serve(self):
+        end, _ = self.listener.accept()
+        end.settimeout(PATIENCE)
+        asked = end.recv(65536)
+        end.sendall(self.answers)
+        return end, asked
+
+
+def try_lying_daemon():
+    """What no daemon answers ends the connection: above all a HELLO that was made void, and is accepted."""
+    who, uid, gid = identity()
+    refusal = struct.pack('<II', 4, EINVAL)
+    for name, answers, wanted in (
+            ('a void HELLO that is accepted', struct.pack('<III', 8, 0, 1), 'end'),
+            ('a reply of 3 bytes', struct.pack('<II', 3, EINVAL), 'end'),
+            ('a reply of 262153 bytes', struct.pack('<II', 262153, EINVAL), 'end'),
+            ('a reply too many', refusal + refusal, (EPERM, 'end')),
+            ('what it should answer', refusal, (EPERM, None))):
+        run = Running(daemon=False)
+        liar = Liar(run.private, answers)
+        client = run.one(*who)
+        client.send(hello(uid + 1, gid))
+        end, asked = liar.serve()
+        check(f'{name}: what it was asked', asked, hello(NOBODY, gid))
+        first = client.reply()
+        if isinstance(wanted, str):
+            check(name, first, wanted)
+        else:
+            check(name, first if isinstance(first, str) else first[0], wanted[0])
+            if wanted[1]:
+                check(f'{name}: then', client.reply(), wanted[1])
+        end.close()
+        liar.listener.close()
+        run.end()
+
+
+def try_confined():
+    run = Running()
+    status = open(f'/proc/{run.guard.pid}/status').read()
+    if not IS_SANITIZED:
+        check('a filter of system calls', re.search(r'^Seccomp:\s+(\d)', status, re.M).group(1), '2')
+        check('no new privileges', re.search(r'^NoNewPrivs:\s+(\d)', status, re.M).group(1), '1')
+    check('one thread', re.search(r'^Threads:\s+(\d+)', status, re.M).group(1), '1')
+    if ROOT:
+        skipped('who may look into it: root may')
+    else:
+        try:
+            open(f'/proc/{run.guard.pid}/environ').close()
+            check('its own user looks into it', 'looked', 'refused')
+        except PermissionError:
+            check('its own user looks into it', 'refused', 'refused')
+    run.end()
+
+
+def begun(*words):
+    """How a guard ends that can't begin: its status, and what it prints."""
+    ended = subprocess.run([GUARD, *words, *NO_FILTER], capture_output=True, timeout=PATIENCE)
+    return ended.returncode, ended.stdout
+
+
+def try_paths():
+    who, uid, gid = identity()
+    run = Running()
+    check('line', run.line, b'listening ' + run.public.encode() + b'\n')
+    check('mode', oct(os.stat(run.public).st_mode & 0o777), '0o666')
+    no_socket = (3, b'error: socket\n')
+    check('a second one', begun('--listen', run.public, '--daemon', run.private), no_socket)
+    run.guard.kill()
+    run.guard.wait()
+    check('a killed one leaves its path', os.path.exists(run.public), True)
+    run.start_guard()
+    check('it is taken over', run.one(*who).status(hello(uid, gid)), 0)
+    busy = socket.socket(socket.AF_UNIX)
+    busy.bind(f'{TMP}/busy')
+    busy.listen(0)
+    waiting = [socket.socket(socket.AF_UNIX, socket.SOCK_STREAM | socket.SOCK_NONBLOCK) for _ in range(4)]
+    for it in waiting:
+        it.connect_ex(f'{TMP}/busy')
+    check('one listens there and is busy', begun('--listen', f'{TMP}/busy', '--daemon', run.private), no_socket)
+    check('SIGTERM', run.end(), 0)
+    check('the path is gone', os.path.exists(run.public), False)
+    open(run.public, 'w').close()
+    check('a file is no stale socket', begun('--listen', run.public, '--daemon', run.private), no_socket)
+    check('it is left there', os.path.exists(run.public), True)
+
+
+def try_usage():
+    both = ('--daemon', 'x', '--listen', 'y')
+    for words in ((), ('--listen', 'x'), ('--daemon', 'x'), (*both, '--connections', '257'), (*both, 'z'),
+                  (*both, '--per-uid', '-1'), ('--daemon', 'x' * 200, '--listen', 'y'), (*both, '--mode', '8'),
+                  (*both, '--trust', '4294967295'), (*both, '--unknown')):
+        check(f'usage: {words}', begun(*words), (2, b''))
+    check('a path that is too long', begun('--listen', 'x' * 200, '--daemon', 'y')[0], 3)
+    check('version', begun('--version')[1][:15], b'keyretain-guard')
+    check('help', begun('--help')[1][:23], b'usage: keyretain-guard ')
+
+
+def is_open(path):
+    with socket.socket(socket.AF_UNIX) as it:
+        return it.connect_ex(path) == 0
+
+
+def try_outputs():
+    """Standard output and error that are files, devices, full, closed: the filter of system calls is on."""
+    who, uid, gid = identity()
+    for name in ('/dev/null', '/dev/full', f'{TMP}/out', None):
+        run = Running(daemon=False)
+        run.guard.kill()
+        run.guard.wait()
+        run.start_daemon()
+        out = open(name, 'w') if name else None
+        words = [GUARD, '--listen', run.public, '--daemon', run.private, *NO_FILTER]
+        run.guard = subprocess.Popen(words, stdout=out, stderr=out) if name else subprocess.Popen(
+            ['sh', '-c', 'exec "$@" >&- 2>&-', 'sh', *words])
+        check_soon(f'output {name}: listens', lambda: os.path.exists(run.public) and is_open(run.public), True)
+        client = run.one(*who)
+        check(f'output {name}', client.status(hello(uid + 1, gid)), EPERM)
+        check(f'output {name}: own', client.status(hello(uid, gid)), 0)
+        check(f'output {name}: end', run.end(), 0)
+
+
+def passed_to_guard(passed, *words):
+    """A guard that has got this socket, as systemd passes it: its pid."""
+    child = os.fork()
+    if child == 0:
+        for output in (1, 2):
+            os.dup2(os.open('/dev/null', os.O_WRONLY), output)
+        os.dup2(passed.fileno(), 3)
+        os.set_inheritable(3, True)
+        os.environ.update(LISTEN_PID=str(os.getpid()), LISTEN_FDS='1')
+        os.execv(GUARD, [GUARD, *words, *NO_FILTER])
+    return child
+
+
+def try_passed_socket():
+    who, uid, gid = identity()
+    run = Running()
+    path = f'{TMP}/passed'
+    listening = socket.socket(socket.AF_UNIX)
+    listening.bind(path)
+    os.chmod(path, 0o666)
+    listening.listen(8)
+    child = passed_to_guard(listening, '--daemon', run.private)
+    check('a passed socket', connect_as(path, *who)[0].status(hello(uid, gid)), 0)
+    check('a passed socket: another uid', connect_as(path, *who)[0].status(hello(uid + 1, gid)), EPERM)
+    os.kill(child, signal.SIGTERM)
+    check('ends', os.waitpid(child, 0)[1], 0)
+    check('and leaves the path, which is not its own', os.path.exists(path), True)
+    run.end()
+
+
+def try_passed_nonsense():
+    """What is passed is a socket of another kind, or doesn't listen."""
+    of_network = socket.create_server(('127.0.0.1', 0))
+    for passed in (of_network, socket.socket(socket.AF_UNIX), socket.socket(socket.AF_UNIX, socket.SOCK_SEQPACKET)):
+        child, end = passed_to_guard(passed, '--daemon', f'{TMP}/none'), time.monotonic() + PATIENCE
+        while not (ended := os.waitpid(child, os.WNOHANG))[0] and time.monotonic() < end:
+            time.sleep(0.02)
+        if not ended[0]:
+            os.kill(child, signal.SIGKILL)
+            ended = os.waitpid(child, 0)
+        check(f'passed: {passed}', os.waitstatus_to_exitcode(ended[1]), 3)
+
+
+def count_in_memory(pid, text):
+    found = 0
+    for line in open(f'/proc/{pid}/maps'):
+        where, rights = line.split()[:2]
+        low, high = (int(n, 16) for n in where.split('-'))
+        if 'r' in rights and '[v' not in line:
+            with open(f'/proc/{pid}/mem', 'rb', 0) as memory:
+                memory.seek(low)
+                try:
+                    found += memory.read(high - low).count(text)
+                except OSError:
+                    pass
+    return found
+
+
+def wait_for_replies(client):
+    """Until no more come, since they aren't read."""
+    there, before, end = bytearray(4), None, time.monotonic() + PATIENCE
+    while there != before and time.monotonic() < end:
+        before = bytes(there)
+        time.sleep(0.1)
+        fcntl.ioctl(client.sock, termios.FIONREAD, there)
+
+
+def try_secrets():
+    """No payload is left in the guard's memory."""
+    if not ROOT or IS_SANITIZED:
+        return skipped('payloads in memory: not root, or sanitized')
+    who, uid, gid = identity()
+    run = Running()
+    secret = b'GUARDSECRET' + os.urandom(24).hex().encode()
+    clients = []
+    for n in range(8):
+        client = run.one(*who) if n < 4 else run.one(4002, 4002, [])
+        own = (uid, gid) if n < 4 else (4002, 4002)
+        context = client.context(*own)
+        status, answer = client.ask(add(context, b'k%d' % n, secret * 400))
+        serial = struct.unpack('<I', answer)[0]
+        client.send(*[read_key(context, serial)] * 50)
+        wait_for_replies(client)
+        for _ in range(50):
+            assert secret in client.reply()[1]
+        clients.append(client)
+    for _ in range(50): # it may just have been about to wipe the last
+        time.sleep(0.1)
+        found = count_in_memory(run.guard.pid, secret[:30])
+        if found == 0:
+            break
+    check('secrets in memory', found, 0)
+    run.end()
+
+
+def try_few_files():
+    who, uid, gid = identity()
+    run = Running('--per-uid', '64',
+                  limit=lambda: resource.setrlimit(resource.RLIMIT_NOFILE, (24, 24)))
+    made = []
+    for _ in range(40):
+        made += run.many(1, *who)
+        made[-1].send(hello(uid, gid))
+    time.sleep(0.2)
+    cpu = ticks(run)
+    time.sleep(0.5)
+    check('few descriptors: no spinning',
+          ticks(run) - cpu <= 2, True)
+    served = 0
+    while made:
+        client = made.pop(0)
+        reply = client.reply()
+        served += reply != 'end' and reply[0] == 0
+        client.close()
+    check('few descriptors: all are served in the end', served, 40)
+    run.end()
+
+
+def main():
+    for name, function in list(globals().items()):
+        if not name.startswith('try_') or ONLY not in name:
+            continue
+        try:
+            function()
+        except Exception as error:
+            check(name, repr(error), 'no exception')
+    for run in ALL:
+        for process in (run.guard, run.daemon):
+            if process:
+                process.kill()
+                process.wait()
+    shutil.rmtree(TMP)
+    print(f'guard: {passed} passed, {failed} failed')
+    sys.exit(failed != 0)
+
+
+main()

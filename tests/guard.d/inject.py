@@ -1,0 +1,82 @@
+#!/usr/bin/env python3
+"""inject.py GUARD KEYRETAIND: system calls of the guard that fail now and then, by strace; a refused and a good HELLO, sent
+byte by byte, are answered all the same. Without the guard's own filter, in which a call that strace makes fail has the
+number -1."""
+
+import fcntl
+import os
+import shutil
+import signal
+import socket
+import struct
+import subprocess
+import sys
+import tempfile
+import termios
+import time
+
+GUARD, DAEMON = sys.argv[1:3]
+FAULTS = [*(f"accept4:error={error}:when=1..3" for error in ("EAGAIN", "ENOMEM", "EMFILE", "ENFILE", "ECONNABORTED", "ENOBUFS")),
+          "connect:error=EAGAIN:when=1..3", "socket:error=EMFILE:when=2..3",
+          *(f"recvfrom:error={error}:when=2+3" for error in ("EINTR", "EAGAIN", "ENOBUFS")),
+          *(f"sendto:error={error}:when=1..3" for error in ("EAGAIN", "EINTR", "ENOBUFS")),
+          "getsockopt:error=ENOPROTOOPT:when=2..3", "epoll_wait:error=EINTR:when=2..4"]
+passed = failed = 0
+folder = tempfile.mkdtemp(prefix="keyretain.", dir="/tmp")
+
+
+def hello(uid):
+    return struct.pack("<IHHIIII", 20, 1, 256, 0, uid, os.getegid(), 0)
+
+
+def ask_twice(path):
+    """The statuses of a foreign HELLO's reply and of an own one's."""
+    with socket.socket(socket.AF_UNIX) as client:
+        client.settimeout(60)
+        client.connect(path)
+        waiting, end = bytearray(4), time.monotonic() + 60
+        for byte in hello(os.geteuid() + 1) + hello(os.geteuid()):
+            client.sendall(bytes([byte]))
+            while time.monotonic() < end:  # until it has been read
+                fcntl.ioctl(client, termios.TIOCOUTQ, waiting)
+                if waiting == b"\0\0\0\0":
+                    break
+        reply = b""
+        while len(reply) < 20 and (piece := client.recv(100)):
+            reply += piece
+        return struct.unpack("<I", reply[4:8]) + struct.unpack("<I", reply[12:16])
+
+
+def statuses(fault):
+    path = f"{folder}/public"
+    words = ["strace", "-f", "-qq", "-o", f"{folder}/trace", "-e", f"trace={fault.split(':')[0]}", "-e", f"inject={fault}",
+             GUARD, "--no-filter", "--listen", path, "--daemon", f"{folder}/private"]
+    with subprocess.Popen(words, stdout=subprocess.PIPE, stderr=subprocess.DEVNULL) as traced:
+        traced.stdout.readline()
+        try:
+            got = ask_twice(path)
+            return got if "(INJECTED)" in open(f"{folder}/trace", encoding="utf-8").read() else "no call failed"
+        except OSError as error:
+            return repr(error)
+        finally:
+            guards = open(f"/proc/{traced.pid}/task/{traced.pid}/children", encoding="ascii").read().split()
+            for guard in guards:
+                os.kill(int(guard), signal.SIGTERM)
+            if not guards:
+                traced.kill()
+
+
+with subprocess.Popen([DAEMON, "--socket", f"{folder}/private", "--lanes", "16"], stdout=subprocess.PIPE,
+                      stderr=subprocess.DEVNULL) as daemon:
+    daemon.stdout.readline()
+    for one in FAULTS:
+        got = statuses(one)
+        if got == (1, 0):
+            passed += 1
+        else:
+            failed += 1
+            print(f"fails: {one}: {got}", flush=True)
+    daemon.kill()
+shutil.rmtree(folder)
+print(f"inject: {passed} passed, {failed} failed")
+sys.exit(failed != 0)
