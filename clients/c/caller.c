@@ -1,4 +1,8 @@
-/* caller.c: the connection of a process, the contexts of its threads, and its session. */
+/* caller.c: the connections of a process, the contexts of its threads, and its session.
+ *
+ * LOCKS. `process.lock` is held for a few lines at a time, and over nothing that waits for the daemon: fork(2) takes
+ * it, and the end of a thread. Who asks has the seat of its identity to itself (`is_busy`) without holding a lock. The
+ * child of a fork therefore finds all of `process` whole, and its seats free: no other thread of it is left. */
 #define _GNU_SOURCE
 #include "caller.h"
 
@@ -6,80 +10,147 @@
 #include <pthread.h>
 #include <stdlib.h>
 #include <string.h>
+#include <sys/stat.h>
+#include <time.h>
 #include <unistd.h>
+#if defined __has_include
+#if __has_include(<sys/single_threaded.h>)
+#include <sys/single_threaded.h>
+#define KEYRETAIN_HAS_SINGLE_THREADED
+#endif
+#endif
 
+#include "connection.h"
+#include "holder.h"
+#include "serials.h"
 #include "session.h"
 #include "wire.h"
 
-/* Identities that are remembered: seteuid(2) and back must not lose the process keyring. */
-enum { SEATS = 4 };
+/* Identities that are remembered: seteuid(2) and back must not lose the process keyring. Each takes a lane. */
+enum { SEATS = 4, CONTEXTS = 64 };
 
-/* Where no lane is free the daemon accepts nothing, and HELLO would wait for ever. */
-enum { HELLO_MILLISECONDS = 10000 };
-
-/* The context of the process's first thread, under one identity. */
-struct seat {
-    struct kr_identity identity;
-    uint32_t context;
-    bool lost_session;
-    unsigned long turn; /* when it was last used */
-};
+/* A call ends after so long; one that finds no free lane, where the daemon accepts nothing, sooner. */
+enum { CALL_MILLISECONDS = 30000, OPENING_MILLISECONDS = 10000 };
 
 enum carried { UNKNOWN, CARRIED, NOT_CARRIED };
 
-/* Of the process. The lock is held over each ask, and over fork(2). */
+/* One identity. Who has it busy uses all of it; under the lock others see `is_busy`, `identity` and `ended`. */
+struct seat {
+    struct kr_identity identity;
+    bool is_taken, is_busy;
+    unsigned long turn;    /* when it was last used */
+    pthread_cond_t is_free;
+    struct kr *connection; /* NULL before the first call, after fork(2), and where it was lost */
+    unsigned age;          /* of the connection, no other's: the contexts that threads remember end with it */
+    uint32_t context;      /* of the first thread; 0 for none */
+    bool lost_session;
+    uint32_t ended[CONTEXTS]; /* contexts of threads that have ended, which the daemon wasn't told yet */
+    unsigned ended_count;
+    enum carried restrict_keyring, move;
+    int32_t daemon; /* its pid, 0 before the first */
+    bool is_own;    /* it is the user's own daemon */
+    struct serials serials;
+};
+
 static struct {
     pthread_mutex_t lock;
-    struct kr *connection;
-    pid_t owner;  /* of the connection */
-    unsigned age; /* of the connection: the contexts that threads remember end with it */
     struct seat seats[SEATS];
-    unsigned used;
+    unsigned last_age;
     unsigned long turn;
     struct kr_session *session; /* that new contexts join */
-    struct kr *holder;          /* what keeps the session over execve(2) */
-    enum carried restrict_keyring, move;
+    struct kr_holder holder;    /* what keeps it */
     pthread_key_t end_of_thread;
     bool has_end_of_thread;
-} process = { .lock = PTHREAD_MUTEX_INITIALIZER };
+} process = { .lock = PTHREAD_MUTEX_INITIALIZER, .holder = { .descriptor = -1 } };
 
-/* Of this thread. Its context is valid while `age` is that of the connection. */
-static __thread struct {
-    unsigned age, seat;
-    uint32_t root, context; /* the seat's context when its own was made, and its own */
+/* A context of a thread's own. It is valid while `age` is that of the seat's connection. */
+struct place {
+    unsigned age;
+    uint32_t context;
     bool lost_session;
+};
+
+/* Of this thread. */
+static __thread struct {
+    enum { UNSEEN, FIRST, OTHER } kind;
+    struct place places[SEATS];
     struct kr_session *session; /* that it has joined itself, where it isn't the first thread */
 } thread;
 
-static bool is_first_thread(void) { return gettid() == getpid(); }
+static bool is_first_thread(void) {
+    if (thread.kind == UNSEEN) thread.kind = gettid() == getpid() ? FIRST : OTHER;
+    return thread.kind == FIRST;
+}
 
-static bool has_context(void) { return process.connection && thread.age == process.age; }
+static void lock(void) { pthread_mutex_lock(&process.lock); }
+
+static void unlock(void) {
+    int error = errno;
+    pthread_mutex_unlock(&process.lock);
+    errno = error;
+}
+
+/* ---- What is done under the lock ---- */
+
+static void close_connection(struct seat *seat) {
+    struct kr *connection = seat->connection;
+    seat->connection = NULL;
+    seat->context = 0;
+    seat->ended_count = 0;
+    kr_close(connection);
+}
+
+/* Tells the daemon of a context whose thread has ended, without waiting for anything; later where it takes nothing now
+ * or another thread asks. */
+static void end_context(struct seat *seat, uint32_t context) {
+    bool is_told = !seat->is_busy && kr_tell(seat->connection, KR_EXIT, context);
+    if (!is_told && seat->ended_count < CONTEXTS) seat->ended[seat->ended_count++] = context;
+}
+
+/* The same of those that came while the seat was busy. */
+static void end_contexts(struct seat *seat) {
+    while (seat->connection && seat->ended_count > 0 &&
+           kr_tell(seat->connection, KR_EXIT, seat->ended[seat->ended_count - 1]))
+        seat->ended_count--;
+}
 
 /* ---- Fork, and the ends of threads ---- */
 
-static void before_fork(void) { pthread_mutex_lock(&process.lock); }
+static void begin_waiting(void) {
+    pthread_condattr_t monotonic;
+    pthread_condattr_init(&monotonic);
+    pthread_condattr_setclock(&monotonic, CLOCK_MONOTONIC);
+    for (int i = 0; i < SEATS; i++) pthread_cond_init(&process.seats[i].is_free, &monotonic);
+    pthread_condattr_destroy(&monotonic);
+}
 
-static void after_fork(void) { pthread_mutex_unlock(&process.lock); }
-
-/* The child lets go of its copy of the connection, which would keep the parent's from ending. Of its threads only this
- * one is left, whose session is the child's. */
+/* The child lets go of its copies of the connections, which would keep the parent's from ending. Of its threads only
+ * this one is left, whose session is the child's. */
 static void in_child(void) {
+    pthread_mutex_init(&process.lock, NULL);
+    begin_waiting();
+    for (int i = 0; i < SEATS; i++) {
+        close_connection(&process.seats[i]);
+        process.seats[i].is_busy = false;
+    }
+    if (process.has_end_of_thread) pthread_setspecific(process.end_of_thread, NULL);
+    thread.kind = FIRST;
     if (thread.session) {
         free(process.session);
         process.session = thread.session;
         thread.session = NULL;
     }
-    kr_close(process.connection);
-    process.connection = NULL;
-    pthread_mutex_unlock(&process.lock);
 }
 
 static void at_end_of_thread(void *unused) {
     (void)unused;
-    pthread_mutex_lock(&process.lock);
-    if (has_context() && process.owner == getpid() && !kr_is_broken(process.connection))
-        kr_exit(process.connection, thread.context);
-    pthread_mutex_unlock(&process.lock);
+    lock();
+    for (int i = 0; i < SEATS; i++) {
+        struct seat *seat = &process.seats[i];
+        if (seat->connection && thread.places[i].age == seat->age) end_context(seat, thread.places[i].context);
+        thread.places[i].age = 0;
+    }
+    unlock();
     free(thread.session);
     thread.session = NULL;
 }
@@ -91,205 +162,339 @@ __attribute__((constructor)) static void begin(void) {
         free(process.session);
         process.session = NULL;
     }
-    pthread_atfork(before_fork, after_fork, in_child);
+    begin_waiting();
+    pthread_atfork(lock, unlock, in_child);
     process.has_end_of_thread = pthread_key_create(&process.end_of_thread, at_end_of_thread) == 0;
 }
 
-/* Where the library is unloaded no thread may come back to its code. Where the process ends instead, another thread may
- * be in the midst of a call, which is let be. */
+/* Where the library is unloaded no thread may come back to its code. Where the process ends instead, another thread
+ * may be in the midst of a call, which is let be. */
 __attribute__((destructor)) static void end(void) {
     if (pthread_mutex_trylock(&process.lock) != 0) return;
     if (process.has_end_of_thread) pthread_key_delete(process.end_of_thread);
     process.has_end_of_thread = false;
-    kr_close(process.connection);
-    process.connection = NULL;
-    pthread_mutex_unlock(&process.lock);
+    for (int i = 0; i < SEATS; i++)
+        if (!process.seats[i].is_busy) close_connection(&process.seats[i]);
+    unlock();
 }
 
-/* ---- The connection ---- */
+/* ---- Seats ---- */
 
-static int set_no_daemon(void) {
-    if (errno != ENOMEM && errno != EMFILE && errno != ENFILE) errno = ENOSYS;
-    return -1;
-}
-
-/* Opens one that waits for HELLO's answer only so long. */
-static struct kr *open_patiently(void) {
-    struct kr *connection = kr_open(NULL);
-    if (connection && kr_set_patience(connection, HELLO_MILLISECONDS) == 0) return connection;
-    kr_close(connection);
-    set_no_daemon();
+static struct seat *find_seat(const struct kr_identity *identity) {
+    for (int i = 0; i < SEATS; i++)
+        if (process.seats[i].is_taken && memcmp(&process.seats[i].identity, identity, sizeof *identity) == 0)
+            return &process.seats[i];
     return NULL;
 }
 
-static int open_connection(void) {
-    process.connection = open_patiently();
-    if (!process.connection) return -1;
-    process.owner = getpid();
-    process.age++;
-    process.used = 0;
-    process.restrict_keyring = process.move = UNKNOWN;
+/* A free place, or that of the identity which was not used longest. The first stays, to which a server comes back from
+ * its clients' identities. */
+static struct seat *find_place(void) {
+    struct seat *oldest = &process.seats[1];
+    for (int i = 0; i < SEATS; i++) {
+        struct seat *seat = &process.seats[i];
+        if (!seat->is_taken) return seat;
+        if (i > 1 && seat->turn < oldest->turn) oldest = seat;
+    }
+    return oldest;
+}
+
+static void clear_seat(struct seat *seat) {
+    close_connection(seat);
+    serials_clear(&seat->serials);
+    seat->is_taken = false;
+    seat->daemon = 0;
+    seat->is_own = false;
+}
+
+/* Ends what belongs to identities that this process can't have again. */
+static void end_former(void) {
+    for (int i = 0; i < SEATS; i++) {
+        struct seat *seat = &process.seats[i];
+        if (seat->is_taken && !seat->is_busy && !kr_may_be_again(&seat->identity)) clear_seat(seat);
+    }
+}
+
+/* The seat of this identity, with what another one had there ended. It may be busy. */
+static struct seat *have_seat(const struct kr_identity *identity) {
+    struct seat *seat = find_seat(identity);
+    if (seat && seat->turn == process.turn) return seat; /* the same as at the last call */
+    end_former();
+    if (seat) return seat;
+    seat = find_place();
+    if (seat->is_busy) return seat;
+    clear_seat(seat);
+    seat->identity = *identity;
+    seat->is_taken = true;
+    return seat;
+}
+
+static bool is_seat_of(const struct seat *seat, const struct kr_identity *identity) {
+    return seat->is_taken && memcmp(&seat->identity, identity, sizeof *identity) == 0;
+}
+
+/* Takes the seat of this identity to oneself, by the deadline. NULL with ETIMEDOUT. */
+static struct seat *take_seat(const struct kr_identity *identity, int64_t deadline) {
+    const struct timespec end = { .tv_sec = deadline / 1000, .tv_nsec = deadline % 1000 * 1000000 };
+    int error = 0;
+    lock();
+    struct seat *seat = have_seat(identity);
+    while (error == 0 && (seat->is_busy || !is_seat_of(seat, identity))) {
+        pthread_cond_t *waited = &seat->is_free;
+        error = pthread_cond_timedwait(waited, &process.lock, &end);
+        seat = have_seat(identity);
+        if (waited != &seat->is_free) pthread_cond_signal(waited); /* another may want that one */
+    }
+    if (error == 0) {
+        seat->is_busy = true;
+        seat->turn = ++process.turn;
+    }
+    unlock();
+    if (error == 0) return seat;
+    errno = error;
+    return NULL;
+}
+
+static void free_seat(struct seat *seat) {
+    lock();
+    seat->is_busy = false;
+    end_contexts(seat);
+    pthread_cond_signal(&seat->is_free);
+    unlock();
+}
+
+/* ---- The connection of a seat that is busy ---- */
+
+static int set_no_daemon(void) {
+    switch (errno) {
+    case ENOMEM:
+    case EMFILE:
+    case ENFILE:
+    case EACCES:
+    case ETIMEDOUT: return -1;
+    default: errno = ENOSYS; return -1;
+    }
+}
+
+static void drop_connection(struct seat *seat) {
+    int error = errno;
+    lock();
+    close_connection(seat);
+    unlock();
+    errno = error;
+}
+
+static int64_t opening_deadline(int64_t deadline) {
+    int64_t end = kr_now() + OPENING_MILLISECONDS;
+    return end < deadline ? end : deadline;
+}
+
+/* Whom this seat asks from now on. What a user's own daemon was told isn't told to the system's in its place. Serials
+ * of another daemon than the last one's mean nothing: it is known by its process. */
+static int meet_daemon(struct seat *seat) {
+    struct kr *connection = seat->connection;
+    bool is_other = seat->daemon != 0 && connection->peer_pid != seat->daemon;
+    if (seat->is_own && connection->place == KR_SYSTEM) {
+        errno = ENOSYS;
+        return -1;
+    }
+    if (is_other && serials_begin_anew(&seat->serials) < 0) return -1;
+    seat->daemon = connection->peer_pid;
+    seat->is_own = connection->place == KR_OWN;
+    seat->restrict_keyring = seat->move = UNKNOWN;
     return 0;
 }
 
-/* The process's connection: a new one after fork(2), after the daemon ended it, and after the program closed it. */
-static int have_connection(void) {
-    if (process.connection && (process.owner != getpid() || kr_descriptor(process.connection) < 0 ||
-                               kr_is_broken(process.connection))) {
-        kr_close(process.connection);
-        process.connection = NULL;
-    }
-    return process.connection ? 0 : open_connection();
+/* The socket is made under the lock, so that a child of fork(2) knows of it. */
+static int open_connection(struct seat *seat, int64_t deadline) {
+    lock();
+    seat->connection = kr_prepare(NULL, 0, 0);
+    seat->age = ++process.last_age;
+    unlock();
+    if (!seat->connection) return set_no_daemon();
+    kr_set_deadline(seat->connection, opening_deadline(deadline));
+    kr_begin_call(seat->connection);
+    if (kr_connect(seat->connection) == 0 && meet_daemon(seat) == 0) return 0;
+    drop_connection(seat);
+    return set_no_daemon();
+}
+
+/* A new one after fork(2), after the daemon ended it, and after the program closed it. */
+static int have_connection(struct seat *seat, int64_t deadline) {
+    if (seat->connection && (kr_is_broken(seat->connection) || !kr_is_ours(seat->connection))) drop_connection(seat);
+    return seat->connection ? 0 : open_connection(seat, deadline);
 }
 
 /* ---- Contexts ---- */
 
 /* Enters a session in a new context. One whose serial isn't known is made where it isn't there. */
-static int enter_session(uint32_t context, const struct kr_session *session, bool *is_lost) {
-    *is_lost = false;
-    if (session->serial == 0) return kr_begin_session(process.connection, context, session->name) < 0 ? -1 : 0;
-    int entered = kr_enter_session(process.connection, context, session);
+static int enter_session(struct kr *connection, uint32_t context, const struct kr_session *session, bool *is_lost) {
+    int entered;
+    if (session->serial != 0)
+        entered = kr_enter_session(connection, context, session);
+    else
+        entered = kr_begin_session(connection, context, session->name) > 0 ? 0 : errno == EACCES ? 1 : -1;
     *is_lost = entered == 1;
     return entered < 0 ? -1 : 0;
 }
 
 /* Ends a context in which no session could be entered; errno stays. */
-static int abandon(uint32_t context) {
+static int abandon(struct kr *connection, uint32_t context) {
     int error = errno;
-    if (!kr_is_broken(process.connection)) kr_exit(process.connection, context);
+    if (!kr_is_broken(connection)) kr_exit(connection, context);
     errno = error;
     return -1;
 }
 
+/* A copy of the process's session, as another thread may change it. */
+static bool has_session(struct kr_session *session) {
+    lock();
+    bool has = process.session != NULL;
+    if (has) *session = *process.session;
+    unlock();
+    return has;
+}
+
 /* HELLO, and the session. */
-static int begin_seat(struct seat *seat, const struct kr_identity *identity) {
-    int64_t context = kr_hello_as(process.connection, identity);
+static int begin_seat(struct seat *seat) {
+    struct kr_session session;
+    int64_t context = kr_hello_as(seat->connection, &seat->identity);
     if (context < 0) return -1;
-    kr_set_patience(process.connection, -1);
-    *seat = (struct seat){ .identity = *identity, .context = (uint32_t)context };
-    if (!process.session || enter_session(seat->context, process.session, &seat->lost_session) == 0) return 0;
-    return abandon(seat->context);
-}
-
-static unsigned find_seat(const struct kr_identity *identity) {
-    unsigned seat = 0;
-    while (seat < process.used && memcmp(&process.seats[seat].identity, identity, sizeof *identity) != 0) seat++;
-    return seat;
-}
-
-/* The place for another seat. Where all are taken, that of the one which was not used longest: its context ends. The
- * first stays, to which a server comes back from its clients' identities. */
-static int free_seat(void) {
-    unsigned oldest = 1;
-    if (process.used < SEATS) return (int)process.used;
-    for (unsigned i = 2; i < SEATS; i++)
-        if (process.seats[i].turn < process.seats[oldest].turn) oldest = i;
-    return kr_exit(process.connection, process.seats[oldest].context) < 0 ? -1 : (int)oldest;
-}
-
-/* The seat of this identity. -1 with errno. */
-static int have_seat(void) {
-    struct kr_identity identity;
-    struct seat made;
-    kr_own_identity(&identity);
-    int seat = (int)find_seat(&identity);
-    if (seat == (int)process.used) {
-        seat = free_seat();
-        if (seat < 0 || begin_seat(&made, &identity) < 0) return -1;
-        process.seats[seat] = made;
-        if (seat == (int)process.used) process.used++;
-    }
-    process.seats[seat].turn = ++process.turn;
-    return seat;
+    seat->lost_session = false;
+    if (has_session(&session) &&
+        enter_session(seat->connection, (uint32_t)context, &session, &seat->lost_session) < 0)
+        return abandon(seat->connection, (uint32_t)context);
+    seat->context = (uint32_t)context;
+    return 0;
 }
 
 /* A context of a thread that isn't the first: it shares the process keyring, and has a thread keyring of its own. */
-static int begin_thread(const struct seat *seat) {
-    if (thread.age == process.age) kr_exit(process.connection, thread.context);
-    thread.age = 0;
-    int64_t context = kr_thread(process.connection, seat->context);
+static int begin_thread(const struct seat *seat, struct place *place) {
+    int64_t context = kr_thread(seat->connection, seat->context);
     if (context < 0) {
         if (errno == EINVAL) errno = EDQUOT; /* the client has as many contexts as it may */
         return -1;
     }
-    thread.context = (uint32_t)context;
-    thread.lost_session = seat->lost_session;
+    bool is_lost = seat->lost_session;
+    if (thread.session && enter_session(seat->connection, (uint32_t)context, thread.session, &is_lost) < 0)
+        return abandon(seat->connection, (uint32_t)context);
+    *place = (struct place){ seat->age, (uint32_t)context, is_lost };
     if (process.has_end_of_thread) pthread_setspecific(process.end_of_thread, &process);
-    if (!thread.session || enter_session(thread.context, thread.session, &thread.lost_session) == 0) return 0;
-    return abandon(thread.context);
+    return 0;
 }
 
-/* The context of this thread under its identity. */
-static int enter_context(void) {
-    if (have_connection() < 0) return -1;
-    int number = have_seat();
-    if (number < 0) return -1;
-    const struct seat *seat = &process.seats[number];
-    if (has_context() && thread.seat == (unsigned)number && thread.root == seat->context) return 0;
-    if (is_first_thread()) {
-        thread.context = seat->context;
-        thread.lost_session = seat->lost_session;
-    } else if (begin_thread(seat) < 0) {
-        return -1;
+static int enter_context(struct caller *caller) {
+    struct seat *seat = caller->seat;
+    struct place *place = &thread.places[seat - process.seats];
+    if (have_connection(seat, caller->deadline) < 0) return -1;
+    if (seat->context == 0) {
+        kr_set_deadline(seat->connection, opening_deadline(caller->deadline));
+        if (begin_seat(seat) < 0) return -1;
     }
-    thread.age = process.age;
-    thread.seat = (unsigned)number;
-    thread.root = seat->context;
+    kr_set_deadline(seat->connection, caller->deadline);
+    caller->connection = seat->connection;
+    if (place->age != seat->age && is_first_thread()) {
+        caller->context = seat->context;
+        caller->lost_session = seat->lost_session;
+        return 0;
+    }
+    if (place->age != seat->age && begin_thread(seat, place) < 0) return -1;
+    caller->context = place->context;
+    caller->lost_session = place->lost_session;
     return 0;
 }
 
 bool caller_enter(struct caller *caller) {
-    pthread_mutex_lock(&process.lock);
-    if (enter_context() < 0) {
-        int error = errno;
-        pthread_mutex_unlock(&process.lock);
-        errno = error;
-        return false;
-    }
-    *caller = (struct caller){ process.connection, thread.context, thread.lost_session };
-    return true;
+    struct kr_identity identity;
+    *caller = (struct caller){ .deadline = kr_now() + CALL_MILLISECONDS };
+    pthread_setcancelstate(PTHREAD_CANCEL_DISABLE, &caller->cancelling);
+    kr_own_identity(&identity);
+    caller->seat = take_seat(&identity, caller->deadline);
+    if (caller->seat && enter_context(caller) == 0) return true;
+    caller_leave(caller, -1);
+    return false;
 }
 
-void caller_leave(void) {
+/* A context that the daemon doesn't know is no error of the program's: the next call begins anew. */
+void caller_leave(struct caller *caller, long result) {
     int error = errno;
-    pthread_mutex_unlock(&process.lock);
+    if (caller->seat && result < 0 && error == ESRCH) drop_connection(caller->seat);
+    if (caller->seat) free_seat(caller->seat);
+    pthread_setcancelstate(caller->cancelling, NULL);
     errno = error;
 }
 
-/* ---- Sessions ---- */
+/* ---- Serials ---- */
 
-/* A connection that is kept open over execve(2) and holds the session. */
-static struct kr *open_holder(const struct kr_session *session) {
-    struct kr_identity identity;
-    struct kr *holder = open_patiently();
-    if (!holder) return NULL;
-    kr_own_identity(&identity);
-    int64_t context = kr_hello_as(holder, &identity);
-    int entered = context < 0 ? -1 : kr_enter_session(holder, (uint32_t)context, session);
-    if (entered > 0) errno = EKEYREVOKED;
-    if (entered == 0 && kr_keep_over_exec(holder) == 0) return holder;
-    kr_close(holder);
-    return NULL;
+bool caller_is_stale(const struct caller *caller, int32_t serial) {
+    return serials_is_stale(&caller->seat->serials, serial);
 }
 
-/* The session of the process: what it forks and executes joins it by the environment's word. A process that closed all
- * its descriptors has no holder left; kr_close sees that. */
-static int become_session(struct kr_session *session) {
-    struct kr *holder = open_holder(session);
-    if (!holder || kr_export_session(session) < 0) {
-        kr_close(holder);
+void caller_knows(struct caller *caller, int32_t serial) { serials_add(&caller->seat->serials, serial); }
+
+bool caller_has_stale(const struct caller *caller) { return caller->seat->serials.stale > 0; }
+
+/* ---- Sessions ---- */
+
+/* Whether no other thread may be in getenv(3) while this one is in setenv(3). The C library knows it of a process that
+ * never had another; else each thread is a folder, which counts as a link of the folder that they are in. */
+static bool is_one_thread(void) {
+    struct stat status;
+#ifdef KEYRETAIN_HAS_SINGLE_THREADED
+    if (__libc_single_threaded) return true;
+#endif
+    return stat("/proc/self/task", &status) == 0 && status.st_nlink == 3;
+}
+
+static void set_session(struct kr_session *session, const struct kr_holder *holder) {
+    lock();
+    struct kr_session *old_session = process.session;
+    struct kr_holder old_holder = process.holder;
+    process.session = session;
+    process.holder = *holder;
+    unlock();
+    kr_close_holder(&old_holder);
+    free(old_session);
+}
+
+/* Enters a session that was made just now. EKEYREVOKED where it is gone again. */
+static int enter_made(struct caller *caller, const struct kr_session *session, bool *is_lost) {
+    int entered = kr_enter_session(caller->connection, caller->context, session);
+    if (entered >= 0) *is_lost = entered == 1;
+    if (entered == 1) errno = EKEYREVOKED;
+    return entered == 0 ? 0 : -1;
+}
+
+/* The session of the process: a keeper makes and holds it, and then this context enters it. What the process executes
+ * joins it by the environment's word. */
+static int become_session(struct caller *caller, struct kr_session *session) {
+    struct kr_holder holder;
+    enum kr_refusal why;
+    if (kr_start_keeper(&holder, session, caller->connection->address.sun_path, false, caller->deadline, &why) < 0)
+        return why == KR_REFUSED ? -1 : set_no_daemon();
+    if (enter_made(caller, session, &caller->seat->lost_session) < 0 ||
+        (is_one_thread() && kr_export_session(session) < 0)) {
+        kr_close_holder(&holder);
         return -1;
     }
-    kr_close(process.holder);
-    process.holder = holder;
-    free(process.session);
-    process.session = session;
-    process.seats[thread.seat].lost_session = false;
+    set_session(session, &holder);
     return 0;
 }
 
-static int keep_session(struct kr_session *session) {
-    if (is_first_thread()) return become_session(session);
+/* The session of this thread alone, which ends with it. It is tried in a context of its own first, as a refused one
+ * must change nothing. */
+static int join_for_thread(struct caller *caller, struct kr_session *session) {
+    struct kr *connection = caller->connection;
+    int64_t trial = kr_thread(connection, caller->context);
+    if (trial < 0) {
+        if (errno == EINVAL) errno = EDQUOT;
+        return -1;
+    }
+    session->serial = kr_begin_session(connection, (uint32_t)trial, session->name);
+    bool *is_lost = &thread.places[caller->seat - process.seats].lost_session;
+    int entered = session->serial < 0 ? -1 : enter_made(caller, session, is_lost);
+    abandon(connection, (uint32_t)trial);
+    if (entered < 0) return -1;
     free(thread.session);
     thread.session = session;
     return 0;
@@ -297,35 +502,24 @@ static int keep_session(struct kr_session *session) {
 
 int32_t caller_join(struct caller *caller, const char *name) {
     struct kr_session *session = calloc(1, sizeof *session);
-    int32_t ring = -1;
     if (!session) return -1;
-    if (name && strlen(name) < sizeof session->name)
-        strcpy(session->name, name);
-    else if (name)
-        errno = EINVAL;
-    else
-        kr_make_session_name(session);
-    if (*session->name) ring = kr_begin_session(caller->connection, caller->context, session->name);
-    session->serial = ring;
-    if (ring < 0 || keep_session(session) < 0) {
-        free(session);
-        return -1;
-    }
-    thread.lost_session = false;
-    return ring;
+    bool is_joined = kr_name_session(session, name) == 0 &&
+                     (is_first_thread() ? become_session(caller, session) : join_for_thread(caller, session)) == 0;
+    if (is_joined) return session->serial;
+    free(session);
+    return -1;
 }
 
 /* ---- What the daemon carries ---- */
 
 /* An ask that is EINVAL where it is carried. A daemon that doesn't carry it ends the connection, and with that go the
  * process and thread keyrings: so this is asked on a connection of its own. */
-static enum carried try_operation(enum kr_operation operation) {
-    struct kr_identity identity;
-    struct kr *connection = open_patiently();
+static enum carried try_operation(const struct caller *caller, enum kr_operation operation) {
+    struct kr *connection = kr_open_with(NULL, 0, 0, OPENING_MILLISECONDS);
     enum carried found = UNKNOWN;
     if (!connection) return UNKNOWN;
-    kr_own_identity(&identity);
-    int64_t context = kr_hello_as(connection, &identity);
+    kr_set_deadline(connection, caller->deadline);
+    int64_t context = kr_hello_as(connection, &caller->seat->identity);
     if (context >= 0) {
         if (operation == KR_MOVE)
             kr_move(connection, (uint32_t)context, 0, 0, 0, 0);
@@ -337,16 +531,15 @@ static enum carried try_operation(enum kr_operation operation) {
     return found;
 }
 
-static bool carries(enum carried *known, enum kr_operation operation) {
-    if (*known == UNKNOWN) *known = try_operation(operation);
+/* Both are older than version 2 of the frames. */
+static bool carries(const struct caller *caller, enum carried *known, enum kr_operation operation) {
+    if (kr_frame_version(caller->connection) >= 2) return true;
+    if (*known == UNKNOWN) *known = try_operation(caller, operation);
     return *known == CARRIED;
 }
 
-/* Both are older than version 2 of the frames. */
 bool caller_can_restrict(struct caller *caller) {
-    return kr_frame_version(caller->connection) >= 2 || carries(&process.restrict_keyring, KR_RESTRICT_KEYRING);
+    return carries(caller, &caller->seat->restrict_keyring, KR_RESTRICT_KEYRING);
 }
 
-bool caller_can_move(struct caller *caller) {
-    return kr_frame_version(caller->connection) >= 2 || carries(&process.move, KR_MOVE);
-}
+bool caller_can_move(struct caller *caller) { return carries(caller, &caller->seat->move, KR_MOVE); }

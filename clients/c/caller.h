@@ -1,5 +1,5 @@
-/* caller.h: what a kernel knows about its caller, and a client must say: one connection for a process, one context for
- * a thread, and a session that outlives the process. */
+/* caller.h: what a kernel knows about its caller, and a client must say: one connection for each identity that a
+ * process takes, one context for a thread, and a session that outlives the process. */
 #ifndef KEYRETAIN_CALLER_H
 #define KEYRETAIN_CALLER_H
 
@@ -8,26 +8,43 @@
 
 #include "keyretain.h"
 
+struct seat;
+
 /* Who asks: from caller_enter to caller_leave. */
 struct caller {
     struct kr *connection;
     uint32_t context;
     bool lost_session; /* the session that this thread should have was revoked, or nobody holds it any more */
+    struct seat *seat; /* the identity's, which this thread alone uses until it leaves */
+    int64_t deadline;  /* of the call */
+    int cancelling;    /* what pthread_setcancelstate(3) goes back to */
 };
 
-/* Finds the context of this thread, and takes the lock under which a process asks. False with errno where there is
- * none: ENOSYS where no daemon is there, as a kernel without keys says; EDQUOT for the 65th context of a process;
- * ETIMEDOUT where the daemon has no lane free; ECONNRESET where it ends the connection at once. Then the lock isn't
- * held, and caller_leave must not be called. */
+/* Finds the context of this thread under its identity, waits for its turn, and lets no one cancel it. False with errno
+ * where there is none: ENOSYS where no daemon is there, as a kernel without keys says; EACCES where it may not be
+ * asked; EDQUOT for the 65th context of an identity; ETIMEDOUT where the daemon has no lane free; ECONNRESET where it
+ * ends the connection at once. Then caller_leave must not be called. */
 bool caller_enter(struct caller *caller);
-void caller_leave(void);
+
+/* Ends the turn, with what the call came to: -1 with errno for an error. */
+void caller_leave(struct caller *caller, long result);
 
 /* Joins the session of this name, or one of its own for NULL, for this thread; from the first thread also for what the
- * process forks and executes from then on. Answers the serial of its keyring, or -1 with errno. */
+ * process forks from then on, and, where that is its one thread, for what it executes. Answers the serial of its
+ * keyring, or -1 with errno. */
 int32_t caller_join(struct caller *caller, const char *name);
 
 /* Whether the daemon carries RESTRICT_KEYRING and MOVE. */
 bool caller_can_restrict(struct caller *caller);
 bool caller_can_move(struct caller *caller);
+
+/* Whether a serial was told by a daemon that is gone, and by this one not yet. */
+bool caller_is_stale(const struct caller *caller, int32_t serial);
+
+/* The daemon has told a serial. */
+void caller_knows(struct caller *caller, int32_t serial);
+
+/* Whether there are serials of a daemon that is gone. */
+bool caller_has_stale(const struct caller *caller);
 
 #endif

@@ -2,10 +2,55 @@
 #ifndef KEYRETAIN_CONNECTION_H
 #define KEYRETAIN_CONNECTION_H
 
+#include <stdbool.h>
+#include <stdint.h>
+#include <sys/socket.h>
+#include <sys/types.h>
+#include <sys/un.h>
+
 #include "keyretain.h"
+#include "place.h"
 #include "wire.h"
 
-enum { KR_DEFAULT_PATH_ROOM = 108 };
+/* Milliseconds of the monotonic clock; the moment that never comes. */
+#define KR_NEVER INT64_MAX
+
+/* What was sent and received: in no core file, and in no child of fork(2), which has zeros in its place. So `is_here`
+ * is true in the process that made the connection alone. */
+struct kr_memory {
+    bool is_here;
+    uint8_t out[KR_ASK_ROOM], in[KR_REPLY_ROOM];
+};
+
+/* The daemon answers each ask once, in order. So after a call that was interrupted its reply is still to come. Asks
+ * are numbered from 1 on, and in version 2 the number is the tag. `asked` is that of the last ask of which a byte was
+ * sent, `answered` that of the last reply. Replies up to `given_up` belong to calls that have ended; those behind it
+ * to asks that were sent ahead, or to the one call that waits. */
+struct kr {
+    int descriptor;
+    dev_t device;
+    ino_t inode; /* of the socket: a program may close every descriptor and have something else under the number */
+    pid_t owner; /* 0 where is_here tells */
+    enum kr_place place;
+    bool trusts_anybody;
+    uid_t peer_uid;
+    gid_t peer_gid;
+    pid_t peer_pid;
+    bool broken, interruptible;
+    int patience;     /* milliseconds, or -1 */
+    int64_t deadline; /* of the call that is being made */
+    int64_t until;    /* a moment by which all calls end, or KR_NEVER */
+    int waits[2];     /* milliseconds that the socket itself waits in send and recv; 0 is for ever */
+    int version;      /* of the frames: the newest, until a daemon has ended the connection for it */
+    bool is_version_known;
+    uint64_t asked, answered, given_up;
+    const struct kr_ask_form *ahead[KR_AHEAD_MAX]; /* of the asks sent ahead, by their number */
+    size_t out_start, out_end; /* the bytes of `out` that have not been sent */
+    size_t in_length;          /* the bytes of `in` that have come: whole replies and a part of one */
+    size_t taken;              /* how many of them are the last answer's frame */
+    struct sockaddr_un address;
+    struct kr_memory *memory;
+};
 
 /* Where the answer of an ask stands, and how long it is; the bytes stay until the next ask or kr_wipe. */
 struct kr_answer {
@@ -13,9 +58,40 @@ struct kr_answer {
     int64_t length;
 };
 
+/* ---- socket.c ---- */
+
+/* A connection whose socket isn't connected yet: no call waits in here. NULL with errno. */
+struct kr *kr_prepare(const char *path, int version, unsigned flags);
+
+/* Connects it by its deadline, and sees who listens; -1 with errno. Also anew, after kr_let_go. */
+int kr_connect(struct kr *connection);
+void kr_let_go(struct kr *connection);
+
+/* Whether the descriptor is still the socket that was opened here, by this process. */
+bool kr_is_ours(const struct kr *connection);
+
+/* What may be sent or received by the deadline, and -1 with errno. kr_receive_bytes waits for some. */
+int kr_flush(struct kr *connection);
+int kr_receive_bytes(struct kr *connection);
+int kr_break_off(struct kr *connection, int error);
+
+int64_t kr_now(void);
+
+/* Calls that are made from now on end by this moment, whatever their patience. */
+void kr_set_deadline(struct kr *connection, int64_t until);
+
+/* The deadline of a call that begins, and how many milliseconds it has left; -1 for ever. */
+void kr_begin_call(struct kr *connection);
+int kr_milliseconds_left(const struct kr *connection);
+
+/* ---- connection.c ---- */
+
 /* Makes one ask and waits for its reply. The length is -1 with errno where it is refused or the connection fails. */
 struct kr_answer kr_ask(struct kr *connection, enum kr_operation operation, uint32_t context,
                         const struct kr_field *fields);
+
+/* Makes an ask without fields, waits for nothing, and lets the reply be dropped. False where it couldn't be sent. */
+bool kr_tell(struct kr *connection, enum kr_operation operation, uint32_t context);
 
 /* Overwrites the last answer, which may have been a payload. */
 void kr_wipe(struct kr *connection);

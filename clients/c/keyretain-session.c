@@ -1,17 +1,19 @@
-/* keyretain-session [NAME] [-- CMD [ARG ..]]: runs a command in a session of keyretaind. See keyretain-session(1).
+/* keyretain-session [--join | NAME] [-- CMD [ARG ..]]: runs a command in a session of keyretaind. See
+ * keyretain-session(1).
  *
- * The connection that holds the session is left open for the command, which doesn't know it: so the session lasts as
- * long as the command and what it has started. */
+ * A keeper makes the session and holds it. The command, which doesn't know it, inherits the writing end of the pipe on
+ * which the keeper waits: so the session lasts as long as the command and what it has started. */
 #define _GNU_SOURCE
 #include <errno.h>
 #include <limits.h>
-#include <linux/keyctl.h>
+#include <stdbool.h>
 #include <stdio.h>
 #include <stdlib.h>
 #include <string.h>
 #include <unistd.h>
 
-#include "keyretain.h"
+#include "connection.h"
+#include "holder.h"
 #include "session.h"
 
 #ifndef KEYRETAIN_LIBRARY_FOLDER
@@ -24,7 +26,8 @@
 enum { REFUSED = 1, USAGE = 2, NO_CONNECTION = 3, NOT_EXECUTABLE = 126, NOT_FOUND = 127 };
 enum { PATIENCE_MILLISECONDS = 10000 };
 
-static const char usage[] = "usage: keyretain-session [NAME] [-- CMD [ARG ..]]\n";
+static const char usage[] = "usage: keyretain-session [NAME] [-- CMD [ARG ..]]\n"
+                            "       keyretain-session --join [-- CMD [ARG ..]]\n";
 
 static void fail(int status, const char *what) {
     fprintf(stderr, "keyretain-session: %s: %s\n", what, strerror(errno));
@@ -36,18 +39,23 @@ static void fail_ask(const struct kr *connection, const char *what) {
     fail(kr_is_broken(connection) || errno == ETIMEDOUT ? NO_CONNECTION : REFUSED, what);
 }
 
-/* The name, or NULL, and the command, or NULL for a shell. */
-static char **read_arguments(char **arguments, const char **name) {
-    *name = NULL;
-    if (*arguments && strcmp(*arguments, "--") != 0) *name = *arguments++;
-    if (*name && (**name == '-' || **name == '\0')) {
-        fputs(usage, stderr);
-        exit(USAGE);
-    }
-    if (!*arguments) return NULL;
-    if (strcmp(*arguments, "--") == 0 && arguments[1]) return arguments + 1;
+/* ---- Words ---- */
+
+static void refuse_words(void) {
     fputs(usage, stderr);
     exit(USAGE);
+}
+
+/* The name, or NULL, and the command, or NULL for a shell. */
+static char **read_arguments(char **arguments, const char **name, bool *joins) {
+    *joins = *arguments && strcmp(*arguments, "--join") == 0;
+    if (*joins) arguments++;
+    *name = NULL;
+    if (!*joins && *arguments && strcmp(*arguments, "--") != 0) *name = *arguments++;
+    if (*name && (**name == '-' || **name == '\0')) refuse_words();
+    if (!*arguments) return NULL;
+    if (strcmp(*arguments, "--") != 0 || !arguments[1]) refuse_words();
+    return arguments + 1;
 }
 
 static void answer_option(const char *word) {
@@ -60,13 +68,15 @@ static void answer_option(const char *word) {
     exit(fflush(stdout) == 0 ? 0 : NO_CONNECTION);
 }
 
+/* ---- What the command is given ---- */
+
 static void set_variable(const char *name, const char *value) {
     if (setenv(name, value, 1) < 0) fail(REFUSED, name);
 }
 
 /* What is run finds the same daemon, wherever it runs. */
 static void export_socket(const char *path) {
-    char whole[PATH_MAX + KR_SESSION_NAME_ROOM], folder[PATH_MAX];
+    char whole[PATH_MAX + KR_PATH_ROOM], folder[PATH_MAX];
     if (*path != '/' && getcwd(folder, sizeof folder)) {
         snprintf(whole, sizeof whole, "%s/%s", folder, path);
         path = whole;
@@ -74,42 +84,51 @@ static void export_socket(const char *path) {
     set_variable("KEYRETAIN_SOCKET", path);
 }
 
-/* Programs are to find our libkeyutils.so.1 before the system's. Without it they would use the kernel's keys, and
- * nothing would say so. */
+/* Programs are to find our libkeyutils.so.1 before the system's, wherever they run. Without it they would use the
+ * kernel's keys, and nothing would say so. */
 static void export_library(void) {
-    const char *folder = getenv("KEYRETAIN_LIBRARY_FOLDER"), *others = getenv("LD_LIBRARY_PATH");
-    char library[PATH_MAX], *folders;
-    if (!folder || !*folder) folder = KEYRETAIN_LIBRARY_FOLDER;
+    const char *named = getenv("KEYRETAIN_LIBRARY_FOLDER"), *others = getenv("LD_LIBRARY_PATH");
+    char library[PATH_MAX + 32], *folders;
+    if (!named || !*named) named = KEYRETAIN_LIBRARY_FOLDER;
+    char *folder = realpath(named, NULL);
+    if (!folder) fail(NO_CONNECTION, named);
     snprintf(library, sizeof library, "%s/libkeyutils.so.1", folder);
     if (access(library, R_OK) < 0) fail(NO_CONNECTION, library);
     if (!others) others = "";
     if (asprintf(&folders, "%s%s%s", folder, *others ? ":" : "", others) < 0) fail(REFUSED, "LD_LIBRARY_PATH");
     set_variable("LD_LIBRARY_PATH", folders);
     free(folders);
+    free(folder);
 }
 
-static void name_session(struct kr_session *session, const char *name) {
-    memset(session, 0, sizeof *session);
-    if (!name && kr_make_session_name(session) < 0) fail(REFUSED, "no random name");
-    if (name && strlen(name) >= sizeof session->name) {
-        errno = EINVAL;
-        fail(REFUSED, "the name");
-    }
-    if (name) strcpy(session->name, name);
+/* ---- Sessions ---- */
+
+/* A new session, or the one of this name. */
+static void begin(const char *name, const char *path, struct kr_session *session) {
+    struct kr_holder holder;
+    enum kr_refusal why;
+    if (kr_name_session(session, name) < 0) fail(REFUSED, name ? "the name" : "no random name");
+    if (kr_start_keeper(&holder, session, path, true, kr_now() + PATIENCE_MILLISECONDS, &why) == 0) return;
+    if (why == KR_REFUSED) fail(REFUSED, session->name);
+    fail(NO_CONNECTION, why == KR_NO_KEEPER && errno != ETIMEDOUT ? "keyretain-keeper" : path);
 }
 
-/* HELLO, JOIN, and the link to the user keyring that pam_keyinit(8) makes too. */
-static void begin(struct kr *connection, const char *path, struct kr_session *session) {
+/* Sees that the session which the environment names is there. Whoever began it holds it. */
+static void join(const char *path, struct kr_session *session) {
+    const char *text = getenv(KR_SESSION_VARIABLE);
     struct kr_identity identity;
+    errno = ENOENT;
+    if (!text || !kr_parse_session(session, text) || session->serial == 0) fail(REFUSED, KR_SESSION_VARIABLE);
+    struct kr *connection = kr_open_with(path, 0, 0, PATIENCE_MILLISECONDS);
+    if (!connection) fail(NO_CONNECTION, path);
+    kr_set_deadline(connection, kr_now() + PATIENCE_MILLISECONDS);
     kr_own_identity(&identity);
-    if (kr_set_patience(connection, PATIENCE_MILLISECONDS) < 0) fail(NO_CONNECTION, path);
     int64_t context = kr_hello_as(connection, &identity);
-    if (context < 0) fail_ask(connection, path);
-    session->serial = kr_begin_session(connection, (uint32_t)context, session->name);
-    if (session->serial < 0) fail_ask(connection, session->name);
-    if (kr_link(connection, (uint32_t)context, KEY_SPEC_USER_KEYRING, KEY_SPEC_SESSION_KEYRING) < 0)
-        fail_ask(connection, "linking the user keyring");
-    if (kr_keep_over_exec(connection) < 0) fail(NO_CONNECTION, path);
+    int entered = context < 0 ? -1 : kr_enter_session(connection, (uint32_t)context, session);
+    if (entered == 1) errno = EKEYREVOKED;
+    if (entered == 1) fail(REFUSED, session->name);
+    if (entered < 0) fail_ask(connection, session->name);
+    kr_close(connection);
 }
 
 static void run(char **command) {
@@ -122,17 +141,18 @@ static void run(char **command) {
 
 int main(int count, char **arguments) {
     static struct kr_session session;
-    char path[KR_SESSION_NAME_ROOM];
+    char path[KR_PATH_ROOM];
     const char *name;
+    bool joins;
     if (count == 2) answer_option(arguments[1]);
-    char **command = read_arguments(arguments + 1, &name);
-    name_session(&session, name);
+    char **command = read_arguments(arguments + 1, &name, &joins);
     if (kr_default_path(path, sizeof path) < 0) fail(NO_CONNECTION, "the socket's path");
     export_library();
-    struct kr *connection = kr_open(path);
-    if (!connection) fail(NO_CONNECTION, path);
-    begin(connection, path, &session);
-    if (kr_export_session(&session) < 0) fail(REFUSED, KR_SESSION_VARIABLE);
     export_socket(path);
+    if (joins)
+        join(path, &session);
+    else
+        begin(name, getenv("KEYRETAIN_SOCKET"), &session);
+    if (kr_export_session(&session) < 0) fail(REFUSED, KR_SESSION_VARIABLE);
     run(command);
 }

@@ -9,13 +9,27 @@
  *
  *   EINVAL      the ask fits no frame: a name above 65535 bytes, or an ask above 65536; nothing was sent
  *   ENOMEM      also: out of memory in kr_open
+ *   EACCES      also, of kr_open: who listens isn't trusted; nothing was sent
+ *   EBUSY       also: replies to asks of kr_send are still to be received; nothing was sent
  *   EINTR       a signal came while the reply was awaited, and kr_set_interruptible was called
- *   ETIMEDOUT   the daemon let the time of kr_set_patience pass
+ *   ETIMEDOUT   the time of kr_set_patience has passed
  *   ECONNRESET  the connection is lost: the daemon ended it, or it is another process's
  *   EPROTO      what came is no reply to the ask
  *
  * After the last two, kr_is_broken is true, and each further call answers ECONNRESET. After EINTR and ETIMEDOUT it is
  * not known whether the ask was carried out; the connection can be used, and a reply that comes late is dropped.
+ *
+ * WHO ANSWERS. A secret is told to whoever listens at a path. So before anything is sent the kernel is asked who that
+ * is (SO_PEERCRED in unix(7)), once for each connection:
+ *
+ *   a path that was found   the effective user. A user's own socket is meant where the user's runtime directory has a
+ *                           folder keyretain, also if nobody listens there
+ *   the system's path       root or the system's daemon, which is the owner of the folder /run/keyretain
+ *   a path that was named   (in an argument, or by $KEYRETAIN_SOCKET) the effective user, root or the system's daemon;
+ *                           with KR_ANY_SERVER, or KEYRETAIN_TRUST=any in the environment, which is for tests: anybody
+ *
+ * Whoever has a connection may say HELLO as anybody and read what that user may read. So a connection isn't handed on:
+ * not to a forked child, not over execve(2), and not to another identity that the process takes.
  *
  * UNITS. Times are seconds, but for kr_set_patience, which takes milliseconds. Masks are those of keyctl_setperm(3).
  * Serials are above 2; the ids -1 to -5 are the keyrings of keyrings(7), as KEY_SPEC_USER_KEYRING. Lengths and rooms
@@ -27,7 +41,8 @@
  *
  * PROCESSES. The descriptor is closed by execve(2). After fork(2) a connection stays the parent's: in the child each
  * call answers ECONNRESET, and kr_close closes the child's copy of the descriptor and leaves the parent's connection
- * as it was. A descriptor that the program closed, and whose number something else has since, is never written to.
+ * as it was. The child has no copy of what was sent and received. A descriptor that the program closed, and whose
+ * number something else has since, is never written to.
  */
 #ifndef KEYRETAIN_H
 #define KEYRETAIN_H
@@ -44,21 +59,31 @@ struct kr;
 /* ---- A connection ---- */
 
 /* Connects to the daemon at `path`, or for NULL where kr_default_path says. NULL with connect(2)'s errno where that
- * fails, ENAMETOOLONG for a path above 107 bytes. The version of the frames is found out with the first ask. */
+ * fails, EACCES where who listens isn't trusted, ETIMEDOUT after 30 seconds, ENOENT for an empty path, ENAMETOOLONG
+ * for one above 107 bytes. The version of the frames is found out with the first ask. */
 struct kr *kr_open(const char *path);
 
 /* The same with frames of this version, 1 or 2; 0 finds it out. EINVAL for any other. */
 struct kr *kr_open_version(const char *path, int version);
 
+/* The same with flags, of which there is one, and with the patience that kr_set_patience sets later. */
+enum { KR_ANY_SERVER = 1 /* whoever listens at a path that is named is trusted */ };
+struct kr *kr_open_with(const char *path, int version, unsigned flags, int milliseconds);
+
 void kr_close(struct kr *connection);
 
-/* Where a daemon is looked for: $KEYRETAIN_SOCKET; else keyretain/keyretain.sock in $XDG_RUNTIME_DIR, or in
- * /run/user/UID where that isn't set, if the effective user owns that socket; else /run/keyretain/keyretain.sock. A
- * program that runs set-uid (AT_SECURE) takes the last one whatever the environment says. Answers the path's length
- * without its null byte, or -1 with ENAMETOOLONG where `room` is too small. */
+/* Where a daemon is looked for: $KEYRETAIN_SOCKET; else keyretain/keyretain.sock in the runtime directory, if that has
+ * a folder keyretain; else /run/keyretain/keyretain.sock. The runtime directory is $XDG_RUNTIME_DIR, or /run/user/UID
+ * where that isn't set or isn't the effective user's. A program that runs set-uid (AT_SECURE) takes the last one
+ * whatever the environment says. Answers the path's length without its null byte, or -1 with ENAMETOOLONG where `room`
+ * is too small. */
 int kr_default_path(char *path, size_t room);
 
-/* How many milliseconds a call waits each time that the daemon takes or sends nothing; -1, as at first, for ever. */
+/* Who listened when the connection was made; the pid is 0 where it has none in this pid namespace. NULL for what isn't
+ * wanted. */
+void kr_peer(const struct kr *connection, uint32_t *uid, uint32_t *gid, int32_t *pid);
+
+/* How many milliseconds one call may take, by the monotonic clock; at first 30000. 0: no call waits. -1: for ever. */
 int kr_set_patience(struct kr *connection, int milliseconds);
 
 /* Whether a signal that is handled ends a call with EINTR (1); else, as at first, the call goes on (0). */
@@ -73,7 +98,9 @@ int kr_descriptor(const struct kr *connection);
 int kr_frame_version(const struct kr *connection);
 
 /* Leaves the descriptor open over execve(2), so that the connection lasts as long as what is executed, and its
- * children, have it open. Its number becomes at least 200, out of the way of shells, where so many are allowed. */
+ * children, have it open. Its number becomes at least 200, out of the way of shells, where so many are allowed.
+ * WHOEVER INHERITS IT MAY ASK AS ANYBODY: keep a session by keyretain-keeper(8), and use this for programs that are
+ * trusted. */
 int kr_keep_over_exec(struct kr *connection);
 
 /* ---- Contexts: the first three answer the number that other asks take as `context` ---- */
@@ -148,10 +175,60 @@ int kr_watch(struct kr *connection, uint32_t context, int32_t id, uint32_t queue
 
 int kr_set_filter(struct kr *connection, uint32_t queue, uint32_t count, const struct kr_entry *entries);
 
-/* Takes out whole records from the front, as many as `room` holds, and answers their length; it never waits: EAGAIN. */
+/* Takes out whole records from the front, as many as `room` holds, and answers their length; it never waits:
+ * EAGAIN. */
 int64_t kr_read_queue(struct kr *connection, uint32_t queue, void *buffer, size_t room);
 
 int kr_close_queue(struct kr *connection, uint32_t queue);
+
+/* A record, decoded. `name` is "instantiated", "updated", "linked", "unlinked", "cleared", "revoked", "invalidated" or
+ * "setattr" for a note of type 1; "removed" where the watch of `key` has ended; "lost" where records were dropped; and
+ * "unknown". `other` is the other key of a link or unlink, else 0. */
+struct kr_note {
+    const char *name;
+    uint32_t type, subtype, watch;
+    int32_t key, other;
+};
+
+/* Decodes the first of `*length` bytes of records, as kr_read_queue puts them, and moves both behind it: 1; 0 where no
+ * byte is left; -1 with EPROTO where the bytes are no record, and then both stay.
+ *
+ * No descriptor becomes readable when a note comes, as a daemon says nothing unasked: a program asks by kr_read_queue,
+ * ten times a second where a person waits, once a second else. */
+int kr_next_note(const void **records, size_t *length, struct kr_note *note);
+
+/* ---- Asks that are sent ahead: many are under way, and their replies are received in order ---- */
+
+/* The numbers up to 32 are those of keyctl(2). */
+enum kr_operation {
+    KR_GET_ID = 0, KR_JOIN = 1, KR_UPDATE = 2, KR_REVOKE = 3, KR_CHOWN = 4, KR_SETPERM = 5, KR_DESCRIBE = 6,
+    KR_CLEAR = 7, KR_LINK = 8, KR_UNLINK = 9, KR_SEARCH = 10, KR_READ = 11, KR_SET_TIMEOUT = 15, KR_INVALIDATE = 21,
+    KR_RESTRICT_KEYRING = 29, KR_MOVE = 30, KR_WATCH = 32, KR_HELLO = 256, KR_THREAD = 257, KR_FORK = 258,
+    KR_EXEC = 259, KR_EXIT = 260, KR_LEAVE = 261, KR_ADD = 262, KR_REQUEST = 263, KR_OPEN_QUEUE = 264,
+    KR_SET_FILTER = 265, KR_READ_QUEUE = 266, KR_CLOSE_QUEUE = 267
+};
+
+/* One field of an ask's body, in the order of keyretain-protocol(7): a number; or bytes, groups or entries with how
+ * many there are. */
+struct kr_field {
+    uint32_t number;
+    const void *items;
+    size_t count;
+};
+
+/* How many asks may await kr_receive. */
+enum { KR_AHEAD_MAX = 256 };
+
+/* Sends an ask with as many fields as it has, and waits for nothing: 0, with its tag. -1 and EAGAIN where a reply is
+ * to be received first: KR_AHEAD_MAX are awaited, or the daemon takes no more. EINVAL for a number of no ask, and
+ * before the connection's first reply, which says which frames the daemon understands. What else a call answers is
+ * above. */
+int kr_send(struct kr *connection, unsigned operation, uint32_t context, const struct kr_field *fields, uint64_t *tag);
+
+/* Waits for the next reply, and answers as the ask's own function does, with the ask's tag. Bytes are in `buffer`
+ * where `room` holds all of them. Where no reply came the tag is 0, and the error ETIMEDOUT, EINTR, ECONNRESET or
+ * EPROTO; or ENOMSG, where none is awaited. */
+int64_t kr_receive(struct kr *connection, uint64_t *tag, void *buffer, size_t room);
 
 #ifdef __cplusplus
 }

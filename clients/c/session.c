@@ -12,7 +12,7 @@
 
 #include "connection.h"
 
-enum { USER_MAY_SEARCH = 0x00080000, ANYBODY_MAY_SEARCH = 0x00080808, DECIMAL = 10 };
+enum { USER_MAY_SEARCH = 0x00080000, GROUP_AND_OTHERS = 0x00003f3f, DECIMAL = 10 };
 
 /* ---- Identity ---- */
 
@@ -36,6 +36,24 @@ void kr_own_identity(struct kr_identity *identity) {
     int count = getgroups(KR_GROUPS_MAX, identity->groups);
     if (count < 0) count = first_groups(identity);
     identity->count = count > 0 ? (uint32_t)count : 0;
+}
+
+static bool has_groups_of(const struct kr_identity *identity) {
+    struct kr_identity own;
+    kr_own_identity(&own);
+    return own.count == identity->count && memcmp(own.groups, identity->groups, sizeof own.groups) == 0;
+}
+
+bool kr_may_be_again(const struct kr_identity *identity) {
+    uid_t real, effective, saved;
+    gid_t real_group, effective_group, saved_group;
+    getresuid(&real, &effective, &saved);
+    getresgid(&real_group, &effective_group, &saved_group);
+    if (real == 0 || effective == 0 || saved == 0) return true;
+    bool has_uid = identity->uid == real || identity->uid == effective || identity->uid == saved;
+    bool has_gid =
+        identity->gid == real_group || identity->gid == effective_group || identity->gid == saved_group;
+    return has_uid && has_gid && has_groups_of(identity);
 }
 
 int64_t kr_hello_as(struct kr *connection, const struct kr_identity *identity) {
@@ -62,12 +80,23 @@ int kr_export_session(const struct kr_session *session) {
     return setenv(KR_SESSION_VARIABLE, text, 1);
 }
 
-int kr_make_session_name(struct kr_session *session) {
+static int make_name(struct kr_session *session) {
     uint64_t random[2];
     if (getrandom(random, sizeof random, 0) != (ssize_t)sizeof random) return -1;
-    session->serial = 0;
     snprintf(session->name, sizeof session->name, "_ses.%016llx%016llx", (unsigned long long)random[0],
              (unsigned long long)random[1]);
+    return 0;
+}
+
+int kr_name_session(struct kr_session *session, const char *name) {
+    memset(session, 0, sizeof *session);
+    if (!name) return make_name(session);
+    size_t length = strlen(name);
+    if (length >= sizeof session->name) {
+        errno = EINVAL;
+        return -1;
+    }
+    memcpy(session->name, name, length + 1);
     return 0;
 }
 
@@ -87,29 +116,46 @@ static int read_attributes(struct kr *connection, uint32_t context, int32_t ring
     return sscanf(head, "keyring;%u;%*u;%x;", &attributes->owner, &attributes->mask) == 2 ? 0 : 1;
 }
 
-/* JOIN by name finds a keyring only where the caller may search it. A new one doesn't let its user do so, as the
- * kernel's doesn't, and would be lost to the next process: so its user is given that right. */
-static int let_user_search(struct kr *connection, uint32_t context, int32_t ring) {
+bool kr_is_keyring(struct kr *connection, uint32_t context, int32_t id) {
     struct attributes attributes;
-    int known = read_attributes(connection, context, ring, &attributes);
-    if (known != 0) return known < 0 ? -1 : 0;
-    if (attributes.owner != geteuid() || attributes.mask & USER_MAY_SEARCH) return 0;
-    return kr_setperm(connection, context, ring, attributes.mask | USER_MAY_SEARCH);
+    return read_attributes(connection, context, id, &attributes) == 0;
 }
 
+/* Whether the keyring is this user's, and gives nothing to group and others. 1 where it isn't, or the daemon doesn't
+ * tell; -1 where the connection fails. */
+static int check_private(struct kr *connection, uint32_t context, int32_t ring, struct attributes *attributes) {
+    int known = read_attributes(connection, context, ring, attributes);
+    if (known != 0) return known;
+    return attributes->owner != geteuid() || attributes->mask & GROUP_AND_OTHERS;
+}
+
+/* Leaves what a context has joined for a keyring of its own. */
+static int leave_session(struct kr *connection, uint32_t context) {
+    return kr_join(connection, context, NULL) < 0 ? -1 : 1;
+}
+
+/* JOIN by name finds a keyring only where the caller may search it: a new one doesn't let its user do so, as the
+ * kernel's doesn't, and would be lost to the next process. So its user is given that right. One of another user, who
+ * made it first and open to all, may be found too: what is put into it would be told to that user. */
 int32_t kr_begin_session(struct kr *connection, uint32_t context, const char *name) {
+    struct attributes attributes;
     int32_t ring = kr_join(connection, context, name);
-    return ring < 0 || let_user_search(connection, context, ring) < 0 ? -1 : ring;
+    if (ring < 0) return -1;
+    int other = check_private(connection, context, ring, &attributes);
+    if (other > 0) other = leave_session(connection, context);
+    if (other > 0) errno = EACCES;
+    if (other != 0) return -1;
+    if (attributes.mask & USER_MAY_SEARCH) return ring;
+    return kr_setperm(connection, context, ring, attributes.mask | USER_MAY_SEARCH) < 0 ? -1 : ring;
 }
 
 /* A daemon that was started anew gives the same serials again. So it isn't enough that the serial is the session's: one
  * that JOIN has just made is known by lacking the right to search, without which JOIN would not have found it. */
 int kr_enter_session(struct kr *connection, uint32_t context, const struct kr_session *session) {
-    struct attributes attributes;
+    struct attributes attributes = { 0 };
     int32_t ring = kr_join(connection, context, session->name);
     if (ring < 0) return -1;
-    if (ring != session->serial) return 1;
-    int known = read_attributes(connection, context, ring, &attributes);
-    if (known < 0) return -1;
-    return known == 0 && (attributes.mask & ANYBODY_MAY_SEARCH) == 0;
+    int other = ring != session->serial ? 1 : check_private(connection, context, ring, &attributes);
+    if (other == 0 && !(attributes.mask & USER_MAY_SEARCH)) return 1;
+    return other > 0 ? leave_session(connection, context) : other;
 }

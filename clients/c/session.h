@@ -25,23 +25,32 @@ struct kr_identity {
 /* The effective ids and the first 32 supplementary groups, which are as many as the daemon takes. */
 void kr_own_identity(struct kr_identity *identity);
 
+/* Whether the process is this identity or may become it again: root may become any, others what getresuid(2) and
+ * getresgid(2) say, with the groups that they have. */
+bool kr_may_be_again(const struct kr_identity *identity);
+
 int64_t kr_hello_as(struct kr *connection, const struct kr_identity *identity);
 
 /* Reads SERIAL:NAME, or NAME alone; false where the text is none of them. */
 bool kr_parse_session(struct kr_session *session, const char *text);
 
+/* Takes this name, or one that no other session has for NULL. -1 with errno: EINVAL for one that is too long. */
+int kr_name_session(struct kr_session *session, const char *name);
+
 /* Puts SERIAL:NAME into the environment. -1 with errno where it can't. */
 int kr_export_session(const struct kr_session *session);
 
-/* A name that no other session has. -1 with errno where there are no random bytes. */
-int kr_make_session_name(struct kr_session *session);
-
 /* Joins the keyring of this name, or makes it, and lets later processes of the uid find it by the name. Answers its
- * serial; -1 with errno. */
+ * serial; -1 with errno, which is EACCES where the keyring is another user's or gives group or others anything. Then
+ * the context has another session keyring, which nobody shares. */
 int32_t kr_begin_session(struct kr *connection, uint32_t context, const char *name);
 
-/* Joins a session whose serial is known, and which must still be there: 0; 1 where its keyring was revoked, is gone, or
- * is another user's; -1 with errno. With 1 the context has another keyring, which nobody shares, as its session. */
+/* Joins a session whose serial is known, and which must still be there: 0; 1 where its keyring was revoked, is gone,
+ * or isn't this user's alone; -1 with errno. With 1 the context has another keyring, which nobody shares, as its
+ * session. */
 int kr_enter_session(struct kr *connection, uint32_t context, const struct kr_session *session);
+
+/* Whether an id is a keyring's, as far as this context may know. */
+bool kr_is_keyring(struct kr *connection, uint32_t context, int32_t id);
 
 #endif

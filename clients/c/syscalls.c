@@ -1,5 +1,5 @@
-/* syscalls.c: what add_key(2), request_key(2) and keyctl(2) answer, from what keyretaind answers. Where the two differ,
- * the kernel's answer is given, as programs know it. */
+/* syscalls.c: what add_key(2), request_key(2) and keyctl(2) answer, from what keyretaind answers. Where the two
+ * differ, the kernel's answer is given, as programs know it. */
 #define _GNU_SOURCE
 #include "syscalls.h"
 
@@ -10,8 +10,12 @@
 #include <unistd.h>
 
 #include "caller.h"
+#include "session.h"
+#include "wire.h"
 
 typedef const unsigned long *values;
+
+enum { ARGUMENTS = 5, SERIAL_WIDTH = 4 };
 
 static long fail(int error) {
     errno = error;
@@ -39,10 +43,19 @@ static unsigned id_arguments(int call) {
     }
 }
 
+static bool is_id(int call, unsigned argument) { return id_arguments(call) >> argument & 1; }
+
 static bool names(int call, values at, int32_t id) {
-    unsigned ids = id_arguments(call);
-    for (unsigned i = 0; i < 5; i++)
-        if (ids >> i & 1 && id_of(at[i]) == id) return true;
+    for (unsigned i = 0; i < ARGUMENTS; i++)
+        if (is_id(call, i) && id_of(at[i]) == id) return true;
+    return false;
+}
+
+/* A daemon that was started anew gives the serials of the last one to other keys. So one that this process knows from
+ * the last one is refused as revoked, until this one has told it too. */
+static bool names_stale(const struct caller *caller, int call, values at) {
+    for (unsigned i = 0; i < ARGUMENTS; i++)
+        if (is_id(call, i) && caller_is_stale(caller, id_of(at[i]))) return true;
     return false;
 }
 
@@ -62,7 +75,8 @@ enum { PAYLOAD_MAX = 1024 * 1024 - 1 };
 
 static size_t page_size(void) { return (size_t)sysconf(_SC_PAGESIZE); }
 
-/* Where keys go that an upcall makes. There are none, so the choice, which is a thread's, is kept and has no effect. */
+/* Where keys go that an upcall makes. There are none, so the choice, which is a thread's, is kept and has no
+ * effect. */
 static long set_reqkey_keyring(int choice) {
     static __thread int chosen;
     int before = chosen;
@@ -101,7 +115,7 @@ static long check(int call, values at) {
     case KEYCTL_SEARCH: return !at[1] || !at[2] ? fail(EFAULT) : 0;
     case KEYCTL_JOIN_SESSION_KEYRING: return at[0] && !*text_of(at[0]) ? fail(EINVAL) : 0;
     case KEYCTL_RESTRICT_KEYRING: return !at[1] != !at[2] ? fail(EINVAL) : 0;
-    case KEYCTL_MOVE: return at[3] & ~(unsigned long)KEYCTL_MOVE_EXCL ? fail(EINVAL) : 0;
+    case KEYCTL_MOVE: return (unsigned)at[3] & ~(unsigned)KEYCTL_MOVE_EXCL ? fail(EINVAL) : 0;
     default: return 0;
     }
 }
@@ -212,7 +226,7 @@ static long answer(struct caller *caller, int call, values at) {
     case CALL_ADD_KEY:
         return kr_add(connection, context, text_of(at[0]), text_of(at[1]), (void *)at[2], at[3], id_of(at[4]));
     case CALL_REQUEST_KEY: return request(caller, at);
-    case KEYCTL_GET_KEYRING_ID: return kr_get_id(connection, context, id, at[1] != 0);
+    case KEYCTL_GET_KEYRING_ID: return kr_get_id(connection, context, id, (int)at[1] != 0);
     case KEYCTL_JOIN_SESSION_KEYRING: return caller_join(caller, text_of(at[0]));
     case KEYCTL_UPDATE: return kr_update(connection, context, id, (void *)at[1], at[2]);
     case KEYCTL_REVOKE: return kr_revoke(connection, context, id);
@@ -234,6 +248,44 @@ static long answer(struct caller *caller, int call, values at) {
     }
 }
 
+/* Whether what a call answers is a serial. */
+static bool answers_serial(int call) {
+    switch (call) {
+    case CALL_ADD_KEY:
+    case CALL_REQUEST_KEY:
+    case KEYCTL_GET_KEYRING_ID:
+    case KEYCTL_JOIN_SESSION_KEYRING:
+    case KEYCTL_SEARCH: return true;
+    default: return false;
+    }
+}
+
+/* The serials of a keyring that was read. They are looked at only where others are stale, as that takes an ask. */
+static void know_links(struct caller *caller, values at, long length) {
+    const uint8_t *links = (const uint8_t *)at[1];
+    if (!caller_has_stale(caller) || !links || length < SERIAL_WIDTH || (unsigned long)length > at[2]) return;
+    if (!kr_is_keyring(caller->connection, caller->context, id_of(at[0]))) return;
+    for (long i = 0; i + SERIAL_WIDTH <= length; i += SERIAL_WIDTH)
+        caller_knows(caller, (int32_t)kr_get_u32(links + i));
+}
+
+/* What this daemon has told, and what it was asked about and knew. */
+static void know_serials(struct caller *caller, int call, values at, long result) {
+    if (result < 0) return;
+    if (answers_serial(call)) caller_knows(caller, (int32_t)result);
+    if (call == KEYCTL_READ) know_links(caller, at, result);
+    for (unsigned i = 0; i < ARGUMENTS; i++)
+        if (is_id(call, i)) caller_knows(caller, id_of(at[i]));
+}
+
+static long ask(struct caller *caller, int call, values at) {
+    if ((caller->lost_session && wants_session(call, at)) || names_stale(caller, call, at)) return fail(EKEYREVOKED);
+    make_special(caller, call, id_of(at[0]));
+    long result = answer(caller, call, at);
+    know_serials(caller, call, at, result);
+    return result < 0 && errno == EINVAL && names_authority(call, at) ? fail(ENOKEY) : result;
+}
+
 long key_call(int call, struct arguments arguments) {
     values at = arguments.at;
     struct caller caller;
@@ -241,13 +293,7 @@ long key_call(int call, struct arguments arguments) {
     if (check(call, at) < 0) return -1;
     if (is_answered_here(call, at, &result)) return result;
     if (!caller_enter(&caller)) return -1;
-    if (caller.lost_session && wants_session(call, at)) {
-        result = fail(EKEYREVOKED);
-    } else {
-        make_special(&caller, call, id_of(at[0]));
-        result = answer(&caller, call, at);
-    }
-    if (result < 0 && errno == EINVAL && names_authority(call, at)) errno = ENOKEY;
-    caller_leave();
+    result = ask(&caller, call, at);
+    caller_leave(&caller, result);
     return result;
 }

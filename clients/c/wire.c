@@ -4,8 +4,6 @@
 #include <errno.h>
 #include <string.h>
 
-#include "keyretain.h"
-
 const struct kr_ask_form kr_ask_forms[] = {
     { KR_GET_ID, "GET_ID", KR_NUMBER, { KR_ID, KR_U8 } },
     { KR_JOIN, "JOIN", KR_NUMBER, { KR_TEXT } },

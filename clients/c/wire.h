@@ -6,20 +6,13 @@
 #include <stddef.h>
 #include <stdint.h>
 
+#include "keyretain.h"
+
 /* The versions that are spoken: the newest is tried first, and the oldest where the daemon doesn't understand it. */
 enum { KR_OLDEST_VERSION = 1, KR_NEWEST_VERSION = 2 };
 
 /* The longest frames, with the four bytes of their length. A reply is longest in version 2. */
 enum { KR_ASK_ROOM = 4 + 65536, KR_REPLY_ROOM = 4 + 262152 };
-
-/* The numbers up to 32 are those of keyctl(2). */
-enum kr_operation {
-    KR_GET_ID = 0, KR_JOIN = 1, KR_UPDATE = 2, KR_REVOKE = 3, KR_CHOWN = 4, KR_SETPERM = 5, KR_DESCRIBE = 6,
-    KR_CLEAR = 7, KR_LINK = 8, KR_UNLINK = 9, KR_SEARCH = 10, KR_READ = 11, KR_SET_TIMEOUT = 15, KR_INVALIDATE = 21,
-    KR_RESTRICT_KEYRING = 29, KR_MOVE = 30, KR_WATCH = 32, KR_HELLO = 256, KR_THREAD = 257, KR_FORK = 258,
-    KR_EXEC = 259, KR_EXIT = 260, KR_LEAVE = 261, KR_ADD = 262, KR_REQUEST = 263, KR_OPEN_QUEUE = 264,
-    KR_SET_FILTER = 265, KR_READ_QUEUE = 266, KR_CLOSE_QUEUE = 267
-};
 
 /* The fields of bodies. GROUPS are a count and as many numbers, ENTRIES a count and as many entries of a filter. */
 enum kr_field_form { KR_END, KR_ID, KR_U8, KR_U32, KR_I32, KR_TEXT, KR_BLOB, KR_GROUPS, KR_ENTRIES };
@@ -48,13 +41,6 @@ struct kr_status {
 };
 extern const struct kr_status kr_statuses[];
 extern const size_t kr_status_count;
-
-/* One field's value: a number, or bytes, groups or entries with how many there are. */
-struct kr_field {
-    uint32_t number;
-    const void *items;
-    size_t count;
-};
 
 /* NULL for a number of no ask. */
 const struct kr_ask_form *kr_ask_form(unsigned operation);

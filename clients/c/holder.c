@@ -1,0 +1,183 @@
+/* holder.c: how a keeper is started. It is executed, and not merely forked: so nothing of this process is in its
+ * memory. */
+#define _GNU_SOURCE
+#include "holder.h"
+
+#include <errno.h>
+#include <fcntl.h>
+#include <poll.h>
+#include <signal.h>
+#include <spawn.h>
+#include <stdio.h>
+#include <stdlib.h>
+#include <string.h>
+#include <sys/stat.h>
+#include <sys/wait.h>
+#include <unistd.h>
+
+#include "connection.h"
+
+#ifndef KEYRETAIN_KEEPER
+#define KEYRETAIN_KEEPER "/usr/local/libexec/keyretain/keyretain-keeper"
+#endif
+
+enum { KEPT_DESCRIPTOR = 200, READING = 0, WRITING = 1 };
+
+/* Two pipes: the keeper waits on the reading end of one, and says on the other what it has made. */
+struct pipes {
+    int life[2], answer[2];
+};
+
+static void close_one(int *descriptor) {
+    int error = errno;
+    if (*descriptor >= 0) close(*descriptor);
+    *descriptor = -1;
+    errno = error;
+}
+
+static void close_pipes(struct pipes *pipes) {
+    for (int i = READING; i <= WRITING; i++) {
+        close_one(&pipes->life[i]);
+        close_one(&pipes->answer[i]);
+    }
+}
+
+/* A pipe whose numbers are none of the three that programs read from and write to. */
+static int open_pipe(int ends[2]) {
+    int low[2];
+    if (pipe2(low, O_CLOEXEC) < 0) return -1;
+    for (int i = READING; i <= WRITING; i++) {
+        ends[i] = fcntl(low[i], F_DUPFD_CLOEXEC, STDERR_FILENO + 1);
+        close_one(&low[i]);
+    }
+    return ends[READING] < 0 || ends[WRITING] < 0 ? -1 : 0;
+}
+
+/* ---- Starting ---- */
+
+static int prepare_descriptors(posix_spawn_file_actions_t *actions, const struct pipes *pipes) {
+    int error = posix_spawn_file_actions_adddup2(actions, pipes->life[READING], STDIN_FILENO);
+    if (!error) error = posix_spawn_file_actions_adddup2(actions, pipes->answer[WRITING], STDOUT_FILENO);
+    if (!error) error = posix_spawn_file_actions_addopen(actions, STDERR_FILENO, "/dev/null", O_RDWR, 0);
+    return error;
+}
+
+/* All signals as at first, none held back, and no terminal. */
+static int prepare_signals(posix_spawnattr_t *attributes) {
+    sigset_t none, all;
+    sigemptyset(&none);
+    sigfillset(&all);
+    int error = posix_spawnattr_setsigmask(attributes, &none);
+    if (!error) error = posix_spawnattr_setsigdefault(attributes, &all);
+    if (!error)
+        error = posix_spawnattr_setflags(attributes,
+                                         POSIX_SPAWN_SETSIGMASK | POSIX_SPAWN_SETSIGDEF | POSIX_SPAWN_SETSID);
+    return error;
+}
+
+/* The process that is started goes to the background by itself, and has ended when its last word is awaited. */
+static int spawn(const struct pipes *pipes, char *const words[], pid_t *started) {
+    static char trusts_anybody[] = "KEYRETAIN_TRUST=any";
+    char *environment[] = { kr_trusts_anybody() ? trusts_anybody : NULL, NULL };
+    posix_spawn_file_actions_t actions;
+    posix_spawnattr_t attributes;
+    int error = posix_spawn_file_actions_init(&actions);
+    if (error) return error;
+    error = posix_spawnattr_init(&attributes);
+    if (!error) {
+        error = prepare_descriptors(&actions, pipes);
+        if (!error) error = prepare_signals(&attributes);
+        if (!error) error = posix_spawn(started, KEYRETAIN_KEEPER, &actions, &attributes, words, environment);
+        posix_spawnattr_destroy(&attributes);
+    }
+    posix_spawn_file_actions_destroy(&actions);
+    return error;
+}
+
+/* A program that ignores SIGCHLD, or waits for any child in its handler, may have reaped it before. */
+static void reap(pid_t started) {
+    while (waitpid(started, NULL, 0) < 0 && errno == EINTR) continue;
+}
+
+/* ---- Its answer ---- */
+
+/* Reads a line, by the deadline: 0, or -1 with errno. */
+static int read_line(int from, char *text, size_t room, int64_t deadline) {
+    size_t got = 0;
+    for (;;) {
+        int64_t left = deadline - kr_now();
+        struct pollfd wait = { .fd = from, .events = POLLIN };
+        int ready = poll(&wait, 1, left > 0 ? (int)left : 0);
+        if (ready == 0) errno = ETIMEDOUT;
+        if (ready == 0 || (ready < 0 && errno != EINTR)) return -1;
+        if (ready < 0) continue;
+        ssize_t more = read(from, text + got, room - 1 - got);
+        if (more == 0) errno = ECHILD; /* it has ended without a word */
+        if (more == 0 || (more < 0 && errno != EINTR)) return -1;
+        if (more < 0) continue;
+        text[got += (size_t)more] = '\0';
+        if (strchr(text, '\n')) return 0;
+    }
+}
+
+/* `SERIAL:NAME`, or `refused ERROR WHAT`, or `failed ERROR WHAT`. */
+static int read_answer(int from, struct kr_session *session, int64_t deadline, enum kr_refusal *why) {
+    char text[KR_SESSION_NAME_ROOM + KR_PATH_ROOM + 64];
+    int error, serial;
+    *why = KR_NO_KEEPER;
+    if (read_line(from, text, sizeof text, deadline) < 0) return -1;
+    if (sscanf(text, "%d:", &serial) == 1 && serial > 0) {
+        session->serial = serial;
+        return 0;
+    }
+    *why = strncmp(text, "refused ", 8) == 0 ? KR_REFUSED : KR_NO_DAEMON;
+    errno = sscanf(text, "%*s %d", &error) == 1 && error > 0 ? error : EPROTO;
+    return -1;
+}
+
+/* ---- A holder ---- */
+
+/* What is inherited: not closed by execve(2), and out of the way of shells. */
+static int keep(struct kr_holder *holder, int life) {
+    struct stat status;
+    int kept = fcntl(life, F_DUPFD, KEPT_DESCRIPTOR);
+    if (kept < 0) kept = fcntl(life, F_DUPFD, STDERR_FILENO + 1); /* fewer descriptors are allowed than that */
+    if (kept < 0 || fstat(kept, &status) < 0) return -1;
+    *holder = (struct kr_holder){ kept, status.st_dev, status.st_ino };
+    return 0;
+}
+
+static int start(struct pipes *pipes, char *const words[], struct kr_session *session, int64_t deadline,
+                 enum kr_refusal *why) {
+    pid_t started;
+    *why = KR_NO_KEEPER;
+    if (open_pipe(pipes->life) < 0 || open_pipe(pipes->answer) < 0) return -1;
+    int error = spawn(pipes, words, &started);
+    close_one(&pipes->life[READING]);
+    close_one(&pipes->answer[WRITING]);
+    if (error) {
+        errno = error;
+        return -1;
+    }
+    reap(started);
+    return read_answer(pipes->answer[READING], session, deadline, why);
+}
+
+int kr_start_keeper(struct kr_holder *holder, struct kr_session *session, const char *socket, bool links_user,
+                    int64_t deadline, enum kr_refusal *why) {
+    struct pipes pipes = { { -1, -1 }, { -1, -1 } };
+    char *words[] = { "keyretain-keeper", "--deaf", "--name", session->name, "--socket", (char *)socket,
+                      links_user ? NULL : "--no-link", NULL };
+    int result = start(&pipes, words, session, deadline, why);
+    if (result == 0) result = keep(holder, pipes.life[WRITING]);
+    close_pipes(&pipes);
+    return result;
+}
+
+void kr_close_holder(struct kr_holder *holder) {
+    struct stat status;
+    bool is_pipe = holder->descriptor >= 0 && fstat(holder->descriptor, &status) == 0 &&
+                   status.st_dev == holder->device && status.st_ino == holder->inode;
+    if (is_pipe) close(holder->descriptor);
+    holder->descriptor = -1;
+}

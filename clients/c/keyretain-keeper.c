@@ -1,0 +1,236 @@
+/* keyretain-keeper: makes a session of keyretaind and holds it as long as a pipe is open. See keyretain-keeper(8).
+ *
+ * It is executed by who has a session, with the ids of the session's user and nothing else: so its memory and its
+ * descriptors have nothing of the program that started it, and what that program hands on is a pipe and no
+ * connection. */
+#define _GNU_SOURCE
+#include <errno.h>
+#include <fcntl.h>
+#include <linux/keyctl.h>
+#include <poll.h>
+#include <signal.h>
+#include <stdbool.h>
+#include <stdio.h>
+#include <stdlib.h>
+#include <string.h>
+#include <sys/prctl.h>
+#include <unistd.h>
+
+#include "connection.h"
+#include "session.h"
+
+#ifndef KEYRETAIN_VERSION
+#define KEYRETAIN_VERSION "0"
+#endif
+
+enum { REFUSED = 1, USAGE = 2, NO_CONNECTION = 3 };
+enum { PATIENCE_MILLISECONDS = 10000, LOOK_MILLISECONDS = 1000, SERIAL_WIDTH = 4, USER_MAY_SEARCH = 0x00080000 };
+
+static const char usage[] = "usage: keyretain-keeper [--name NAME] [--socket PATH] [--no-link] [--deaf]\n"
+                            "       keyretain-keeper --hold RING [--socket PATH]\n";
+
+struct options {
+    const char *name, *ring, *socket;
+    bool is_deaf, links_user;
+};
+
+/* ---- Words ---- */
+
+static void refuse_words(void) {
+    fputs(usage, stderr);
+    exit(USAGE);
+}
+
+static void answer_option(const char *word) {
+    if (strcmp(word, "--help") == 0)
+        fputs(usage, stdout);
+    else if (strcmp(word, "--version") == 0)
+        puts("keyretain-keeper " KEYRETAIN_VERSION);
+    else
+        return;
+    exit(fflush(stdout) == 0 ? 0 : NO_CONNECTION);
+}
+
+static bool is_flag(const char *word, struct options *options) {
+    if (strcmp(word, "--deaf") == 0) return options->is_deaf = true;
+    if (strcmp(word, "--no-link") != 0) return false;
+    options->links_user = false;
+    return true;
+}
+
+static const char **value_of(const char *word, struct options *options) {
+    if (strcmp(word, "--name") == 0) return &options->name;
+    if (strcmp(word, "--hold") == 0) return &options->ring;
+    return strcmp(word, "--socket") == 0 ? &options->socket : NULL;
+}
+
+/* A line of the answer holds a name, so none may have an end of line in it. */
+static struct options read_options(char **words) {
+    struct options options = { .links_user = true };
+    for (; *words; words++) {
+        if (is_flag(*words, &options)) continue;
+        const char **value = value_of(*words, &options);
+        if (!value || !*++words || !**words || strchr(*words, '\n')) refuse_words();
+        *value = *words;
+    }
+    if (options.name && options.ring) refuse_words();
+    return options;
+}
+
+/* ---- What is said on descriptor 1 ---- */
+
+static void say(int status, const char *kind, const char *what) {
+    dprintf(STDOUT_FILENO, "%s %d %s: %s\n", kind, errno, what, strerror(errno));
+    exit(status);
+}
+
+static void fail(const char *what) { say(NO_CONNECTION, "failed", what); }
+
+/* What the daemon refused, or that it went. */
+static void fail_ask(const struct kr *connection, const char *what) {
+    if (kr_is_broken(connection) || errno == ETIMEDOUT) fail(what);
+    say(REFUSED, "refused", what);
+}
+
+/* ---- A process of its own ---- */
+
+/* Whatever it was, it isn't held open here. */
+static void let_go_of(int descriptor) {
+    int nothing = open("/dev/null", O_RDWR | O_CLOEXEC);
+    if (nothing < 0 || dup2(nothing, descriptor) < 0) fail("/dev/null");
+    if (nothing != descriptor) close(nothing);
+}
+
+/* Nothing of whoever started it stays: no descriptor but the two, no terminal, no other ids. */
+static void stand_alone(void) {
+    struct sigaction ignored = { .sa_handler = SIG_IGN };
+    closefrom(STDERR_FILENO + 1);
+    let_go_of(STDERR_FILENO);
+    sigaction(SIGPIPE, &ignored, NULL);
+    if (setresgid(getegid(), getegid(), getegid()) < 0 || setresuid(geteuid(), geteuid(), geteuid()) < 0 ||
+        prctl(PR_SET_DUMPABLE, 0) < 0)
+        fail("standing alone");
+    pid_t child = fork();
+    if (child < 0) fail("a process");
+    if (child > 0) _exit(0);
+    setsid();
+}
+
+/* ---- A session ---- */
+
+/* A context of this user, on a connection to the daemon. A path may be relative, and no folder is kept in use. */
+static struct kr *connect_to(const char *socket, char *path, size_t room, uint32_t *context) {
+    struct kr_identity identity;
+    if (socket ? snprintf(path, room, "%s", socket) >= (int)room : kr_default_path(path, room) < 0) {
+        errno = ENAMETOOLONG;
+        fail("the socket's path");
+    }
+    struct kr *connection = kr_open_with(socket, 0, 0, PATIENCE_MILLISECONDS);
+    if (!connection || chdir("/") < 0) fail(path);
+    kr_own_identity(&identity);
+    int64_t made = kr_hello_as(connection, &identity);
+    if (made < 0) fail_ask(connection, path);
+    *context = (uint32_t)made;
+    return connection;
+}
+
+/* The link to the user keyring is the one that pam_keyinit(8) makes too. */
+static void begin(struct kr *connection, uint32_t context, const struct options *options,
+                  struct kr_session *session) {
+    if (kr_name_session(session, options->name) < 0) say(REFUSED, "refused", "the name");
+    session->serial = kr_begin_session(connection, context, session->name);
+    if (session->serial < 0) fail_ask(connection, session->name);
+    if (options->links_user && kr_link(connection, context, KEY_SPEC_USER_KEYRING, KEY_SPEC_SESSION_KEYRING) < 0)
+        fail_ask(connection, "linking the user keyring");
+}
+
+/* Waits for the end of the pipe, or unless it is deaf for a byte; or for the end of the connection. Answers the byte,
+ * or 0. What is deaf reads nothing: whoever inherits the pipe may write to it. */
+static char wait_for_end(const struct kr *connection, bool is_deaf) {
+    struct pollfd wait[] = { { .fd = STDIN_FILENO, .events = is_deaf ? 0 : POLLIN },
+                             { .fd = kr_descriptor(connection), .events = POLLRDHUP } };
+    char byte = 0;
+    while (poll(wait, 2, -1) < 0 && errno == EINTR) continue;
+    if (is_deaf || wait[1].revents || read(STDIN_FILENO, &byte, 1) != 1) return 0;
+    return byte;
+}
+
+static void hold_session(const struct options *options) {
+    static struct kr_session session;
+    char path[KR_PATH_ROOM];
+    uint32_t context;
+    struct kr *connection = connect_to(options->socket, path, sizeof path, &context);
+    begin(connection, context, options, &session);
+    dprintf(STDOUT_FILENO, "%d:%s\n%s\n", (int)session.serial, session.name, path);
+    if (wait_for_end(connection, options->is_deaf) == 'r')
+        kr_revoke(connection, context, KEY_SPEC_SESSION_KEYRING);
+    kr_close(connection);
+}
+
+/* ---- A keyring that is held as long as it has keys ---- */
+
+/* The keyring of this name in the user keyring, which is made where there is none. */
+static int32_t have_ring(struct kr *connection, uint32_t context, const char *name) {
+    int32_t ring = kr_search(connection, context, KEY_SPEC_USER_KEYRING, "keyring", name, 0);
+    if (ring < 0 && errno == ENOKEY)
+        ring = kr_add(connection, context, "keyring", name, NULL, 0, KEY_SPEC_USER_KEYRING);
+    if (ring < 0) fail_ask(connection, name);
+    return ring;
+}
+
+/* Unlinks the keys that can't be used any more, and answers whether one is left that can. */
+static bool sweep(struct kr *connection, uint32_t context, int32_t ring) {
+    static uint8_t links[KR_REPLY_ROOM];
+    int64_t length = kr_read(connection, context, ring, links, sizeof links);
+    bool has_key = false;
+    for (int64_t at = 0; at + SERIAL_WIDTH <= length; at += SERIAL_WIDTH) {
+        int32_t key = (int32_t)kr_get_u32(links + at);
+        bool is_dead = kr_describe(connection, context, key, NULL, 0) < 0 &&
+                       (errno == EKEYEXPIRED || errno == EKEYREVOKED || errno == ENOKEY);
+        if (is_dead) kr_unlink(connection, context, key, ring);
+        has_key = has_key || !is_dead;
+    }
+    return has_key && !kr_is_broken(connection);
+}
+
+/* Whether no other keeper holds this keyring: it would have a session of this name, which its user may search. One
+ * that was made just now may not be searched. The session is a second context's, as the first one's possesses the user
+ * keyring. */
+static bool is_only_one(struct kr *connection, uint32_t context, const char *ring) {
+    char name[KR_SESSION_NAME_ROOM], described[KR_SESSION_NAME_ROOM + 64] = "";
+    unsigned mask = 0;
+    snprintf(name, sizeof name, "keyretain-keeper:%s", ring);
+    int64_t second = kr_thread(connection, context);
+    int32_t session = second < 0 ? -1 : kr_join(connection, (uint32_t)second, name);
+    if (session < 0) return true;
+    kr_describe(connection, (uint32_t)second, session, described, sizeof described - 1);
+    sscanf(described, "keyring;%*u;%*u;%x;", &mask);
+    return !(mask & USER_MAY_SEARCH) &&
+           kr_setperm(connection, (uint32_t)second, session, mask | USER_MAY_SEARCH) == 0;
+}
+
+/* As long as the pipe is open, so that whoever started it can put a key there; then until it has none. */
+static void hold_ring(const struct options *options) {
+    char path[KR_PATH_ROOM];
+    uint32_t context;
+    struct kr *connection = connect_to(options->socket, path, sizeof path, &context);
+    int32_t ring = have_ring(connection, context, options->ring);
+    dprintf(STDOUT_FILENO, "%d:%s\n%s\n", (int)ring, options->ring, path);
+    let_go_of(STDOUT_FILENO);
+    wait_for_end(connection, true);
+    let_go_of(STDIN_FILENO);
+    if (is_only_one(connection, context, options->ring))
+        while (sweep(connection, context, ring)) poll(NULL, 0, LOOK_MILLISECONDS);
+    kr_close(connection);
+}
+
+int main(int count, char **words) {
+    if (count == 2) answer_option(words[1]);
+    struct options options = read_options(words + 1);
+    stand_alone();
+    if (options.ring)
+        hold_ring(&options);
+    else
+        hold_session(&options);
+    return 0;
+}

@@ -1,0 +1,85 @@
+/* place.c: which daemon is meant, and who it may be. Paths and variables may be another user's, as after su(1), and may
+ * change between two looks: so they only say where to connect. Who listens is asked of the kernel, after connect(2). */
+#define _GNU_SOURCE
+#include "place.h"
+
+#include <errno.h>
+#include <limits.h>
+#include <stdio.h>
+#include <stdlib.h>
+#include <string.h>
+#include <sys/auxv.h>
+#include <sys/stat.h>
+#include <unistd.h>
+
+#include "keyretain.h"
+
+#define SYSTEM_FOLDER "/run/keyretain"
+#define SOCKET_NAME "/keyretain.sock"
+
+static int fail(int error) {
+    errno = error;
+    return -1;
+}
+
+static int put_path(char *path, size_t room, const char *folder, const char *name) {
+    int length = snprintf(path, room, "%s%s", folder, name);
+    return length >= 0 && (size_t)length < room ? length : fail(ENAMETOOLONG);
+}
+
+/* $XDG_RUNTIME_DIR, unless it is another user's, which su(1) may leave in the environment. */
+static int put_runtime_folder(char *path, size_t room) {
+    const char *folder = getenv("XDG_RUNTIME_DIR");
+    struct stat status;
+    char usual[32];
+    if (!folder || !*folder || stat(folder, &status) < 0 || status.st_uid != geteuid()) {
+        snprintf(usual, sizeof usual, "/run/user/%u", (unsigned)geteuid());
+        folder = usual;
+    }
+    return put_path(path, room, folder, "/keyretain");
+}
+
+/* Whether the user has set up a daemon. It is meant even while it is down: what its user keeps isn't told to the
+ * system's daemon because of that. */
+static bool is_set_up(const char *folder) {
+    struct stat status;
+    return stat(folder, &status) == 0 || (errno != ENOENT && errno != ENOTDIR);
+}
+
+int kr_find_daemon(char *path, size_t room, enum kr_place *place) {
+    bool is_set_uid = getauxval(AT_SECURE) != 0;
+    const char *named = is_set_uid ? NULL : getenv("KEYRETAIN_SOCKET");
+    char folder[PATH_MAX];
+    *place = KR_NAMED;
+    if (named && *named) return put_path(path, room, named, "");
+    *place = KR_OWN;
+    if (!is_set_uid && put_runtime_folder(folder, sizeof folder) > 0 && is_set_up(folder))
+        return put_path(path, room, folder, SOCKET_NAME);
+    *place = KR_SYSTEM;
+    return put_path(path, room, SYSTEM_FOLDER, SOCKET_NAME);
+}
+
+int kr_default_path(char *path, size_t room) {
+    enum kr_place place;
+    return kr_find_daemon(path, room, &place);
+}
+
+/* As whom the system's daemon runs: who owns its folder, which only root can make there. */
+static bool is_system_daemon(uid_t peer) {
+    struct stat status;
+    return peer == 0 || (lstat(SYSTEM_FOLDER, &status) == 0 && S_ISDIR(status.st_mode) && status.st_uid == peer);
+}
+
+bool kr_is_trusted(enum kr_place place, uid_t peer) {
+    bool is_own = peer == geteuid();
+    switch (place) {
+    case KR_OWN: return is_own;
+    case KR_SYSTEM: return is_system_daemon(peer);
+    default: return is_own || is_system_daemon(peer);
+    }
+}
+
+bool kr_trusts_anybody(void) {
+    const char *word = secure_getenv("KEYRETAIN_TRUST");
+    return word && strcmp(word, "any") == 0;
+}

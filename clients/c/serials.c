@@ -1,0 +1,29 @@
+/* serials.c: the serials of daemons that follow one another. */
+#include "serials.h"
+
+#include <stdlib.h>
+#include <string.h>
+
+void serials_add(struct serials *serials, int32_t serial) {
+    if (serial <= 0) return;
+    if (serial > serials->highest) serials->highest = serial;
+    if (serial <= serials->stale) serials->again[serial / 8] |= (uint8_t)(1 << serial % 8);
+}
+
+bool serials_is_stale(const struct serials *serials, int32_t serial) {
+    return serial > 0 && serial <= serials->stale && !(serials->again[serial / 8] >> serial % 8 & 1);
+}
+
+int serials_begin_anew(struct serials *serials) {
+    int32_t stale = serials->highest > serials->stale ? serials->highest : serials->stale;
+    uint8_t *again = calloc((size_t)stale / 8 + 1, 1);
+    if (!again) return -1;
+    free(serials->again);
+    *serials = (struct serials){ .stale = stale, .again = again };
+    return 0;
+}
+
+void serials_clear(struct serials *serials) {
+    free(serials->again);
+    memset(serials, 0, sizeof *serials);
+}

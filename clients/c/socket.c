@@ -1,0 +1,297 @@
+/* socket.c: the socket of a connection: how it is made, who listens, and how bytes go out and come by a deadline. */
+#define _GNU_SOURCE
+#include <errno.h>
+#include <fcntl.h>
+#include <limits.h>
+#include <pthread.h>
+#include <stddef.h>
+#include <stdlib.h>
+#include <string.h>
+#include <sys/mman.h>
+#include <sys/stat.h>
+#include <sys/time.h>
+#include <time.h>
+#include <unistd.h>
+
+#include "connection.h"
+
+enum { KEPT_DESCRIPTOR = 200, USUAL_PATIENCE = 30000, IN_SEND = 0, IN_RECV = 1 };
+
+static int fail(int error) {
+    errno = error;
+    return -1;
+}
+
+int kr_break_off(struct kr *connection, int error) {
+    connection->broken = true;
+    return fail(error);
+}
+
+/* ---- Time ---- */
+
+int64_t kr_now(void) {
+    struct timespec now;
+    clock_gettime(CLOCK_MONOTONIC, &now);
+    return (int64_t)now.tv_sec * 1000 + now.tv_nsec / 1000000;
+}
+
+void kr_set_deadline(struct kr *connection, int64_t until) { connection->until = until; }
+
+void kr_begin_call(struct kr *connection) {
+    int64_t end = connection->patience < 0 ? KR_NEVER : kr_now() + connection->patience;
+    connection->deadline = end < connection->until ? end : connection->until;
+}
+
+int kr_milliseconds_left(const struct kr *connection) {
+    if (connection->deadline == KR_NEVER) return -1;
+    int64_t left = connection->deadline - kr_now();
+    if (left > INT_MAX) return INT_MAX;
+    return left > 0 ? (int)left : 0;
+}
+
+/* Has send or recv wait for as long as is left, which isn't 0. What the socket waits already does where it is longer by
+ * less than a hundredth: so a call that is answered soon sets nothing. */
+static int wait_in_socket(struct kr *connection, int which, int left) {
+    int wanted = left < 0 ? 0 : left, *set = &connection->waits[which];
+    if (*set == wanted || (wanted > 0 && *set > wanted && *set - wanted <= *set / 128)) return 0;
+    struct timeval time = { .tv_sec = wanted / 1000, .tv_usec = wanted % 1000 * 1000 };
+    int option = which == IN_SEND ? SO_SNDTIMEO : SO_RCVTIMEO;
+    if (setsockopt(connection->descriptor, SOL_SOCKET, option, &time, sizeof time) < 0) return -1;
+    *set = wanted;
+    return 0;
+}
+
+/* What a send or recv is called with, so that it ends by the deadline. */
+static int prepare_to_wait(struct kr *connection, int which, int *flags) {
+    int left = kr_milliseconds_left(connection);
+    *flags = left == 0 ? MSG_DONTWAIT : 0;
+    return left == 0 ? 0 : wait_in_socket(connection, which, left);
+}
+
+/* ---- Opening ---- */
+
+/* A socket whose number isn't one of the three that programs read from and write to, even if these are closed. */
+static int open_socket(void) {
+    int opened = socket(AF_UNIX, SOCK_STREAM | SOCK_CLOEXEC, 0);
+    if (opened < 0 || opened > STDERR_FILENO) return opened;
+    int moved = fcntl(opened, F_DUPFD_CLOEXEC, STDERR_FILENO + 1);
+    int error = errno;
+    close(opened);
+    errno = error;
+    return moved;
+}
+
+/* NULL where there is none. A kernel that doesn't wipe it in children leaves them to be told by their pid. */
+static struct kr_memory *make_memory(pid_t *owner) {
+    struct kr_memory *memory =
+        mmap(NULL, sizeof *memory, PROT_READ | PROT_WRITE, MAP_PRIVATE | MAP_ANONYMOUS, -1, 0);
+    if (memory == MAP_FAILED) return NULL;
+    *owner = madvise(memory, sizeof *memory, MADV_WIPEONFORK) < 0 ? getpid() : 0;
+    madvise(memory, sizeof *memory, MADV_DONTDUMP);
+    memory->is_here = true;
+    return memory;
+}
+
+/* The path, or for NULL that which is found. An empty one would be a name that anybody may take. */
+static int set_address(struct kr *connection, const char *path) {
+    char found[KR_PATH_ROOM];
+    connection->place = KR_NAMED;
+    if (!path && kr_find_daemon(found, sizeof found, &connection->place) < 0) return -1;
+    path = path ? path : found;
+    size_t length = strlen(path);
+    if (length == 0) return fail(ENOENT);
+    if (length >= sizeof connection->address.sun_path) return fail(ENAMETOOLONG);
+    connection->address.sun_family = AF_UNIX;
+    memcpy(connection->address.sun_path, path, length + 1);
+    return 0;
+}
+
+static int have_socket(struct kr *connection) {
+    struct stat status;
+    connection->waits[IN_SEND] = connection->waits[IN_RECV] = 0;
+    connection->descriptor = open_socket();
+    if (connection->descriptor < 0 || fstat(connection->descriptor, &status) < 0) return -1;
+    connection->inode = status.st_ino;
+    connection->device = status.st_dev;
+    return 0;
+}
+
+static int prepare(struct kr *connection, const char *path, int version, unsigned flags) {
+    if (version < 0 || version > KR_NEWEST_VERSION || flags & ~(unsigned)KR_ANY_SERVER) return fail(EINVAL);
+    connection->descriptor = -1;
+    connection->patience = USUAL_PATIENCE;
+    connection->until = KR_NEVER;
+    connection->version = version == 0 ? KR_NEWEST_VERSION : version;
+    connection->is_version_known = version != 0;
+    connection->trusts_anybody = flags & KR_ANY_SERVER || kr_trusts_anybody();
+    if (set_address(connection, path) < 0) return -1;
+    connection->memory = make_memory(&connection->owner);
+    return connection->memory ? have_socket(connection) : -1;
+}
+
+struct kr *kr_prepare(const char *path, int version, unsigned flags) {
+    struct kr *connection = calloc(1, sizeof *connection);
+    if (!connection || prepare(connection, path, version, flags) == 0) return connection;
+    kr_close(connection);
+    return NULL;
+}
+
+/* A connect that a signal interrupts has not begun, and is made again. One that finds the backlog full waits as send
+ * does: a millisecond at least. */
+static int connect_in_time(struct kr *connection) {
+    const struct sockaddr *address = (const struct sockaddr *)&connection->address;
+    socklen_t length = (socklen_t)(offsetof(struct sockaddr_un, sun_path) + strlen(connection->address.sun_path) + 1);
+    for (;;) {
+        int left = kr_milliseconds_left(connection);
+        if (wait_in_socket(connection, IN_SEND, left == 0 ? 1 : left) < 0) return -1;
+        if (connect(connection->descriptor, address, length) == 0) return 0;
+        bool is_interrupted = errno == EINTR && !connection->interruptible;
+        if (is_interrupted && left != 0) continue;
+        return is_interrupted || errno == EAGAIN ? fail(ETIMEDOUT) : -1;
+    }
+}
+
+/* Who listens: not who owns a path, which may be turned. */
+static int check_peer(struct kr *connection) {
+    struct ucred peer;
+    socklen_t length = sizeof peer;
+    if (getsockopt(connection->descriptor, SOL_SOCKET, SO_PEERCRED, &peer, &length) < 0) return -1;
+    connection->peer_uid = peer.uid;
+    connection->peer_gid = peer.gid;
+    connection->peer_pid = peer.pid;
+    if (connection->place == KR_NAMED && connection->trusts_anybody) return 0;
+    return kr_is_trusted(connection->place, peer.uid) ? 0 : fail(EACCES);
+}
+
+int kr_connect(struct kr *connection) {
+    if (connection->descriptor < 0 && have_socket(connection) < 0) return -1;
+    connection->asked = connection->answered = connection->given_up = 0;
+    connection->out_start = connection->out_end = connection->in_length = connection->taken = 0;
+    return connect_in_time(connection) < 0 ? -1 : check_peer(connection);
+}
+
+static struct kr *open_now(const char *path, int version, unsigned flags, int milliseconds) {
+    struct kr *connection = kr_prepare(path, version, flags);
+    if (!connection) return NULL;
+    connection->patience = milliseconds < 0 ? -1 : milliseconds;
+    kr_begin_call(connection);
+    if (kr_connect(connection) == 0) return connection;
+    kr_close(connection);
+    return NULL;
+}
+
+struct kr *kr_open_with(const char *path, int version, unsigned flags, int milliseconds) {
+    int cancelling;
+    pthread_setcancelstate(PTHREAD_CANCEL_DISABLE, &cancelling);
+    struct kr *connection = open_now(path, version, flags, milliseconds);
+    int error = errno;
+    pthread_setcancelstate(cancelling, NULL);
+    errno = error;
+    return connection;
+}
+
+struct kr *kr_open_version(const char *path, int version) { return kr_open_with(path, version, 0, USUAL_PATIENCE); }
+
+struct kr *kr_open(const char *path) { return kr_open_version(path, 0); }
+
+/* ---- Closing ---- */
+
+/* Whether the number is still that of the socket, in whatever process. */
+static bool is_socket(const struct kr *connection) {
+    struct stat status;
+    return connection->descriptor >= 0 && fstat(connection->descriptor, &status) == 0 && S_ISSOCK(status.st_mode) &&
+           status.st_ino == connection->inode && status.st_dev == connection->device;
+}
+
+bool kr_is_ours(const struct kr *connection) {
+    bool is_here = connection->owner == 0 ? connection->memory->is_here : connection->owner == getpid();
+    return is_here && is_socket(connection);
+}
+
+void kr_let_go(struct kr *connection) {
+    int error = errno;
+    if (is_socket(connection)) close(connection->descriptor);
+    connection->descriptor = -1;
+    errno = error;
+}
+
+void kr_close(struct kr *connection) {
+    int error = errno, cancelling;
+    if (!connection) return;
+    pthread_setcancelstate(PTHREAD_CANCEL_DISABLE, &cancelling);
+    kr_let_go(connection);
+    if (connection->memory) munmap(connection->memory, sizeof *connection->memory); /* the system clears its pages */
+    free(connection);
+    pthread_setcancelstate(cancelling, NULL);
+    errno = error;
+}
+
+int kr_keep_over_exec(struct kr *connection) {
+    if (!kr_is_ours(connection)) return fail(ECONNRESET);
+    int kept = fcntl(connection->descriptor, F_DUPFD, KEPT_DESCRIPTOR);
+    if (kept < 0) return fcntl(connection->descriptor, F_SETFD, 0); /* fewer descriptors are allowed than that */
+    close(connection->descriptor);
+    connection->descriptor = kept;
+    return 0;
+}
+
+/* ---- What is set and told ---- */
+
+int kr_set_patience(struct kr *connection, int milliseconds) {
+    connection->patience = milliseconds < 0 ? -1 : milliseconds;
+    return kr_is_ours(connection) ? 0 : fail(ECONNRESET);
+}
+
+void kr_set_interruptible(struct kr *connection, int interruptible) { connection->interruptible = interruptible != 0; }
+
+int kr_is_broken(const struct kr *connection) { return connection->broken; }
+
+int kr_descriptor(const struct kr *connection) { return is_socket(connection) ? connection->descriptor : -1; }
+
+void kr_peer(const struct kr *connection, uint32_t *uid, uint32_t *gid, int32_t *pid) {
+    if (uid) *uid = connection->peer_uid;
+    if (gid) *gid = connection->peer_gid;
+    if (pid) *pid = connection->peer_pid;
+}
+
+/* ---- Bytes ---- */
+
+/* After a send or recv that failed: 0 where it is to be tried again. */
+static int after_failure(struct kr *connection) {
+    if (errno == EINTR) return connection->interruptible ? -1 : 0;
+    if (errno != EAGAIN && errno != EWOULDBLOCK) return kr_break_off(connection, ECONNRESET);
+    return kr_milliseconds_left(connection) == 0 ? fail(ETIMEDOUT) : 0;
+}
+
+/* Sends what `out` has. Where it is interrupted the rest stays there, to go out before the next ask. */
+int kr_flush(struct kr *connection) {
+    uint8_t *out = connection->memory->out;
+    int flags;
+    while (connection->out_start < connection->out_end) {
+        if (prepare_to_wait(connection, IN_SEND, &flags) < 0) return kr_break_off(connection, ECONNRESET);
+        ssize_t sent = send(connection->descriptor, out + connection->out_start,
+                            connection->out_end - connection->out_start, MSG_NOSIGNAL | flags);
+        if (sent >= 0)
+            connection->out_start += (size_t)sent;
+        else if (after_failure(connection) < 0)
+            return -1;
+    }
+    explicit_bzero(out, connection->out_end); /* it may have been a payload */
+    connection->out_start = connection->out_end = 0;
+    return 0;
+}
+
+int kr_receive_bytes(struct kr *connection) {
+    int flags;
+    for (;;) {
+        if (prepare_to_wait(connection, IN_RECV, &flags) < 0) return kr_break_off(connection, ECONNRESET);
+        ssize_t got = recv(connection->descriptor, connection->memory->in + connection->in_length,
+                           sizeof connection->memory->in - connection->in_length, flags);
+        if (got == 0) return kr_break_off(connection, ECONNRESET);
+        if (got > 0) {
+            connection->in_length += (size_t)got;
+            return 0;
+        }
+        if (after_failure(connection) < 0) return -1;
+    }
+}
