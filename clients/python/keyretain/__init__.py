@@ -1,0 +1,36 @@
+"""A client of keyretaind(8), by Python's standard library alone: frames of both versions, every ask, and notes.
+
+    with keyretain.Client() as client:
+        context = client.hello(os.geteuid(), os.getegid())
+        serial = client.add(context, "user", "token", b"s3", keyretain.USER)
+        client.read(context, serial)
+
+A call that the daemon refuses raises Refused, with the error's number; a connection that can't be used any more raises
+Lost, a reply that is none Malformed, and a daemon that takes too long TimeoutError: all are OSErrors. What fits no
+frame is a ValueError, and nothing is sent. A Client is one connection: its contexts and queues end with it. It isn't
+locked: one thread at a time, and never a handler of a signal. keyretain-protocol(7) has each ask with its errors.
+
+    python3 -m keyretain KEY
+
+watches a key, by its serial or as @t, @p, @s, @u or @us, for the caller's uid, and prints its notes as text.
+"""
+from .client import PATIENCE, Client, notes_of
+from .connection import AHEAD
+from .errors import STATUSES, Lost, Malformed, Refused, TooFarAhead
+from .frames import (
+    ASKS, ENTRY, LEAVE_AS_IT_IS, LONGEST_ASK, LONGEST_REPLY, NUMBERS, PROCESS, SESSION, SHORTEST_REPLY, THREAD, USER,
+    USER_SESSION, VERSIONS, Ask, Reply, answer_of, decode_body, decode_reply, decode_serials, encode_ask, encode_body,
+    frame, name_of,
+)
+from .notes import SUBTYPES, Loss, Note, Removal, decode_notes, describe_note
+from .places import SYSTEM_PATH, Peer, default_path
+
+__version__ = "0.1.0"
+
+__all__ = [
+    "AHEAD", "ASKS", "ENTRY", "LEAVE_AS_IT_IS", "LONGEST_ASK", "LONGEST_REPLY", "NUMBERS", "PATIENCE", "PROCESS",
+    "SESSION", "SHORTEST_REPLY", "STATUSES", "SUBTYPES", "SYSTEM_PATH", "THREAD", "USER", "USER_SESSION", "VERSIONS",
+    "Ask", "Client", "Loss", "Lost", "Malformed", "Note", "Peer", "Refused", "Removal", "Reply", "TooFarAhead",
+    "answer_of", "decode_body", "decode_notes", "decode_reply", "decode_serials", "default_path", "describe_note",
+    "encode_ask", "encode_body", "frame", "name_of", "notes_of",
+]

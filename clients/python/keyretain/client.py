@@ -1,0 +1,262 @@
+"""The client: a method for each ask, and what is built on them."""
+from __future__ import annotations
+
+import errno
+import time
+from collections.abc import Iterator
+from typing import Any, Optional, Sequence
+
+from .connection import Connection, Deadline
+from .errors import Lost, Malformed, Refused
+from .frames import LEAVE_AS_IT_IS, VERSIONS, Answer, Bytes, Reply, Text, answer_of, decode_serials
+from .notes import Record, Removal, decode_notes
+from .places import Path, Peer, place_of
+
+PATIENCE = 30.0
+
+
+class Client:
+    """A connection, which ends with `close` or its `with` block, and its contexts and queues with it.
+
+    `path` names the daemon's socket; without it default_path() does. Nothing is sent before it is known who listens
+    there: the effective user where the path was found in the runtime directory, root or the system's daemon where it is
+    the system's, any of these where it was named. Else PermissionError is raised. A path that is named may be anybody's
+    if `trust` is "any", or KEYRETAIN_TRUST in the environment, which is for tests.
+
+    `version` is that of the frames: 1, 2, or None to find out with the first ask whether the daemon understands 2. It
+    may be set anew between asks: a reply is of its ask's version.
+
+    `timeout` is how many seconds a call may take in all, 0 to look once and None for no end; then it raises
+    TimeoutError. It may be set anew too. Signals don't lengthen it.
+
+    A call that an exception ends leaves the connection as it was where no frame was half sent or half taken: whether
+    the ask was carried out isn't known then, and a reply that comes late is dropped. In the midst of a frame it ends
+    the connection. A child of fork(2) has no part in it: each call raises Lost there, and its copy of the socket is
+    closed."""
+
+    def __init__(self, path: Optional[Path] = None, version: Optional[int] = None, timeout: Optional[float] = PATIENCE,
+                 trust: Optional[str] = None) -> None:
+        self.version, self.timeout = version, timeout
+        self._place = place_of(path, trust)
+        self._connection = Connection(self._place, Deadline(timeout))
+
+    @property
+    def path(self) -> Path:
+        """Where the daemon listens."""
+        return self._place.path
+
+    def peer(self) -> Peer:
+        """Who listened when the connection was made: its pid, uid and gid."""
+        return self._connection.peer
+
+    def close(self) -> None:
+        """Ends the connection; in a child of fork(2) the parent's stays."""
+        self._connection.end("it was closed", forget=True)
+
+    def __enter__(self) -> Client:
+        return self
+
+    def __exit__(self, *_: object) -> None:
+        self.close()
+
+    def send(self, name: str, context: int = 0, *values: Any) -> int:
+        """Sends an ask without waiting for its reply; answers its tag. receive() gives the answers, in order. While it
+        waits to write, replies are read and kept. So at most 256 asks may be ahead of receive(), which take 64 MiB at
+        worst; then it raises TooFarAhead."""
+        version = self.version or VERSIONS[-1]
+        return self._connection.send(name, context, values, version, True, Deadline(self.timeout)).tag
+
+    def receive(self) -> Answer:
+        """The answer to the first ask that was sent ahead and has none yet."""
+        asked, reply = self._connection.next_ahead(Deadline(self.timeout))
+        return self._answer_of(asked.name, reply)
+
+    def ask(self, name: str, context: int = 0, *values: Any) -> Answer:
+        """One ask and its answer."""
+        deadline = Deadline(self.timeout)
+        if self.version is None:
+            reply = self._first_exchange(name, context, values, deadline)
+        else:
+            reply = self._exchange(name, context, values, self.version, deadline)
+        return self._answer_of(name, reply)
+
+    def _exchange(self, name: str, context: int, values: tuple[Any, ...], version: int, deadline: Deadline) -> Reply:
+        asked = self._connection.send(name, context, values, version, False, deadline)
+        return self._connection.reply_to(asked, deadline)
+
+    def _first_exchange(self, name: str, context: int, values: tuple[Any, ...], deadline: Deadline) -> Reply:
+        """A daemon that doesn't understand the newest frames ends the connection, and has carried nothing out. The
+        version is found out once there is a reply."""
+        try:
+            reply = self._exchange(name, context, values, VERSIONS[-1], deadline)
+            self.version = VERSIONS[-1]
+            return reply
+        except Lost:
+            if not self._connection.may_be_too_new():
+                raise
+        self._connection = Connection(self._place, deadline)
+        reply = self._exchange(name, context, values, VERSIONS[0], deadline)
+        self.version = VERSIONS[0]
+        return reply
+
+    def _answer_of(self, name: str, reply: Reply) -> Answer:
+        try:
+            return answer_of(name, reply)
+        except Malformed as error:
+            self._connection.end(error.strerror, forget=True)
+            raise
+
+    def _number(self, name: str, context: int, *values: Any) -> int:
+        answer = self.ask(name, context, *values)
+        assert isinstance(answer, int)
+        return answer
+
+    def _bytes(self, name: str, context: int, *values: Any) -> bytes:
+        answer = self.ask(name, context, *values)
+        assert isinstance(answer, bytes)
+        return answer
+
+    # Contexts: the first three answer the number that other asks take as `context`.
+
+    def hello(self, uid: int, gid: int, groups: Sequence[int] = ()) -> int:
+        """A new context of this user. The daemon believes it."""
+        return self._number("HELLO", 0, uid, gid, groups)
+
+    def thread(self, context: int) -> int:
+        """A context for another thread of the same process."""
+        return self._number("THREAD", context)
+
+    def fork(self, context: int) -> int:
+        """A context for a child process."""
+        return self._number("FORK", context)
+
+    def exec(self, context: int) -> None:
+        """As execve(2): the thread and process keyrings go."""
+        self.ask("EXEC", context)
+
+    def exit(self, context: int) -> None:
+        """Ends the context."""
+        self.ask("EXIT", context)
+
+    def leave(self) -> None:
+        """Ends all contexts and queues of this connection."""
+        self.ask("LEAVE")
+
+    # Keys and keyrings. `key` and `ring` are serials, or one of THREAD to USER_SESSION.
+
+    def get_id(self, context: int, key: int, create: bool = False) -> int:
+        """The serial of a keyring that is named by its place."""
+        return self._number("GET_ID", context, key, int(create))
+
+    def join(self, context: int, name: Text = "") -> int:
+        """Joins the session of this name, or a new one; answers its serial."""
+        return self._number("JOIN", context, name)
+
+    def update(self, context: int, key: int, payload: Text) -> None:
+        """Gives the key this payload."""
+        self.ask("UPDATE", context, key, payload)
+
+    def revoke(self, context: int, key: int) -> None:
+        """Makes the key useless: EKEYREVOKED from here on."""
+        self.ask("REVOKE", context, key)
+
+    def chown(self, context: int, key: int, uid: int = LEAVE_AS_IT_IS, gid: int = LEAVE_AS_IT_IS) -> None:
+        """Changes the owner, the group or both."""
+        self.ask("CHOWN", context, key, uid, gid)
+
+    def setperm(self, context: int, key: int, mask: int) -> None:
+        """Sets the permission mask of keyctl_setperm(3)."""
+        self.ask("SETPERM", context, key, mask)
+
+    def describe(self, context: int, key: int) -> bytes:
+        """`type;uid;gid;mask;description`, as bytes: a description may be any."""
+        return self._bytes("DESCRIBE", context, key)
+
+    def clear(self, context: int, ring: int) -> None:
+        """Unlinks all that the keyring links."""
+        self.ask("CLEAR", context, ring)
+
+    def link(self, context: int, key: int, ring: int) -> None:
+        """Links the key into the keyring."""
+        self.ask("LINK", context, key, ring)
+
+    def unlink(self, context: int, key: int, ring: int) -> None:
+        """Takes the link to the key out of the keyring."""
+        self.ask("UNLINK", context, key, ring)
+
+    def search(self, context: int, head: int, type: Text, description: Text, destination: int = 0) -> int:
+        """The serial that is found below `head`; it is linked to `destination` where that isn't 0."""
+        return self._number("SEARCH", context, head, type, description, destination)
+
+    def read(self, context: int, key: int) -> bytes:
+        """The payload of a key."""
+        return self._bytes("READ", context, key)
+
+    def read_ring(self, context: int, ring: int) -> list[int]:
+        """The serials that a keyring links. Malformed where the key reads as none: it isn't a keyring."""
+        return decode_serials(self.read(context, ring))
+
+    def set_timeout(self, context: int, key: int, seconds: int) -> None:
+        """The key expires so many seconds from now; 0 takes that away."""
+        self.ask("SET_TIMEOUT", context, key, seconds)
+
+    def invalidate(self, context: int, key: int) -> None:
+        """Takes the key away from all."""
+        self.ask("INVALIDATE", context, key)
+
+    def restrict_keyring(self, context: int, ring: int, type: Text = "") -> None:
+        """Closes the keyring against new links."""
+        self.ask("RESTRICT_KEYRING", context, ring, type)
+
+    def move(self, context: int, key: int, source: int, destination: int, exclusive: bool = False) -> None:
+        """Moves a link; `exclusive` refuses to displace a key of the same name."""
+        self.ask("MOVE", context, key, source, destination, int(exclusive))
+
+    def add(self, context: int, type: Text, description: Text, payload: Text, ring: int) -> int:
+        """The serial of the key that was made in the keyring, or updated there."""
+        return self._number("ADD", context, type, description, payload, ring)
+
+    def request(self, context: int, type: Text, description: Text, destination: int = 0) -> int:
+        """The serial that a search of the thread, process and session keyring finds."""
+        return self._number("REQUEST", context, type, description, destination)
+
+    # Queues of notes.
+
+    def open_queue(self, capacity: int) -> int:
+        """The number of a queue that holds so many records."""
+        return self._number("OPEN_QUEUE", 0, capacity)
+
+    def watch(self, context: int, key: int, queue: int, watch: int = 0) -> None:
+        """The notes of a key go to the queue, and bear this number of 0 to 255; -1 ends that."""
+        self.ask("WATCH", context, key, queue, watch)
+
+    def set_filter(self, queue: int, entries: Sequence[Sequence[int]]) -> None:
+        """Entries are (type, info_filter, info_mask, eight words of subtype bits)."""
+        self.ask("SET_FILTER", 0, queue, entries)
+
+    def read_queue(self, queue: int, room: int = 4096) -> list[Record]:
+        """The records that wait, as many as have room; none where none waits."""
+        try:
+            return decode_notes(self._bytes("READ_QUEUE", 0, queue, room))
+        except Refused as refused:
+            if refused.errno == errno.EAGAIN:
+                return []
+            raise
+
+    def close_queue(self, queue: int) -> None:
+        """Ends the queue and its watches."""
+        self.ask("CLOSE_QUEUE", 0, queue)
+
+    def notes(self, queue: int, pause: float = 0.2) -> Iterator[Record]:
+        """Yields the records of a queue, without end. It is polled each `pause` seconds, as nothing wakes a reader."""
+        while True:
+            yield from self.read_queue(queue)
+            time.sleep(pause)
+
+
+def notes_of(client: Client, queue: int, pause: float = 0.2) -> Iterator[Record]:
+    """The same until a watch has ended."""
+    for note in client.notes(queue, pause):
+        yield note
+        if isinstance(note, Removal):
+            return

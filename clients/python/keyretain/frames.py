@@ -1,0 +1,193 @@
+"""Frames: the asks with their fields, as bytes and back, in both versions. docs/FORMAT.md has each of them."""
+from __future__ import annotations
+
+import struct
+from typing import Any, NamedTuple, Optional, Sequence, Union
+
+from .errors import STATUSES, Malformed, Refused
+
+VERSIONS = (1, 2)
+
+THREAD, PROCESS, SESSION, USER, USER_SESSION = -1, -2, -3, -4, -5  # ids of keyrings: keyrings(7)
+LEAVE_AS_IT_IS = 0xFFFFFFFF  # a uid or gid of chown
+
+Bytes = Union[bytes, bytearray, memoryview]
+Text = Union[str, Bytes]  # a str is sent as UTF-8
+Answer = Union[int, bytes, None]
+
+
+class Ask(NamedTuple):
+    """An ask's number, the forms of its fields, and what it answers: a number, bytes or nothing."""
+
+    number: int
+    fields: str
+    answer: str
+
+
+ASKS = {
+    "GET_ID": Ask(0, "id u8", "number"),
+    "JOIN": Ask(1, "text", "number"),
+    "UPDATE": Ask(2, "id blob", "nothing"),
+    "REVOKE": Ask(3, "id", "nothing"),
+    "CHOWN": Ask(4, "id u32 u32", "nothing"),
+    "SETPERM": Ask(5, "id u32", "nothing"),
+    "DESCRIBE": Ask(6, "id", "bytes"),
+    "CLEAR": Ask(7, "id", "nothing"),
+    "LINK": Ask(8, "id id", "nothing"),
+    "UNLINK": Ask(9, "id id", "nothing"),
+    "SEARCH": Ask(10, "id text text id", "number"),
+    "READ": Ask(11, "id", "bytes"),
+    "SET_TIMEOUT": Ask(15, "id u32", "nothing"),
+    "INVALIDATE": Ask(21, "id", "nothing"),
+    "RESTRICT_KEYRING": Ask(29, "id text", "nothing"),
+    "MOVE": Ask(30, "id id id u32", "nothing"),
+    "WATCH": Ask(32, "id u32 i32", "nothing"),
+    "HELLO": Ask(256, "u32 u32 groups", "number"),
+    "THREAD": Ask(257, "", "number"),
+    "FORK": Ask(258, "", "number"),
+    "EXEC": Ask(259, "", "nothing"),
+    "EXIT": Ask(260, "", "nothing"),
+    "LEAVE": Ask(261, "", "nothing"),
+    "ADD": Ask(262, "text text blob id", "number"),
+    "REQUEST": Ask(263, "text text id", "number"),
+    "OPEN_QUEUE": Ask(264, "u32", "number"),
+    "SET_FILTER": Ask(265, "u32 entries", "nothing"),
+    "READ_QUEUE": Ask(266, "u32 u32", "bytes"),
+    "CLOSE_QUEUE": Ask(267, "u32", "nothing"),
+}
+
+NUMBERS = {"id": struct.Struct("<i"), "i32": struct.Struct("<i"), "u8": struct.Struct("<B"),
+           "u32": struct.Struct("<I")}
+ENTRY = struct.Struct("<3I8I")
+COUNTED = {"text": ("<H", 1), "blob": ("<I", 1), "groups": ("<I", 4), "entries": ("<I", ENTRY.size)}
+LONGEST_ASK = 65536
+SHORTEST_REPLY = {1: 4, 2: 12}
+LONGEST_REPLY = {1: 262144, 2: 262152}
+
+# ---- Asks
+
+
+def _bytes(value: Text) -> bytes:
+    return value.encode() if isinstance(value, str) else bytes(memoryview(value))
+
+
+def _encode_field(form: str, value: Any) -> bytes:
+    if form in NUMBERS:
+        return NUMBERS[form].pack(value)
+    if form == "text":
+        return struct.pack("<H", len(_bytes(value))) + _bytes(value)
+    if form == "blob":
+        return struct.pack("<I", len(_bytes(value))) + _bytes(value)
+    if form == "groups":
+        return struct.pack(f"<I{len(value)}I", len(value), *value)
+    return struct.pack("<I", len(value)) + b"".join(ENTRY.pack(*entry) for entry in value)
+
+
+def encode_body(name: str, values: Sequence[Any]) -> bytes:
+    """The fields of this ask, one after the other. ValueError where a value is out of its width."""
+    forms = ASKS[name].fields.split()
+    if len(forms) != len(values):
+        raise TypeError(f"{name} has the fields {forms}")
+    try:
+        return b"".join(map(_encode_field, forms, values))
+    except struct.error as error:
+        raise ValueError(f"{name}: {error}") from None
+
+
+def frame(number: int, context: int, body: bytes = b"", version: int = 1, tag: int = 0) -> bytes:
+    """An ask's frame around any bytes, also such as the daemon will refuse."""
+    tagged = struct.pack("<Q", tag) if version == 2 else b""
+    rest = struct.pack("<HHI", version, number, context) + tagged + body
+    return struct.pack("<I", len(rest)) + rest
+
+
+def encode_ask(name: str, context: int, values: Sequence[Any] = (), version: int = 1, tag: int = 0) -> bytes:
+    """An ask's frame. ValueError where no frame holds it."""
+    try:
+        whole = frame(ASKS[name].number, context, encode_body(name, values), version, tag)
+    except struct.error as error:
+        raise ValueError(f"{name}: {error}") from None
+    if len(whole) - 4 > LONGEST_ASK:
+        raise ValueError(f"{name} is longer than a frame")
+    return whole
+
+
+def _decode_field(form: str, body: bytes, at: int) -> tuple[Any, int]:
+    """A field's value, and where the next one begins; struct.error where bytes are missing."""
+    if form in NUMBERS:
+        return NUMBERS[form].unpack_from(body, at)[0], at + NUMBERS[form].size
+    width, item = COUNTED[form]
+    count, at = struct.unpack_from(width, body, at)[0], at + struct.calcsize(width)
+    end = at + count * item
+    if end > len(body):
+        raise struct.error(f"{form} is cut short")
+    if form == "groups":
+        return list(struct.unpack_from(f"<{count}I", body, at)), end
+    if form == "entries":
+        return [ENTRY.unpack_from(body, i) for i in range(at, end, item)], end
+    return body[at:end], end
+
+
+def decode_body(name: str, body: bytes) -> Optional[list[Any]]:
+    """The fields of an ask's body; None where it isn't exactly these."""
+    values: list[Any] = []
+    at = 0
+    try:
+        for form in ASKS[name].fields.split():
+            value, at = _decode_field(form, body, at)
+            values.append(value)
+    except struct.error:
+        return None
+    return values if at == len(body) and not (name == "GET_ID" and values[1] > 1) else None
+
+
+def name_of(number: int) -> Optional[str]:
+    """The ask of this number, or None."""
+    return next((name for name, ask in ASKS.items() if ask.number == number), None)
+
+
+# ---- Replies
+
+
+class Reply(NamedTuple):
+    """A reply, and how long its frame is. Version 1 has no tag."""
+
+    status: int
+    tag: Optional[int]
+    body: bytes
+    length: int
+
+
+def decode_reply(received: Union[bytes, bytearray], version: int = 1) -> Optional[Reply]:
+    """The first reply of these bytes, or None where it isn't whole yet. Malformed where it can't become one."""
+    if len(received) < 4:
+        return None
+    length, head = struct.unpack_from("<I", received)[0], 16 if version == 2 else 8
+    if not SHORTEST_REPLY[version] <= length <= LONGEST_REPLY[version]:
+        raise Malformed(f"a reply of {length} bytes")
+    if len(received) < 4 + length:
+        return None
+    status = struct.unpack_from("<I", received, 4)[0]
+    tag = struct.unpack_from("<Q", received, 8)[0] if version == 2 else None
+    return Reply(status, tag, bytes(received[head:4 + length]), 4 + length)
+
+
+def answer_of(name: str, reply: Reply) -> Answer:
+    """The number, the bytes or the None that a reply to this ask answers; Refused for an error."""
+    if reply.status:
+        if reply.status not in STATUSES or reply.body:
+            raise Malformed(f"status {reply.status} with {len(reply.body)} bytes")
+        raise Refused(name, reply.status)
+    form = ASKS[name].answer
+    if form != "bytes" and len(reply.body) != (4 if form == "number" else 0):
+        raise Malformed(f"{name} is answered with {len(reply.body)} bytes")
+    if form == "number":
+        return int.from_bytes(reply.body, "little")
+    return reply.body if form == "bytes" else None
+
+
+def decode_serials(payload: bytes) -> list[int]:
+    """The serials that a keyring links, from the payload that it reads as."""
+    if len(payload) % 4:
+        raise Malformed(f"a keyring of {len(payload)} bytes")
+    return list(struct.unpack(f"<{len(payload) // 4}i", payload))

@@ -1,0 +1,123 @@
+"""Where the daemon is looked for, and who has to listen there before anything is told to it."""
+from __future__ import annotations
+
+import enum
+import errno
+import os
+import stat
+import struct
+from typing import NamedTuple, Optional, Union
+
+SYSTEM_PATH = "/run/keyretain/keyretain.sock"
+AT_SECURE = 23  # getauxval(3)
+
+Path = Union[str, bytes, "os.PathLike[str]"]
+
+
+class Peer(NamedTuple):
+    """Who listened when the connection was made: unix(7), SO_PEERCRED."""
+
+    pid: int
+    uid: int
+    gid: int
+
+
+class Trust(enum.Enum):
+    """Who may listen. A path that was found in the runtime directory must be the effective user's."""
+
+    OWN = "the effective user"
+    SYSTEM = "the system's daemon or root"
+    NAMED = "the effective user, the system's daemon or root"
+    ANY = "anybody"
+
+
+class Place(NamedTuple):
+    """A path, and who may listen there."""
+
+    path: Path
+    trust: Trust
+
+
+def environment(name: str) -> str:
+    """A variable, where the environment is the user's own: a program that runs set-uid has another's."""
+    return "" if runs_set_uid() else os.environ.get(name, "")
+
+
+def runs_set_uid() -> bool:
+    """Whether the kernel gave this program rights that whoever started it hadn't, as secure_getenv(3) asks."""
+    try:
+        with open("/proc/self/auxv", "rb") as vector:
+            return any(key == AT_SECURE and value for key, value in struct.iter_unpack("@2L", vector.read()))
+    except (OSError, struct.error):
+        return os.getuid() != os.geteuid() or os.getgid() != os.getegid()
+
+
+def _runtime_directory() -> str:
+    """$XDG_RUNTIME_DIR, unless it is another user's: su(1) may keep it."""
+    named = environment("XDG_RUNTIME_DIR")
+    try:
+        if named and os.stat(named).st_uid == os.geteuid():
+            return named
+    except OSError:
+        pass
+    return f"/run/user/{os.geteuid()}"
+
+
+def _is_set_up(folder: str) -> bool:
+    """Whether the user has set up a daemon, which may be down."""
+    try:
+        os.stat(folder)
+    except (FileNotFoundError, NotADirectoryError):
+        return False
+    except OSError:
+        pass
+    return True
+
+
+def find() -> Place:
+    """$KEYRETAIN_SOCKET; else the socket in the user's runtime directory, if that has a folder for it; else the
+    system's. A daemon of one's own that is down isn't replaced by the system's, which others may ask."""
+    if named := environment("KEYRETAIN_SOCKET"):
+        return Place(named, Trust.NAMED)
+    folder = _runtime_directory() + "/keyretain"
+    if not runs_set_uid() and _is_set_up(folder):
+        return Place(folder + "/keyretain.sock", Trust.OWN)
+    return Place(SYSTEM_PATH, Trust.SYSTEM)
+
+
+def default_path() -> Path:
+    """Where a Client without a path connects."""
+    return find().path
+
+
+def place_of(path: Optional[Path], trust: Optional[str]) -> Place:
+    """That of a Client with these arguments. `trust` is "any" for a program that doesn't ask who listens at a path that
+    is named."""
+    if trust not in (None, "any"):
+        raise ValueError(f'trust is None or "any", not {trust!r}')
+    place = find() if path is None else Place(path, Trust.NAMED)
+    spelled = os.fsencode(place.path)
+    if not spelled:
+        raise FileNotFoundError(errno.ENOENT, os.strerror(errno.ENOENT), place.path)
+    if b"\0" in spelled:
+        raise ValueError("a path with a null byte: an abstract name is anybody's to take")
+    is_any = place.trust is Trust.NAMED and "any" in (trust, environment("KEYRETAIN_TRUST"))
+    return Place(place.path, Trust.ANY) if is_any else place
+
+
+def is_system_daemon(uid: int) -> bool:
+    """Root, or who owns the folder of the system's socket, which only root can make there."""
+    try:
+        status = os.lstat(os.path.dirname(SYSTEM_PATH))
+    except OSError:
+        return uid == 0
+    return uid == 0 or stat.S_ISDIR(status.st_mode) and status.st_uid == uid
+
+
+def check(peer: Peer, place: Place) -> None:
+    """PermissionError where somebody listens who mustn't be told what this user keeps."""
+    is_own, trust = peer.uid == os.geteuid(), place.trust
+    if trust is Trust.ANY or is_own and trust is not Trust.SYSTEM:
+        return
+    if trust is Trust.OWN or not is_system_daemon(peer.uid):
+        raise PermissionError(errno.EACCES, f"uid {peer.uid} listens, and not {trust.value}", place.path)
