@@ -220,13 +220,13 @@ def try_python():
 
 def give_up(client, run, *words):
     """What a call answers that has little patience."""
-    client.socket.settimeout(0.1)
+    client.timeout = 0.1
     try:
         return run(*words)
-    except socket.timeout:
+    except TimeoutError:
         return "no answer"
     finally:
-        client.socket.settimeout(20)
+        client.timeout = 20
 
 
 def try_python_late():

@@ -4,6 +4,7 @@
 #include <pthread.h>
 #include <signal.h>
 #include <stdlib.h>
+#include <sys/wait.h>
 #include <unistd.h>
 
 #include "check.h"
@@ -32,9 +33,49 @@ static void be_killed(key_serial_t key) {
     check("still", refused(add_key("user", "a", "x", 1, KEY_SPEC_USER_KEYRING), ENOSYS));
 }
 
+/* Another process has keys of the new daemon with the serials of the old one, until it is ended. It says so when it has
+ * them all. */
+static pid_t fill_serials(key_serial_t highest) {
+    int ends[2];
+    char byte;
+    if (pipe(ends) < 0) return -1;
+    pid_t child = fork();
+    if (child != 0) {
+        close(ends[1]);
+        check("the other process has its keys", read(ends[0], &byte, 1) == 1);
+        return child;
+    }
+    for (key_serial_t made = 0; made <= highest + 1;) {
+        char name[16];
+        snprintf(name, sizeof name, "%d", made);
+        made = add_key("user", name, "another's", 9, KEY_SPEC_PROCESS_KEYRING);
+        if (made < 0 || keyctl_setperm(made, 0x3f3f0000) < 0 || keyctl_link(made, KEY_SPEC_USER_KEYRING) < 0) break;
+    }
+    (void)!write(ends[1], "", 1);
+    sleep(60);
+    _exit(0);
+}
+
+/* A serial that the old daemon told means its key, until the new one has told it to this process. */
+static void see_serials(key_serial_t key) {
+    char buffer[16];
+    int32_t links[64];
+    pid_t child = fill_serials(key);
+    check("a serial of the last daemon is no key of the new one",
+          refused(keyctl_read(key, buffer, sizeof buffer), EKEYREVOKED) &&
+          refused(keyctl_update(key, "secret", 6), EKEYREVOKED));
+    key_serial_t ring = keyctl_get_keyring_ID(KEY_SPEC_USER_KEYRING, 0);
+    check("serials begin anew", ring > 0 && ring <= key && keyctl_setperm(ring, 0x3f3f0000) == 0);
+    check("the keyring is read", keyctl_read(ring, (char *)links, sizeof links) >= 4);
+    check("a serial that was told again is that of the new key", keyctl_read(key, buffer, sizeof buffer) == 9);
+    check("the other process ends", kill(child, SIGKILL) == 0 && waitpid(child, NULL, 0) == child);
+}
+
 static void go_on(key_serial_t key) {
     char buffer[8];
-    check("a new daemon, which has no such key", refused(keyctl_read(key, buffer, sizeof buffer), ENOKEY));
+    check("a new daemon: a serial of the last one is refused",
+          refused(keyctl_read(key, buffer, sizeof buffer), EKEYREVOKED));
+    see_serials(key);
     check("the session is lost, and not made anew",
           refused(add_key("user", "a", "x", 1, KEY_SPEC_SESSION_KEYRING), EKEYREVOKED));
     check("nor is it searched", refused(request_key("user", "a", NULL, 0), EKEYREVOKED));
@@ -48,7 +89,11 @@ int main(int count, char **words) {
     if (count != 2) return 2;
     daemon_process = atoi(words[1]);
     check("a session", keyctl_join_session_keyring("killed") > 0);
-    key_serial_t key = add_key("user", "a", "x", 1, KEY_SPEC_SESSION_KEYRING);
+    key_serial_t key = 0;
+    for (int i = 0; i < 20; i++) { /* so that its serial is above those of the first keys of the next daemon */
+        if (key > 0) keyctl_unlink(key, KEY_SPEC_SESSION_KEYRING);
+        key = add_key("user", "a", "x", 1, KEY_SPEC_SESSION_KEYRING);
+    }
     check("a key", key > 0);
     be_killed(key);
     puts("killed");

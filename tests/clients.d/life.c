@@ -208,6 +208,11 @@ int main(int count, char **words) {
     key_serial_t session = keyctl_join_session_keyring("life");
     key_serial_t key = add_key("user", "of session", "abc", 3, KEY_SPEC_SESSION_KEYRING);
     check("a session", session > 0 && key > 0);
+#ifdef __SANITIZE_THREAD__ /* it has a thread of its own: so the library leaves the environment alone */
+    char named[32];
+    snprintf(named, sizeof named, "%d:life", session);
+    setenv("KEYRETAIN_SESSION", named, 1);
+#endif
     try_forks(session, key);
     try_descriptors(session, key);
     try_identities();

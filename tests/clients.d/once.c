@@ -1,14 +1,26 @@
-/* once: one call, the name of its error, and how many whole seconds it took. */
+/* once [signals]: one call, the name of its error, and how many whole seconds it took; with signals meanwhile. */
 #define _GNU_SOURCE
 #include <errno.h>
+#include <signal.h>
 #include <stdio.h>
 #include <string.h>
+#include <sys/time.h>
 #include <time.h>
 
 #include "keyutils.h"
 
-int main(void) {
+static void on_alarm(int unused) { (void)unused; }
+
+static void begin_signals(void) {
+    struct sigaction action = { .sa_handler = on_alarm };
+    struct itimerval often = { .it_value.tv_usec = 300000, .it_interval.tv_usec = 300000 };
+    sigaction(SIGALRM, &action, NULL);
+    setitimer(ITIMER_REAL, &often, NULL);
+}
+
+int main(int count, char **words) {
     struct timespec before, after;
+    if (count == 2 && strcmp(words[1], "signals") == 0) begin_signals();
     clock_gettime(CLOCK_MONOTONIC, &before);
     key_serial_t ring = keyctl_get_keyring_ID(KEY_SPEC_USER_KEYRING, 0);
     int error = ring < 0 ? errno : 0;

@@ -1,0 +1,188 @@
+/* hangs DAEMON MODE: what libkeyutils.so.1 does in a program with threads, forks and cancelled threads. Prints what
+ * became of it in one word, and `hangs` where that takes 15 seconds. */
+#define _GNU_SOURCE
+#include <pthread.h>
+#include <signal.h>
+#include <stdlib.h>
+#include <sys/wait.h>
+#include <unistd.h>
+
+#include "check.h"
+#include "keyutils.h"
+
+enum { LONGEST = 15 };
+
+static pid_t daemon_process;
+
+static void on_alarm(int unused) {
+    (void)unused;
+    if (daemon_process > 0) kill(daemon_process, SIGCONT);
+    (void)!write(STDOUT_FILENO, "hangs\n", 6);
+    _exit(9);
+}
+
+static void *ask(void *unused) {
+    (void)unused;
+    keyctl_get_keyring_ID(KEY_SPEC_USER_KEYRING, 0);
+    return NULL;
+}
+
+/* ---- A daemon that doesn't answer any more ---- */
+
+static pthread_t ask_of_stopped(void) {
+    pthread_t thread;
+    kill(daemon_process, SIGSTOP);
+    usleep(300000); /* its threads may run on for a little */
+    pthread_create(&thread, NULL, ask, NULL);
+    usleep(300000);
+    return thread;
+}
+
+static const char *go_on(pthread_t thread, const char *result) {
+    kill(daemon_process, SIGCONT);
+    pthread_join(thread, NULL);
+    return result;
+}
+
+/* Another thread waits for its answer. */
+static const char *try_fork(void) {
+    ask(NULL);
+    pthread_t waiting = ask_of_stopped();
+    pid_t child = fork();
+    if (child == 0) _exit(0);
+    waitpid(child, NULL, 0);
+    return go_on(waiting, "forks");
+}
+
+static pthread_barrier_t both_have_asked, may_end;
+
+static void *ask_and_end(void *unused) {
+    ask(unused);
+    pthread_barrier_wait(&both_have_asked);
+    pthread_barrier_wait(&may_end);
+    return NULL;
+}
+
+/* Another thread, which has asked, ends. */
+static const char *try_end(void) {
+    pthread_t ending;
+    pthread_barrier_init(&both_have_asked, NULL, 2);
+    pthread_barrier_init(&may_end, NULL, 2);
+    ask(NULL);
+    pthread_create(&ending, NULL, ask_and_end, NULL);
+    pthread_barrier_wait(&both_have_asked);
+    pthread_t waiting = ask_of_stopped();
+    pthread_barrier_wait(&may_end);
+    pthread_join(ending, NULL);
+    return go_on(waiting, "ends");
+}
+
+/* ---- Cancelling ---- */
+
+static void *be_cancelled(void *unused) {
+    pthread_cancel(pthread_self());
+    ask(unused);
+    pthread_testcancel();
+    return NULL;
+}
+
+static const char *try_cancel(void) {
+    pthread_t thread;
+    void *result;
+    pthread_create(&thread, NULL, be_cancelled, NULL);
+    pthread_join(thread, &result);
+    if (result != PTHREAD_CANCELED) return "not cancelled";
+    return keyctl_get_keyring_ID(KEY_SPEC_USER_KEYRING, 0) > 0 ? "answers" : "refuses";
+}
+
+/* ---- The environment of a program with threads ---- */
+
+static void *wait_for_end(void *unused) {
+    (void)unused;
+    pthread_barrier_wait(&may_end);
+    return NULL;
+}
+
+static bool is_in_session(key_serial_t session) {
+    int status;
+    pid_t child = fork();
+    if (child == 0) _exit(keyctl_get_keyring_ID(KEY_SPEC_SESSION_KEYRING, 0) == session ? 0 : 1);
+    return waitpid(child, &status, 0) == child && status == 0;
+}
+
+static const char *try_environment(void) {
+    pthread_t other;
+    pthread_barrier_init(&may_end, NULL, 2);
+    pthread_create(&other, NULL, wait_for_end, NULL);
+    key_serial_t session = keyctl_join_session_keyring("environment");
+    bool was_changed = getenv("KEYRETAIN_SESSION") != NULL, is_in = is_in_session(session);
+    pthread_barrier_wait(&may_end);
+    pthread_join(other, NULL);
+    if (was_changed || !is_in) return was_changed ? "changed" : "lost";
+    keyctl_join_session_keyring("environment");
+    return getenv("KEYRETAIN_SESSION") ? "changed alone" : "unchanged";
+}
+
+/* ---- A child that a second thread has made, and whose first thread ends before the others ---- */
+
+static void *ask_later(void *unused) {
+    (void)unused;
+    usleep(500000);
+    long ring = keyctl_get_keyring_ID(KEY_SPEC_USER_KEYRING, 0);
+    puts(ring > 0 ? "answers" : strerrorname_np(errno));
+    fflush(stdout);
+    _exit(0);
+}
+
+static void run_child(void) {
+    pthread_t later;
+    alarm(LONGEST);
+    keyctl_get_keyring_ID(KEY_SPEC_THREAD_KEYRING, 1);
+    pthread_create(&later, NULL, ask_later, NULL);
+    pthread_exit(NULL);
+}
+
+static void *fork_and_wait(void *unused) {
+    ask(unused);
+    pid_t child = fork();
+    if (child == 0) run_child();
+    waitpid(child, NULL, 0);
+    return NULL;
+}
+
+static const char *try_child(void) {
+    pthread_t thread;
+    ask(NULL);
+    pthread_create(&thread, NULL, fork_and_wait, NULL);
+    pthread_join(thread, NULL);
+    return NULL;
+}
+
+/* ---- Arguments whose upper half nobody has set ---- */
+
+static const char *try_halves(void) {
+    const unsigned long dirt = 0x100000000;
+    key_serial_t key = add_key("user", "moved", "x", 1, KEY_SPEC_PROCESS_KEYRING);
+    key_serial_t ring = add_key("keyring", "to", NULL, 0, KEY_SPEC_PROCESS_KEYRING);
+    long made = keyctl(KEYCTL_GET_KEYRING_ID, (unsigned long)KEY_SPEC_THREAD_KEYRING, dirt);
+    long moved = keyctl(KEYCTL_MOVE, (unsigned long)key, (unsigned long)KEY_SPEC_PROCESS_KEYRING, (unsigned long)ring,
+                        dirt);
+    return made == -1 && moved == 0 ? "cut" : "whole";
+}
+
+int main(int count, char **words) {
+    static const struct {
+        const char *name;
+        const char *(*run)(void);
+    } modes[] = { { "fork", try_fork },   { "end", try_end },       { "cancel", try_cancel },
+                  { "child", try_child }, { "halves", try_halves }, { "environment", try_environment } };
+    if (count != 3) return 2;
+    daemon_process = atoi(words[1]);
+    signal(SIGALRM, on_alarm);
+    alarm(LONGEST);
+    for (size_t i = 0; i < sizeof modes / sizeof *modes; i++) {
+        const char *result = strcmp(words[2], modes[i].name) == 0 ? modes[i].run() : NULL;
+        if (result) puts(result);
+    }
+    return 0;
+}

@@ -1,0 +1,190 @@
+/* hostile PATH MODE: libkeyretain and a server of its own process that is silent, slow, or answers in part. Prints
+ * what became of it in one word, and `hangs` where that takes 8 seconds. */
+#define _GNU_SOURCE
+#include <errno.h>
+#include <fcntl.h>
+#include <malloc.h>
+#include <pthread.h>
+#include <signal.h>
+#include <stdbool.h>
+#include <stdint.h>
+#include <stdio.h>
+#include <stdlib.h>
+#include <string.h>
+#include <sys/socket.h>
+#include <sys/un.h>
+#include <time.h>
+#include <unistd.h>
+
+#include "keyretain.h"
+
+enum { LONGEST = 8, SECRET = 16, FRAME = 64 };
+
+static const char *path;
+static int listener;
+
+static void on_alarm(int unused) {
+    (void)unused;
+    (void)!write(STDOUT_FILENO, "hangs\n", 6);
+    _exit(9);
+}
+
+static void on_timer(int unused) { (void)unused; }
+
+/* ---- Servers ---- */
+
+static void listen_here(int backlog) {
+    struct sockaddr_un address = { .sun_family = AF_UNIX };
+    strcpy(address.sun_path, path);
+    unlink(path);
+    listener = socket(AF_UNIX, SOCK_STREAM | SOCK_CLOEXEC, 0);
+    if (listener < 0 || bind(listener, (struct sockaddr *)&address, sizeof address) < 0 ||
+        listen(listener, backlog) < 0)
+        exit(2);
+}
+
+/* A byte each 100 milliseconds of a reply without end. */
+static void *drip(void *unused) {
+    const uint8_t byte[] = { 0 }, head[] = { 0, 0, 4, 0 };
+    int end = accept(listener, NULL, NULL);
+    (void)!write(end, head, sizeof head);
+    while (write(end, byte, 1) == 1) usleep(100000);
+    return unused;
+}
+
+/* Answers the first ask, and half of what the second one reads. The frames are of version 2. */
+static void *answer_half(void *unused) {
+    uint8_t ask[FRAME], number[] = { 16, 0, 0, 0, 0, 0, 0, 0, 1, 0, 0, 0, 0, 0, 0, 0, 1, 0, 0, 0 };
+    uint8_t half[16 + SECRET] = { 12 + 100, 0, 0, 0, 0, 0, 0, 0, 2 };
+    int end = accept(listener, NULL, NULL);
+    if (read(end, ask, sizeof ask) > 0 && write(end, number, sizeof number) > 0 && read(end, ask, sizeof ask) > 0) {
+        for (int i = 0; i < SECRET; i++) half[16 + i] = (uint8_t)(i * 7 + 0x41);
+        (void)!write(end, half, sizeof half);
+        explicit_bzero(half, sizeof half);
+    }
+    pause();
+    return unused;
+}
+
+static struct kr *connect_to(void *(*serve)(void *), int patience) {
+    pthread_t thread;
+    listen_here(8);
+    if (serve) pthread_create(&thread, NULL, serve, NULL);
+    struct kr *connection = kr_open_version(path, 2);
+    if (!connection || kr_set_patience(connection, patience) < 0) exit(2);
+    return connection;
+}
+
+static const char *hello(struct kr *connection) {
+    return kr_hello(connection, 0, 0, 0, NULL) < 0 ? strerrorname_np(errno) : "answered";
+}
+
+/* A signal each 300 milliseconds. */
+static void begin_timer(void) {
+    struct sigaction action = { .sa_handler = on_timer, .sa_flags = SA_RESTART };
+    struct sigevent event = { .sigev_notify = SIGEV_SIGNAL, .sigev_signo = SIGUSR1 };
+    struct itimerspec often = { .it_value.tv_nsec = 300000000, .it_interval.tv_nsec = 300000000 };
+    timer_t timer;
+    sigaction(SIGUSR1, &action, NULL);
+    if (timer_create(CLOCK_MONOTONIC, &event, &timer) < 0 || timer_settime(timer, 0, &often, NULL) < 0) exit(2);
+}
+
+/* ---- Deadlines ---- */
+
+static const char *try_zero(void) { return hello(connect_to(NULL, 0)); }
+
+static const char *try_signals(void) {
+    struct kr *connection = connect_to(NULL, 1000);
+    begin_timer();
+    return hello(connection);
+}
+
+static const char *try_drip(void) { return hello(connect_to(drip, 1000)); }
+
+/* ---- What is left in memory ---- */
+
+static void make_secret(uint8_t *secret) {
+    for (int i = 0; i < SECRET; i++) secret[i] = (uint8_t)(i * 7 + 0x41);
+}
+
+/* Whether the secret is in what may be written of this process, but for the stack and this program's own data. */
+static bool finds_in(int memory, unsigned long from, unsigned long to) {
+    static uint8_t page[4096 + SECRET];
+    uint8_t secret[SECRET];
+    bool found = false;
+    make_secret(secret);
+    for (unsigned long at = from; at < to && !found; at += 4096) {
+        if (at <= (unsigned long)page + sizeof page && at + sizeof page >= (unsigned long)page) continue;
+        ssize_t got = pread(memory, page, sizeof page, (off_t)at);
+        found = got > SECRET && memmem(page, (size_t)got, secret, SECRET) != NULL;
+    }
+    explicit_bzero(page, sizeof page);
+    explicit_bzero(secret, sizeof secret);
+    return found;
+}
+
+static const char *look_for_secret(void) {
+    FILE *maps = fopen("/proc/self/maps", "r");
+    int memory = open("/proc/self/mem", O_RDONLY);
+    unsigned long from, to;
+    char line[512], rights[8];
+    bool found = false;
+    while (maps && fgets(line, sizeof line, maps)) {
+        bool is_range = sscanf(line, "%lx-%lx %4s", &from, &to, rights) == 3;
+        if (!is_range || rights[1] != 'w' || strstr(line, "[stack]")) continue;
+        found = found || finds_in(memory, from, to);
+    }
+    return found ? "left" : "gone";
+}
+
+/* A reply of which a half has come. */
+static const char *try_half(void) {
+    char buffer[SECRET];
+    mallopt(M_MMAP_THRESHOLD, 1 << 30);
+    struct kr *connection = connect_to(answer_half, 700);
+    int64_t context = kr_hello(connection, 0, 0, 0, NULL);
+    if (context < 0 || kr_read(connection, (uint32_t)context, 5, buffer, sizeof buffer) >= 0) return "answered";
+    kr_close(connection);
+    return look_for_secret();
+}
+
+/* An ask that fits no frame, whose payload had been put there. */
+static const char *try_no_frame(void) {
+    static uint8_t payload[65503]; /* all but the last field has room */
+    struct kr *connection = connect_to(NULL, 700);
+    make_secret(payload + 60000);
+    int32_t key = kr_add(connection, 1, "user", "name", payload, sizeof payload, -4);
+    explicit_bzero(payload, sizeof payload);
+    return key >= 0 || errno != EINVAL ? "sent" : look_for_secret();
+}
+
+/* Whether a core file would have what is sent and received, or a child of fork(2): VmFlags of proc(5) say `dd`,
+ * `wf`. */
+static const char *try_dump(void) {
+    struct kr *connection = connect_to(NULL, 700);
+    FILE *maps = fopen("/proc/self/smaps", "r");
+    char line[512];
+    bool is_left_out = false;
+    while (maps && fgets(line, sizeof line, maps))
+        is_left_out = is_left_out || (strncmp(line, "VmFlags:", 8) == 0 && strstr(line, " dd") && strstr(line, " wf"));
+    kr_close(connection);
+    return is_left_out ? "left out" : "dumped";
+}
+
+static const char *try_empty(void) { return kr_open("") ? "connected" : strerrorname_np(errno); }
+
+int main(int count, char **words) {
+    static const struct {
+        const char *name;
+        const char *(*run)(void);
+    } modes[] = { { "zero", try_zero }, { "signals", try_signals },   { "drip", try_drip },   { "half", try_half },
+                  { "dump", try_dump }, { "no frame", try_no_frame }, { "empty", try_empty } };
+    if (count != 3) return 2;
+    path = words[1];
+    signal(SIGALRM, on_alarm);
+    alarm(LONGEST);
+    for (size_t i = 0; i < sizeof modes / sizeof *modes; i++)
+        if (strcmp(words[2], modes[i].name) == 0) puts(modes[i].run());
+    fflush(stdout);
+    _exit(0);
+}

@@ -1,0 +1,231 @@
+# To whom a client talks, what it hands on, and that it ends: for tests/clients.
+# shellcheck shell=bash disable=SC2016,SC2034,SC2154
+
+# ---- Nothing hangs
+
+try_hangs() {
+  local name mode wanted
+  serve --lanes 32
+  for name in hangs hangs-address,undefined hangs-thread; do
+    [ -x "$dir/$name" ] || continue
+    while read -r mode wanted; do
+      # one has a thread of its own, and starts none in a child of a program with threads
+      case $name:$mode in hangs-thread:environment | hangs-thread:child) continue ;; esac
+      is "a program with threads, $name: $mode" "$wanted" "$("$dir/$name" "$daemon" "$mode")"
+    done <<'END'
+fork forks
+end ends
+cancel answers
+child answers
+halves cut
+environment changed alone
+END
+  done
+  kill_daemon TERM
+}
+
+try_hostile() {
+  local name mode wanted
+  for name in hostile hostile-address,undefined; do
+    [ -x "$dir/$name" ] || continue
+    while IFS=: read -r mode wanted; do
+      # a sanitizer has memory of its own, which its allocator doesn't give back
+      case $name:$mode in hostile-*:half | hostile-*:no\ frame | hostile-*:dump) continue ;; esac
+      is "$name: $mode" "$wanted" "$("$dir/$name" "$dir/hostile.sock" "$mode")"
+    done <<'END'
+zero:ETIMEDOUT
+signals:ETIMEDOUT
+drip:ETIMEDOUT
+half:gone
+no frame:gone
+dump:left out
+empty:ENOENT
+END
+  done
+}
+
+# A server that accepts nothing, whose queue of connections is full; signals come meanwhile.
+try_backlog() {
+  local server
+  : >"$dir/full.text"
+  python3 -B -c '
+import socket, sys, time
+server = socket.socket(socket.AF_UNIX)
+server.bind(sys.argv[1])
+server.listen(0)
+waiting = [socket.socket(socket.AF_UNIX) for _ in range(4)]
+for each in waiting:
+    each.setblocking(False)
+    try: each.connect(sys.argv[1])
+    except BlockingIOError: print("full", flush=True); break
+time.sleep(60)' "$dir/full.sock" >"$dir/full.text" &
+  server=$!
+  until_true grep -q full "$dir/full.text"
+  is 'connecting ends after ten seconds, whatever signals come' 'ETIMEDOUT 10' \
+    "$(KEYRETAIN_SOCKET=$dir/full.sock "$dir/once" signals)"
+  kill "$server"
+  finish "$server"
+}
+
+# ---- Keepers
+
+keepers() { pgrep -f "^$dir/keyretain/keyretain-keeper .*$path|^keyretain-keeper .*$path"; }
+
+has_no_keeper() { ! keepers >/dev/null; }
+
+has_one_keeper() { [ "$(keepers | wc -l)" = 1 ]; }
+
+# keep NAME WORD ..: a keeper on a pipe, whose other end is $life, and what it answers
+keep() {
+  rm -f "$dir/life"
+  : >"$dir/answer"
+  mkfifo "$dir/life"
+  "$dir/keyretain/keyretain-keeper" --socket "$path" "$@" <"$dir/life" >"$dir/answer" 2>/dev/null &
+  exec {life}>"$dir/life"
+  until_true grep -q . "$dir/answer"
+}
+
+let_go() { exec {life}>&-; }
+
+# in_named: the session keyring of the session that $dir/answer tells
+in_named() { KEYRETAIN_SESSION=$(head -n 1 "$dir/answer") timeout 20 "$dir/acts" session; }
+
+try_keeper() {
+  local life serial sockets
+  serve --lanes 32
+  is 'keeper: the words --version' "keyretain-keeper $version" "$("$dir/c/keyretain-keeper" --version)"
+  is 'keeper: no such option' 2 "$("$dir/c/keyretain-keeper" --none 2>/dev/null; echo $?)"
+  is 'keeper: a name and a ring' 2 "$("$dir/c/keyretain-keeper" --name a --hold b 2>/dev/null; echo $?)"
+  keep --name kept
+  serial=$(sed -n '1s/:kept$//p' "$dir/answer")
+  is 'keeper: where the session is' "$path" "$(sed -n 2p "$dir/answer")"
+  is 'keeper: its session' "$serial" "$(in_named)"
+  if [ "$(id -u)" = 0 ]; then
+    is 'keeper: its descriptors' '0 1 2 3' "$(find "/proc/$(keepers)/fd" -mindepth 1 -printf '%f\n' | sort -n | xargs)"
+    is 'keeper: it keeps no folder in use' / "$(readlink "/proc/$(keepers)/cwd")"
+  else
+    is 'keeper: only root may look at it' no "$(ls "/proc/$(keepers)/fd" >/dev/null 2>&1 && echo yes || echo no)"
+  fi
+  let_go
+  until_true has_no_keeper
+  is 'keeper: ends with its pipe' EKEYREVOKED "$(in_named)"
+  keep --name revoked
+  printf r >&"$life"
+  until_true has_no_keeper
+  is 'keeper: revokes when it is told' EKEYREVOKED "$(in_named)"
+  let_go
+  keep --deaf --name deaf
+  printf r >&"$life"
+  is 'keeper: a deaf one is told nothing' "$(sed -n '1s/:.*//p' "$dir/answer")" "$(sleep 0.5; in_named)"
+  kill_daemon TERM
+  until_true has_no_keeper
+  is 'keeper: ends with the daemon' gone "$(has_no_keeper && echo gone)"
+  let_go
+  keep --name late
+  is 'keeper: no daemon' "failed 111 $path: Connection refused" "$(<"$dir/answer")"
+  let_go
+}
+
+# A keyring of the user keyring is held until its keys have expired, though nobody is in a session.
+try_hold() {
+  local life
+  serve --lanes 32
+  keep --hold credentials
+  is 'hold: a key is put there' ok "$("$dir/acts" put credentials 30)"
+  let_go
+  sleep 1
+  is 'hold: it is there after that' ok "$("$dir/acts" put credentials 30)"
+  keep --hold credentials
+  let_go
+  until_true has_one_keeper
+  is 'hold: one keeper does it' 1 "$(keepers | wc -l)"
+  is 'hold: a key that expires soon' ok "$("$dir/acts" put credentials 2)"
+  until_true has_no_keeper
+  is 'hold: until its keys have expired' ENOKEY "$("$dir/acts" put credentials 2)"
+  keep --hold credentials
+  let_go
+  until_true has_no_keeper
+  is 'hold: nothing is held for nothing' gone "$(has_no_keeper && echo gone)"
+  kill_daemon TERM
+}
+
+# What a command inherits, and enters.
+try_inherited() {
+  serve --lanes 32
+  is 'a command in a session inherits no connection' 0 "$(in_session -- "$dir/acts" sockets)"
+  is 'nor does what a program in a session executes' 0 "$("$dir/acts" execute named "$dir/acts" sockets)"
+  is 'a session is entered by its variable' yes "$(in_session -- sh -c '
+    a=$('"$dir"'/acts session); b=$("$0" --join -- '"$dir"'/acts session); [ "$a" = "$b" ] && echo yes' \
+    "$dir/c/keyretain-session")"
+  is 'a session that nobody holds is not entered' 1 \
+    "$(KEYRETAIN_SESSION=5:nobody in_session --join -- true 2>/dev/null; echo $?)"
+  is 'nor is one that no variable names' 1 "$(in_session --join -- true 2>/dev/null; echo $?)"
+  is 'a name to join' 2 "$(in_session --join name 2>/dev/null; echo $?)"
+  is 'a folder of the library that is not absolute' "$dir/keyretain" "$(cd "$dir" &&
+    KEYRETAIN_LIBRARY_FOLDER=keyretain "$dir/c/keyretain-session" -- sh -c 'echo ${LD_LIBRARY_PATH%%:*}')"
+  is 'no keeper is there' 3 "$("$dir/no-keeper/keyretain-session" -- true 2>/dev/null; echo $?)"
+  kill_daemon TERM
+  until_true has_no_keeper
+  is 'no keeper is left' gone "$(has_no_keeper && echo gone)"
+}
+
+# ---- Places
+
+# A daemon of one's own that is down isn't replaced by the system's.
+try_own_place() {
+  local runtime=$dir/down acts=$dir/acts KEYRETAIN_SOCKET=''
+  mkdir -p "$runtime/keyretain"
+  is "one's own daemon, which is down" "$runtime/keyretain/keyretain.sock" "$(XDG_RUNTIME_DIR=$runtime "$acts" where)"
+  is 'no call is answered then' 'ENOSYS 0' "$(XDG_RUNTIME_DIR=$runtime "$dir/once")"
+  rmdir "$runtime/keyretain"
+  is 'where none was set up' /run/keyretain/keyretain.sock "$(XDG_RUNTIME_DIR=$runtime "$acts" where)"
+}
+
+# As root, or as root of a user namespace.
+try_two_uids() {
+  local run=("$parts/two-uids" "$dir" "$keyretaind")
+  if [ "$(id -u)" != 0 ]; then
+    run=(unshare --map-root-user --map-auto --mount "${run[@]}")
+    unshare --map-root-user --map-auto --mount true 2>/dev/null || run=()
+  elif ! unshare --mount true 2>/dev/null; then
+    run=()
+  fi
+  if [ "${#run[@]}" = 0 ] || ! command -v setpriv >/dev/null; then
+    skipped 'two users: not root, and no user namespace with two; or no setpriv'
+  else
+    has_none 'two users' "${run[@]}"
+  fi
+}
+
+# ---- How it is built and installed
+
+try_built() {
+  local object
+  if command -v readelf >/dev/null; then
+    for object in libkeyretain.so.0 libkeyutils.so.1 keyretain-session keyretain-keeper; do
+      is "$object: bound before it runs" 1 "$(readelf -dW "$dir/c/$object" | grep -c 'FLAGS_1.*NOW')"
+      is "$object: a guard on the stack" yes "$(readelf -sW "$dir/c/$object" | grep -q __stack_chk_fail && echo yes)"
+    done
+    is 'the name of libkeyretain' libkeyretain.so.0 "$(readelf -dW "$dir/c/libkeyretain.so.0" |
+      sed -n 's/.*SONAME.*\[\(.*\)\]/\1/p')"
+  else
+    skipped 'how the objects are built: no readelf'
+  fi
+  if command -v c++ >/dev/null; then
+    printf '#include <keyretain.h>\nint main() { return kr_open(0) != 0; }\n' >"$dir/include.cc"
+    is 'a program in C++' built "$(c++ -std=c++98 -Wall -Wextra -pedantic -Werror -Wno-long-long -I"$top/clients/c" \
+      "$dir/include.cc" "$dir/c/libkeyretain.so.0" -o "$dir/include" 2>&1 && echo built)"
+  else
+    skipped 'a program in C++: no compiler'
+  fi
+}
+
+try_installed() {
+  local made=(make -s -C "$top/clients/c" BUILD="$dir/i" PREFIX=/p DESTDIR="$dir/root" CFLAGS=-O1)
+  cp -a "$dir/c" "$dir/i"
+  "${made[@]}" install >/dev/null || { is 'installing' installed failed; return; }
+  is 'the keeper is installed' there "$([ -x "$dir/root/p/libexec/keyretain/keyretain-keeper" ] && echo there)"
+  is 'and its page' there "$([ -e "$dir/root/p/share/man/man8/keyretain-keeper.8" ] && echo there)"
+  "${made[@]}" uninstall
+  is 'nothing is left' '' "$(find "$dir/root" ! -type d)"
+}

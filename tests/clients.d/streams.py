@@ -1,0 +1,399 @@
+"""streams.py: what the Python client leaves on its connection when a call ends early, forks, waits or is told nonsense.
+Prints a line for each difference, and last how many were compared."""
+import ctypes
+import importlib
+import os
+import signal
+import socket
+import subprocess
+import sys
+import threading
+import time
+
+import servers
+from servers import answer_all, client_of, compare, outcome, plain, reply, served
+import keyretain
+
+
+class Interrupted(BaseException):
+    """What no clause for OSErrors or Exceptions catches."""
+
+
+def interrupt(*_):
+    raise Interrupted
+
+
+class alarm:
+    """Within it a signal comes after so many seconds, and again each `every`."""
+
+    def __init__(self, handler, seconds, every=0.0):
+        self.handler, self.times = handler, (seconds, every)
+
+    def __enter__(self):
+        signal.signal(signal.SIGALRM, self.handler)
+        signal.setitimer(signal.ITIMER_REAL, *self.times)
+
+    def __exit__(self, *_):
+        signal.setitimer(signal.ITIMER_REAL, 0)
+
+
+def ended_by(run, *words):
+    try:
+        return run(*words)
+    except Interrupted:
+        return "interrupted"
+    except Exception as error:
+        return type(error).__name__
+
+
+def bare_fork():
+    """fork(2) itself, of which Python isn't told."""
+    return ctypes.CDLL(None).fork()
+
+
+def in_child(run, fork=os.fork):
+    """What it answers in a child, as text."""
+    read, write = os.pipe()
+    child = fork()
+    if child == 0:
+        os.write(write, str(outcome(run)).encode())
+        os._exit(0)
+    os.close(write)
+    with os.fdopen(read) as answered:
+        text = answered.read()
+    os.waitpid(child, 0)
+    return text
+
+
+# ---- Forks
+
+
+def try_children():
+    """A child, also of another thread and one that has its parent's number, can't ask on the parent's connection."""
+    answers, getpid = [], os.getpid
+    for version in keyretain.VERSIONS:
+        with client_of(version=version) as client:
+            answers.append(in_child(lambda: client.read(1, 5)))
+            thread = threading.Thread(target=lambda: answers.append(in_child(lambda: client.read(1, 5))))
+            thread.start()
+            thread.join()
+            answers.append(in_child(lambda: client.send("READ", 1, 5)))
+            answers.append(in_child(lambda: client.read(1, 5), bare_fork))
+            os.getpid = lambda: 1
+            with keyretain.Client(client.path, version, 20) as other:
+                answers.append(in_child(lambda: other.read(1, 5)))
+            os.getpid = getpid
+            compare(f"the parent's answer afterwards, version {version}", b"9", client.read(1, 9))
+    compare("asks in children", ["Lost"] * 10, answers)
+
+
+def try_held():
+    """A child that lives doesn't keep the parent's connection from ending."""
+    ended = threading.Event()
+
+    def serve(end):
+        answer_all(end)
+        ended.set()
+
+    with client_of(serve) as client:
+        client.read(1, 5)
+        child = os.fork()
+        if child == 0:
+            time.sleep(60)
+            os._exit(0)
+        client.close()
+        compare("the end of a connection whose child lives", True, ended.wait(20))
+        os.kill(child, signal.SIGKILL)
+        os.waitpid(child, 0)
+
+
+# ---- Exceptions
+
+
+def try_cut_frames():
+    """A handler raises while a frame is half sent: nothing follows it, and each later call says so."""
+    going, got = threading.Event(), []
+
+    def serve(end):
+        going.wait(20)
+        try:
+            got.extend(name for _, _, name, _ in end.asks())
+        except Exception:
+            got.append("half a frame")
+        going.clear()
+
+    with client_of(serve) as client:
+        with alarm(interrupt, 1):
+            outcomes = [ended_by(lambda: [client.send("UPDATE", 1, 5, bytes(60000)) for _ in range(100)])]
+        going.set()
+        outcomes += [outcome(client.send, "REVOKE", 1, 7), outcome(client.read, 1, 7), outcome(client.receive)]
+        compare("calls after half a frame", ["interrupted", "Lost", "Lost", "Lost"], outcomes)
+        compare("the last ask that came", True, not any(name == "REVOKE" for name in got))
+
+
+def try_late_replies():
+    """A handler raises while a reply is awaited: the next call has its own answer all the same."""
+    def serve(end):
+        kept = b""
+        for version, tag, name, values in end.asks():
+            kept += reply(version, tag, plain(name, values))
+            if values != [5]:
+                end.socket.sendall(kept)
+                kept = b""
+
+    for version in keyretain.VERSIONS:
+        with client_of(serve, version) as client:
+            with alarm(interrupt, 0.2):
+                first = ended_by(client.read, 1, 5)
+            client.send("READ", 1, 6)
+            compare(f"a call that was interrupted, version {version}", ["interrupted", b"6", b"7"],
+                    [first, outcome(client.receive), outcome(client.read, 1, 7)])
+
+
+class Steps:
+    """Raises at the step of this number of the Python code of the client, from 1 on."""
+
+    def __init__(self, number):
+        self.left = number
+
+    def trace(self, frame, event, _):
+        if "clients/python" not in frame.f_code.co_filename:
+            return None
+        frame.f_trace_opcodes, frame.f_trace_lines = True, False
+        if event == "opcode":
+            self.left -= 1
+            if self.left == 0:
+                raise Interrupted
+        return self.trace
+
+    def run(self, call):
+        sys.settrace(self.trace)
+        try:
+            return call()
+        except Interrupted:
+            return "interrupted"
+        finally:
+            sys.settrace(None)
+
+
+def own_answers(client):
+    """Whether each of the next calls has its own answer; or the connection is lost, and stays so."""
+    answers = [outcome(client.read, 1, key) for key in (7, 8, 9)]
+    return answers in ([b"7", b"8", b"9"], ["Lost"] * 3)
+
+
+def try_every_step(what, call):
+    """The call is ended at each of its steps in turn, as a handler might."""
+    for version in keyretain.VERSIONS:
+        number, ended, wrong = 0, True, []
+        with served() as path:
+            while ended:
+                number += 1
+                with keyretain.Client(path, version, 20) as client:
+                    ended = Steps(number).run(lambda: call(client)) == "interrupted"
+                    if not own_answers(client):
+                        wrong.append(number)
+        compare(f"{what}, version {version}: more than 50 steps", True, number > 50)
+        compare(f"{what}, version {version}: steps after which an answer is another's", [], wrong)
+
+
+def ahead(client):
+    for key in (1, 2):
+        client.send("READ", 1, key)
+    return [client.receive(), client.receive()]
+
+
+# ---- Sending ahead
+
+
+def try_ahead():
+    """A server that stops reading while its replies aren't taken."""
+    def serve(end):
+        for version, tag, _, values in end.asks():
+            end.socket.sendall(reply(version, tag, b"%05d" % values[0] + bytes(32000)))
+
+    for version in keyretain.VERSIONS:
+        with client_of(serve, version, 10) as client:
+            sent = outcome(lambda: [client.send("READ", 1, key) for key in range(250)][-1])
+            compare(f"asks sent ahead, version {version}", 250, sent)
+            answers = outcome(lambda: [client.receive()[:5] for _ in range(250)])
+            compare(f"their answers, version {version}", [b"%05d" % key for key in range(250)], answers)
+
+
+def try_large_ahead():
+    """The same where the server stops in the midst of a long ask."""
+    def serve(end):
+        for version, tag, name, values in end.asks():
+            end.socket.sendall(reply(version, tag, plain(name, values) + bytes(32000 if name == "READ" else 0)))
+
+    with client_of(serve, timeout=10) as client:
+        def send():
+            client.send("READ", 1, 5)
+            return client.send("UPDATE", 1, 5, bytes(60000))
+
+        compare("long asks sent ahead", 120, outcome(lambda: [send() for _ in range(60)][-1]))
+        compare("the last answer", "None", str(outcome(lambda: [client.receive() for _ in range(120)][-1])))
+
+
+def try_too_far():
+    with client_of() as client:
+        outcomes = [outcome(client.send, "READ", 1, 5) for _ in range(258)]
+        compare("asks that may be ahead", [*range(1, 257), "TooFarAhead", "TooFarAhead"], outcomes)
+        compare("one more when one is taken", [b"5", 257], [client.receive(), client.send("READ", 1, 6)])
+        compare("an ask between", b"7", client.read(1, 7))
+        compare("the last of them", b"6", [client.receive() for _ in range(256)][-1])
+        compare("none is left", "IndexError", outcome(client.receive))
+
+
+def try_answered_then_gone():
+    """Two asks are answered, and then the daemon goes."""
+    def serve(end):
+        for version, tag, name, values in end.asks():
+            end.socket.sendall(reply(version, tag, plain(name, values)))
+            if values == [2]:
+                return
+
+    with client_of(serve) as client:
+        for key in (1, 2):
+            client.send("READ", 1, key)
+        compare("what came before the end", [b"1", b"2", "IndexError", "Lost"],
+                [client.receive(), client.receive(), outcome(client.receive), outcome(client.read, 1, 3)])
+
+
+# ---- Time
+
+
+def seconds_of(run, *words):
+    """What a call comes to, and whether it took less than five seconds."""
+    start = time.monotonic()
+    answered = outcome(run, *words)
+    return answered, time.monotonic() - start < 5
+
+
+def drip(end):
+    for version, tag, _, values in end.asks():
+        for byte in reply(version, tag, bytes(200)):
+            end.socket.sendall(bytes([byte]))
+            time.sleep(0.1)
+
+
+def silent(end):
+    for _ in end.asks():
+        pass
+
+
+def try_deadlines():
+    late = ("TimeoutError", True)
+    for what, serve in (("drips", drip), ("is silent", silent)):
+        with client_of(serve, timeout=0.5) as client:
+            compare(f"a server that {what}", late, seconds_of(client.read, 1, 5))
+            with alarm(lambda *_: None, 0.1, 0.1):
+                compare(f"a server that {what}, and signals", late, seconds_of(client.read, 1, 5))
+            client.timeout = 0
+            compare(f"a server that {what}, at once", late, seconds_of(client.read, 1, 5))
+
+
+def try_backlog():
+    """A daemon that accepts nobody, and then does."""
+    with servers.tempfile.TemporaryDirectory(prefix="keyretain.") as folder, socket.socket(socket.AF_UNIX) as listener:
+        listener.bind(folder + "/sock")
+        listener.listen(0)
+        waiting = [keyretain.Client(folder + "/sock", 2, 20)]
+        compare("a full backlog", ("TimeoutError", True), seconds_of(keyretain.Client, folder + "/sock", 2, 0.5))
+        with alarm(lambda *_: None, 0.1, 0.1):
+            compare("a full backlog, and signals", ("TimeoutError", True),
+                    seconds_of(keyretain.Client, folder + "/sock", 2, 0.5))
+        threading.Timer(0.5, lambda: waiting.append(listener.accept()[0])).start()
+        compare("a place that is free later", "Client", type(keyretain.Client(folder + "/sock", 2, 20)).__name__)
+        waiting[0].close()
+
+
+# ---- Nonsense
+
+
+def answering(*replies):
+    """A server whose replies are these bytes, or what these make of an ask's version and tag."""
+    def serve(end):
+        for (version, tag, *_), spelled in zip(end.asks(), replies):
+            end.socket.sendall(spelled(version, tag))
+
+    return serve
+
+
+def try_nonsense():
+    """Replies that are none end the connection, which says so ever after."""
+    cases = {
+        "bytes behind a reply": lambda version, tag: reply(version, tag, b"5") + b"\0",
+        "two replies": lambda version, tag: reply(version, tag, b"5") * 2,
+        "an unknown status": lambda version, tag: reply(version, tag, b"", 4),
+        "an error with a body": lambda version, tag: reply(version, tag, b"x", 1),
+        "a short length": lambda version, tag: b"\3\0\0\0" + bytes(20),
+        "a great length": lambda version, tag: b"\x09\0\4\0" + bytes(20),
+    }
+    for what, spelled in cases.items():
+        for version in keyretain.VERSIONS:
+            with client_of(answering(spelled, lambda version, tag: reply(version, tag, b"6")), version) as client:
+                compare(f"{what}, version {version}", ["Malformed", "Lost", "Lost"],
+                        [outcome(client.read, 1, 5), outcome(client.read, 1, 6), outcome(client.read, 1, 7)])
+
+
+def try_listings():
+    """A keyring or a queue that reads as something else."""
+    def answer(body):
+        return answering(lambda version, tag: reply(version, tag, body))
+
+    for body in (b"12345", b"1"):
+        with client_of(answer(body)) as client:
+            compare(f"a keyring of {len(body)} bytes", "Malformed", outcome(client.read_ring, 1, 5))
+    for body in (b"\x01\0\0\1", b"\x05\0\0\0\x10\0\0\0" + bytes(8), b"\1\0\0\1\x10\0\0\0" + bytes(4)):
+        with client_of(answer(body)) as client:
+            compare(f"notes of {len(body)} bytes", "Malformed", outcome(client.read_queue, 1))
+
+
+def try_values():
+    """What fits no frame is a ValueError or a TypeError, and nothing is sent."""
+    with client_of() as client:
+        compare("values out of their width", ["ValueError"] * 5 + ["TypeError"] * 2,
+                [outcome(client.read, 1, 1 << 31), outcome(client.read, -1, 5), outcome(client.open_queue, 1 << 32),
+                 outcome(client.join, 1, "a" * 65536), outcome(client.update, 1, 5, bytes(65536)),
+                 outcome(client.update, 1, 5, 7), outcome(client.ask, "READ", 1)])
+        compare("an ask behind them", b"5", client.read(1, 5))
+
+
+def try_pipe_signal():
+    """A program for which SIGPIPE is as at first isn't ended by a daemon that goes."""
+    gone = threading.Event()
+
+    def serve(end):
+        end.socket.close()
+        gone.set()
+
+    def ask():
+        signal.signal(signal.SIGPIPE, signal.SIG_DFL)
+        with served(serve) as path, keyretain.Client(path, 2, 20) as client:
+            gone.wait(20)
+            return [outcome(client.read, 1, key) for key in (5, 6)]
+
+    compare("a daemon that goes, with SIGPIPE as at first", "['Lost', 'Lost']", in_child(ask))
+
+
+def try_words():
+    """The command's words are checked before anything is asked."""
+    environment = {**os.environ, "KEYRETAIN_SOCKET": "/nowhere", "PYTHONPATH": sys.path[0]}
+    ended = subprocess.run([sys.executable, "-B", "-m", "keyretain", "99999999999"], env=environment, text=True,
+                           stderr=subprocess.PIPE, check=False)
+    compare("the status for a number that is none", (2, 1), (ended.returncode, ended.stderr.count("\n")))
+    key_of = importlib.import_module("keyretain.__main__").key_of
+    for word, key in (("2147483648", None), ("0", None), ("-4", None), ("x", None), ("\u0665", None), ("", None),
+                      ("@u", -4), ("2147483647", 2147483647), ("05", 5)):
+        compare(f"the key of {word!r}", key, key_of(word))
+
+
+if __name__ == "__main__":
+    for case in (try_children, try_held, try_cut_frames, try_late_replies, try_ahead, try_large_ahead, try_too_far,
+                 try_answered_then_gone, try_deadlines, try_backlog, try_nonsense, try_listings, try_values,
+                 try_pipe_signal, try_words):
+        case()
+    try_every_step("an ask", lambda client: client.read(1, 5))
+    try_every_step("asks sent ahead", ahead)
+    servers.conclude()

@@ -1,0 +1,268 @@
+"""trust.py: whom the Python client tells anything: where it looks for a daemon, and who may listen. Wants to be root,
+or root of a user namespace that has other uids; `trust.py one` makes the checks that one user can. Prints a line for
+each difference, and last how many were compared."""
+import os
+import signal
+import socket
+import subprocess
+import sys
+import tempfile
+from contextlib import contextmanager
+
+import servers
+from servers import compare, outcome
+import keyretain
+
+OWN, DAEMON, OTHER = os.geteuid(), 65533, 65534  # uids
+places = getattr(keyretain, "places", keyretain)
+
+
+def in_child(run):
+    """A child that runs this, given the writing end of a pipe, and its reading end."""
+    read, write = os.pipe()
+    child = os.fork()
+    if child == 0:
+        os.close(read)
+        try:
+            run(write)
+        finally:
+            os._exit(0)
+    os.close(write)
+    return child, read
+
+
+def become(uid):
+    if uid != os.geteuid():
+        os.setgroups([])
+        os.setresgid(uid, uid, uid)
+        os.setresuid(uid, uid, uid)
+
+
+@contextmanager
+def listening(path, uid=OWN):
+    """A process of this user listens at the path. Answers a function: how many bytes it was told by one client."""
+    def serve(write):
+        become(uid)
+        with socket.socket(socket.AF_UNIX) as listener:
+            listener.bind(path)
+            listener.listen(8)
+            os.chmod(path, 0o666)
+            os.write(write, b".")
+            while True:
+                with listener.accept()[0] as end:
+                    told = 0
+                    while piece := end.recv(4096):
+                        told += len(piece)
+                os.write(write, b"%8d" % told)
+
+    child, read = in_child(serve)
+    try:
+        os.read(read, 1)
+        yield lambda: int(os.read(read, 8))
+    finally:
+        os.kill(child, signal.SIGKILL)
+        os.waitpid(child, 0)
+        os.close(read)
+        os.unlink(path)
+
+
+def hello(words, named):
+    with keyretain.Client(*words, **named) as client:
+        client.send("HELLO", 0, 0, 0, ())
+    return "told"
+
+
+def tells(*words, uid=OWN, environment=None, **named):
+    """What becomes of a client with these arguments, which says HELLO as this user."""
+    def run(write):
+        become(uid)
+        os.environ.update(environment or {})
+        os.write(write, str(outcome(hello, words, named)).encode())
+
+    child, read = in_child(run)
+    with os.fdopen(read) as answered:
+        text = answered.read()
+    os.waitpid(child, 0)
+    return text
+
+
+@contextmanager
+def folders():
+    """A runtime directory, and a folder for the system's socket."""
+    with tempfile.TemporaryDirectory(prefix="keyretain.") as folder:
+        os.chmod(folder, 0o755)
+        runtime, system = folder + "/runtime", folder + "/system"
+        os.mkdir(runtime)
+        os.mkdir(system)
+        places.SYSTEM_PATH = places.DEFAULT_PATH = system + "/keyretain.sock"
+        os.environ["XDG_RUNTIME_DIR"] = runtime
+        yield runtime, system
+
+
+# ---- Where
+
+
+def try_places():
+    """A daemon of one's own that is down isn't replaced by the system's, and one that was never set up is."""
+    with folders() as (runtime, system):
+        own = runtime + "/keyretain/keyretain.sock"
+        compare("nothing set up", system + "/keyretain.sock", keyretain.default_path())
+        with listening(system + "/keyretain.sock"):
+            compare("none of one's own", "told", tells())
+            os.mkdir(runtime + "/keyretain")
+            compare("one of one's own that is down", "FileNotFoundError", tells())
+            os.mkdir(own)
+            compare("a folder in its place", "ConnectionRefusedError", tells())
+            os.rmdir(own)
+            with open(own, "w", encoding="ascii"):
+                compare("a file in its place", "ConnectionRefusedError", tells())
+            os.unlink(own)
+            with listening(own) as told:
+                compare("one of one's own", "told", tells())
+                compare("what it was told", True, told() > 0)
+            compare("a named one that is down", "FileNotFoundError", tells(environment={"KEYRETAIN_SOCKET": own}))
+            compare("an empty name is none", own, keyretain.default_path())
+
+
+def try_names():
+    for path, error in (("", "FileNotFoundError"), ("\0abstract", "ValueError"), ("a\0b", "ValueError")):
+        compare(f"the path {path!r}", error, outcome(keyretain.Client, path))
+    compare("an unknown word of trust", "ValueError", outcome(lambda: keyretain.Client("/nowhere", trust="all")))
+
+
+def try_peer():
+    with folders() as (_, system):
+        path = system + "/keyretain.sock"
+        with listening(path):
+            with keyretain.Client(path) as client:
+                compare("who listens", (OWN, os.getegid(), True),
+                        (client.peer().uid, client.peer().gid, os.path.exists(f"/proc/{client.peer().pid}")))
+
+
+# ---- Who
+
+
+def try_found():
+    """The socket's file may be one's own, and who listens another."""
+    with folders() as (runtime, _):
+        os.mkdir(runtime + "/keyretain")
+        os.chown(runtime + "/keyretain", OTHER, OTHER)
+        own = runtime + "/keyretain/keyretain.sock"
+        with listening(own, OTHER) as told:
+            os.chown(own, OWN, -1)
+            compare("another listens at one's own path", "PermissionError", tells())
+            compare("what another was told", 0, told())
+            compare("the same, found, where anybody may", "PermissionError", tells(trust="any"))
+            compare("the same, named", "PermissionError", tells(own))
+            compare("the same, named, where anybody may", "told", tells(own, trust="any"))
+            for word, wanted in (("any", "told"), ("all", "PermissionError")):
+                compare(f"the same, named, the environment says {word}", wanted,
+                        tells(own, environment={"KEYRETAIN_TRUST": word}))
+
+
+def try_found_root():
+    """Root at another user's own path isn't that user."""
+    with folders() as (runtime, _):
+        os.mkdir(runtime + "/keyretain")
+        for folder in (runtime, runtime + "/keyretain"):
+            os.chown(folder, OTHER, OTHER)
+        with listening(runtime + "/keyretain/keyretain.sock", 0):
+            compare("root listens at one's own path", "PermissionError", tells(uid=OTHER))
+        with listening(runtime + "/keyretain/keyretain.sock", OTHER):
+            compare("oneself there", "told", tells(uid=OTHER))
+
+
+def try_another_runtime_directory():
+    """su(1) may keep the variable: a directory of another user's isn't looked into."""
+    with folders() as (runtime, system):
+        os.mkdir(runtime + "/keyretain")
+        with listening(runtime + "/keyretain/keyretain.sock", OWN):
+            os.chown(runtime, OTHER, OTHER)
+            compare("another's runtime directory", False, runtime in str(keyretain.default_path()))
+        compare("nor one that isn't there", system + "/keyretain.sock",
+                tells_path(OTHER, {"XDG_RUNTIME_DIR": "/nowhere"}))
+
+
+def tells_path(uid, environment):
+    """What default_path answers this user."""
+    def run(write):
+        become(uid)
+        os.environ.update(environment)
+        os.write(write, str(keyretain.default_path()).encode())
+
+    child, read = in_child(run)
+    with os.fdopen(read) as answered:
+        text = answered.read()
+    os.waitpid(child, 0)
+    return text
+
+
+def try_named():
+    """A path that is named is one's own, root's or the system daemon's."""
+    with folders() as (_, system):
+        path = os.path.dirname(system) + "/named.sock"
+        os.chmod(os.path.dirname(system), 0o777)
+        for who, wanted in ((OTHER, "PermissionError"), (DAEMON, "told"), (0, "told")):
+            os.chown(system, DAEMON, DAEMON)
+            with listening(path, who) as told:
+                compare(f"root, told of a daemon of uid {who}", wanted, tells(path))
+                compare("what it was told", wanted == "told", told() > 0)
+                compare("by the environment", wanted, tells(environment={"KEYRETAIN_SOCKET": path}))
+                compare("where anybody may", "told", tells(path, trust="any"))
+                compare("who listens", str(who), peer_of(path))
+        with listening(path, OTHER):
+            compare("one's own", "told", tells(path, uid=OTHER))
+            os.chown(system, 0, 0)
+            compare("a third user's", "PermissionError", tells(path, uid=DAEMON))
+        with listening(path, 0):
+            compare("root's", "told", tells(path, uid=OTHER))
+
+
+def peer_of(path):
+    with keyretain.Client(path, trust="any") as client:
+        return str(client.peer().uid)
+
+
+def try_system():
+    """At the system's path only the owner of its folder, and root."""
+    with folders() as (runtime, system):
+        path = system + "/keyretain.sock"
+        os.chown(system, DAEMON, DAEMON)
+        for who, uid, wanted in ((DAEMON, 0, "told"), (DAEMON, OTHER, "told"), (0, OTHER, "told")):
+            with listening(path, who) as told:
+                compare(f"uid {uid} and the system's daemon of uid {who}", wanted, tells(uid=uid))
+                compare("what it was told", True, told() > 0)
+        os.chmod(system, 0o777)
+        with listening(path, OTHER):
+            compare("root and another's daemon there", "PermissionError", tells())
+            compare("the same user's", "PermissionError", tells(uid=OTHER))
+
+
+def try_set_uid():
+    """What a program that was started with rights of its own finds: what the environment says isn't for it."""
+    words = "import os, sys; sys.path[0] = sys.argv[1]; import keyretain; print(keyretain.default_path())"
+
+    def run(write):
+        os.setresgid(OTHER, OWN, OWN)
+        os.setresuid(OTHER, OWN, OWN)
+        os.dup2(write, 1)
+        os.execve(sys.executable, [sys.executable, "-B", "-c", words, sys.path[0]],
+                  {"KEYRETAIN_SOCKET": "/another", "XDG_RUNTIME_DIR": runtime})
+
+    with folders() as (runtime, _):
+        os.mkdir(runtime + "/keyretain")
+        child, read = in_child(run)
+        with os.fdopen(read) as answered:
+            compare("the path in a program that runs set-uid", "/run/keyretain/keyretain.sock\n", answered.read())
+        os.waitpid(child, 0)
+
+
+if __name__ == "__main__":
+    for variable in ("KEYRETAIN_SOCKET", "KEYRETAIN_TRUST"):
+        os.environ.pop(variable, None)
+    cases = [try_places, try_names, try_peer]
+    if sys.argv[1:] != ["one"]:
+        cases += [try_found, try_found_root, try_another_runtime_directory, try_named, try_system, try_set_uid]
+    for case in cases:
+        case()
+    servers.conclude()
