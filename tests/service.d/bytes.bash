@@ -77,4 +77,13 @@ try_bad_servers() {
     '0c000000 16000000 0000000000000000' '0c000000 16000000 0100000001000000'; do
     is_answered 'a reply' 3 $'error: connection\n' "$bad"
   done
+  runs=$((runs + 1))
+  path=$dir/$runs.sock
+  apart "${sender[@]}" answer "$path" '' </dev/null &
+  until_true test -S "$path"
+  sleep "$step"
+  tells 'a server that ends before it replies' \
+    "keyretain: $path: the connection failed, or gave no reply; or standard output cannot be written" \
+    --socket "$path" id @u </dev/null
+  finish $!
 }

@@ -97,24 +97,25 @@ try_few_files() {
   is_served 'few files' 14
 }
 
-# keeps_all SIZE CLIENTS: so many clients fill the memory of a daemon with payloads of so many bytes. What is too much
-# is refused with ENOMEM, no connection ends and no key is lost.
+# keeps_all SIZE CLIENTS [ASK]: so many clients fill the memory of a daemon with payloads of so many bytes, and then with
+# what the ask that is named takes. What is too much is refused with ENOMEM, no connection ends and no key is lost.
 keeps_all() {
   start
-  is "little memory, $2 clients with payloads of $1 bytes" kept \
-    "$(python3 -B "$top/tests/service.d/memory.py" "$path" "$1" "$2" 2>/dev/null)"
+  is "little memory, $2 clients with payloads of $1 bytes, ${3:-ADD of new keys alone}" kept \
+    "$(python3 -B "$top/tests/service.d/memory.py" "$path" "$@" 2>/dev/null)"
   kill_daemon TERM
 }
 
 # A daemon under a limit of memory, which one client fills, and eight: a small one; and one with room for pools of the C
 # library.
 try_little_memory() {
-  local size
+  local size asks
   limited with-little-memory '-Ss 256 && ulimit -Sv 48000'
   limited with-pools '-Ss 256 && ulimit -Sv 262144'
   local keyretaind=$dir/with-little-memory
   for size in 1 20 200 500 1000 2000 4000 8000 16000 32767; do keeps_all "$size" 1; done
   for size in 200 2000 16000; do keeps_all "$size" 8; done
+  for asks in UPDATE ADD LINK WATCH OPEN_QUEUE; do keeps_all 2000 1 "$asks"; done
   keyretaind=$dir/with-pools
   keeps_all 32767 1
   for size in 2000 32767; do keeps_all "$size" 8; done
@@ -151,6 +152,13 @@ passes() {
 try_passing_causes() {
   local cause
   for cause in EAGAIN ENOMEM ENFILE EMFILE ECONNABORTED ENOBUFS; do passes "$cause"; done
+  injecting with-first-failing EMFILE 1..3
+  local keyretaind=$dir/with-first-failing
+  start --accept 1
+  open_client alone
+  answers alone 'hello 1000 1000' 1
+  close_client alone 0
+  is_served 'accepts that failed while nobody was served' 1
 }
 
 # A cause that passes, and lasts: accepts are tried for ten seconds where no connection is served, and for as long as one
@@ -158,9 +166,10 @@ try_passing_causes() {
 try_lasting_causes() {
   injecting with-all-failing EMFILE 1+
   injecting with-many-failing EMFILE 2..120
-  local keyretaind=$dir/with-all-failing
+  local keyretaind=$dir/with-all-failing began=$SECONDS
   start
   finish "$daemon"
+  is 'accepts that all fail: tried for some ten seconds' yes "$( ((SECONDS - began >= 9)) && echo yes)"
   is 'accepts that all fail: the status' 3 "$status"
   is 'accepts that all fail: what is printed' "listening $path"$'\nerror: accept' "$(<"$log")"
   is 'accepts that all fail: the path is gone' gone "$(path_state)"

@@ -1,7 +1,8 @@
-"""memory.py PATH SIZE CLIENTS: so many clients of a daemon under a limit of memory add keys with payloads of so many bytes,
-side by side, until each was refused with ENOMEM often. Prints `kept` if each of them was, every other answer was a serial,
-each still has its connection and its first key, and each can add a key once all have given theirs back; else what was
-wrong."""
+"""memory.py PATH SIZE CLIENTS [ASK]: so many clients of a daemon under a limit of memory add keys with payloads of so many
+bytes, side by side, until each was refused with ENOMEM often. Where an ask is named, each then gives some keys back, and
+asks that until it was refused often once more. Prints `kept` if each of them was, every other answer was that of an ask
+that is accepted, each still has its connection and its first key, and each can add a key once all have given theirs back;
+else what was wrong."""
 import signal
 import socket
 import struct
@@ -11,10 +12,14 @@ import threading
 from asks import encode_ask
 
 path, size, count = sys.argv[1], int(sys.argv[2]), int(sys.argv[3])
+then = sys.argv[4] if len(sys.argv) > 4 else None
 AHEAD = 4 if size > 2000 else 64  # asks that are sent in one piece
 ENOUGH = 256  # refusals with which a client is content
 ENOMEM = 12
 USER_KEYRING = -4
+LONGEST = bytes(32767)  # the longest payload
+GIVEN_BACK = 1 << 20  # bytes of payloads that are given back before another ask takes memory
+PLACES = 64  # keyrings and queues of a client whose asks want some
 signal.alarm(60)
 
 
@@ -27,12 +32,13 @@ class Client(threading.Thread):
 
     def __init__(self, name):
         super().__init__(daemon=True)
-        self.name, self.serials, self.refusals, self.wrong = str(name), [], 0, None
+        self.name, self.serials, self.named, self.asked, self.refusals, self.wrong = str(name), [], {}, 0, 0, None
         self.end = socket.socket(socket.AF_UNIX)
         self.end.settimeout(20)
         self.end.connect(path)
         self.uid = 1000 + name
         self.context = int.from_bytes(self.ask("HELLO", (self.uid, self.uid, ())), "little")
+        self.places = [self.make_place(number) for number in range(PLACES if then in ("LINK", "WATCH") else 0)]
 
     def exactly(self, length):
         got = b""
@@ -56,25 +62,55 @@ class Client(threading.Thread):
             raise Wrong(f"{name} is answered with status {status}: {len(self.serials)} keys, {self.refusals} refusals")
         return body
 
-    def add(self):
-        """Adds some keys to the user keyring, sent in one piece."""
-        at = len(self.serials) + self.refusals
-        self.end.sendall(b"".join(
-            encode_ask("ADD", self.context, (b"user", str(at + number).encode(), bytes(size), USER_KEYRING))
-            for number in range(AHEAD)))
-        for _ in range(AHEAD):
+    def make_place(self, number):
+        """A keyring that links may be put into, or a queue that keys may be watched by."""
+        if then == "WATCH":
+            return int.from_bytes(self.ask("OPEN_QUEUE", (1,)), "little")
+        return int.from_bytes(self.ask("ADD", (b"keyring", f"ring {number}".encode(), b"", USER_KEYRING)), "little")
+
+    def ask_some(self, name, all_fields):
+        """Asks these, sent in one piece, and returns the bodies of the accepted ones, and None for each refused one."""
+        self.end.sendall(b"".join(encode_ask(name, self.context, fields) for fields in all_fields))
+        bodies = []
+        for _ in all_fields:
             status, body = self.answer()
-            if status == 0:
-                self.serials.append(int.from_bytes(body, "little"))
-            elif status == ENOMEM:
-                self.refusals += 1
-            else:
-                raise Wrong(f"ADD is answered with status {status}")
+            if status not in (0, ENOMEM):
+                raise Wrong(f"{name} is answered with status {status}")
+            bodies.append(body if status == 0 else None)
+        self.refusals += bodies.count(None)
+        return bodies
+
+    def add(self):
+        """Adds some keys to the user keyring."""
+        names = [str(self.asked + number).encode() for number in range(AHEAD)]
+        bodies = self.ask_some("ADD", [(b"user", name, bytes(size), USER_KEYRING) for name in names])
+        added = [(name, int.from_bytes(body, "little")) for name, body in zip(names, bodies) if body is not None]
+        self.named.update((serial, name) for name, serial in added)
+        self.serials.extend(serial for _, serial in added)
+        self.asked += AHEAD
+
+    def fields_of(self, number):
+        """What the ask that is named wants as its ask of this number: of a key that isn't the first."""
+        serial = self.serials[1 + number % (len(self.serials) - 1)]
+        place = self.places[number // (len(self.serials) - 1) % PLACES] if self.places else 0
+        return {"UPDATE": (serial, LONGEST), "ADD": (b"user", self.named[serial], LONGEST, USER_KEYRING),
+                "LINK": (serial, place), "WATCH": (serial, place, 5), "OPEN_QUEUE": (4096,)}[then]
+
+    def ask_more(self):
+        """Gives some keys back, and asks what is named until it was refused often."""
+        for _ in range(min(GIVEN_BACK // (size + 100), len(self.serials) - 3)):
+            self.ask("UNLINK", (self.serials.pop(), USER_KEYRING))
+        ahead, self.refusals, asked = 4 if LONGEST in self.fields_of(0) else 64, 0, 0
+        while self.refusals < ENOUGH:
+            self.ask_some(then, [self.fields_of(asked + number) for number in range(ahead)])
+            asked += ahead
 
     def run(self):
         try:
             while self.refusals < ENOUGH:
                 self.add()
+            if then is not None:
+                self.ask_more()
         except (OSError, Wrong) as wrong:
             self.wrong = wrong
 
@@ -94,8 +130,8 @@ class Client(threading.Thread):
         """It has added keys, and reads its first one, if there is memory once it has given its others back."""
         if self.wrong:
             raise self.wrong
-        if len(self.serials) < 2:
-            raise Wrong("it could add next to nothing")
+        if sum(len(client.named) for client in clients) < 2 * AHEAD * count:
+            raise Wrong("they could add next to nothing")
         self.ask("UNLINK", (self.serials.pop(), USER_KEYRING))
         if self.read_first() not in (0, ENOMEM):
             raise Wrong("its first key is gone")
@@ -124,6 +160,8 @@ class Client(threading.Thread):
 
 
 clients = [Client(name) for name in range(count)]
+for client in clients:
+    client.add()  # before one of them has taken all memory
 for client in clients:
     client.start()
 for client in clients:

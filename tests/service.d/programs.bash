@@ -51,6 +51,53 @@ try_causes() {
     < <(printf 'hello 1 1\n\033[31mh\351 5\n')
   tells 'a long line that is no command' "keyretain: line 1: no such command: ${long:0:64}..." script <<<"$long$long"
   tells 'a script that ends well' '' script <<<'hello 1 1'
+  start
+  tells 'a remote line that is no command' 'keyretain: line 2: no such command: frobnicate' --socket "$path" script \
+    < <(printf '%s\n' 'hello 1 1' 'frobnicate 5')
+  tells 'a remote script that ends well' '' --socket "$path" script <<<'hello 1 1'
+  kill_daemon TERM
+}
+
+# lists_many: a script that makes a keyring whose listing is a reply of more than 64 KiB, and prints how many it lists.
+many=16400
+lists_many() {
+  { printf 'hello 1000 1000\n'; printf 'add user %d x @u\n' $(seq "$many"); printf 'rlist @u\n'; } |
+    timeout $((patience * 3)) "$keyretain" "$@" script 2>/dev/null | tail -n 1 | wc -w
+}
+
+# A reply that is as long as a keyring's listing may be: the client takes it whole.
+try_long_listing() {
+  is 'a long listing of a script' "$many" "$(lists_many)"
+  start --accept 1
+  is 'a long listing over the socket' "$many" "$(lists_many --socket "$path")"
+  is_served 'a long listing' 1
+}
+
+# answers_first NAME WORD ..: a line is answered though the next one, of which a part came with it, isn't whole yet
+answers_first() {
+  local name=$1 lines replies
+  shift
+  mkfifo "$dir/part.in" "$dir/part.out"
+  "$keyretain" "$@" script <"$dir/part.in" >"$dir/part.out" 2>/dev/null &
+  exec {lines}>"$dir/part.in" {replies}<"$dir/part.out"
+  printf 'hello 1000 1000\nid @' >&"$lines"
+  IFS= read -r -t "$patience" answer <&"$replies" || answer='no answer'
+  is "$name: the first line" 1 "$answer"
+  printf 'u\n' >&"$lines"
+  exec {lines}>&-
+  is "$name: the second line" 3 "$(cat <&"$replies")"
+  exec {replies}<&-
+  finish $!
+  is "$name: the status" 0 "$status"
+  rm "$dir/part.in" "$dir/part.out"
+}
+
+# Lines that come in pieces.
+try_parts_of_lines() {
+  answers_first 'a part of a line'
+  start --accept 1
+  answers_first 'a part of a line over the socket' --socket "$path"
+  is_served 'a part of a line' 1
 }
 
 # An output whose reader has gone: the write fails, and the program says so by its status.
