@@ -8,27 +8,38 @@ MANDIR = $(PREFIX)/share/man
 UNITDIR = $(PREFIX)/lib/systemd/system
 USERUNITDIR = $(PREFIX)/lib/systemd/user
 SYSUSERSDIR = $(PREFIX)/lib/sysusers.d
+DATADIR = $(PREFIX)/share/keyretain
 COMPLETIONDIR = $(PREFIX)/share/bash-completion/completions
+PYTHON = python3
 
 PROGRAMS = keyretain keyretaind
 
-.PHONY: build clients run test wrong-bodies check-man check-keyutils install uninstall bench bench-instructions measure
+.PHONY: build run clients guard test wrong-bodies fuzz check-man check-keyutils install uninstall bench bench-instructions \
+  measure
 
-# Proves and builds the programs, crate by crate, as many side by side as there are processors. It may be ended at any
-# time, and then goes on where it was.
+# Proves and builds the programs and the rule of the guard, crate by crate, as many side by side as there are processors,
+# and says how long the rest takes. It may be ended at any time, and then goes on where it was.
 build:
 	@tools/check-toolchain
-	tools/build $(PROGRAMS)
-	mkdir -p bin
-	for program in $(PROGRAMS); do install -m 755 crates/$$program/out/$$program bin/ || exit 1; done
+	@sum=$$(tools/proved --sum) && tools/build $(PROGRAMS) krs_screen_c && tools/proved --put "$$sum"
+	@echo 'proved and built: $(PROGRAMS:%=bin/%)'
+
+# Shows a daemon at work at once: starts one, adds a key through it, and reads it back. It takes the proved programs
+# where bin/ has them, and else compiles the sources with no proof, in bin/unproved, and says so.
+run:
+	@tools/run
 
 # Builds the C clients. Wants a C compiler.
 clients:
 	$(MAKE) -C clients/c PREFIX="$(PREFIX)"
 
-# Starts a daemon, adds a key through it, and reads it back.
-run: build
-	contrib/first-run
+# Proves the rule of the guard and builds it as a library for C, and the guard over it. Wants a C compiler.
+guard:
+	@tools/check-toolchain
+	tools/build krs_screen_c
+	$(MAKE) -C guard
+	mkdir -p bin
+	install -m 755 guard/build/keyretain-guard bin/
 
 # Proves everything from nothing, runs the tests, has each wrong body refused by itself, runs the tests of memory with
 # each allocation refused in turn, tries the programs that were built so and the clients over real sockets, renders the
@@ -41,6 +52,12 @@ test:
 wrong-bodies:
 	tests/wrong-bodies
 
+# Fuzzes the C clients for so many seconds, against a hostile daemon in memory and under sanitizers. Wants a clang with
+# libFuzzer.
+SECONDS = 30
+fuzz:
+	$(MAKE) -C clients/c/fuzz fuzz SECONDS=$(SECONDS)
+
 # Whether the man pages render without a warning.
 check-man:
 	tests/man-pages
@@ -49,10 +66,11 @@ check-man:
 check-keyutils: build
 	tests/keyutils-suite $(SUITE)
 
-# Puts what `make build` made, the man pages, the systemd units, the bash completion, and what `make clients` made if it
-# was run, in their folders.
+# Puts what `make build` made, the man pages, the systemd units, the bash completion, the Python client, and what `make
+# clients` and `make guard` made if they were run, in their folders.
 install:
-	@for program in $(PROGRAMS); do test -x bin/$$program || { echo 'run make build first' >&2; exit 1; }; done
+	@cd bin 2>/dev/null && sha256sum --status -c proved 2>/dev/null || \
+	  { echo 'run make build first: what it proved is installed, and nothing else' >&2; exit 1; }
 	install -d "$(DESTDIR)$(BINDIR)" "$(DESTDIR)$(SBINDIR)" "$(DESTDIR)$(UNITDIR)" "$(DESTDIR)$(SYSUSERSDIR)" \
 	  "$(DESTDIR)$(COMPLETIONDIR)" "$(DESTDIR)$(MANDIR)/man1" "$(DESTDIR)$(MANDIR)/man7" "$(DESTDIR)$(MANDIR)/man8"
 	install -m 755 bin/keyretain "$(DESTDIR)$(BINDIR)/"
@@ -69,11 +87,23 @@ install:
 	sed '/^ExecStart=/s|@sbindir@|$(SBINDIR)|' contrib/systemd/user/keyretaind.service \
 	  >"$(DESTDIR)$(USERUNITDIR)/keyretaind.service"
 	chmod 644 "$(DESTDIR)$(USERUNITDIR)/keyretaind.service"
+	install -d "$(DESTDIR)$(DATADIR)"
+	sed '/^ExecStart=/s|@sbindir@|$(SBINDIR)|' contrib/systemd/keyretaind@.service \
+	  >"$(DESTDIR)$(UNITDIR)/keyretaind@.service"
+	chmod 644 "$(DESTDIR)$(UNITDIR)/keyretaind@.service"
+	install -m 644 contrib/systemd/user-quota.conf "$(DESTDIR)$(DATADIR)/"
+	@if [ -x guard/build/keyretain-guard ]; then $(MAKE) -C guard install PREFIX="$(PREFIX)" DESTDIR="$(DESTDIR)"; \
+	  else echo 'the guard is not installed: make guard builds it'; fi
 	@if [ -d clients/c/build ]; then $(MAKE) -C clients/c install PREFIX="$(PREFIX)" DESTDIR="$(DESTDIR)"; \
 	  else echo 'the C clients are not installed: make clients builds them'; fi
+	@if $(PYTHON) -c 1 2>/dev/null; then $(MAKE) -C clients/python install PREFIX="$(PREFIX)" DESTDIR="$(DESTDIR)" \
+	  PYTHON="$(PYTHON)"; else echo 'the Python client is not installed: no $(PYTHON)'; fi
 
 uninstall:
 	$(MAKE) -C clients/c uninstall PREFIX="$(PREFIX)" DESTDIR="$(DESTDIR)"
+	$(MAKE) -C guard uninstall PREFIX="$(PREFIX)" DESTDIR="$(DESTDIR)"
+	rm -f "$(DESTDIR)$(UNITDIR)/keyretaind@.service" "$(DESTDIR)$(DATADIR)/user-quota.conf"
+	$(MAKE) -C clients/python uninstall PREFIX="$(PREFIX)" DESTDIR="$(DESTDIR)" PYTHON="$(PYTHON)"
 	rm -f "$(DESTDIR)$(USERUNITDIR)/keyretaind.service"
 	rm -f "$(DESTDIR)$(BINDIR)/keyretain" "$(DESTDIR)$(SBINDIR)/keyretaind" "$(DESTDIR)$(MANDIR)/man1/keyretain.1" \
 	  "$(DESTDIR)$(MANDIR)/man7/keyretain-protocol.7" "$(DESTDIR)$(MANDIR)/man8/keyretaind.8" \
