@@ -1,5 +1,5 @@
 -- The seats of a new desk.
-use Rattle.std.proofs.Common.{◌≡◌, ℕ, zero, suc, All, List, refl}
+use Rattle.std.proofs.Common.{◌≡◌, ℕ, zero, suc, All, List, [], refl}
 use Rattle.std.proofs.lemmas.List.Elements.{All-nil, All-push, All-same}
 use Rattle.atomic_table.specs.Seated.{TableId}
 use Rattle.krs_model.specs.State.{State}
@@ -16,3 +16,16 @@ pub all_opened :
     (table : TableId) (a : State) (n : ℕ) (xs : List Sitting) → xs ≡ fresh_seats table a n → All (λ s. s.opening ≡ a) xs
 all_opened table a n xs is =
     All-same (λ (s : Sitting). s.opening ≡ a) xs (fresh_seats table a n) is (fresh_opened table a n)
+
+fresh_unasked : (table : TableId) (a : State) (n : ℕ) → All (λ s. s.part.mine ≡ []) (fresh_seats table a n)
+fresh_unasked table a zero = All-nil (λ (s : Sitting). s.part.mine ≡ [])
+fresh_unasked table a (suc n) =
+    All-push (λ (s : Sitting). s.part.mine ≡ []) (fresh_seats table a n) (fresh_seat table a n)
+    (fresh_unasked table a n) refl
+
+-- and nothing was asked on it
+pub all_unasked :
+    (table : TableId) (a : State) (n : ℕ) (xs : List Sitting) → xs ≡ fresh_seats table a n
+    → All (λ s. s.part.mine ≡ []) xs
+all_unasked table a n xs is =
+    All-same (λ (s : Sitting). s.part.mine ≡ []) xs (fresh_seats table a n) is (fresh_unasked table a n)

@@ -3,10 +3,10 @@ use Rattle.std.specs.Prelude.{ℕ, ℤ, pos, negsuc, Bool, false, Option, None, 
 use Rattle.krs_serve.specs.declared.acceptor.SocketAcceptor.{SocketAcceptor}
 
 -- how many connections it accepted, and how many accepts failed
-abbrev pub accepted_by : {R : Type 0} → SocketAcceptor R → ℕ
+abbrev pub accepted_by : {R F : Type 0} → SocketAcceptor R F → ℕ
 accepted_by a = a.accepted
 
-abbrev pub failed_at : {R : Type 0} → SocketAcceptor R → ℕ
+abbrev pub failed_at : {R F : Type 0} → SocketAcceptor R F → ℕ
 failed_at a = a.failures
 
 -- the cause of a failed accept passes by itself, or with the end of a connection: EAGAIN, ENOMEM, ENFILE, EMFILE,

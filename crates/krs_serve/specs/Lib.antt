@@ -7,3 +7,4 @@ pub mod Saying
 pub mod Timeline
 pub mod Sessions
 pub mod OneDesk
+pub mod AtDesk

@@ -1,4 +1,5 @@
-ghost use Rattle.std.specs.Prelude.{◌≡◌, ◌*◌, ◌/◌, ◌≤◌, ◌^◌, ◌-◌, min, Some, None, IfSome};
+ghost use Rattle.std.specs.Prelude.{◌≡◌, ◌⊎◌, ◌↔◌, ◌*◌, ◌/◌, ◌<◌, ◌≤◌, ◌+◌, ◌^◌, ◌-◌, min, Some, None, IfSome, IsTrue};
+ghost use Rattle.std.specs.Prelude.{IsSome, IfNone};
 ghost use Rattle.std.specs.Duration.{as_nanos};
 ghost use Rattle.krs_serve.specs.Clock.{IsKept, kept_none, kept_both};
 ghost use Rattle.krs_serve.specs.Timeline.{after, begun, time_at};
@@ -37,6 +38,43 @@ impl Latest {
     }
 }
 
+/// What the wall clock and the steady one read, in milliseconds.
+#[derive(Clone, Copy, Debug, PartialEq, Eq)]
+struct Readings {
+    wall: u64,
+    steady: u64,
+}
+
+impl Readings {
+    /// The reading of the wall clock with that of the steady one, where that has one.
+    fn both(wall: u64, steady: Option<Duration>) -> Option<Readings>
+        ensures some { IfSome steady (λ d. IfSome result
+            (λ r. (r.wall ≡ wall) × (r.steady ≡ min (as_nanos d / 1_000_000) (2 ^ 64 - 1)))) }
+        ensures only { IsSome steady ↔ IsSome result }
+    {
+        match steady {
+            Some(steady) => Some(Readings {
+                wall,
+                steady: millis(steady),
+            }),
+            None => None,
+        }
+    }
+
+    /// These with a later reading of the wall clock, before that has gone on by a second: the steady one isn't read again
+    /// then, as it couldn't make a second's difference.
+    fn with_wall(self, wall: u64) -> Option<Readings>
+        ensures some { IfSome result (λ r. (r ≡ record self { wall = wall })
+            × (self.wall ≤ wall) × (wall < self.wall + 1000)) }
+        ensures none { IfNone result ((wall < self.wall) ⊎ (self.wall + 1000 ≤ wall)) }
+    {
+        if self.wall <= wall && wall - self.wall < 1000 {
+            return Some(Readings { wall, ..self });
+        }
+        None
+    }
+}
+
 /// The system's clock in whole seconds since 1970, as a `Timeline` has it: its last answer where the system has no
 /// reading, and 0 where there was none. Profile, server's clock.
 #[derive(Drop)]
@@ -45,7 +83,7 @@ pub struct SystemClock<'r, R> {
     latest: &'r Latest,
     timeline: Option<Timeline>,
     /// The last readings of both clocks together.
-    seen: Option<(u64, u64)>,
+    seen: Option<Readings>,
     last: u64,
 }
 
@@ -62,30 +100,37 @@ impl<'r, R: time::Clock> SystemClock<'r, R> {
         }
     }
 
-    /// What the wall clock and the steady one read, in milliseconds. While the wall clock has gone on by less than a second
-    /// since both were read, the steady one isn't read again: it couldn't make a second's difference.
-    fn readings(&mut self) -> Option<(u64, u64)> {
+    /// What both clocks read: the steady one only where the wall clock has not gone on by less than a second since both were
+    /// read.
+    fn readings(&mut self) -> Option<Readings>
+        ensures seen { IfSome result (λ r. (self.new.seen ≡ Some r)
+            ⊎ ((self.new.seen ≡ self.old.seen) × IfSome self.old.seen (λ seen. (r ≡ record seen { wall = r.wall })
+            × (seen.wall ≤ r.wall) × (r.wall < seen.wall + 1000)))) }
+        ensures none { result ≡ None → self.new.seen ≡ self.old.seen }
+        ensures timeline { self.new.timeline ≡ self.old.timeline }
+        ensures last { self.new.last ≡ self.old.last }
+    {
         let wall = millis(self.rt.since_1970().ok()?);
-        if let Some((before, steady)) = self.seen {
-            if before <= wall && wall - before < 1000 {
-                return Some((wall, steady));
+        if let Some(seen) = self.seen {
+            if let Some(readings) = seen.with_wall(wall) {
+                return Some(readings);
             }
         }
-        let steady = millis(self.rt.monotonic().ok()?);
-        self.seen = Some((wall, steady));
-        Some((wall, steady))
+        let readings = Readings::both(wall, self.rt.monotonic().ok())?;
+        self.seen = Some(readings);
+        Some(readings)
     }
 
     /// What it answers to such readings: the time of its timeline, or a later one that another clock has come to.
-    fn answer(&mut self, readings: Option<(u64, u64)>) -> u64
+    fn answer(&mut self, readings: Option<Readings>) -> u64
         ensures read { IfSome readings
-            (λ r. time_at (begun self.old.timeline r.0 r.1) r.0 r.1 / 1000 ≤ result) }
-        ensures goes_on { IfSome readings (λ r. self.new.timeline
-            ≡ Some (after (begun self.old.timeline r.0 r.1) r.0 r.1 (min (result * 1000) (2 ^ 64 - 1)))) }
-        ensures failed { readings ≡ None → result ≡ self.old.last }
+            (λ r. time_at (begun self.old.timeline r.wall r.steady) r.wall r.steady / 1000 ≤ result) }
+        ensures goes_on { IfSome readings (λ r. self.new.timeline ≡ Some (after
+            (begun self.old.timeline r.wall r.steady) r.wall r.steady (min (result * 1000) (2 ^ 64 - 1)))) }
+        ensures failed { readings ≡ None → (result ≡ self.old.last) × (self.new.timeline ≡ self.old.timeline) }
         ensures kept { self.new.last ≡ result }
     {
-        if let Some((wall, steady)) = readings {
+        if let Some(Readings { wall, steady }) = readings {
             let timeline = match self.timeline {
                 Some(timeline) => timeline,
                 None => Timeline::starting(wall, steady),

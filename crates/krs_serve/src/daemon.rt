@@ -12,7 +12,7 @@ ghost use Rattle.krs_serve.specs.Saying.{heard};
 use crate::choice::{Choice, choose};
 use crate::listening::{Accepted, accept_all};
 use crate::saying::{Lines, NOT_BOUND, OUT_OF_MEMORY, USAGE, Voice};
-use crate::{Accepts, FreeSeats, Latest, Options, seated};
+use crate::{Accepts, AtDesk, FreeSeats, Latest, Options, seated};
 use krs_desk::{Desk, Refused, Seat};
 use krs_store::{Seed, Store};
 use std::alloc::Global;
@@ -20,6 +20,7 @@ use std::env::Args;
 use std::fs::Files;
 use std::hash::RandomState;
 use std::io::Write;
+use std::marker::Brand;
 use std::net::Net;
 use std::os::unix::net::UnixListener;
 use std::random::RandomSource;
@@ -91,6 +92,7 @@ fn opened(
     ensures seats { IfOk result (λ d. d.1.items ≡ fresh_seats d.0 (starting_at 3) options.now.lanes) }
     ensures own { IfOk result (λ d. All (IsIdleAt d.0) d.1.items) }
     ensures empty { IfOk result (λ d. All (λ seat. seat.opening ≡ starting_at 3) d.1.items) }
+    ensures unasked { IfOk result (λ d. All (λ seat. seat.part.mine ≡ []) d.1.items) }
 {
     let seed = seed_of(RandomState::new(rt));
     Desk::open(alloc, options.lanes, Store::seeded(alloc, seed))
@@ -117,11 +119,11 @@ fn bound(rt: &(impl Files + Net), path: &str) -> Option<UnixListener>
 }
 
 /// Accepts and serves so many connections, takes the path away, and tells how that ended. It gives their counts.
-fn serve_all<'d, R: Clock + Files + Threads + Wait + Sync, W: Write>(
+fn serve_all<'d, N: AtDesk + Send + Sync, R: Clock + Files + Threads + Wait + Sync, W: Write>(
     rt: &R,
     alloc: Global,
     listener: UnixListener,
-    free: &FreeSeats<'d>,
+    free: &FreeSeats<'d, N>,
     connections: u64,
     path: &str,
     lines: &Lines,
@@ -157,9 +159,27 @@ pub fn listen<R: Clock + Files + Net + RandomSource + Threads + Wait + Sync, W: 
         output.say(OUT_OF_MEMORY);
         return 1;
     };
+    listen_at::<Brand, R, W>(rt, alloc, options, &desk, seats, output)
+}
+
+/// The same, with all connections at this desk.
+fn listen_at<N: AtDesk + Send + Sync, R: Clock + Files + Net + Threads + Wait + Sync, W: Write>(
+    rt: &R,
+    alloc: Global,
+    options: &Options,
+    desk: &Desk,
+    seats: Vec<Seat>,
+    output: &mut Voice<W>,
+) -> u8
+    requires here { desk.now ≡ N.desk }
+    requires own { All (IsIdleAt desk.now) seats.items }
+    requires empty { All (λ seat. seat.opening ≡ starting_at 3) seats.items }
+    requires unasked { All (λ seat. seat.part.mine ≡ []) seats.items }
+    ensures { Serves options.now (heard W.contents output.old) (heard W.contents output.new) result }
+{
     let path = options.path.as_str();
     let connections = connections_for(options.accept);
-    let made = seated(alloc, &desk, seats);
+    let made = seated::<N>(alloc, desk, seats);
     let (Ok(sittings), Ok(lines)) = (made, Lines::new(alloc, path, connections)) else {
         output.say(OUT_OF_MEMORY);
         return 1;

@@ -2,7 +2,7 @@ use Rattle.std.proofs.Common.{◌∙◌, ap}
 use Rattle.std.proofs.lemmas.Result.{IfOk-weaker}
 use Rattle.krs_model.specs.State.{State, starting_at}
 use Rattle.krs_desk.specs.Sitting.{fresh_seats}
-use Rattle.krs_serve.proofs.DaemonLemmas.{all_opened}
+use Rattle.krs_serve.proofs.DaemonLemmas.{all_opened, all_unasked}
 use Rattle.krs_serve.proofs.daemon.opened.Goals as goal
 
 pub returns-clause-empty : goal.returns-clause-empty
@@ -11,3 +11,9 @@ returns-clause-empty g c =
     IfOk-weaker c.open.result _ _
     (λ d h. all_opened d.0 (starting_at 3) lanes d.1.items
     (h ∙ ap (λ (a : State). fresh_seats d.0 a lanes) c.seeded.ensures)) c.open.ensures.seats
+
+pub returns-clause-unasked : goal.returns-clause-unasked
+returns-clause-unasked g c =
+    IfOk-weaker c.open.result _ _
+    (λ d h. all_unasked d.0 (starting_at 3) c.args.options.now.lanes d.1.items
+    (h ∙ ap (λ (a : State). fresh_seats d.0 a c.args.options.now.lanes) c.seeded.ensures)) c.open.ensures.seats

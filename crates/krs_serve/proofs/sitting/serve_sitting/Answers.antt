@@ -1,6 +1,6 @@
 use Rattle.std.specs.Prelude.{[], ◌∷◌, ◌++◌}
 use Rattle.std.proofs.Common.{◌∙◌}
-use Rattle.krs_serve.proofs.connection.serve_sitting.Goals as goal
+use Rattle.krs_serve.proofs.sitting.serve_sitting.Goals as goal
 
 pub returns-clause-gains : goal.returns-clause-gains
 returns-clause-gains g c =
@@ -8,16 +8,16 @@ returns-clause-gains g c =
     let s = e.session in (
       s.frames,
       s.events ++ s.last ∷ [],
-      c.a_session_is_its_asks_and_leave.ensures c.args.sitting.seat c.serve_entry-seat.result.0 c.args.connection.reader
+      rw c.sitting_of.ensures.seat (c.a_session_is_its_asks_and_leave.ensures c.args.sitting.seat c.serve_entry-seat.result.0 c.args.connection.reader
           e.last_reader c.args.connection.writer e.last_writer c.args.connection.clock e.last_clock _ _
-          c.serve_entry-seat.result.1 s,
+          c.serve_entry-seat.result.1 s),
     )
 
 -- the session leaves the store that the desk was opened with as it was
-pub invariant_of-result : goal.invariant_of-result
-invariant_of-result g c =
+pub sitting_of-requires-clause-empty : goal.sitting_of-requires-clause-empty
+sitting_of-requires-clause-empty g c =
     let e = c.serve_entry-seat.ensures.session in
     let gained = c.a_session_is_its_asks_and_leave.ensures c.args.sitting.seat c.serve_entry-seat.result.0
     c.args.connection.reader e.last_reader c.args.connection.writer e.last_writer c.args.connection.clock e.last_clock
     _ _ c.serve_entry-seat.result.1 e.session in
-    record { own = c.serve_entry-seat.ensures.ready; empty = gained.gains.opening ∙ c.args.sitting.empty }
+    gained.gains.opening ∙ c.args.sitting.empty

@@ -1,0 +1,7 @@
+-- The desk of a daemon, of which each of its calls picks its own. The form is this project's own.
+use Rattle.std.specs.Prelude.{[]}
+use Rattle.atomic_table.specs.Seated.{TableId}
+
+-- some desk, which a daemon that picks its own doesn't have
+abbrev pub any_desk : TableId
+any_desk = record { words = 0; slots = 0; views_name = 0; atom = 0; block = 0; offset = 0; slot_names = [] }
