@@ -40,6 +40,8 @@ struct seat {
     bool is_taken, is_busy;
     unsigned long turn;    /* when it was last used */
     pthread_cond_t is_free;
+    unsigned waiting;      /* the threads that wait for it */
+    bool is_called;        /* one of them was woken, and hasn't looked yet */
     struct kr *connection; /* NULL before the first call, after fork(2), and where it was lost */
     unsigned age;          /* of the connection, no other's: the contexts that threads remember end with it */
     uint32_t context;      /* of the first thread; 0 for none */
@@ -120,7 +122,11 @@ static void begin_waiting(void) {
     pthread_condattr_t monotonic;
     pthread_condattr_init(&monotonic);
     pthread_condattr_setclock(&monotonic, CLOCK_MONOTONIC);
-    for (int i = 0; i < SEATS; i++) pthread_cond_init(&process.seats[i].is_free, &monotonic);
+    for (int i = 0; i < SEATS; i++) {
+        pthread_cond_init(&process.seats[i].is_free, &monotonic);
+        process.seats[i].waiting = 0;
+        process.seats[i].is_called = false;
+    }
     pthread_condattr_destroy(&monotonic);
 }
 
@@ -233,6 +239,23 @@ static bool is_seat_of(const struct seat *seat, const struct kr_identity *identi
     return seat->is_taken && memcmp(&seat->identity, identity, sizeof *identity) == 0;
 }
 
+/* Wakes a thread that waits for the seat. While one is on its way no other is woken: whoever runs may take the seat
+ * before it, and again, and then each would be woken for nothing. */
+static void call_next(struct seat *seat) {
+    if (seat->is_busy || seat->is_called || seat->waiting == 0) return;
+    seat->is_called = true;
+    pthread_cond_signal(&seat->is_free);
+}
+
+/* Waits once; 0, or ETIMEDOUT. */
+static int wait_for(struct seat *seat, const struct timespec *end) {
+    seat->waiting++;
+    int error = pthread_cond_timedwait(&seat->is_free, &process.lock, end);
+    seat->waiting--;
+    seat->is_called = false;
+    return error;
+}
+
 /* Takes the seat of this identity to oneself, by the deadline. NULL with ETIMEDOUT. */
 static struct seat *take_seat(const struct kr_identity *identity, int64_t deadline) {
     const struct timespec end = { .tv_sec = deadline / 1000, .tv_nsec = deadline % 1000 * 1000000 };
@@ -240,14 +263,16 @@ static struct seat *take_seat(const struct kr_identity *identity, int64_t deadli
     lock();
     struct seat *seat = have_seat(identity);
     while (error == 0 && (seat->is_busy || !is_seat_of(seat, identity))) {
-        pthread_cond_t *waited = &seat->is_free;
-        error = pthread_cond_timedwait(waited, &process.lock, &end);
+        struct seat *waited = seat;
+        error = wait_for(waited, &end);
         seat = have_seat(identity);
-        if (waited != &seat->is_free) pthread_cond_signal(waited); /* another may want that one */
+        if (waited != seat) call_next(waited); /* another may want that one */
     }
     if (error == 0) {
         seat->is_busy = true;
         seat->turn = ++process.turn;
+    } else {
+        call_next(seat);
     }
     unlock();
     if (error == 0) return seat;
@@ -259,7 +284,7 @@ static void free_seat(struct seat *seat) {
     lock();
     seat->is_busy = false;
     end_contexts(seat);
-    pthread_cond_signal(&seat->is_free);
+    call_next(seat);
     unlock();
 }
 

@@ -42,6 +42,8 @@ static int send_ask(struct kr *connection, const struct kr_ask_form *form, uint3
                     const struct kr_field *fields) {
     uint8_t *out = connection->memory->out;
     if (kr_flush(connection) < 0) return -1;
+    bool are_all_answered = connection->answered == connection->asked;
+    if (are_all_answered && connection->in_length > 0) return kr_break_off(connection, EPROTO); /* a reply to no ask */
     size_t length = kr_encode_ask(out, connection->version, connection->asked + 1, form, context, fields);
     if (length == 0) {
         explicit_bzero(out, sizeof connection->memory->out); /* some of it was put there */
@@ -265,7 +267,7 @@ static int64_t give_answer(struct kr *connection, const struct kr_ask_form *form
                            void *buffer, size_t room) {
     struct kr_answer answer = answer_of(connection, form, reply);
     if (answer.length < 0) return -1;
-    if (form->answer == KR_NUMBER) return (int64_t)kr_get_u32(answer.bytes);
+    if (form->answer == KR_NUMBER || form->answer == KR_SERIAL) return (int64_t)kr_get_u32(answer.bytes);
     if (answer.length > 0 && buffer && (uint64_t)answer.length <= room)
         memcpy(buffer, answer.bytes, (size_t)answer.length);
     return answer.length;

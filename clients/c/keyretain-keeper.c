@@ -24,13 +24,16 @@
 #endif
 
 enum { REFUSED = 1, USAGE = 2, NO_CONNECTION = 3 };
-enum { PATIENCE_MILLISECONDS = 10000, LOOK_MILLISECONDS = 1000, SERIAL_WIDTH = 4, USER_MAY_SEARCH = 0x00080000 };
+enum { PATIENCE_MILLISECONDS = 10000, PATIENCE_DIGITS = 6, LOOK_MILLISECONDS = 1000 };
+enum { SERIAL_WIDTH = 4, USER_MAY_SEARCH = 0x00080000, DECIMAL = 10 };
 
-static const char usage[] = "usage: keyretain-keeper [--name NAME] [--socket PATH] [--no-link] [--deaf]\n"
-                            "       keyretain-keeper --hold RING [--socket PATH]\n";
+static const char usage[] =
+    "usage: keyretain-keeper [--name NAME] [--socket PATH] [--patience MILLISECONDS] [--no-link] [--deaf]\n"
+    "       keyretain-keeper --hold RING [--socket PATH] [--patience MILLISECONDS]\n";
 
 struct options {
-    const char *name, *ring, *socket;
+    const char *name, *ring, *socket, *patience;
+    int milliseconds;
     bool is_deaf, links_user;
 };
 
@@ -61,12 +64,21 @@ static bool is_flag(const char *word, struct options *options) {
 static const char **value_of(const char *word, struct options *options) {
     if (strcmp(word, "--name") == 0) return &options->name;
     if (strcmp(word, "--hold") == 0) return &options->ring;
+    if (strcmp(word, "--patience") == 0) return &options->patience;
     return strcmp(word, "--socket") == 0 ? &options->socket : NULL;
+}
+
+/* Digits alone: 1 to 999999. */
+static int read_patience(const char *digits) {
+    size_t length = strspn(digits, "0123456789");
+    int milliseconds = digits[length] == '\0' && length <= PATIENCE_DIGITS ? (int)strtol(digits, NULL, DECIMAL) : 0;
+    if (milliseconds == 0) refuse_words();
+    return milliseconds;
 }
 
 /* A line of the answer holds a name, so none may have an end of line in it. */
 static struct options read_options(char **words) {
-    struct options options = { .links_user = true };
+    struct options options = { .milliseconds = PATIENCE_MILLISECONDS, .links_user = true };
     for (; *words; words++) {
         if (is_flag(*words, &options)) continue;
         const char **value = value_of(*words, &options);
@@ -74,6 +86,7 @@ static struct options read_options(char **words) {
         *value = *words;
     }
     if (options.name && options.ring) refuse_words();
+    if (options.patience) options.milliseconds = read_patience(options.patience);
     return options;
 }
 
@@ -118,20 +131,32 @@ static void stand_alone(void) {
 
 /* ---- A session ---- */
 
-/* A context of this user, on a connection to the daemon. A path may be relative, and no folder is kept in use. */
-static struct kr *connect_to(const char *socket, char *path, size_t room, uint32_t *context) {
+/* A context of this user, on a connection to the daemon, whose calls all end within the patience until it has answered.
+ * A path may be relative, and no folder is kept in use. */
+static struct kr *connect_to(const struct options *options, char path[KR_PATH_ROOM], uint32_t *context) {
     struct kr_identity identity;
-    if (socket ? snprintf(path, room, "%s", socket) >= (int)room : kr_default_path(path, room) < 0) {
+    int64_t end = kr_now() + options->milliseconds;
+    bool is_short = options->socket ? snprintf(path, KR_PATH_ROOM, "%s", options->socket) < KR_PATH_ROOM
+                                    : kr_default_path(path, KR_PATH_ROOM) >= 0;
+    if (!is_short) {
         errno = ENAMETOOLONG;
         fail("the socket's path");
     }
-    struct kr *connection = kr_open_with(socket, 0, 0, PATIENCE_MILLISECONDS);
+    struct kr *connection = kr_open_with(options->socket, 0, 0, options->milliseconds);
     if (!connection || chdir("/") < 0) fail(path);
+    kr_set_deadline(connection, end);
     kr_own_identity(&identity);
     int64_t made = kr_hello_as(connection, &identity);
     if (made < 0) fail_ask(connection, path);
     *context = (uint32_t)made;
     return connection;
+}
+
+/* What was made. From now on each call has a time of its own. */
+static void answer(struct kr *connection, int32_t serial, const char *name, const char *path) {
+    dprintf(STDOUT_FILENO, "%d:%s\n%s\n", (int)serial, name, path);
+    kr_set_deadline(connection, KR_NEVER);
+    kr_set_patience(connection, PATIENCE_MILLISECONDS);
 }
 
 /* The link to the user keyring is the one that pam_keyinit(8) makes too. */
@@ -159,9 +184,9 @@ static void hold_session(const struct options *options) {
     static struct kr_session session;
     char path[KR_PATH_ROOM];
     uint32_t context;
-    struct kr *connection = connect_to(options->socket, path, sizeof path, &context);
+    struct kr *connection = connect_to(options, path, &context);
     begin(connection, context, options, &session);
-    dprintf(STDOUT_FILENO, "%d:%s\n%s\n", (int)session.serial, session.name, path);
+    answer(connection, session.serial, session.name, path);
     if (wait_for_end(connection, options->is_deaf) == 'r')
         kr_revoke(connection, context, KEY_SPEC_SESSION_KEYRING);
     kr_close(connection);
@@ -169,11 +194,20 @@ static void hold_session(const struct options *options) {
 
 /* ---- A keyring that is held as long as it has keys ---- */
 
-/* The keyring of this name in the user keyring, which is made where there is none. */
+static int32_t find_ring(struct kr *connection, uint32_t context, const char *name) {
+    return kr_search(connection, context, KEY_SPEC_USER_KEYRING, "keyring", name, 0);
+}
+
+/* The keyring of this name in the user keyring. Where there is none it is made beside it and moved there: of two
+ * keepers that do so at once the second finds what the first has made. */
 static int32_t have_ring(struct kr *connection, uint32_t context, const char *name) {
-    int32_t ring = kr_search(connection, context, KEY_SPEC_USER_KEYRING, "keyring", name, 0);
-    if (ring < 0 && errno == ENOKEY)
-        ring = kr_add(connection, context, "keyring", name, NULL, 0, KEY_SPEC_USER_KEYRING);
+    const int32_t beside = KEY_SPEC_THREAD_KEYRING, user = KEY_SPEC_USER_KEYRING;
+    int32_t ring = find_ring(connection, context, name);
+    if (ring < 0 && errno == ENOKEY) {
+        ring = kr_add(connection, context, "keyring", name, NULL, 0, beside);
+        if (ring >= 0 && kr_move(connection, context, ring, beside, user, KEYCTL_MOVE_EXCL) < 0)
+            ring = errno == EEXIST ? find_ring(connection, context, name) : -1;
+    }
     if (ring < 0) fail_ask(connection, name);
     return ring;
 }
@@ -193,34 +227,48 @@ static bool sweep(struct kr *connection, uint32_t context, int32_t ring) {
     return has_key && !kr_is_broken(connection);
 }
 
+enum { IS_HELD = -1, UNCLAIMED = 0 };
+
 /* Whether no other keeper holds this keyring: it would have a session of this name, which its user may search. One
  * that was made just now may not be searched. The session is a second context's, as the first one's possesses the user
- * keyring. */
-static bool is_only_one(struct kr *connection, uint32_t context, const char *ring) {
+ * keyring: that context is answered, or UNCLAIMED where the name can't be had, as another user has it. */
+static int64_t claim(struct kr *connection, uint32_t context, const char *ring) {
     char name[KR_SESSION_NAME_ROOM], described[KR_SESSION_NAME_ROOM + 64] = "";
-    unsigned mask = 0;
+    unsigned owner = 0, mask = 0;
     snprintf(name, sizeof name, "keyretain-keeper:%s", ring);
     int64_t second = kr_thread(connection, context);
     int32_t session = second < 0 ? -1 : kr_join(connection, (uint32_t)second, name);
-    if (session < 0) return true;
+    if (session < 0) return UNCLAIMED;
     kr_describe(connection, (uint32_t)second, session, described, sizeof described - 1);
-    sscanf(described, "keyring;%*u;%*u;%x;", &mask);
-    return !(mask & USER_MAY_SEARCH) &&
-           kr_setperm(connection, (uint32_t)second, session, mask | USER_MAY_SEARCH) == 0;
+    bool is_own = sscanf(described, "keyring;%u;%*u;%x;", &owner, &mask) == 2 && owner == geteuid();
+    if (is_own && mask & USER_MAY_SEARCH) return IS_HELD;
+    if (is_own && kr_setperm(connection, (uint32_t)second, session, mask | USER_MAY_SEARCH) == 0) return second;
+    kr_exit(connection, (uint32_t)second);
+    return UNCLAIMED;
+}
+
+/* Until there is no key, or unless another keeper is there. The name is given up before the last look: so a key that
+ * was put there while another keeper still found this one is seen by it. */
+static void hold_keys(struct kr *connection, uint32_t context, int32_t ring, const char *name) {
+    while (sweep(connection, context, ring)) {
+        int64_t second = claim(connection, context, name);
+        if (second == IS_HELD) return;
+        while (sweep(connection, context, ring)) poll(NULL, 0, LOOK_MILLISECONDS);
+        if (second != UNCLAIMED) kr_exit(connection, (uint32_t)second);
+    }
 }
 
 /* As long as the pipe is open, so that whoever started it can put a key there; then until it has none. */
 static void hold_ring(const struct options *options) {
     char path[KR_PATH_ROOM];
     uint32_t context;
-    struct kr *connection = connect_to(options->socket, path, sizeof path, &context);
+    struct kr *connection = connect_to(options, path, &context);
     int32_t ring = have_ring(connection, context, options->ring);
-    dprintf(STDOUT_FILENO, "%d:%s\n%s\n", (int)ring, options->ring, path);
+    answer(connection, ring, options->ring, path);
     let_go_of(STDOUT_FILENO);
     wait_for_end(connection, true);
     let_go_of(STDIN_FILENO);
-    if (is_only_one(connection, context, options->ring))
-        while (sweep(connection, context, ring)) poll(NULL, 0, LOOK_MILLISECONDS);
+    hold_keys(connection, context, ring, options->ring);
     kr_close(connection);
 }
 

@@ -1,8 +1,9 @@
-/* keyretain-session [--join | NAME] [-- CMD [ARG ..]]: runs a command in a session of keyretaind. See
+/* keyretain-session [--join | [--syscalls] [NAME]] [-- CMD [ARG ..]]: runs a command in a session of keyretaind. See
  * keyretain-session(1).
  *
- * A keeper makes the session and holds it. The command, which doesn't know it, inherits the writing end of the pipe on
- * which the keeper waits: so the session lasts as long as the command and what it has started. */
+ * A keeper makes the session and holds it. The command, which doesn't know it, inherits the writing end of the pipe
+ * on which the keeper waits: so the session lasts as long as the command and what it has started. With --syscalls a
+ * supervisor holds it: launch.c. */
 #define _GNU_SOURCE
 #include <errno.h>
 #include <limits.h>
@@ -14,6 +15,7 @@
 
 #include "connection.h"
 #include "holder.h"
+#include "launch.h"
 #include "session.h"
 
 #ifndef KEYRETAIN_LIBRARY_FOLDER
@@ -23,13 +25,14 @@
 #define KEYRETAIN_VERSION "0"
 #endif
 
-enum { REFUSED = 1, USAGE = 2, NO_CONNECTION = 3, NOT_EXECUTABLE = 126, NOT_FOUND = 127 };
 enum { PATIENCE_MILLISECONDS = 10000 };
 
-static const char usage[] = "usage: keyretain-session [NAME] [-- CMD [ARG ..]]\n"
+enum way { BY_LIBRARY, BY_SYSTEM_CALLS, JOINING };
+
+static const char usage[] = "usage: keyretain-session [--syscalls] [NAME] [-- CMD [ARG ..]]\n"
                             "       keyretain-session --join [-- CMD [ARG ..]]\n";
 
-static void fail(int status, const char *what) {
+void fail(int status, const char *what) {
     fprintf(stderr, "keyretain-session: %s: %s\n", what, strerror(errno));
     exit(status);
 }
@@ -46,12 +49,20 @@ static void refuse_words(void) {
     exit(USAGE);
 }
 
+static enum way read_way(char ***arguments) {
+    if (!**arguments) return BY_LIBRARY;
+    enum way way = strcmp(**arguments, "--join") == 0       ? JOINING
+                   : strcmp(**arguments, "--syscalls") == 0 ? BY_SYSTEM_CALLS
+                                                            : BY_LIBRARY;
+    if (way != BY_LIBRARY) ++*arguments;
+    return way;
+}
+
 /* The name, or NULL, and the command, or NULL for a shell. */
-static char **read_arguments(char **arguments, const char **name, bool *joins) {
-    *joins = *arguments && strcmp(*arguments, "--join") == 0;
-    if (*joins) arguments++;
+static char **read_arguments(char **arguments, const char **name, enum way *way) {
+    *way = read_way(&arguments);
     *name = NULL;
-    if (!*joins && *arguments && strcmp(*arguments, "--") != 0) *name = *arguments++;
+    if (*way != JOINING && *arguments && strcmp(*arguments, "--") != 0) *name = *arguments++;
     if (*name && (**name == '-' || **name == '\0')) refuse_words();
     if (!*arguments) return NULL;
     if (strcmp(*arguments, "--") != 0 || !arguments[1]) refuse_words();
@@ -84,20 +95,39 @@ static void export_socket(const char *path) {
     set_variable("KEYRETAIN_SOCKET", path);
 }
 
+static const char *library_folder(void) {
+    const char *named = getenv("KEYRETAIN_LIBRARY_FOLDER");
+    return named && *named ? named : KEYRETAIN_LIBRARY_FOLDER;
+}
+
 /* Programs are to find our libkeyutils.so.1 before the system's, wherever they run. Without it they would use the
  * kernel's keys, and nothing would say so. */
 static void export_library(void) {
-    const char *named = getenv("KEYRETAIN_LIBRARY_FOLDER"), *others = getenv("LD_LIBRARY_PATH");
+    const char *others = getenv("LD_LIBRARY_PATH");
     char library[PATH_MAX + 32], *folders;
-    if (!named || !*named) named = KEYRETAIN_LIBRARY_FOLDER;
-    char *folder = realpath(named, NULL);
-    if (!folder) fail(NO_CONNECTION, named);
+    char *folder = realpath(library_folder(), NULL);
+    if (!folder) fail(NO_CONNECTION, library_folder());
     snprintf(library, sizeof library, "%s/libkeyutils.so.1", folder);
     if (access(library, R_OK) < 0) fail(NO_CONNECTION, library);
     if (!others) others = "";
     if (asprintf(&folders, "%s%s%s", folder, *others ? ":" : "", others) < 0) fail(REFUSED, "LD_LIBRARY_PATH");
     set_variable("LD_LIBRARY_PATH", folders);
     free(folders);
+    free(folder);
+}
+
+/* A program that found our library would have two sessions: that of its system calls, and that of the library's. So
+ * what a keyretain-session around this one has set is taken away. */
+static void hide_library(void) {
+    char *folder = realpath(library_folder(), NULL), *others = getenv("LD_LIBRARY_PATH");
+    size_t length = folder ? strlen(folder) : 0;
+    unsetenv(KR_SESSION_VARIABLE);
+    if (folder && others && strncmp(others, folder, length) == 0) {
+        if (others[length] == ':')
+            set_variable("LD_LIBRARY_PATH", others + length + 1);
+        else if (others[length] == '\0')
+            unsetenv("LD_LIBRARY_PATH");
+    }
     free(folder);
 }
 
@@ -131,10 +161,15 @@ static void join(const char *path, struct kr_session *session) {
     kr_close(connection);
 }
 
-static void run(char **command) {
+/* The command, or the user's shell. */
+static char **command_or_shell(char **command) {
+    static char *shell_command[2];
     const char *shell = getenv("SHELL");
-    char *shell_command[] = { shell && *shell ? (char *)shell : "/bin/sh", NULL };
-    if (!command) command = shell_command;
+    *shell_command = shell && *shell ? (char *)shell : "/bin/sh";
+    return command ? command : shell_command;
+}
+
+static void run(char **command) {
     execvp(*command, command);
     fail(errno == ENOENT ? NOT_FOUND : NOT_EXECUTABLE, *command);
 }
@@ -143,13 +178,17 @@ int main(int count, char **arguments) {
     static struct kr_session session;
     char path[KR_PATH_ROOM];
     const char *name;
-    bool joins;
+    enum way way;
     if (count == 2) answer_option(arguments[1]);
-    char **command = read_arguments(arguments + 1, &name, &joins);
+    char **command = command_or_shell(read_arguments(arguments + 1, &name, &way));
     if (kr_default_path(path, sizeof path) < 0) fail(NO_CONNECTION, "the socket's path");
-    export_library();
+    if (way == BY_SYSTEM_CALLS)
+        hide_library();
+    else
+        export_library();
     export_socket(path);
-    if (joins)
+    if (way == BY_SYSTEM_CALLS) launch(getenv("KEYRETAIN_SOCKET"), name, command);
+    if (way == JOINING)
         join(path, &session);
     else
         begin(name, getenv("KEYRETAIN_SOCKET"), &session);

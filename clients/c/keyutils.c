@@ -8,8 +8,16 @@
 #include <stdlib.h>
 #include <string.h>
 
+#include "else_kernel.h"
 #include "syscalls.h"
 #include "wire.h"
+
+/* Who answers: keyretaind, or for a library that a whole system uses, the kernel where no session is named. */
+#ifdef KEYRETAIN_ELSE_KERNEL
+#define ANSWER key_call_else_kernel
+#else
+#define ANSWER key_call
+#endif
 
 /* Programs copy both, so that their lengths are part of the interface. */
 const char keyutils_version_string[] = "keyutils-1.6.3";
@@ -20,7 +28,7 @@ static long fail(int error) {
     return -1;
 }
 
-#define CALL(call, ...) key_call(call, (struct arguments){ { __VA_ARGS__ } })
+#define CALL(call, ...) ANSWER(call, (struct arguments){ { __VA_ARGS__ } })
 
 /* An argument as the system call has it: an id is widened by its sign. */
 static unsigned long word(long number) { return (unsigned long)number; }
@@ -47,7 +55,7 @@ __attribute__((weak)) long keyctl(int command, ...) {
     for (int i = 0; i < 4; i++) arguments.at[i] = va_arg(list, unsigned long);
     va_end(list);
     if (command < 0 || command >= CALL_ADD_KEY) return fail(EOPNOTSUPP);
-    return key_call(command, arguments);
+    return ANSWER(command, arguments);
 }
 
 /* ---- Commands ---- */
@@ -184,10 +192,11 @@ long keyctl_pkey_verify(key_serial_t id, const char *info, const void *data, siz
 
 /* ---- Answers in memory of their own ---- */
 
-enum { FIRST_ROOM = 255 };
+enum { FIRST_ROOM = 256 };
 
 /* The answer to a command into a buffer that is large enough, with a null byte after it; its length, or -1. The first
- * buffer does for most keys, so that one ask does, where the kernel's library always makes two. */
+ * buffer does for most keys, so that one ask does, where the kernel's library always makes two. It has room for whole
+ * serials: else the kernel doesn't read a keyring. */
 static long read_all(int command, key_serial_t id, char **buffer) {
     size_t room = FIRST_ROOM;
     for (;;) {
@@ -230,34 +239,44 @@ enum { DEEPEST = 800, SERIAL_WIDTH = 4 };
 struct scan {
     recursive_key_scanner_t scanner;
     void *data;
+    bool is_lost; /* there is no daemon any more: a next one has other keys, and none may keep each ask waiting */
 };
 
-static int scan_key(const struct scan *scan, key_serial_t parent, key_serial_t key, int depth);
+static int scan_key(struct scan *scan, key_serial_t parent, key_serial_t key, int depth);
 
-static int scan_links(const struct scan *scan, key_serial_t ring, int depth) {
+/* After an ask that failed: an error that no daemon answers. */
+static void note_loss(struct scan *scan) {
+    scan->is_lost = errno == ECONNRESET || errno == ETIMEDOUT || errno == ENOSYS || errno == EPROTO;
+}
+
+static int scan_links(struct scan *scan, key_serial_t ring, int depth) {
     void *links;
     int length = keyctl_read_alloc(ring, &links), found = 0;
-    if (length < 0) return 0;
-    for (const uint8_t *at = links; length >= SERIAL_WIDTH; at += SERIAL_WIDTH, length -= SERIAL_WIDTH)
-        found += scan_key(scan, ring, (key_serial_t)kr_get_u32(at), depth + 1);
+    if (length < 0) {
+        note_loss(scan);
+        return 0;
+    }
+    for (const uint8_t *at = links; length >= SERIAL_WIDTH && !scan->is_lost; at += SERIAL_WIDTH, length -= SERIAL_WIDTH)
+        if (kr_is_serial(kr_get_u32(at))) found += scan_key(scan, ring, (key_serial_t)kr_get_u32(at), depth + 1);
     free(links);
     return found;
 }
 
 /* What a keyring links is seen before the keyring itself. */
-static int scan_key(const struct scan *scan, key_serial_t parent, key_serial_t key, int depth) {
+static int scan_key(struct scan *scan, key_serial_t parent, key_serial_t key, int depth) {
     char *description = NULL;
     int found = 0;
     if (depth > DEEPEST) return 0;
     int length = keyctl_describe_alloc(key, &description);
+    if (length < 0) note_loss(scan);
     if (length > 0 && strncmp(description, "keyring;", 8) == 0) found = scan_links(scan, key, depth);
-    found += scan->scanner(parent, key, description, length, scan->data);
+    if (!scan->is_lost) found += scan->scanner(parent, key, description, length, scan->data);
     free(description);
     return found;
 }
 
 int recursive_key_scan(key_serial_t key, recursive_key_scanner_t scanner, void *data) {
-    const struct scan scan = { scanner, data };
+    struct scan scan = { scanner, data, false };
     return scan_key(&scan, 0, key, 0);
 }
 

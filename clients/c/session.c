@@ -123,10 +123,11 @@ bool kr_is_keyring(struct kr *connection, uint32_t context, int32_t id) {
 
 /* Whether the keyring is this user's, and gives nothing to group and others. 1 where it isn't, or the daemon doesn't
  * tell; -1 where the connection fails. */
-static int check_private(struct kr *connection, uint32_t context, int32_t ring, struct attributes *attributes) {
+static int check_private(struct kr *connection, uint32_t context, int32_t ring, uint32_t uid,
+                         struct attributes *attributes) {
     int known = read_attributes(connection, context, ring, attributes);
     if (known != 0) return known;
-    return attributes->owner != geteuid() || attributes->mask & GROUP_AND_OTHERS;
+    return attributes->owner != uid || attributes->mask & GROUP_AND_OTHERS;
 }
 
 /* Leaves what a context has joined for a keyring of its own. */
@@ -137,16 +138,20 @@ static int leave_session(struct kr *connection, uint32_t context) {
 /* JOIN by name finds a keyring only where the caller may search it: a new one doesn't let its user do so, as the
  * kernel's doesn't, and would be lost to the next process. So its user is given that right. One of another user, who
  * made it first and open to all, may be found too: what is put into it would be told to that user. */
-int32_t kr_begin_session(struct kr *connection, uint32_t context, const char *name) {
+int32_t kr_begin_session_as(struct kr *connection, uint32_t context, const char *name, uint32_t uid) {
     struct attributes attributes;
     int32_t ring = kr_join(connection, context, name);
     if (ring < 0) return -1;
-    int other = check_private(connection, context, ring, &attributes);
+    int other = check_private(connection, context, ring, uid, &attributes);
     if (other > 0) other = leave_session(connection, context);
     if (other > 0) errno = EACCES;
     if (other != 0) return -1;
     if (attributes.mask & USER_MAY_SEARCH) return ring;
     return kr_setperm(connection, context, ring, attributes.mask | USER_MAY_SEARCH) < 0 ? -1 : ring;
+}
+
+int32_t kr_begin_session(struct kr *connection, uint32_t context, const char *name) {
+    return kr_begin_session_as(connection, context, name, geteuid());
 }
 
 /* A daemon that was started anew gives the same serials again. So it isn't enough that the serial is the session's: one
@@ -155,7 +160,7 @@ int kr_enter_session(struct kr *connection, uint32_t context, const struct kr_se
     struct attributes attributes = { 0 };
     int32_t ring = kr_join(connection, context, session->name);
     if (ring < 0) return -1;
-    int other = ring != session->serial ? 1 : check_private(connection, context, ring, &attributes);
+    int other = ring != session->serial ? 1 : check_private(connection, context, ring, geteuid(), &attributes);
     if (other == 0 && !(attributes.mask & USER_MAY_SEARCH)) return 1;
     return other > 0 ? leave_session(connection, context) : other;
 }

@@ -45,6 +45,9 @@ int kr_export_session(const struct kr_session *session);
  * the context has another session keyring, which nobody shares. */
 int32_t kr_begin_session(struct kr *connection, uint32_t context, const char *name);
 
+/* The same for the user of a context that isn't this process's. */
+int32_t kr_begin_session_as(struct kr *connection, uint32_t context, const char *name, uint32_t uid);
+
 /* Joins a session whose serial is known, and which must still be there: 0; 1 where its keyring was revoked, is gone,
  * or isn't this user's alone; -1 with errno. With 1 the context has another keyring, which nobody shares, as its
  * session. */

@@ -5,7 +5,6 @@
 
 #include <errno.h>
 #include <linux/keyctl.h>
-#include <stdbool.h>
 #include <string.h>
 #include <unistd.h>
 
@@ -38,6 +37,8 @@ static unsigned id_arguments(int call) {
     case CALL_ADD_KEY: return 0x10;
     case CALL_REQUEST_KEY: return 0x4;
     case KEYCTL_JOIN_SESSION_KEYRING:
+    case KEYCTL_SET_REQKEY_KEYRING:
+    case KEYCTL_SESSION_TO_PARENT:
     case KEYCTL_CAPABILITIES: return 0;
     default: return 0x1;
     }
@@ -45,7 +46,7 @@ static unsigned id_arguments(int call) {
 
 static bool is_id(int call, unsigned argument) { return id_arguments(call) >> argument & 1; }
 
-static bool names(int call, values at, int32_t id) {
+bool key_call_names(int call, const unsigned long at[ARGUMENTS], int32_t id) {
     for (unsigned i = 0; i < ARGUMENTS; i++)
         if (is_id(call, i) && id_of(at[i]) == id) return true;
     return false;
@@ -61,12 +62,12 @@ static bool names_stale(const struct caller *caller, int call, values at) {
 
 /* A session that is lost is refused as a revoked one: made anew it would hide that its keys are gone. */
 static bool wants_session(int call, values at) {
-    return call == CALL_REQUEST_KEY || names(call, at, KEY_SPEC_SESSION_KEYRING);
+    return call == CALL_REQUEST_KEY || key_call_names(call, at, KEY_SPEC_SESSION_KEYRING);
 }
 
 /* The key of an authority and the keyring of its requestor, which nobody has here: the kernel finds no key. */
 static bool names_authority(int call, values at) {
-    return names(call, at, KEY_SPEC_REQKEY_AUTH_KEY) || names(call, at, KEY_SPEC_REQUESTOR_KEYRING);
+    return key_call_names(call, at, KEY_SPEC_REQKEY_AUTH_KEY) || key_call_names(call, at, KEY_SPEC_REQUESTOR_KEYRING);
 }
 
 /* ---- What is known without the daemon ---- */

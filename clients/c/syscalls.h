@@ -2,6 +2,9 @@
 #ifndef KEYRETAIN_SYSCALLS_H
 #define KEYRETAIN_SYSCALLS_H
 
+#include <stdbool.h>
+#include <stdint.h>
+
 /* The commands of keyctl(2), and behind them the two other system calls. */
 enum { CALL_ADD_KEY = 256, CALL_REQUEST_KEY };
 
@@ -9,6 +12,9 @@ enum { CALL_ADD_KEY = 256, CALL_REQUEST_KEY };
 struct arguments {
     unsigned long at[5];
 };
+
+/* Whether an argument that is an id is this one. */
+bool key_call_names(int call, const unsigned long at[5], int32_t id);
 
 /* Answers what the system call would, or -1 with errno. */
 long key_call(int call, struct arguments arguments);

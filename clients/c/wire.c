@@ -5,8 +5,8 @@
 #include <string.h>
 
 const struct kr_ask_form kr_ask_forms[] = {
-    { KR_GET_ID, "GET_ID", KR_NUMBER, { KR_ID, KR_U8 } },
-    { KR_JOIN, "JOIN", KR_NUMBER, { KR_TEXT } },
+    { KR_GET_ID, "GET_ID", KR_SERIAL, { KR_ID, KR_U8 } },
+    { KR_JOIN, "JOIN", KR_SERIAL, { KR_TEXT } },
     { KR_UPDATE, "UPDATE", KR_NOTHING, { KR_ID, KR_BLOB } },
     { KR_REVOKE, "REVOKE", KR_NOTHING, { KR_ID } },
     { KR_CHOWN, "CHOWN", KR_NOTHING, { KR_ID, KR_U32, KR_U32 } },
@@ -15,7 +15,7 @@ const struct kr_ask_form kr_ask_forms[] = {
     { KR_CLEAR, "CLEAR", KR_NOTHING, { KR_ID } },
     { KR_LINK, "LINK", KR_NOTHING, { KR_ID, KR_ID } },
     { KR_UNLINK, "UNLINK", KR_NOTHING, { KR_ID, KR_ID } },
-    { KR_SEARCH, "SEARCH", KR_NUMBER, { KR_ID, KR_TEXT, KR_TEXT, KR_ID } },
+    { KR_SEARCH, "SEARCH", KR_SERIAL, { KR_ID, KR_TEXT, KR_TEXT, KR_ID } },
     { KR_READ, "READ", KR_BYTES, { KR_ID } },
     { KR_SET_TIMEOUT, "SET_TIMEOUT", KR_NOTHING, { KR_ID, KR_U32 } },
     { KR_INVALIDATE, "INVALIDATE", KR_NOTHING, { KR_ID } },
@@ -28,8 +28,8 @@ const struct kr_ask_form kr_ask_forms[] = {
     { KR_EXEC, "EXEC", KR_NOTHING, { KR_END } },
     { KR_EXIT, "EXIT", KR_NOTHING, { KR_END } },
     { KR_LEAVE, "LEAVE", KR_NOTHING, { KR_END } },
-    { KR_ADD, "ADD", KR_NUMBER, { KR_TEXT, KR_TEXT, KR_BLOB, KR_ID } },
-    { KR_REQUEST, "REQUEST", KR_NUMBER, { KR_TEXT, KR_TEXT, KR_ID } },
+    { KR_ADD, "ADD", KR_SERIAL, { KR_TEXT, KR_TEXT, KR_BLOB, KR_ID } },
+    { KR_REQUEST, "REQUEST", KR_SERIAL, { KR_TEXT, KR_TEXT, KR_ID } },
     { KR_OPEN_QUEUE, "OPEN_QUEUE", KR_NUMBER, { KR_U32 } },
     { KR_SET_FILTER, "SET_FILTER", KR_NOTHING, { KR_U32, KR_ENTRIES } },
     { KR_READ_QUEUE, "READ_QUEUE", KR_BYTES, { KR_U32, KR_U32 } },
@@ -147,12 +147,15 @@ static bool is_error(uint32_t status, int *error) {
     return false;
 }
 
+bool kr_is_serial(uint32_t number) { return number > 0 && number <= INT32_MAX; }
+
 bool kr_reply_fits(const struct kr_reply *reply, const struct kr_ask_form *form, int *error) {
     *error = 0;
     if (reply->status != 0) return reply->length == 0 && is_error(reply->status, error);
     switch (form->answer) {
     case KR_NOTHING: return reply->length == 0;
     case KR_NUMBER: return reply->length == 4;
+    case KR_SERIAL: return reply->length == 4 && kr_is_serial(kr_get_u32(reply->body));
     default: return true;
     }
 }

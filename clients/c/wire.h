@@ -17,7 +17,7 @@ enum { KR_ASK_ROOM = 4 + 65536, KR_REPLY_ROOM = 4 + 262152 };
 /* The fields of bodies. GROUPS are a count and as many numbers, ENTRIES a count and as many entries of a filter. */
 enum kr_field_form { KR_END, KR_ID, KR_U8, KR_U32, KR_I32, KR_TEXT, KR_BLOB, KR_GROUPS, KR_ENTRIES };
 
-enum kr_answer_form { KR_NOTHING, KR_NUMBER, KR_BYTES };
+enum kr_answer_form { KR_NOTHING, KR_NUMBER, KR_SERIAL, KR_BYTES };
 
 enum { KR_FIELDS = 4 };
 
@@ -68,5 +68,8 @@ enum kr_decoded kr_decode_reply(const uint8_t *in, size_t length, int version, s
 bool kr_reply_fits(const struct kr_reply *reply, const struct kr_ask_form *form, int *error);
 
 uint32_t kr_get_u32(const uint8_t *at);
+
+/* Whether a key may have this number. As an id any other would be negative, and name something else. */
+bool kr_is_serial(uint32_t number);
 
 #endif

@@ -3,26 +3,15 @@ one adds the other reads, updates, revokes and watches, and what one client alon
 line for each difference, and last how many were compared."""
 import ctypes
 import errno
-import os
 import sys
 import time
 
-sys.path.insert(0, os.path.join(os.path.dirname(__file__), "../../clients/python"))
-sys.dont_write_bytecode = True
+from compare import compare, conclude
 import keyretain
 from keyretain import Loss, Note, Removal
 
 ALL = 0x3F3F3F3F
 THREAD, SESSION, USER = keyretain.THREAD, keyretain.SESSION, keyretain.USER
-compared, different = 0, 0
-
-
-def compare(what, wanted, got):
-    global compared, different
-    compared += 1
-    if wanted != got:
-        different += 1
-        print(f"differs: {what}: wanted {wanted!r}, got {got!r}")
 
 
 def answer(run, *words):
@@ -185,7 +174,7 @@ def main():
     try_notes(c, python, own, other, *try_keys(c, python, own, other))
     try_filters(c, python, own, other)
     try_python_ends(python, try_ends(c, python, own, other))
-    print(f"{compared} compared, {different} different")
+    conclude()
 
 
 main()

@@ -1,6 +1,5 @@
 """frames.py ASKS: runs the program ASKS (asks.c) against servers that are made for it, and compares what it sends and
 what it prints with what is wanted. Prints a line for each difference, and last how many were compared."""
-import os
 import socket
 import struct
 import subprocess
@@ -9,19 +8,10 @@ import tempfile
 import threading
 import time
 
-sys.path.insert(0, os.path.join(os.path.dirname(__file__), "../../clients/python"))
-sys.dont_write_bytecode = True
+from compare import compare, conclude
 import keyretain
 
-program, compared, different = sys.argv[1], 0, 0
-
-
-def compare(what, wanted, got):
-    global compared, different
-    compared += 1
-    if wanted != got:
-        different += 1
-        print(f"differs: {what}: wanted {wanted!r}, got {got!r}")
+program = sys.argv[1]
 
 
 def reply(version, tag, status=0, body=b""):
@@ -78,7 +68,7 @@ def run(mode, version, answer, versions=(1, 2)):
 
 def plain(version, tag, name, values):
     """As a daemon that knows every key: numbers are 77, bytes are their ask's name."""
-    body = {"number": struct.pack("<I", 77), "nothing": b"", "bytes": name.encode()}[keyretain.ASKS[name].answer]
+    body = {"number": struct.pack("<I", 77), "serial": struct.pack("<I", 77), "nothing": b"", "bytes": name.encode()}[keyretain.ASKS[name].answer]
     return reply(version, tag, 0, body)
 
 
@@ -102,7 +92,7 @@ def wanted_lines(version):
     for name, _, values in ALL_ASKED:
         form, word = keyretain.ASKS[name].answer, name.lower()
         length = len(name)
-        lines.append(f"{word}: " + {"number": "77", "nothing": "0", "bytes": str(length)}[form])
+        lines.append(f"{word}: " + {"number": "77", "serial": "77", "nothing": "0", "bytes": str(length)}[form])
         if name == "DESCRIBE":
             described += 1
             lines.append("describe: " + ("untouched" if described == 1 else "DESCRIBEd"))
@@ -188,6 +178,9 @@ def try_broken():
             "an error with a body": (lambda tag: reply(version, tag, 1, b"x"), "EPROTO"),
             "no number": (lambda tag: reply(version, tag, 0, b""), "EPROTO"),
             "a long number": (lambda tag: reply(version, tag, 0, four + b"\0"), "EPROTO"),
+            "a serial of 0": (lambda tag: reply(version, tag, 0, bytes(4)), "EPROTO"),
+            "a serial of 2^31": (lambda tag: reply(version, tag, 0, b"\0\0\0\x80"), "EPROTO"),
+            "a serial of 2^32 - 1": (lambda tag: reply(version, tag, 0, b"\xff" * 4), "EPROTO"),
             "a short length": (lambda tag: b"\3\0\0\0" + bytes(20), "EPROTO"),
             "a great length": (lambda tag: b"\x09\0\4\0" + bytes(20), "EPROTO"),
             "two replies": (lambda tag: reply(version, tag, 0, four) * 2, "EPROTO"),
@@ -211,11 +204,29 @@ def try_python():
                 answers = [client.ask(name, context, *values) for name, context, values in ALL_ASKED]
                 spoken = client.version
         what = f"the Python client, version {version}, a server of {versions}:"
-        wanted = {"number": 77, "nothing": None}
+        wanted = {"number": 77, "serial": 77, "nothing": None}
         compare(f"{what} its version", version or versions[-1], spoken)
         compare(f"{what} what is sent", ALL_ASKED, server.asked)
         compare(f"{what} the answers", [wanted.get(keyretain.ASKS[name].answer, name.encode())
                                         for name, _, _ in ALL_ASKED], answers)
+
+
+def try_python_serials():
+    """Numbers that no key has: an id of them would name something else, or nothing."""
+    for number in (0, 1 << 31, (1 << 32) - 1):
+        spelled = struct.pack("<I", number)
+        for name, call in (("GET_ID", lambda client: client.get_id(1, -4)), ("READ", lambda client: client.read_ring(1, 5)),
+                           ("READ_QUEUE", lambda client: client.read_queue(1))):
+            body = struct.pack("<II", 1 | 2 << 24, 16) + b"\5\0\0\0" + spelled if name == "READ_QUEUE" else spelled
+            with tempfile.TemporaryDirectory(prefix="keyretain.") as folder:
+                Server(folder + "/sock", lambda version, tag, *_: reply(version, tag, 0, body), (1, 2))
+                with keyretain.Client(folder + "/sock", 2, timeout=20) as client:
+                    try:
+                        got = call(client)
+                    except keyretain.Malformed:
+                        got = "malformed"
+            wanted = [keyretain.Note(0, "linked", 5, 0)] if name == "READ_QUEUE" and number == 0 else "malformed"
+            compare(f"{name}, serial {number}, to the Python client", wanted, got)
 
 
 def give_up(client, run, *words):
@@ -262,8 +273,7 @@ def try_python_first():
                 ["no frame", None, "no answer", None, b"READ", versions[-1], b"READ"], answers)
 
 
-for case in (try_python, try_python_late, try_python_first, try_all, try_late, try_first, try_restarted, try_child,
+for case in (try_python, try_python_serials, try_python_late, try_python_first, try_all, try_late, try_first, try_restarted, try_child,
              try_statuses, try_broken):
     case()
-print(f"{compared} compared, {different} different")
-sys.exit(different != 0)
+conclude()

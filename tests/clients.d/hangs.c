@@ -1,8 +1,9 @@
 /* hangs DAEMON MODE: what libkeyutils.so.1 does in a program with threads, forks and cancelled threads. Prints what
- * became of it in one word, and `hangs` where that takes 15 seconds. */
+ * became of it in one word, and `hangs` where that takes 15 seconds, or where of many calls none ends for so long. */
 #define _GNU_SOURCE
 #include <pthread.h>
 #include <signal.h>
+#include <stdatomic.h>
 #include <stdlib.h>
 #include <sys/wait.h>
 #include <unistd.h>
@@ -10,12 +11,20 @@
 #include "check.h"
 #include "keyutils.h"
 
-enum { LONGEST = 15 };
+enum { LONGEST = 15, CROWD = 8, ROUNDS = 40, CALLS = 20 };
 
 static pid_t daemon_process;
+static atomic_uint ended; /* how many calls of a crowd have */
 
 static void on_alarm(int unused) {
+    static unsigned seen;
     (void)unused;
+    unsigned now = atomic_load(&ended);
+    if (now != seen) {
+        seen = now;
+        alarm(LONGEST);
+        return;
+    }
     if (daemon_process > 0) kill(daemon_process, SIGCONT);
     (void)!write(STDOUT_FILENO, "hangs\n", 6);
     _exit(9);
@@ -75,6 +84,26 @@ static const char *try_end(void) {
     pthread_barrier_wait(&may_end);
     pthread_join(ending, NULL);
     return go_on(waiting, "ends");
+}
+
+/* ---- Many threads that wait for one another ---- */
+
+static void *ask_often(void *unused) {
+    for (int i = 0; i < CALLS; i++) {
+        ask(unused);
+        atomic_fetch_add(&ended, 1);
+    }
+    return NULL;
+}
+
+/* Each round ends with threads that wait while nobody comes back: none is forgotten. */
+static const char *try_crowd(void) {
+    pthread_t threads[CROWD];
+    for (int round = 0; round < ROUNDS; round++) {
+        for (int i = 0; i < CROWD; i++) pthread_create(&threads[i], NULL, ask_often, NULL);
+        for (int i = 0; i < CROWD; i++) pthread_join(threads[i], NULL);
+    }
+    return "all end";
 }
 
 /* ---- Cancelling ---- */
@@ -174,7 +203,7 @@ int main(int count, char **words) {
     static const struct {
         const char *name;
         const char *(*run)(void);
-    } modes[] = { { "fork", try_fork },   { "end", try_end },       { "cancel", try_cancel },
+    } modes[] = { { "fork", try_fork },   { "end", try_end },       { "cancel", try_cancel },   { "crowd", try_crowd },
                   { "child", try_child }, { "halves", try_halves }, { "environment", try_environment } };
     if (count != 3) return 2;
     daemon_process = atoi(words[1]);

@@ -41,10 +41,13 @@ class Server:
     def body_of(self, name):
         """A body as it should be, or something like it."""
         dice, form = self.dice, keyretain.ASKS[name].answer
-        body = {"number": dice.randbytes(4), "nothing": b"", "bytes": dice.randbytes(4 * dice.randrange(9))}[form]
+        body = {"number": dice.randbytes(4), "serial": self.serial(), "nothing": b"", "bytes": dice.randbytes(4 * dice.randrange(9))}[form]
         if name == "READ_QUEUE" and dice.random() < 0.8:
             body = b"".join(self.record() for _ in range(dice.randrange(4)))
         return body + dice.randbytes(dice.randrange(6)) if dice.random() < 0.05 else body
+
+    def serial(self):
+        return self.dice.randbytes(4) if self.dice.random() < 0.1 else struct.pack("<I", self.dice.randrange(1, 1 << 31))
 
     def record(self):
         dice = self.dice

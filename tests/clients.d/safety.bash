@@ -16,6 +16,7 @@ try_hangs() {
 fork forks
 end ends
 cancel answers
+crowd all end
 child answers
 halves cut
 environment changed alone
@@ -91,11 +92,14 @@ let_go() { exec {life}>&-; }
 in_named() { KEYRETAIN_SESSION=$(head -n 1 "$dir/answer") timeout 20 "$dir/acts" session; }
 
 try_keeper() {
-  local life serial sockets
+  local life serial sockets word since
   serve --lanes 32
   is 'keeper: the words --version' "keyretain-keeper $version" "$("$dir/c/keyretain-keeper" --version)"
   is 'keeper: no such option' 2 "$("$dir/c/keyretain-keeper" --none 2>/dev/null; echo $?)"
   is 'keeper: a name and a ring' 2 "$("$dir/c/keyretain-keeper" --name a --hold b 2>/dev/null; echo $?)"
+  for word in 0 -1 1000000 1s ''; do
+    is "keeper: a patience of '$word'" 2 "$("$dir/c/keyretain-keeper" --patience "$word" 2>/dev/null; echo $?)"
+  done
   keep --name kept
   serial=$(sed -n '1s/:kept$//p' "$dir/answer")
   is 'keeper: where the session is' "$path" "$(sed -n 2p "$dir/answer")"
@@ -117,6 +121,16 @@ try_keeper() {
   keep --deaf --name deaf
   printf r >&"$life"
   is 'keeper: a deaf one is told nothing' "$(sed -n '1s/:.*//p' "$dir/answer")" "$(sleep 0.5; in_named)"
+  kill -STOP "$daemon"
+  let_go
+  since=$SECONDS
+  keep --name slow --patience 500
+  is 'keeper: a daemon that does not answer' "failed 110 $path: Connection timed out" "$(<"$dir/answer")"
+  is 'keeper: it waits as long as it was told' yes "$([ $((SECONDS - since)) -lt 8 ] && echo yes)"
+  kill -CONT "$daemon"
+  let_go
+  keep --name patient --patience 5000
+  is 'keeper: with a patience it stays' "$(sed -n '1s/:.*//p' "$dir/answer")" "$(sleep 0.5; in_named)"
   kill_daemon TERM
   until_true has_no_keeper
   is 'keeper: ends with the daemon' gone "$(has_no_keeper && echo gone)"

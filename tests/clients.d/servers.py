@@ -1,31 +1,12 @@
 """Servers for the tests of the Python client, and how these tests compare."""
-import os
 import socket
 import struct
-import sys
 import tempfile
 import threading
 from contextlib import contextmanager
 
-sys.path.insert(0, os.path.join(os.path.dirname(__file__), "../../clients/python"))
-sys.dont_write_bytecode = True
+from compare import compare, conclude
 import keyretain
-
-compared, different = 0, 0
-
-
-def compare(what, wanted, got):
-    global compared, different
-    compared += 1
-    if wanted != got:
-        different += 1
-        print(f"differs: {what}: wanted {wanted!r}, got {got!r}")
-
-
-def conclude():
-    """The last line, and the status."""
-    print(f"{compared} compared, {different} different", flush=True)
-    sys.exit(different != 0)
 
 
 def outcome(run, *words, **named):
@@ -66,7 +47,7 @@ class End:
 def plain(name, values):
     """What is answered by a daemon whose keys hold their serials as text."""
     form = keyretain.ASKS[name].answer
-    return {"number": struct.pack("<I", 77), "nothing": b"", "bytes": b"%d" % (values[0] if values else 0)}[form]
+    return {"number": struct.pack("<I", 77), "serial": struct.pack("<I", 77), "nothing": b"", "bytes": b"%d" % (values[0] if values else 0)}[form]
 
 
 def answer_all(end):

@@ -153,6 +153,8 @@ def try_found():
             compare("another listens at one's own path", "PermissionError", tells())
             compare("what another was told", 0, told())
             compare("the same, found, where anybody may", "PermissionError", tells(trust="any"))
+            compare("the same, found, by the environment", "PermissionError",
+                    tells(environment={"KEYRETAIN_TRUST": "any"}))
             compare("the same, named", "PermissionError", tells(own))
             compare("the same, named, where anybody may", "told", tells(own, trust="any"))
             for word, wanted in (("any", "told"), ("all", "PermissionError")):
@@ -236,6 +238,8 @@ def try_system():
         with listening(path, OTHER):
             compare("root and another's daemon there", "PermissionError", tells())
             compare("the same user's", "PermissionError", tells(uid=OTHER))
+            for named in ({"trust": "any"}, {"environment": {"KEYRETAIN_TRUST": "any"}}):
+                compare(f"the same, {named}", "PermissionError", tells(uid=OTHER, **named))
 
 
 def try_set_uid():

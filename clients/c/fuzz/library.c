@@ -163,7 +163,7 @@ static int call(struct kr *connection, int patience) {
         answer = ask(connection, which % 32, &words);
     int error = errno;
     look_at_time(begun, patience);
-    if (answer < INT32_MIN) fault("an answer that is no number"); /* a serial may be any 32 bits of the daemon's */
+    if (answer < -1) fault("an answer that is neither an error nor a number");
     if (was_broken && (which & 127) < 120 && answer != -1) fault("a broken connection answers");
     if ((which & 127) < 100) look_at_answer(connection, answer, error);
     free_words(&words);

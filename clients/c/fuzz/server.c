@@ -145,7 +145,7 @@ static size_t put_description(uint8_t *body) {
 /* As an answer to this ask should be. Bits of `how` choose among such. */
 static size_t put_body(const struct ask *ask, uint8_t how, uint8_t *body) {
     size_t length = 0;
-    if (ask->answer == KR_NUMBER) {
+    if (ask->answer == KR_NUMBER || ask->answer == KR_SERIAL) {
         uint32_t number = how & 64 ? server_word() : 1U + server_byte();
         memcpy(body, &number, sizeof number);
         return sizeof number;

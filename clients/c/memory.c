@@ -1,0 +1,104 @@
+/* memory.c: /proc/PID/mem, which reads and writes also where the program itself may not. So what is written is looked
+ * at first. */
+#define _GNU_SOURCE
+#include "memory.h"
+
+#include <errno.h>
+#include <fcntl.h>
+#include <linux/types.h>
+#include <stdio.h>
+#include <string.h>
+#include <sys/ioctl.h>
+#include <sys/uio.h>
+#include <unistd.h>
+
+#include "proc.h"
+
+enum { PAGE = 4096, SHORT = 256 };
+
+int memory_open(struct memory *memory, pid_t thread) {
+    char path[64];
+    snprintf(path, sizeof path, "/proc/%d/mem", (int)thread);
+    memory->thread = thread;
+    memory->file = open(path, O_RDWR | O_CLOEXEC);
+    return memory->file < 0 ? -1 : 0;
+}
+
+void memory_close(struct memory *memory) {
+    int error = errno;
+    if (memory->file >= 0) close(memory->file);
+    memory->file = -1;
+    errno = error;
+}
+
+/* The kernel reads nothing, and calls that no error, of memory that nobody has any more. */
+bool memory_is_gone(int file) {
+    char byte;
+    return pread(file, &byte, 1, 0) == 0;
+}
+
+bool memory_read(const struct memory *memory, void *to, unsigned long from, size_t length) {
+    return pread(memory->file, to, length, (off_t)from) == (ssize_t)length;
+}
+
+/* Up to the end of a page at a time, as the next may not be there; first a few bytes, as most texts are short. */
+bool memory_read_text(const struct memory *memory, char *to, unsigned long from, size_t max) {
+    size_t length = 0;
+    while (length < max) {
+        size_t wanted = PAGE - (from + length) % PAGE;
+        if (wanted > max - length) wanted = max - length;
+        if (length == 0 && wanted > SHORT) wanted = SHORT;
+        ssize_t got = pread(memory->file, to + length, wanted, (off_t)(from + length));
+        if (got <= 0) return false;
+        if (memchr(to + length, '\0', (size_t)got)) return true;
+        length += (size_t)got;
+    }
+    to[length] = '\0';
+    return true;
+}
+
+/* ---- Writing ---- */
+
+/* PROCMAP_QUERY of linux/fs.h, which came with Linux 6.11. */
+struct mapping_query {
+    __u64 size, query_flags, query_addr, vma_start, vma_end, vma_flags, vma_page_size, vma_offset, inode;
+    __u32 dev_major, dev_minor, vma_name_size, build_id_size;
+    __u64 vma_name_addr, build_id_addr;
+};
+#define MAPPING_QUERY _IOWR('f', 17, struct mapping_query)
+enum { MAPPING_IS_WRITABLE = 2 };
+
+enum answer { NO, YES, UNKNOWN };
+
+static enum answer is_writable_in(int maps, unsigned long at, unsigned long end) {
+    while (at < end) {
+        struct mapping_query query = { .size = sizeof query, .query_addr = at };
+        if (KEYRETAIN_OLD_KERNEL) return UNKNOWN;
+        if (ioctl(maps, MAPPING_QUERY, &query) < 0) return errno == ENOENT ? NO : UNKNOWN;
+        if (!(query.vma_flags & MAPPING_IS_WRITABLE) || query.vma_end <= at) return NO;
+        at = query.vma_end;
+    }
+    return YES;
+}
+
+static enum answer is_writable(pid_t thread, unsigned long at, size_t length) {
+    char path[64];
+    snprintf(path, sizeof path, "/proc/%d/maps", (int)thread);
+    if (at + length < at) return NO;
+    int maps = open(path, O_RDONLY | O_CLOEXEC);
+    if (maps < 0) return UNKNOWN;
+    enum answer answer = is_writable_in(maps, at, at + length);
+    close(maps);
+    return answer;
+}
+
+/* Where the kernel doesn't tell, process_vm_writev(2) honours protections; it takes a number, so the thread must still
+ * wait just before. */
+bool memory_write(const struct memory *memory, unsigned long to, const void *from, size_t length,
+                  bool (*is_valid)(void)) {
+    enum answer writable = is_writable(memory->thread, to, length);
+    if (writable == NO || !is_valid()) return false;
+    if (writable == YES) return pwrite(memory->file, from, length, (off_t)to) == (ssize_t)length;
+    const struct iovec here = { (void *)from, length }, there = { (void *)to, length };
+    return process_vm_writev(memory->thread, &here, 1, &there, 1, 0) == (ssize_t)length;
+}

@@ -1,0 +1,254 @@
+/* proc.c: what the kernel tells of processes. */
+#define _GNU_SOURCE
+#include "proc.h"
+
+#include <ctype.h>
+#include <dirent.h>
+#include <errno.h>
+#include <fcntl.h>
+#include <limits.h>
+#include <linux/kcmp.h>
+#include <linux/nsfs.h>
+#include <linux/seccomp.h>
+#include <signal.h>
+#include <stdio.h>
+#include <stdlib.h>
+#include <string.h>
+#include <sys/ioctl.h>
+#include <sys/stat.h>
+#include <sys/syscall.h>
+#include <unistd.h>
+
+enum { DECIMAL = 10, OVERFLOW_ID = 65534, FORKED_AND_NOT_EXECUTED = 0x40 /* PF_FORKNOEXEC of the kernel */ };
+
+#ifndef PIDFD_THREAD
+#define PIDFD_THREAD O_EXCL
+#endif
+
+/* Puts the first bytes of a file as a text; false for none. */
+static bool read_file(const char *path, char *text, size_t room) {
+    int file = open(path, O_RDONLY | O_CLOEXEC);
+    size_t length = 0;
+    ssize_t got = 0;
+    if (file < 0) return false;
+    while (length < room - 1 && (got = read(file, text + length, room - 1 - length)) > 0) length += (size_t)got;
+    close(file);
+    text[length] = '\0';
+    return got >= 0 && length > 0;
+}
+
+static bool read_of(pid_t id, const char *name, char *text, size_t room) {
+    char path[64];
+    snprintf(path, sizeof path, "/proc/%d/%s", (int)id, name);
+    return read_file(path, text, room);
+}
+
+/* ---- status ---- */
+
+/* What stands behind a name at the beginning of a line. No earlier line can have it: that of the program's name has
+ * its line ends escaped. */
+static const char *find_field(const char *text, const char *name) {
+    const char *at = strstr(text, name);
+    return at ? at + strlen(name) : NULL;
+}
+
+static bool read_number(const char *text, const char *name, int *number) {
+    const char *at = find_field(text, name);
+    if (at) *number = (int)strtol(at, NULL, DECIMAL);
+    return at != NULL;
+}
+
+/* The last of real, effective, saved and file system. */
+static bool read_id(const char *text, const char *name, uint32_t *id) {
+    const char *at = find_field(text, name);
+    return at && sscanf(at, "%*u %*u %*u %u", id) == 1;
+}
+
+static bool read_groups(const char *text, struct kr_identity *identity) {
+    const char *at = find_field(text, "\nGroups:");
+    if (!at) return false;
+    while (identity->count < KR_GROUPS_MAX) {
+        while (*at == '\t' || *at == ' ') at++;
+        if (!isdigit((unsigned char)*at)) break;
+        char *end;
+        identity->groups[identity->count++] = (uint32_t)strtoul(at, &end, DECIMAL);
+        at = end;
+    }
+    return true;
+}
+
+/* The last two stand behind the groups, of which there may be more than there is room for. */
+bool proc_read_status(pid_t thread, struct proc_status *status) {
+    char text[4096];
+    int mode = 0;
+    memset(status, 0, sizeof *status);
+    if (!read_of(thread, "status", text, sizeof text) || !read_number(text, "\nTgid:", &status->process) ||
+        !read_number(text, "\nPPid:", &status->parent) || !read_id(text, "\nUid:", &status->identity.uid) ||
+        !read_id(text, "\nGid:", &status->identity.gid) || !read_groups(text, &status->identity))
+        return false;
+    status->is_filtered = read_number(text, "\nThreads:", &status->threads) &&
+                          read_number(text, "\nSeccomp:", &mode) && mode == SECCOMP_MODE_FILTER;
+    return true;
+}
+
+/* ---- stat ---- */
+
+/* The parent and the flags, which stand behind the program's name in parentheses. */
+static bool read_stat(pid_t process, pid_t *parent, unsigned *flags) {
+    char text[1024];
+    if (!read_of(process, "stat", text, sizeof text)) return false;
+    const char *end = strrchr(text, ')');
+    return end && sscanf(end + 1, " %*c %d %*d %*d %*d %*d %u", parent, flags) == 2;
+}
+
+pid_t proc_parent(pid_t process) {
+    pid_t parent;
+    unsigned flags;
+    return read_stat(process, &parent, &flags) ? parent : 0;
+}
+
+bool proc_has_only_forked(pid_t process) {
+    pid_t parent;
+    unsigned flags;
+    return read_stat(process, &parent, &flags) && flags & FORKED_AND_NOT_EXECUTED;
+}
+
+/* Only what the kernel says is another's memory is not shared. */
+bool proc_may_share_memory(pid_t process, pid_t parent) {
+    long order = syscall(SYS_kcmp, process, parent, KCMP_VM, 0, 0);
+    return order <= 0;
+}
+
+/* ---- Descriptors ---- */
+
+int proc_open(pid_t process) { return (int)syscall(SYS_pidfd_open, process, 0); }
+
+/* Kernels before 6.9 have no such descriptors of single threads: there it is that of the thread's folder, which is
+ * bound to it too, but can't be waited for. */
+int proc_open_thread(pid_t thread) {
+    char path[64];
+    if (!KEYRETAIN_OLD_KERNEL) {
+        int descriptor = (int)syscall(SYS_pidfd_open, thread, PIDFD_THREAD);
+        if (descriptor >= 0 || errno != EINVAL) return descriptor;
+    }
+    snprintf(path, sizeof path, "/proc/%d", (int)thread);
+    return open(path, O_PATH | O_DIRECTORY | O_CLOEXEC);
+}
+
+bool proc_has_ended(int descriptor) {
+    if (syscall(SYS_pidfd_send_signal, descriptor, 0, NULL, 0) == 0) return false;
+    return errno == ESRCH || (errno == EBADF && faccessat(descriptor, "stat", F_OK, 0) < 0);
+}
+
+/* ---- Lists ---- */
+
+static void visit_children_of_thread(pid_t process, const char *thread, void (*visit)(pid_t, void *), void *data) {
+    char path[320];
+    int child;
+    snprintf(path, sizeof path, "/proc/%d/task/%s/children", (int)process, thread);
+    FILE *children = fopen(path, "re");
+    if (!children) return;
+    while (fscanf(children, "%d", &child) == 1) visit(child, data);
+    fclose(children);
+}
+
+void proc_each_child(pid_t process, void (*visit)(pid_t, void *), void *data) {
+    char path[64];
+    snprintf(path, sizeof path, "/proc/%d/task", (int)process);
+    DIR *threads = opendir(path);
+    if (!threads) return;
+    for (struct dirent *entry; (entry = readdir(threads)) != NULL;)
+        if (isdigit((unsigned char)*entry->d_name)) visit_children_of_thread(process, entry->d_name, visit, data);
+    closedir(threads);
+}
+
+void proc_each(void (*visit)(pid_t, void *), void *data) {
+    DIR *processes = opendir("/proc");
+    if (!processes) return;
+    for (struct dirent *entry; (entry = readdir(processes)) != NULL;)
+        if (isdigit((unsigned char)*entry->d_name)) visit((pid_t)strtol(entry->d_name, NULL, DECIMAL), data);
+    closedir(processes);
+}
+
+/* ---- User namespaces ---- */
+
+static bool is_namespace(int descriptor, const char *path) {
+    struct stat one, other;
+    return fstat(descriptor, &one) == 0 && stat(path, &other) == 0 && one.st_dev == other.st_dev &&
+           one.st_ino == other.st_ino;
+}
+
+/* -1 where the thread is in our pid namespace. */
+static int open_outermost(pid_t thread) {
+    static const char ours[] = "/proc/self/ns/pid";
+    char path[64];
+    snprintf(path, sizeof path, "/proc/%d/ns/pid", (int)thread);
+    int outermost = -1, next = open(path, O_RDONLY | O_CLOEXEC);
+    while (next >= 0 && !is_namespace(next, ours)) {
+        if (outermost >= 0) close(outermost);
+        outermost = next;
+        next = ioctl(outermost, NS_GET_PARENT);
+    }
+    if (next >= 0) close(next);
+    return outermost;
+}
+
+static pid_t find_in_namespace(int namespace, pid_t process) {
+    char path[64];
+    for (; process > 0; process = proc_parent(process)) {
+        snprintf(path, sizeof path, "/proc/%d/ns/user", (int)process);
+        if (is_namespace(namespace, path)) break;
+    }
+    return process;
+}
+
+/* A process whose maps are those of the thread's container; 0 for none. */
+static pid_t find_for_maps(pid_t thread) {
+    int outermost = open_outermost(thread);
+    if (outermost < 0) return thread;
+    int owner = ioctl(outermost, NS_GET_USERNS);
+    close(outermost);
+    if (owner < 0) return 0;
+    pid_t process = is_namespace(owner, "/proc/self/ns/user") ? getpid() : find_in_namespace(owner, thread);
+    close(owner);
+    return process;
+}
+
+/* The maps of our own namespace would say how it is seen in its parent. */
+static bool is_in_our_namespace(pid_t process) {
+    char path[64];
+    snprintf(path, sizeof path, "/proc/%d/ns/user", (int)process);
+    int ours = open("/proc/self/ns/user", O_RDONLY | O_CLOEXEC);
+    bool is_ours = ours >= 0 && is_namespace(ours, path);
+    if (ours >= 0) close(ours);
+    return is_ours;
+}
+
+static bool read_map(pid_t process, const char *name, struct proc_map *map) {
+    char text[PROC_RANGES * 34 + 1];
+    const char *line = text;
+    *map = (struct proc_map){ .count = 1, .ranges = { { 0, 0, UINT_MAX } } };
+    if (is_in_our_namespace(process)) return true;
+    map->count = 0;
+    if (!read_of(process, name, text, sizeof text)) return false;
+    while (line && map->count < PROC_RANGES &&
+           sscanf(line, "%u %u %u", &map->ranges[map->count].inside, &map->ranges[map->count].outside,
+                  &map->ranges[map->count].length) == 3) {
+        map->count++;
+        line = strchr(line, '\n');
+        if (line) line++;
+    }
+    return true;
+}
+
+bool proc_read_maps(pid_t thread, struct proc_map *uids, struct proc_map *gids) {
+    pid_t process = find_for_maps(thread);
+    return process > 0 && read_map(process, "uid_map", uids) && read_map(process, "gid_map", gids);
+}
+
+unsigned proc_to_inside(const struct proc_map *map, unsigned id) {
+    for (unsigned i = 0; i < map->count; i++)
+        if (id - map->ranges[i].outside < map->ranges[i].length)
+            return id - map->ranges[i].outside + map->ranges[i].inside;
+    return OVERFLOW_ID;
+}

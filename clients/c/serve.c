@@ -1,0 +1,301 @@
+/* serve.c: the loop of a supervisor: notifications, ends of processes, further listeners, its children. */
+#define _GNU_SOURCE
+#include "serve.h"
+
+#include <errno.h>
+#include <linux/seccomp.h>
+#include <signal.h>
+#include <stdint.h>
+#include <stdlib.h>
+#include <string.h>
+#include <sys/epoll.h>
+#include <sys/ioctl.h>
+#include <sys/prctl.h>
+#include <sys/resource.h>
+#include <sys/signalfd.h>
+#include <sys/socket.h>
+#include <sys/syscall.h>
+#include <sys/wait.h>
+#include <unistd.h>
+
+#include "calls.h"
+#include "connection.h"
+#include "filter.h"
+
+#ifndef SECCOMP_IOCTL_NOTIF_SET_FLAGS
+#define SECCOMP_IOCTL_NOTIF_SET_FLAGS _IOW('!', 4, __u64)
+#define SECCOMP_USER_NOTIF_FD_SYNC_WAKE_UP 1ul
+#endif
+
+enum { EVENTS = 16, SWEEP_MILLISECONDS = 1000 };
+
+struct listener {
+    int descriptor;
+    struct listener *next;
+};
+
+static struct {
+    const struct serve_settings *settings;
+    int epoll, signals, more;
+    struct listener *listeners;
+    bool has_told; /* how the child ended */
+    int64_t next_sweep;
+    /* the call that is served */
+    int listener;
+    struct seccomp_notif *notification;
+    struct seccomp_notif_resp *reply;
+    size_t notification_room, reply_room;
+} all;
+
+static void close_one(int descriptor) {
+    int error = errno;
+    if (descriptor >= 0) close(descriptor);
+    errno = error;
+}
+
+/* ---- A call ---- */
+
+static bool is_valid(void) { return ioctl(all.listener, SECCOMP_IOCTL_NOTIF_ID_VALID, &all.notification->id) == 0; }
+
+/* ENOENT: nobody waits for it any more. */
+static bool reply(long result, int error) {
+    memset(all.reply, 0, all.reply_room);
+    all.reply->id = all.notification->id;
+    if (result < 0)
+        all.reply->error = -error;
+    else
+        all.reply->val = result;
+    return ioctl(all.listener, SECCOMP_IOCTL_NOTIF_SEND, all.reply) == 0;
+}
+
+static void answer_entered(int call, const unsigned long given[5]) {
+    const struct seccomp_data *data = &all.notification->data;
+    uint64_t sum;
+    long result = call_carry_out(call, given, data, is_valid, &sum);
+    int error = errno;
+    if (!reply(result, error) && errno == ENOENT && sum != 0)
+        replay_keep(tracees_replay(), data, sum, result, error);
+    tracees_leave();
+}
+
+/* What can't be looked into is answered as where no daemon is: never by the kernel's keys. */
+static void answer(void) {
+    unsigned long given[5];
+    int call = filter_decode(&all.notification->data, given);
+    struct tracees_wish wish = { call_may_name_thread(call, given), call_may_name_keyring(call, given) };
+    if (call >= 0 && all.notification->pid != 0 && tracees_enter((pid_t)all.notification->pid, wish, is_valid))
+        answer_entered(call, given);
+    else
+        reply(-1, ENOSYS);
+}
+
+/* ENOENT: it was killed before it was received. */
+static void take_notification(int listener) {
+    all.listener = listener;
+    memset(all.notification, 0, all.notification_room);
+    if (ioctl(listener, SECCOMP_IOCTL_NOTIF_RECV, all.notification) == 0) answer();
+}
+
+/* ---- Listeners ---- */
+
+int serve_send_listener(int socket, int listener) {
+    char byte = 0, room[CMSG_SPACE(sizeof listener)] = "";
+    struct iovec bytes = { &byte, 1 };
+    struct msghdr message = { .msg_iov = &bytes, .msg_iovlen = 1, .msg_control = room, .msg_controllen = sizeof room };
+    struct cmsghdr *head = CMSG_FIRSTHDR(&message);
+    head->cmsg_level = SOL_SOCKET;
+    head->cmsg_type = SCM_RIGHTS;
+    head->cmsg_len = CMSG_LEN(sizeof listener);
+    memcpy(CMSG_DATA(head), &listener, sizeof listener);
+    ssize_t sent;
+    while ((sent = sendmsg(socket, &message, MSG_NOSIGNAL)) < 0 && errno == EINTR) continue;
+    return sent == 1 ? 0 : -1;
+}
+
+int serve_receive_listener(int socket) {
+    char byte, room[CMSG_SPACE(sizeof(int))] = "";
+    struct iovec bytes = { &byte, 1 };
+    struct msghdr message = { .msg_iov = &bytes, .msg_iovlen = 1, .msg_control = room, .msg_controllen = sizeof room };
+    ssize_t got;
+    int listener;
+    while ((got = recvmsg(socket, &message, MSG_CMSG_CLOEXEC)) < 0 && errno == EINTR) continue;
+    if (got == 0) errno = ECONNRESET;
+    if (got <= 0) return -1;
+    const struct cmsghdr *head = CMSG_FIRSTHDR(&message);
+    if (!head || head->cmsg_type != SCM_RIGHTS || head->cmsg_len != CMSG_LEN(sizeof listener)) {
+        errno = EPROTO;
+        return -1;
+    }
+    memcpy(&listener, CMSG_DATA(head), sizeof listener);
+    return listener;
+}
+
+static int watch(int descriptor, void *source) {
+    struct epoll_event event = { .events = EPOLLIN, .data.ptr = source };
+    return epoll_ctl(all.epoll, EPOLL_CTL_ADD, descriptor, &event);
+}
+
+/* It owns the descriptor. Linux 6.6 wakes the caller on the processor that has its answer; others don't know that. */
+static int add_listener(int descriptor) {
+    struct listener *listener = calloc(1, sizeof *listener);
+    if (!listener || watch(descriptor, listener) < 0) {
+        free(listener);
+        close_one(descriptor);
+        return -1;
+    }
+    ioctl(descriptor, SECCOMP_IOCTL_NOTIF_SET_FLAGS, SECCOMP_USER_NOTIF_FD_SYNC_WAKE_UP);
+    *listener = (struct listener){ descriptor, all.listeners };
+    all.listeners = listener;
+    return 0;
+}
+
+static void end_listener(struct listener *listener) {
+    struct listener **at = &all.listeners;
+    while (*at != listener) at = &(*at)->next;
+    *at = listener->next;
+    close_one(listener->descriptor);
+    free(listener);
+}
+
+static bool is_listener(const void *source) {
+    const struct listener *listener = all.listeners;
+    while (listener && listener != source) listener = listener->next;
+    return listener != NULL;
+}
+
+static void take_listener(void) {
+    int descriptor = serve_receive_listener(all.more);
+    if (descriptor >= 0 && add_listener(descriptor) == 0)
+        send(all.more, "", 1, MSG_NOSIGNAL | MSG_DONTWAIT);
+    else if (descriptor < 0 && errno == ECONNRESET)
+        epoll_ctl(all.epoll, EPOLL_CTL_DEL, all.more, NULL);
+}
+
+/* ---- Children ---- */
+
+static void note_end(pid_t process, int status) {
+    if (process != all.settings->tracees.child || all.has_told) return;
+    all.has_told = true;
+    if (all.settings->has_ended) all.settings->has_ended(status, all.settings->data);
+}
+
+static void reap(void) {
+    struct signalfd_siginfo info;
+    int status;
+    pid_t process;
+    while (read(all.signals, &info, sizeof info) == (ssize_t)sizeof info) continue;
+    while ((process = waitpid(-1, &status, WNOHANG)) > 0) note_end(process, status);
+}
+
+/* The child loses the filter before it can be waited for. */
+static void wait_for_child(void) {
+    pid_t child = all.settings->tracees.child, process;
+    int status;
+    if (child <= 0 || all.has_told) return;
+    while ((process = waitpid(child, &status, 0)) < 0 && errno == EINTR) continue;
+    if (process == child) note_end(child, status);
+}
+
+/* ---- The loop ---- */
+
+static bool is_tracee(const void *source) {
+    return source != &all.signals && source != &all.more && !is_listener(source);
+}
+
+static void take_event(const struct epoll_event *event) {
+    struct listener *listener = event->data.ptr;
+    if (event->data.ptr == &all.signals)
+        reap();
+    else if (event->data.ptr == &all.more)
+        take_listener();
+    else if (event->events & EPOLLIN)
+        take_notification(listener->descriptor);
+    else
+        end_listener(listener);
+}
+
+/* Ends of processes come first, and one at a time: what else is ready may go with it. */
+static void take_events(const struct epoll_event *events, int count) {
+    for (int i = 0; i < count; i++)
+        if (is_tracee(events[i].data.ptr)) {
+            tracees_ended(events[i].data.ptr);
+            return;
+        }
+    for (int i = 0; i < count; i++) take_event(&events[i]);
+}
+
+/* How long to wait for events: until the next sweep, or for ever. */
+static int milliseconds_to_sweep(void) {
+    if (!tracees_want_sweep()) {
+        all.next_sweep = kr_now() + SWEEP_MILLISECONDS;
+        return -1;
+    }
+    int64_t left = all.next_sweep - kr_now();
+    return left > 0 ? (int)left : 0;
+}
+
+static void sweep_in_time(void) {
+    if (kr_now() < all.next_sweep) return;
+    if (tracees_want_sweep()) tracees_sweep();
+    all.next_sweep = kr_now() + SWEEP_MILLISECONDS;
+}
+
+static void run(void) {
+    struct epoll_event events[EVENTS];
+    while (all.listeners) {
+        int count = epoll_wait(all.epoll, events, EVENTS, milliseconds_to_sweep());
+        take_events(events, count);
+        sweep_in_time();
+    }
+}
+
+/* ---- Beginning ---- */
+
+int serve_protect(void) {
+    struct rlimit none = { 0 }, descriptors;
+    if (prctl(PR_SET_DUMPABLE, 0, 0, 0, 0) < 0 || setrlimit(RLIMIT_CORE, &none) < 0) return -1;
+    if (signal(SIGPIPE, SIG_IGN) == SIG_ERR || getrlimit(RLIMIT_NOFILE, &descriptors) < 0) return -1;
+    descriptors.rlim_cur = descriptors.rlim_max;
+    return setrlimit(RLIMIT_NOFILE, &descriptors);
+}
+
+/* A newer kernel's notifications may be longer than those that are known here. */
+static int make_room(void) {
+    struct seccomp_notif_sizes sizes;
+    if (syscall(SYS_seccomp, SECCOMP_GET_NOTIF_SIZES, 0, &sizes) < 0) return -1;
+    all.notification_room = sizes.seccomp_notif;
+    all.reply_room = sizes.seccomp_notif_resp;
+    if (all.notification_room < sizeof *all.notification) all.notification_room = sizeof *all.notification;
+    if (all.reply_room < sizeof *all.reply) all.reply_room = sizeof *all.reply;
+    all.notification = calloc(1, all.notification_room);
+    all.reply = calloc(1, all.reply_room);
+    return all.notification && all.reply ? calls_begin() : -1;
+}
+
+static int watch_children(void) {
+    sigset_t set;
+    sigemptyset(&set);
+    sigaddset(&set, SIGCHLD);
+    if (sigprocmask(SIG_BLOCK, &set, NULL) < 0) return -1;
+    all.signals = signalfd(-1, &set, SFD_CLOEXEC | SFD_NONBLOCK);
+    return all.signals < 0 ? -1 : watch(all.signals, &all.signals);
+}
+
+static int begin(int listener) {
+    all.more = all.settings->more;
+    all.epoll = epoll_create1(EPOLL_CLOEXEC);
+    if (all.epoll < 0 || make_room() < 0 || watch_children() < 0) return -1;
+    if (all.more >= 0 && watch(all.more, &all.more) < 0) return -1;
+    return add_listener(listener);
+}
+
+enum serve_result serve(int listener, const struct serve_settings *settings) {
+    all.settings = settings;
+    if (begin(listener) < 0) return SERVE_REFUSED;
+    if (tracees_begin(&settings->tracees, all.epoll) < 0)
+        return tracees_have_no_daemon() ? SERVE_NO_DAEMON : SERVE_REFUSED;
+    if (settings->is_ready) settings->is_ready(settings->data);
+    run();
+    wait_for_child();
+    return SERVE_DONE;
+}

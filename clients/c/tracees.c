@@ -1,0 +1,685 @@
+/* tracees.c: the processes and threads whose calls are served. Each process that has asked has an entry, and in it
+ * each thread that has asked. A thread has a context for each identity in which it has asked; it is given up for
+ * another's where it has no thread and no process keyring, and made anew at the thread's next ask. */
+#define _GNU_SOURCE
+#include "tracees.h"
+
+#include <errno.h>
+#include <fcntl.h>
+#include <linux/keyctl.h>
+#include <stdlib.h>
+#include <string.h>
+#include <sys/epoll.h>
+#include <sys/resource.h>
+#include <unistd.h>
+
+#include "contexts.h"
+#include "proc.h"
+#include "serials.h"
+#include "sessions.h"
+
+enum { SEATS = 4, BUCKETS = 1024, SPARE_DESCRIPTORS = 32, LOOKED_AT = 64 };
+
+/* An identity of a thread. */
+struct seat {
+    struct user *user;
+    struct context context;
+    bool is_lost; /* the session, to this identity */
+};
+
+enum kind { PROCESS, TASK };
+
+struct task {
+    enum kind kind;
+    pid_t thread;
+    int descriptor; /* of the thread; -1 for the first, which lasts as long as its process */
+    int reqkey;
+    struct session *session; /* NULL: lost */
+    struct seat seats[SEATS];
+    unsigned count;
+    struct replay replay;
+    struct process *process;
+    struct task *next;
+};
+
+struct process {
+    enum kind kind;
+    pid_t id;
+    int descriptor;
+    int memory;         /* what it had when it last asked, by which it is seen that it executes something else; or -1 */
+    bool shares_memory; /* its parent's, after vfork(2): then that doesn't tell */
+    bool has_threads;   /* some call has named a thread keyring: each thread has a context of its own */
+    bool may_have_keyrings; /* some call has named a thread or process keyring */
+    unsigned long turn; /* when it asked last */
+    uid_t uid;          /* as whom */
+    struct task *tasks;
+    struct task *first; /* thread: the last of them */
+    struct process *next;
+};
+
+/* What is known of a thread that asks, before it is sure that its number is still its own. */
+struct arrival {
+    struct proc_status status;
+    int process_descriptor, thread_descriptor; /* for new entries, or -1 */
+    struct process *process;                   /* NULL where it is a new one */
+    struct task *task;                         /* NULL where it is a new one */
+    bool has_executed;
+};
+
+static struct {
+    struct tracees_settings settings;
+    int epoll;
+    struct process *buckets[BUCKETS];
+    unsigned long turn;
+    bool has_had_others; /* sessions than the first */
+    bool has_tags;       /* the child was given one, and so all that it starts */
+    struct proc_map uids, gids;
+    bool has_maps;
+    struct serials serials;
+    int32_t daemon;   /* its process */
+    unsigned swept;   /* how many entries the sweep has to look at */
+    rlim_t most_descriptors;
+    /* of the call that is served */
+    struct task *task;
+    struct kr_identity identity;
+    struct memory memory;
+} all;
+
+static int fail(int error) {
+    errno = error;
+    return -1;
+}
+
+static void close_one(int *descriptor) {
+    int error = errno;
+    if (*descriptor >= 0) close(*descriptor);
+    *descriptor = -1;
+    errno = error;
+}
+
+/* ---- Entries ---- */
+
+static struct process **bucket_of(pid_t id) { return &all.buckets[(unsigned)id % BUCKETS]; }
+
+static void visit_processes(void (*visit)(struct process *)) {
+    for (int i = 0; i < BUCKETS; i++)
+        for (struct process *process = all.buckets[i], *next; process; process = next) {
+            next = process->next;
+            visit(process);
+        }
+}
+
+static void end_seats(struct task *task) {
+    for (unsigned i = 0; i < task->count; i++) context_end(&task->seats[i].context);
+    task->count = 0;
+}
+
+/* A process that may have keyrings which end with what it executes, and a thread whose end nothing else tells. */
+static void sweep_from_now_on(struct process *process) {
+    if (!process->may_have_keyrings) all.swept++;
+    process->may_have_keyrings = true;
+}
+
+static void sweep_no_more(struct process *process) {
+    if (process->may_have_keyrings) all.swept--;
+    process->may_have_keyrings = false;
+}
+
+static void free_task(struct task *task) {
+    end_seats(task);
+    session_let_go(task->session);
+    close_one(&task->descriptor); /* epoll(7) forgets it */
+    explicit_bzero(task, sizeof *task);
+    free(task);
+}
+
+static void end_task(struct task *task) {
+    struct task **at = &task->process->tasks;
+    while (*at != task) at = &(*at)->next;
+    *at = task->next;
+    free_task(task);
+}
+
+static void end_process(struct process *process) {
+    struct process **at = bucket_of(process->id);
+    while (*at != process) at = &(*at)->next;
+    *at = process->next;
+    while (process->tasks) end_task(process->tasks);
+    sweep_no_more(process);
+    close_one(&process->memory);
+    close_one(&process->descriptor);
+    free(process);
+}
+
+void tracees_ended(void *ended) {
+    if (*(enum kind *)ended == PROCESS)
+        end_process(ended);
+    else
+        end_task(ended);
+}
+
+static bool is_told_of(int descriptor, void *entry) {
+    struct epoll_event event = { .events = EPOLLIN, .data.ptr = entry };
+    return epoll_ctl(all.epoll, EPOLL_CTL_ADD, descriptor, &event) == 0;
+}
+
+/* It owns the descriptor. Where epoll(7) doesn't take that, the sweep sees the thread's end. */
+static struct task *add_task(struct process *process, pid_t thread, int descriptor, struct session *session) {
+    struct task *task = calloc(1, sizeof *task);
+    if (!task) {
+        close_one(&descriptor);
+        return NULL;
+    }
+    *task = (struct task){ .kind = TASK, .thread = thread, .descriptor = descriptor, .process = process,
+                           .session = session_use(session), .next = process->tasks };
+    process->tasks = task;
+    if (descriptor >= 0 && !is_told_of(descriptor, task)) sweep_from_now_on(process);
+    return task;
+}
+
+/* An entry of a process, with its first thread, which has this session. It owns the descriptor. */
+static struct process *add_process(pid_t id, int descriptor, struct session *session) {
+    struct process *process = calloc(1, sizeof *process);
+    if (process)
+        *process = (struct process){ .kind = PROCESS, .id = id, .descriptor = descriptor, .memory = -1,
+                                     .uid = (uid_t)-1 };
+    if (!process || !is_told_of(descriptor, process) || !(process->first = add_task(process, id, -1, session))) {
+        free(process);
+        close_one(&descriptor);
+        return NULL;
+    }
+    process->shares_memory = proc_has_only_forked(id) && proc_may_share_memory(id, proc_parent(id));
+    process->turn = ++all.turn;
+    process->next = *bucket_of(id);
+    *bucket_of(id) = process;
+    return process;
+}
+
+/* The entry of a living process; one whose number another may have is ended. */
+static struct process *find_process(pid_t id) {
+    struct process *process = *bucket_of(id);
+    while (process && process->id != id) process = process->next;
+    if (!process || !proc_has_ended(process->descriptor)) return process;
+    end_process(process);
+    return NULL;
+}
+
+static struct task *find_task(const struct process *process, pid_t thread) {
+    struct task *task = process->tasks;
+    while (task && task->thread != thread) task = task->next;
+    if (!task || task->descriptor < 0 || !proc_has_ended(task->descriptor)) return task;
+    end_task(task);
+    return NULL;
+}
+
+/* ---- Giving up contexts, and entries ---- */
+
+static bool has_keyring(const struct task *task, int32_t id) {
+    for (unsigned i = 0; i < task->count; i++)
+        if (context_has_keyring(&task->seats[i].context, id)) return true;
+    return false;
+}
+
+static bool has_state(const struct process *process) {
+    if (!process->may_have_keyrings) return false;
+    for (struct task *task = process->tasks; task; task = task->next)
+        if (has_keyring(task, KEY_SPEC_THREAD_KEYRING) || has_keyring(task, KEY_SPEC_PROCESS_KEYRING)) return true;
+    return false;
+}
+
+/* Whether it has a context on the connection of this age. */
+static bool has_seat(const struct task *task, unsigned age) {
+    for (unsigned i = 0; i < task->count; i++)
+        if (task->seats[i].context.age == age) return true;
+    return false;
+}
+
+static bool has_seats(const struct process *process, unsigned age) {
+    for (struct task *task = process->tasks; task; task = task->next)
+        if (has_seat(task, age)) return true;
+    return false;
+}
+
+/* The process that asked longest ago, of those that asked after this turn and have a context of this age; or of all,
+ * with age 0. The one that asks is never it. */
+static struct process *oldest_after(unsigned long turn, unsigned age) {
+    struct process *oldest = NULL;
+    for (int i = 0; i < BUCKETS; i++)
+        for (struct process *process = all.buckets[i]; process; process = process->next)
+            if (process->turn > turn && (!oldest || process->turn < oldest->turn) &&
+                (!all.task || process != all.task->process) && (age == 0 || has_seats(process, age)))
+                oldest = process;
+    return oldest;
+}
+
+static void end_all_seats(struct process *process) {
+    for (struct task *task = process->tasks; task; task = task->next) end_seats(task);
+}
+
+/* A thread that isn't the first shares that one's process keyring: it has but its thread keyring to lose. */
+static struct task *idle_task(unsigned age) {
+    for (int i = 0; i < BUCKETS; i++)
+        for (struct process *process = all.buckets[i]; process; process = process->next)
+            for (struct task *task = process->tasks; task != process->first; task = task->next)
+                if (task != all.task && has_seat(task, age) && !has_keyring(task, KEY_SPEC_THREAD_KEYRING)) return task;
+    return NULL;
+}
+
+/* Nothing is lost with a session that nobody has, nor with a context that has no thread and no process keyring. */
+static bool make_room(unsigned age) {
+    if (sessions_make_room()) return true;
+    struct process *process = oldest_after(0, age);
+    while (process && has_state(process)) process = oldest_after(process->turn, age);
+    if (process) end_all_seats(process);
+    if (process) return true;
+    struct task *task = idle_task(age);
+    if (task) end_seats(task);
+    return task != NULL;
+}
+
+/* Where descriptors run short, gives up the entry of a process that has nothing to lose: its session is known by its
+ * tag, or is the first one. */
+static bool can_be_known_again(const struct process *process) {
+    struct session *tagged;
+    return process->tasks == process->first && process->first->reqkey == 0 &&
+           session_of_tag(process->id, &tagged) == TAG_READ && tagged == process->first->session;
+}
+
+static void make_descriptors(void) {
+    struct process *process = oldest_after(0, 0), *next;
+    for (int looked_at = 0; process && looked_at < LOOKED_AT; looked_at++, process = next) {
+        next = oldest_after(process->turn, 0);
+        if (can_be_known_again(process) && !has_state(process)) end_process(process);
+    }
+}
+
+/* Descriptors have the lowest free numbers, so that of what was opened last tells how many are left. */
+static bool are_descriptors_short(void) {
+    return all.memory.file >= 0 && (rlim_t)all.memory.file + SPARE_DESCRIPTORS >= all.most_descriptors;
+}
+
+/* ---- Which session ---- */
+
+/* The tag; without one the session of the nearest ancestor that is known. Where all had tags, somebody has taken this
+ * one away, which must not lead to the session of another user: so the ancestor has to be of the same uid. What has
+ * lost its ancestors has the first session as long as there was no other. */
+static struct session *inherited(pid_t id, pid_t parent, uid_t uid) {
+    struct session *tagged;
+    enum tag tag = session_of_tag(id, &tagged);
+    if (tag == TAG_READ) return tagged;
+    bool is_taken_away = tag == TAG_NONE && all.has_tags;
+    for (; parent > 1 && parent != getpid(); parent = proc_parent(parent)) {
+        struct process *ancestor = find_process(parent);
+        if (ancestor) return is_taken_away && ancestor->uid != uid ? NULL : ancestor->first->session;
+    }
+    return all.has_had_others ? NULL : sessions_first();
+}
+
+/* Processes whose children are still to be looked at. */
+struct unsettled {
+    struct session *session;
+    pid_t *ids;
+    size_t count, room;
+};
+
+/* A child that has no entry has the session that its parent had. */
+static void settle(pid_t child, void *data) {
+    struct unsettled *unsettled = data;
+    if (find_process(child)) return;
+    if (unsettled->count == unsettled->room) {
+        size_t room = unsettled->room ? 2 * unsettled->room : BUCKETS;
+        pid_t *ids = realloc(unsettled->ids, room * sizeof *ids);
+        if (!ids) return;
+        unsettled->ids = ids;
+        unsettled->room = room;
+    }
+    int descriptor = proc_open(child);
+    if (descriptor >= 0 && add_process(child, descriptor, unsettled->session))
+        unsettled->ids[unsettled->count++] = child;
+}
+
+/* Before a process without a tag changes its session, its descendants that are not known are given what it had. */
+static void settle_descendants(pid_t process, struct session *session) {
+    struct unsettled unsettled = { .session = session };
+    proc_each_child(process, settle, &unsettled);
+    while (unsettled.count > 0) proc_each_child(unsettled.ids[--unsettled.count], settle, &unsettled);
+    free(unsettled.ids);
+}
+
+/* ---- Who asks ---- */
+
+/* After execve(2) the thread and process keyrings are gone, and the threads but one. */
+static void note_executed(struct process *process) {
+    while (process->tasks != process->first) end_task(process->tasks);
+    end_seats(process->first);
+    process->first->replay = (struct replay){ 0 };
+    process->has_threads = false;
+    sweep_no_more(process);
+    close_one(&process->memory);
+    process->shares_memory = false;
+}
+
+static bool has_executed(const struct process *process) {
+    if (process->memory < 0) return false;
+    return memory_is_gone(process->memory) || (process->shares_memory && !proc_has_only_forked(process->id));
+}
+
+static void to_inside(struct kr_identity *identity) {
+    if (!all.settings.is_container) return;
+    identity->uid = proc_to_inside(&all.uids, identity->uid);
+    identity->gid = proc_to_inside(&all.gids, identity->gid);
+    for (unsigned i = 0; i < identity->count; i++)
+        identity->groups[i] = proc_to_inside(&all.gids, identity->groups[i]);
+}
+
+/* Opens by number what is wanted of a thread, and changes nothing. Descriptors stay bound to what they were opened
+ * for, whoever gets the number later. */
+static bool look_at(pid_t thread, struct arrival *arrival) {
+    struct proc_status *status = &arrival->status;
+    *arrival = (struct arrival){ .process_descriptor = -1, .thread_descriptor = -1 };
+    if (memory_open(&all.memory, thread) < 0 || !proc_read_status(thread, status)) return false;
+    if (all.settings.is_container && !all.has_maps && !proc_read_maps(thread, &all.uids, &all.gids))
+        return false;
+    arrival->process = find_process(status->process);
+    arrival->has_executed = arrival->process && has_executed(arrival->process);
+    if (arrival->process && !arrival->has_executed) arrival->task = find_task(arrival->process, thread);
+    if (!arrival->process && (arrival->process_descriptor = proc_open(status->process)) < 0) return false;
+    bool is_first = thread == status->process;
+    return arrival->task || is_first || (arrival->thread_descriptor = proc_open_thread(thread)) >= 0;
+}
+
+/* Changes entries, now that the notification still waited after all was opened. */
+static struct task *settle_in(pid_t thread, struct arrival *arrival) {
+    struct process *process = arrival->process;
+    if (arrival->has_executed) note_executed(process);
+    if (!process) {
+        pid_t id = arrival->status.process;
+        struct session *session = inherited(id, arrival->status.parent, arrival->status.identity.uid);
+        process = add_process(id, arrival->process_descriptor, session);
+        arrival->process_descriptor = -1;
+    }
+    if (!process) return NULL;
+    if (process->memory < 0) process->memory = fcntl(all.memory.file, F_DUPFD_CLOEXEC, 0);
+    if (process->memory < 0) return NULL;
+    if (arrival->task) return arrival->task;
+    if (thread == process->id) return process->first;
+    struct task *task = add_task(process, thread, arrival->thread_descriptor, process->first->session);
+    arrival->thread_descriptor = -1;
+    return task;
+}
+
+/* What is opened by number is the notified thread's only where the notification still waits afterwards. So all is
+ * opened first, then is_valid is asked once, and only then something is changed. */
+static struct task *admit(pid_t thread, struct kr_identity *identity, bool (*is_valid)(void)) {
+    struct arrival arrival;
+    struct task *task = look_at(thread, &arrival) && is_valid() ? settle_in(thread, &arrival) : NULL;
+    close_one(&arrival.process_descriptor);
+    close_one(&arrival.thread_descriptor);
+    *identity = arrival.status.identity;
+    return task;
+}
+
+bool tracees_enter(pid_t thread, struct tracees_wish wish, bool (*is_valid)(void)) {
+    all.task = NULL;
+    struct task *task = admit(thread, &all.identity, is_valid);
+    if (!task) {
+        memory_close(&all.memory);
+        return false;
+    }
+    all.has_maps = all.settings.is_container;
+    uid_t uid = all.identity.uid;
+    to_inside(&all.identity);
+    all.task = task;
+    task->process->turn = ++all.turn;
+    task->process->uid = uid;
+    task->process->has_threads |= wish.thread;
+    if (wish.keyring) sweep_from_now_on(task->process);
+    return true;
+}
+
+void tracees_leave(void) {
+    bool is_short = are_descriptors_short();
+    memory_close(&all.memory);
+    if (is_short) make_descriptors();
+    all.task = NULL;
+}
+
+const struct memory *tracees_memory(void) { return &all.memory; }
+
+struct replay *tracees_replay(void) { return &all.task->replay; }
+
+/* ---- Contexts ---- */
+
+static void drop_seat(struct task *task, unsigned at) {
+    context_end(&task->seats[at].context);
+    task->seats[at] = task->seats[--task->count];
+}
+
+/* A process that has nothing to lose on the old connection gets contexts on the new one. */
+static void leave_old_connection(struct process *process) {
+    if (!has_state(process)) end_all_seats(process);
+}
+
+/* Serials of another daemon than the last one's mean nothing: it is known by its process. */
+static int meet_daemon(void) {
+    int32_t daemon = contexts_daemon();
+    bool is_other = all.daemon != 0 && daemon != all.daemon;
+    if (is_other && serials_begin_anew(&all.serials) < 0) return -1;
+    all.daemon = daemon;
+    return 0;
+}
+
+static int have_connection(void) {
+    if (contexts_begin_call() < 0 || meet_daemon() < 0) return -1;
+    if (contexts_are_worn() && contexts_renew() == 0) {
+        sessions_renew();
+        visit_processes(leave_old_connection);
+    }
+    return 0;
+}
+
+/* A place for one identity more; the one that asked longest ago makes room, but for the first. */
+static struct seat *add_seat(struct task *task, const struct seat *made) {
+    if (task->count == SEATS) drop_seat(task, 1);
+    task->seats[task->count] = *made;
+    return &task->seats[task->count++];
+}
+
+static struct seat *find_seat(struct task *task, const struct user *user) {
+    for (unsigned i = 0; i < task->count; i++)
+        if (task->seats[i].user == user && context_connection(&task->seats[i].context)) return &task->seats[i];
+    return NULL;
+}
+
+/* Those whose connection has ended. */
+static void drop_ended_seats(struct task *task) {
+    for (unsigned i = task->count; i > 0; i--)
+        if (!context_connection(&task->seats[i - 1].context)) drop_seat(task, i - 1);
+}
+
+static struct seat *have_first_seat(struct task *first, struct user *user) {
+    struct seat *seat = find_seat(first, user), made = { .user = user };
+    if (seat) return seat;
+    drop_ended_seats(first);
+    if (session_enter(&made.context, user, first->session, &made.is_lost) < 0) return NULL;
+    return add_seat(first, &made);
+}
+
+/* A thread that isn't the first shares that one's process keyring, and, until it joins another, its session. */
+static struct seat *have_seat(struct task *task, struct user *user) {
+    struct task *first = task->process->first;
+    struct seat *root = have_first_seat(first, user), *seat, made = { .user = user };
+    if (!root || task == first || !task->process->has_threads) return root;
+    if ((seat = find_seat(task, user)) != NULL) return seat;
+    drop_ended_seats(task);
+    if (context_thread(&made.context, &root->context) < 0) return NULL;
+    made.is_lost = root->is_lost;
+    if (task->session != first->session)
+        made.is_lost = session_is_lost(task->session) ||
+                       !session_enter_by_name(&made.context, &user->identity, task->session);
+    return add_seat(task, &made);
+}
+
+/* ---- caller.h ---- */
+
+bool caller_enter(struct caller *caller) {
+    *caller = (struct caller){ 0 };
+    if (have_connection() < 0) return false;
+    struct user *user = sessions_user(&all.identity);
+    struct seat *seat = user ? have_seat(all.task, user) : NULL;
+    if (!seat) return false;
+    caller->connection = context_connection(&seat->context);
+    caller->context = seat->context.number;
+    caller->lost_session = seat->is_lost;
+    caller->seat = seat;
+    return true;
+}
+
+/* A context that the daemon doesn't know is no error of the program's: the next call begins anew. */
+void caller_leave(struct caller *caller, long result) {
+    int error = errno;
+    if (result < 0 && error == ESRCH) caller->seat->context = (struct context){ 0 };
+    errno = error;
+}
+
+bool caller_can_restrict(struct caller *caller) { return kr_frame_version(caller->connection) >= 2; }
+
+bool caller_can_move(struct caller *caller) { return kr_frame_version(caller->connection) >= 2; }
+
+bool caller_is_stale(const struct caller *caller, int32_t serial) {
+    (void)caller;
+    return serials_is_stale(&all.serials, serial);
+}
+
+void caller_knows(struct caller *caller, int32_t serial) {
+    (void)caller;
+    serials_add(&all.serials, serial);
+}
+
+bool caller_has_stale(const struct caller *caller) {
+    (void)caller;
+    return all.serials.stale > 0;
+}
+
+/* ---- Joining ---- */
+
+/* The contexts of a thread that are of other identities than the one that has joined: those that have nothing to lose
+ * are made anew. */
+static void bring_seats(struct task *task, const struct seat *joined, const struct session *session) {
+    for (unsigned i = task->count; i > 0; i--) {
+        struct seat *seat = &task->seats[i - 1];
+        if (seat->user == joined->user) continue;
+        if (context_has_keyring(&seat->context, KEY_SPEC_THREAD_KEYRING) ||
+            context_has_keyring(&seat->context, KEY_SPEC_PROCESS_KEYRING))
+            seat->is_lost = !session_enter_by_name(&seat->context, &seat->user->identity, session);
+        else
+            drop_seat(task, i - 1);
+    }
+}
+
+/* The first thread's session is what its process's children have. */
+static void set_session(struct task *task, struct session *session) {
+    struct session *before = task->session;
+    struct process *process = task->process;
+    if (session != sessions_first()) all.has_had_others = true;
+    if (task == process->first && !session_put_tag(process->id, session))
+        settle_descendants(process->id, before);
+    task->session = session_use(session);
+    session_let_go(before);
+}
+
+int32_t caller_join(struct caller *caller, const char *name) {
+    struct seat *seat = caller->seat, joined = { .user = seat->user };
+    struct session *session = session_join(&seat->context, seat->user, name);
+    if (!session) return -1;
+    seat->is_lost = false;
+    bring_seats(all.task, &joined, session);
+    set_session(all.task, session);
+    return session->serial;
+}
+
+/* ---- What a kernel does with the thread itself ---- */
+
+/* Where keys go that an upcall makes. There are none, so the choice is kept and has no effect. */
+long tracees_set_reqkey_keyring(int choice) {
+    int before = all.task->reqkey;
+    if (choice == KEY_REQKEY_DEFL_NO_CHANGE) return before;
+    if (choice < KEY_REQKEY_DEFL_DEFAULT || choice > KEY_REQKEY_DEFL_REQUESTOR_KEYRING ||
+        choice == KEY_REQKEY_DEFL_GROUP_KEYRING)
+        return fail(EINVAL);
+    all.task->reqkey = choice;
+    return before;
+}
+
+/* The kernel's conditions: the parent is no init, has one thread, and the same ids; here it is supervised too. */
+static bool may_be_given(pid_t parent, struct proc_status *status) {
+    if (parent <= 1 || parent == getpid() || !proc_read_status(parent, status)) return false;
+    to_inside(&status->identity);
+    return status->threads == 1 && status->is_filtered && status->identity.uid == all.identity.uid &&
+           status->identity.gid == all.identity.gid;
+}
+
+static struct process *have_parent(const struct proc_status *status, pid_t parent) {
+    struct process *process = find_process(parent);
+    if (process) return process;
+    int descriptor = proc_open(parent);
+    if (descriptor < 0) return NULL;
+    return add_process(parent, descriptor, inherited(parent, status->parent, status->identity.uid));
+}
+
+long tracees_session_to_parent(void) {
+    struct proc_status status;
+    const struct seat none = { 0 };
+    struct session *session = all.task->session;
+    pid_t parent = proc_parent(all.task->process->id);
+    if (have_connection() < 0) return -1;
+    if (!may_be_given(parent, &status)) return fail(EPERM);
+    if (session_is_lost(session)) return fail(EKEYREVOKED);
+    struct process *process = have_parent(&status, parent);
+    if (!process) return fail(EPERM);
+    bring_seats(process->first, &none, session);
+    set_session(process->first, session);
+    return 0;
+}
+
+/* ---- The sweep ---- */
+
+bool tracees_want_sweep(void) { return all.swept > 0 || sessions_want_sweep(); }
+
+static void sweep(struct process *process) {
+    if (!process->may_have_keyrings) return;
+    for (struct task *task = process->tasks, *next; task; task = next) {
+        next = task->next;
+        if (task->descriptor >= 0 && proc_has_ended(task->descriptor)) end_task(task);
+    }
+    if (has_executed(process)) note_executed(process);
+}
+
+void tracees_sweep(void) {
+    contexts_set_deadline();
+    visit_processes(sweep);
+    sessions_sweep();
+}
+
+/* ---- Beginning ---- */
+
+static int begin_child(pid_t child) {
+    int descriptor = proc_open(child);
+    if (descriptor < 0 || !add_process(child, descriptor, sessions_first())) return -1;
+    all.has_tags = session_put_tag(child, sessions_first());
+    return 0;
+}
+
+int tracees_begin(const struct tracees_settings *settings, int epoll) {
+    struct rlimit limit;
+    all.settings = *settings;
+    all.epoll = epoll;
+    all.memory.file = -1;
+    all.most_descriptors = getrlimit(RLIMIT_NOFILE, &limit) == 0 ? limit.rlim_cur : RLIM_INFINITY;
+    if (contexts_begin(settings->socket, make_room) < 0) return -1;
+    if (sessions_begin(&settings->identity, settings->name, settings->is_container) < 0) return -1;
+    if (meet_daemon() < 0) return -1;
+    return settings->child > 0 ? begin_child(settings->child) : 0;
+}
+
+bool tracees_have_no_daemon(void) { return contexts_daemon() < 0 || errno == ETIMEDOUT; }

@@ -1,0 +1,236 @@
+# Containers of the test runtime, for tests/agent: what they are told, what they keep from each other, and what an agent
+# takes from a runtime.
+# shellcheck shell=bash disable=SC2034,SC2154
+
+agent='' socket='' folder='' agents=0
+within=() # what the agent is run by
+errors='' # what it tells, where that isn't looked at
+
+# Not in a user namespace of one's own, where uid 0 is no root.
+is_root() { [ "$(id -u)" = 0 ] && setpriv --reuid 4005 --regid 4005 --clear-groups true 2>/dev/null; }
+
+# begin_agent OPTION ..: an agent that listens
+begin_agent() {
+  agents=$((agents + 1))
+  socket=$dir/$agents.sock folder=$dir/$agents.folder
+  begin_agent_at "$@"
+}
+
+begin_agent_at() {
+  "${within[@]}" "$dir/$variant/keyretain-agent" --socket "$socket" --folder "$folder" --daemon "$keyretaind" \
+    --memory 0 "$@" >"$dir/agent.out" 2>>"${errors:-$dir/$variant.err}" </dev/null &
+  agent=$!
+  until_true is_listening
+}
+
+is_listening() { [ "$(cat "$dir/agent.out" 2>/dev/null)" = "listening $socket" ] || has_ended "$agent"; }
+
+# end_agent NAME: it ends by SIGTERM, with its containers, and leaves nothing
+end_agent() {
+  kill -TERM "$agent" 2>/dev/null
+  finish "$agent"
+  is "$1: the agent's status" 0 "$status"
+  is "$1: the agent's socket" gone "$(if [ -e "$socket" ]; then echo there; else echo gone; fi)"
+  is "$1: what is left of its containers" '' "$(ls "$folder")"
+}
+
+# contain ID OPTION .. -- CMD ..: a command in a container
+contain() {
+  local id=$1
+  shift
+  timeout 120 "$dir/runtime" "$socket" "$id" "$@" </dev/null 2>&1
+}
+
+# calls ID WORD ..: key calls in a container
+calls() {
+  local id=$1
+  shift
+  contain "$id" -- "$dir/calls" "$@"
+}
+
+# says NAME LINES COMMAND ..: what a command prints, its lines side by side
+says() {
+  local name=$1 wanted=$2
+  shift 2
+  is "$name" "$wanted" "$("$@" | tr '\n' ' ')"
+}
+
+has_no_containers() { [ -z "$(ls "$folder")" ]; }
+
+has_one_container() { [ "$(find "$folder" -type s | wc -l)" = 1 ]; }
+
+# session_of COMMAND ..: what the command says of a session, without its mask
+session_of() { "$@" describe @s | sed 's/;[0-9a-f]*;_ses/; _ses/'; }
+
+# has_none NAME COMMAND ..: the last line says that nothing failed; what was skipped and what failed is printed here
+has_none() {
+  local name=$1 text
+  shift
+  text=$(timeout 300 "$@" 2>&1 </dev/null)
+  printf '%s\n' "$text" | grep '^skipped:'
+  case ${text##*$'\n'} in
+    *' passed, 0 failed' | *' compared, 0 different' | *' tried, 0 failed') is "$name" none none ;;
+    *) printf '%s\n' "$text" | head -n 40 && is "$name" none "${text##*$'\n'}" ;;
+  esac
+}
+
+# with_container ID COMMAND ..: a command while a container of this id has a key `kept` in its session and user keyring
+with_container() {
+  local id=$1 container
+  rm -f "$dir/$id.go" "$dir/$id.ready"
+  shift
+  calls "$id" add kept "of-$id" @s add kept "of-$id" @u put "$dir/$id.ready" await "$dir/$id.go" print kept \
+    >"$dir/$id.out" &
+  container=$!
+  until_true [ -e "$dir/$id.ready" ]
+  "$@"
+  : >"$dir/$id.go"
+  finish "$container"
+  says "what the container $id has meanwhile" "ok ok of-$id " cat "$dir/$id.out"
+}
+
+# ---- One
+
+try_calls() {
+  local uid gid
+  uid=$(id -u) gid=$(id -g)
+  says 'a key in a container' 'ok secret ' calls a add k secret @s print k
+  says 'its session' 'keyring;0;0; _ses.a ' session_of calls a
+  says 'its user keyring' "keyring;$uid;$gid;1f3f0000;_uid.$uid " calls a describe @u
+  says "its user keyring isn't linked to the session, which all its users have" 'ok ENOKEY ' \
+    calls a add k secret @u print k
+  says 'a session of its own' 'ok ok ENOKEY ' calls a add k secret @s join other print k
+  says 'a child has the session' 'ok secret ' calls a add k secret @s exec "$dir/calls" print k
+  says 'its thread keyring ends with execve' 'ok ENOKEY ' calls a add k secret @t exec "$dir/calls" print k
+  says 'an empty keyring is not that of the host' 'ENOKEY ' calls a print kept
+  is 'all that tests/syscalls knows the answers of' '' "$(diff "$dir/answers.text" <(contain a -- "$dir/answers"))"
+}
+
+# ---- What a runtime sends
+
+try_sending() {
+  local four='["x","y","z","seccompFd"]'
+  says 'a process id of 0' 'ok v ' contain b --pid 0 -- "$dir/calls" add k v @s print k
+  says 'a process id of no process' 'ok v ' contain b --pid 2147483647 -- "$dir/calls" add k v @s print k
+  says 'a state in pieces' 'ok v ' contain b --pieces -- "$dir/calls" add k v @s print k
+  says 'a connection that stays open' 'ok v ' contain b --open -- "$dir/calls" add k v @s print k
+  says 'four descriptors' 'ok v ' contain b --count 4 --names "$four" -- "$dir/calls" add k v @s print k
+  says 'too many descriptors' 'ENOSYS ' contain b --count 2 -- "$dir/calls" print k
+  says 'far too many descriptors' 'ENOSYS ' contain b --count 40 -- "$dir/calls" print k
+  says 'too few descriptors' 'ENOSYS ' contain b --names "$four" -- "$dir/calls" print k
+  says 'a descriptor less than it names, behind the listener' 'ENOSYS ' \
+    contain b --names '["seccompFd","x"]' -- "$dir/calls" print k
+  says 'no descriptors' 'ENOSYS ' contain b --count 0 -- "$dir/calls" print k
+  says 'a descriptor that is no listener' 'ENOSYS ' \
+    contain b --count 2 --names '["seccompFd","x"]' -- "$dir/calls" print k
+  says 'a broken object' 'ENOSYS ' contain b --state '{"fds":["seccompFd"],"state":{"id":"b"}' -- "$dir/calls" print k
+  says 'no object' 'ENOSYS ' contain b --state '[]' -- "$dir/calls" print k
+  says 'an object of nothing' 'ENOSYS ' contain b --state '{}' -- "$dir/calls" print k
+  says 'an id that leads out of a folder' 'ENOSYS ' calls ../b print k
+  says 'an id of two dots' 'ok v ' calls .. add k v @s print k
+  is 'what lies beside its folder' '' "$(find "$dir" -maxdepth 1 -newer "$folder" -name 'b*')"
+  says 'after all that' 'ok v ' calls b add k v @s print k
+}
+
+# ---- More than one
+
+try_two() {
+  says 'another container has none of its keys' 'ENOKEY ok ok own ' \
+    calls b print kept add kept own @u add kept own @s print kept
+  with_container b says 'each has its own of one name' 'of-a ' calls a print kept
+}
+
+try_exec() {
+  says 'what is executed in a container has its session' 'of-a ' calls a print kept
+  says 'and one of which no process id is told' 'of-a ' contain a --pid 0 -- "$dir/calls" print kept
+  says 'and what adds a key' 'ok more ' calls a add later more @s print later
+  says 'which stays when it has ended' 'more ' calls a print later
+}
+
+# The second ends while the first is there.
+try_limits() {
+  says 'a second container of two' 'ok ' calls b add k v @s
+  until_true has_one_container
+  with_container b says 'a third container of two' 'ENOSYS ' calls c print k
+  until_true has_one_container
+  says 'a third, where the second has ended' 'ok ' calls c add k v @s
+}
+
+# Containers of one id, one soon after the other: a listener may be on its way to a server that ends.
+try_again() {
+  local i wrong=0
+  for i in $(seq 60); do
+    [ "$(calls same add "k$i" v @s print "k$i" | tr '\n' ' ')" = 'ok v ' ] || wrong=$((wrong + 1))
+  done
+  is '60 containers of one id' 0 "$wrong"
+}
+
+# ---- Ids
+
+try_ids() {
+  local uids=own describe=("$dir/calls" describe @u) zero='keyring;0;0;1f3f0000;_uid.0 '
+  if ! unshare -U true 2>/dev/null; then
+    skipped 'user namespaces: not allowed here'
+    return
+  fi
+  if is_root; then uids=100000; fi
+  says "ids of the container's user namespace" "$zero" contain n --uids "$uids" -- "${describe[@]}"
+  says 'where it has pids of its own' "$zero" contain n --uids "$uids" --pids -- "${describe[@]}"
+}
+
+try_other_ids() {
+  if ! is_root; then
+    skipped 'other uids, and user namespaces within containers: not root'
+    return
+  fi
+  says 'another uid' 'keyring;4005;4005;1f3f0000;_uid.4005 ' calls a become 4005 describe @u
+  says 'what it adds' 'ok v ' calls a become 4005 add k v @s print k
+  says 'what executes something as another uid' 'ok v ' calls a become 4005 add k v @s exec "$dir/calls" print k
+  unshare -U true 2>/dev/null || return 0
+  says 'another uid of a user namespace' 'keyring;33;33;1f3f0000;_uid.33 ' \
+    contain n --uids 100000 -- "$dir/calls" become 33 describe @u
+  try_nested
+}
+
+# A process that asks first, in a user namespace that it has made itself, is who it was before.
+try_nested() {
+  local asks=("$dir/calls" become 33 exec unshare -Ur "$dir/calls" describe @u)
+  says 'a user namespace within a container' 'keyring;33;33;1f3f0000;_uid.33 ' contain n --pids -- "${asks[@]}"
+  says 'one within that of a container' 'keyring;33;33;1f3f0000;_uid.33 ' \
+    contain n --uids 100000 --pids -- "${asks[@]}"
+  says 'one within that of a container, with pids of its own' 'keyring;33;33;1f3f0000;_uid.33 ' \
+    contain n --uids 100000 --pids -- "$dir/calls" become 33 exec unshare -Urpf "$dir/calls" describe @u
+}
+
+# What fills its daemon is refused, and nobody else.
+try_memory() {
+  errors=$dir/memory.err # a daemon with sanitizers says there why it doesn't begin
+  begin_agent --memory 48
+  if [ "$(calls a serial @u 2>&1)" = ENOSYS ]; then
+    skipped "limits of memory: this daemon doesn't begin within one, as with sanitizers"
+  else
+    says 'a container that fills its daemon' 'ok ENOMEM v ' calls a add k v @s fill @s print k
+    with_container b says 'beside another one' 'ENOMEM ' calls a fill @u
+  fi
+  end_agent 'a limit of memory'
+  errors=
+}
+
+try_containers() {
+  variant=$1
+  : >"$dir/$variant.err"
+  begin_agent
+  is 'the mode of its socket' '600' "$(stat -c %a "$socket")"
+  try_calls
+  try_sending
+  with_container a try_two
+  with_container a try_exec
+  try_again
+  try_ids
+  try_other_ids
+  end_agent 'containers'
+  begin_agent --containers 2
+  with_container a try_limits
+  end_agent 'two containers'
+  try_memory
+}

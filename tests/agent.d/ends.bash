@@ -1,0 +1,280 @@
+# Ends of agents, servers and daemons, hostile runtimes, and who may connect, for tests/agent.
+# shellcheck shell=bash disable=SC2034,SC2154
+
+children() { cat "/proc/$1/task/$1/children" 2>/dev/null; }
+
+state_of() { sed -n 's/^State:\t\(.\).*/\1/p' "/proc/$1/status" 2>/dev/null; }
+
+is_in_state() { [ "$(state_of "$1")" = "$2" ]; }
+
+is_gone() { [ -z "$(state_of "$1")" ] || is_in_state "$1" Z; }
+
+# find_processes: $server and $keeper are the server and the daemon of the one container
+find_processes() {
+  read -r server < <(children "$agent")
+  read -r keeper < <(children "$server")
+}
+
+# begin_container ID WORD ..: a container that has a key, waits, and then makes these calls
+begin_container() {
+  local id=$1
+  shift
+  rm -f "$dir/go" "$dir/ready"
+  calls "$id" add kept v @s put "$dir/ready" await "$dir/go" "$@" >"$dir/container.out" &
+  container=$!
+  until_true [ -e "$dir/ready" ]
+  find_processes
+}
+
+# end_container NAME LINES: what it has said after it was let go
+end_container() {
+  : >"$dir/go"
+  finish "$container"
+  says "$1" "ok $2" cat "$dir/container.out"
+}
+
+# one_goes NAME: a container works
+one_goes() { says "$1" 'ok w ' calls x add k w @s print k; }
+
+# ---- Processes that are killed
+
+try_daemon_killed() {
+  begin_container a print kept add k v @s print k
+  kill -KILL "$keeper"
+  until_true is_gone "$keeper"
+  one_goes 'another container, where a daemon was killed'
+  : >"$dir/go"
+  finish "$container"
+  is 'a container whose daemon was killed' 'ok' "$(head -n 1 "$dir/container.out")"
+  is 'what it gets is an error' '' "$(tail -n +2 "$dir/container.out" | grep -vE '^E[A-Z]+$')"
+  is 'in the end that there are no keys' ENOSYS "$(tail -n 1 "$dir/container.out")"
+  until_true has_no_containers
+  says 'another of its id' 'ENOKEY ok v ' calls a print kept add k v @s print k
+}
+
+try_server_killed() {
+  begin_container a print kept add k v @s
+  kill -KILL "$server"
+  until_true is_gone "$keeper"
+  is 'a daemon whose server was killed' 1 "$(is_gone "$keeper" && echo 1)"
+  until_true has_no_containers
+  end_container 'a container whose server was killed' 'ENOSYS ENOSYS '
+  says 'another of its id, where a server was killed' 'ENOKEY ok v ' calls a print kept add k v @s print k
+}
+
+try_agent_killed() {
+  begin_container a print kept add k v @s
+  kill -KILL "$agent"
+  finish "$agent"
+  until_true is_gone "$server"
+  until_true is_gone "$keeper"
+  is 'a server whose agent was killed' 1 "$(is_gone "$server" && is_gone "$keeper" && echo 1)"
+  end_container 'a container whose agent was killed' 'ENOSYS ENOSYS '
+  is 'what it leaves' 'there 1' "$(if [ -S "$socket" ]; then echo there; fi) $(find "$folder" -type s | wc -l)"
+  begin_agent_at
+  is 'what another agent leaves of that' 0 "$(find "$folder" -type s | wc -l)"
+  one_goes 'a container of another agent'
+}
+
+try_agent_ended() {
+  begin_container a print kept add k v @s
+  end_agent 'an agent with a container'
+  is 'its server and its daemon' 1 "$(is_gone "$server" && is_gone "$keeper" && echo 1)"
+  end_container 'a container whose agent has ended' 'ENOSYS ENOSYS '
+}
+
+# ---- A listener that is on its way while the server ends
+
+try_stopped_server() {
+  begin_container a
+  kill -STOP "$server"
+  until_true is_in_state "$server" T
+  end_container 'a container that ends while its server is stopped' ''
+  calls a add k v @s print k >"$dir/next.out" &
+  container=$!
+  until_true grep -q 'container a: one more' "$dir/$variant.err"
+  kill -CONT "$server"
+  finish "$container"
+  says 'the next one, which has begun before it goes on' 'ok v ' cat "$dir/next.out"
+}
+
+# The server has ended, and the agent takes the next listener before it learns of that.
+try_ended_server() {
+  local next before
+  rm -f "$dir/half" "$dir/rest"
+  begin_container a
+  before=$(count_descriptors)
+  contain a --halves "$dir/half" "$dir/rest" -- "$dir/calls" add k v @s print k >"$dir/next.out" &
+  next=$!
+  until_true [ -e "$dir/half" ]
+  until_true has_more_descriptors "$before" # it has taken the connection, where that can be seen
+  kill -STOP "$agent"
+  until_true is_in_state "$agent" T
+  end_container 'a container that ends while its agent is stopped' ''
+  until_true is_in_state "$server" Z
+  : >"$dir/rest"
+  until_true [ ! -e "$dir/rest" ] # the other bytes are sent
+  kill -CONT "$agent"
+  finish "$next"
+  says 'the next one, of which the agent hears first' 'ok v ' cat "$dir/next.out"
+}
+
+# ---- Where it listens
+
+# refuses NAME OPTION ..: an agent that doesn't begin
+refuses() {
+  local name=$1
+  shift
+  timeout "$patience" "$dir/$variant/keyretain-agent" --daemon "$keyretaind" "$@" \
+    >/dev/null 2>>"$dir/$variant.err" </dev/null
+  is "$name" 3 "$?"
+}
+
+try_places() {
+  mkdir -m 755 "$dir/open"
+  ln -s "$dir/open" "$dir/link"
+  : >"$dir/file"
+  refuses 'a second agent on a socket' --socket "$socket" --folder "$dir/other"
+  refuses 'a second agent on a folder' --socket "$dir/other.sock" --folder "$folder"
+  refuses 'a folder that others may enter' --socket "$dir/other.sock" --folder "$dir/open"
+  refuses 'a folder that is a link' --socket "$dir/other.sock" --folder "$dir/link"
+  refuses 'a file in the place of the socket' --socket "$dir/file" --folder "$dir/other"
+  is 'that file' 'there' "$(if [ -f "$dir/file" ]; then echo there; fi)"
+  refuses 'a path that is too long' --socket "$dir/$(printf '%0120d' 0)" --folder "$dir/other"
+  refuses 'a daemon that lacks' --socket "$dir/other.sock" --folder "$dir/other" --daemon "$dir/none"
+  refuses 'a folder that lacks' --socket "$dir/other.sock" --folder "$dir/none/none"
+  one_goes 'the first agent, after all that'
+  rm -rf "$dir/open" "$dir/link" "$dir/other"
+}
+
+# passed MODE: an agent whose socket is passed, and has this mode
+passed() {
+  agents=$((agents + 1))
+  socket=$dir/$agents.sock folder=$dir/$agents.folder
+  python3 -B "$parts/passed.py" "$socket" "$1" "$dir/$variant/keyretain-agent" --folder "$folder" \
+    --daemon "$keyretaind" --memory 0 >"$dir/agent.out" 2>>"$dir/$variant.err" </dev/null &
+  agent=$!
+}
+
+try_passed() {
+  if ! python3 -c 1 2>/dev/null; then
+    skipped 'sockets that are passed: no python3'
+    return
+  fi
+  passed 600
+  until_true grep -q 'listening (passed)' "$dir/agent.out"
+  one_goes 'an agent whose socket is passed'
+  kill -TERM "$agent"
+  finish "$agent"
+  is 'its status' 0 "$status"
+  is 'the socket stays' there "$(if [ -S "$socket" ]; then echo there; fi)"
+  passed 666
+  finish "$agent"
+  is 'a socket to which all may connect' 3 "$status"
+}
+
+as_another() { setpriv --reuid 4005 --regid 4005 --clear-groups "$@" 2>&1; }
+
+try_peers() {
+  if ! is_root; then
+    skipped 'runtimes of other users: not root, or no setpriv'
+    return
+  fi
+  says "another user's runtime" "$socket: Permission denied " \
+    as_another "$dir/runtime" "$socket" a -- "$dir/calls" print k
+  chmod 666 "$socket"
+  says 'where it can connect' 'ENOSYS ' as_another "$dir/runtime" "$socket" a -- "$dir/calls" print k
+  chmod 600 "$socket"
+}
+
+# ---- Rights
+
+# With no more capabilities than the unit has, containers go as with all. The numbers are those of capabilities(7).
+try_unit_rights() {
+  local -A numbers=([CAP_DAC_OVERRIDE]=1 [CAP_SYS_PTRACE]=19 [CAP_SYS_RESOURCE]=24)
+  local name names option=--bounding-set=-all most=0
+  if ! is_root; then
+    skipped 'the rights of the unit: not root'
+    return
+  fi
+  names=$(sed -n 's/^CapabilityBoundingSet=//p' "$top/contrib/systemd/keyretain-agent.service")
+  for name in $names; do option+=,+${name#CAP_} most=$((most | 1 << numbers[$name])); done
+  within=(setpriv "${option,,}")
+  begin_agent
+  is 'what an agent of the unit has beside its capabilities' 0 "$((16#$(field "$agent" CapEff) & ~most))"
+  try_calls
+  try_other_ids
+  end_agent 'an agent of the unit'
+  within=()
+}
+
+# field PID NAME: what the kernel says of a process
+field() { sed -n "s/^$2:\t//p" "/proc/$1/status"; }
+
+try_rights() {
+  begin_container a
+  is 'capabilities of a daemon' '0000000000000000 0000000000000000' \
+    "$(field "$keeper" CapPrm) $(field "$keeper" CapEff)"
+  is 'new privileges of a daemon' 1 "$(field "$keeper" NoNewPrivs)"
+  is 'core files of a daemon' 0 "$(sed -n 's/^Max core file size *\([^ ]*\).*/\1/p' "/proc/$keeper/limits")"
+  is "descriptors of a daemon that aren't its own" '' "$(foreign_descriptors "$keeper")"
+  if is_root; then
+    is "descriptors of a server that aren't its own" '' "$(foreign_descriptors "$server")"
+  elif [ "$(id -u)" != 0 ]; then
+    is 'who looks into an agent' 'no no' "$(looks_into "$agent") $(looks_into "$server")"
+  fi
+  end_container 'a container that was looked at' ''
+}
+
+# What isn't a socket, a listener, an event, a file of /proc, or /dev/null and what the test gave.
+foreign_descriptors() {
+  local entry
+  for entry in "/proc/$1/fd"/*; do
+    [ "${entry##*/}" -le 2 ] || readlink "$entry"
+  done | grep -vE '^(socket:|anon_inode:|/proc/[0-9]+/|/dev/null$)'
+}
+
+looks_into() { if ls "/proc/$1/fd" >/dev/null 2>&1; then echo yes; else echo no; fi; }
+
+# ---- Hostile runtimes
+
+count_descriptors() { find "/proc/$agent/fd" -mindepth 1 2>/dev/null | wc -l; }
+
+has_more_descriptors() { [ "$1" = 0 ] || [ "$(count_descriptors)" -gt "$1" ]; }
+
+has_descriptors() { [ "$(count_descriptors)" = "$1" ]; }
+
+try_hostile() {
+  local before
+  if ! python3 -c 1 2>/dev/null; then
+    skipped 'hostile runtimes: no python3'
+    return
+  fi
+  before=$(count_descriptors)
+  has_none 'hostile runtimes' python3 -B "$parts/hostile.py" "$socket" "$RANDOM"
+  one_goes 'a container after hostile runtimes'
+  until_true has_no_containers
+  until_true has_descriptors "$before"
+  is 'descriptors of an agent after hostile runtimes' "$before" "$(count_descriptors)"
+}
+
+# what sanitizers say
+say_none() { is "$1: what sanitizers say" '' "$(grep -m 1 -E 'Sanitizer|runtime error' "$dir/$variant.err")"; }
+
+try_ends() {
+  variant=$1
+  begin_agent
+  try_daemon_killed
+  try_server_killed
+  try_stopped_server
+  try_ended_server
+  try_places
+  try_peers
+  try_rights
+  try_hostile
+  try_agent_killed
+  try_agent_ended
+  try_passed
+  try_unit_rights
+  say_none "$variant"
+}

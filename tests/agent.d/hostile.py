@@ -1,0 +1,121 @@
+"""hostile.py SOCKET SEED: runtimes that send what no runtime does. The agent ends each connection, and soon."""
+import os
+import random
+import socket
+import sys
+import time
+
+GOOD = b'{"fds":["seccompFd"],"state":{"id":"h"}}'
+SECONDS = 20  # in which a connection must end; the agent's patience is two
+passed = failed = 0
+
+
+def check(name, right):
+    global passed, failed
+    passed, failed = passed + bool(right), failed + (not right)
+    if not right:
+        print('fails:', name)
+
+
+def connect(path):
+    client = socket.socket(socket.AF_UNIX, socket.SOCK_STREAM)
+    client.settimeout(SECONDS)
+    client.connect(path)
+    return client
+
+
+def send(client, data, descriptors=()):
+    try:
+        if descriptors:
+            socket.send_fds(client, [data[:1]], descriptors)
+            data = data[1:]
+        client.sendall(data)
+    except OSError:
+        pass  # the agent has had enough
+
+
+def has_ended(client):
+    """The agent says nothing, and ends the connection."""
+    try:
+        return client.recv(1) == b''
+    except ConnectionError:
+        return True
+    except OSError:
+        return False
+    finally:
+        client.close()
+
+
+def sends(path, name, data, descriptors=()):
+    client = connect(path)
+    send(client, data, descriptors)
+    check(name, has_ended(client))
+
+
+def main(path, seed):
+    some = random.Random(seed)
+    null, pipe = os.open('/dev/null', os.O_RDWR), os.pipe()
+    sends(path, 'a file as the listener', GOOD, [null])
+    sends(path, 'a pipe as the listener', GOOD, [pipe[0]])
+    sends(path, '16 descriptors', GOOD, [null] * 16)
+    sends(path, '17 descriptors', GOOD, [null] * 17)
+    sends(path, '250 descriptors', GOOD, [null] * 250)
+    sends(path, 'a byte that begins no object', b'x')
+    sends(path, 'brackets without end', b'{"a":' * 100)
+    sends(path, 'a deep array', b'{"a":' + b'[' * 100000)
+    sends(path, 'more than a mebibyte', b'{"a":"' + b'x' * (1 << 20))
+    sends(path, 'a text of a mebibyte, and nothing more', b'{"a":"' + b'x' * ((1 << 20) - 7))
+    sends(path, 'an object, and then much', GOOD + b'x' * 100000, [null])
+    client = connect(path)
+    check('a silent one', has_ended(client))
+    drips(path)
+    descriptors_in_pieces(path, null)
+    many_silent(path)
+    for _ in range(200):
+        data = bytearray(GOOD)
+        for _ in range(some.randrange(6)):
+            data[some.randrange(len(data))] = some.randrange(256)
+        client = connect(path)
+        send(client, bytes(data[:some.randrange(len(data) + 1)]), [null] * some.randrange(3))
+        client.shutdown(socket.SHUT_WR)
+        check('random bytes', has_ended(client))
+    print(f'hostile: {passed} passed, {failed} failed')
+    return failed != 0
+
+
+def drips(path):
+    """A byte now and then: the time counts from the connection on."""
+    client, began = connect(path), time.monotonic()
+    client.settimeout(0.05)
+    for byte in GOOD * 20:
+        send(client, bytes([byte]) if byte != ord('}') else b' ')
+        try:
+            if client.recv(1) == b'':
+                break
+        except TimeoutError:
+            continue
+        except OSError:
+            break
+    check('one that drips', time.monotonic() - began < SECONDS)
+    client.close()
+
+
+def descriptors_in_pieces(path, null):
+    """Descriptors with each byte: too many in all."""
+    client = connect(path)
+    try:
+        for byte in GOOD:
+            socket.send_fds(client, [bytes([byte])], [null] * 3)
+    except OSError:
+        pass
+    check('descriptors with each byte', has_ended(client))
+
+
+def many_silent(path):
+    """More than the agent looks at together; those that wait get their turn."""
+    clients = [connect(path) for _ in range(40)]
+    check('40 silent ones', all([has_ended(client) for client in clients]))
+
+
+if __name__ == '__main__':
+    sys.exit(main(sys.argv[1], int(sys.argv[2])))

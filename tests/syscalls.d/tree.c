@@ -1,0 +1,415 @@
+/* tree MODE [N]: many processes and threads that ask, in one line. */
+#define _GNU_SOURCE
+#include <pthread.h>
+#include <grp.h>
+#include <signal.h>
+#include <sys/fsuid.h>
+#include <sys/prctl.h>
+#include <sys/resource.h>
+#include <sys/syscall.h>
+#include <time.h>
+
+#include "calls.h"
+
+enum { MOST = 1000, SECONDS = 60, LOOK_MICROSECONDS = 20000 };
+
+struct answer {
+    long value;
+    int error;
+};
+
+static int answers[2], gates[2]; /* children write to the one, and wait on the other */
+
+/* ---- Many that live at one time ---- */
+
+static void give(long value) {
+    const struct answer answer = { value, errno };
+    if (write(answers[1], &answer, sizeof answer) != sizeof answer) _exit(2);
+}
+
+static void wait_at_gate(void) {
+    char byte;
+    close(gates[1]);
+    if (read(gates[0], &byte, 1) < 0) _exit(2);
+}
+
+static struct answer take(void) {
+    struct answer answer;
+    if (read(answers[0], &answer, sizeof answer) != sizeof answer) exit(2);
+    return answer;
+}
+
+static void begin(void) {
+    if (pipe(answers) < 0 || pipe(gates) < 0) exit(2);
+}
+
+/* Children that answer the serial of a keyring, and live until all have; then once more. */
+static int ask_in_processes(int count, int id) {
+    int served = 0, refused = 0, kept = 0;
+    long first[MOST];
+    begin();
+    for (int i = 0; i < count; i++)
+        if (fork() == 0) {
+            give(ring_of(id, 1));
+            wait_at_gate();
+            give(ring_of(id, 0));
+            _exit(0);
+        }
+    for (int i = 0; i < count; i++) {
+        struct answer answer = take();
+        if (answer.value > 0) first[served++] = answer.value;
+        if (answer.value < 0 && answer.error == EDQUOT) refused++;
+    }
+    close(gates[1]);
+    for (int i = 0; i < count; i++) {
+        struct answer answer = take();
+        for (int j = 0; j < served; j++)
+            if (answer.value == first[j]) {
+                kept++;
+                break;
+            }
+    }
+    while (wait(NULL) > 0) continue;
+    printf("served %s, refused %s, kept %s, then %s\n", served == count ? "all" : served >= 50 ? "50 or more" : "few",
+           served + refused == count ? "the others by EDQUOT" : "otherwise", kept == served ? "all" : "not all",
+           ring_of(id, 1) > 0 ? "served" : "refused");
+    return 0;
+}
+
+/* ---- Threads ---- */
+
+static pthread_barrier_t barrier;
+static int thread_id, create = 1;
+
+static void *ask_in_thread(void *data) {
+    struct answer *answer = data;
+    answer->value = ring_of(thread_id, create);
+    answer->error = errno;
+    pthread_barrier_wait(&barrier);
+    return NULL;
+}
+
+static int ask_in_threads(int count, int id) {
+    pthread_t threads[MOST];
+    struct answer given[MOST];
+    int served = 0, refused = 0, twice = 0;
+    thread_id = id;
+    pthread_barrier_init(&barrier, NULL, (unsigned)count);
+    for (int i = 0; i < count; i++)
+        if (pthread_create(&threads[i], NULL, ask_in_thread, &given[i]) != 0) return 2;
+    for (int i = 0; i < count; i++) pthread_join(threads[i], NULL);
+    for (int i = 0; i < count; i++) {
+        if (given[i].value > 0) served++;
+        if (given[i].value < 0 && given[i].error == EDQUOT) refused++;
+        for (int j = 0; j < i; j++) twice += given[i].value > 0 && given[i].value == given[j].value;
+    }
+    printf("served %s, refused %s, %s\n", served == count ? "all" : served >= 50 ? "50 or more" : "few",
+           served + refused == count ? "the others by EDQUOT" : "otherwise",
+           twice == 0 ? "each its own" : "one for all");
+    return 0;
+}
+
+/* Each names its thread keyring, which isn't there: all can have a context one after the other. */
+static int name_in_threads(int count) {
+    pthread_t threads[MOST];
+    struct answer given[MOST];
+    int none = 0, refused = 0;
+    thread_id = KEY_SPEC_THREAD_KEYRING;
+    create = 0;
+    pthread_barrier_init(&barrier, NULL, (unsigned)count);
+    for (int i = 0; i < count; i++)
+        if (pthread_create(&threads[i], NULL, ask_in_thread, &given[i]) != 0) return 2;
+    for (int i = 0; i < count; i++) {
+        pthread_join(threads[i], NULL);
+        none += given[i].error == ENOKEY;
+        refused += given[i].error == EDQUOT;
+    }
+    printf("%s, others by EDQUOT: %d\n", none + refused == count ? "none there" : "something else", refused);
+    return 0;
+}
+
+/* ---- One after the other ---- */
+
+static int ask_in_sequence(int count) {
+    int wrong = 0;
+    for (int i = 0; i < count; i++) {
+        pid_t child = fork();
+        if (child == 0) _exit(ring_of(KEY_SPEC_PROCESS_KEYRING, 1) > 0 ? 0 : 1);
+        wrong += status_of(child) != 0;
+    }
+    printf("%d wrong\n", wrong);
+    return 0;
+}
+
+/* Sessions that end at once: of processes that end, and of one that joins others. */
+static int join_in_sequence(int count) {
+    int wrong = 0;
+    for (int i = 0; i < count / 2; i++) {
+        pid_t child = fork();
+        if (child == 0) _exit(join(NULL) > 0 ? 0 : 1);
+        wrong += status_of(child) != 0;
+    }
+    for (int i = 0; i < count / 2; i++) wrong += join(NULL) < 0;
+    printf("%d wrong\n", wrong);
+    return 0;
+}
+
+/* A chain of children, of which none has asked. The last says which session it has after its first ancestor has joined
+ * another, which gets no tag, as its hard limit is too low for that. */
+static void fork_chain(int count) {
+    while (count > 0 && fork() == 0) count--;
+    if (count == 0) {
+        give(0);
+        wait_at_gate();
+        give(ring_of(KEY_SPEC_SESSION_KEYRING, 0));
+    }
+    close(gates[1]);
+    wait(NULL);
+    _exit(0);
+}
+
+static int fork_deep(int count) {
+    const struct rlimit none = { 0, 0 };
+    long session = ring_of(KEY_SPEC_SESSION_KEYRING, 0);
+    if (setrlimit(RLIMIT_LOCKS, &none) < 0) return 2;
+    begin();
+    pid_t child = fork();
+    if (child == 0) {
+        if (fork() == 0) fork_chain(count);
+        take();
+        long joined = join(NULL);
+        close(gates[1]);
+        _exit(joined > 0 && joined != session && take().value == session ? 0 : 1);
+    }
+    close(gates[1]);
+    puts(status_of(child) == 0 ? "the old session" : "another session");
+    return 0;
+}
+
+/* ---- What is killed in the midst of a call ---- */
+
+static bool is_served(void) { return ring_of(KEY_SPEC_THREAD_KEYRING, 1) > 0; }
+
+static bool is_served_in_child(void) {
+    pid_t child = fork();
+    if (child == 0) _exit(is_served() ? 0 : 1);
+    return status_of(child) == 0;
+}
+
+static int kill_in_calls(int count) {
+    int wrong = 0;
+    for (int i = 0; i < count; i++) {
+        pid_t child = fork();
+        if (child == 0)
+            for (;;) ring_of(KEY_SPEC_PROCESS_KEYRING, 1);
+        usleep((useconds_t)(i * 37 % 3000));
+        wrong += kill(child, SIGKILL) < 0 || waitpid(child, NULL, 0) != child;
+    }
+    puts(wrong == 0 && ring_of(KEY_SPEC_SESSION_KEYRING, 0) > 0 && is_served_in_child() ? "served" : "not served");
+    return 0;
+}
+
+/* ---- What has executed something that asks nothing ---- */
+
+static bool holds_in_time(bool (*holds)(void)) {
+    time_t end = time(NULL) + SECONDS;
+    while (!holds()) {
+        if (time(NULL) > end) return false;
+        usleep(LOOK_MICROSECONDS);
+    }
+    return true;
+}
+
+static int execute_in_processes(int count) {
+    pid_t children[MOST];
+    begin();
+    for (int i = 0; i < count; i++) {
+        children[i] = fork();
+        if (children[i] == 0) {
+            give(ring_of(KEY_SPEC_PROCESS_KEYRING, 1));
+            wait_at_gate();
+            execl("/proc/self/exe", "tree", "sleep", (char *)NULL);
+            _exit(2);
+        }
+    }
+    for (int i = 0; i < count; i++) take();
+    bool is_full = !is_served_in_child();
+    close(gates[1]);
+    printf("%s, then %s\n", is_full ? "full" : "not full", holds_in_time(is_served_in_child) ? "served" : "refused");
+    for (int i = 0; i < count; i++) kill(children[i], SIGKILL);
+    return 0;
+}
+
+/* ---- Sessions that nobody asks in ---- */
+
+static long key;
+
+static bool is_gone(void) {
+    return keyctl(KEYCTL_DESCRIBE, (unsigned long)key, 0, 0, 0) < 0 && (errno == ENOKEY || errno == EACCES);
+}
+
+/* What has joined a session ends, and leaves a process that has not asked yet, for longer than two sweeps. Then that
+ * ends too, and the session with it. */
+static int leave_session(void) {
+    struct answer answer;
+    begin();
+    pid_t child = fork();
+    if (child == 0) {
+        long ring = join(NULL);
+        add_key("user", "left", "x", 1, KEY_SPEC_SESSION_KEYRING);
+        if (fork() == 0) {
+            sleep(5);
+            long found = request_key("user", "left", NULL, 0);
+            give(found > 0 ? ring : found);
+            _exit(0);
+        }
+        _exit(0);
+    }
+    status_of(child);
+    answer = take();
+    key = answer.value;
+    printf("%s, then %s\n", answer.value > 0 ? "kept" : "lost", holds_in_time(is_gone) ? "gone" : "still there");
+    return 0;
+}
+
+/* ---- A long life ---- */
+
+/* Whether the session's key can be read, by a child too. */
+static bool is_in_session(long ring, long key) {
+    char byte;
+    return ring_of(KEY_SPEC_SESSION_KEYRING, 0) == ring && read_key(key, &byte, 1) == 1 && byte == 'x';
+}
+
+/* Many calls, in a session of its own and with a process keyring; then as many by a child. The session stays; the
+ * process keyring ends with its connection, which is the one before the last. */
+static int ask_often(int count) {
+    long ring = join("often"), process = ring_of(KEY_SPEC_PROCESS_KEYRING, 1);
+    long key_in_session = add_key("user", "often", "x", 1, KEY_SPEC_SESSION_KEYRING);
+    int wrong = 0, kept = 0;
+    for (int i = 0; i < count; i++) {
+        wrong += !is_in_session(ring, key_in_session);
+        kept += ring_of(KEY_SPEC_PROCESS_KEYRING, 0) == process;
+    }
+    pid_t child = fork();
+    if (child == 0) {
+        for (int i = 0; i < count; i++) wrong += !is_in_session(ring, key_in_session);
+        _exit(wrong != 0);
+    }
+    int status = status_of(child);
+    wrong += !is_in_session(ring, key_in_session);
+    bool is_there = ring_of(KEY_SPEC_PROCESS_KEYRING, 0) == process;
+    printf("%d wrong, a child %d, the process keyring %s, then %s\n", wrong, status, kept == count ? "kept" : "lost",
+           is_there ? "kept" : "lost");
+    return 0;
+}
+
+/* ---- One that can't be looked into ---- */
+
+static int hide(void) {
+    prctl(PR_SET_DUMPABLE, 0, 0, 0, 0);
+    long ring = ring_of(KEY_SPEC_SESSION_KEYRING, 0);
+    puts(ring > 0 ? "served" : errno == ENOSYS ? "ENOSYS" : "another error");
+    return 0;
+}
+
+/* ---- One key, and whose the user keyring is ---- */
+
+static int put(const char *name, const char *payload) {
+    return add_key("user", name, payload, strlen(payload), KEY_SPEC_SESSION_KEYRING) > 0 ? 0 : 1;
+}
+
+static int get(const char *name) {
+    char payload[64] = "";
+    long found = request_key("user", name, NULL, 0);
+    if (found > 0) found = read_key(found, payload, sizeof payload - 1);
+    puts(found > 0 ? payload : errno == ENOSYS ? "ENOSYS" : strerror(errno));
+    return found > 0 ? 0 : 1;
+}
+
+static void describe(int id, unsigned *owner, unsigned *mask) {
+    char text[4200] = "";
+    keyctl(KEYCTL_DESCRIBE, (unsigned long)(long)id, (unsigned long)text, sizeof text - 1, 0);
+    if (sscanf(text, "keyring;%u;%*u;%x;", owner, mask) != 2) exit(2);
+}
+
+/* The uid that the user keyring has, after the file system's uid was changed to this one. */
+static int print_owner(uid_t uid) {
+    unsigned owner, mask;
+    setfsuid(uid);
+    describe(KEY_SPEC_USER_KEYRING, &owner, &mask);
+    return printf("%u\n", owner) < 0;
+}
+
+/* So many groups that what the kernel tells of a process is long. */
+static int have_groups(int count) {
+    gid_t groups[MOST];
+    for (int i = 0; i < count; i++) groups[i] = 1000000000 + (gid_t)i;
+    if (setgroups((size_t)count, groups) < 0) return 2;
+    puts(ring_of(KEY_SPEC_SESSION_KEYRING, 0) > 0 ? "served" : strerror(errno));
+    return 0;
+}
+
+/* A process that was given a session of its own, became another user and takes its tag away: what it forks must not
+ * come to the session of before. */
+static int take_tag_away(void) {
+    const struct rlimit none = { RLIM_INFINITY, RLIM_INFINITY };
+    long before = ring_of(KEY_SPEC_SESSION_KEYRING, 0), joined = join(NULL);
+    if (joined < 0 || setgid(65534) < 0 || setuid(65534) < 0 || setrlimit(RLIMIT_LOCKS, &none) < 0) return 2;
+    pid_t child = fork();
+    if (child == 0) {
+        long session = ring_of(KEY_SPEC_SESSION_KEYRING, 0);
+        _exit(session == before);
+    }
+    puts(status_of(child) == 0 ? "kept out" : "back");
+    return 0;
+}
+
+static int print_mask(void) {
+    unsigned owner, mask;
+    describe(KEY_SPEC_SESSION_KEYRING, &owner, &mask);
+    return printf("%08x\n", mask) < 0;
+}
+
+/* ---- Without descriptors ---- */
+
+static int close_all(long session) {
+    syscall(SYS_close_range, 0, ~0u, 0);
+    return ring_of(KEY_SPEC_SESSION_KEYRING, 0) == session ? 0 : 1;
+}
+
+/* Executes words as a caller that ignores the ends of its children. */
+static int ignore_children(char **words) {
+    signal(SIGCHLD, SIG_IGN);
+    execvp(*words, words);
+    return 2;
+}
+
+int main(int count, char **words) {
+    const char *mode = count > 1 ? words[1] : "";
+    int many = count > 2 ? atoi(words[2]) : 0;
+    if (many > MOST && strcmp(mode, "owner") != 0 && strcmp(mode, "often") != 0) return 2;
+    if (strcmp(mode, "sleep") == 0) return pause();
+    if (strcmp(mode, "session") == 0) return printf("%ld\n", ring_of(KEY_SPEC_SESSION_KEYRING, 0)) < 0;
+    if (strcmp(mode, "processes") == 0) return ask_in_processes(many, KEY_SPEC_SESSION_KEYRING);
+    if (strcmp(mode, "keyrings") == 0) return ask_in_processes(many, KEY_SPEC_PROCESS_KEYRING);
+    if (strcmp(mode, "threads") == 0) return ask_in_threads(many, KEY_SPEC_SESSION_KEYRING);
+    if (strcmp(mode, "thread-keyrings") == 0) return ask_in_threads(many, KEY_SPEC_THREAD_KEYRING);
+    if (strcmp(mode, "sequence") == 0) return ask_in_sequence(many);
+    if (strcmp(mode, "naming") == 0) return name_in_threads(many);
+    if (strcmp(mode, "sessions") == 0) return join_in_sequence(many);
+    if (strcmp(mode, "deep") == 0) return fork_deep(many);
+    if (strcmp(mode, "killed") == 0) return kill_in_calls(many);
+    if (strcmp(mode, "executed") == 0) return execute_in_processes(many);
+    if (strcmp(mode, "left") == 0) return leave_session();
+    if (strcmp(mode, "often") == 0) return ask_often(many);
+    if (strcmp(mode, "hidden") == 0) return hide();
+    if (strcmp(mode, "put") == 0 && count == 4) return put(words[2], words[3]);
+    if (strcmp(mode, "get") == 0 && count == 3) return get(words[2]);
+    if (strcmp(mode, "owner") == 0) return print_owner((uid_t)many);
+    if (strcmp(mode, "ignoring") == 0 && count > 2) return ignore_children(words + 2);
+    if (strcmp(mode, "groups") == 0) return have_groups(many);
+    if (strcmp(mode, "untagged") == 0) return take_tag_away();
+    if (strcmp(mode, "mask") == 0) return print_mask();
+    if (strcmp(mode, "closed") == 0) return close_all(ring_of(KEY_SPEC_SESSION_KEYRING, 0));
+    return 2;
+}
