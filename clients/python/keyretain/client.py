@@ -4,13 +4,14 @@ from __future__ import annotations
 import errno
 import time
 from collections.abc import Iterator
-from typing import Any, Optional, Sequence
+from typing import Any, Optional, Sequence, Union
 
 from .connection import Connection, Deadline
 from .errors import Lost, Malformed, Refused
 from .frames import LEAVE_AS_IT_IS, VERSIONS, Answer, Bytes, Reply, Text, answer_of, decode_serials
 from .notes import Record, Removal, decode_notes
-from .places import Path, Peer, place_of
+from .places import Path, Peer, environment, place_of
+from .sessions import VARIABLE, enter, parse_session
 
 PATIENCE = 30.0
 
@@ -151,6 +152,14 @@ class Client:
     def join(self, context: int, name: Text = "") -> int:
         """Joins the session of this name, or a new one; answers its serial."""
         return self._number("JOIN", context, name)
+
+    def enter_session(self, context: int, session: Union[str, bytes, None] = None) -> bool:
+        """Joins a session that others hold and that must still be there: SERIAL:NAME, which KEYRETAIN_SESSION says
+        where nothing is given. False where the text names none, and where that session was revoked, is gone, is another
+        user's, or gives group or others anything: then the context may have a new session keyring, which nobody
+        shares."""
+        named = parse_session(environment(VARIABLE) if session is None else session)
+        return named is not None and enter(self, context, named)
 
     def update(self, context: int, key: int, payload: Text) -> None:
         """Gives the key this payload."""

@@ -17,7 +17,7 @@ Answer = Union[int, bytes, None]
 
 
 class Ask(NamedTuple):
-    """An ask's number, the forms of its fields, and what it answers: a number, bytes or nothing."""
+    """An ask's number, the forms of its fields, and what it answers: a number, a key's serial, bytes or nothing."""
 
     number: int
     fields: str
@@ -25,8 +25,8 @@ class Ask(NamedTuple):
 
 
 ASKS = {
-    "GET_ID": Ask(0, "id u8", "number"),
-    "JOIN": Ask(1, "text", "number"),
+    "GET_ID": Ask(0, "id u8", "serial"),
+    "JOIN": Ask(1, "text", "serial"),
     "UPDATE": Ask(2, "id blob", "nothing"),
     "REVOKE": Ask(3, "id", "nothing"),
     "CHOWN": Ask(4, "id u32 u32", "nothing"),
@@ -35,7 +35,7 @@ ASKS = {
     "CLEAR": Ask(7, "id", "nothing"),
     "LINK": Ask(8, "id id", "nothing"),
     "UNLINK": Ask(9, "id id", "nothing"),
-    "SEARCH": Ask(10, "id text text id", "number"),
+    "SEARCH": Ask(10, "id text text id", "serial"),
     "READ": Ask(11, "id", "bytes"),
     "SET_TIMEOUT": Ask(15, "id u32", "nothing"),
     "INVALIDATE": Ask(21, "id", "nothing"),
@@ -48,8 +48,8 @@ ASKS = {
     "EXEC": Ask(259, "", "nothing"),
     "EXIT": Ask(260, "", "nothing"),
     "LEAVE": Ask(261, "", "nothing"),
-    "ADD": Ask(262, "text text blob id", "number"),
-    "REQUEST": Ask(263, "text text id", "number"),
+    "ADD": Ask(262, "text text blob id", "serial"),
+    "REQUEST": Ask(263, "text text id", "serial"),
     "OPEN_QUEUE": Ask(264, "u32", "number"),
     "SET_FILTER": Ask(265, "u32 entries", "nothing"),
     "READ_QUEUE": Ask(266, "u32 u32", "bytes"),
@@ -61,6 +61,7 @@ NUMBERS = {"id": struct.Struct("<i"), "i32": struct.Struct("<i"), "u8": struct.S
 ENTRY = struct.Struct("<3I8I")
 COUNTED = {"text": ("<H", 1), "blob": ("<I", 1), "groups": ("<I", 4), "entries": ("<I", ENTRY.size)}
 LONGEST_ASK = 65536
+HIGHEST_SERIAL = 2**31 - 1
 SHORTEST_REPLY = {1: 4, 2: 12}
 LONGEST_REPLY = {1: 262144, 2: 262152}
 
@@ -179,15 +180,25 @@ def answer_of(name: str, reply: Reply) -> Answer:
             raise Malformed(f"status {reply.status} with {len(reply.body)} bytes")
         raise Refused(name, reply.status)
     form = ASKS[name].answer
-    if form != "bytes" and len(reply.body) != (4 if form == "number" else 0):
+    if form == "bytes":
+        return reply.body
+    if len(reply.body) != (0 if form == "nothing" else 4):
         raise Malformed(f"{name} is answered with {len(reply.body)} bytes")
-    if form == "number":
-        return int.from_bytes(reply.body, "little")
-    return reply.body if form == "bytes" else None
+    if form == "nothing":
+        return None
+    number = int.from_bytes(reply.body, "little")
+    return check_serial(number) if form == "serial" else number
+
+
+def check_serial(number: int) -> int:
+    """The number, where a key may have it. As an id any other would name something else."""
+    if not 0 < number <= HIGHEST_SERIAL:
+        raise Malformed(f"{number} is no key's serial")
+    return number
 
 
 def decode_serials(payload: bytes) -> list[int]:
     """The serials that a keyring links, from the payload that it reads as."""
     if len(payload) % 4:
         raise Malformed(f"a keyring of {len(payload)} bytes")
-    return list(struct.unpack(f"<{len(payload) // 4}i", payload))
+    return [check_serial(number) for number in struct.unpack(f"<{len(payload) // 4}I", payload)]

@@ -5,6 +5,7 @@ import struct
 from typing import NamedTuple, Union
 
 from .errors import Malformed
+from .frames import HIGHEST_SERIAL
 
 
 class Note(NamedTuple):
@@ -33,15 +34,22 @@ SUBTYPES = ("instantiated", "updated", "linked", "unlinked", "cleared", "revoked
 META, KEY_NOTIFY = 0, 1
 
 
+def _serial(number: int) -> int:
+    """The number, which is 0 where a record names no key."""
+    if number > HIGHEST_SERIAL:
+        raise Malformed(f"{number} is no key's serial")
+    return number
+
+
 def _decode_note(received: bytes, at: int) -> tuple[Record, int]:
     word, info = struct.unpack_from("<II", received, at)
     kind, subtype, length, watch = word & 0xFFFFFF, word >> 24, info & 0x7F, info >> 8 & 0xFF
     if (kind, subtype, length) == (META, 1, 8):
         return Loss(), length
     if (kind, subtype, length) == (META, 0, 16):
-        return Removal(watch, struct.unpack_from("<Q", received, at + 8)[0]), length
+        return Removal(watch, _serial(struct.unpack_from("<Q", received, at + 8)[0])), length
     if kind == KEY_NOTIFY and subtype < len(SUBTYPES) and length == 16:
-        return Note(watch, SUBTYPES[subtype], *struct.unpack_from("<II", received, at + 8)), length
+        return Note(watch, SUBTYPES[subtype], *map(_serial, struct.unpack_from("<II", received, at + 8))), length
     raise Malformed(f"a record {word:08x} {info:08x}")
 
 

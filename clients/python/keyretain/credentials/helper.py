@@ -1,0 +1,61 @@
+"""What the helpers' programs have in common."""
+from __future__ import annotations
+
+import resource
+import sys
+from typing import BinaryIO, Optional, TextIO
+
+from .. import Refused, __version__
+
+LONGEST_INPUT = 1 << 20
+
+
+class Unusable(Exception):
+    """What was given can't be kept or answered. The text has nothing of it, as that may be secret."""
+
+
+def keep_no_core() -> None:
+    """A program that crashes leaves no file of its memory, which may have secrets."""
+    resource.setrlimit(resource.RLIMIT_CORE, (0, resource.getrlimit(resource.RLIMIT_CORE)[1]))
+
+
+def standard(stream: Optional[TextIO]) -> BinaryIO:
+    """Standard input or output as bytes. A program may have been started without."""
+    if stream is None:
+        raise Unusable("standard input or output is closed")
+    return stream.buffer
+
+
+def _limited(given: bytes) -> bytes:
+    if len(given) > LONGEST_INPUT:
+        raise Unusable(f"more than {LONGEST_INPUT} bytes are given")
+    return given
+
+
+def read_all() -> bytes:
+    """Standard input."""
+    return _limited(standard(sys.stdin).read(LONGEST_INPUT + 1))
+
+
+def read_line() -> bytes:
+    """The next line of it, with its end; nothing where there is none."""
+    return _limited(standard(sys.stdin).readline(LONGEST_INPUT + 1))
+
+
+def print_bytes(text: bytes) -> None:
+    output = standard(sys.stdout)
+    output.write(text)
+    output.flush()
+
+
+def version_of(program: str) -> str:
+    return f"{program} (keyretain) {__version__}"
+
+
+def words_of(error: Exception) -> str:
+    """One line for people."""
+    if not isinstance(error, OSError) or isinstance(error, Refused) or error.strerror is None:
+        words = str(error)
+    else:
+        words = error.strerror if error.filename is None else f"{error.filename}: {error.strerror}"
+    return " ".join(words.split())

@@ -1,0 +1,131 @@
+"""A locker: what one kind of helper keeps, as keys in a keyring of the user keyring.
+
+Two helpers may run at once. So a keyring is put into the user keyring only where there is none of its name, and an
+entry is complete, with its timeout, before a link puts it there in place of the one of the same description: a reader
+finds the old one or the new one."""
+from __future__ import annotations
+
+import errno
+import os
+from collections.abc import Iterator
+from contextlib import AbstractContextManager, nullcontext
+from typing import NamedTuple, Optional
+
+from .. import THREAD, USER, Client, Refused
+from . import keeper
+
+PATIENCE = 10.0
+LONGEST_PAYLOAD = 32767
+GROUPS = 32  # as many as the daemon takes
+GONE = (errno.EKEYEXPIRED, errno.EKEYREVOKED, errno.ENOKEY, errno.ENOENT)
+
+
+class Entry(NamedTuple):
+    """A key that can be used, as it was seen. The one that was put later has the greater serial."""
+
+    serial: int
+    description: bytes
+
+
+class Locker(AbstractContextManager["Locker"]):
+    """The entries of a keyring, on a connection that ends with the block."""
+
+    def __init__(self, name: str) -> None:
+        self._name, self._client = name, Client(timeout=PATIENCE)
+        try:
+            self._context = self._client.hello(os.geteuid(), os.getegid(), os.getgroups()[:GROUPS])
+            self._ring = self._find()
+        except BaseException:
+            self._client.close()
+            raise
+
+    def __exit__(self, *_: object) -> None:
+        self._client.close()
+
+    # Reading
+
+    def _find(self) -> int:
+        """The serial of the keyring, or 0."""
+        try:
+            return self._client.search(self._context, USER, "keyring", self._name)
+        except Refused as refused:
+            if refused.errno in GONE:
+                return 0
+            raise
+
+    def entries(self) -> list[Entry]:
+        """Those that can be used, the newest first."""
+        serials = self._client.read_ring(self._context, self._ring) if self._ring else []
+        return [entry for serial in sorted(serials, reverse=True) for entry in self._entry(serial)]
+
+    def _entry(self, serial: int) -> Iterator[Entry]:
+        """What can't be used any more is swept out."""
+        try:
+            described = self._client.describe(self._context, serial).split(b";", 4)
+        except Refused as refused:
+            if refused.errno not in GONE:
+                raise
+            self._unlink(serial)
+            return
+        if described[0] == b"user" and len(described) == 5:
+            yield Entry(serial, described[4])
+
+    def payload(self, entry: Entry) -> Optional[bytes]:
+        """None where the entry has expired meanwhile, or was taken out."""
+        try:
+            return self._client.read(self._context, entry.serial)
+        except Refused as refused:
+            if refused.errno in GONE:
+                return None
+            raise
+
+    # Changing
+
+    def put(self, description: str, payload: bytes, seconds: int = 0) -> None:
+        """Keeps an entry for so many seconds, or without an end for 0, in place of one of this description."""
+        if len(payload) > LONGEST_PAYLOAD:
+            raise OSError(errno.E2BIG, f"a secret of more than {LONGEST_PAYLOAD} bytes")
+        self._ring = self._ring or self._make_ring()
+        with self._holding():
+            serial = self._client.add(self._context, "user", description, payload, THREAD)
+            self._client.set_timeout(self._context, serial, seconds)
+            self._client.link(self._context, serial, self._ring)
+
+    def drop(self, entry: Entry) -> None:
+        """Takes out this very entry, and not one that has taken its place."""
+        self._unlink(entry.serial)
+
+    def _unlink(self, serial: int) -> None:
+        try:
+            self._client.unlink(self._context, serial, self._ring)
+        except Refused as refused:
+            if refused.errno not in GONE:
+                raise
+
+    def _make_ring(self) -> int:
+        """Makes the keyring beside the user keyring, and moves it there. One that can't be used any more gives way."""
+        made = self._client.add(self._context, "keyring", self._name, b"", THREAD)
+        try:
+            self._client.move(self._context, made, THREAD, USER, exclusive=True)
+            return made
+        except Refused as refused:
+            if refused.errno != errno.EEXIST:
+                raise
+        other = self._find()
+        if not other:
+            self._client.link(self._context, made, USER)
+        return other or made
+
+    # What holds it
+
+    def _holding(self) -> AbstractContextManager[None]:
+        path = os.fsdecode(self._client.path)
+        return nullcontext() if self._is_held() else keeper.holding(self._name, path)
+
+    def _is_held(self) -> bool:
+        """Whether a session of this user's holds the user keyring. What outlives its session still names it."""
+        probe = self._client.thread(self._context)
+        try:
+            return self._client.enter_session(probe)
+        finally:
+            self._client.exit(probe)

@@ -1,0 +1,95 @@
+"""Daemons, helpers and keepers, for the tests of the helpers of git, docker and keyring.
+
+The folder of what is tried is FOLDER in the environment: bin/ has the helpers and keyretain-session, and the package
+lies in PACKAGE. KEYRETAIND is the daemon."""
+import os
+import subprocess
+import sys
+import tempfile
+import time
+from contextlib import contextmanager
+
+sys.path.insert(0, os.path.join(os.path.dirname(os.path.abspath(__file__)), "../clients.d"))
+from compare import compare, conclude
+import keyretain
+
+FOLDER, KEYRETAIND = os.environ["FOLDER"], os.environ["KEYRETAIND"]
+PATIENCE = 60  # seconds that anything may take
+
+
+def until(holds):
+    """Whether a condition has come to hold."""
+    end = time.monotonic() + PATIENCE
+    while not holds():
+        if time.monotonic() > end:
+            return False
+        time.sleep(0.02)
+    return True
+
+
+@contextmanager
+def daemon(lanes=32):
+    """A daemon that nobody has used, named by the environment. Answers the process."""
+    with tempfile.TemporaryDirectory(prefix="keyretain.") as folder:
+        path = folder + "/sock"
+        with subprocess.Popen([KEYRETAIND, "--socket", path, "--lanes", str(lanes)], stdout=subprocess.DEVNULL,
+                              stderr=subprocess.DEVNULL) as process:
+            os.environ["KEYRETAIN_SOCKET"] = path
+            try:
+                until(lambda: os.path.exists(path) or process.poll() is not None)
+                yield process
+            finally:
+                process.kill()
+        until(lambda: not keepers())
+
+
+def keepers():
+    """The command lines of the keepers at this daemon, with their pids."""
+    found = []
+    for pid in filter(str.isdigit, os.listdir("/proc")):
+        try:
+            with open(f"/proc/{pid}/cmdline", "rb") as words:
+                line = words.read().decode().rstrip("\0").split("\0")
+        except OSError:
+            continue
+        if os.path.basename(line[0]) == "keyretain-keeper" and line[-1] == os.environ["KEYRETAIN_SOCKET"]:
+            found.append((int(pid), line))
+    return found
+
+
+def run(words, given="", environment=None, timeout=PATIENCE):
+    """The status of a program, and what it prints on its standard output and on standard error, as bytes."""
+    ended = subprocess.run(words, input=given if isinstance(given, bytes) else given.encode(), capture_output=True,
+                           timeout=timeout, env={**os.environ, **(environment or {})}, check=False)
+    return ended.returncode, ended.stdout, ended.stderr
+
+
+def helper(name, *words):
+    return [f"{FOLDER}/bin/{name}-credential-keyretain", *words]
+
+
+def is_one_line(text, program):
+    """What a program tells on standard error."""
+    return text.startswith(program.encode() + b": ") and text.count(b"\n") == 1 and text.endswith(b"\n")
+
+
+@contextmanager
+def looking(ring):
+    """A client that looks at what a helper keeps: answers a function that tells the descriptions with the payloads."""
+    with keyretain.Client(timeout=PATIENCE) as client:
+        context = client.hello(os.geteuid(), os.getegid())
+
+        def look():
+            try:
+                found = client.search(context, keyretain.USER, "keyring", ring)
+            except keyretain.Refused:
+                return {}
+            kept = {}
+            for serial in client.read_ring(context, found):
+                try:
+                    kept[client.describe(context, serial).split(b";", 4)[4].decode()] = client.read(context, serial)
+                except keyretain.Refused:
+                    pass
+            return kept
+
+        yield look
