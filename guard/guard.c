@@ -1,12 +1,14 @@
 /* guard.c: keyretain-guard stands before a keyretaind that believes its clients, asks the kernel who each of them is, and
- * lets through only what they may say of themselves. One thread, one epoll(7); it never waits for anyone but there. */
+ * lets through only what they may say of themselves. This thread accepts clients, counts them, and ends those that stay
+ * silent; each place for one has two threads of its own, which begin before the first client comes. */
 #define _GNU_SOURCE
 #include <errno.h>
 #include <fcntl.h>
+#include <poll.h>
 #include <signal.h>
 #include <stdio.h>
 #include <stdlib.h>
-#include <sys/epoll.h>
+#include <sys/eventfd.h>
 #include <sys/prctl.h>
 #include <sys/resource.h>
 #include <sys/signalfd.h>
@@ -21,85 +23,56 @@
 
 enum {
     ACCEPTS_A_TURN = 16,
-    EVENTS_A_TURN = 64,
     PAUSE = 20, /* milliseconds, before what lacked something is tried again */
+    SPARE = 4,  /* descriptors: the listening socket, and what is open for a moment */
 };
-
-enum side { CLIENT, SERVER, LISTENER, SIGNALS };
 
 static struct link links[CONNECTIONS_MAX];
 static unsigned used;
-static int epoll = -1, listener = -1, signals = -1;
-static bool is_listening;
+static int listener = -1, signals = -1;
 static int64_t next_deadline = INT64_MAX;
-
-/* ---- Events ---- */
-
-static void set_events(const struct link *link, enum side side, int descriptor, uint32_t *now, uint32_t wanted) {
-    struct epoll_event event = { .events = wanted, .data.u64 = (uint64_t)(link - links) << 2 | side };
-    if (descriptor < 0 || *now == wanted) return;
-    /* Where nothing is wanted it must not be there, as EPOLLHUP can't be masked. */
-    epoll_ctl(epoll, *now == 0 ? EPOLL_CTL_ADD : wanted == 0 ? EPOLL_CTL_DEL : EPOLL_CTL_MOD, descriptor, &event);
-    *now = wanted;
-}
-
-static void set_listening(bool wanted) {
-    struct epoll_event event = { .events = EPOLLIN, .data.u64 = LISTENER };
-    if (wanted != is_listening) epoll_ctl(epoll, wanted ? EPOLL_CTL_ADD : EPOLL_CTL_DEL, listener, &event);
-    is_listening = wanted;
-}
-
-static void go_on_or_end(struct link *link, bool goes_on) {
-    if (goes_on) {
-        set_events(link, CLIENT, link->client, &link->client_events, client_events_of(link));
-        set_events(link, SERVER, link->server, &link->server_events, server_events_of(link));
-        return;
-    }
-    close_link(link);
-    used--;
-    set_listening(true);
-}
-
-static void serve(struct link *link, enum side side, uint32_t events) {
-    if (link->used) go_on_or_end(link, side == CLIENT ? serve_client(link, events) : serve_server(link, events));
-}
 
 /* ---- Clients ---- */
 
-static bool has_room(const struct ucred *peer) {
+/* A free place for a client of this uid; NULL where it gets none. Places are taken in this thread alone. */
+static struct link *find_place(uint32_t uid) {
+    struct link *found = NULL;
     unsigned same = 0;
-    if (peer->uid == unknown_uid) return false; /* strangers share it */
-    if (is_trusted_uid(peer->uid)) return true;
-    for (unsigned i = 0; i < options.connections; i++) same += links[i].used && links[i].peer.uid == peer->uid;
-    return same < options.per_uid;
+    if (uid == unknown_uid) return NULL; /* strangers share it */
+    for (unsigned i = 0; i < options.connections; i++) {
+        uint32_t owner;
+        if (!find_owner(&links[i], &owner))
+            found = &links[i];
+        else
+            same += owner == uid;
+    }
+    return same < options.per_uid || is_trusted_uid(uid) ? found : NULL;
 }
 
-static void begin_link(int client) {
-    struct link *link = links;
+static void begin_client(int client) {
     struct ucred peer;
-    if (!find_peer(client, &peer) || !has_room(&peer)) {
+    struct link *place = find_peer(client, &peer) ? find_place(peer.uid) : NULL;
+    if (!place) {
         close(client);
         return;
     }
-    while (link->used) link++;
-    *link = (struct link){ .used = true, .client = client, .server = -1, .peer = peer,
-                           .is_trusted = is_trusted_uid(peer.uid), .deadline = INT64_MAX };
-    if (options.hello_seconds > 0) link->deadline = milliseconds() + 1000 * (int64_t)options.hello_seconds;
-    if (link->deadline < next_deadline) next_deadline = link->deadline;
+    int64_t deadline = INT64_MAX;
+    if (options.hello_seconds > 0) deadline = milliseconds() + 1000 * (int64_t)options.hello_seconds;
+    if (deadline < next_deadline) next_deadline = deadline;
     used++;
-    go_on_or_end(link, true);
+    begin_link(place, client, &peer, deadline);
 }
 
-static void accept_clients(void) {
+/* False where descriptors or memory were lacking: again after PAUSE. */
+static bool accept_clients(void) {
     for (int i = 0; i < ACCEPTS_A_TURN && used < options.connections; i++) {
-        int client = accept4(listener, NULL, NULL, SOCK_NONBLOCK | SOCK_CLOEXEC);
-        if (client >= 0) {
-            begin_link(client);
-        } else if (errno != ECONNABORTED && errno != EINTR) {
-            if (errno != EAGAIN) set_listening(false); /* no descriptors, or no memory: again after PAUSE */
-            return;
-        }
+        int client = accept4(listener, NULL, NULL, SOCK_CLOEXEC);
+        if (client >= 0)
+            begin_client(client);
+        else if (errno != ECONNABORTED && errno != EINTR)
+            return errno == EAGAIN;
     }
+    return true;
 }
 
 /* Ends those whose HELLO hasn't come for too long. */
@@ -107,79 +80,66 @@ static void end_silent(int64_t now) {
     if (now < next_deadline) return;
     next_deadline = INT64_MAX;
     for (unsigned i = 0; i < options.connections; i++) {
-        struct link *link = &links[i];
-        if (!link->used || link->screen.greeted) continue;
-        if (link->deadline <= now)
-            go_on_or_end(link, false);
-        else if (link->deadline < next_deadline)
-            next_deadline = link->deadline;
+        int64_t next = end_if_silent(&links[i], now);
+        if (next < next_deadline) next_deadline = next;
     }
 }
 
-/* Tries again for those that the daemon had no room for. Answers whether some are left. */
-static bool open_waiting(void) {
-    bool some = false;
-    for (unsigned i = 0; i < options.connections; i++) {
-        struct link *link = &links[i];
-        if (!link->used || !link->waits) continue;
-        go_on_or_end(link, try_again(link));
-        some = some || (link->used && link->waits);
-    }
-    return some;
+static void count_freed(void) {
+    uint64_t count = 0;
+    if (read(freed, &count, sizeof count) == (ssize_t)sizeof count) used -= (unsigned)count;
 }
 
 /* ---- The loop ---- */
 
-static int time_to_wait(bool some_wait) {
-    if (some_wait || (!is_listening && used < options.connections)) return PAUSE;
+static int time_to_wait(void) {
     if (next_deadline == INT64_MAX) return -1;
     int64_t left = next_deadline - milliseconds();
     return left < 0 ? 0 : left < 1000 ? (int)left + 1 : 1000;
 }
 
+/* Until a signal comes. Where all places are taken the next client waits. */
 static void run(void) {
-    struct epoll_event events[EVENTS_A_TURN];
-    bool some_wait = false;
+    bool lacks = false;
     for (;;) {
-        int count = epoll_wait(epoll, events, EVENTS_A_TURN, time_to_wait(some_wait));
-        bool has_clients = !is_listening;
-        for (int i = 0; i < count; i++) {
-            enum side side = events[i].data.u64 & 3;
-            if (side == SIGNALS) return;
-            if (side == LISTENER)
-                has_clients = true;
-            else
-                serve(&links[events[i].data.u64 >> 2], side, events[i].events);
-        }
-        some_wait = open_waiting();
+        bool may_accept = used < options.connections && !lacks;
+        struct pollfd waited[] = { { .fd = signals, .events = POLLIN },
+                                   { .fd = freed, .events = POLLIN },
+                                   { .fd = may_accept ? listener : -1, .events = POLLIN } };
+        poll(waited, 3, lacks ? PAUSE : time_to_wait());
+        if (waited[0].revents) return;
+        if (waited[1].revents) count_freed();
         end_silent(milliseconds());
-        set_listening(used < options.connections); /* where all places are taken the next client waits */
-        if (has_clients) accept_clients(); /* last: no event of this turn is then taken for a new client's */
+        lacks = !accept_clients();
     }
 }
 
 /* ---- The start ---- */
 
-static void watch_signals(void) {
-    sigset_t set;
-    struct epoll_event event = { .events = EPOLLIN, .data.u64 = SIGNALS };
+static void open_events(void) {
+    sigset_t set; /* of all threads, as they inherit it */
     sigemptyset(&set);
     sigaddset(&set, SIGTERM);
     sigaddset(&set, SIGINT);
     sigprocmask(SIG_BLOCK, &set, NULL);
     signal(SIGPIPE, SIG_IGN);
     signals = signalfd(-1, &set, SFD_CLOEXEC | SFD_NONBLOCK);
-    epoll = epoll_create1(EPOLL_CLOEXEC);
-    if (signals < 0 || epoll < 0 || epoll_ctl(epoll, EPOLL_CTL_ADD, signals, &event) < 0) fail("error: socket", NO_SOCKET);
+    freed = eventfd(0, EFD_CLOEXEC | EFD_NONBLOCK);
+    if (signals < 0 || freed < 0) fail("error: socket", NO_SOCKET);
 }
 
-/* Two for each client, and some more. */
-static void raise_descriptors(void) {
+/* Two for each place, and some more. Where so many aren't to be had there are fewer places: else clients could take all,
+ * and none would be left to reach the daemon. */
+static void fit_descriptors(void) {
     struct rlimit limit;
-    rlim_t wanted = 2 * options.connections + 32;
+    rlim_t wanted = 2 * options.connections + 32, taken = SPARE;
     if (getrlimit(RLIMIT_NOFILE, &limit) < 0 || limit.rlim_cur >= wanted) return;
     limit.rlim_cur = wanted < limit.rlim_max ? wanted : limit.rlim_max;
     setrlimit(RLIMIT_NOFILE, &limit);
+    getrlimit(RLIMIT_NOFILE, &limit);
+    for (int i = 0; (rlim_t)i < limit.rlim_cur; i++) taken += fcntl(i, F_GETFD) >= 0;
+    rlim_t places = limit.rlim_cur > taken + 2 ? (limit.rlim_cur - taken) / 2 : 1;
+    if (places < options.connections) options.connections = (unsigned)places;
 }
 
 /* Where one of the three is closed a client's socket would get its number, and what is told there. */
@@ -194,12 +154,12 @@ static void fill_standard_descriptors(void) {
 static void begin(void) {
     prctl(PR_SET_DUMPABLE, 0); /* no core files, and nobody of its uid looks into it */
     find_unknown_ids();
-    raise_descriptors();
-    watch_signals();
+    open_events();
+    fit_descriptors();
+    if (!make_links(links, options.connections)) fail("error: threads", NO_SOCKET);
     listener = options.listen_path ? open_listener(options.listen_path, options.mode) : take_passed_listener();
     if (listener < 0) fail("error: socket", NO_SOCKET);
     if (options.has_filter && !filter_system_calls()) fail("error: seccomp", NO_SOCKET);
-    set_listening(true);
     printf("listening %s\n", options.listen_path ? options.listen_path : "(passed)");
 }
 
@@ -212,7 +172,5 @@ int main(int count, char **words) {
     begin();
     run();
     if (options.listen_path) unlink(options.listen_path);
-    for (unsigned i = 0; i < options.connections; i++)
-        if (links[i].used) close_link(&links[i]);
     return 0;
 }

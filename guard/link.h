@@ -1,7 +1,11 @@
-/* link.h: a client and its connection to the daemon. */
+/* link.h: a place for a client, with its connection to the daemon. Two threads serve it, one for what is asked and one
+ * for what is answered. Each reads, has judged what it has read, gives it, and reads again: so while one side takes no
+ * more, nothing more is read for it. */
 #ifndef KEYRETAIN_GUARD_LINK_H
 #define KEYRETAIN_GUARD_LINK_H
 
+#include <pthread.h>
+#include <semaphore.h>
 #include <stdbool.h>
 #include <stddef.h>
 #include <stdint.h>
@@ -9,38 +13,34 @@
 
 #include "krs_screen.h"
 
-/* What goes one way. While the other side takes no more, nothing more is read. */
-struct flow {
-    uint8_t *left; /* read, judged and not yet taken */
-    size_t left_at, left_end;
-    size_t held; /* of the head that isn't whole */
-    bool ended;  /* its source has nothing more to say, or is heard no more */
-};
+enum { ROOM = 16384 }; /* so much is read at once */
 
 struct link {
-    bool used, is_trusted, waits; /* waits: for room in the daemon's queue of connections */
-    int client, server;
-    uint32_t client_events, server_events; /* that epoll(7) watches for */
+    pthread_mutex_t lock; /* of what comes next */
+    bool is_used;
+    bool is_ended; /* it was silent for too long */
+    int client, server; /* -1 before the first frame; the thread of the asks alone opens and closes them */
     struct ucred peer;
+    bool is_trusted;
     int64_t deadline; /* for the first HELLO */
-    struct flow asks, replies;
     struct screen screen;
-    uint8_t held_ask[SCREEN_ASK_MAX], held_reply[SCREEN_REPLY_MAX];
+    sem_t has_client, has_server, is_answered; /* what a thread waits for that has nothing to read */
+    uint8_t asks[SCREEN_ASK_MAX + ROOM], replies[SCREEN_REPLY_MAX + ROOM]; /* of one thread each */
 };
 
-/* Each of the next three answers whether the link goes on. */
+/* An eventfd(2) that counts the places that have become free: to be made first. */
+extern int freed;
 
-/* Events of epoll(7) at the client's socket, and at the daemon's. */
-bool serve_client(struct link *link, uint32_t events);
-bool serve_server(struct link *link, uint32_t events);
+/* Starts the two threads of each place, and waits until all have begun. False where the system allows so many not. */
+bool make_links(struct link *links, unsigned count);
 
-/* Tries again where the daemon had no room. */
-bool try_again(struct link *link);
+/* Gives a free place to this client. */
+void begin_link(struct link *link, int client, const struct ucred *peer, int64_t deadline);
 
-uint32_t client_events_of(const struct link *link);
-uint32_t server_events_of(const struct link *link);
+/* Whether a place is taken, and by whom. */
+bool find_owner(struct link *link, uint32_t *uid);
 
-/* Closes its sockets, and wipes it. */
-void close_link(struct link *link);
+/* Ends it where its first HELLO hasn't passed by now. Answers the moment at which that is to be looked at again. */
+int64_t end_if_silent(struct link *link, int64_t now);
 
 #endif

@@ -4,16 +4,21 @@
 
 #include <errno.h>
 #include <fcntl.h>
-#include <stdbool.h>
 #include <stdlib.h>
 #include <string.h>
 #include <sys/socket.h>
 #include <sys/stat.h>
 #include <unistd.h>
 
-#include "options.h"
-
 enum { FIRST_PASSED_DESCRIPTOR = 3 };
+
+bool put_address(struct sockaddr_un *address, const char *path) {
+    memset(address, 0, sizeof *address);
+    address->sun_family = AF_UNIX;
+    if (!*path || strlen(path) >= sizeof address->sun_path) return false;
+    strcpy(address->sun_path, path);
+    return true;
+}
 
 static bool has_option(int socket, int option, int wanted) {
     int value = 0;

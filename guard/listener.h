@@ -1,6 +1,12 @@
-/* listener.h: the public socket. */
+/* listener.h: a socket that listens at a path: the guard's, and that of keyretain-agent (clients/c). */
 #ifndef KEYRETAIN_GUARD_LISTENER_H
 #define KEYRETAIN_GUARD_LISTENER_H
+
+#include <stdbool.h>
+#include <sys/un.h>
+
+/* False where the path is too long, or empty. */
+bool put_address(struct sockaddr_un *address, const char *path);
 
 /* The socket that systemd has passed (sd_listen_fds(3)), or -1. */
 int take_passed_listener(void);

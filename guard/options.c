@@ -6,8 +6,9 @@
 #include <getopt.h>
 #include <stdio.h>
 #include <stdlib.h>
-#include <string.h>
 #include <sys/socket.h>
+
+#include "listener.h"
 
 #ifndef KEYRETAIN_VERSION
 #define KEYRETAIN_VERSION "unknown"
@@ -32,14 +33,6 @@ _Noreturn void fail_usage(void) {
 static _Noreturn void tell(const char *text) {
     fputs(text, stdout);
     exit(fflush(stdout) == 0 ? 0 : NO_SOCKET);
-}
-
-bool put_address(struct sockaddr_un *address, const char *path) {
-    memset(address, 0, sizeof *address);
-    address->sun_family = AF_UNIX;
-    if (!*path || strlen(path) >= sizeof address->sun_path) return false;
-    strcpy(address->sun_path, path);
-    return true;
 }
 
 static unsigned number(const char *text, int base, unsigned long least, unsigned long most) {

@@ -29,8 +29,6 @@ _Noreturn void fail(const char *why, enum status status);
 
 _Noreturn void fail_usage(void);
 
-bool put_address(struct sockaddr_un *address, const char *path);
-
 void read_options(int count, char **words);
 
 bool is_trusted_uid(uint32_t uid);

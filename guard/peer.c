@@ -3,6 +3,7 @@
 #include "peer.h"
 
 #include <poll.h>
+#include <pthread.h>
 #include <stdio.h>
 #include <string.h>
 #include <time.h>
@@ -15,6 +16,8 @@ enum {
 };
 
 uint32_t unknown_uid = UINT32_MAX, unknown_gid = UINT32_MAX;
+
+static pthread_mutex_t groups_lock = PTHREAD_MUTEX_INITIALIZER, tell_lock = PTHREAD_MUTEX_INITIALIZER;
 
 static_assert(sizeof(gid_t) == sizeof(uint32_t), "gid_t");
 
@@ -40,13 +43,16 @@ bool find_peer(int client, struct ucred *peer) {
     return getsockopt(client, SOL_SOCKET, SO_PEERCRED, peer, &length) == 0 && length == sizeof *peer;
 }
 
-const uint32_t *groups_of(int client, size_t *count) {
+const uint32_t *borrow_groups(int client, size_t *count) {
     static uint32_t groups[GROUPS_MAX];
     socklen_t size = sizeof groups;
+    pthread_mutex_lock(&groups_lock);
     bool are_known = getsockopt(client, SOL_SOCKET, SO_PEERGROUPS, groups, &size) == 0;
     *count = are_known ? size / sizeof *groups : 0;
     return groups;
 }
+
+void return_groups(void) { pthread_mutex_unlock(&groups_lock); }
 
 int64_t milliseconds(void) {
     struct timespec time;
@@ -54,21 +60,32 @@ int64_t milliseconds(void) {
     return time.tv_sec * 1000 + time.tv_nsec / 1000000;
 }
 
-void tell(const char *line) {
+static void write_line(const char *line) {
     struct pollfd error = { .fd = STDERR_FILENO, .events = POLLOUT };
     /* a pipe that takes something takes a short line */
     if (poll(&error, 1, 0) == 1 && (error.revents & POLLOUT) && write(STDERR_FILENO, line, strlen(line)) < 0) return;
 }
 
-void tell_refusal(const struct ucred *peer, const struct screen_claim *claim) {
+void tell(const char *line) {
+    pthread_mutex_lock(&tell_lock);
+    write_line(line);
+    pthread_mutex_unlock(&tell_lock);
+}
+
+static bool may_tell(void) {
     static int64_t second;
     static unsigned told;
-    char line[160];
     int64_t now = milliseconds() / 1000;
     if (now != second) told = 0;
     second = now;
-    if (told++ >= LINES_A_SECOND) return;
+    return told++ < LINES_A_SECOND;
+}
+
+void tell_refusal(const struct ucred *peer, const struct screen_claim *claim) {
+    char line[160];
     snprintf(line, sizeof line, "refused: uid %u, gid %u (pid %d) named uid %u, gid %u, %u groups\n", peer->uid, peer->gid,
              peer->pid, claim->uid, claim->gid, claim->count);
-    tell(line);
+    pthread_mutex_lock(&tell_lock);
+    if (may_tell()) write_line(line);
+    pthread_mutex_unlock(&tell_lock);
 }

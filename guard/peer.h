@@ -18,9 +18,10 @@ void find_unknown_ids(void);
 /* False where the kernel doesn't say. */
 bool find_peer(int client, struct ucred *peer);
 
-/* The supplementary groups that the peer had when it connected; none where the kernel doesn't say. They stay until the
- * next call. */
-const uint32_t *groups_of(int client, size_t *count);
+/* The supplementary groups that the peer had when it connected; none where the kernel doesn't say. They stay until they
+ * are given back, and meanwhile no other thread gets any. */
+const uint32_t *borrow_groups(int client, size_t *count);
+void return_groups(void);
 
 int64_t milliseconds(void);
 

@@ -700,6 +700,79 @@ def try_limit_of_one():
     run.end()
 
 
+def churn(run, who, seconds, chance):
+    """Connects, greets and closes again, beside others that do so; how often it was served."""
+    served, end = 0, time.monotonic() + seconds
+    while time.monotonic() < end:
+        try:
+            made = run.many(chance.randrange(1, 7), *who)
+        except OSError:
+            continue
+        for client in chance.sample(made, len(made)):
+            served += client.status(hello(os.geteuid() if not ROOT else who[0], os.getegid() if not ROOT else who[1])) == 0
+            client.close()
+    return served
+
+
+def try_limit_after_churn():
+    """Connections come and go on all places at once: none is lost by the count, and none is had beyond it."""
+    who, uid, gid = identity()
+    run = Running('--per-uid', '4', '--connections', '12')
+    children, before = [], descriptors(run)
+    for seed in range(4):
+        child = os.fork()
+        if child == 0:
+            other = (USER_A + 100 + seed, USER_A, []) if ROOT and seed > 1 else who
+            os._exit(0 if churn(run, other, 3, random.Random(seed)) else 1)
+        children.append(child)
+    check('all were served meanwhile', [os.waitpid(child, 0)[1] for child in children], [0] * 4)
+    def served():
+        made = run.many(10, *who)
+        statuses = [client.status(hello(uid, gid)) for client in made]
+        for client in made:
+            client.close()
+        return statuses.count(0)
+
+    check_soon('4 of 10, afterwards', served, 4)  # once the daemon has let go of the others
+    check_soon('descriptors, afterwards', lambda: descriptors(run), before)
+    for _ in range(4 if ROOT else 0):
+        others = [client for n in range(3) for client in run.many(4, USER_B + n, USER_B, [])]
+        check('all 12 places', [client.status(hello(USER_B + n // 4, USER_B)) for n, client in enumerate(others)], [0] * 12)
+        os.kill(run.guard.pid, signal.SIGSTOP)  # so that it sees all ends at once
+        for client in others:
+            client.close()
+        os.kill(run.guard.pid, signal.SIGCONT)
+        check_soon('descriptors', lambda: descriptors(run), before)
+    run.end()
+
+
+def try_sigterm_when_busy():
+    """It ends at once whatever its clients do: who is silent, who asks, who takes no replies."""
+    who, uid, gid = identity()
+    run = Running('--per-uid', '64')
+    made = run.many(30, *who)
+    for n, client in enumerate(made):
+        if n % 3:
+            context = client.context(uid, gid)
+            serial = struct.unpack('<I', client.ask(add(context, b'k%d' % n, b'z' * 30000))[1])[0]
+            client.sock.setblocking(False)
+            try:
+                while n % 3 == 2:
+                    client.sock.send(read_key(context, serial) * 100)
+                client.sock.send(read_key(context, serial))
+            except BlockingIOError:
+                pass
+    check('SIGTERM', run.end(), 0)
+    check('the path is gone', os.path.exists(run.public), False)
+    for client in made:
+        client.sock.settimeout(PATIENCE)
+    def is_over(client):
+        while not isinstance(client.reply(), str):
+            pass
+        return True
+    check('and all have ended', all(map(is_over, made)), True)
+
+
 def try_limit_of_all():
     """All connections, of many uids."""
     if not ROOT:
@@ -739,6 +812,64 @@ def try_silence():
     check_soon('after its time', lambda: [is_alive(c) for c in (silent, greeted, slow, refused)],
                [False, True, False, False])
     check('the greeted one', greeted.status(hello(uid, gid)), 0)
+    run.end()
+
+
+def flood(client):
+    """Asks on, without a HELLO that passes, and takes no replies. Whether it was ended."""
+    client.sock.setblocking(False)
+    end, sent = time.monotonic() + PATIENCE, 0
+    while sent < 4 << 20 and time.monotonic() < end:
+        try:
+            sent += client.sock.send(hello(NOBODY, 0) * 100)
+        except BlockingIOError:
+            time.sleep(0.05)
+        except OSError:
+            return True
+    return False
+
+
+def try_deaf():
+    """Who greets nobody, asks on and takes no replies is ended as the silent are, though the daemon waits for it, or it
+    for the daemon."""
+    who, uid, gid = identity()
+    run = Running('--hello-seconds', '4')
+    deaf = run.one(*who)
+    check('a deaf one is ended', flood(deaf), True)
+    check('and lets others in', run.one(*who).status(hello(uid, gid)), 0)
+    deaf.close()
+    check_soon('its place is free', lambda: descriptors(run) < 12, True)
+    run.daemon.send_signal(signal.SIGSTOP)
+    waiting = run.one(*who)
+    check('one that a stopped daemon keeps is ended', flood(waiting), True)
+    check_soon('its place is free, too', lambda: descriptors(run) < 12, True)
+    run.daemon.send_signal(signal.SIGCONT)
+    check('and then the next is served', run.one(*who).status(hello(uid, gid)), 0)
+    run.end()
+
+
+def try_busy_daemon():
+    """A daemon whose queue of connections is full: clients wait for it, and waiting costs nothing."""
+    who, uid, gid = identity()
+    run = Running(daemon=False)
+    listener = socket.socket(socket.AF_UNIX)
+    listener.bind(run.private)
+    listener.listen(0)
+    clients = [run.one(*who) for _ in range(3)]
+    for client in clients:
+        client.send(hello(uid, gid))
+    cpu = ticks(run)
+    time.sleep(1)
+    check('waiting costs little', ticks(run) - cpu <= 5, True)
+    for _ in clients:
+        end, _ = listener.accept()
+        end.settimeout(PATIENCE)
+        check('what comes when there is room', end.recv(4096), hello(uid, gid))
+        end.sendall(struct.pack('<III', 8, 0, 1))
+        end.shutdown(socket.SHUT_WR)
+    check('all are answered', [client.reply() for client in clients], [(0, b'\1\0\0\0')] * 3)
+    check('and all are ended', [client.reply() for client in clients], ['end'] * 3)
+    listener.close()
     run.end()
 
 
@@ -811,7 +942,11 @@ def try_confined():
     if not IS_SANITIZED:
         check('a filter of system calls', re.search(r'^Seccomp:\s+(\d)', status, re.M).group(1), '2')
         check('no new privileges', re.search(r'^NoNewPrivs:\s+(\d)', status, re.M).group(1), '1')
-    check('one thread', re.search(r'^Threads:\s+(\d+)', status, re.M).group(1), '1')
+        check('two threads for each place', re.search(r'^Threads:\s+(\d+)', status, re.M).group(1), str(1 + 2 * 64))
+    for thread in os.listdir(f'/proc/{run.guard.pid}/task'):
+        status = open(f'/proc/{run.guard.pid}/task/{thread}/status').read()
+        if not IS_SANITIZED and not re.search(r'^Seccomp:\s+2$', status, re.M):
+            check('a filter of system calls for each thread', 'none', 'one')
     if ROOT:
         skipped('who may look into it: root may')
     else:
@@ -855,6 +990,17 @@ def try_paths():
     check('it is left there', os.path.exists(run.public), True)
 
 
+def try_few_threads():
+    """Memory for less than its threads: it says so, and listens nowhere."""
+    if IS_SANITIZED:
+        return skipped('few threads: a sanitizer has memory of its own')
+    words = [GUARD, '--listen', f'{TMP}/few', '--daemon', f'{TMP}/none', '--connections', '256']
+    ended = subprocess.run(words, capture_output=True, timeout=PATIENCE, preexec_fn=lambda:
+                           resource.setrlimit(resource.RLIMIT_AS, (64 << 20, 64 << 20)))
+    check('few threads', (ended.returncode, ended.stdout), (3, b'error: threads\n'))
+    check('few threads: no path', os.path.exists(f'{TMP}/few'), False)
+
+
 def try_usage():
     both = ('--daemon', 'x', '--listen', 'y')
     for words in ((), ('--listen', 'x'), ('--daemon', 'x'), (*both, '--connections', '257'), (*both, 'z'),
@@ -887,6 +1033,9 @@ def try_outputs():
         client = run.one(*who)
         check(f'output {name}', client.status(hello(uid + 1, gid)), EPERM)
         check(f'output {name}: own', client.status(hello(uid, gid)), 0)
+        if ROOT and not name:
+            check('closed outputs are no sockets', [os.readlink(f'/proc/{run.guard.pid}/fd/{n}') for n in (1, 2)],
+                  ['/dev/null'] * 2)
         check(f'output {name}: end', run.end(), 0)
 
 
@@ -917,6 +1066,26 @@ def try_passed_socket():
     os.kill(child, signal.SIGTERM)
     check('ends', os.waitpid(child, 0)[1], 0)
     check('and leaves the path, which is not its own', os.path.exists(path), True)
+    run.end()
+
+
+def try_killed():
+    """It is killed in the midst, and begun again on the same socket, as systemd does: nobody's places are lost."""
+    who, uid, gid = identity()
+    run = Running()
+    path = f'{TMP}/killed'
+    listening = socket.socket(socket.AF_UNIX)
+    listening.bind(path)
+    os.chmod(path, 0o666)
+    listening.listen(64)
+    for _ in range(3):
+        child = passed_to_guard(listening, '--daemon', run.private, '--per-uid', '4')
+        made = connect_as(path, *who, count=6)
+        check_soon('4 of 6', lambda: alive(made), 4)
+        check('one is served', made[0].status(hello(uid, gid)), 0)
+        os.kill(child, signal.SIGKILL)
+        os.waitpid(child, 0)
+        check('all have ended', {client.reply() for client in made}, {'end'})
     run.end()
 
 

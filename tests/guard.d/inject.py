@@ -17,10 +17,11 @@ import time
 
 GUARD, DAEMON = sys.argv[1:3]
 FAULTS = [*(f"accept4:error={error}:when=1..3" for error in ("EAGAIN", "ENOMEM", "EMFILE", "ENFILE", "ECONNABORTED", "ENOBUFS")),
-          "connect:error=EAGAIN:when=1..3", "socket:error=EMFILE:when=2..3",
+          "connect:error=EAGAIN:when=1..3", "connect:error=ENOMEM:when=1..2",
           *(f"recvfrom:error={error}:when=2+3" for error in ("EINTR", "EAGAIN", "ENOBUFS")),
           *(f"sendto:error={error}:when=1..3" for error in ("EAGAIN", "EINTR", "ENOBUFS")),
-          "getsockopt:error=ENOPROTOOPT:when=2..3", "epoll_wait:error=EINTR:when=2..4"]
+          "getsockopt:error=ENOPROTOOPT:when=2..3", "poll:error=EINTR:when=1..3",
+          "fcntl:error=ENOMEM:when=1"]
 passed = failed = 0
 folder = tempfile.mkdtemp(prefix="keyretain.", dir="/tmp")
 
