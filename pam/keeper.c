@@ -1,0 +1,298 @@
+/* keeper.c: a keeper is executed, and never merely forked: a copy of the application's memory, with its host keys and
+ * passwords, would run as the user. Between fork and execve(2) there is such a copy. It calls nothing but the system,
+ * as other threads of the application may hold the C library's locks; and as its ids have changed, the kernel lets
+ * nobody but root look at it. */
+#define _GNU_SOURCE
+#include "keeper.h"
+
+#include <errno.h>
+#include <fcntl.h>
+#include <grp.h>
+#include <poll.h>
+#include <signal.h>
+#include <stdio.h>
+#include <stdlib.h>
+#include <string.h>
+#include <sys/stat.h>
+#include <sys/syscall.h>
+#include <sys/wait.h>
+#include <time.h>
+#include <unistd.h>
+
+#ifndef KEYRETAIN_KEEPER
+#define KEYRETAIN_KEEPER "/usr/local/libexec/keyretain/keyretain-keeper"
+#endif
+
+/* How long a login waits for its session, and a logout for its end. Tests on a busy machine are built with more. */
+#ifndef START_MILLISECONDS
+#define START_MILLISECONDS 2000
+#endif
+#ifndef END_MILLISECONDS
+#define END_MILLISECONDS 1000
+#endif
+
+/* The keeper gives up before the module does, so that it can say why. */
+enum { KEEPER_MILLISECONDS = START_MILLISECONDS - 200, SOCKET_MAX = 107, DIGITS = 12 };
+enum { READING = 0, WRITING = 1, FIRST_FREE = STDERR_FILENO + 1 };
+
+const struct keeper no_keeper = { { -1, 0, 0 }, { -1, 0, 0 } };
+
+static int64_t now(void) {
+    struct timespec moment;
+    clock_gettime(CLOCK_MONOTONIC, &moment);
+    return (int64_t)moment.tv_sec * 1000 + moment.tv_nsec / 1000000;
+}
+
+/* ---- Descriptors ---- */
+
+/* What a keeper is given, and what is kept: two pipes and /dev/null. */
+struct descriptors {
+    int life[2], answers[2], nothing;
+};
+
+static void close_one(int *descriptor) {
+    int error = errno;
+    if (*descriptor >= 0) close(*descriptor);
+    *descriptor = -1;
+    errno = error;
+}
+
+static void close_all(struct descriptors *all) {
+    for (int i = READING; i <= WRITING; i++) {
+        close_one(&all->life[i]);
+        close_one(&all->answers[i]);
+    }
+    close_one(&all->nothing);
+}
+
+/* Above those that programs read from and write to: an application without these would write into a pipe. */
+static int move_up(int low) {
+    int moved = low < 0 ? -1 : fcntl(low, F_DUPFD_CLOEXEC, FIRST_FREE);
+    close_one(&low);
+    return moved;
+}
+
+static int open_pipe(int ends[2]) {
+    int low[2];
+    if (pipe2(low, O_CLOEXEC) < 0) return -1;
+    for (int i = READING; i <= WRITING; i++) ends[i] = move_up(low[i]);
+    return ends[READING] < 0 || ends[WRITING] < 0 ? -1 : 0;
+}
+
+/* Who runs as the user could fill the pipe on which a keeper waits: no end of a session waits for that. */
+static int open_descriptors(struct descriptors *all) {
+    *all = (struct descriptors){ { -1, -1 }, { -1, -1 }, -1 };
+    if (open_pipe(all->life) < 0 || open_pipe(all->answers) < 0) return -1;
+    all->nothing = move_up(open("/dev/null", O_RDWR | O_CLOEXEC));
+    return all->nothing < 0 ? -1 : fcntl(all->life[WRITING], F_SETFL, O_NONBLOCK);
+}
+
+/* Takes a descriptor over. */
+static struct end end_of(int *descriptor) {
+    struct stat status;
+    struct end end = { -1, 0, 0 };
+    if (fstat(*descriptor, &status) == 0) end = (struct end){ *descriptor, status.st_dev, status.st_ino };
+    if (end.descriptor >= 0) *descriptor = -1;
+    return end;
+}
+
+static bool is_there(const struct end *end) {
+    struct stat status;
+    return end->descriptor >= 0 && fstat(end->descriptor, &status) == 0 && status.st_dev == end->device &&
+           status.st_ino == end->inode;
+}
+
+static void let_go(struct end *end) {
+    if (is_there(end)) close(end->descriptor);
+    end->descriptor = -1;
+}
+
+bool has_keeper(const struct keeper *keeper) { return is_there(&keeper->life) && is_there(&keeper->answers); }
+
+void let_go_of_keeper(struct keeper *keeper) {
+    let_go(&keeper->life);
+    let_go(&keeper->answers);
+}
+
+/* ---- Starting ---- */
+
+/* What is known before there is another process. */
+struct launch {
+    struct descriptors all;
+    bool sets_groups;
+    uid_t uid;
+    gid_t gid, *groups;
+    int count;
+    char *words[6], patience[DIGITS];
+};
+
+/* Root takes the user's ids and groups. Anybody else must be the user, and a program that runs set-gid lets that go. */
+static int find_ids(struct launch *launch, const struct passwd *user) {
+    launch->sets_groups = geteuid() == 0;
+    launch->uid = user->pw_uid;
+    launch->gid = launch->sets_groups ? user->pw_gid : getgid();
+    if (!launch->sets_groups && (geteuid() != user->pw_uid || getuid() != user->pw_uid)) {
+        errno = EPERM;
+        return -1;
+    }
+    getgrouplist(user->pw_name, user->pw_gid, NULL, &launch->count);
+    launch->groups = calloc(launch->count > 0 ? (size_t)launch->count : 1, sizeof *launch->groups);
+    if (!launch->groups) return -1;
+    if (getgrouplist(user->pw_name, user->pw_gid, launch->groups, &launch->count) >= 0) return 0;
+    errno = EAGAIN; /* there are more of them now */
+    return -1;
+}
+
+/* The C library would have the other threads do so too, which aren't in this process. */
+static bool take_ids(const struct launch *launch) {
+    const uid_t uid = launch->uid;
+    const gid_t gid = launch->gid;
+    return (!launch->sets_groups || syscall(SYS_setgroups, (long)launch->count, launch->groups) == 0) &&
+           syscall(SYS_setresgid, gid, gid, gid) == 0 && syscall(SYS_setresuid, uid, uid, uid) == 0;
+}
+
+/* All as at first, and none held back. */
+static void reset_signals(void) {
+    const struct sigaction standard = { .sa_handler = SIG_DFL };
+    sigset_t none;
+    for (int number = 1; number < NSIG; number++) sigaction(number, &standard, NULL);
+    sigemptyset(&none);
+    sigprocmask(SIG_SETMASK, &none, NULL);
+}
+
+_Noreturn static void become_keeper(const struct launch *launch) {
+    static char *environment[] = { NULL };
+    const struct descriptors *all = &launch->all;
+    bool is_ready = dup2(all->life[READING], STDIN_FILENO) >= 0 && dup2(all->answers[WRITING], STDOUT_FILENO) >= 0 &&
+                    dup2(all->nothing, STDERR_FILENO) >= 0 && close_range(FIRST_FREE, ~0U, 0) == 0 &&
+                    chdir("/") == 0 && take_ids(launch);
+    reset_signals();
+    if (is_ready) execve(KEYRETAIN_KEEPER, launch->words, environment);
+    _exit(1);
+}
+
+/* fork(2) without what the C library does beside it. That the process ends is told by no signal, so that no handler of
+ * the application sees it. */
+static pid_t split(void) { return (pid_t)syscall(SYS_clone, 0L, 0L, 0L, 0L, 0L); }
+
+/* The process between doesn't run as the user, who so can't stop it, and it ends at once: nothing waits for long. All
+ * signals are held back, so that no handler of the application runs in either. */
+static int split_twice(const struct launch *launch) {
+    sigset_t all, theirs;
+    sigfillset(&all);
+    pthread_sigmask(SIG_SETMASK, &all, &theirs);
+    pid_t between = split();
+    if (between == 0) {
+        pid_t last = split();
+        if (last == 0) become_keeper(launch);
+        _exit(last < 0);
+    }
+    int error = errno;
+    while (between > 0 && waitpid(between, NULL, __WALL) < 0 && errno == EINTR) continue;
+    pthread_sigmask(SIG_SETMASK, &theirs, NULL);
+    errno = error;
+    return between < 0 ? -1 : 0;
+}
+
+/* ---- Its answer ---- */
+
+/* Reads two lines, or what comes until the end of the file, by the deadline. */
+static int read_lines(int from, char text[ANSWER_ROOM], int64_t deadline) {
+    size_t got = 0;
+    while (got < ANSWER_ROOM - 1) {
+        int64_t left = deadline - now();
+        struct pollfd wait = { .fd = from, .events = POLLIN };
+        int ready = poll(&wait, 1, left > 0 ? (int)left : 0);
+        if (ready == 0) errno = ETIMEDOUT;
+        if (ready == 0 || (ready < 0 && errno != EINTR)) return -1;
+        if (ready < 0) continue;
+        ssize_t more = read(from, text + got, ANSWER_ROOM - 1 - got);
+        if (more < 0 && errno == EINTR) continue;
+        if (more <= 0) return (int)more;
+        text[got += (size_t)more] = '\0';
+        const char *line = strchr(text, '\n');
+        if (line && strchr(line + 1, '\n')) return 0;
+    }
+    return 0;
+}
+
+static bool is_printable(const char *text) {
+    for (; *text; text++)
+        if (*text < ' ' || *text > '~') return false;
+    return true;
+}
+
+/* SERIAL:NAME */
+static bool is_session(const char *text) {
+    size_t digits = strspn(text, "0123456789");
+    return *text != '0' && digits > 0 && digits <= 10 && text[digits] == ':' && text[digits + 1] &&
+           is_printable(text);
+}
+
+static bool is_path(const char *text) { return *text == '/' && strlen(text) <= SOCKET_MAX && is_printable(text); }
+
+/* A session and a path, or one line that says why there is none. */
+static void take_apart(struct answer *answer) {
+    char *session = answer->text, *socket = strchr(session, '\n'), *end = NULL;
+    if (socket) *socket++ = '\0';
+    if (socket) end = strchr(socket, '\n');
+    if (end) *end = '\0';
+    if (end && is_session(session) && is_path(socket)) {
+        answer->session = session;
+        answer->socket = socket;
+    }
+    if (!*session || !is_printable(session)) strcpy(session, KEYRETAIN_KEEPER " said nothing of use");
+}
+
+/* -1 with errno where it isn't executed or says nothing in time. */
+static int launch_keeper(struct launch *launch, const struct passwd *user, char text[ANSWER_ROOM]) {
+    int64_t deadline = now() + START_MILLISECONDS;
+    if (open_descriptors(&launch->all) < 0 || find_ids(launch, user) < 0 || split_twice(launch) < 0) return -1;
+    close_one(&launch->all.answers[WRITING]);
+    return read_lines(launch->all.answers[READING], text, deadline);
+}
+
+void start_keeper(struct keeper *keeper, const struct passwd *user, const char *socket, struct answer *answer) {
+    struct launch launch = { .words = { "keyretain-keeper", "--patience", launch.patience,
+                                        socket ? "--socket" : NULL, (char *)socket, NULL } };
+    *keeper = no_keeper;
+    *answer = (struct answer){ .text = "" };
+    snprintf(launch.patience, DIGITS, "%d", KEEPER_MILLISECONDS);
+    if (launch_keeper(&launch, user, answer->text) < 0)
+        snprintf(answer->text, ANSWER_ROOM, "%s: %s", KEYRETAIN_KEEPER, strerror(errno));
+    else
+        take_apart(answer);
+    if (answer->session) {
+        keeper->life = end_of(&launch.all.life[WRITING]);
+        keeper->answers = end_of(&launch.all.answers[READING]);
+    }
+    close_all(&launch.all);
+    free(launch.groups);
+}
+
+/* ---- Ending ---- */
+
+/* It may be gone: then SIGPIPE, which would end the application, is taken away again, unless it was there before. */
+static void tell(int life, char word) {
+    const struct timespec at_once = { 0, 0 };
+    sigset_t broken, theirs, pending;
+    sigemptyset(&broken);
+    sigaddset(&broken, SIGPIPE);
+    sigpending(&pending);
+    pthread_sigmask(SIG_BLOCK, &broken, &theirs);
+    if (write(life, &word, 1) < 0 && errno == EPIPE && !sigismember(&pending, SIGPIPE))
+        sigtimedwait(&broken, NULL, &at_once);
+    pthread_sigmask(SIG_SETMASK, &theirs, NULL);
+}
+
+static void wait_for_end(int answers) {
+    int64_t deadline = now() + END_MILLISECONDS, left;
+    struct pollfd wait = { .fd = answers };
+    while ((left = deadline - now()) > 0 && poll(&wait, 1, (int)left) < 0 && errno == EINTR) continue;
+}
+
+void end_keeper(const struct keeper *keeper, enum ending how) {
+    if (!has_keeper(keeper)) return;
+    tell(keeper->life.descriptor, how == ENDS_REVOKED ? 'r' : 'e');
+    wait_for_end(keeper->answers.descriptor);
+}
