@@ -14,8 +14,8 @@ PYTHON = python3
 
 PROGRAMS = keyretain keyretaind
 
-.PHONY: build run clients guard test wrong-bodies fuzz check-man check-keyutils install uninstall bench bench-instructions \
-  measure
+.PHONY: build help run clients guard pam test wrong-bodies fuzz check-man check-keyutils install uninstall deb dist \
+  bench bench-instructions measure
 
 # Proves and builds the programs and the rule of the guard, crate by crate, as many side by side as there are processors,
 # and says how long the rest takes. It may be ended at any time, and then goes on where it was.
@@ -23,6 +23,11 @@ build:
 	@tools/check-toolchain
 	@sum=$$(tools/proved --sum) && tools/build $(PROGRAMS) krs_screen_c && tools/proved --put "$$sum"
 	@echo 'proved and built: $(PROGRAMS:%=bin/%)'
+
+# Prints what each target does.
+help:
+	@awk '/^# / { said = said (said == "" ? "" : " ") substr($$0, 3) } /^[a-z-]+:/ { target = $$1; sub(/:.*/, "", target); \
+	  sub(/[.] .*/, ".", said); if (said != "") printf "%-20s %s\n", target, said } !/^#/ { said = "" }' Makefile
 
 # Shows a daemon at work at once: starts one, adds a key through it, and reads it back. It takes the proved programs
 # where bin/ has them, and else compiles the sources with no proof, in bin/unproved, and says so.
@@ -40,6 +45,10 @@ guard:
 	$(MAKE) -C guard
 	mkdir -p bin
 	install -m 755 guard/build/keyretain-guard bin/
+
+# Builds the PAM module, which makes a session for each login. Wants a C compiler and the headers of PAM (libpam0g-dev).
+pam:
+	$(MAKE) -C pam PREFIX="$(PREFIX)"
 
 # Proves everything from nothing, runs the tests, has each wrong body refused by itself, runs the tests of memory with
 # each allocation refused in turn, tries the programs that were built so and the clients over real sockets, renders the
@@ -62,12 +71,13 @@ fuzz:
 check-man:
 	tests/man-pages
 
-# Runs the tests of keyutils, whose unpacked source is in SUITE, with the system's keyctl(1) on keyretaind.
+# Runs the tests of keyutils, whose unpacked source is in SUITE, with the system's keyctl(1) on keyretaind; with
+# SYSCALLS=1 under keyretain-session --syscalls.
 check-keyutils: build
 	tests/keyutils-suite $(SUITE)
 
 # Puts what `make build` made, the man pages, the systemd units, the bash completion, the Python client, and what `make
-# clients` and `make guard` made if they were run, in their folders.
+# clients`, `make guard` and `make pam` made if they were run, in their folders.
 install:
 	@cd bin 2>/dev/null && sha256sum --status -c proved 2>/dev/null || \
 	  { echo 'run make build first: what it proved is installed, and nothing else' >&2; exit 1; }
@@ -96,12 +106,28 @@ install:
 	  else echo 'the guard is not installed: make guard builds it'; fi
 	@if [ -d clients/c/build ]; then $(MAKE) -C clients/c install PREFIX="$(PREFIX)" DESTDIR="$(DESTDIR)"; \
 	  else echo 'the C clients are not installed: make clients builds them'; fi
+	@if [ -e pam/build/pam_keyretain.so ]; then $(MAKE) -C pam install PREFIX="$(PREFIX)" DESTDIR="$(DESTDIR)"; \
+	  else echo 'the PAM module is not installed: make pam builds it'; fi
 	@if $(PYTHON) -c 1 2>/dev/null; then $(MAKE) -C clients/python install PREFIX="$(PREFIX)" DESTDIR="$(DESTDIR)" \
 	  PYTHON="$(PYTHON)"; else echo 'the Python client is not installed: no $(PYTHON)'; fi
+
+# Packages for Debian 12, in the folder packages/, of the programs that `make build` proved. Wants debhelper, dh-python and
+# libpam0g-dev.
+deb:
+	@debian/make-packages packages
+
+# The sources as a tar file, and its sum: the same bytes whenever they are made of one commit.
+dist:
+	@mkdir -p packages
+	@version=$$(sed -n 's/^pub const VERSION: &str = "\(.*\)";$$/\1/p' crates/krs_words/src/version.rt) && \
+	  name=keyretain-$$version && cd packages && \
+	  git -C .. archive --format=tar --prefix="$$name/" HEAD | gzip -n -9 >"$$name.tar.gz" && \
+	  sha256sum "$$name.tar.gz" | tee "$$name.tar.gz.sha256"
 
 uninstall:
 	$(MAKE) -C clients/c uninstall PREFIX="$(PREFIX)" DESTDIR="$(DESTDIR)"
 	$(MAKE) -C guard uninstall PREFIX="$(PREFIX)" DESTDIR="$(DESTDIR)"
+	$(MAKE) -C pam uninstall PREFIX="$(PREFIX)" DESTDIR="$(DESTDIR)"
 	rm -f "$(DESTDIR)$(UNITDIR)/keyretaind@.service" "$(DESTDIR)$(DATADIR)/user-quota.conf"
 	$(MAKE) -C clients/python uninstall PREFIX="$(PREFIX)" DESTDIR="$(DESTDIR)" PYTHON="$(PYTHON)"
 	rm -f "$(DESTDIR)$(USERUNITDIR)/keyretaind.service"

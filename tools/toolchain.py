@@ -1,4 +1,18 @@
-"""The toolchain's command rt as a Python module, for the tools beside this file."""
+"""The toolchain's command rt as a Python module, with two of its parts replaced at run time, for the tools beside this file.
+
+- `rtlib.Crate.stamp`: each crate is summed up once a question. Some versions sum a library up once for each way down to
+  it, which are thousands for the daemon.
+- `Crate.build_rlib` and `checked`, for `rt ci` alone: the edit of a crate's must-fail/ is tried over what the proof of the
+  crate left, and from nothing only where it isn't refused so.
+
+Needed of the toolchain: rt is a file of Python with `main`, `Crate` and `checked(crate, texts, flags, kept)`; a crate has
+`stamp`, `build_rlib`, `folder`, `rlib` and `cuts_libraries`; an rlib has `format`, `toolchain/checked.json` and
+`toolchain/checked.a`. Where one of these isn't there, `load` raises Unknown, or a check begins at nothing: plain rt then
+does the same, and the tools say so in one line.
+
+This file can go once rt itself sums each crate up once, and tries edits over proofs. Until then whoever takes a new
+toolchain compares one run of plain `rt ci` with the gate's.
+"""
 import importlib.machinery
 import importlib.util
 import json

@@ -1,10 +1,8 @@
-# Bytes that keyretain can't send, and servers that keyretaind can't be: by perl or python3, where one of them is there.
+# Bytes that keyretain can't send, and servers that keyretaind can't be: by python3, where that is there.
 # shellcheck shell=bash disable=SC2034,SC2154
 
 sender=()
-if perl -MSocket -e 1 2>/dev/null; then
-  sender=(perl "$top/tests/service.d/peer.pl")
-elif python3 -c 1 2>/dev/null; then
+if python3 -c 1 2>/dev/null; then
   sender=(python3 "$top/tests/service.d/peer.py")
 fi
 

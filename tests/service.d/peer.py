@@ -1,4 +1,7 @@
-"""The same as peer.pl, where perl is not there."""
+"""peer.py send PATH WAY HEX: sends bytes to a server and prints what comes back, in hexadecimal. WAY is whole; bytes,
+one a write; open, which does not end its side; dies, which reads nothing; flood, which sends the bytes again and again
+while they are taken, and reads nothing.
+peer.py answer PATH HEX: a server of one connection, which answers the first bytes that come with these, and ends."""
 import select
 import signal
 import socket

@@ -19,6 +19,17 @@ is() {
 
 skipped() { printf 'skipped: %s\n' "$1"; }
 
+# has_none NAME COMMAND ..: the last line says that nothing failed or differs
+has_none() {
+  local name=$1 text
+  shift
+  text=$(timeout 600 "$@" 2>&1 </dev/null)
+  case ${text##*$'\n'} in
+    *' passed, 0 failed' | *' compared, 0 different') is "$name" none none && grep '^skipped: ' <<<"$text" ;;
+    *) printf '%s\n' "$text" | head -n 40 && is "$name" none "${text##*$'\n'}" ;;
+  esac
+}
+
 conclude() {
   printf 'service: %d passed, %d failed\n' "$passed" "$failed"
   [ "$failed" = 0 ]

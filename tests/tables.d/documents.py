@@ -1,0 +1,158 @@
+"""What the pages, the completion and the bench say of asks and commands, each read into the form of the rows."""
+import os
+import re
+import subprocess
+
+from rows import TOP, text_of
+
+FORMAT = text_of("docs/FORMAT.md")
+PROTOCOL = text_of("man/keyretain-protocol.7")
+# What the definitions call an answer, by FORMAT.md's word; clients tell serials from other numbers.
+ANSWERS = {"serial": "number", "context": "number", "queue": "number", "bytes": "bytes", "nothing": "nothing"}
+
+
+def section(heading):
+    """The text of FORMAT.md from a heading to the next one of its rank or above."""
+    rank = heading.split(" ")[0]
+    start = FORMAT.index(f"\n{heading}") + 1
+    end = re.compile(f"^#{{1,{len(rank)}}} ", re.M).search(FORMAT, start + len(heading))
+    return FORMAT[start:end.start() if end else len(FORMAT)]
+
+
+def cells(text):
+    """The rows of the tables of a text, without their heads."""
+    rows = [line.strip("|").split("|") for line in re.findall(r"^\|.*\|$", text, re.M)]
+    return [[cell.strip() for cell in row] for row in rows if not set(row[0]) <= set(" -:")]
+
+
+# ---- FORMAT.md
+
+
+def format_table():
+    """The table of asks: number, name, whether it looks at the context, answer, growth."""
+    return [(int(number), re.match(r"\[(\w+)\]\(#(\w+)-(\w+)\)$", name), looks, answer, grows)
+            for number, name, looks, answer, grows in cells(section("## 6. ").split("\n### ")[0])[1:]]
+
+
+def format_section(number, name):
+    """The fields of an ask's body, and what is said of its answer and growth."""
+    text = section(f"### {number} {name}\n")
+    body = " ".join(re.search(r"- \*\*Body\*\*: (.*?)\n- ", text, re.S)[1].split())
+    body = re.sub(r"count `u32`, then that many groups `u32`", "`groups`", body)
+    body = re.sub(r"count `u32`, then that many entries of 44 bytes", "`entries`", body)
+    answer, grows = re.search(r"- \*\*Answer\*\*: (.*?)\. \*\*Grows\*\*: (.*?)\.\n", text, re.S).groups()
+    return " ".join(re.findall(r"`(id|u8|u32|i32|text|blob|groups|entries)`", body)), answer, " ".join(grows.split())
+
+
+def listed_without_memory(text):
+    """The asks that a sentence lists as taking no memory: their names, those of which it is so only at times too."""
+    return set(re.findall(r"\b[A-Z]{3,}(?:_[A-Z]+)*\b", text)) - {"ENOMEM"}
+
+
+def format_without_memory():
+    """Those that never take memory, and those that sometimes don't."""
+    always, _, sometimes = section("## 7. ").partition("; nor do ")
+    return listed_without_memory(always), listed_without_memory(sometimes)
+
+
+def format_statuses():
+    return {int(number): name for name, number in re.findall(r"^\| (E\w+) \| (\d+) \|", section("## 1. "), re.M)}
+
+
+# ---- Manual pages
+
+
+def protocol_asks():
+    """Of keyretain-protocol(7): number, name, fields and answer of each ask."""
+    found = []
+    for number, name, body, answer in re.findall(r"^\.It (\d+) ([A-Z_]+)(?: \( (.*?) \))? : (\w+)$", PROTOCOL, re.M):
+        body = body.replace("count u32, groups u32 each", "groups").replace("count u32, entries", "entries")
+        found.append((int(number), name, " ".join(part.split()[-1] for part in body.split(", ") if part), answer))
+    return found
+
+
+def protocol_statuses():
+    text = PROTOCOL.split(".Ss Errors")[1].split(".El")[0]
+    return {int(number): name for name, number in re.findall(r"(E\w+) Ta (\d+)", text)}
+
+
+def protocol_without_context():
+    sentence = re.search(r"^\.Pp\n([A-Z_, \nand]+)do not look at\nthe context", PROTOCOL, re.M)[1]
+    return listed_without_memory(sentence)
+
+
+def protocol_without_memory():
+    """The names of those that take none, and of those that sometimes don't."""
+    text = PROTOCOL.split(".Sh CAVEATS")[1].split("\nother reason.\n")[1]
+    always, _, sometimes = text.partition(", WATCH with")
+    return listed_without_memory(always), listed_without_memory("WATCH with" + sometimes)
+
+
+def page_commands():
+    """Of keyretain(1): the usage of each command."""
+    text = text_of("man/keyretain.1").split(".Ss Commands")[1].split("\n.El")[0]
+    found = {}
+    for word, usage in re.findall(r"^\.It Ic (\w+)(.*)$", text, re.M):
+        usage = re.sub(r" Op (?:Ar|Cm) (.*)$", r" [\1]", usage)
+        found[word] = usage.replace(" Ar", "").replace(" ...", " ..").strip()
+    return found
+
+
+# ---- Programs
+
+
+def help_commands(program):
+    """What `keyretain --help` says of each command."""
+    told = subprocess.run([program, "--help"], stdout=subprocess.PIPE, text=True, timeout=60, check=True).stdout
+    text = told.split("Commands of a script")[1].split("\n\n")[0]
+    lines = (re.split(r"  +", line.strip())[0].partition(" ") for line in text.splitlines()[1:])
+    return {word: usage for word, _, usage in lines}
+
+
+def completion_words():
+    """The commands that the completion in bash knows."""
+    text = text_of("contrib/bash-completion/keyretain")
+    return re.search(r"local commands='(.*?)'", text, re.S)[1].split()
+
+
+def completion_places(words):
+    """What it offers behind each command, by the number of the place: `add 1` and so on."""
+    script = 'source "$1"; shift; for one; do echo "$one=$(_keyretain_words ${one% *} ${one#* })"; done'
+    completion = os.path.join(TOP, "contrib/bash-completion/keyretain")
+    told = subprocess.run(["bash", "-c", script, "bash", completion, *words], stdout=subprocess.PIPE, text=True,
+                          timeout=60, check=True).stdout
+    return dict(line.split("=", 1) for line in told.splitlines())
+
+
+# ---- Costs
+
+
+def bench_operations():
+    """Of krs_bench: the word of each operation, and its lines."""
+    rows = re.findall(r'^ +Operation\("(\w+)", \d+, \d+, "(.*?)", "(.*?)"\),$',
+                      text_of("crates/krs_bench/src/operation.rt"), re.M)
+    return {word: (first, second) for word, first, second in rows}
+
+
+def bench_usage():
+    """The operations that its usage names."""
+    text = text_of("crates/krs_bench/stdout").split("OPERATION is one of these:\n")[1].split("COUNT is")[0]
+    return [word for line in text.splitlines() for word in re.split(r"  +", line.strip())[0].split(", ")]
+
+
+def counted_rows():
+    """Of bench/instructions: the operations with the names of their asks, in order; None for one that isn't counted."""
+    rows = re.search(r"^rows=\(\n(.*?)^\)", text_of("bench/instructions"), re.M | re.S)[1]
+    found = {}
+    for row in re.findall(r"'(.*?)'", rows):
+        word, *names = row.split("|")
+        found[word] = tuple(None if name in ("-", "") else name for name in (*names, "")[:2])
+    return found
+
+
+def costs_tables():
+    """Of COSTS.md: the names in the table of instructions, and the operations in that of nanoseconds."""
+    text = text_of("docs/COSTS.md")
+    counted, timed = text.split("\n## Instructions\n")[1], text.split("\n## Nanoseconds\n")[1].split("\n## ")[0]
+    first = cells(counted[counted.index("\n| Ask |"):].split("\n\n")[0])[1:]
+    return [row[0] for row in first], [row[0].strip("`") for row in cells(timed) if row[0].startswith("`")]

@@ -1,0 +1,128 @@
+"""The rows of all asks and commands, as the definitions have them that the programs are proved by: numbers, fields,
+answers and growth of the asks (krs_wire, krs_types), words of the commands (krs_commands), numbers of the errors
+(krs_types). What no proof reaches is compared with these."""
+import os
+import re
+from typing import NamedTuple
+
+TOP = os.path.join(os.path.dirname(os.path.abspath(__file__)), "../..")
+
+
+class Ask(NamedTuple):
+    """`word` is the ask's name as the definitions spell it, in capitals. `grows` says whether it takes memory, in the
+    words of docs/FORMAT.md."""
+
+    word: str
+    number: int
+    fields: str
+    answer: str
+    grows: str
+
+
+class Command(NamedTuple):
+    """`usage` has the words behind the first one; `ask` is the word of the ask that is asked first, or None."""
+
+    word: str
+    usage: str
+    ask: str
+
+
+def text_of(path):
+    with open(os.path.join(TOP, path), encoding="utf-8") as file:
+        return file.read()
+
+
+def equations(text, function):
+    """The left and right sides of a definition's lines: `function (Variant ..) = ..` as (Variant, ..)."""
+    found = re.findall(rf"^{function} (?:\((\w+)[^)]*\)|(\w+))(?: \w+)? = (.+)$", text, re.M)
+    return {first or second: right for first, second, right in found}
+
+
+# ---- Asks
+
+# The forms of fields that have a name, with what the definitions say of each.
+FORMS = {"id_field": ("id", "signed w32"), "text_field": ("text", "sized w16"), "blob_field": ("blob", "sized w32"),
+         "groups_field": ("groups", "counted (number w32)"), "entries_field": ("entries", "counted entry_field")}
+PLAIN = {"number w32": "u32", "signed w32": "i32", "flag": "u8", "nothing": ""}
+GROWS = {"true": "yes", "false": "no", "create": "with create", "has_destination dest": "with a destination",
+         "not (ends_watch watch_id)": "where it sets"}
+
+
+def fields_of(text, expression):
+    """The forms of a field: those of its parts, one after the other."""
+    if expression in PLAIN:
+        return PLAIN[expression]
+    if expression in FORMS:
+        return FORMS[expression][0]
+    if expression.startswith("both "):
+        return " ".join(fields_of(text, part) for part in parts_of(expression[len("both "):]))
+    return fields_of(text, re.search(rf"^{expression} =\s+(.+)$", text, re.M)[1])
+
+
+def parts_of(text):
+    """The two operands of `both`, without the parentheses around them."""
+    parts, depth, start = [], 0, 0
+    for at, sign in enumerate(text + " "):
+        depth += (sign == "(") - (sign == ")")
+        if sign == " " and depth == 0:
+            parts.append(re.sub(r"^\((.*)\)$", r"\1", text[start:at]))
+            start = at + 1
+    return parts
+
+
+def asks():
+    """All of them, by rising number."""
+    bodies, replies = text_of("crates/krs_wire/specs/Bodies.antt"), text_of("crates/krs_wire/specs/Reply.antt")
+    numbers, encodings = equations(bodies, "number_of_op"), equations(bodies, "body_of_op")
+    shapes, grows = equations(replies, "shape_of"), equations(text_of("crates/krs_types/specs/Growth.antt"), "grows")
+    rows = []
+    for name, number in numbers.items():
+        encoded = re.sub(r"^\((.*)\)$", r"\1", encodings[name].split(".encode")[0])
+        rows.append(Ask(name.upper(), int(number), fields_of(bodies, encoded),
+                        shapes[name].removeprefix("shapes.").lower(), GROWS[grows[name]]))
+    return sorted(rows, key=lambda row: row.number)
+
+
+def variants():
+    """The asks that the code has."""
+    body = re.search(r"^pub enum Op \{\n(.*?)^\}", text_of("crates/krs_types/src/ask.rt"), re.M | re.S)[1]
+    return sorted(name.upper() for name in re.findall(r"^    (\w+)", body, re.M))
+
+
+def forms():
+    """What the definitions say of the fields that have a name."""
+    text = text_of("crates/krs_wire/specs/Bodies.antt")
+    return {name: re.search(rf"^{name} = (.+)$", text, re.M)[1] for name in FORMS}
+
+
+def statuses():
+    """The names of the errors by their numbers."""
+    text = text_of("crates/krs_types/specs/Errno.antt")
+    names = equations(text, "name_of")
+    return {int(number): names[name].removeprefix("codes ").strip('"')
+            for name, number in equations(text, "number_of").items()}
+
+
+# ---- Commands
+
+
+def ask_of(definition):
+    """The first ask that a definition names."""
+    found = re.search(r"\bop\.(\w+)|command\.(Rlist|Readq)\b", definition)
+    return found and {"Rlist": "READ", "Readq": "READQUEUE"}.get(found[2], (found[1] or "").upper())
+
+
+def commands():
+    """All of them, in the definitions' order."""
+    text = text_of("crates/krs_commands/specs/Command.antt")
+    order = re.findall(r"\w+", re.search(r"^command_names =\n(.*?)∷ \[\]$", text, re.M | re.S)[1])
+    spellings, rows = equations(text, "spelling"), equations(text, "row_of")
+    found = []
+    for name in order:
+        word, reader = spellings[name].removeprefix("codes ").strip('"'), rows[name]
+        head, _, definition = text.partition(f"\nabbrev pub {reader.split()[0]} :")
+        usages = re.findall(r"`(\w+)((?: [^`]*)?)`", head.rsplit("\n-- ", 1)[1])
+        usage = next((usage for spelled, usage in usages if spelled == word), "no usage")
+        ask = ask_of(reader if " op." in reader else definition.split("\nabbrev", 1)[0])
+        found.append(Command(word, usage.strip(), ask))
+    return found

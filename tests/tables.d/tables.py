@@ -1,0 +1,183 @@
+"""tables.py KEYRETAIN [CODEC]: whether all that lists the asks, the commands or the errors has the rows that the
+programs are proved by: FORMAT.md, the manual pages, `keyretain --help` where KEYRETAIN is a program, the completion,
+the C and the Python client, the bench and its figures. Prints a line for each difference and each check that can't be
+made, and last how many were compared. CODEC is codec.c; without it the C client's table isn't compared."""
+import os
+import subprocess
+import sys
+
+sys.path.insert(0, os.path.join(os.path.dirname(os.path.abspath(__file__)), "../clients.d"))
+from compare import compare, conclude
+import keyretain
+
+import documents
+import rows
+import vectors
+
+KEYRETAIN, CODEC = sys.argv[1], sys.argv[2] if len(sys.argv) > 2 else None
+KEYRINGS, TYPES = "@t @p @s @u @us", "user logon keyring"
+ASKS, COMMANDS = rows.asks(), rows.commands()
+
+
+def word_of(name):
+    """A name without what joins its parts, which the definitions spell otherwise."""
+    return name and name.replace("_", "")
+
+
+def compare_all(what, wanted, got):
+    """Two maps, an entry each."""
+    for key in {**wanted, **got}:
+        compare(f"{what}: {key}", wanted.get(key), got.get(key))
+
+
+def by_number(found):
+    """The rows of asks, as maps from numbers; a number that stands there twice has two."""
+    together = {}
+    for number, *rest in found:
+        together[number] = (*together.get(number, ()), *rest)
+    return together
+
+
+def words_of(names):
+    return sorted(map(word_of, names))
+
+
+def try_definitions():
+    compare("the asks of the code", sorted(ask.word for ask in ASKS), rows.variants())
+    compare("the forms of fields", {name: said for name, (_, said) in rows.FORMS.items()}, rows.forms())
+    compare("commands name asks", [], [command.ask for command in COMMANDS
+                                       if command.ask not in {None, *(ask.word for ask in ASKS)}])
+
+
+# ---- Pages
+
+
+def try_format():
+    table = documents.format_table()
+    compare("FORMAT, the table of asks", [(ask.number, ask.word, ask.answer, ask.grows) for ask in ASKS],
+            [(number, word_of(name[1]), documents.ANSWERS.get(answer), grows)
+             for number, name, _, answer, grows in table])
+    for ask, (number, name, _, answer, grows) in zip(ASKS, table):
+        compare(f"FORMAT, the anchor of {name[1]}", (str(number), name[1].lower()), (name[2], name[3]))
+        fields, said, growth = documents.format_section(number, name[1])
+        compare(f"FORMAT, the body of {name[1]}", ask.fields, fields)
+        compare(f"FORMAT, the answer of {name[1]}", (ask.answer == "nothing", True),
+                (said == "nothing", ask.answer == "bytes" or answer in said))
+        compare(f"FORMAT, the growth of {name[1]}", True, growth.startswith(grows) or growth == ask.grows)
+    compare_all("FORMAT, errors", rows.statuses(), documents.format_statuses())
+
+
+def try_lists():
+    """Those that follow from the rows: asks that take no memory, and asks that don't look at the context."""
+    wanted = (sorted(ask.word for ask in ASKS if ask.grows == "no"),
+              sorted(ask.word for ask in ASKS if ask.grows not in ("yes", "no")))
+    for page, got in (("FORMAT", documents.format_without_memory()),
+                      ("keyretain-protocol(7)", documents.protocol_without_memory())):
+        compare(f"{page}, asks that take no memory", wanted, tuple(map(words_of, got)))
+    compare("keyretain-protocol(7), asks that don't look at the context",
+            sorted(name[1] for _, name, looks, _, _ in documents.format_table() if looks == "no"),
+            sorted(documents.protocol_without_context()))
+
+
+def try_pages():
+    answers = {number: answer for number, _, _, answer, _ in documents.format_table()}
+    compare_all("keyretain-protocol(7)", by_number((ask.number, ask.word, ask.fields, answers.get(ask.number))
+                                                   for ask in ASKS),
+                by_number((number, word_of(name), fields, answer)
+                          for number, name, fields, answer in documents.protocol_asks()))
+    compare_all("keyretain-protocol(7), errors", rows.statuses(), documents.protocol_statuses())
+    compare_all("keyretain(1)", {command.word: command.usage for command in COMMANDS}, documents.page_commands())
+
+
+# ---- Programs
+
+
+def offered(command, word):
+    """What a completion may offer in the place of a word."""
+    if command.word == "watch" and word == "ID":
+        return "off"
+    if word in ("create", "excl"):
+        return word
+    return {"KEY": KEYRINGS, "RING": KEYRINGS, "FROM": KEYRINGS, "TO": KEYRINGS, "TYPE": TYPES}.get(word, "")
+
+
+def try_completion():
+    known = [command for command in COMMANDS if command.word not in ("hello", "context", "moment")]
+    compare("completion, commands of a single call", sorted(command.word for command in known),
+            sorted(documents.completion_words()))
+    wanted = {f"{command.word} {place}": offered(command, word.strip("[]"))
+              for command in known for place, word in enumerate([*command.usage.split(), ""], 1)}
+    compare_all("completion", wanted, documents.completion_places(wanted))
+
+
+def try_help():
+    if not os.access(KEYRETAIN, os.X_OK):
+        print(f"skipped: keyretain --help: no program {KEYRETAIN}")
+        return
+    compare_all("keyretain --help", {command.word: command.usage for command in COMMANDS},
+                documents.help_commands(KEYRETAIN))
+
+
+# ---- Clients
+
+
+def try_client(name, found, statuses):
+    """`found` has number, name, fields and answer of each ask. FORMAT.md has the names, and says what a serial is."""
+    table = {number: (matched[1], "serial" if answer == "serial" else documents.ANSWERS.get(answer))
+             for number, matched, _, answer, _ in documents.format_table()}
+    compare_all(name, by_number((ask.number, table[ask.number][0], ask.fields, table[ask.number][1])
+                                if ask.number in table else (ask.number,) for ask in ASKS), by_number(found))
+    compare_all(f"{name}, errors", rows.statuses(), statuses)
+
+
+def try_python():
+    try_client("the Python client", [(ask.number, name, ask.fields, ask.answer)
+                                     for name, ask in keyretain.ASKS.items()], keyretain.STATUSES)
+    for name in keyretain.ASKS:
+        compare(f"the Python client, a method for {name}", True, hasattr(keyretain.Client, name.lower()))
+
+
+def try_c():
+    asks, statuses, numbers = [], {}, {}
+    for line in subprocess.run([CODEC], text=True, stdout=subprocess.PIPE, check=True).stdout.splitlines():
+        kind, number, name, *rest = line.split(" ")
+        if kind == "ask":
+            asks.append((int(number), name, " ".join(rest[1:]), rest[0]))
+        else:
+            statuses[int(number)], numbers[name] = name, int(rest[0])
+    try_client("the C client", asks, statuses)
+    compare_all("errors of this system", {name: number for number, name in rows.statuses().items()}, numbers)
+    for place in ("clients/c/keyretain.h", "clients/c/libkeyretain.map", "man/libkeyretain.3"):
+        text = rows.text_of(place)
+        for _, name, *_ in asks:
+            compare(f"{place}, a function for {name}", True, f"kr_{name.lower()}" in vectors.words_in(text))
+
+
+# ---- The bench
+
+
+def try_bench():
+    operations, counted = documents.bench_operations(), documents.counted_rows()
+    named, timed = documents.costs_tables()
+    compare("bench/instructions, operations", sorted(operations), sorted(counted))
+    compare("the usage of krs_bench", sorted(operations), sorted(documents.bench_usage()))
+    compare("COSTS, operations", sorted(operations), sorted(timed))
+    compare("COSTS, names of asks", [name for pair in counted.values() for name in pair if name], named)
+    asks = {command.word: command.ask for command in COMMANDS}
+    for word, lines in operations.items():
+        for line, name in zip(lines, counted.get(word, ())):
+            if name:
+                compare(f"what `{word}` counts as {name}", asks.get(line.split(" ")[0]),
+                        word_of(name.split(",")[0].split(" ")[0]))
+    compare("asks that are counted", sorted(ask.word for ask in ASKS),
+            sorted({word_of(name.split(",")[0].split(" ")[0]) for name in named}))
+
+
+for case in (try_definitions, try_format, try_lists, try_pages, try_completion, try_help, try_python, try_bench):
+    case()
+if CODEC:
+    try_c()
+else:
+    print("skipped: the table of the C client: no C compiler")
+vectors.try_vectors(CODEC)
+conclude()

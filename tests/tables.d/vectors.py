@@ -1,0 +1,87 @@
+"""The frames that FORMAT.md spells, by the Python client and the C client, and each ask by both."""
+import re
+import subprocess
+
+from compare import compare
+import keyretain
+
+from documents import section
+
+SAMPLES = {"id": -5, "u8": 1, "u32": 0xFFFFFFFE, "i32": -1, "text": b"\x01text", "blob": bytes(range(256)),
+           "groups": [0, 7, 0xFFFFFFFE], "entries": [tuple(range(11)), tuple(range(0xFFFFFFF5, 0x100000000))]}
+LARGEST = {"text": b"t" * 65535, "blob": b"b" * 70000}
+
+
+def words_in(text):
+    """The names in a text."""
+    return set(re.findall(r"\w+", text))
+
+
+def vectors():
+    """The frames of asks that the document spells: what, bytes."""
+    joined = []
+    for what, spelled in re.findall(r"^\| (.*?) \| (.*?) \|$", section("### Frame vectors"), re.M):
+        spelled = re.sub(r", then (\d+) bytes `00`", lambda zeros: "`" + "00" * int(zeros.group(1)) + "`", spelled)
+        spelled = re.sub(r"[^0-9a-f]", "", spelled)
+        if what.startswith("then "):
+            joined[-1] = (joined[-1][0], joined[-1][1] + spelled)
+        elif re.match(r"[A-Z_]{4,}\b", what):
+            joined.append((what, spelled))
+    return [(what, bytes.fromhex(spelled)) for what, spelled in joined]
+
+
+def read_ask(whole):
+    """What an ask's frame says: version, tag, name, context, the values of its fields."""
+    version, number = int.from_bytes(whole[4:6], "little"), int.from_bytes(whole[6:8], "little")
+    context, tag = int.from_bytes(whole[8:12], "little"), 0
+    body = whole[12:]
+    if version == 2:
+        tag, body = int.from_bytes(body[:8], "little"), body[8:]
+    name = keyretain.name_of(number)
+    return version, tag, name, context, keyretain.decode_body(name, body)
+
+
+def word(form, value):
+    """A field for the codec program."""
+    if form in keyretain.NUMBERS:
+        return str(value)
+    if form in ("text", "blob"):
+        return form[0] + value.hex()
+    if form == "groups":
+        return "g" + b"".join(number.to_bytes(4, "little") for number in value).hex()
+    return "e" + b"".join(keyretain.ENTRY.pack(*entry) for entry in value).hex()
+
+
+def run_codec(codec, lines):
+    asked = subprocess.run([codec, "encode"], input="".join(lines), text=True, stdout=subprocess.PIPE, check=True)
+    return asked.stdout.splitlines()
+
+
+def line_of(version, tag, name, context, values):
+    words = map(word, keyretain.ASKS[name].fields.split(), values)
+    return " ".join([f"{version} {tag} {keyretain.ASKS[name].number} {context}", *words]) + "\n"
+
+
+def compare_clients(codec):
+    """Each ask in both versions, and texts that fit no frame."""
+    asked = [(version, 1 << 33 | version, name, 9, [SAMPLES[form] for form in ask.fields.split()])
+             for name, ask in keyretain.ASKS.items() for version in keyretain.VERSIONS]
+    for (version, tag, name, context, values), got in zip(asked, run_codec(codec, (line_of(*ask) for ask in asked))):
+        compare(f"C and Python, {name}, version {version}",
+                keyretain.encode_ask(name, context, values, version, tag).hex(), got)
+    too_long = [("JOIN", [LARGEST["text"]]), ("UPDATE", [5, LARGEST["blob"]])]
+    for got in run_codec(codec, (line_of(1, 0, name, 0, values) for name, values in too_long)):
+        compare("C, an ask that fits no frame", "", got)
+
+
+def try_vectors(codec):
+    """`codec` is None where the C client isn't there."""
+    read = [(what, whole, read_ask(whole)) for what, whole in vectors()]
+    compare("more than fifteen vectors", True, len(read) > 15)
+    for what, whole, (version, tag, name, context, values) in read:
+        compare(f"vector {what}, its ask", what.split()[0], name)
+        compare(f"Python, vector {what}", whole, keyretain.encode_ask(name, context, values, version, tag))
+    if codec:
+        for (what, whole, _), got in zip(read, run_codec(codec, (line_of(*ask) for _, _, ask in read))):
+            compare(f"C, vector {what}", whole.hex(), got)
+        compare_clients(codec)
