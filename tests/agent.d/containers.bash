@@ -17,6 +17,7 @@ begin_agent() {
 }
 
 begin_agent_at() {
+  : >"$dir/agent.out" # what an agent before this one said
   "${within[@]}" "$dir/$variant/keyretain-agent" --socket "$socket" --folder "$folder" --daemon "$keyretaind" \
     --memory 0 "$@" >"$dir/agent.out" 2>>"${errors:-$dir/$variant.err}" </dev/null &
   agent=$!
