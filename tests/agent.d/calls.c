@@ -7,7 +7,11 @@
  *   join NAME             joins a session: `ok`
  *   unlink DESC RING      requests a key, and unlinks it
  *   put FILE, await FILE  makes a file; waits until it is there, for a minute at most
+ *   chgrp GID, mode MASK  changes the group or the permissions of the key that was added last: `ok`
+ *   read                  its payload
+ *   to-parent             gives the session to the parent: `ok`
  *   become UID            takes this uid and gid, and no groups
+ *   belong UID GID        the same with this group
  *   exec CMD ..           executes the rest */
 #define _GNU_SOURCE
 #include <errno.h>
@@ -79,8 +83,15 @@ static void await(const char *file) {
     for (int i = 0; i < STEPS && access(file, F_OK) < 0; i++) usleep(STEP_MICROSECONDS);
 }
 
-static void become(unsigned id) {
-    setgroups(0, NULL);
+static long added; /* by `add` */
+
+static void read_added(void) {
+    char text[4096];
+    say_text(call(KEYCTL_READ, added, (long)text, sizeof text), text);
+}
+
+static void become(unsigned id, int count, gid_t group) {
+    setgroups((size_t)count, &group);
     if (setgid(id) < 0 || setuid(id) < 0) perror("setuid");
 }
 
@@ -88,7 +99,8 @@ int main(int count, char **words) {
     setvbuf(stdout, NULL, _IOLBF, 0);
     for (char **at = words + 1, **end = words + count; at < end; at++) {
         if (IS("add") && end - at > 3) {
-            say(syscall(SYS_add_key, "user", at[1], at[2], strlen(at[2]), id_of(at[3])));
+            added = syscall(SYS_add_key, "user", at[1], at[2], strlen(at[2]), id_of(at[3]));
+            say(added);
             at += 3;
         } else if (IS("print")) print(*++at);
         else if (IS("fill")) fill(*++at);
@@ -98,7 +110,12 @@ int main(int count, char **words) {
         else if (IS("unlink") && end - at > 2) unlink_key(at[1], at[2]), at += 2;
         else if (IS("put")) close(open(*++at, O_CREAT | O_WRONLY, 0600));
         else if (IS("await")) await(*++at);
-        else if (IS("become")) become((unsigned)atoi(*++at));
+        else if (IS("chgrp")) say(call(KEYCTL_CHOWN, added, -1, atoi(*++at)));
+        else if (IS("mode")) say(call(KEYCTL_SETPERM, added, strtol(*++at, NULL, 16), 0));
+        else if (IS("read")) read_added();
+        else if (IS("to-parent")) say(call(KEYCTL_SESSION_TO_PARENT, 0, 0, 0));
+        else if (IS("become")) become((unsigned)atoi(*++at), 0, 0);
+        else if (IS("belong") && end - at > 2) become((unsigned)atoi(at[1]), 1, (gid_t)atoi(at[2])), at += 2;
         else if (IS("exec")) return execvp(at[1], at + 1);
         else return 2;
     }

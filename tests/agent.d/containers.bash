@@ -17,7 +17,7 @@ begin_agent() {
 }
 
 begin_agent_at() {
-  : >"$dir/agent.out" # what an agent before this one said
+  : >"$dir/agent.out" # what an agent before it has said is no answer
   "${within[@]}" "$dir/$variant/keyretain-agent" --socket "$socket" --folder "$folder" --daemon "$keyretaind" \
     --memory 0 "$@" >"$dir/agent.out" 2>>"${errors:-$dir/$variant.err}" </dev/null &
   agent=$!
@@ -101,6 +101,7 @@ try_calls() {
   says "its user keyring isn't linked to the session, which all its users have" 'ok ENOKEY ' \
     calls a add k secret @u print k
   says 'a session of its own' 'ok ok ENOKEY ' calls a add k secret @s join other print k
+  says 'a session for its parent, which is the runtime and is not served' 'ok EPERM ' calls a join other to-parent
   says 'a child has the session' 'ok secret ' calls a add k secret @s exec "$dir/calls" print k
   says 'its thread keyring ends with execve' 'ok ENOKEY ' calls a add k secret @t exec "$dir/calls" print k
   says 'an empty keyring is not that of the host' 'ENOKEY ' calls a print kept
@@ -138,6 +139,7 @@ try_sending() {
 try_two() {
   says 'another container has none of its keys' 'ENOKEY ok ok own ' \
     calls b print kept add kept own @u add kept own @s print kept
+  with_container bc says 'nor has one whose id its own begins with' 'ENOKEY ' calls b print kept
   with_container b says 'each has its own of one name' 'of-a ' calls a print kept
 }
 
@@ -190,6 +192,12 @@ try_other_ids() {
   unshare -U true 2>/dev/null || return 0
   says 'another uid of a user namespace' 'keyring;33;33;1f3f0000;_uid.33 ' \
     contain n --uids 100000 -- "$dir/calls" become 33 describe @u
+  says 'a group of a user namespace' 'ok ok ok v ' \
+    contain n --uids 100000 -- "$dir/calls" add k v @s chgrp 7 mode 013f0200 belong 33 7 read
+  says 'another group of it' 'ok ok ok EACCES ' \
+    contain n --uids 100000 -- "$dir/calls" add k v @s chgrp 7 mode 013f0200 belong 33 8 read
+  says 'the last uid of those that it has' 'keyring;999;999;1f3f0000;_uid.999 ' \
+    contain n --uids 100000 -- "$dir/calls" become 999 describe @u
   try_nested
 }
 

@@ -119,6 +119,40 @@ try_ended_server() {
   says 'the next one, of which the agent hears first' 'ok v ' cat "$dir/next.out"
 }
 
+# ---- How it is started, and ended
+
+# By somebody who ignores the ends of children, and has no standard input: then nothing of it gets that number.
+try_started() {
+  # shellcheck disable=SC2016 # words of the other shell
+  within=(bash -c 'trap "" CHLD; exec "$0" "$@" <&-')
+  begin_agent --containers 1
+  one_goes 'an agent whose caller ignores SIGCHLD'
+  until_true has_no_containers
+  one_goes 'the next container, of one at a time'
+  is_root && is 'a standard input that was closed' /dev/null "$(readlink "/proc/$agent/fd/0")"
+  kill -INT "$agent"
+  finish "$agent"
+  is 'an agent that is interrupted' 0 "$status"
+  is 'what it leaves' '' "$(ls "$folder")"
+  within=()
+}
+
+# ---- A daemon that isn't there
+
+# In the daemon's place a program that says something else, and stays.
+try_no_daemon() {
+  local keyretaind=$dir/says-else
+  printf '#!/bin/sh\necho "listens to nothing"\nexec sleep 1000\n' >"$keyretaind"
+  chmod 755 "$keyretaind"
+  begin_agent
+  says 'a daemon that does not listen' 'ENOSYS ' calls a print k
+  until_true has_no_children
+  is 'what is left of it' '' "$(children "$agent")"
+  end_agent 'a daemon that does not listen'
+}
+
+has_no_children() { [ -z "$(children "$agent")" ]; }
+
 # ---- Where it listens
 
 # refuses NAME OPTION ..: an agent that doesn't begin
@@ -132,26 +166,35 @@ refuses() {
 
 try_places() {
   mkdir -m 755 "$dir/open"
-  ln -s "$dir/open" "$dir/link"
+  mkdir -m 710 "$dir/group"
+  mkdir -m 700 "$dir/private" "$dir/another"
+  ln -s "$dir/private" "$dir/link"
   : >"$dir/file"
   refuses 'a second agent on a socket' --socket "$socket" --folder "$dir/other"
   refuses 'a second agent on a folder' --socket "$dir/other.sock" --folder "$folder"
   refuses 'a folder that others may enter' --socket "$dir/other.sock" --folder "$dir/open"
+  refuses 'a folder that its group may enter' --socket "$dir/other.sock" --folder "$dir/group"
   refuses 'a folder that is a link' --socket "$dir/other.sock" --folder "$dir/link"
+  if is_root; then
+    chown 4005 "$dir/another"
+    refuses "another user's folder" --socket "$dir/other.sock" --folder "$dir/another"
+  else
+    skipped "another user's folder, and another user's socket that is passed: not root"
+  fi
   refuses 'a file in the place of the socket' --socket "$dir/file" --folder "$dir/other"
   is 'that file' 'there' "$(if [ -f "$dir/file" ]; then echo there; fi)"
   refuses 'a path that is too long' --socket "$dir/$(printf '%0120d' 0)" --folder "$dir/other"
   refuses 'a daemon that lacks' --socket "$dir/other.sock" --folder "$dir/other" --daemon "$dir/none"
   refuses 'a folder that lacks' --socket "$dir/other.sock" --folder "$dir/none/none"
   one_goes 'the first agent, after all that'
-  rm -rf "$dir/open" "$dir/link" "$dir/other"
+  rm -rf "$dir/open" "$dir/group" "$dir/private" "$dir/another" "$dir/link" "$dir/other"
 }
 
-# passed MODE: an agent whose socket is passed, and has this mode
+# passed MODE UID: an agent whose socket is passed, has this mode, and is this user's
 passed() {
   agents=$((agents + 1))
   socket=$dir/$agents.sock folder=$dir/$agents.folder
-  python3 -B "$parts/passed.py" "$socket" "$1" "$dir/$variant/keyretain-agent" --folder "$folder" \
+  python3 -B "$parts/passed.py" "$socket" "$1" "$2" "$dir/$variant/keyretain-agent" --folder "$folder" \
     --daemon "$keyretaind" --memory 0 >"$dir/agent.out" 2>>"$dir/$variant.err" </dev/null &
   agent=$!
 }
@@ -161,16 +204,23 @@ try_passed() {
     skipped 'sockets that are passed: no python3'
     return
   fi
-  passed 600
+  passed 600 "$(id -u)"
   until_true grep -q 'listening (passed)' "$dir/agent.out"
   one_goes 'an agent whose socket is passed'
   kill -TERM "$agent"
   finish "$agent"
   is 'its status' 0 "$status"
   is 'the socket stays' there "$(if [ -S "$socket" ]; then echo there; fi)"
-  passed 666
+  passed 606 "$(id -u)"
   finish "$agent"
   is 'a socket to which all may connect' 3 "$status"
+  passed 660 "$(id -u)"
+  finish "$agent"
+  is 'a socket to which its group may connect' 3 "$status"
+  is_root || return 0
+  passed 600 4005
+  finish "$agent"
+  is "another user's socket" 3 "$status"
 }
 
 as_another() { setpriv --reuid 4005 --regid 4005 --clear-groups "$@" 2>&1; }
@@ -216,6 +266,8 @@ try_rights() {
   is 'capabilities of a daemon' '0000000000000000 0000000000000000' \
     "$(field "$keeper" CapPrm) $(field "$keeper" CapEff)"
   is 'new privileges of a daemon' 1 "$(field "$keeper" NoNewPrivs)"
+  is 'environment of a daemon' 'MALLOC_ARENA_MAX=1 ' "$(tr '\0' ' ' <"/proc/$keeper/environ" 2>/dev/null)"
+  is 'signals that a daemon holds back' 0000000000000000 "$(field "$keeper" SigBlk)"
   is 'core files of a daemon' 0 "$(sed -n 's/^Max core file size *\([^ ]*\).*/\1/p' "/proc/$keeper/limits")"
   is "descriptors of a daemon that aren't its own" '' "$(foreign_descriptors "$keeper")"
   if is_root; then
@@ -245,18 +297,31 @@ has_more_descriptors() { [ "$1" = 0 ] || [ "$(count_descriptors)" -gt "$1" ]; }
 has_descriptors() { [ "$(count_descriptors)" = "$1" ]; }
 
 try_hostile() {
-  local before
+  local before memory ticks
   if ! python3 -c 1 2>/dev/null; then
     skipped 'hostile runtimes: no python3'
     return
   fi
   before=$(count_descriptors)
+  memory=$(field "$agent" VmSize)
+  ticks=$(ticks_of "$agent")
   has_none 'hostile runtimes' python3 -B "$parts/hostile.py" "$socket" "$RANDOM"
   one_goes 'a container after hostile runtimes'
   until_true has_no_containers
   until_true has_descriptors "$before"
   is 'descriptors of an agent after hostile runtimes' "$before" "$(count_descriptors)"
+  memory=$(($(kibibytes "$(field "$agent" VmSize)") - $(kibibytes "$memory")))
+  ticks=$(($(ticks_of "$agent") - ticks))
+  is 'how long an agent runs for hostile runtimes' 'less than a third of a second' \
+    "$([ "$ticks" -lt 30 ] && echo 'less than a third of a second' || echo "$ticks hundredths of a second")"
+  is 'memory that they leave in an agent' 'less than a state a runtime' \
+    "$([ "$memory" -lt 65536 ] && echo 'less than a state a runtime' || echo "$memory kB")"
 }
+
+# ticks_of PID: how long it has run, in hundredths of a second
+ticks_of() { sed 's/.*) //' "/proc/$1/stat" | awk '{ print $12 + $13 }'; }
+
+kibibytes() { tr -dc 0-9 <<<"$1"; }
 
 # what sanitizers say
 say_none() { is "$1: what sanitizers say" '' "$(grep -m 1 -E 'Sanitizer|runtime error' "$dir/$variant.err")"; }
@@ -275,6 +340,8 @@ try_ends() {
   try_agent_killed
   try_agent_ended
   try_passed
+  try_started
+  try_no_daemon
   try_unit_rights
   say_none "$variant"
 }

@@ -57,6 +57,7 @@ def main(path, seed):
     null, pipe = os.open('/dev/null', os.O_RDWR), os.pipe()
     sends(path, 'a file as the listener', GOOD, [null])
     sends(path, 'a pipe as the listener', GOOD, [pipe[0]])
+    sends(path, 'an event as the listener, which is no file either', GOOD, [os.eventfd(0)])
     sends(path, '16 descriptors', GOOD, [null] * 16)
     sends(path, '17 descriptors', GOOD, [null] * 17)
     sends(path, '250 descriptors', GOOD, [null] * 250)

@@ -39,6 +39,8 @@ static const struct {
       FIRST "\"x\":[1,-2.5e+3,0,{\"y\":null},true,false,[]],\"z\":{}," STATE "}", "a", 1, 0 },
     { "an id where it isn't the container's", FIRST "\"id\":\"b\",\"x\":{\"id\":\"c\"},\"state\":{\"x\":{\"id\":\"d\"},"
       "\"id\":\"a\"}}", "a", 1, 0 },
+    { "members whose names begin as those that are known", FIRST "\"fdss\":[],\"states\":{\"id\":\"b\"},"
+      "\"state\":{\"id\":\"a\",\"ids\":\"b\",\"id \":\"c\"}}", "a", 1, 0 },
     { "brackets and quotes in texts",
       FIRST "\"state\":{\"annotations\":{\"}]\\\"{[\":\"\\\\\"},\"id\":\"a\"}}", "a", 1, 0 },
     { "a long name", FIRST "\"0123456789012345678901234567890123456789\":1," STATE "}", "a", 1, 0 },

@@ -1,10 +1,15 @@
 /* acts MODE [WORD ..]: what programs do whose descriptors, identity or session the tests look at. */
 #define _GNU_SOURCE
 #include <grp.h>
+#include <linux/capability.h>
 #include <pthread.h>
 #include <sched.h>
+#include <signal.h>
 #include <stdlib.h>
+#include <sys/prctl.h>
 #include <sys/stat.h>
+#include <sys/syscall.h>
+#include <sys/time.h>
 #include <sys/wait.h>
 #include <unistd.h>
 
@@ -12,7 +17,7 @@
 #include "keyretain.h"
 #include "keyutils.h"
 
-enum { OTHER = 65533, OPEN_TO_ALL = 0x3f3f3f3f };
+enum { OTHER = 65533, GROUP_MAY_READ = 0x3f3f0200, POSSESSOR_MAY_READ = 0x02000000, FILES = 300 };
 
 static const char *word_of(bool holds) { return holds ? "ok" : strerrorname_np(errno); }
 
@@ -51,6 +56,51 @@ static void drop_identity(char **words) {
     printf("%s %d\n", fine ? "dropped" : "not dropped", count_sockets());
 }
 
+/* Takes the capability CAP_SETGID anew, which a process loses that is no root any more, but may have. */
+static bool have_set_gid(void) {
+    struct __user_cap_header_struct head = { .version = _LINUX_CAPABILITY_VERSION_3 };
+    struct __user_cap_data_struct sets[_LINUX_CAPABILITY_U32S_3] = {
+        { .effective = 1u << CAP_SETGID, .permitted = 1u << CAP_SETGID } };
+    return syscall(SYS_capset, &head, sets) == 0;
+}
+
+/* drop-groups: asks, has another gid for good, and asks again; then the same with other groups. How many sockets are
+ * open after each: what was asked as who one can't be again has ended. */
+static void drop_groups(char **words) {
+    const gid_t some[] = { OTHER - 2 };
+    (void)words;
+    bool fine = prctl(PR_SET_KEEPCAPS, 1) == 0 && setgroups(0, NULL) == 0 &&
+                setresgid(OTHER, OTHER, OTHER - 1) == 0 && setresuid(OTHER, OTHER, OTHER) == 0;
+    fine = fine && keyctl_get_keyring_ID(KEY_SPEC_USER_KEYRING, 0) > 0;
+    fine = fine && setresgid(OTHER - 1, OTHER - 1, OTHER - 1) == 0;
+    fine = fine && keyctl_get_keyring_ID(KEY_SPEC_USER_KEYRING, 0) > 0;
+    printf("%s %d", fine ? "another gid" : "failed", count_sockets());
+    fine = fine && have_set_gid() && setgroups(1, some) == 0 && keyctl_get_keyring_ID(KEY_SPEC_USER_KEYRING, 0) > 0;
+    printf(", %s %d\n", fine ? "other groups" : "failed", count_sockets());
+}
+
+/* group N ALL: root makes a key that a group may read; another user reads it, who has so many groups, of which that is
+ * the Nth. */
+static void read_by_group(char **words) {
+    gid_t groups[64];
+    char byte;
+    int nth = atoi(words[0]), count = atoi(words[1]);
+    key_serial_t key = add_key("user", "of a group", "x", 1, KEY_SPEC_USER_KEYRING);
+    for (int i = 0; i < 64; i++) groups[i] = 1000000000 + (gid_t)i;
+    bool fine = nth <= count && count <= 64 && keyctl_chown(key, (uid_t)-1, groups[nth - 1]) == 0 &&
+                keyctl_setperm(key, GROUP_MAY_READ) == 0;
+    fflush(stdout);
+    pid_t child = fork();
+    if (child == 0) {
+        fine = fine && setgroups((size_t)count, groups) == 0 && setresgid(OTHER, OTHER, OTHER) == 0 &&
+               setresuid(OTHER, OTHER, OTHER) == 0;
+        puts(fine ? word_of(keyctl_read(key, &byte, 1) == 1) : "failed");
+        fflush(stdout);
+        _exit(0);
+    }
+    waitpid(child, NULL, 0);
+}
+
 /* back: as another user and back: the thread keyring of a second thread is the same. */
 static void *see_thread_ring(void *unused) {
     key_serial_t ring = keyctl_get_keyring_ID(KEY_SPEC_THREAD_KEYRING, 1);
@@ -83,11 +133,11 @@ static void be_process_one(char **words) {
     waitpid(child, NULL, 0);
 }
 
-/* open NAME: joins a session, opens it to all, and waits for the end of its input. */
+/* open NAME MASK: joins a session, gives it this mask, and waits for the end of its input. */
 static void open_session(char **words) {
     char byte;
     bool is_open = keyctl_join_session_keyring(words[0]) > 0 &&
-                   keyctl_setperm(KEY_SPEC_SESSION_KEYRING, OPEN_TO_ALL) == 0;
+                   keyctl_setperm(KEY_SPEC_SESSION_KEYRING, (key_perm_t)strtoul(words[1], NULL, 16)) == 0;
     puts(word_of(is_open));
     fflush(stdout);
     while (read(STDIN_FILENO, &byte, 1) > 0) continue;
@@ -114,9 +164,54 @@ static void join(char **words) {
     pthread_join(thread, NULL);
 }
 
-/* as-other NAME: a root process that is another user for now joins a session, and waits for the end of its input. */
+static void on_alarm(int unused) { (void)unused; }
+
+/* interrupted NAME: joins a session while a signal comes each two milliseconds. */
+static void join_interrupted(char **words) {
+    struct sigaction action = { .sa_handler = on_alarm };
+    struct itimerval often = { .it_value.tv_usec = 2000, .it_interval.tv_usec = 2000 }, never = { 0 };
+    sigaction(SIGALRM, &action, NULL);
+    setitimer(ITIMER_REAL, &often, NULL);
+    bool is_joined = keyctl_join_session_keyring(words[0]) > 0;
+    int error = errno;
+    setitimer(ITIMER_REAL, &never, NULL);
+    errno = error;
+    printf("%s, %s\n", word_of(is_joined), waitpid(-1, NULL, WNOHANG) < 0 ? "no child" : "a child is left");
+}
+
+/* again: joins a session, closes all descriptors and has files under their numbers, and joins another one. */
+static void join_again(char **words) {
+    struct stat status, each;
+    int left = 0;
+    (void)words;
+    bool is_joined = keyctl_join_session_keyring("one") > 0;
+    for (int i = STDERR_FILENO + 1; i < FILES; i++) dup2(STDIN_FILENO, i);
+    is_joined = is_joined && keyctl_join_session_keyring("two") > 0;
+    fstat(STDIN_FILENO, &status);
+    for (int i = STDERR_FILENO + 1; i < FILES; i++)
+        left += fstat(i, &each) == 0 && each.st_ino == status.st_ino && each.st_dev == status.st_dev;
+    printf("%s, %d of %d files left\n", word_of(is_joined), left, FILES - STDERR_FILENO - 1);
+}
+
+/* twice: asks, and at the end of its input twice more: the first of these may find that the daemon has gone. */
+static void ask_twice(char **words) {
+    char byte;
+    (void)words;
+    puts(word_of(keyctl_get_keyring_ID(KEY_SPEC_USER_KEYRING, 0) > 0));
+    fflush(stdout);
+    while (read(STDIN_FILENO, &byte, 1) > 0) continue;
+    for (int i = 0; i < 2; i++) puts(word_of(keyctl_get_keyring_ID(KEY_SPEC_USER_KEYRING, 0) > 0));
+}
+
+/* as-other NAME: a root process that is another user for now joins a session, and waits for the end of its input. It
+ * holds a signal back and ignores another. */
 static void join_as_other(char **words) {
     char byte;
+    sigset_t held;
+    sigemptyset(&held);
+    sigaddset(&held, SIGUSR1);
+    sigprocmask(SIG_BLOCK, &held, NULL);
+    signal(SIGUSR2, SIG_IGN);
     (void)!seteuid(OTHER);
     puts(word_of(keyctl_join_session_keyring(words[0]) > 0));
     fflush(stdout);
@@ -134,6 +229,20 @@ static void put_key(char **words) {
     key_serial_t ring = (key_serial_t)keyctl_search(KEY_SPEC_USER_KEYRING, "keyring", words[0], 0);
     key_serial_t key = ring > 0 ? add_key("user", "held", "s3", 2, ring) : -1;
     puts(word_of(key > 0 && keyctl_set_timeout(key, (unsigned)atoi(words[1])) == 0));
+}
+
+/* hide RING: puts a key there that nobody may look at, its maker neither. */
+static void hide_key(char **words) {
+    key_serial_t ring = (key_serial_t)keyctl_search(KEY_SPEC_USER_KEYRING, "keyring", words[0], 0);
+    key_serial_t key = ring > 0 ? add_key("user", "hidden", "s3", 2, ring) : -1;
+    puts(word_of(key > 0 && keyctl_setperm(key, POSSESSOR_MAY_READ) == 0));
+}
+
+/* links RING: how many keys a keyring of the user keyring links. */
+static void count_links(char **words) {
+    key_serial_t ring = (key_serial_t)keyctl_search(KEY_SPEC_USER_KEYRING, "keyring", words[0], 0);
+    long length = ring > 0 ? keyctl_read(ring, NULL, 0) : -1;
+    printf("%ld\n", length < 0 ? -1 : length / 4);
 }
 
 /* session: the serial of the session keyring. */
@@ -160,6 +269,13 @@ static void see_peer(char **words) {
     kr_close(connection);
 }
 
+/* ask PATH: one ask of a program that names the path itself. */
+static void ask_there(char **words) {
+    struct kr *connection = kr_open(words[0]);
+    puts(word_of(connection && kr_hello(connection, geteuid(), getegid(), 0, NULL) >= 0));
+    kr_close(connection);
+}
+
 /* where: the path of the daemon. */
 static void see_path(char **words) {
     char path[108];
@@ -171,10 +287,17 @@ int main(int count, char **words) {
     static const struct {
         const char *name;
         void (*run)(char **);
-    } modes[] = { { "sockets", see_sockets }, { "identities", take_identities }, { "drop", drop_identity },
-                  { "back", go_and_come_back }, { "process-one", be_process_one }, { "open", open_session },
-                  { "join", join }, { "as-other", join_as_other }, { "execute", execute }, { "put", put_key },
-                  { "session", see_session }, { "peer", see_peer }, { "where", see_path } };
+    } modes[] = { { "sockets", see_sockets },     { "identities", take_identities },
+                  { "drop", drop_identity },      { "drop-groups", drop_groups },
+                  { "group", read_by_group },     { "back", go_and_come_back },
+                  { "process-one", be_process_one }, { "open", open_session },
+                  { "join", join },               { "interrupted", join_interrupted },
+                  { "again", join_again },        { "twice", ask_twice },
+                  { "as-other", join_as_other },  { "execute", execute },
+                  { "put", put_key },             { "hide", hide_key },
+                  { "links", count_links },       { "session", see_session },
+                  { "peer", see_peer },           { "ask", ask_there },
+                  { "where", see_path } };
     if (count < 2) return 2;
     for (size_t i = 0; i < sizeof modes / sizeof *modes; i++)
         if (strcmp(words[1], modes[i].name) == 0) modes[i].run(words + 2);

@@ -18,7 +18,7 @@
 
 #include "keyretain.h"
 
-enum { LONGEST = 8, SECRET = 16, FRAME = 64 };
+enum { LONGEST = 8, SECRET = 16, FRAME = 64, LONGEST_BODY = 262140 };
 
 static const char *path;
 static int listener;
@@ -62,6 +62,30 @@ static void *answer_half(void *unused) {
         (void)!write(end, half, sizeof half);
         explicit_bzero(half, sizeof half);
     }
+    pause();
+    return unused;
+}
+
+/* Answers so many asks with the number or serial 1; the last one instead as READ, with the secret. Then it ends the
+ * connection where `then_closes` says so. */
+static int answers;
+static bool reads_last, then_closes;
+
+static void *answer_some(void *unused) {
+    static uint8_t ask[4096];
+    int end = accept(listener, NULL, NULL);
+    for (int i = 1; i <= answers && read(end, ask, sizeof ask) > 0; i++) {
+        bool is_secret = reads_last && i == answers;
+        uint8_t frame[16 + SECRET] = { is_secret ? 12 + SECRET : 16 };
+        frame[8] = (uint8_t)i;
+        frame[16] = 1;
+        for (int j = 0; is_secret && j < SECRET; j++) frame[16 + j] = (uint8_t)(j * 7 + 0x41);
+        (void)!write(end, frame, is_secret ? sizeof frame : 20);
+        explicit_bzero(frame, sizeof frame);
+        explicit_bzero(ask, sizeof ask);
+    }
+    if (then_closes) close(end);
+    if (then_closes) __atomic_store_n(&answers, 0, __ATOMIC_SEQ_CST);
     pause();
     return unused;
 }
@@ -158,6 +182,81 @@ static const char *try_no_frame(void) {
     return key >= 0 || errno != EINVAL ? "sent" : look_for_secret();
 }
 
+/* What was sent, and answered, while the connection goes on. */
+static const char *try_sent(void) {
+    static uint8_t payload[SECRET];
+    answers = 2;
+    mallopt(M_MMAP_THRESHOLD, 1 << 30);
+    struct kr *connection = connect_to(answer_some, 2000);
+    int64_t context = kr_hello(connection, 0, 0, 0, NULL);
+    make_secret(payload);
+    int32_t key = kr_add(connection, (uint32_t)context, "user", "name", payload, sizeof payload, -4);
+    explicit_bzero(payload, sizeof payload);
+    return key == 1 ? look_for_secret() : "refused";
+}
+
+/* What was read, while the connection goes on. */
+static const char *try_read(void) {
+    static uint8_t payload[SECRET];
+    answers = 2;
+    reads_last = true;
+    mallopt(M_MMAP_THRESHOLD, 1 << 30);
+    struct kr *connection = connect_to(answer_some, 2000);
+    int64_t context = kr_hello(connection, 0, 0, 0, NULL);
+    bool is_read = kr_read(connection, (uint32_t)context, 5, payload, sizeof payload) == SECRET && *payload == 0x41;
+    explicit_bzero(payload, sizeof payload);
+    return is_read ? look_for_secret() : "not read";
+}
+
+/* An ask of which no byte goes out, as the socket is full. */
+static const char *try_full(void) {
+    static uint8_t payload[SECRET];
+    struct kr *connection = connect_to(NULL, 200);
+    mallopt(M_MMAP_THRESHOLD, 1 << 30);
+    while (send(kr_descriptor(connection), payload, sizeof payload, MSG_DONTWAIT) > 0) continue;
+    make_secret(payload);
+    int32_t key = kr_add(connection, 1, "user", "name", payload, sizeof payload, -4);
+    bool is_late = key < 0 && errno == ETIMEDOUT;
+    explicit_bzero(payload, sizeof payload);
+    return is_late ? look_for_secret() : "sent";
+}
+
+/* The longest reply: of 262,156 bytes with its head. */
+static void *answer_longest(void *unused) {
+    static uint8_t frame[16 + LONGEST_BODY], ask[FRAME];
+    const uint32_t length = sizeof frame - 4;
+    int end = accept(listener, NULL, NULL);
+    for (int i = 0; i < 4; i++) frame[i] = (uint8_t)(length >> 8 * i);
+    frame[8] = 1;
+    if (read(end, ask, sizeof ask) > 0)
+        for (size_t sent = 0; sent < sizeof frame;) {
+            ssize_t more = write(end, frame + sent, sizeof frame - sent);
+            if (more <= 0) break;
+            sent += (size_t)more;
+        }
+    pause();
+    return unused;
+}
+
+static const char *try_longest(void) {
+    static uint8_t room[LONGEST_BODY];
+    static char text[32];
+    struct kr *connection = connect_to(answer_longest, 4000);
+    int64_t length = kr_read(connection, 1, 5, room, sizeof room);
+    snprintf(text, sizeof text, "%lld", (long long)length);
+    return length < 0 ? strerrorname_np(errno) : text;
+}
+
+/* A server that has ended the connection: no signal, which would end this program. */
+static const char *try_closed(void) {
+    answers = 1;
+    then_closes = true;
+    struct kr *connection = connect_to(answer_some, 2000);
+    if (kr_hello(connection, 0, 0, 0, NULL) != 1) return "refused";
+    while (__atomic_load_n(&answers, __ATOMIC_SEQ_CST) != 0) usleep(1000);
+    return kr_get_id(connection, 1, -4, 0) < 0 ? strerrorname_np(errno) : "answered";
+}
+
 /* Whether a core file would have what is sent and received, or a child of fork(2): VmFlags of proc(5) say `dd`,
  * `wf`. */
 static const char *try_dump(void) {
@@ -173,12 +272,34 @@ static const char *try_dump(void) {
 
 static const char *try_empty(void) { return kr_open("") ? "connected" : strerrorname_np(errno); }
 
+/* As many bytes as sun_path of unix(7) has, which leaves none for the null byte. */
+static const char *try_long(void) {
+    char name[sizeof((struct sockaddr_un *)0)->sun_path + 1];
+    memset(name, 'x', sizeof name - 1);
+    *name = '/';
+    name[sizeof name - 1] = '\0';
+    return kr_open(name) ? "connected" : strerrorname_np(errno);
+}
+
+/* A record that says it has more bytes than there are. */
+static const char *try_note(void) {
+    static const uint8_t cut[12] = { 1, 0, 0, 0, 16 };
+    const void *records = cut;
+    size_t length = sizeof cut;
+    struct kr_note note;
+    int found = kr_next_note(&records, &length, &note);
+    return found < 0 && length == sizeof cut && records == cut ? strerrorname_np(errno) : "taken";
+}
+
 int main(int count, char **words) {
     static const struct {
         const char *name;
         const char *(*run)(void);
     } modes[] = { { "zero", try_zero }, { "signals", try_signals },   { "drip", try_drip },   { "half", try_half },
-                  { "dump", try_dump }, { "no frame", try_no_frame }, { "empty", try_empty } };
+                  { "dump", try_dump }, { "no frame", try_no_frame }, { "empty", try_empty },
+                  { "sent", try_sent }, { "read", try_read },       { "full", try_full },     { "closed", try_closed },
+                  { "long", try_long }, { "longest", try_longest },
+                  { "note", try_note } };
     if (count != 3) return 2;
     path = words[1];
     signal(SIGALRM, on_alarm);

@@ -64,6 +64,10 @@ static void see_serials(key_serial_t key) {
     check("a serial of the last daemon is no key of the new one",
           refused(keyctl_read(key, buffer, sizeof buffer), EKEYREVOKED) &&
           refused(keyctl_update(key, "secret", 6), EKEYREVOKED));
+    check("nor one that anything goes into",
+          refused(add_key("user", "b", "secret", 6, key), EKEYREVOKED) &&
+          refused(keyctl_link(KEY_SPEC_USER_KEYRING, key), EKEYREVOKED) &&
+          refused(keyctl_search(KEY_SPEC_USER_KEYRING, "user", "a", key), EKEYREVOKED));
     key_serial_t ring = keyctl_get_keyring_ID(KEY_SPEC_USER_KEYRING, 0);
     check("serials begin anew", ring > 0 && ring <= key && keyctl_setperm(ring, 0x3f3f0000) == 0);
     check("the keyring is read", keyctl_read(ring, (char *)links, sizeof links) >= 4);

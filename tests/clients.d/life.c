@@ -4,6 +4,7 @@
 #include <fcntl.h>
 #include <pthread.h>
 #include <stdlib.h>
+#include <sys/stat.h>
 #include <sys/wait.h>
 #include <unistd.h>
 
@@ -11,6 +12,7 @@
 #include "keyutils.h"
 
 enum { AT_ONCE = 300, CONTEXTS = 64, IN_TURN = 200, FORKS = 30, HAMMERS = 4, FILES = 300, OTHER_UID = 1001 };
+enum { LONG = 5000 };
 
 static key_serial_t process_key, thread_ring;
 static const char *scratch_file;
@@ -146,20 +148,65 @@ static bool asks_and_closes_all(key_serial_t session, key_serial_t key) {
     return sees_session(session, key) && leaves_files_alone();
 }
 
-/* What a program writes to a standard output that it has closed must not go to the daemon. */
-static bool closes_standard(key_serial_t session, key_serial_t key) {
+/* How many sockets a program that is executed would have. */
+static int inherited_sockets(void) {
+    struct stat status;
+    int count = 0;
+    for (int i = 0; i < FILES; i++)
+        count += fstat(i, &status) == 0 && S_ISSOCK(status.st_mode) && !(fcntl(i, F_GETFD) & FD_CLOEXEC);
+    return count;
+}
+
+/* What a program writes to a standard output that it has closed must not go to the daemon; nor is the daemon's
+ * connection for what the program executes. */
+static bool closes_from(int first, key_serial_t key) {
     char buffer[8];
-    (void)session;
-    for (int i = 0; i <= STDERR_FILENO; i++) close(i);
+    for (int i = first; i <= STDERR_FILENO; i++) close(i);
+    int before = inherited_sockets();
     bool asks = keyctl_read(key, buffer, sizeof buffer) == 3;
-    for (int i = 0; i <= STDERR_FILENO; i++) asks = asks && fcntl(i, F_GETFD) < 0;
-    return asks;
+    for (int i = first; i <= STDERR_FILENO; i++) asks = asks && fcntl(i, F_GETFD) < 0;
+    return asks && inherited_sockets() == before;
+}
+
+static bool closes_standard(key_serial_t session, key_serial_t key) {
+    (void)session;
+    return closes_from(STDIN_FILENO, key);
+}
+
+static bool closes_error(key_serial_t session, key_serial_t key) {
+    (void)session;
+    return closes_from(STDERR_FILENO, key);
 }
 
 static void try_descriptors(key_serial_t session, key_serial_t key) {
     check("numbers that are used for something else: the files are untouched", in_child(closes_all, session, key) == 0);
     check("closed standard descriptors are not used", in_child(closes_standard, session, key) == 0);
+    check("nor is one of them alone", in_child(closes_error, session, key) == 0);
     check("the same after the child has asked", in_child(asks_and_closes_all, session, key) == 0);
+}
+
+/* ---- Buffers ---- */
+
+/* keyctl_describe(3): nothing is put where there is no room for all of it, nor behind the buffer. */
+static void try_room(key_serial_t key) {
+    char text[256];
+    long length = keyctl_describe(key, NULL, 0);
+    memset(text, 'x', sizeof text);
+    check("describe with a byte less than it takes", keyctl_describe(key, text, (size_t)length - 1) == length);
+    check("puts nothing behind that", text[length - 1] == 'x' && text[length] == 'x');
+    check("describe with room", keyctl_describe(key, text, (size_t)length) == length);
+    check("puts a null byte at its end", text[length - 1] == '\0' && text[length] == 'x');
+}
+
+/* keyctl_read_alloc(3): all of a payload, whatever its length. */
+static void try_long_payload(void) {
+    static char payload[LONG];
+    void *read = NULL;
+    for (size_t i = 0; i < LONG; i++) payload[i] = (char)(i * 7);
+    key_serial_t key = add_key("user", "long", payload, LONG, KEY_SPEC_SESSION_KEYRING);
+    int length = keyctl_read_alloc(key, &read);
+    check("a long payload is read whole", length == LONG && memcmp(read, payload, LONG) == 0);
+    free(read);
 }
 
 /* ---- Identities ---- */
@@ -215,6 +262,8 @@ int main(int count, char **words) {
 #endif
     try_forks(session, key);
     try_descriptors(session, key);
+    try_room(key);
+    try_long_payload();
     try_identities();
     if (conclude("life") != 0) return 1;
     snprintf(session_word, sizeof session_word, "%d", session);

@@ -31,7 +31,10 @@ try_hostile() {
     [ -x "$dir/$name" ] || continue
     while IFS=: read -r mode wanted; do
       # a sanitizer has memory of its own, which its allocator doesn't give back
-      case $name:$mode in hostile-*:half | hostile-*:no\ frame | hostile-*:dump) continue ;; esac
+      case $name:$mode in
+        hostile-*:half | hostile-*:no\ frame | hostile-*:dump) continue ;;
+        hostile-*:sent | hostile-*:read | hostile-*:full) continue ;;
+      esac
       is "$name: $mode" "$wanted" "$("$dir/$name" "$dir/hostile.sock" "$mode")"
     done <<'END'
 zero:ETIMEDOUT
@@ -39,8 +42,15 @@ signals:ETIMEDOUT
 drip:ETIMEDOUT
 half:gone
 no frame:gone
+sent:gone
+read:gone
+full:gone
+closed:ECONNRESET
+longest:262140
+note:EPROTO
 dump:left out
 empty:ENOENT
+long:ENAMETOOLONG
 END
   done
 }
@@ -81,12 +91,15 @@ keep() {
   rm -f "$dir/life"
   : >"$dir/answer"
   mkfifo "$dir/life"
-  "$dir/keyretain/keyretain-keeper" --socket "$path" "$@" <"$dir/life" >"$dir/answer" 2>/dev/null &
+  "$dir/keyretain/keyretain-keeper" --socket "$path" "$@" <"$dir/life" >"$dir/answer" 2>"$dir/said" 9<"$dir/life" &
   exec {life}>"$dir/life"
   until_true grep -q . "$dir/answer"
 }
 
 let_go() { exec {life}>&-; }
+
+# session_of PID: its session of setsid(2)
+session_of() { sed 's/.*) //' "/proc/$1/stat" | cut -d ' ' -f 4; }
 
 # in_named: the session keyring of the session that $dir/answer tells
 in_named() { KEYRETAIN_SESSION=$(head -n 1 "$dir/answer") timeout 20 "$dir/acts" session; }
@@ -96,6 +109,8 @@ try_keeper() {
   serve --lanes 32
   is 'keeper: the words --version' "keyretain-keeper $version" "$("$dir/c/keyretain-keeper" --version)"
   is 'keeper: no such option' 2 "$("$dir/c/keyretain-keeper" --none 2>/dev/null; echo $?)"
+  is 'keeper: a name with an end of line' 2 \
+    "$("$dir/c/keyretain-keeper" --name $'a\nb' --socket "$dir/none" </dev/null >/dev/null 2>&1; echo $?)"
   is 'keeper: a name and a ring' 2 "$("$dir/c/keyretain-keeper" --name a --hold b 2>/dev/null; echo $?)"
   for word in 0 -1 1000000 1s ''; do
     is "keeper: a patience of '$word'" 2 "$("$dir/c/keyretain-keeper" --patience "$word" 2>/dev/null; echo $?)"
@@ -106,10 +121,13 @@ try_keeper() {
   is 'keeper: its session' "$serial" "$(in_named)"
   if [ "$(id -u)" = 0 ]; then
     is 'keeper: its descriptors' '0 1 2 3' "$(find "/proc/$(keepers)/fd" -mindepth 1 -printf '%f\n' | sort -n | xargs)"
+    is 'keeper: where it tells nothing' /dev/null "$(readlink "/proc/$(keepers)/fd/2")"
     is 'keeper: it keeps no folder in use' / "$(readlink "/proc/$(keepers)/cwd")"
   else
     is 'keeper: only root may look at it' no "$(ls "/proc/$(keepers)/fd" >/dev/null 2>&1 && echo yes || echo no)"
   fi
+  is 'keeper: it has left the terminal and its session' no \
+    "$([ "$(session_of "$(keepers)")" = "$(session_of $$)" ] && echo yes || echo no)"
   let_go
   until_true has_no_keeper
   is 'keeper: ends with its pipe' EKEYREVOKED "$(in_named)"
@@ -144,11 +162,11 @@ try_keeper() {
 try_hold() {
   local life
   serve --lanes 32
-  keep --hold credentials
-  is 'hold: a key is put there' ok "$("$dir/acts" put credentials 30)"
+  keep --hold credentials --patience 1000
+  is 'hold: a key is put there' ok "$("$dir/acts" put credentials 300)"
   let_go
-  sleep 1
-  is 'hold: it is there after that' ok "$("$dir/acts" put credentials 30)"
+  sleep 2.5
+  is 'hold: it is there after that, longer than its patience' ok "$("$dir/acts" put credentials 300)"
   keep --hold credentials
   let_go
   until_true has_one_keeper
@@ -160,6 +178,11 @@ try_hold() {
   let_go
   until_true has_no_keeper
   is 'hold: nothing is held for nothing' gone "$(has_no_keeper && echo gone)"
+  keep --hold credentials
+  is 'hold: a key that nobody may look at' ok "$("$dir/acts" hide credentials)"
+  let_go
+  sleep 2.5
+  is 'hold: it is a key all the same' '1 1' "$("$dir/acts" links credentials) $(keepers | wc -l)"
   kill_daemon TERM
 }
 
@@ -177,6 +200,9 @@ try_inherited() {
   is 'a name to join' 2 "$(in_session --join name 2>/dev/null; echo $?)"
   is 'a folder of the library that is not absolute' "$dir/keyretain" "$(cd "$dir" &&
     KEYRETAIN_LIBRARY_FOLDER=keyretain "$dir/c/keyretain-session" -- sh -c 'echo ${LD_LIBRARY_PATH%%:*}')"
+  is 'a session that is joined while signals come' 'ok, no child' "$("$dir/acts" interrupted signals)"
+  is 'files under the number of what held a session' 'ok, 297 of 297 files left' \
+    "$("$dir/acts" again <"$top/README.md")"
   is 'no keeper is there' 3 "$("$dir/no-keeper/keyretain-session" -- true 2>/dev/null; echo $?)"
   kill_daemon TERM
   until_true has_no_keeper

@@ -1,6 +1,7 @@
 """sessions.py PATH: which sessions the Python client enters, on a daemon that nobody has used. Prints a line for each
 difference, and last how many were compared."""
 import os
+import subprocess
 import sys
 
 from compare import compare, conclude
@@ -58,9 +59,25 @@ def try_sessions(path):
         holder.revoke(own, serial)
         compare("one that was revoked", False, client.enter_session(context, text))
         compare("what is then the session", b"keyring", client.describe(context, SESSION).split(b";")[0])
+        last = client.join(context)
+        compare("one of that serial that is made just now", False, client.enter_session(context, f"{last + 1}:new"))
+        compare("it had that serial", last + 2, client.get_id(context, SESSION))
         compare("has no name that others find", b"_ses", client.describe(context, SESSION).split(b";")[4])
+
+
+def try_groups(path):
+    """The command has a context also where it has more groups than the daemon takes."""
+    if OWN != 0:
+        print("skipped: the command with many groups: not root")
+        return
+    environment = {**os.environ, "KEYRETAIN_SOCKET": path, "PYTHONPATH": sys.path[0]}
+    with subprocess.Popen([sys.executable, "-B", "-m", "keyretain", "@u"], env=environment, stdout=subprocess.PIPE,
+                          extra_groups=range(5000, 5040)) as command:
+        compare("40 groups", b"watching keyring;", command.stdout.readline()[:17])
+        command.kill()
 
 
 try_texts()
 try_sessions(sys.argv[1])
+try_groups(sys.argv[1])
 conclude()

@@ -5,6 +5,8 @@ import importlib
 import os
 import signal
 import socket
+import stat
+import struct
 import subprocess
 import sys
 import threading
@@ -345,7 +347,12 @@ def try_listings():
     for body in (b"12345", b"1"):
         with client_of(answer(body)) as client:
             compare(f"a keyring of {len(body)} bytes", "Malformed", outcome(client.read_ring, 1, 5))
-    for body in (b"\x01\0\0\1", b"\x05\0\0\0\x10\0\0\0" + bytes(8), b"\1\0\0\1\x10\0\0\0" + bytes(4)):
+    for number in (0, 1 << 31, (1 << 32) - 1):
+        with client_of(answer(struct.pack("<I", number))) as client:
+            compare(f"the serial {number}", "Malformed", outcome(client.get_id, 1, keyretain.USER))
+    for body in (b"\x01\0\0\1", b"\x05\0\0\0\x10\0\0\0" + bytes(8), b"\1\0\0\1\x10\0\0\0" + bytes(4),
+                 struct.pack("<IIII", 0x01000001, 16, 1 << 31, 0), struct.pack("<IIII", 0x01000001, 16, 5, 1 << 31),
+                 struct.pack("<IIQ", 0, 16, 1 << 31)):
         with client_of(answer(body)) as client:
             compare(f"notes of {len(body)} bytes", "Malformed", outcome(client.read_queue, 1))
 
@@ -358,6 +365,37 @@ def try_values():
                  outcome(client.join, 1, "a" * 65536), outcome(client.update, 1, 5, bytes(65536)),
                  outcome(client.update, 1, 5, 7), outcome(client.ask, "READ", 1)])
         compare("an ask behind them", b"5", client.read(1, 5))
+        # 16 bytes of head, an id and a count: what is left of the 65536 of a frame
+        compare("the longest payload, and a byte more", [None, "ValueError"],
+                [outcome(client.update, 1, 5, bytes(65536 - 16 - 4 - 4 + more)) for more in (0, 1)])
+
+
+def sockets():
+    """The descriptors that are sockets."""
+    found = set()
+    for number in range(256):
+        try:
+            if stat.S_ISSOCK(os.fstat(number).st_mode):
+                found.add(number)
+        except OSError:
+            pass
+    return found
+
+
+def try_standard():
+    """What is written to a standard output that was closed must not go to the daemon; nor is a connection for programs
+    that are executed."""
+    with served() as path:
+        for first in (0, 2):
+            def ask():
+                for number in range(first, 3):  # pylint: disable=cell-var-from-loop
+                    os.close(number)
+                before = sockets()
+                with keyretain.Client(path, 2, 20) as client:
+                    client.read(1, 5)
+                    return [(end > 2, os.get_inheritable(end)) for end in sockets() - before]
+
+            compare(f"a connection where {first} to 2 are closed", "[(True, False)]", in_child(ask))
 
 
 def try_pipe_signal():
@@ -387,12 +425,14 @@ def try_words():
     for word, key in (("2147483648", None), ("0", None), ("-4", None), ("x", None), ("\u0665", None), ("", None),
                       ("@u", -4), ("2147483647", 2147483647), ("05", 5)):
         compare(f"the key of {word!r}", key, key_of(word))
+    printable = importlib.import_module("keyretain.__main__").printable
+    compare("what a terminal would obey", "a\\x1b[2J\\x0a\\xff b", printable(b"a\x1b[2J\n\xff b"))
 
 
 if __name__ == "__main__":
     for case in (try_children, try_held, try_cut_frames, try_late_replies, try_ahead, try_large_ahead, try_too_far,
                  try_answered_then_gone, try_deadlines, try_backlog, try_nonsense, try_listings, try_values,
-                 try_pipe_signal, try_words):
+                 try_standard, try_pipe_signal, try_words):
         case()
     try_every_step("an ask", lambda client: client.read(1, 5))
     try_every_step("asks sent ahead", ahead)

@@ -185,6 +185,38 @@ def try_another_runtime_directory():
                 tells_path(OTHER, {"XDG_RUNTIME_DIR": "/nowhere"}))
 
 
+def try_closed():
+    """One's own folder that can't be looked into isn't replaced by the system's daemon."""
+    with folders() as (runtime, system):
+        os.mkdir(runtime + "/keyretain")
+        for folder in (runtime, runtime + "/keyretain"):
+            os.chown(folder, OTHER, OTHER)
+        os.chown(system, DAEMON, DAEMON)
+        os.chmod(runtime, 0)
+        with listening(system + "/keyretain.sock", DAEMON):
+            compare("a folder of one's own that is closed", "PermissionError", tells(uid=OTHER))
+        os.chmod(runtime, 0o700)
+
+
+def try_turned():
+    """Who listens is asked at each connection: also at the one that is made for frames of version 1."""
+    def greet():
+        with keyretain.Client(path) as client:
+            return client.hello(0, 0)
+
+    words = [sys.executable, "-B", os.path.join(os.path.dirname(os.path.abspath(__file__)), "turn.py")]
+    with folders() as (_, system):
+        path, other = os.path.dirname(system) + "/turned.sock", os.path.dirname(system) + "/others.sock"
+        os.chmod(os.path.dirname(system), 0o777)
+        with listening(other, OTHER) as told, \
+                subprocess.Popen([*words, path, other], stdout=subprocess.PIPE) as turns:
+            turns.stdout.readline()
+            compare("a path that is turned to another after the first connection", "PermissionError", outcome(greet))
+            compare("what the other was told", 0, told())
+            compare("the first connection was made", 0, turns.wait(20))
+            os.rename(path, other)
+
+
 def tells_path(uid, environment):
     """What default_path answers this user."""
     def run(write):
@@ -244,20 +276,24 @@ def try_system():
 
 def try_set_uid():
     """What a program that was started with rights of its own finds: what the environment says isn't for it."""
-    words = "import os, sys; sys.path[0] = sys.argv[1]; import keyretain; print(keyretain.default_path())"
+    words = """import sys; sys.path[0] = sys.argv[1]; import keyretain; print(keyretain.default_path())
+client = object.__new__(keyretain.Client)
+client.join = lambda *_: print("joined")
+print(client.enter_session(1))"""
 
     def run(write):
         os.setresgid(OTHER, OWN, OWN)
         os.setresuid(OTHER, OWN, OWN)
         os.dup2(write, 1)
         os.execve(sys.executable, [sys.executable, "-B", "-c", words, sys.path[0]],
-                  {"KEYRETAIN_SOCKET": "/another", "XDG_RUNTIME_DIR": runtime})
+                  {"KEYRETAIN_SOCKET": "/another", "XDG_RUNTIME_DIR": runtime, "KEYRETAIN_SESSION": "5:named"})
 
     with folders() as (runtime, _):
         os.mkdir(runtime + "/keyretain")
         child, read = in_child(run)
         with os.fdopen(read) as answered:
-            compare("the path in a program that runs set-uid", "/run/keyretain/keyretain.sock\n", answered.read())
+            compare("the path in a program that runs set-uid, and whether it is in a session",
+                    "/run/keyretain/keyretain.sock\nFalse\n", answered.read())
         os.waitpid(child, 0)
 
 
@@ -266,7 +302,8 @@ if __name__ == "__main__":
         os.environ.pop(variable, None)
     cases = [try_places, try_names, try_peer]
     if sys.argv[1:] != ["one"]:
-        cases += [try_found, try_found_root, try_another_runtime_directory, try_named, try_system, try_set_uid]
+        cases += [try_found, try_found_root, try_another_runtime_directory, try_closed,
+                  try_turned, try_named, try_system, try_set_uid]
     for case in cases:
         case()
     servers.conclude()

@@ -1,8 +1,10 @@
 """git.py: git-credential-keyretain by the words and lines of gitcredentials(7) and git-credential(1), without git.
 Prints a line for each difference, and last how many were compared."""
 import os
+import resource
 import signal
 import subprocess
+import tempfile
 import time
 
 from helpers import FOLDER, compare, conclude, daemon, helper, is_one_line, keepers, keyretain, looking, run, until
@@ -176,6 +178,35 @@ def try_silent_daemon():
         process.send_signal(signal.SIGSTOP)
         status, out, err = run(helper("git", "get"), lines("protocol=https host=a"))
         compare("a daemon that stands still", (1, b"", True), (status, out, is_one_line(err, PROGRAM)))
+        with subprocess.Popen(helper("git", "get"), stdin=subprocess.PIPE, stderr=subprocess.DEVNULL,
+                              preexec_fn=allow_core) as waits:
+            waits.stdin.write(lines("protocol=https host=a").encode())
+            waits.stdin.close()
+            compare("a helper leaves no core file", True, until(lambda: soft_core_limit(waits.pid) == "0"))
+            waits.kill()
+
+
+def allow_core():
+    hard = resource.getrlimit(resource.RLIMIT_CORE)[1]
+    resource.setrlimit(resource.RLIMIT_CORE, (hard, hard))
+
+
+def soft_core_limit(pid):
+    with open(f"/proc/{pid}/limits", encoding="ascii") as limits:
+        return next(line.split()[4] for line in limits if line.startswith("Max core file size"))
+
+
+def try_elsewhere():
+    """Modules are not looked for where a helper is run, which may be a repository of somebody else's, nor where the
+    environment says."""
+    with tempfile.TemporaryDirectory(prefix="keyretain.") as folder:
+        for name in ("keyretain", "struct", "sys", "socket", "json", "urllib", "sitecustomize"):
+            os.mkdir(f"{folder}/{name}")
+            with open(f"{folder}/{name}/__init__.py", "w", encoding="ascii") as file:
+                file.write(f"open({folder + '/run'!r}, 'w')\nraise SystemExit(9)\n")
+        status, out, err = run(helper("git", "--version"), cwd=folder, environment={"PYTHONPATH": folder})
+        compare("where others have modules", (0, True, b"", False),
+                (status, out.startswith(PROGRAM.encode()), err, os.path.exists(folder + "/run")))
 
 
 def try_crowd():
@@ -195,16 +226,27 @@ def try_crowd():
 # ---- Who holds it
 
 
+def set_signals():
+    """As whoever runs a helper may have them."""
+    signal.pthread_sigmask(signal.SIG_BLOCK, [signal.SIGUSR1])
+    signal.signal(signal.SIGUSR2, signal.SIG_IGN)
+
+
 def try_keeper():
     """Outside a session there is one keeper, which ends when the last key has expired."""
     with daemon():
         compare("at first", [], keepers())
         git("get", "protocol=https host=a")
         compare("for nothing", [], keepers())
-        git("store", "protocol=https host=a username=u password=p", "--timeout=1000")
+        run(helper("git", "--timeout=1000", "store"), lines("protocol=https host=a username=u password=p"),
+            preexec_fn=set_signals)
         git("store", "protocol=https host=b username=u password=s3cret", "--timeout=1000")
         compare("one keeper stays", True, until(lambda: len(keepers()) == 1))
         pid, words = keepers()[0]
+        with open(f"/proc/{pid}/status", encoding="ascii") as status:
+            signals = dict(line.split() for line in status if line.startswith(("SigBlk:", "SigIgn:")))
+        compare("signals that it holds back", 0, int(signals["SigBlk:"], 16))
+        compare("one that whoever stored the key ignored", 0, int(signals["SigIgn:"], 16) & 1 << signal.SIGUSR2 - 1)
         compare("its words", ["keyretain-keeper", "--hold", "git-credentials", "--socket",
                               os.environ["KEYRETAIN_SOCKET"]], words)
         if os.geteuid() == 0:
@@ -266,9 +308,14 @@ def try_no_keeper():
     """Where nothing would hold a key, that is said, and nothing is kept."""
     package = os.environ["PACKAGE"]
     words = ("import sys; sys.path.insert(0, sys.argv[1])\nimport keyretain.credentials.keeper as keeper\n"
-             "keeper.KEEPER = sys.argv[2]\nfrom keyretain.credentials.git import main\nsys.exit(main(sys.argv[3:]))")
-    with daemon():
-        for keeper in ("/nowhere/keyretain-keeper", "/bin/true", "/bin/cat"):
+             "keeper.KEEPER, keeper.PATIENCE = sys.argv[2], 2.0\n"
+             "from keyretain.credentials.git import main\nsys.exit(main(sys.argv[3:]))")
+    with daemon(), tempfile.TemporaryDirectory(prefix="keyretain.") as folder:
+        silent = folder + "/keyretain-keeper"
+        with open(silent, "w", encoding="ascii") as file:
+            file.write("#!/bin/sh\nexec sleep 100\n")
+        os.chmod(silent, 0o755)
+        for keeper in ("/nowhere/keyretain-keeper", "/bin/true", "/bin/cat", silent):
             status, _, err = run(["python3", "-I", "-B", "-c", words, package, keeper, "store"],
                                  lines("protocol=https host=a username=u password=p"))
             compare(f"a keeper that is {keeper}", (1, True), (status, is_one_line(err, PROGRAM)))
@@ -276,7 +323,7 @@ def try_no_keeper():
         compare("nothing is kept", set(), git("get", "protocol=https host=a"))
 
 
-for case in (try_steps, try_bytes, try_others, try_expiry, try_words, try_silent_daemon, try_crowd, try_keeper,
-             try_other_user, try_session, try_no_keeper):
+for case in (try_steps, try_bytes, try_others, try_expiry, try_words, try_silent_daemon, try_elsewhere, try_crowd,
+             try_keeper, try_other_user, try_session, try_no_keeper):
     case()
 conclude()

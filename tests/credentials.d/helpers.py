@@ -57,10 +57,10 @@ def keepers():
     return found
 
 
-def run(words, given="", environment=None, timeout=PATIENCE):
+def run(words, given="", environment=None, timeout=PATIENCE, **named):
     """The status of a program, and what it prints on its standard output and on standard error, as bytes."""
     ended = subprocess.run(words, input=given if isinstance(given, bytes) else given.encode(), capture_output=True,
-                           timeout=timeout, env={**os.environ, **(environment or {})}, check=False)
+                           timeout=timeout, env={**os.environ, **(environment or {})}, check=False, **named)
     return ended.returncode, ended.stdout, ended.stderr
 
 

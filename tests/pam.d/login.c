@@ -12,6 +12,7 @@
 #include <stdlib.h>
 #include <string.h>
 #include <sys/stat.h>
+#include <sys/time.h>
 #include <sys/wait.h>
 #include <unistd.h>
 
@@ -158,6 +159,40 @@ static void kill_keepers(const char *path) {
     usleep(200000);
 }
 
+/* Whether it has a child, also one of which no signal tells. */
+static void show_offspring(const char *word) {
+    (void)word;
+    dprintf(OUT, "%s\n", waitpid(-1, NULL, WNOHANG | __WALL) < 0 ? "no child" : "a child");
+}
+
+static void on_interrupt(int unused) { (void)unused; }
+
+/* A signal each two milliseconds, by which calls are interrupted; or no more. */
+static void interrupt_often(const char *word) {
+    struct sigaction action = { .sa_handler = on_interrupt };
+    struct itimerval often = { .it_value.tv_usec = 2000, .it_interval.tv_usec = 2000 };
+    if (*word) often = (struct itimerval){ 0 };
+    sigaction(SIGALRM, &action, NULL);
+    setitimer(ITIMER_REAL, &often, NULL);
+}
+
+/* A SIGPIPE that is there already, and held back. */
+static void hold_pipe_signal(const char *word) {
+    sigset_t broken;
+    (void)word;
+    sigemptyset(&broken);
+    sigaddset(&broken, SIGPIPE);
+    sigprocmask(SIG_BLOCK, &broken, NULL);
+    raise(SIGPIPE);
+}
+
+static void show_pipe_signal(const char *word) {
+    sigset_t pending;
+    (void)word;
+    sigpending(&pending);
+    dprintf(OUT, "SIGPIPE %s\n", sigismember(&pending, SIGPIPE) == 1 ? "held back" : "taken away");
+}
+
 static bool is_empty(const sigset_t *set) {
     for (int number = 1; number < NSIG; number++)
         if (sigismember(set, number) == 1) return false;
@@ -221,6 +256,10 @@ static const struct {
     { "block", hold_signals_back },
     { "kill-keepers", kill_keepers },
     { "signals", show_signals },
+    { "offspring", show_offspring },
+    { "interrupts", interrupt_often },
+    { "hold-pipe", hold_pipe_signal },
+    { "show-pipe", show_pipe_signal },
     { "threads", start_threads },
     { "become", become },
 };

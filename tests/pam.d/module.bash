@@ -258,8 +258,15 @@ a path with such a byte|5:name\\n/pa\\001th\\n
 an empty first line|\\n5:name\\n/path\\n
 a refusal|refused 13 the name: Permission denied\\n
 END_OF_TABLE
+  long=$(printf '%0106d' 1)
+  says "5:name\\\\n/$long\\\\n"
+  gives 'a path of 107 bytes' "open success KEYRETAIN_SOCKET=/$long" one open show:KEYRETAIN_SOCKET
+  says "5:name\\\\n/1$long\\\\n"
+  gives 'a path of 108 bytes, which no address of a socket holds' "open success $none" one open "${show[@]}"
   since=$SECONDS module=strict
   service one "socket=$path"
+  printf '#!/bin/sh\nwhile printf x; do sleep 0.3; done\n' >"$keeper"
+  gives 'a keeper that says a byte now and then' "open success $none" one open "${show[@]}"
   printf '#!/bin/sh\nexec yes\n' >"$keeper"
   gives 'a keeper that has no end' "open success $none" one open "${show[@]}"
   printf '#!/bin/sh\nexec sleep 50\n' >"$keeper"
@@ -281,6 +288,10 @@ try_deaf_keeper() {
   chmod 755 "$keeper"
   gives 'a keeper that does not end' 'open success close success end success' one open close end
   in_time 'a keeper that does not end' "$since"
+  since=$SECONDS
+  printf '#!/bin/sh\nhead -c 65536 /dev/zero >/proc/self/fd/0\nprintf "5:name\\n/path\\n"\nexec sleep 50\n' >"$keeper"
+  gives 'a keeper that has filled its pipe' 'open success close success end success' one open close end
+  in_time 'a keeper that has filled its pipe' "$since"
   mv "$keeper.true" "$keeper"
   module=module
   service one "socket=$path"
@@ -290,26 +301,17 @@ try_deaf_keeper() {
 
 # reports: in the keeper's place, a program that writes down what it was given. Signals 32 and 33 are the C library's
 # own: posix_spawn(3) leaves them ignored, as make(1) does for whatever it runs, and sigaction(3) doesn't set them.
-reports() {
-  sed "s|GIVEN|$dir/given|" >"$keeper" <<'END_OF_PROGRAM'
-#!/bin/sh
-ls -v /proc/$$/fd >GIVEN
-readlink /proc/$$/fd/2 >>GIVEN
-readlink /proc/$$/cwd >>GIVEN
-wc -c </proc/$$/environ >>GIVEN
-grep -E '^(Uid|Gid|Groups|SigBlk|SigIgn):' /proc/self/status | sed '/^SigIgn/s/0000000180000000/0000000000000000/' >>GIVEN
-tr '\0' ' ' </proc/$$/cmdline >>GIVEN
-END_OF_PROGRAM
-  chmod 755 "$keeper"
-}
+reports() { install -m 755 "$dir/report" "$keeper"; }
 
-# given UID GID GROUPS: the lines of it, in the order of the program: 10 and 11 are the shell's own
+# given UID GID GROUPS: the lines of it, in the order of the program
 given() {
-  printf '%s\n' 0 1 2 10 11 /dev/null / 0 "Uid: $1 $1 $1 $1" "Gid: $2 $2 $2 $2" "Groups: $3" \
-    'SigBlk: 0000000000000000' 'SigIgn: 0000000000000000' "/bin/sh $keeper --patience 39800 --socket $path"
+  printf '%s\n' 0 1 2 /dev/null / 0 "Uid: $1 $1 $1 $1" "Gid: $2 $2 $2 $2" "Groups: $3" \
+    'SigBlk: 0000000000000000' 'SigIgn: 0000000000000000' "keyretain-keeper --patience 39800 --socket $path"
 }
 
-report() { sed 's/[[:space:]]\+/ /g; s/ $//' "$dir/given"; }
+report() {
+  sed 's/[[:space:]]\+/ /g; s/ $//; /^SigIgn/s/0000000180000000/0000000000000000/' "$dir/given"
+}
 
 try_given() {
   local SECRET=host-key groups
@@ -319,8 +321,8 @@ try_given() {
   reports
   : >"$dir/given" && chmod 666 "$dir/given"
   logs_in one children:ignored block open >/dev/null
-  is 'what a keeper is given' "$(given "$(id -u "$user")" "$(id -g "$user")" "$groups")" "$(report)"
   mv "$keeper.true" "$keeper"
+  is 'what a keeper is given' "$(given "$(id -u "$user")" "$(id -g "$user")" "$groups")" "$(report)"
 }
 
 # ---- Applications of all kinds
@@ -339,6 +341,11 @@ try_applications() {
     gives "children are $how, and the keeper is killed" 'open success close success signals as before, no child seen' \
       one "children:$how" open "kill-keepers:$path" close "signals:$how"
   done
+  gives 'no child is left, of any kind' 'open success no child close success no child' \
+    one open offspring close offspring
+  gives 'signals that interrupt' 'open success inside close success' one interrupts open interrupts:end "$inside" close
+  gives 'a SIGPIPE that was held back before' 'open success close success SIGPIPE held back' \
+    one hold-pipe open "kill-keepers:$path" close show-pipe
   gives 'threads that hold locks' '40 sessions' one threads repeat:40
   gone 'applications of all kinds'
 }
@@ -361,7 +368,7 @@ try_else_kernel() {
 # ---- Users, by root alone
 
 try_users() {
-  local nobody=65534 as=(setpriv --reuid 65534 --regid 65534 --clear-groups)
+  local nobody=65534 ids as=(setpriv --reuid 65534 --regid 65534 --clear-groups)
   if [ "$(id -u)" != 0 ] || ! "${as[@]}" true 2>/dev/null || [ "$(id -un $nobody 2>/dev/null)" != nobody ]; then
     skipped 'logins of another user: not root, or no setpriv or no user nobody'
     return
@@ -377,6 +384,11 @@ try_users() {
   gives 'who lets itself in' 'open success inside close success' one open "$inside" close
   log_in=(setpriv --reuid "$nobody" --rgid "$nobody" --egid 0 --groups "$(id -g nobody)" "$dir/login")
   try_given
+  for ids in '--ruid 4005 --euid 65534' '--ruid 65534 --euid 4005'; do
+    # shellcheck disable=SC2206 # these are words
+    log_in=(setpriv $ids --regid 65534 --clear-groups "$dir/login")
+    is "who is nobody by half, $ids" "open success $none close success" "$(logs_in one open "${show[@]}" close)"
+  done
   log_in=("${as[@]}" "$dir/login")
   user=root
   gives 'who lets another one in' "open success $none close success" one open "${show[@]}" close

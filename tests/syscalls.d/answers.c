@@ -10,6 +10,7 @@ enum { PAGE = 4096, MOST = 32767, THREADS = 8, LOOKS = 2000 };
 
 static const char *const user = "user";
 static char *page, *read_only, *large; /* a page with none behind it; one that can't be written */
+static char *half_written;             /* two pages, of which the first can be written */
 static char buffer[256];
 
 /* ---- Lines ---- */
@@ -49,6 +50,8 @@ static void holds(const char *what, bool holds) { printf("%s: %s\n", what, holds
 static void make_memory(void) {
     char *two = mmap(NULL, 2 * PAGE, PROT_READ | PROT_WRITE, MAP_PRIVATE | MAP_ANONYMOUS, -1, 0);
     read_only = mmap(NULL, PAGE, PROT_READ, MAP_PRIVATE | MAP_ANONYMOUS, -1, 0);
+    half_written = mmap(NULL, 2 * PAGE, PROT_READ | PROT_WRITE, MAP_PRIVATE | MAP_ANONYMOUS, -1, 0);
+    if (half_written == MAP_FAILED || mprotect(half_written + PAGE, PAGE, PROT_READ) < 0) exit(2);
     large = malloc(2 * 1024 * 1024);
     if (two == MAP_FAILED || read_only == MAP_FAILED || !large || munmap(two + PAGE, PAGE) < 0) exit(2);
     page = two;
@@ -65,6 +68,7 @@ static void try_reading(long key) {
     number("read without a buffer", read_key(key, NULL, 0));
     number("read to an address that isn't there", read_key(key, (void *)16, 100));
     number("read to a page that can't be written", read_key(key, read_only, 100));
+    number("read over the end of what can be written", read_key(key, half_written + PAGE - 3, 7));
     number("read over the end of a page", read_key(key, page + PAGE - 3, 7));
     number("read up to the end of a page", read_key(key, page + PAGE - 7, 7));
     memset(page, 'd', PAGE);
@@ -108,6 +112,7 @@ static void try_lengths(void) {
     number("a payload of 32768 bytes", add_key(user, "more", large, MOST + 1, ring));
     number("a payload of 65536 bytes", add_key(user, "more", large, 65536, ring));
     number("a payload of 100000 bytes", add_key(user, "more", large, 100000, ring));
+    number("a payload of a mebibyte less one", add_key(user, "more", large, 1024 * 1024 - 1, ring));
     number("a payload of a mebibyte", add_key(user, "more", large, 1024 * 1024, ring));
     number("a payload that is as long as memory", add_key(user, "more", large, ~0ul, ring));
     number("a longer one, and a type that isn't there", add_key((void *)1, "more", large, 1024 * 1024, ring));
@@ -153,6 +158,7 @@ static void try_describing(long key) {
     number("a choice of keyring", keyctl(KEYCTL_SET_REQKEY_KEYRING, KEY_REQKEY_DEFL_USER_KEYRING, 0, 0, 0));
     number("and which that was", keyctl(KEYCTL_SET_REQKEY_KEYRING, (unsigned long)-1L, 0, 0, 0));
     number("a choice that can't be", keyctl(KEYCTL_SET_REQKEY_KEYRING, KEY_REQKEY_DEFL_GROUP_KEYRING, 0, 0, 0));
+    number("one below all", keyctl(KEYCTL_SET_REQKEY_KEYRING, (unsigned long)-2L, 0, 0, 0));
     number("another that can't be", keyctl(KEYCTL_SET_REQKEY_KEYRING, 99, 0, 0, 0));
     number("the choice goes back", keyctl(KEYCTL_SET_REQKEY_KEYRING, 0, 0, 0, 0));
 }

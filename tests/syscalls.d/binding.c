@@ -1,7 +1,10 @@
-/* binding: to what a supervisor is bound while it looks at a thread by its number, which another may get meanwhile. It
- * calls the supervisor's parts as the loop does, as process 1 of a PID namespace in which it may choose numbers. */
+/* binding: to what a supervisor is bound while it looks at a thread by its number, which another may get meanwhile;
+ * which call an answer is kept for; and which ids a container's are. It calls the supervisor's parts as the loop does,
+ * as process 1 of a PID namespace in which it may choose numbers. */
 #define _GNU_SOURCE
 #include <linux/sched.h>
+#include <linux/seccomp.h>
+#include <pthread.h>
 #include <sched.h>
 #include <signal.h>
 #include <stdint.h>
@@ -10,10 +13,11 @@
 
 #include "../clients.d/check.h"
 #include "calls.h"
+#include "proc.h"
 #include "syscalls.h"
 #include "tracees.h"
 
-enum { NUMBER = 100 };
+enum { NUMBER = 100, THREAD = 200 };
 
 static const struct tracees_wish wish = { .thread = true, .keyring = true };
 static char *shared_byte; /* at one address in all processes, and each has its own */
@@ -115,6 +119,85 @@ static void try_reuse(void) {
     end_child(child);
 }
 
+/* ---- A thread's number ---- */
+
+static int orders[2], reports[2];
+
+static void *wait_for_order(void *unused) {
+    char byte;
+    bool is_it = gettid() == THREAD; /* else the one before has not quite ended */
+    (void)unused;
+    if (is_it && (write(reports[1], "b", 1) != 1 || read(orders[0], &byte, 1) != 1)) _exit(2);
+    return NULL;
+}
+
+/* A process that has one thread after the other with that number, each until it is told to end it. */
+static void have_threads(void) {
+    pthread_t thread;
+    for (;;) {
+        FILE *last = fopen("/proc/sys/kernel/ns_last_pid", "w");
+        if (!last || fprintf(last, "%d", THREAD - 1) < 0 || fclose(last) != 0) _exit(2);
+        if (pthread_create(&thread, NULL, wait_for_order, NULL) != 0) _exit(2);
+        pthread_join(thread, NULL);
+    }
+}
+
+static bool has_begun(void) {
+    char byte;
+    return read(reports[0], &byte, 1) == 1;
+}
+
+static void try_thread_reuse(void) {
+    if (pipe(orders) < 0 || pipe(reports) < 0) exit(2);
+    pid_t number = NUMBER;
+    struct clone_args arguments = { .exit_signal = SIGCHLD, .set_tid = (uintptr_t)&number, .set_tid_size = 1 };
+    pid_t child = (pid_t)syscall(SYS_clone3, &arguments, sizeof arguments);
+    if (child == 0) have_threads();
+    if (check("a thread begins", has_begun()) && check("it enters", tracees_enter(THREAD, wish, always))) {
+        check("it has a thread keyring", ring(KEY_SPEC_THREAD_KEYRING, 1) > 0);
+        tracees_leave();
+    }
+    check("it ends", write(orders[1], "e", 1) == 1);
+    if (check("another of its number begins", has_begun()) && tracees_enter(THREAD, wish, always)) {
+        check("it has no thread keyring", refused(ring(KEY_SPEC_THREAD_KEYRING, 0), ENOKEY));
+        tracees_leave();
+    }
+    end_child(child);
+}
+
+/* The answer to a call that was interrupted is that call's alone, and is given once. */
+static void try_replay(void) {
+    struct replay replay = { 0 };
+    const struct seccomp_data call = { .nr = SYS_add_key, .instruction_pointer = 0x1000, .args = { 1, 2, 3, 4, 5 } };
+    struct seccomp_data elsewhere = call, otherwise = call;
+    long result = 0;
+    elsewhere.instruction_pointer++;
+    otherwise.args[4]++;
+    check("nothing is kept at first", !replay_take(&replay, &call, 7, &result));
+    replay_keep(&replay, &call, 7, -1, EDQUOT);
+    errno = 0;
+    check("what is kept is given", replay_take(&replay, &call, 7, &result) && refused(result, EDQUOT));
+    check("once", !replay_take(&replay, &call, 7, &result));
+    replay_keep(&replay, &call, 7, 9, 0);
+    check("not for another payload", !replay_take(&replay, &call, 8, &result));
+    check("and not at all after that", !replay_take(&replay, &call, 7, &result));
+    replay_keep(&replay, &call, 7, 9, 0);
+    check("not from another place", !replay_take(&replay, &elsewhere, 7, &result));
+    replay_keep(&replay, &call, 7, 9, 0);
+    check("not for other arguments", !replay_take(&replay, &otherwise, 7, &result));
+    check("payloads are told apart", replay_sum(1, "a", 2) != replay_sum(1, "b", 2));
+}
+
+/* user_namespaces(7): an id that has none in the namespace is seen there as 65534. */
+static void try_maps(void) {
+    const struct proc_map map = { .count = 2, .ranges = { { 0, 100000, 1000 }, { 5000, 7, 1 } } };
+    check("the first of a range", proc_to_inside(&map, 100000) == 0);
+    check("the last of it", proc_to_inside(&map, 100999) == 999);
+    check("another range", proc_to_inside(&map, 7) == 5000);
+    check("ids beside the ranges", proc_to_inside(&map, 101000) == 65534 && proc_to_inside(&map, 99999) == 65534 &&
+          proc_to_inside(&map, 0) == 65534 && proc_to_inside(&map, 8) == 65534);
+}
+
 int main(int count, char **words) {
     struct tracees_settings settings = { 0 };
     int epoll = epoll_create1(EPOLL_CLOEXEC);
@@ -124,8 +207,11 @@ int main(int count, char **words) {
     if (shared_byte == MAP_FAILED || epoll < 0) return 2;
     *shared_byte = 'a';
     if (!check("the supervisor begins", tracees_begin(&settings, epoll) == 0)) return conclude("binding");
+    try_replay();
+    try_maps();
     try_validity();
     if (count == 1) try_stranger();
     try_reuse();
+    try_thread_reuse();
     return conclude("binding");
 }

@@ -2,6 +2,7 @@
 #define _GNU_SOURCE
 #include <pthread.h>
 #include <grp.h>
+#include <linux/capability.h>
 #include <signal.h>
 #include <sys/fsuid.h>
 #include <sys/prctl.h>
@@ -12,6 +13,7 @@
 #include "calls.h"
 
 enum { MOST = 1000, SECONDS = 60, LOOK_MICROSECONDS = 20000 };
+enum { POSSESSOR_ALL = 0x3f000000, GROUP_READ = 0x00000200, NOBODY = 65534 };
 
 struct answer {
     long value;
@@ -349,16 +351,74 @@ static int have_groups(int count) {
     return 0;
 }
 
+/* A key that a group may read is read by another user, who has so many groups, of which that is the nth. */
+static int read_by_group(int nth, int count) {
+    gid_t groups[MOST];
+    char byte;
+    long shared = add_key("user", "of a group", "x", 1, KEY_SPEC_PROCESS_KEYRING);
+    for (int i = 0; i < count; i++) groups[i] = 1000000000 + (gid_t)i;
+    if (keyctl(KEYCTL_CHOWN, (unsigned long)shared, (unsigned long)-1, groups[nth - 1], 0) < 0 ||
+        keyctl(KEYCTL_SETPERM, (unsigned long)shared, POSSESSOR_ALL | GROUP_READ, 0, 0) < 0)
+        return 2;
+    pid_t child = fork();
+    if (child == 0) {
+        if (setgroups((size_t)count, groups) < 0 || setresgid(NOBODY, NOBODY, NOBODY) < 0 ||
+            setresuid(NOBODY, NOBODY, NOBODY) < 0)
+            _exit(2);
+        _exit(read_key(shared, &byte, 1) == 1 ? 0 : errno == EACCES ? 1 : 2);
+    }
+    int status = status_of(child);
+    puts(status == 0 ? "read" : status == 1 ? "EACCES" : "another error");
+    return 0;
+}
+
+/* ---- A session for the parent ---- */
+
+static void *wait_for_ever(void *unused) {
+    pause();
+    return unused;
+}
+
+/* A child joins a session and gives it to its parent, which has another thread, or from which it differs, or whose name
+ * looks like what stands behind a name in stat of proc(5). Says what the parent was given. */
+static int give_to_parent(const char *how) {
+    pthread_t thread;
+    long before = ring_of(KEY_SPEC_SESSION_KEYRING, 0);
+    begin();
+    if (strcmp(how, "thread") == 0 && pthread_create(&thread, NULL, wait_for_ever, NULL) != 0) return 2;
+    pid_t child = fork();
+    if (child == 0) {
+        bool is_ready = strcmp(how, "uid") == 0   ? setresuid(NOBODY, NOBODY, NOBODY) == 0
+                        : strcmp(how, "gid") == 0 ? setresgid(NOBODY, NOBODY, NOBODY) == 0
+                                                  : true;
+        if (strcmp(how, "name") == 0) prctl(PR_SET_NAME, ") S 1 1 1 1 0 0", 0, 0, 0);
+        long joined = is_ready ? join(NULL) : -1;
+        errno = 0;
+        long given = joined < 0 ? -1 : keyctl(KEYCTL_SESSION_TO_PARENT, 0, 0, 0, 0);
+        give(given < 0 ? -1 : joined);
+        _exit(0);
+    }
+    struct answer answer = take();
+    long after = ring_of(KEY_SPEC_SESSION_KEYRING, 0);
+    status_of(child);
+    printf("%s, %s\n", answer.value > 0 ? "given" : answer.error == EPERM ? "EPERM" : "another error",
+           after == before ? "as before" : after == answer.value ? "the child's" : "another");
+    fflush(stdout);
+    _exit(0);
+}
+
 /* A process that was given a session of its own, became another user and takes its tag away: what it forks must not
- * come to the session of before. */
+ * come to the session of before. Where the supervisor may read others' limits, it sees that the tag was taken away:
+ * then it must not come to that of its parent either, which was another user when it joined. */
 static int take_tag_away(void) {
     const struct rlimit none = { RLIM_INFINITY, RLIM_INFINITY };
     long before = ring_of(KEY_SPEC_SESSION_KEYRING, 0), joined = join(NULL);
+    bool is_seen = prctl(PR_CAPBSET_READ, CAP_SYS_RESOURCE, 0, 0, 0) == 1;
     if (joined < 0 || setgid(65534) < 0 || setuid(65534) < 0 || setrlimit(RLIMIT_LOCKS, &none) < 0) return 2;
     pid_t child = fork();
     if (child == 0) {
         long session = ring_of(KEY_SPEC_SESSION_KEYRING, 0);
-        _exit(session == before);
+        _exit(session == before || (is_seen && session == joined));
     }
     puts(status_of(child) == 0 ? "kept out" : "back");
     return 0;
@@ -380,6 +440,14 @@ static int close_all(long session) {
 /* Executes words as a caller that ignores the ends of its children. */
 static int ignore_children(char **words) {
     signal(SIGCHLD, SIG_IGN);
+    execvp(*words, words);
+    return 2;
+}
+
+/* Executes words as a caller for whom SIGINT and SIGQUIT are as at first, which they aren't in the background. */
+static int reset_signals(char **words) {
+    signal(SIGINT, SIG_DFL);
+    signal(SIGQUIT, SIG_DFL);
     execvp(*words, words);
     return 2;
 }
@@ -407,7 +475,10 @@ int main(int count, char **words) {
     if (strcmp(mode, "get") == 0 && count == 3) return get(words[2]);
     if (strcmp(mode, "owner") == 0) return print_owner((uid_t)many);
     if (strcmp(mode, "ignoring") == 0 && count > 2) return ignore_children(words + 2);
+    if (strcmp(mode, "interrupted") == 0 && count > 2) return reset_signals(words + 2);
     if (strcmp(mode, "groups") == 0) return have_groups(many);
+    if (strcmp(mode, "of-group") == 0 && count == 4 && many > 0) return read_by_group(many, atoi(words[3]));
+    if (strcmp(mode, "to-parent") == 0 && count == 3) return give_to_parent(words[2]);
     if (strcmp(mode, "untagged") == 0) return take_tag_away();
     if (strcmp(mode, "mask") == 0) return print_mask();
     if (strcmp(mode, "closed") == 0) return close_all(ring_of(KEY_SPEC_SESSION_KEYRING, 0));
