@@ -1,6 +1,6 @@
 /* guard.c: keyretain-guard stands before a keyretaind that believes its clients, asks the kernel who each of them is, and
  * lets through only what they may say of themselves. This thread accepts clients, counts them, and ends those that stay
- * silent; each place for one has two threads of its own, which begin before the first client comes. */
+ * silent; each place for one has a thread of its own, which begins before the first client comes. */
 #define _GNU_SOURCE
 #include <errno.h>
 #include <fcntl.h>

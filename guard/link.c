@@ -12,10 +12,7 @@
 #include "options.h"
 #include "peer.h"
 
-enum {
-    PAUSE = 20,          /* milliseconds, before what lacked something is tried again */
-    STACK_SIZE = 262144, /* of a thread; a few pages of it are used */
-};
+enum { STACK_SIZE = 262144 }; /* of a thread; a few pages of it are used */
 
 int freed = -1;
 static sem_t begun; /* once by each thread */
@@ -39,75 +36,52 @@ static size_t screen_ask(struct link *link, uint8_t *bytes, size_t length, struc
     return passed;
 }
 
-/* Answers how many bytes may be passed on, and whether more will be. */
-static size_t screen_asks(struct link *link, size_t length, bool *is_good) {
-    size_t at = 0, passed = 1;
+static void note_greeting(struct link *link) {
     pthread_mutex_lock(&link->lock);
-    while (at < length && passed > 0) {
+    link->has_greeted = true;
+    pthread_mutex_unlock(&link->lock);
+}
+
+static void screen_asks(struct link *link) {
+    struct way *asks = &link->asks;
+    size_t passed = 1;
+    while (asks->passed < asks->there && passed > 0) {
         struct screen_claim claim = { 0, 0, 0 };
         uint32_t refused = link->screen.count;
-        at += passed = screen_ask(link, link->asks + at, length - at, &claim);
+        passed = screen_ask(link, asks->bytes + asks->passed, asks->there - asks->passed, &claim);
+        asks->passed += passed;
         if (link->screen.count > refused) tell_refusal(&link->peer, &claim);
     }
-    *is_good = !link->screen.ask_fault && length - at <= SCREEN_ASK_MAX;
-    pthread_mutex_unlock(&link->lock);
-    return at;
+    if (link->screen.greeted && !link->has_greeted) note_greeting(link);
+    if (link->screen.ask_fault) asks->is_over = true;
 }
 
-static size_t screen_replies(struct link *link, size_t length, bool *is_good) {
-    size_t at = 0, passed = 1;
-    pthread_mutex_lock(&link->lock);
-    while (at < length && passed > 0)
-        at += passed = krs_screen_c_reply(&link->screen, link->replies + at, length - at);
-    *is_good = !link->screen.reply_fault && length - at <= SCREEN_REPLY_MAX;
-    pthread_mutex_unlock(&link->lock);
-    return at;
-}
-
-/* ---- Bytes ---- */
-
-/* Whether a call that has failed may be made again, after a pause where it lacked something. */
-static bool may_be_again(void) {
-    switch (errno) {
-    case EINTR: return true;
-    case EAGAIN:
-    case EMFILE:
-    case ENFILE:
-    case ENOBUFS:
-    case ENOMEM: poll(NULL, 0, PAUSE); return true;
-    default: return false;
+static void screen_replies(struct link *link) {
+    struct way *replies = &link->replies;
+    size_t passed = 1;
+    while (replies->passed < replies->there && passed > 0) {
+        size_t at = replies->passed;
+        passed = krs_screen_c_reply(&link->screen, replies->bytes + at, replies->there - at);
+        replies->passed += passed;
     }
+    if (!link->screen.reply_fault) return;
+    replies->is_over = true;
+    tell("what the daemon answers is no reply\n");
 }
 
-/* How many bytes have come; 0 where no more will. */
-static size_t take(int from, uint8_t *bytes) {
-    for (;;) {
-        ssize_t got = recv(from, bytes, ROOM, 0);
-        if (got >= 0) return (size_t)got;
-        if (!may_be_again()) return 0;
-    }
+/* Whether all whole asks are answered, and no ask or reply has come in part. */
+static bool is_quiet(const struct link *link) {
+    const struct screen *screen = &link->screen;
+    return screen->asked == screen->answered && screen->ask_left == 0 && screen->reply_left == 0;
 }
 
-/* Whether the other side has taken them all. */
-static bool give(int to, const uint8_t *bytes, size_t length) {
-    for (size_t at = 0; at < length;) {
-        ssize_t sent = send(to, bytes + at, length - at, 0);
-        if (sent >= 0)
-            at += (size_t)sent;
-        else if (!may_be_again())
-            return false;
-    }
-    return true;
+/* Whether the last ask is all there, and its reply alone is to come. */
+static bool waits_for_one(const struct link *link) {
+    const struct screen *screen = &link->screen;
+    return screen->asked == screen->answered + 1 && screen->ask_left == 0 && screen->reply_left == 0;
 }
 
-/* Moves what isn't passed on yet to the front, and wipes the rest. Answers how many bytes they are. */
-static size_t keep_rest(uint8_t *bytes, size_t passed, size_t there) {
-    memmove(bytes, bytes + passed, there - passed);
-    explicit_bzero(bytes + there - passed, passed);
-    return there - passed;
-}
-
-/* ---- What is asked ---- */
+/* ---- The connection to the daemon ---- */
 
 /* A connection to the daemon; -1 with errno, which is EAGAIN where its queue of connections is full. */
 static int connect_once(void) {
@@ -146,91 +120,137 @@ static bool open_server(struct link *link) {
         close(server);
         return false;
     }
-    sem_post(&link->has_server);
+    link->asks.to = server;
+    begin_way(&link->replies, server, link->client);
     return true;
 }
 
+/* ---- What is moved ---- */
+
+/* Whatever was looked at may stay in its socket while the other side has the word. Whether more has come with what was
+ * taken. */
+static bool give_asks(struct link *link) {
+    struct way *asks = &link->asks;
+    if (!give(asks)) return false;
+    bool may_stay = link->screen.answered < link->screen.asked && link->screen.ask_left == 0;
+    return may_stay ? false : take(asks);
+}
+
+static bool give_replies(struct link *link) {
+    struct way *replies = &link->replies;
+    if (!give(replies)) return false;
+    bool may_stay = is_quiet(link) && !link->asks.is_over;
+    return may_stay ? false : take(replies);
+}
+
 /* The daemon is asked for with the first whole frame, so that a silent client holds no lane. */
-static void move_asks(struct link *link) {
-    size_t held = 0, got;
-    bool goes_on = true;
-    while (goes_on && (got = take(link->client, link->asks + held)) > 0) {
-        size_t there = held + got, passed = screen_asks(link, there, &goes_on);
-        if (passed > 0 && link->server < 0 && !open_server(link)) goes_on = false;
-        if (link->server >= 0 && !give(link->server, link->asks, passed)) goes_on = false;
-        held = keep_rest(link->asks, passed, there);
+static void pass_asks(struct link *link) {
+    do {
+        screen_asks(link);
+        if (link->asks.passed > 0 && link->server < 0 && !open_server(link)) {
+            link->asks.is_over = true;
+            return;
+        }
+    } while (give_asks(link));
+}
+
+/* The asks are taken once their reply is given, so that their client wakes for that alone; and the replies before more
+ * asks go on. */
+static void pass_replies(struct link *link) {
+    bool has_more = true, has_asks = false;
+    while (has_more) {
+        screen_replies(link);
+        has_more = give_replies(link);
+        has_asks = take(&link->asks) || has_asks;
+        if (has_asks && take(&link->replies)) has_more = true;
     }
-    explicit_bzero(link->asks, held);
+    if (has_asks) pass_asks(link);
+}
+
+/* A reply that nobody has asked for is one, whatever is asked next: so the last ones are taken first. */
+static void read_asks(struct link *link) {
+    struct way *asks = &link->asks;
+    bool has_asks = bring(asks, asks->there == 0 && is_quiet(link));
+    if (take(&link->replies)) pass_replies(link);
+    if (has_asks) pass_asks(link);
+}
+
+static void read_replies(struct link *link) {
+    struct way *replies = &link->replies;
+    if (take(replies) || bring(replies, replies->there == 0 && waits_for_one(link))) pass_replies(link);
+}
+
+/* What is waited for at a socket: something to read, where the last has been given and taken; or room for more. */
+static short events_of(const struct way *read, const struct way *given) {
+    bool reads = !read->is_over && read->passed == 0 && read->untaken == 0;
+    return (short)((reads ? POLLIN : 0) | (given->passed > 0 ? POLLOUT : 0));
+}
+
+/* While a client is to have the word, the daemon may still end. */
+static void wait_and_move(struct link *link) {
+    struct way *asks = &link->asks, *replies = &link->replies;
+    struct pollfd client = { .fd = link->client, .events = events_of(asks, replies) };
+    struct pollfd server = { .fd = link->server, .events = events_of(replies, asks) };
+    if (replies->untaken > 0) server.events |= POLLRDHUP;
+    if (client.events == 0) client.fd = -1; /* or its end would be told for ever */
+    if (server.events == 0) server.fd = -1;
+    struct pollfd both[] = { client, server };
+    if (poll(both, 2, -1) < 0) return;
+    short of_client = both[0].revents, of_server = both[1].revents;
+    if (of_server && asks->passed > 0 && give_asks(link)) pass_asks(link);
+    if ((of_server & ~POLLOUT) && (server.events & ~POLLOUT)) read_replies(link);
+    if (of_client && replies->passed > 0 && give_replies(link)) pass_replies(link);
+    if ((of_client & ~POLLOUT) && (client.events & POLLIN)) read_asks(link);
+}
+
+/* The daemon is told that no more asks come; what it answers to those that it has is still passed on. */
+static void move(struct link *link) {
+    bool is_told = false;
+    begin_way(&link->asks, link->client, -1);
+    begin_way(&link->replies, -1, link->client);
+    while (!is_done(&link->replies)) {
+        if (link->asks.is_over && link->server < 0) return;
+        if (is_done(&link->asks) && !is_told) {
+            is_told = true;
+            shutdown(link->server, SHUT_WR);
+        } else {
+            wait_and_move(link);
+        }
+    }
 }
 
 static void end_link(struct link *link) {
     const uint64_t one = 1;
+    end_way(&link->asks);
+    end_way(&link->replies);
     pthread_mutex_lock(&link->lock);
     close(link->client);
     if (link->server >= 0) close(link->server);
     link->client = link->server = -1;
     explicit_bzero(&link->screen, sizeof link->screen);
-    link->is_used = link->is_ended = false;
+    link->is_used = link->is_ended = link->has_greeted = false;
     pthread_mutex_unlock(&link->lock);
     while (write(freed, &one, sizeof one) < 0 && may_be_again()) continue;
 }
 
-/* The daemon is told that no more asks come; what it answers to those that it has is still passed on. */
-static void *serve_asks(void *given) {
+static void *serve(void *given) {
     struct link *link = given;
     sem_post(&begun);
     for (;;) {
         wait_for(&link->has_client);
-        move_asks(link);
-        if (link->server >= 0) {
-            shutdown(link->server, SHUT_WR);
-            wait_for(&link->is_answered);
-        }
+        move(link);
         end_link(link);
-    }
-    return NULL;
-}
-
-/* ---- What is answered ---- */
-
-static void move_replies(struct link *link) {
-    size_t held = 0, got;
-    bool goes_on = true;
-    while (goes_on && (got = take(link->server, link->replies + held)) > 0) {
-        size_t there = held + got, passed = screen_replies(link, there, &goes_on);
-        if (!goes_on) tell("what the daemon answers is no reply\n");
-        if (!give(link->client, link->replies, passed)) goes_on = false;
-        held = keep_rest(link->replies, passed, there);
-    }
-    explicit_bzero(link->replies, held);
-}
-
-/* Where there are no more replies, or nobody to take them, the other thread has nothing to wait for either. */
-static void *serve_replies(void *given) {
-    struct link *link = given;
-    sem_post(&begun);
-    for (;;) {
-        wait_for(&link->has_server);
-        move_replies(link);
-        shutdown(link->client, SHUT_RDWR);
-        shutdown(link->server, SHUT_RDWR);
-        sem_post(&link->is_answered);
     }
     return NULL;
 }
 
 /* ---- Places ---- */
 
-static bool start(const pthread_attr_t *attributes, void *(*serve)(void *), struct link *link) {
-    pthread_t thread;
-    return pthread_create(&thread, attributes, serve, link) == 0;
-}
-
 static bool make_link(const pthread_attr_t *attributes, struct link *link) {
+    pthread_t thread;
     link->client = link->server = -1;
     return pthread_mutex_init(&link->lock, NULL) == 0 && sem_init(&link->has_client, 0, 0) == 0 &&
-           sem_init(&link->has_server, 0, 0) == 0 && sem_init(&link->is_answered, 0, 0) == 0 &&
-           start(attributes, serve_asks, link) && start(attributes, serve_replies, link);
+           pthread_create(&thread, attributes, serve, link) == 0;
 }
 
 bool make_links(struct link *links, unsigned count) {
@@ -239,7 +259,7 @@ bool make_links(struct link *links, unsigned count) {
     bool are_made = pthread_attr_setstacksize(&attributes, STACK_SIZE) == 0 &&
                     pthread_attr_setdetachstate(&attributes, PTHREAD_CREATE_DETACHED) == 0;
     for (unsigned i = 0; are_made && i < count; i++) are_made = make_link(&attributes, &links[i]);
-    for (unsigned i = 0; are_made && i < 2 * count; i++) wait_for(&begun);
+    for (unsigned i = 0; are_made && i < count; i++) wait_for(&begun);
     pthread_attr_destroy(&attributes);
     return are_made;
 }
@@ -266,7 +286,7 @@ bool find_owner(struct link *link, uint32_t *uid) {
 int64_t end_if_silent(struct link *link, int64_t now) {
     int64_t next = INT64_MAX;
     pthread_mutex_lock(&link->lock);
-    if (link->is_used && !link->is_ended && !link->screen.greeted) {
+    if (link->is_used && !link->is_ended && !link->has_greeted) {
         if (link->deadline > now) {
             next = link->deadline;
         } else {

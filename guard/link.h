@@ -1,6 +1,5 @@
-/* link.h: a place for a client, with its connection to the daemon. Two threads serve it, one for what is asked and one
- * for what is answered. Each reads, has judged what it has read, gives it, and reads again: so while one side takes no
- * more, nothing more is read for it. */
+/* link.h: a place for a client, with its connection to the daemon. One thread serves it: it waits for both sockets at
+ * once, has judged what it reads, and gives it. While one side takes no more, nothing more is read for it. */
 #ifndef KEYRETAIN_GUARD_LINK_H
 #define KEYRETAIN_GUARD_LINK_H
 
@@ -12,26 +11,26 @@
 #include <sys/socket.h>
 
 #include "krs_screen.h"
-
-enum { ROOM = 16384 }; /* so much is read at once */
+#include "way.h"
 
 struct link {
     pthread_mutex_t lock; /* of what comes next */
     bool is_used;
     bool is_ended; /* it was silent for too long */
-    int client, server; /* -1 before the first frame; the thread of the asks alone opens and closes them */
+    bool has_greeted;
+    int client, server; /* -1 before the first frame; the place's thread alone opens and closes them */
     struct ucred peer;
     bool is_trusted;
-    int64_t deadline; /* for the first HELLO */
-    struct screen screen;
-    sem_t has_client, has_server, is_answered; /* what a thread waits for that has nothing to read */
-    uint8_t asks[SCREEN_ASK_MAX + ROOM], replies[SCREEN_REPLY_MAX + ROOM]; /* of one thread each */
+    int64_t deadline;  /* for the first HELLO */
+    sem_t has_client;  /* what the thread waits for where there is none */
+    struct screen screen; /* this and what comes next are the thread's own */
+    struct way asks, replies;
 };
 
 /* An eventfd(2) that counts the places that have become free: to be made first. */
 extern int freed;
 
-/* Starts the two threads of each place, and waits until all have begun. False where the system allows so many not. */
+/* Starts the thread of each place, and waits until all have begun. False where the system allows so many not. */
 bool make_links(struct link *links, unsigned count);
 
 /* Gives a free place to this client. */

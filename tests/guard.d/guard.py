@@ -89,13 +89,16 @@ class Client:
 
     def send_apart(self, stream):
         """Sends each byte once the one before it has been read."""
-        waiting, end = bytearray(4), time.monotonic() + PATIENCE
         for byte in stream:
             self.send(bytes([byte]))
-            while time.monotonic() < end:
-                fcntl.ioctl(self.sock, termios.TIOCOUTQ, waiting)
-                if waiting == b'\0\0\0\0':
-                    break
+            self.wait_until_read()
+
+    def wait_until_read(self):
+        waiting, end = bytearray(4), time.monotonic() + PATIENCE
+        while time.monotonic() < end:
+            fcntl.ioctl(self.sock, termios.TIOCOUTQ, waiting)
+            if waiting == b'\0\0\0\0':
+                break
 
     def exactly(self, count):
         while len(self.have) < count:
@@ -525,6 +528,7 @@ def try_halves():
     client = run.one(*who)
     context = client.context(uid, gid)
     serial = struct.unpack('<I', client.ask(add(context, b'k', b'y' * 30000))[1])[0]
+    check('a reply in many parts', client.ask(read_key(context, serial)), (0, b'y' * 30000))
     client.send(*[read_key(context, serial)] * 200)
     client.sock.shutdown(socket.SHUT_WR)
     got = 0
@@ -554,6 +558,46 @@ def try_odd_clients():
         if client.reply()[0] not in (0, EINVAL):
             check('descriptors that are sent along', 'refused', 0)
     check('descriptors that are sent along are not kept', descriptors(run) < 40, True)
+    run.end()
+
+
+def spends_nothing(name, run):
+    before = ticks(run)
+    time.sleep(0.5)
+    check(name, ticks(run) - before <= 2, True)
+
+
+def try_waiting():
+    """What the kernel tells over and over costs nothing: a byte out of band, which can't be looked at, and a side that
+    has ended while the other has to take something first."""
+    run = Running()
+    who, uid, gid = identity()
+    client = run.one(*who)
+    client.sock.send(b'!', socket.MSG_OOB)
+    spends_nothing('a byte out of band', run)
+    client.context(uid, gid)
+    client.sock.send(b'!', socket.MSG_OOB)
+    spends_nothing('a byte out of band, later', run)
+    gone, half = run.many(2, *who)
+    for it in gone, half:
+        it.context(uid, gid)
+    run.daemon.send_signal(signal.SIGSTOP)
+    for it in gone, half:
+        it.send(hello(uid, gid))
+    gone.close()
+    half.sock.shutdown(socket.SHUT_WR)
+    spends_nothing('clients that end before their replies', run)
+    run.daemon.send_signal(signal.SIGCONT)
+    check('one that has ended its asks is answered', (half.reply()[0], half.reply()), (0, 'end'))
+    deaf = run.one(*who)
+    context = deaf.context(uid, gid)
+    serial = struct.unpack('<I', deaf.ask(add(context, b'k', b'y' * 30000))[1])[0]
+    deaf.send(*[read_key(context, serial)] * 100)
+    wait_for_replies(deaf)
+    run.daemon.kill()
+    run.daemon.wait()
+    spends_nothing('a daemon that ends before its replies are taken', run)
+    check('they can be taken still', deaf.reply(), (0, b'y' * 30000))
     run.end()
 
 
@@ -936,13 +980,150 @@ def try_lying_daemon():
         run.end()
 
 
+class Told(Liar):
+    """A daemon that does each step when it is told to, and a client of it."""
+
+    def __init__(self):
+        self.run = Running(daemon=False)
+        super().__init__(self.run.private, b'')
+        who, self.uid, self.gid = identity()
+        self.client = self.run.one(*who)
+        self.hello = hello(self.uid, self.gid)
+
+    def meet(self):
+        """The daemon's end, once the client has greeted and is answered."""
+        self.client.send(self.hello)
+        end, asked = self.serve()
+        check('the first ask', asked, self.hello)
+        end.sendall(ACCEPTED)
+        check('the first reply', self.client.reply()[0], 0)
+        self.client.wait_until_read()
+        return end
+
+    def end(self):
+        self.listener.close()
+        self.run.end()
+
+
+ACCEPTED = struct.pack('<III', 8, 0, 1)
+
+
+def receive(end, count):
+    got = b''
+    while len(got) < count and (piece := end.recv(count - len(got))):
+        got += piece
+    return got
+
+
+def try_sent_ahead():
+    """What a client sends while it waits for a reply goes on behind what it sent before, once, and nothing is lost."""
+    told = Told()
+    end, client = told.meet(), told.client
+    first, second, third = read_key(1, 5), read_key(2, 6, 7), hello(told.uid + 1, told.gid)
+    client.send(first)
+    check('one ask', receive(end, len(first)), first)
+    client.send(second, third[:17])
+    time.sleep(0.1)  # the guard has no cause to look
+    end.sendall(ACCEPTED)
+    check('its reply', client.reply(), (0, b'\1\0\0\0'))
+    check('the next ask, once', receive(end, len(second)), second)
+    end.sendall(struct.pack('<IIQ', 12, 0, 7))
+    check('its reply, too', client.reply(True), (0, 7, b''))
+    client.send(third[17:], first)
+    void = hello(NOBODY, told.gid)
+    check('an ask in two pieces, and one behind it', receive(end, len(void + first)), void + first)
+    end.sendall(struct.pack('<II', 4, EINVAL) + ACCEPTED)
+    check('their replies', (client.reply()[0], client.reply()[0]), (EPERM, 0))
+    end.settimeout(0.2)
+    try:
+        check('nothing twice', end.recv(1), 'nothing')
+    except TimeoutError:
+        pass
+    told.end()
+
+
+def fill(sock, piece):
+    """Sends until no more is taken; how often all of a piece was."""
+    sock.setblocking(False)
+    sent, end, many = 0, time.monotonic() + 0.5, piece * (1 + 65536 // len(piece))
+    while time.monotonic() < end:
+        try:
+            sent += sock.send(many[sent % len(piece):])
+            end = time.monotonic() + 0.5
+        except BlockingIOError:
+            time.sleep(0.01)
+    sock.settimeout(PATIENCE)
+    return sent // len(piece)
+
+
+def wait_for_bytes(sock, count):
+    """Until so many have come, which stay unread."""
+    there, end = bytearray(4), time.monotonic() + PATIENCE
+    while struct.unpack('<I', there)[0] < count and time.monotonic() < end:
+        time.sleep(0.01)
+        fcntl.ioctl(sock, termios.FIONREAD, there)
+
+
+def try_full_sides():
+    """While one side takes nothing, what goes to the other goes on."""
+    refusal = struct.pack('<II', 4, ESRCH)
+    told = Told()
+    end, client = told.meet(), told.client
+    client.send(read_key(1, 5) * 100)
+    wait_for_bytes(end, 100 * len(read_key(1, 5)))
+    end.sendall(refusal)  # from then on the guard reads both sides
+    check('asks that the daemon does not read are held back', fill(client.sock, read_key(1, 5)) > 1000, True)
+    wait_for_bytes(end, 1000 * len(read_key(1, 5)))
+    end.sendall(refusal * 999)
+    check('and its replies go on', [client.reply()[0] for _ in range(1000)], [ESRCH] * 1000)
+    told.end()
+    told = Told()
+    end, client = told.meet(), told.client
+    client.send(read_key(1, 5) * 100)
+    wait_for_bytes(end, 100 * len(read_key(1, 5)))
+    long = struct.pack('<II', 200004, 0) + bytes(200000)
+    check('replies that the client does not read are held back', 0 < fill(end, long) < 100, True)
+    receive(end, 100 * len(read_key(1, 5)))
+    client.send(told.hello)
+    check('and its asks go on', receive(end, len(told.hello)), told.hello)
+    told.end()
+
+
+def try_late_reply():
+    """A reply that comes before its ask is nobody's, and is not taken for that of the next."""
+    told = Told()
+    end, client = told.meet(), told.client
+    end.sendall(ACCEPTED)
+    time.sleep(0.1)
+    client.send(told.hello)
+    check('a reply too many, later', client.reply(), 'end')
+    told.end()
+
+
+def try_ends():
+    """Where one side ends the other sees an end, and no reset."""
+    told = Told()
+    end, client = told.meet(), told.client
+    client.send(told.hello)
+    check('asked', receive(end, len(told.hello)), told.hello)
+    end.close()
+    check('a daemon that ends', client.sock.recv(1), b'')
+    told.end()
+    told = Told()
+    end, client = told.meet(), told.client
+    client.close()
+    check('a client that ends', end.recv(1), b'')
+    end.close()
+    told.end()
+
+
 def try_confined():
     run = Running()
     status = open(f'/proc/{run.guard.pid}/status').read()
     if not IS_SANITIZED:
         check('a filter of system calls', re.search(r'^Seccomp:\s+(\d)', status, re.M).group(1), '2')
         check('no new privileges', re.search(r'^NoNewPrivs:\s+(\d)', status, re.M).group(1), '1')
-        check('two threads for each place', re.search(r'^Threads:\s+(\d+)', status, re.M).group(1), str(1 + 2 * 64))
+        check('a thread for each place', re.search(r'^Threads:\s+(\d+)', status, re.M).group(1), str(1 + 64))
     for thread in os.listdir(f'/proc/{run.guard.pid}/task'):
         status = open(f'/proc/{run.guard.pid}/task/{thread}/status').read()
         if not IS_SANITIZED and not re.search(r'^Seccomp:\s+2$', status, re.M):
@@ -1120,7 +1301,7 @@ def count_in_memory(pid, text):
 def wait_for_replies(client):
     """Until no more come, since they aren't read."""
     there, before, end = bytearray(4), None, time.monotonic() + PATIENCE
-    while there != before and time.monotonic() < end:
+    while (there != before or not any(there)) and time.monotonic() < end:
         before = bytes(there)
         time.sleep(0.1)
         fcntl.ioctl(client.sock, termios.FIONREAD, there)

@@ -1,7 +1,7 @@
 #!/usr/bin/env python3
 """inject.py GUARD KEYRETAIND: system calls of the guard that fail now and then, by strace; a refused and a good HELLO, sent
-byte by byte, are answered all the same. Without the guard's own filter, in which a call that strace makes fail has the
-number -1."""
+byte by byte, and whole ones behind them are answered all the same. Without the guard's own filter, in which a call that
+strace makes fail has the number -1."""
 
 import fcntl
 import os
@@ -30,8 +30,15 @@ def hello(uid):
     return struct.pack("<IHHIIII", 20, 1, 256, 0, uid, os.getegid(), 0)
 
 
-def ask_twice(path):
-    """The statuses of a foreign HELLO's reply and of an own one's."""
+def status(client):
+    """The status of the next reply."""
+    length, found = struct.unpack("<II", client.recv(8, socket.MSG_WAITALL))
+    client.recv(length - 4, socket.MSG_WAITALL)
+    return found
+
+
+def ask_often(path):
+    """The statuses of the replies to a foreign HELLO and four own ones."""
     with socket.socket(socket.AF_UNIX) as client:
         client.settimeout(60)
         client.connect(path)
@@ -42,10 +49,11 @@ def ask_twice(path):
                 fcntl.ioctl(client, termios.TIOCOUTQ, waiting)
                 if waiting == b"\0\0\0\0":
                     break
-        reply = b""
-        while len(reply) < 20 and (piece := client.recv(100)):
-            reply += piece
-        return struct.unpack("<I", reply[4:8]) + struct.unpack("<I", reply[12:16])
+        statuses = status(client), status(client)
+        for _ in range(3):  # whole
+            client.sendall(hello(os.geteuid()))
+            statuses += (status(client),)
+        return statuses
 
 
 def statuses(fault):
@@ -55,7 +63,7 @@ def statuses(fault):
     with subprocess.Popen(words, stdout=subprocess.PIPE, stderr=subprocess.DEVNULL) as traced:
         traced.stdout.readline()
         try:
-            got = ask_twice(path)
+            got = ask_often(path)
             return got if "(INJECTED)" in open(f"{folder}/trace", encoding="utf-8").read() else "no call failed"
         except OSError as error:
             return repr(error)
@@ -72,7 +80,7 @@ with subprocess.Popen([DAEMON, "--socket", f"{folder}/private", "--lanes", "16"]
     daemon.stdout.readline()
     for one in FAULTS:
         got = statuses(one)
-        if got == (1, 0):
+        if got == (1, 0, 0, 0, 0):
             passed += 1
         else:
             failed += 1
