@@ -1,5 +1,5 @@
 """The rows of all asks and commands, as the definitions have them that the programs are proved by: numbers, fields,
-answers and growth of the asks (krs_wire, krs_types), words of the commands (krs_commands), numbers of the errors
+answers and growth of the asks (krs_types), words of the commands (krs_commands), numbers of the errors
 (krs_types). What no proof reaches is compared with these."""
 import os
 import re
@@ -43,43 +43,25 @@ def equations(text, function):
 # The forms of fields that have a name, with what the definitions say of each.
 FORMS = {"id_field": ("id", "signed w32"), "text_field": ("text", "sized w16"), "blob_field": ("blob", "sized w32"),
          "groups_field": ("groups", "counted (number w32)"), "entries_field": ("entries", "counted entry_field")}
-PLAIN = {"number w32": "u32", "signed w32": "i32", "flag": "u8", "nothing": ""}
-GROWS = {"true": "yes", "false": "no", "create": "with create", "has_destination dest": "with a destination",
-         "not (ends_watch watch_id)": "where it sets"}
+# The forms of the fields of a row. The id of a watch is no key's.
+VALUES = {"Number": "u32", "Id": "id", "Flag": "u8", "Text": "text", "Blob": "blob", "Whom": "u32 u32 groups",
+          "Entries": "entries", "Id watch": "i32"}
+GROWS = {"true": "yes", "false": "no", "create": "with create", "(has_destination dest)": "with a destination",
+         "(not (ends_watch watch))": "where it sets"}
+ROW = re.compile(r"^row_of \(?(\w+)[^)=]*\)? =\s+row (\d+) shapes\.(\w+) (\w+|\(.+\)) (\[\]|\(\w[^()]+ ∷ \[\]\))$",
+                 re.M)
 
 
-def fields_of(text, expression):
-    """The forms of a field: those of its parts, one after the other."""
-    if expression in PLAIN:
-        return PLAIN[expression]
-    if expression in FORMS:
-        return FORMS[expression][0]
-    if expression.startswith("both "):
-        return " ".join(fields_of(text, part) for part in parts_of(expression[len("both "):]))
-    return fields_of(text, re.search(rf"^{expression} =\s+(.+)$", text, re.M)[1])
-
-
-def parts_of(text):
-    """The two operands of `both`, without the parentheses around them."""
-    parts, depth, start = [], 0, 0
-    for at, sign in enumerate(text + " "):
-        depth += (sign == "(") - (sign == ")")
-        if sign == " " and depth == 0:
-            parts.append(re.sub(r"^\((.*)\)$", r"\1", text[start:at]))
-            start = at + 1
-    return parts
+def fields_of(body):
+    """The forms of a row's fields, one after the other."""
+    fields = body.strip("()").split(" ∷ ")[:-1]
+    return " ".join(VALUES.get(field, VALUES.get(field.split()[0])) for field in fields)
 
 
 def asks():
     """All of them, by rising number."""
-    bodies, replies = text_of("crates/krs_wire/specs/Bodies.antt"), text_of("crates/krs_wire/specs/Reply.antt")
-    numbers, encodings = equations(bodies, "number_of_op"), equations(bodies, "body_of_op")
-    shapes, grows = equations(replies, "shape_of"), equations(text_of("crates/krs_types/specs/Growth.antt"), "grows")
-    rows = []
-    for name, number in numbers.items():
-        encoded = re.sub(r"^\((.*)\)$", r"\1", encodings[name].split(".encode")[0])
-        rows.append(Ask(name.upper(), int(number), fields_of(bodies, encoded),
-                        shapes[name].removeprefix("shapes.").lower(), GROWS[grows[name]]))
+    rows = [Ask(name.upper(), int(number), fields_of(body), shape.lower(), GROWS[grows])
+            for name, number, shape, grows, body in ROW.findall(text_of("crates/krs_types/specs/Rows.antt"))]
     return sorted(rows, key=lambda row: row.number)
 
 

@@ -2,7 +2,7 @@
 use Rattle.std.proofs.Common.{arith, refl, sym, ap, subst, ◌≡◌, ◌+◌, ◌*◌, ◌≤◌, ◌<◌, ◌^◌, ◌++◌, ℕ, List, length, ◌∙◌}
 use Rattle.std.proofs.Common.{Bool, true, false, nat_lt, cond, Option, Some, None, Ok, slice_index}
 use Rattle.std.proofs.lemmas.Grind.{common_steps}
-use Rattle.std.proofs.lemmas.List.{length-append}
+use Rattle.std.proofs.lemmas.List.{append-nil, length-append}
 use Rattle.std.proofs.Math.Seq.{drop-append-add}
 use Rattle.std.proofs.Common.{zero, suc, [], ◌∷◌, take, drop}
 use Rattle.std.specs.List.{flat_map, AllByRecursion}
@@ -49,6 +49,13 @@ number_at (x ∷ xs) more (suc i) h all =
     subst (λ k. from_le_bytes w32 (take 4 (drop k (encoded (x ∷ xs) ++ more))) ≡ slice_index xs i) at
     (ap (λ bs. from_le_bytes w32 (take 4 bs)) rest ∙ number_at xs more i less all.1)
 
+-- the same behind the last field of a body
+pub number_in : (xs more : List ℕ) (i : ℕ) → i < length xs → AllByRecursion (λ n. n < 256 ^ 4) xs
+    → from_le_bytes w32 (take 4 (drop (4 * i) ((encoded xs ++ []) ++ more))) ≡ slice_index xs i
+number_in xs more i h all =
+    subst (λ (ys : List ℕ). from_le_bytes w32 (take 4 (drop (4 * i) (ys ++ more))) ≡ slice_index xs i)
+    (sym (append-nil (encoded xs))) (number_at xs more i h all)
+
 pub front_untagged : (bytes : List ℕ) (n count : ℕ) → le32 bytes 0 ≡ n → le16 bytes 4 ≡ 1 → le16 bytes 6 ≡ 256
     → le32 bytes 20 ≡ count → n ≡ 20 + 4 * count → n ≤ 65536 → 4 + n ≤ length bytes
     → front_of bytes ≡ choice (nat_lt 32 count) (4 + n) 12 count
@@ -76,19 +83,20 @@ seen_untagged context caller more fits =
     let bytes : List ℕ = ask_frame None (hello context caller) ++ more in
     let count : ℕ = length caller.groups in
     let n : ℕ = length (ask_text None (hello context caller)) in
-    let size : n ≡ 20 + 4 * count = omega (arith, length_numbers caller.groups) in
+    let size : n ≡ 20 + 4 * count =
+    omega (arith, length_numbers caller.groups, ap length (append-nil (encoded caller.groups))) in
     let whole : length bytes ≡ 4 + n + length more = omega (
       arith,
       length-append (ask_frame None
           (hello context caller)) more,
     ) in
-    let u : le32 bytes 12 ≡ caller.uid = from_le_bytes-to_le_bytes_4 caller.uid fits.op.0 in
-    let g : le32 bytes 16 ≡ caller.gid = from_le_bytes-to_le_bytes_4 caller.gid fits.op.1.0 in
+    let u : le32 bytes 12 ≡ caller.uid = from_le_bytes-to_le_bytes_4 caller.uid fits.op.0.0 in
+    let g : le32 bytes 16 ≡ caller.gid = from_le_bytes-to_le_bytes_4 caller.gid fits.op.0.1.0 in
     let gs : (i : ℕ) → i < count → le32 bytes (12 + 12 + 4 * i) ≡ slice_index caller.groups i =
-    λ i h. ap (λ bs. from_le_bytes w32 (take 4 bs)) (drop-append-add (take 24 bytes) (encoded caller.groups ++ more)
+    λ i h. ap (λ bs. from_le_bytes w32 (take 4 bs)) (drop-append-add (take 24 bytes) ((encoded caller.groups ++ []) ++ more)
     (4 * i))
-    ∙ number_at caller.groups more i h fits.op.1.1.1 in
-    let k : le32 bytes 20 ≡ count = from_le_bytes-to_le_bytes_4 count fits.op.1.1.0 in
+    ∙ number_in caller.groups more i h fits.op.0.1.1.1 in
+    let k : le32 bytes 20 ≡ count = from_le_bytes-to_le_bytes_4 count fits.op.0.1.1.0 in
     let small : n < 2 ^ 32 = omega (arith, fits.size) in
     let l : le32 bytes 0 ≡ n = from_le_bytes-to_le_bytes_4 n small in
     let there : 4 + n ≤ length bytes = omega (arith, whole) in
@@ -104,19 +112,20 @@ seen_tagged tag context caller more fits =
     let bytes : List ℕ = ask_frame (Some tag) (hello context caller) ++ more in
     let count : ℕ = length caller.groups in
     let n : ℕ = length (ask_text (Some tag) (hello context caller)) in
-    let size : n ≡ 28 + 4 * count = omega (arith, length_numbers caller.groups) in
+    let size : n ≡ 28 + 4 * count =
+    omega (arith, length_numbers caller.groups, ap length (append-nil (encoded caller.groups))) in
     let whole : length bytes ≡ 4 + n + length more = omega (
       arith,
       length-append (ask_frame (Some tag)
           (hello context caller)) more,
     ) in
-    let u : le32 bytes 20 ≡ caller.uid = from_le_bytes-to_le_bytes_4 caller.uid fits.op.0 in
-    let g : le32 bytes 24 ≡ caller.gid = from_le_bytes-to_le_bytes_4 caller.gid fits.op.1.0 in
+    let u : le32 bytes 20 ≡ caller.uid = from_le_bytes-to_le_bytes_4 caller.uid fits.op.0.0 in
+    let g : le32 bytes 24 ≡ caller.gid = from_le_bytes-to_le_bytes_4 caller.gid fits.op.0.1.0 in
     let gs : (i : ℕ) → i < count → le32 bytes (20 + 12 + 4 * i) ≡ slice_index caller.groups i =
-    λ i h. ap (λ bs. from_le_bytes w32 (take 4 bs)) (drop-append-add (take 32 bytes) (encoded caller.groups ++ more)
+    λ i h. ap (λ bs. from_le_bytes w32 (take 4 bs)) (drop-append-add (take 32 bytes) ((encoded caller.groups ++ []) ++ more)
     (4 * i))
-    ∙ number_at caller.groups more i h fits.op.1.1.1 in
-    let k : le32 bytes 28 ≡ count = from_le_bytes-to_le_bytes_4 count fits.op.1.1.0 in
+    ∙ number_in caller.groups more i h fits.op.0.1.1.1 in
+    let k : le32 bytes 28 ≡ count = from_le_bytes-to_le_bytes_4 count fits.op.0.1.1.0 in
     let small : n < 2 ^ 32 = omega (arith, fits.size) in
     let l : le32 bytes 0 ≡ n = from_le_bytes-to_le_bytes_4 n small in
     let there : 4 + n ≤ length bytes = omega (arith, whole) in

@@ -7,4 +7,5 @@ pub mod KeyId
 pub mod Kind
 pub mod Name
 pub mod TypeName
+pub mod Rows
 pub mod Growth

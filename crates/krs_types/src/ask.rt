@@ -1,5 +1,6 @@
 ghost use Rattle.std.specs.Prelude.{◌≡◌, ◌↔◌, IfOk, IsTrue};
 ghost use Rattle.krs_types.specs.Growth.{grows};
+ghost use Rattle.krs_types.specs.Rows.{row_of};
 
 use crate::{Blob, Body, Caller, Errno, FilterEntries, TypeName};
 use std::alloc::{AllocError, Global};
@@ -213,142 +214,105 @@ impl Ask {
     }
 }
 
+/// The asks, a row each, for a macro that is named first: the variant, its number on the wire, the kind of its answer,
+/// when it takes memory, and its fields, each with its form, in the order of the wire.
+#[macro_export]
+macro_rules! asks {
+    ($rows:ident, $($argument:expr),*) => {
+        $rows!($($argument),*;
+            GetId 0 Number (create) { id: id, create: flag };
+            Join 1 Number always { name: text };
+            Update 2 Nothing always { id: id, payload: blob };
+            Revoke 3 Nothing never { id: id };
+            Chown 4 Nothing never { id: id, uid: number, gid: number };
+            SetPerm 5 Nothing never { id: id, mask: number };
+            Describe 6 Bytes always { id: id };
+            Clear 7 Nothing never { id: id };
+            Link 8 Nothing always { key: id, ring: id };
+            Unlink 9 Nothing never { key: id, ring: id };
+            Search 10 Number (dest != 0) { head: id, type_name: type_name, desc: text, dest: id };
+            Read 11 Bytes always { id: id };
+            SetTimeout 15 Nothing never { id: id, seconds: number };
+            Invalidate 21 Nothing never { id: id };
+            RestrictKeyring 29 Nothing never { ring: id, type_name: type_name };
+            Move 30 Nothing always { key: id, from: id, to: id, flags: number };
+            Watch 32 Nothing (watch != -1) { id: id, queue: number, watch: id };
+            Hello 256 Number always (caller: caller);
+            Thread 257 Number always {};
+            Fork 258 Number always {};
+            Exec 259 Nothing never {};
+            Exit 260 Nothing never {};
+            Leave 261 Nothing never {};
+            Add 262 Number always { type_name: type_name, desc: text, payload: blob, ring: id };
+            Request 263 Number (dest != 0) { type_name: type_name, desc: text, dest: id };
+            OpenQueue 264 Number always { capacity: number };
+            SetFilter 265 Nothing always { queue: number, entries: entries };
+            ReadQueue 266 Bytes always { queue: number, room: number };
+            CloseQueue 267 Nothing never { queue: number };
+        )
+    };
+}
+
+macro_rules! numbers {
+    ($op:expr; $($ask:ident $number:literal $shape:ident $grows:tt $fields:tt;)*) => {
+        match $op {
+            $(Op::$ask { .. } => $number,)*
+        }
+    };
+}
+
+macro_rules! growths {
+    ($op:expr; $($ask:ident $number:literal $shape:ident $grows:tt $fields:tt;)*) => {
+        match $op {
+            $(growths!(@ask $ask $grows) => growths!(@takes $grows),)*
+        }
+    };
+    (@ask $ask:ident ($field:ident $($test:tt)*)) => { Op::$ask { $field, .. } };
+    (@ask $ask:ident $word:ident) => { Op::$ask { .. } };
+    (@takes always) => { true };
+    (@takes never) => { false };
+    (@takes ($field:ident $($test:tt)*)) => { *$field $($test)* };
+}
+
+macro_rules! copies {
+    ($op:expr, $alloc:expr; $($ask:ident $number:literal $shape:ident $grows:tt $fields:tt;)*) => {
+        match $op {
+            $(copies!(@ask $ask $fields) => copies!(@copy $alloc, $ask $fields),)*
+        }
+    };
+    (@ask $ask:ident {$($field:ident: $form:ident),*}) => { Op::$ask { $($field),* } };
+    (@ask $ask:ident ($field:ident: $form:ident)) => { Op::$ask($field) };
+    (@copy $alloc:expr, $ask:ident {$($field:ident: $form:ident),*}) => {
+        Op::$ask { $($field: copies!(@field $alloc, $form $field)),* }
+    };
+    (@copy $alloc:expr, $ask:ident ($field:ident: $form:ident)) => {
+        Op::$ask(copies!(@field $alloc, $form $field))
+    };
+    (@field $alloc:expr, number $field:ident) => { *$field };
+    (@field $alloc:expr, id $field:ident) => { *$field };
+    (@field $alloc:expr, flag $field:ident) => { *$field };
+    (@field $alloc:expr, $form:ident $field:ident) => { $field.copy($alloc)? };
+}
+
 impl Op {
+    /// Its number on the wire.
+    pub fn number(&self) -> u16
+        ensures { result ≡ (row_of self.now).number }
+    {
+        asks!(numbers, self)
+    }
+
     /// Whether it takes memory, so that it may find none.
     pub fn grows(&self) -> bool
         ensures { result ≡ grows self.now }
     {
-        match self {
-            Op::GetId { create, .. } => *create,
-            Op::Search { dest, .. } | Op::Request { dest, .. } => *dest != 0,
-            Op::Watch { watch, .. } => *watch != -1,
-            Op::Exec
-            | Op::Exit
-            | Op::Leave
-            | Op::Revoke { .. }
-            | Op::Invalidate { .. }
-            | Op::Unlink { .. }
-            | Op::Clear { .. }
-            | Op::RestrictKeyring { .. }
-            | Op::SetPerm { .. }
-            | Op::Chown { .. }
-            | Op::SetTimeout { .. }
-            | Op::CloseQueue { .. } => false,
-            _ => true,
-        }
+        asks!(growths, self)
     }
 
     /// An equal value.
     pub fn copy(&self, alloc: Global) -> Result<Op, AllocError>
         ensures { IfOk result (λ copy. copy ≡ self.now) }
     {
-        Ok(match self {
-            Op::Hello(caller) => Op::Hello(caller.copy(alloc)?),
-            Op::Thread => Op::Thread,
-            Op::Fork => Op::Fork,
-            Op::Exec => Op::Exec,
-            Op::GetId { id, create } => Op::GetId {
-                id: *id,
-                create: *create,
-            },
-            Op::Join { name } => Op::Join {
-                name: name.copy(alloc)?,
-            },
-            Op::Search {
-                head,
-                type_name,
-                desc,
-                dest,
-            } => Op::Search {
-                head: *head,
-                type_name: type_name.copy(alloc)?,
-                desc: desc.copy(alloc)?,
-                dest: *dest,
-            },
-            Op::Request {
-                type_name,
-                desc,
-                dest,
-            } => Op::Request {
-                type_name: type_name.copy(alloc)?,
-                desc: desc.copy(alloc)?,
-                dest: *dest,
-            },
-            Op::Add {
-                type_name,
-                desc,
-                payload,
-                ring,
-            } => Op::Add {
-                type_name: type_name.copy(alloc)?,
-                desc: desc.copy(alloc)?,
-                payload: payload.copy(alloc)?,
-                ring: *ring,
-            },
-            Op::Update { id, payload } => Op::Update {
-                id: *id,
-                payload: payload.copy(alloc)?,
-            },
-            Op::Revoke { id } => Op::Revoke { id: *id },
-            Op::Invalidate { id } => Op::Invalidate { id: *id },
-            Op::Chown { id, uid, gid } => Op::Chown {
-                id: *id,
-                uid: *uid,
-                gid: *gid,
-            },
-            Op::SetPerm { id, mask } => Op::SetPerm {
-                id: *id,
-                mask: *mask,
-            },
-            Op::SetTimeout { id, seconds } => Op::SetTimeout {
-                id: *id,
-                seconds: *seconds,
-            },
-            Op::Link { key, ring } => Op::Link {
-                key: *key,
-                ring: *ring,
-            },
-            Op::Unlink { key, ring } => Op::Unlink {
-                key: *key,
-                ring: *ring,
-            },
-            Op::Move {
-                key,
-                from,
-                to,
-                flags,
-            } => Op::Move {
-                key: *key,
-                from: *from,
-                to: *to,
-                flags: *flags,
-            },
-            Op::Clear { id } => Op::Clear { id: *id },
-            Op::RestrictKeyring { ring, type_name } => Op::RestrictKeyring {
-                ring: *ring,
-                type_name: type_name.copy(alloc)?,
-            },
-            Op::Read { id } => Op::Read { id: *id },
-            Op::Describe { id } => Op::Describe { id: *id },
-            Op::Watch { id, queue, watch } => Op::Watch {
-                id: *id,
-                queue: *queue,
-                watch: *watch,
-            },
-            Op::OpenQueue { capacity } => Op::OpenQueue {
-                capacity: *capacity,
-            },
-            Op::SetFilter { queue, entries } => Op::SetFilter {
-                queue: *queue,
-                entries: entries.copy(alloc)?,
-            },
-            Op::ReadQueue { queue, room } => Op::ReadQueue {
-                queue: *queue,
-                room: *room,
-            },
-            Op::CloseQueue { queue } => Op::CloseQueue { queue: *queue },
-            Op::Exit => Op::Exit,
-            Op::Leave => Op::Leave,
-        })
+        Ok(asks!(copies, self, alloc))
     }
 }

@@ -17,6 +17,7 @@ mod name;
 mod note;
 mod perm;
 mod rights;
+mod shape;
 mod type_name;
 
 pub use ask::{Answer, Ask, MOVE_EXCL, Op, Reply, is_same_reply};
@@ -34,4 +35,5 @@ pub use name::{Desc, Name};
 pub use note::{FilterEntries, FilterEntry, KeyEvent, Record};
 pub use perm::Perm;
 pub use rights::{Rights, Want};
+pub use shape::Shape;
 pub use type_name::TypeName;

@@ -5,6 +5,7 @@ pub mod SizeLemmas
 pub mod TagLemmas
 pub mod CutLemmas
 pub mod OpLemmas
+pub mod RowLemmas
 pub mod AskLemmas
 pub mod ReplyLemmas
 pub mod PutLemmas

@@ -1,12 +1,15 @@
 -- Bytes that are put behind others.
-use Rattle.std.proofs.Common.{◌≡◌, ◌+◌, ◌<◌, List, [], ◌∷◌, ◌++◌, ℕ, length, get_or, take, Result, Ok, Err, OnOk, ap}
-use Rattle.std.proofs.Common.{sym, subst, ◌∙◌, append_assoc, arith, IfErr, length-append, refl}
+use Rattle.std.proofs.Common.{◌≡◌, ◌≢◌, ◌+◌, ◌<◌, ◌≤◌, List, [], ◌∷◌, ◌++◌, ℕ, length, get_or, take, Result, Ok, Err}
+use Rattle.std.proofs.Common.{OnOk, ap, sym, subst, ◌∙◌, append_assoc, arith, IfErr, length-append, refl}
 use Rattle.std.specs.Prelude.{min}
-use Rattle.std.proofs.lemmas.List.{take_more, flat_map_more}
+use Rattle.std.proofs.lemmas.List.{take_more, flat_map_more, append-nil}
 use Rattle.std.specs.List.{flat_map, AllByRecursion}
 use Rattle.krs_wire.specs.Field.{Field}
 use Rattle.krs_wire.specs.Encoding.{IsTooLong}
 use Rattle.krs_wire.specs.declared.fault.WireFault.{WireFault}
+use Rattle.krs_wire.specs.declared.fault.WireFault.TheVariants.{BadLength, Memory}
+use Rattle.krs_types.specs.Rows.{Value}
+use Rattle.krs_wire.specs.Bodies.{encoded, written, size_of}
 
 -- the next bytes stand behind all that were put before them
 pub then_put : {T E : Type 0} (r : Result T E) (out front next mid new : List ℕ)
@@ -51,3 +54,26 @@ module _ {A : Type 0} (f : Field A) (xs : List A) (i : ℕ) (d : A) (low : i < l
   fit_one all last =
       subst (λ (ys : List A). AllByRecursion f.Fits ys) (sym (take_more xs i d low))
       (all_one f.Fits (take i xs) (get_or xs i d) all last)
+
+-- ---- the fields of a row
+
+-- what is put field by field stands behind the bytes before it
+fields_put : (out : List ℕ) (vs : List Value) → written out vs ≡ out ++ flat_map encoded vs
+fields_put out [] = sym (append-nil out)
+fields_put out (v ∷ vs) = fields_put (out ++ encoded v) vs ∙ append_assoc out (encoded v) (flat_map encoded vs)
+
+pub all_put : {T E : Type 0} (r : Result T E) (out new : List ℕ) (vs : List Value) → OnOk r (new ≡ written out vs)
+    → OnOk r (new ≡ out ++ flat_map encoded vs)
+all_put (Ok x) out new vs put = put ∙ fields_put out vs
+all_put (Err x) out new vs put = tt
+
+-- and its length is the sum of theirs
+pub length_fields : (vs : List Value) → length (flat_map encoded vs) ≡ size_of vs
+length_fields [] = refl
+length_fields (v ∷ vs) = omega (arith, length-append (encoded v) (flat_map encoded vs), length_fields vs)
+
+pub too_long : {T : Type 0} (r : Result T WireFault) (vs : List Value)
+    → IfErr r (λ fault. fault ≢ Memory → fault ≡ BadLength) → IfErr r (λ fault. fault ≢ Memory → 65536 ≤ size_of vs)
+    → IfErr r (IsTooLong 65536 (flat_map encoded vs))
+too_long (Ok x) vs is long = tt
+too_long (Err fault) vs is long = λ other. (is other, omega (arith, length_fields vs, long other))

@@ -14,8 +14,8 @@ use Rattle.krs_types.specs.declared.ask.Answer.TheVariants.{Nothing, Number, Byt
 use Rattle.krs_types.specs.declared.errno.Errno.{Errno}
 use Rattle.krs_types.specs.declared.errno.Errno.TheVariants.{EPERM}
 use Rattle.krs_types.specs.Errno.{number_of, errnos}
-use Rattle.krs_wire.specs.declared.shape.Shape.{Shape}
-use Rattle.krs_wire.specs.declared.shape.Shape.TheVariants as shapes
+use Rattle.krs_types.specs.declared.shape.Shape.{Shape}
+use Rattle.krs_types.specs.declared.shape.Shape.TheVariants as shapes
 use Rattle.krs_wire.specs.Field.{number, nothing, whole}
 use Rattle.krs_wire.specs.Faulting.{or_bad_body, after, GivesRead}
 use Rattle.krs_wire.specs.Tag.{tag_text, tag_field, tag_size}

@@ -4,52 +4,55 @@ use Rattle.std.specs.Prelude.{◌≡◌, Bool, ℕ, ◌==◌, ◌||◌, List, []
 use Rattle.std.specs.Prelude.{Ok, Err, nat_lt, if◌then◌else◌}
 use Rattle.std.specs.Int.{w16, w32}
 use Rattle.krs_types.specs.declared.ask.Op.{Op}
+use Rattle.krs_types.specs.declared.ask.Op.TheVariants.{Hello, Thread, Fork, Exec, GetId, Join, Search, Request, Add}
+use Rattle.krs_types.specs.declared.ask.Op.TheVariants.{Update, Revoke, Invalidate, Chown, SetPerm, SetTimeout, Link}
+use Rattle.krs_types.specs.declared.ask.Op.TheVariants.{Unlink, Clear, Read, Describe, Watch, OpenQueue, SetFilter}
+use Rattle.krs_types.specs.declared.ask.Op.TheVariants.{ReadQueue, CloseQueue, Exit, Leave}
+use Rattle.krs_types.specs.declared.ask.Op.TheVariants.{Move, RestrictKeyring}
 use Rattle.krs_wire.specs.declared.fault.WireFault.{WireFault}
 use Rattle.krs_wire.specs.declared.fault.WireFault.TheVariants.{BadLength, BadVersion, BadOp, BadBody}
 use Rattle.krs_wire.specs.declared.framed.Framed.{Framed}
-use Rattle.krs_wire.specs.Field.{Field, number, both, nothing, whole}
+use Rattle.krs_wire.specs.Field.{Field, number, both, whole}
 use Rattle.krs_wire.specs.Tag.{tag_field}
 use Rattle.krs_wire.specs.Faulting.{after, or_bad_body}
-use Rattle.krs_wire.specs.Bodies.{id_field, text_field, hello_fields, hello_of, thread_of, fork_of, exec_of, exit_of}
-use Rattle.krs_wire.specs.Bodies.{get_id_fields, get_id_of, join_of, search_fields, search_of, request_fields}
-use Rattle.krs_wire.specs.Bodies.{request_of, add_fields, add_of, update_fields, update_of, revoke_of, invalidate_of}
-use Rattle.krs_wire.specs.Bodies.{chown_fields, chown_of, id_number_fields, set_perm_of, set_timeout_of, link_fields}
-use Rattle.krs_wire.specs.Bodies.{link_of, unlink_of, clear_of, read_of, describe_of, watch_fields, watch_of}
-use Rattle.krs_wire.specs.Bodies.{open_queue_of, set_filter_fields, set_filter_of, read_queue_fields, read_queue_of}
-use Rattle.krs_wire.specs.Bodies.{close_queue_of, leave_of, move_fields, move_of, restrict_fields, restrict_of}
+use Rattle.krs_wire.specs.Bodies.{Form, a_number, an_id, a_flag, a_text, a_blob, a_caller, a_filter, Parts, fields_of}
+
+-- what a body of fields of these forms says
+abbrev row : (forms : List Form) → (Parts forms → Op) → List ℕ → Result Op WireFault
+row forms make body = or_bad_body (whole (fields_of forms) make body)
 
 -- what a body says for an operation's number
 unfoldable pub op_of : ℕ → List ℕ → Result Op WireFault
 op_of which body =
-    if which == 0 then or_bad_body (whole get_id_fields get_id_of body)
-    else if which == 1 then or_bad_body (whole text_field join_of body)
-    else if which == 2 then or_bad_body (whole update_fields update_of body)
-    else if which == 3 then or_bad_body (whole id_field revoke_of body)
-    else if which == 4 then or_bad_body (whole chown_fields chown_of body)
-    else if which == 5 then or_bad_body (whole id_number_fields set_perm_of body)
-    else if which == 6 then or_bad_body (whole id_field describe_of body)
-    else if which == 7 then or_bad_body (whole id_field clear_of body)
-    else if which == 8 then or_bad_body (whole link_fields link_of body)
-    else if which == 9 then or_bad_body (whole link_fields unlink_of body)
-    else if which == 10 then or_bad_body (whole search_fields search_of body)
-    else if which == 11 then or_bad_body (whole id_field read_of body)
-    else if which == 15 then or_bad_body (whole id_number_fields set_timeout_of body)
-    else if which == 21 then or_bad_body (whole id_field invalidate_of body)
-    else if which == 29 then or_bad_body (whole restrict_fields restrict_of body)
-    else if which == 30 then or_bad_body (whole move_fields move_of body)
-    else if which == 32 then or_bad_body (whole watch_fields watch_of body)
-    else if which == 256 then or_bad_body (whole hello_fields hello_of body)
-    else if which == 257 then or_bad_body (whole nothing thread_of body)
-    else if which == 258 then or_bad_body (whole nothing fork_of body)
-    else if which == 259 then or_bad_body (whole nothing exec_of body)
-    else if which == 260 then or_bad_body (whole nothing exit_of body)
-    else if which == 261 then or_bad_body (whole nothing leave_of body)
-    else if which == 262 then or_bad_body (whole add_fields add_of body)
-    else if which == 263 then or_bad_body (whole request_fields request_of body)
-    else if which == 264 then or_bad_body (whole (number w32) open_queue_of body)
-    else if which == 265 then or_bad_body (whole set_filter_fields set_filter_of body)
-    else if which == 266 then or_bad_body (whole read_queue_fields read_queue_of body)
-    else if which == 267 then or_bad_body (whole (number w32) close_queue_of body)
+    if which == 0 then row (an_id ∷ a_flag ∷ []) (λ a. GetId a.0 a.1.0) body
+    else if which == 1 then row (a_text ∷ []) (λ a. Join a.0) body
+    else if which == 2 then row (an_id ∷ a_blob ∷ []) (λ a. Update a.0 a.1.0) body
+    else if which == 3 then row (an_id ∷ []) (λ a. Revoke a.0) body
+    else if which == 4 then row (an_id ∷ a_number ∷ a_number ∷ []) (λ a. Chown a.0 a.1.0 a.1.1.0) body
+    else if which == 5 then row (an_id ∷ a_number ∷ []) (λ a. SetPerm a.0 a.1.0) body
+    else if which == 6 then row (an_id ∷ []) (λ a. Describe a.0) body
+    else if which == 7 then row (an_id ∷ []) (λ a. Clear a.0) body
+    else if which == 8 then row (an_id ∷ an_id ∷ []) (λ a. Link a.0 a.1.0) body
+    else if which == 9 then row (an_id ∷ an_id ∷ []) (λ a. Unlink a.0 a.1.0) body
+    else if which == 10 then row (an_id ∷ a_text ∷ a_text ∷ an_id ∷ []) (λ a. Search a.0 a.1.0 a.1.1.0 a.1.1.1.0) body
+    else if which == 11 then row (an_id ∷ []) (λ a. Read a.0) body
+    else if which == 15 then row (an_id ∷ a_number ∷ []) (λ a. SetTimeout a.0 a.1.0) body
+    else if which == 21 then row (an_id ∷ []) (λ a. Invalidate a.0) body
+    else if which == 29 then row (an_id ∷ a_text ∷ []) (λ a. RestrictKeyring a.0 a.1.0) body
+    else if which == 30 then row (an_id ∷ an_id ∷ an_id ∷ a_number ∷ []) (λ a. Move a.0 a.1.0 a.1.1.0 a.1.1.1.0) body
+    else if which == 32 then row (an_id ∷ a_number ∷ an_id ∷ []) (λ a. Watch a.0 a.1.0 a.1.1.0) body
+    else if which == 256 then row (a_caller ∷ []) (λ a. Hello a.0) body
+    else if which == 257 then row [] (λ _. Thread) body
+    else if which == 258 then row [] (λ _. Fork) body
+    else if which == 259 then row [] (λ _. Exec) body
+    else if which == 260 then row [] (λ _. Exit) body
+    else if which == 261 then row [] (λ _. Leave) body
+    else if which == 262 then row (a_text ∷ a_text ∷ a_blob ∷ an_id ∷ []) (λ a. Add a.0 a.1.0 a.1.1.0 a.1.1.1.0) body
+    else if which == 263 then row (a_text ∷ a_text ∷ an_id ∷ []) (λ a. Request a.0 a.1.0 a.1.1.0) body
+    else if which == 264 then row (a_number ∷ []) (λ a. OpenQueue a.0) body
+    else if which == 265 then row (a_number ∷ a_filter ∷ []) (λ a. SetFilter a.0 a.1.0) body
+    else if which == 266 then row (a_number ∷ a_number ∷ []) (λ a. ReadQueue a.0 a.1.0) body
+    else if which == 267 then row (a_number ∷ []) (λ a. CloseQueue a.0) body
     else Err BadOp
 
 -- version, operation, context

@@ -6,17 +6,13 @@ use Rattle.std.specs.Int.{w32, to_le_bytes}
 use Rattle.krs_types.specs.declared.ask.Answer.{Answer}
 use Rattle.krs_types.specs.declared.ask.Answer.TheVariants.{Nothing, Number, Bytes}
 use Rattle.krs_types.specs.declared.ask.Op.{Op}
-use Rattle.krs_types.specs.declared.ask.Op.TheVariants.{Hello, Thread, Fork, Exec, GetId, Join, Search, Request, Add}
-use Rattle.krs_types.specs.declared.ask.Op.TheVariants.{Update, Revoke, Invalidate, Chown, SetPerm, SetTimeout, Link}
-use Rattle.krs_types.specs.declared.ask.Op.TheVariants.{Unlink, Clear, Read, Describe, Watch, OpenQueue, SetFilter}
-use Rattle.krs_types.specs.declared.ask.Op.TheVariants.{ReadQueue, CloseQueue, Exit, Leave}
-use Rattle.krs_types.specs.declared.ask.Op.TheVariants.{Move, RestrictKeyring}
 use Rattle.krs_types.specs.declared.errno.Errno.{Errno}
+use Rattle.krs_types.specs.declared.shape.Shape.{Shape}
+use Rattle.krs_types.specs.declared.shape.Shape.TheVariants as shapes
 use Rattle.krs_types.specs.Errno.{number_of, errnos}
+use Rattle.krs_types.specs.Rows.{row_of}
 use Rattle.krs_wire.specs.declared.fault.WireFault.{WireFault}
 use Rattle.krs_wire.specs.declared.fault.WireFault.TheVariants.{BadLength, BadBody}
-use Rattle.krs_wire.specs.declared.shape.Shape.{Shape}
-use Rattle.krs_wire.specs.declared.shape.Shape.TheVariants as shapes
 use Rattle.krs_wire.specs.Field.{Field, number, sized, both, nothing, whole}
 use Rattle.krs_wire.specs.Tag.{tag_text, tag_field, tag_size}
 use Rattle.krs_wire.specs.Faulting.{or_bad_body, after, GivesRead}
@@ -42,35 +38,7 @@ reply_frame tag reply = frame_of tag (status_of reply) (body_of reply)
 
 -- what kind of answer an operation gets: docs/FORMAT.md, "The asks"
 abbrev pub shape_of : Op → Shape
-shape_of (GetId id create) = shapes.Number
-shape_of (Join name) = shapes.Number
-shape_of (Update id payload) = shapes.Nothing
-shape_of (Revoke id) = shapes.Nothing
-shape_of (Chown id uid gid) = shapes.Nothing
-shape_of (SetPerm id mask) = shapes.Nothing
-shape_of (Describe id) = shapes.Bytes
-shape_of (Clear id) = shapes.Nothing
-shape_of (Link key ring) = shapes.Nothing
-shape_of (Unlink key ring) = shapes.Nothing
-shape_of (Search head type_name desc dest) = shapes.Number
-shape_of (Read id) = shapes.Bytes
-shape_of (SetTimeout id seconds) = shapes.Nothing
-shape_of (Invalidate id) = shapes.Nothing
-shape_of (RestrictKeyring ring type_name) = shapes.Nothing
-shape_of (Move key from to flags) = shapes.Nothing
-shape_of (Watch id queue watch) = shapes.Nothing
-shape_of (Hello caller) = shapes.Number
-shape_of Thread = shapes.Number
-shape_of Fork = shapes.Number
-shape_of Exec = shapes.Nothing
-shape_of Exit = shapes.Nothing
-shape_of Leave = shapes.Nothing
-shape_of (Add type_name desc payload ring) = shapes.Number
-shape_of (Request type_name desc dest) = shapes.Number
-shape_of (OpenQueue capacity) = shapes.Number
-shape_of (SetFilter queue entries) = shapes.Nothing
-shape_of (ReadQueue queue room) = shapes.Bytes
-shape_of (CloseQueue queue) = shapes.Nothing
+shape_of op = (row_of op).shape
 
 -- an error, or an answer of the kind
 abbrev pub HasShape : Shape → Result Answer Errno → Type 0

@@ -1,5 +1,5 @@
 ghost use Rattle.std.specs.Prelude.{◌≡◌, ◌≤◌, ◌<◌, ◌^◌, ◌++◌, [], ◌∷◌, length, None, Some, IfOk, IfErr, OnOk};
-ghost use Rattle.krs_wire.specs.Bodies.{number_of_op, FitsOp};
+ghost use Rattle.krs_wire.specs.Bodies.{FitsOp};
 ghost use Rattle.krs_wire.specs.Frame.{Frames, rest};
 ghost use Rattle.krs_wire.specs.Encoding.{framed, ask_text, ask_frame, IsTooLong};
 ghost use Rattle.krs_wire.specs.Tag.{version_of, FitsTag};
@@ -9,45 +9,8 @@ use crate::bodies::put_body;
 use crate::framed::{MAX_LENGTH, TAGGED, UNTAGGED};
 use crate::lengths::ask_length;
 use crate::put::{put_tag, put_u16, put_u32};
-use krs_types::{Ask, Op};
+use krs_types::Ask;
 use std::alloc::Global;
-
-/// The number of an operation on the wire.
-fn operation_number(op: &Op) -> u16
-    ensures { result ≡ number_of_op op.now }
-{
-    match op {
-        Op::GetId { .. } => 0,
-        Op::Join { .. } => 1,
-        Op::Update { .. } => 2,
-        Op::Revoke { .. } => 3,
-        Op::Chown { .. } => 4,
-        Op::SetPerm { .. } => 5,
-        Op::Describe { .. } => 6,
-        Op::Clear { .. } => 7,
-        Op::Link { .. } => 8,
-        Op::Unlink { .. } => 9,
-        Op::Search { .. } => 10,
-        Op::Read { .. } => 11,
-        Op::SetTimeout { .. } => 15,
-        Op::Invalidate { .. } => 21,
-        Op::RestrictKeyring { .. } => 29,
-        Op::Move { .. } => 30,
-        Op::Watch { .. } => 32,
-        Op::Hello(_) => 256,
-        Op::Thread => 257,
-        Op::Fork => 258,
-        Op::Exec => 259,
-        Op::Exit => 260,
-        Op::Leave => 261,
-        Op::Add { .. } => 262,
-        Op::Request { .. } => 263,
-        Op::OpenQueue { .. } => 264,
-        Op::SetFilter { .. } => 265,
-        Op::ReadQueue { .. } => 266,
-        Op::CloseQueue { .. } => 267,
-    }
-}
 
 /// The version of a frame with this tag, or with none.
 fn version(tag: Option<u64>) -> u16
@@ -68,7 +31,7 @@ fn put_ask(out: &mut Vec<u8>, tag: Option<u64>, ask: &Ask) -> Result<(), WireFau
     ensures long { IfErr result (IsTooLong 65537 (ask_text tag ask.now)) }
 {
     put_u16(out, version(tag))?;
-    put_u16(out, operation_number(&ask.op))?;
+    put_u16(out, ask.op.number())?;
     put_u32(out, ask.context)?;
     put_tag(out, tag)?;
     put_body(out, &ask.op)

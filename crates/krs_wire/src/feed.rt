@@ -4,7 +4,7 @@ ghost use Rattle.krs_wire.specs.Feeding.{end_of, Feeds, Refuses, fault_of};
 
 use crate::asks::front_at;
 use crate::reserve::Reserve;
-use crate::warned::{Nobody, Warned};
+use crate::warned::{Nobody, Warned, warning_of};
 use crate::{Framed, WireFault};
 use std::alloc::Global;
 use std::marker::Model;
@@ -157,7 +157,7 @@ fn take_once(
 
 /// Takes a piece. Where there is no memory, the reserve is let go, a quarter at a time and with a warning before, and it is
 /// tried again for a while: another thread may have been faster to take what was let go, and will mostly give it back
-/// soon.
+/// soon. It ends for want of memory only where nothing of the reserve is left.
 fn take_in<A: Warned>(
     alloc: Global,
     left: &mut Vec<u8>,
@@ -170,20 +170,22 @@ fn take_in<A: Warned>(
         (λ fault. Frames (left.old.items ++ piece.now) frames.new.items (end_of fault left.new.items)) }
     ensures memory { IfErr result (λ fault. fault ≡ WireFault.Memory) }
     ensures no_memory { IfOk result (λ fault. fault ≢ Some WireFault.Memory) }
+    ensures held { OnErr result (reserve.new ≡ 0) }
 {
     'tries: for tries in 0..TRIES {
         if let Ok(fault) = take_once(alloc, left, piece, frames) {
             return Ok(fault);
         }
         frames.clear();
-        warned.warn();
+        let warning = warning_of(warned);
         if tries % TRIES_A_QUARTER == 0 {
-            reserve.let_go();
+            reserve.let_go(warning);
         } else {
             thread::yield_now();
         }
     }
-    Err(WireFault::Memory)
+    reserve.let_go_whole(warning_of(warned));
+    take_once(alloc, left, piece, frames)
 }
 
 impl Feed {

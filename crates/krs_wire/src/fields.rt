@@ -1,14 +1,15 @@
 // The fields of frames, each read from the front of the bytes, which the reader answers with what follows it.
 ghost use Rattle.std.specs.Prelude.{◌≡◌, ◌==◌, ◌<◌, ◌*◌, Err, IfErr, length, option_map, if◌then◌else◌};
 ghost use Rattle.std.specs.Int.{w16, w32};
-ghost use Rattle.krs_wire.specs.Bodies.{id_field, text_field, blob_field, groups_field, entry_field, entries_field};
+ghost use Rattle.krs_wire.specs.Bodies.{id_field, text_field, blob_field, groups_field, caller_field, entry_field};
+ghost use Rattle.krs_wire.specs.Bodies.{entries_field};
 ghost use Rattle.krs_wire.specs.Field.{flag, number, many_read, repeated};
 ghost use Rattle.krs_wire.specs.Faulting.{GivesRead, or_bad_body};
 ghost use Rattle.krs_wire.specs.Tag.{tag_field};
 
 use crate::WireFault;
 use byteorder::{ByteOrder, LittleEndian};
-use krs_types::{Blob, FilterEntries, FilterEntry, Groups, TypeName};
+use krs_types::{Blob, Caller, FilterEntries, FilterEntry, Groups, TypeName};
 use std::alloc::Global;
 
 pub(crate) fn u16_at(bytes: &[u8]) -> Result<(u16, &[u8]), WireFault>
@@ -125,12 +126,21 @@ fn numbers_at(alloc: Global, count: u32, bytes: &[u8]) -> Result<(Vec<u32>, &[u8
     Ok((numbers, rest))
 }
 
-pub(crate) fn groups_at(alloc: Global, bytes: &[u8]) -> Result<(Groups, &[u8]), WireFault>
+fn groups_at(alloc: Global, bytes: &[u8]) -> Result<(Groups, &[u8]), WireFault>
     ensures { GivesRead (λ x. (x.0, x.1.now)) result (or_bad_body (groups_field.read bytes.now)) }
 {
     let (count, rest) = u32_at(bytes)?;
     let (numbers, rest) = numbers_at(alloc, count, rest)?;
     Ok((Groups::new(numbers), rest))
+}
+
+pub(crate) fn caller_at(alloc: Global, bytes: &[u8]) -> Result<(Caller, &[u8]), WireFault>
+    ensures { GivesRead (λ x. (x.0, x.1.now)) result (or_bad_body (caller_field.read bytes.now)) }
+{
+    let (uid, rest) = u32_at(bytes)?;
+    let (gid, rest) = u32_at(rest)?;
+    let (groups, rest) = groups_at(alloc, rest)?;
+    Ok((Caller { uid, gid, groups }, rest))
 }
 
 /// The subtype words of a filter entry.

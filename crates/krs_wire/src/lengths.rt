@@ -1,17 +1,10 @@
 // How long the frame of an ask is, before anything is allocated for it.
 ghost use Rattle.std.specs.Prelude.{◌≡◌, ◌+◌, length, min};
-ghost use Rattle.krs_wire.specs.Bodies.{body_of_op, entry_field, entries_field};
+ghost use Rattle.krs_types.specs.Rows.{row_of};
+ghost use Rattle.krs_wire.specs.Bodies.{body_of_op, size_of, caller_field, entry_field, entries_field};
 ghost use Rattle.krs_wire.specs.Encoding.{ask_text};
 
-use krs_types::{Ask, Blob, FilterEntries, FilterEntry, Op, TypeName};
-
-/// The length of two texts, or the greatest number where it is above that.
-fn texts_length(one: &TypeName, other: &Blob) -> usize
-    ensures { result ≡ min (length one.now + length other.now) usize.MAX }
-{
-    let more = other.as_slice().len();
-    one.as_slice().len().saturating_add(more)
-}
+use krs_types::{Ask, Caller, FilterEntries, FilterEntry, Op, asks};
 
 fn entry_length(entry: &FilterEntry) -> usize
     ensures { result ≡ length (entry_field.encode entry.now) }
@@ -32,52 +25,63 @@ fn entries_length(entries: &FilterEntries) -> usize
     length
 }
 
+/// The length of whom a client says that it is, or the greatest number where it is above that.
+fn caller_length(caller: &Caller) -> usize
+    ensures { result ≡ min (length (caller_field.encode caller.now)) usize.MAX }
+{
+    let groups = caller.groups.as_slice().len().saturating_mul(4);
+    groups.saturating_add(12)
+}
+
+macro_rules! lengths {
+    ($op:expr; $($ask:ident $number:literal $shape:ident $grows:tt $fields:tt;)*) => {
+        match $op {
+            $(lengths!(@ask $ask $fields) => lengths!(@body $fields),)*
+        }
+    };
+    (@ask $ask:ident {$($field:ident: $form:ident),*}) => { Op::$ask { $($field: lengths!(@name $form $field)),* } };
+    (@ask $ask:ident ($field:ident: $form:ident)) => { Op::$ask($field) };
+    (@name number $field:ident) => { _ };
+    (@name id $field:ident) => { _ };
+    (@name flag $field:ident) => { _ };
+    (@name $form:ident $field:ident) => { $field };
+    (@body {$($field:ident: $form:ident),*}) => {{
+        let length: usize = 0 $(+ lengths!(@fixed $form))*;
+        $(let length = lengths!(@more length, $form $field);)*
+        length
+    }};
+    (@body ($field:ident: $form:ident)) => {{
+        let length: usize = lengths!(@fixed $form);
+        lengths!(@more length, $form $field)
+    }};
+    (@fixed number) => { 4 };
+    (@fixed id) => { 4 };
+    (@fixed flag) => { 1 };
+    (@fixed type_name) => { 2 };
+    (@fixed text) => { 2 };
+    (@fixed blob) => { 4 };
+    (@fixed caller) => { 0 };
+    (@fixed entries) => { 0 };
+    (@more $length:expr, number $field:ident) => { $length };
+    (@more $length:expr, id $field:ident) => { $length };
+    (@more $length:expr, flag $field:ident) => { $length };
+    (@more $length:expr, caller $field:ident) => { $length.saturating_add(caller_length($field)) };
+    (@more $length:expr, entries $field:ident) => { $length.saturating_add(entries_length($field)) };
+    (@more $length:expr, $form:ident $field:ident) => { $length.saturating_add($field.as_slice().len()) };
+}
+
+/// The length of the fields of an ask, or the greatest number where it is above that.
+fn fields_length(op: &Op) -> usize
+    ensures { result ≡ min (size_of (row_of op.now).body) usize.MAX }
+{
+    asks!(lengths, op)
+}
+
 /// The length of a body, or the greatest number where it is above that.
 fn body_length(op: &Op) -> usize
     ensures { result ≡ min (length (body_of_op op.now)) usize.MAX }
 {
-    match op {
-        Op::GetId { .. } => 5,
-        Op::Join { name } => name.as_slice().len().saturating_add(2),
-        Op::Update { id: _, payload } => payload.as_slice().len().saturating_add(8),
-        Op::Revoke { .. } | Op::Describe { .. } | Op::Clear { .. } => 4,
-        Op::Read { .. } | Op::Invalidate { .. } => 4,
-        Op::Chown { .. } | Op::Watch { .. } => 12,
-        Op::SetPerm { .. } | Op::SetTimeout { .. } => 8,
-        Op::Link { .. } | Op::Unlink { .. } | Op::ReadQueue { .. } => 8,
-        Op::Search {
-            head: _,
-            type_name,
-            desc,
-            dest: _,
-        } => texts_length(type_name, desc).saturating_add(12),
-        Op::RestrictKeyring { ring: _, type_name } => {
-            type_name.as_slice().len().saturating_add(6)
-        }
-        Op::Move { .. } => 16,
-        Op::Hello(caller) => {
-            let groups = caller.groups.as_slice().len().saturating_mul(4);
-            groups.saturating_add(12)
-        }
-        Op::Thread | Op::Fork | Op::Exec | Op::Exit | Op::Leave => 0,
-        Op::Add {
-            type_name,
-            desc,
-            payload,
-            ring: _,
-        } => {
-            let texts = texts_length(type_name, desc);
-            let payload = payload.as_slice().len().saturating_add(12);
-            texts.saturating_add(payload)
-        }
-        Op::Request {
-            type_name,
-            desc,
-            dest: _,
-        } => texts_length(type_name, desc).saturating_add(8),
-        Op::OpenQueue { .. } | Op::CloseQueue { .. } => 4,
-        Op::SetFilter { queue: _, entries } => entries_length(entries).saturating_add(4),
-    }
+    fields_length(op)
 }
 
 /// What the length of an ask's frame says, or the greatest number where it would be above that.

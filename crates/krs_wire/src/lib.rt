@@ -14,7 +14,6 @@ mod lengths;
 mod put;
 mod replies;
 mod reserve;
-mod shape;
 mod warned;
 
 pub use encode::{encode_ask, encode_ask2};
@@ -24,5 +23,4 @@ pub use framed::Framed;
 pub use laws::{one_cut, one_encoding};
 pub use replies::{append_reply, decode_reply, decode_reply2, encode_reply, encode_reply2};
 pub use reserve::RESERVE;
-pub use shape::Shape;
 pub use warned::Warned;

@@ -2,7 +2,8 @@
 ghost use Rattle.std.specs.Prelude.{◌≡◌, ◌≤◌, ◌<◌, ◌^◌, ◌++◌, length, IfErr, OnOk};
 ghost use Rattle.std.specs.Int.{w16, w32, to_le_bytes};
 ghost use Rattle.std.specs.List.{flat_map, AllByRecursion};
-ghost use Rattle.krs_wire.specs.Bodies.{id_field, text_field, blob_field, groups_field, entry_field, entries_field};
+ghost use Rattle.krs_wire.specs.Bodies.{id_field, text_field, blob_field, groups_field, caller_field, entry_field};
+ghost use Rattle.krs_wire.specs.Bodies.{entries_field};
 ghost use Rattle.krs_wire.specs.Field.{flag};
 ghost use Rattle.krs_wire.specs.Encoding.{IsTooLong};
 ghost use Rattle.krs_wire.specs.Tag.{tag_text, FitsTag};
@@ -10,7 +11,7 @@ ghost use Rattle.krs_wire.specs.Tag.{tag_text, FitsTag};
 use crate::WireFault;
 use crate::framed::MAX_LENGTH;
 use byteorder::{ByteOrder, LittleEndian};
-use krs_types::{Blob, FilterEntries, FilterEntry, Groups};
+use krs_types::{Blob, Caller, FilterEntries, FilterEntry, Groups};
 
 pub(crate) fn put_u16(out: &mut Vec<u8>, number: u16) -> Result<(), WireFault>
     ensures ok { OnOk result (out.new.items ≡ out.old.items ++ to_le_bytes w16 number) }
@@ -106,7 +107,7 @@ fn put_numbers(out: &mut Vec<u8>, numbers: &[u32]) -> Result<(), WireFault>
     Ok(())
 }
 
-pub(crate) fn put_groups(out: &mut Vec<u8>, groups: &Groups) -> Result<(), WireFault>
+fn put_groups(out: &mut Vec<u8>, groups: &Groups) -> Result<(), WireFault>
     ensures ok { OnOk result (out.new.items ≡ out.old.items ++ groups_field.encode groups.now) }
     ensures fits { OnOk result (groups_field.Fits groups.now) }
     ensures long { IfErr result (IsTooLong 65536 (groups_field.encode groups.now)) }
@@ -118,6 +119,16 @@ pub(crate) fn put_groups(out: &mut Vec<u8>, groups: &Groups) -> Result<(), WireF
     }
     put_u32(out, numbers.len() as u32)?;
     put_numbers(out, numbers)
+}
+
+pub(crate) fn put_caller(out: &mut Vec<u8>, caller: &Caller) -> Result<(), WireFault>
+    ensures ok { OnOk result (out.new.items ≡ out.old.items ++ caller_field.encode caller.now) }
+    ensures fits { OnOk result (caller_field.Fits caller.now) }
+    ensures long { IfErr result (IsTooLong 65536 (caller_field.encode caller.now)) }
+{
+    put_u32(out, caller.uid)?;
+    put_u32(out, caller.gid)?;
+    put_groups(out, &caller.groups)
 }
 
 fn put_entry(out: &mut Vec<u8>, line: &FilterEntry) -> Result<(), WireFault>

@@ -6,10 +6,10 @@ ghost use Rattle.krs_wire.specs.Tag.{tag_text, tag_size};
 ghost use Rattle.krs_wire.specs.Reply.{answer_of, frame_of, reply_by, reply_of, reply_front, reply_frame, shape_of};
 ghost use Rattle.krs_wire.specs.Reply.{status_fields, tagged, untagged, Finds, IsAtFront, IsFound};
 
+use crate::WireFault;
 use crate::fields::{ended, tag_at, u32_at};
-use crate::{Shape, WireFault};
 use byteorder::{ByteOrder, LittleEndian};
-use krs_types::{Answer, Body, Errno, Op, Reply};
+use krs_types::{Answer, Body, Errno, Op, Reply, Shape};
 use std::alloc::{AllocError, Global};
 
 /// The least and the greatest length of a reply's frame, which counts the bytes behind it. With a tag both are longer
