@@ -5,7 +5,6 @@ pub mod Lookups
 pub mod Searches
 pub mod KeyAsks
 pub mod LinkAsks
-pub mod Moving
 pub mod Adding
 pub mod OtherAsks
 pub mod Outcomes

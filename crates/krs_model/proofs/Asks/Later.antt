@@ -215,4 +215,4 @@ keeps_is (Ok x) f h = h x refl
 keeps_is (Err e) f h = record { comes = λ t a no. cc }
 
 -- an ask is done by these, and by the lemma on what it comes to where it is accepted
-pub ruleset accepted = (keeps_found, keeps_after, keeps_ok, refl)
+pub ruleset keeping = (keeps_found, keeps_after, keeps_ok, refl)

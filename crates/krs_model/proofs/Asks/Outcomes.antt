@@ -1,5 +1,5 @@
 -- What an ask comes to meets a predicate of states, where it is accepted: test by test.
-use Rattle.std.proofs.Common.{◌≡◌, Bool, true, false, cond, Result, Ok, Err, refl, subst}
+use Rattle.std.proofs.Common.{◌≡◌, Result, Ok, Err, refl, subst}
 use Rattle.krs_types.specs.declared.errno.Errno.{Errno}
 use Rattle.krs_types.specs.declared.ask.Answer.{Answer}
 use Rattle.krs_types.specs.Refusing.{◌>>=◌}
@@ -27,9 +27,3 @@ meets_after (Err e) f h = record { meets = λ t a no. cc }
 pub meets_within :
     {P : State → Type 0} (old : State) (r : Outcome) → Meets P r → Meets P (within_serials old r)
 meets_within old r h = record { meets = λ t a e. h.meets t a (within_ok old r (t, a) e) }
-
--- one ask or the other, by a test
-pub meets_either :
-    {P : State → Type 0} (b : Bool) (x y : Outcome) → Meets P x → Meets P y → Meets P (cond b x y)
-meets_either true x y h k = h
-meets_either false x y h k = k

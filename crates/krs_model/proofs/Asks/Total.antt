@@ -22,8 +22,9 @@ use Rattle.krs_model.proofs.Reach.Levels.{in_flat, in_one}
 use Rattle.krs_model.proofs.Reach.Acyclic.{From, one_more, reached_in_levels, IsClosed}
 use Rattle.krs_model.proofs.Reach.Cycles.{there_in}
 use Rattle.krs_model.proofs.Sound.Changes.{Stands}
-use Rattle.krs_model.proofs.Sound.Steps.{outcome_stands, sound_stands, raised_sound}
+use Rattle.krs_model.proofs.Sound.Steps.{sound_stands, raised_sound}
 use Rattle.krs_model.proofs.Asks.Refusals.{refusal_is_no_memory}
+use Rattle.krs_model.proofs.Asks.Laws.{law_of}
 
 -- what is in a level from the attachments is held
 level_held :
@@ -86,7 +87,7 @@ ending_of :
 ending_of s client context op (Err e) is sound =
     (Err e, s, (inl is, refl), λ h. refusal_is_no_memory s client context op e is h)
 ending_of s client context op (Ok done) is sound =
-    let stood = (outcome_stands s client context op (sound_stands s sound)).stands done.0 done.1 is in
+    let stood = ((law_of s client context op).fares.meets done.0 done.1 is).stands (sound_stands s sound) in
     let swept = has_sweep done.0 stood in
     let new = posted_in (posts_by s client context op done.1 swept.0.keys) swept.0 in (
       Ok done.1,

@@ -92,10 +92,6 @@ ends_alike hide a b events others hides alike =
     (subst (λ (l : List Event). IsLegal (blind hide b) l x) (blinded_alike hide a b events others hides alike) from)
     (blinded_legal hide b alike.other_end others alike.other_blinded hides alike.second)
 
--- no answer to this ask tells a hidden payload
-abbrev TellsNone : Hiding → State → ℕ → ℕ → Op → Type 0
-TellsNone hide s client context op = (answer : Answer) → blind_answer hide s client context op answer ≡ answer
-
 same_told : (hide : Hiding) (keys : Table Key) (serial : Result ℕ Errno) (bytes : List ℕ)
     → told_at hide (blind_keys hide keys) serial bytes ≡ told_at hide keys serial bytes
 same_told hide keys (Ok n) bytes = seen hide keys (λ (o : Option Key). told (hide n) o bytes) n (λ v. refl)

@@ -30,10 +30,6 @@ use Rattle.krs_model.proofs.Asks.Later.{is_gone, same_state}
 use Rattle.krs_model.proofs.Asks.LaterByStep.{swept_follows}
 use Rattle.krs_model.proofs.Hiding.Gone.{gone_of}
 
-not_twice : (b : Bool) → not b ≡ true → b ≡ true → ⊥
-not_twice true n h = true≢false (sym n)
-not_twice false n h = true≢false (sym h)
-
 detached_out : (serial : ℕ) (o : Option ℕ) → is_in serial (option_to_list (detached serial o)) ≡ true → ⊥
 detached_out serial None h = true≢false (sym h)
 detached_out serial (Some j) h =

@@ -2,38 +2,34 @@
 use Rattle.std.proofs.Common.{◌≡◌, ℕ, suc, ℤ, ◌&&◌, List, [], ◌∷◌, Option, Some, None, Bool}
 use Rattle.std.proofs.Common.{Result, Ok, Err, refl, ap, ◌∙◌, length, filter}
 use Rattle.std.specs.List.{find}
-use Rattle.std.specs.Prelude.{nat_lt, codes}
+use Rattle.std.specs.Prelude.{codes}
 use Rattle.krs_types.specs.declared.errno.Errno.{Errno}
-use Rattle.krs_types.specs.declared.errno.Errno.TheVariants.{EPERM, ENOSPC, EDEADLK, ELOOP, ENOKEY}
+use Rattle.krs_types.specs.declared.errno.Errno.TheVariants.{EPERM, ENOSPC, EDEADLK, ELOOP}
 use Rattle.krs_types.specs.declared.context.Context.{Context}
 use Rattle.krs_types.specs.declared.name.Name.{Name}
 use Rattle.krs_types.specs.declared.key_id.KeyId.{KeyId}
 use Rattle.krs_types.specs.declared.key_id.KeyId.TheVariants.{Serial, Thread, Process, Session, User, UserSession}
-use Rattle.krs_types.specs.declared.rights.Want.TheVariants.{Granted}
-use Rattle.krs_types.specs.declared.ask.Answer.TheVariants.{Nothing}
 use Rattle.krs_types.specs.KeyId.{key_id_of}
-use Rattle.krs_types.specs.Rights.{WRITE, LINK}
-use Rattle.krs_types.specs.Refusing.{◌>>=◌, or_refuse}
+use Rattle.krs_types.specs.Refusing.{◌>>=◌}
 use Rattle.krs_model.specs.Table.{Table, at}
 use Rattle.krs_model.specs.State.{State, Key, Content, Payload, Links}
 use Rattle.krs_model.specs.Levels.{level, levels, is_in}
 use Rattle.krs_model.specs.Possession.{process_ring}
 use Rattle.krs_model.specs.Sweep.{links_of_key}
-use Rattle.krs_model.specs.Reach.{links_of_key_at, closes, is_ring, is_some_in, has_chain}
-use Rattle.krs_model.specs.Lookup.{context_of, serial_of, look_up}
+use Rattle.krs_model.specs.Reach.{links_of_key_at, closes, is_ring, is_some_in, has_chain, nesting_depth}
 use Rattle.krs_model.specs.Linking.{is_named, ring_links, link_named, linked_content, linking, has_room}
 use Rattle.krs_model.specs.Making.{with_thread, with_process, thread_to, thread_made, process_made, made_at, made_for}
 use Rattle.krs_model.specs.Making.{within_serials, special_ring}
 use Rattle.krs_model.specs.Outcome.{Outcome}
 use Rattle.krs_model.specs.Asks.Changing.{changed}
-use Rattle.krs_model.specs.Asks.Linked.{name_of, unless, nestable, link_check, linked_into, linked, link}
-use Rattle.krs_model.specs.Asks.Linked.{unlink, if_linked}
-use Rattle.krs_model.specs.Asks.Linked.{without_link, unlinked_content, clear, cleared, cleared_content}
+use Rattle.krs_model.specs.Asks.Linked.{name_of, unless, nestable, link_check, linked_into}
+use Rattle.krs_model.specs.Asks.Linked.{without_link, unlinked_content}
 use Rattle.krs_model.specs.Hiding.{Hiding, blind_content, blind_key, blind_keys, blind, over}
-use Rattle.krs_model.proofs.Hiding.Over.{bound, after, either}
+use Rattle.krs_model.proofs.Hiding.Over.{after, either}
 use Rattle.krs_model.proofs.Hiding.Keys.{alter_blind, put_blind, seen}
-use Rattle.krs_model.proofs.Hiding.Lookups.{same_links, blind_found, look_up_blind, there_blind}
-use Rattle.krs_model.proofs.Hiding.KeyAsks.{blind_done, accepted, found_in, done_changed}
+use Rattle.krs_model.proofs.Hiding.Lookups.{same_links, blind_found}
+use Rattle.krs_model.proofs.Hiding.KeyAsks.{blind_done}
+use Rattle.std.proofs.Common.{nat_lt}
 
 -- a keyring links what it did
 pub same_ring_links : (h : List ℕ → List ℕ) (content : Content)
@@ -79,7 +75,7 @@ unfolding nestable
 same_check hide keys ring links found = λ i.
     unless ring.1.closed EPERM
     >>= (λ unclosed. (unless (same_closes hide keys found.0 ring.0 i) EDEADLK
-    >>= (λ acyclic. unless (same_chain hide keys found.0 6 i) ELOOP))
+    >>= (λ acyclic. unless (same_chain hide keys found.0 nesting_depth i) ELOOP))
     >>= (λ nests. has_room links (same_link_named hide keys (name_of found.1) links i)))
 
 linked_blind : (h : List ℕ → List ℕ) (displaced : ℕ → Bool) (serial : ℕ) (content : Content)
@@ -118,19 +114,6 @@ linked_into_blind hide s into found =
     ap to (alter_blind hide s.keys into.0 (linking s.keys (name_of found.1) found.0)
     (linking (blind hide s).keys (name_of found.1) found.0)
     (λ v. linking_blind hide s.keys (name_of found.1) found.0 into.0 v))))
-
-pub linked_ask_blind : (hide : Hiding) (s : State) (c : Context) (key ring : ℤ)
-    → linked (blind hide s) c key ring ≡ over (blind_done hide) (linked s c key ring)
-linked_ask_blind hide s c key ring =
-    let end : ℕ × Key → ℕ × Key → Outcome = λ into found.
-    linked_into (blind hide s) into found >>= (λ new. accepted new Nothing) in
-    let next : ℕ × Key → Outcome = λ into. look_up (blind hide s) c key (Granted LINK) >>= end into in
-    ap (λ (r : Result (ℕ × Key) Errno). r >>= next) (look_up_blind hide s c ring (Granted WRITE))
-    ∙ bound (blind_found hide) (blind_done hide) (look_up s c ring (Granted WRITE)) _ _ (λ into _.
-    ap (λ (r : Result (ℕ × Key) Errno). r >>= end (blind_found hide into)) (look_up_blind hide s c key (Granted LINK))
-    ∙ bound (blind_found hide) (blind_done hide) (look_up s c key (Granted LINK)) _ _ (λ found _.
-    ap (λ (r : Result State Errno). r >>= (λ new. accepted new Nothing)) (linked_into_blind hide s into found)
-    ∙ bound (blind hide) (blind_done hide) (linked_into s into found) _ _ (λ new _. refl)))
 
 -- a store and a context, with the payloads of the store hidden
 abbrev pub blind_made : Hiding → State × Context → State × Context
@@ -185,47 +168,3 @@ pub without_blind : (h : List ℕ → List ℕ) (serial : ℕ) (v : Key)
     → without_link serial (blind_key h v) ≡ blind_key h (without_link serial v)
 without_blind h serial v = ap (λ (content : Content). record v { content = content })
     (unlinked_blind h serial v.content)
-
-cleared_blind : (h : List ℕ → List ℕ) (content : Content)
-    → cleared_content (blind_content h content) ≡ blind_content h (cleared_content content)
-cleared_blind h (Payload bytes) = refl
-cleared_blind h (Links serials) = refl
-
-pub clear_blind : (hide : Hiding) (s : State) (client context : ℕ) (id : ℤ)
-    → clear (blind hide s) client context id ≡ over (blind_done hide) (clear s client context id)
-unfolding clear
-clear_blind hide s client context id =
-    found_in hide s client context id (Granted WRITE) (blind_done hide) _ _ (λ c found _ _.
-    ap (λ (r : Result (List ℕ) Errno). r >>= (λ links. accepted (changed (blind hide s) found.0 cleared) Nothing))
-    (same_ring_links (hide found.0) found.1.content)
-    ∙ after (blind_done hide) (ring_links found.1.content) _ _ (λ links _.
-    done_changed hide s found.0 cleared cleared Nothing (λ v.
-    ap (λ (content : Content). record v { content = content }) (cleared_blind (hide found.0) v.content))))
-
-pub unlink_blind : (hide : Hiding) (s : State) (client context : ℕ) (key ring : ℤ)
-    → unlink (blind hide s) client context key ring ≡ over (blind_done hide) (unlink s client context key ring)
-unfolding unlink serial_of
-unlink_blind hide s client context key ring =
-    found_in hide s client context ring (Granted WRITE) (blind_done hide) _ _ (λ c from _ _.
-    after (blind_done hide) (serial_of s c key) _ _ (λ serial _.
-    let end : List ℕ → Outcome = λ links.
-    if_linked serial links >>= (λ linked. accepted (changed (blind hide s) from.0 (without_link serial)) Nothing) in
-    ap (λ (r : Result Key Errno). r >>= (λ there. ring_links (blind_content (hide from.0) from.1.content) >>= end))
-    (there_blind hide s ENOKEY serial)
-    ∙ bound (blind_key (hide serial)) (blind_done hide) (or_refuse ENOKEY (at s.keys serial)) _ _ (λ there _.
-    ap (λ (r : Result (List ℕ) Errno). r >>= end) (same_ring_links (hide from.0) from.1.content)
-    ∙ after (blind_done hide) (ring_links from.1.content) _ _ (λ links _.
-    after (blind_done hide) (if_linked serial links) _ _ (λ linked _.
-    done_changed hide s from.0 (without_link serial) (without_link serial) Nothing (without_blind
-    (hide from.0) serial))))))
-
-pub link_blind : (hide : Hiding) (s : State) (client context : ℕ) (key ring : ℤ)
-    → link (blind hide s) client context key ring ≡ over (blind_done hide) (link s client context key ring)
-unfolding link context_of
-link_blind hide s client context key ring =
-    after (blind_done hide) (context_of s client context) _ _ (λ c _.
-    let made = made_for s context c ring in
-    ap (λ (m : State × Context). within_serials (blind hide s) (linked m.0 m.1 key ring))
-    (made_blind hide s context c ring)
-    ∙ (ap (within_serials (blind hide s)) (linked_ask_blind hide made.0 made.1 key ring)
-    ∙ within_blind hide s (linked made.0 made.1 key ring)))

@@ -73,11 +73,6 @@ there_blind hide s e k =
       | Some v ↦ refl
     ])
 
--- an id stands for what it did
-pub same_serial : (hide : Hiding) (s : State) (c : Context) (id : ℤ) → serial_of (blind hide s) c id ≡ serial_of s c id
-unfolding serial_of
-same_serial hide s c id = refl
-
 -- what an id names is found, with its payload hidden
 pub look_up_blind :
     (hide : Hiding) (s : State) (c : Context) (id : ℤ) (want : Want)

@@ -17,12 +17,7 @@ use Rattle.krs_types.specs.declared.name.Name.{Name}
 use Rattle.krs_types.specs.declared.rights.Want.TheVariants.{Granted}
 use Rattle.krs_types.specs.declared.ask.Answer.{Answer}
 use Rattle.krs_types.specs.declared.ask.Op.{Op}
-use Rattle.krs_types.specs.declared.ask.Op.TheVariants.{Hello, Thread, Fork, Exec, GetId, Join, Search, Request, Add}
-use Rattle.krs_types.specs.declared.ask.Op.TheVariants.{Update, Revoke, Invalidate, Chown, SetPerm, SetTimeout, Link}
-use Rattle.krs_types.specs.declared.ask.Op.TheVariants.{Unlink}
-use Rattle.krs_types.specs.declared.ask.Op.TheVariants.{Clear, Read, Describe, Watch, OpenQueue, SetFilter, ReadQueue}
-use Rattle.krs_types.specs.declared.ask.Op.TheVariants.{CloseQueue, Exit, Leave}
-use Rattle.krs_types.specs.declared.ask.Op.TheVariants.{Move, RestrictKeyring}
+use Rattle.krs_types.specs.declared.ask.Op.TheVariants.{Hello, GetId, Join, Add}
 use Rattle.krs_types.specs.declared.event.Event.{Event}
 use Rattle.krs_types.specs.Perm.{group_byte, other_byte}
 use Rattle.krs_types.specs.Rights.{SEARCH, WRITE}
@@ -112,10 +107,6 @@ first_own uid Keyring = (refl, refl)
 -- these keys are the uid's own, and linked among themselves
 abbrev Encloses : ℕ → (ℕ → Bool) → State → Type 0
 Encloses uid set s = AreEnclosed uid set s.keys
-
--- the next serial is one of these, and all after it
-IsOnward : (ℕ → Bool) → ℕ → Type 0
-IsOnward set n = (set n ≡ true) × (set (n + 1) ≡ true)
 
 is_made_own :
     (uid : ℕ) (set : ℕ → Bool) (s : State) (number : ℕ) (c : Context) (id : Result KeyId Errno) (made : State × Context)
@@ -280,31 +271,7 @@ outcome_keeps uid private s client context (Add type_name desc payload ring) sta
     (same_ok (context_of s client context) acts.context c acts.there own) makes.1 in
     add_keeps uid (or_late private s.next_serial) s client context type_name desc payload ring within acts (in_late private s.next_serial) (after_late private s.next_serial)
     (late_enclosed uid private s stands alone)
-outcome_keeps uid private s client context (Search head type_name desc dest) stands alone makes = absurd makes
-outcome_keeps uid private s client context (Request type_name desc dest) stands alone makes = absurd makes
-outcome_keeps uid private s client context (Link key ring) stands alone makes = absurd makes
-outcome_keeps uid private s client context (Move key from to flags) stands alone makes = absurd makes
-outcome_keeps uid private s client context Thread stands alone makes = absurd makes
-outcome_keeps uid private s client context Fork stands alone makes = absurd makes
-outcome_keeps uid private s client context Exec stands alone makes = absurd makes
-outcome_keeps uid private s client context (Update id payload) stands alone makes = absurd makes
-outcome_keeps uid private s client context (Revoke id) stands alone makes = absurd makes
-outcome_keeps uid private s client context (Invalidate id) stands alone makes = absurd makes
-outcome_keeps uid private s client context (Chown id to gid) stands alone makes = absurd makes
-outcome_keeps uid private s client context (SetPerm id mask) stands alone makes = absurd makes
-outcome_keeps uid private s client context (SetTimeout id seconds) stands alone makes = absurd makes
-outcome_keeps uid private s client context (Unlink key ring) stands alone makes = absurd makes
-outcome_keeps uid private s client context (RestrictKeyring ring type_name) stands alone makes = absurd makes
-outcome_keeps uid private s client context (Clear id) stands alone makes = absurd makes
-outcome_keeps uid private s client context (Read id) stands alone makes = absurd makes
-outcome_keeps uid private s client context (Describe id) stands alone makes = absurd makes
-outcome_keeps uid private s client context (Watch id queue watch_id) stands alone makes = absurd makes
-outcome_keeps uid private s client context (OpenQueue capacity) stands alone makes = absurd makes
-outcome_keeps uid private s client context (SetFilter queue entries) stands alone makes = absurd makes
-outcome_keeps uid private s client context (ReadQueue queue room) stands alone makes = absurd makes
-outcome_keeps uid private s client context (CloseQueue queue) stands alone makes = absurd makes
-outcome_keeps uid private s client context Exit stands alone makes = absurd makes
-outcome_keeps uid private s client context Leave stands alone makes = absurd makes
+outcome_keeps uid private s client context op stands alone makes = absurd makes
 
 same_acts :
     (uid : ℕ) (s : State) (moment client number : ℕ) → ActsAs uid (raised s moment) client number
@@ -323,31 +290,7 @@ makes_may uid private s moment client context (GetId id create) makes =
 makes_may uid private s moment client context (Join name) makes = (refl, same_acts uid s moment client context makes)
 makes_may uid private s moment client context (Add type_name desc payload ring) makes =
     (refl, same_acts uid s moment client context makes.0)
-makes_may uid private s moment client context (Search head type_name desc dest) makes = absurd makes
-makes_may uid private s moment client context (Request type_name desc dest) makes = absurd makes
-makes_may uid private s moment client context (Link key ring) makes = absurd makes
-makes_may uid private s moment client context (Move key from to flags) makes = absurd makes
-makes_may uid private s moment client context Thread makes = absurd makes
-makes_may uid private s moment client context Fork makes = absurd makes
-makes_may uid private s moment client context Exec makes = absurd makes
-makes_may uid private s moment client context (Update id payload) makes = absurd makes
-makes_may uid private s moment client context (Revoke id) makes = absurd makes
-makes_may uid private s moment client context (Invalidate id) makes = absurd makes
-makes_may uid private s moment client context (Chown id to gid) makes = absurd makes
-makes_may uid private s moment client context (SetPerm id mask) makes = absurd makes
-makes_may uid private s moment client context (SetTimeout id seconds) makes = absurd makes
-makes_may uid private s moment client context (Unlink key ring) makes = absurd makes
-makes_may uid private s moment client context (RestrictKeyring ring type_name) makes = absurd makes
-makes_may uid private s moment client context (Clear id) makes = absurd makes
-makes_may uid private s moment client context (Read id) makes = absurd makes
-makes_may uid private s moment client context (Describe id) makes = absurd makes
-makes_may uid private s moment client context (Watch id queue watch_id) makes = absurd makes
-makes_may uid private s moment client context (OpenQueue capacity) makes = absurd makes
-makes_may uid private s moment client context (SetFilter queue entries) makes = absurd makes
-makes_may uid private s moment client context (ReadQueue queue room) makes = absurd makes
-makes_may uid private s moment client context (CloseQueue queue) makes = absurd makes
-makes_may uid private s moment client context Exit makes = absurd makes
-makes_may uid private s moment client context Leave makes = absurd makes
+makes_may uid private s moment client context op makes = absurd makes
 
 swept_keeps :
     (uid : ℕ) (set : ℕ → Bool) (old new : State) → IsSweep old new → AreEnclosed uid set old.keys

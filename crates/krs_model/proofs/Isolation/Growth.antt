@@ -10,12 +10,7 @@ use Rattle.krs_types.specs.declared.context.Context.{Context}
 use Rattle.krs_types.specs.declared.context.UidRings.{UidRings}
 use Rattle.krs_types.specs.declared.ask.Answer.{Answer}
 use Rattle.krs_types.specs.declared.ask.Op.{Op}
-use Rattle.krs_types.specs.declared.ask.Op.TheVariants.{Hello, Thread, Fork, Exec, GetId, Join, Search, Request, Add}
-use Rattle.krs_types.specs.declared.ask.Op.TheVariants.{Update, Revoke, Invalidate, Chown, SetPerm, SetTimeout, Link}
-use Rattle.krs_types.specs.declared.ask.Op.TheVariants.{Unlink}
-use Rattle.krs_types.specs.declared.ask.Op.TheVariants.{Clear, Read, Describe, Watch, OpenQueue, SetFilter, ReadQueue}
-use Rattle.krs_types.specs.declared.ask.Op.TheVariants.{CloseQueue, Exit, Leave}
-use Rattle.krs_types.specs.declared.ask.Op.TheVariants.{Move, RestrictKeyring}
+use Rattle.krs_types.specs.declared.ask.Op.TheVariants.{Hello}
 use Rattle.krs_types.specs.declared.event.Event.{Event}
 use Rattle.krs_types.specs.Caller.{caller_check}
 use Rattle.krs_model.specs.Table.{Table, at, alter}
@@ -41,11 +36,12 @@ use Rattle.krs_model.proofs.Sound.Steps.{sound_stands, raised_sound}
 use Rattle.krs_model.proofs.Isolation.Attachments.{of_foreign, of_foreign_process, alter_to, same_unattached}
 use Rattle.krs_model.proofs.Isolation.Attachments.{entered_unattached}
 use Rattle.krs_model.proofs.Asks.Houses.{Houses, Same, Begins, Enters, Named, Forked, Threads, Alters, Rings, Execs}
-use Rattle.krs_model.proofs.Asks.Houses.{Detaches, Exits, Departs, outcome_houses}
+use Rattle.krs_model.proofs.Asks.Houses.{Detaches, Exits, Departs}
 use Rattle.krs_model.proofs.Tables.Entries.{rises_distinct}
 use Rattle.krs_model.proofs.Asks.Outcomes.{Meets, meets_ok, meets_after}
 use Rattle.krs_model.proofs.Isolation.KeyAsks.{uid_processes, uid_placed}
 use Rattle.krs_model.proofs.Isolation.Steps.{step_guarded, not_given, raised_alone, step_alone}
+use Rattle.krs_model.proofs.Asks.Laws.{law_of}
 
 -- the serials from this one on
 abbrev pub late : ℕ → ℕ → Bool
@@ -173,7 +169,7 @@ outcome_leaves_by :
     → Meets (AreUnattached uid private) (outcome_of s client context op)
 outcome_leaves_by uid private s client context op sound may other acts alone = record {
   meets = λ new answer is. acts_leave uid private s new client context op new.contexts new.processes new.uids sound may
-      other acts refl refl refl ((outcome_houses s client context op).meets new answer is) alone;
+      other acts refl refl refl ((law_of s client context op).fares.meets new answer is).houses alone;
 }
 
 own_uid_unattached :
@@ -210,41 +206,8 @@ outcome_leaves :
     → Meets (AreUnattached uid private) (outcome_of s client context op)
 outcome_leaves uid private s client context (Hello caller) sound may own alone =
     hello_leaves uid private s client caller (sound_stands s sound) own alone
-outcome_leaves uid private s client context (GetId id create) sound may acts alone =
-    outcome_leaves_by uid private s client context (GetId id create) sound may refl acts alone
-outcome_leaves uid private s client context (Join name) sound may acts alone =
-    outcome_leaves_by uid private s client context (Join name) sound may refl acts alone
-outcome_leaves uid private s client context (Search head type_name desc dest) sound may acts alone =
-    outcome_leaves_by uid private s client context (Search head type_name desc dest) sound may refl acts alone
-outcome_leaves uid private s client context (Request type_name desc dest) sound may acts alone =
-    outcome_leaves_by uid private s client context (Request type_name desc dest) sound may refl acts alone
-outcome_leaves uid private s client context (Add type_name desc payload ring) sound may acts alone =
-    outcome_leaves_by uid private s client context (Add type_name desc payload ring) sound may refl acts alone
-outcome_leaves uid private s client context (Link key ring) sound may acts alone =
-    outcome_leaves_by uid private s client context (Link key ring) sound may refl acts alone
-outcome_leaves uid private s client context (Move key from to flags) sound may acts alone =
-    outcome_leaves_by uid private s client context (Move key from to flags) sound may refl acts alone
-outcome_leaves uid private s client context Thread sound may acts alone = cc
-outcome_leaves uid private s client context Fork sound may acts alone = cc
-outcome_leaves uid private s client context Exec sound may acts alone = cc
-outcome_leaves uid private s client context (Update id payload) sound may acts alone = cc
-outcome_leaves uid private s client context (Revoke id) sound may acts alone = cc
-outcome_leaves uid private s client context (Invalidate id) sound may acts alone = cc
-outcome_leaves uid private s client context (Chown id to gid) sound may acts alone = cc
-outcome_leaves uid private s client context (SetPerm id mask) sound may acts alone = cc
-outcome_leaves uid private s client context (SetTimeout id seconds) sound may acts alone = cc
-outcome_leaves uid private s client context (Unlink key ring) sound may acts alone = cc
-outcome_leaves uid private s client context (RestrictKeyring ring type_name) sound may acts alone = cc
-outcome_leaves uid private s client context (Clear id) sound may acts alone = cc
-outcome_leaves uid private s client context (Read id) sound may acts alone = cc
-outcome_leaves uid private s client context (Describe id) sound may acts alone = cc
-outcome_leaves uid private s client context (Watch id queue watch_id) sound may acts alone = cc
-outcome_leaves uid private s client context (OpenQueue capacity) sound may acts alone = cc
-outcome_leaves uid private s client context (SetFilter queue entries) sound may acts alone = cc
-outcome_leaves uid private s client context (ReadQueue queue room) sound may acts alone = cc
-outcome_leaves uid private s client context (CloseQueue queue) sound may acts alone = cc
-outcome_leaves uid private s client context Exit sound may acts alone = cc
-outcome_leaves uid private s client context Leave sound may acts alone = cc
+outcome_leaves uid private s client context op sound may acts alone =
+    outcome_leaves_by uid private s client context op sound may refl acts alone
 
 swept_leaves :
     (uid : ℕ) (private : ℕ → Bool) (old new : State) → IsSweep old new → AreUnattached uid private old
@@ -278,62 +241,7 @@ same_for :
     (uid : ℕ) (s : State) (moment client context : ℕ) (op : Op) → IsFor uid s client context op
     → IsFor uid (raised s moment) client context op
 same_for uid s moment client context (Hello caller) h = h
-same_for uid s moment client context (GetId id create) h =
-    raised_acts uid s moment client context h
-same_for uid s moment client context (Join name) h =
-    raised_acts uid s moment client context h
-same_for uid s moment client context (Search head type_name desc dest) h =
-    raised_acts uid s moment client context h
-same_for uid s moment client context (Request type_name desc dest) h =
-    raised_acts uid s moment client context h
-same_for uid s moment client context (Add type_name desc payload ring) h =
-    raised_acts uid s moment client context h
-same_for uid s moment client context (Link key ring) h =
-    raised_acts uid s moment client context h
-same_for uid s moment client context (Move key from to flags) h =
-    raised_acts uid s moment client context h
-same_for uid s moment client context Thread h =
-    raised_acts uid s moment client context h
-same_for uid s moment client context Fork h =
-    raised_acts uid s moment client context h
-same_for uid s moment client context Exec h =
-    raised_acts uid s moment client context h
-same_for uid s moment client context (Update id payload) h =
-    raised_acts uid s moment client context h
-same_for uid s moment client context (Revoke id) h =
-    raised_acts uid s moment client context h
-same_for uid s moment client context (Invalidate id) h =
-    raised_acts uid s moment client context h
-same_for uid s moment client context (Chown id to gid) h =
-    raised_acts uid s moment client context h
-same_for uid s moment client context (SetPerm id mask) h =
-    raised_acts uid s moment client context h
-same_for uid s moment client context (SetTimeout id seconds) h =
-    raised_acts uid s moment client context h
-same_for uid s moment client context (Unlink key ring) h =
-    raised_acts uid s moment client context h
-same_for uid s moment client context (RestrictKeyring ring type_name) h =
-    raised_acts uid s moment client context h
-same_for uid s moment client context (Clear id) h =
-    raised_acts uid s moment client context h
-same_for uid s moment client context (Read id) h =
-    raised_acts uid s moment client context h
-same_for uid s moment client context (Describe id) h =
-    raised_acts uid s moment client context h
-same_for uid s moment client context (Watch id queue watch_id) h =
-    raised_acts uid s moment client context h
-same_for uid s moment client context (OpenQueue capacity) h =
-    raised_acts uid s moment client context h
-same_for uid s moment client context (SetFilter queue entries) h =
-    raised_acts uid s moment client context h
-same_for uid s moment client context (ReadQueue queue room) h =
-    raised_acts uid s moment client context h
-same_for uid s moment client context (CloseQueue queue) h =
-    raised_acts uid s moment client context h
-same_for uid s moment client context Exit h =
-    raised_acts uid s moment client context h
-same_for uid s moment client context Leave h =
-    raised_acts uid s moment client context h
+same_for uid s moment client context op h = raised_acts uid s moment client context h
 
 step_late :
     (uid : ℕ) (private : ℕ → Bool) (old new : State) (event : Event) → IsSound old → HasToItself uid private old

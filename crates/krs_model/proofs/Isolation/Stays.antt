@@ -33,7 +33,7 @@ use Rattle.krs_model.proofs.Tables.Entries.{IsEntry, rises_distinct, entry_passe
 use Rattle.krs_model.proofs.Reach.Levels.{same_is, in_left, in_right, in_one, only_in}
 use Rattle.krs_model.proofs.Lookups.Serials.{own_there, found_serial}
 use Rattle.krs_model.proofs.Asks.Houses.{Houses, Same, Begins, Enters, Threads, Alters, Rings, Execs, Detaches, Exits}
-use Rattle.krs_model.proofs.Asks.Houses.{Departs, outcome_houses}
+use Rattle.krs_model.proofs.Asks.Houses.{Departs}
 use Rattle.krs_model.proofs.Sound.Changes.{IsChanged, at_change, IsPut, at_put}
 use Rattle.krs_model.proofs.Sound.Attached.{context_keys, uid_keys, attached_at, attached_entry, attached_by}
 use Rattle.krs_model.proofs.Sound.Attached.{in_context, in_process, in_uid}
@@ -43,7 +43,8 @@ use Rattle.krs_model.proofs.Isolation.Keys.{false_where}
 use Rattle.krs_model.proofs.Sound.InUse.{was_mapped}
 use Rattle.krs_model.proofs.Isolation.KeyAsks.{NotBy, none_found}
 use Rattle.krs_model.proofs.Isolation.Steps.{raised_alone, same_context}
-use Rattle.krs_model.proofs.Isolation.Untouched.{KeysAfter, IsDetached, AreSame, outcome_keeps}
+use Rattle.krs_model.proofs.Isolation.Untouched.{KeysAfter, IsDetached, AreSame}
+use Rattle.krs_model.proofs.Asks.Laws.{law_of}
 
 -- no context of the uid asks, nor leaves
 pub record IsOutside (uid : ℕ) (s : State) (client context : ℕ) (op : Op) : Type 0 where
@@ -397,10 +398,10 @@ served_unchanged :
     → (AreSame private s.keys new.keys) ⊎ IsTakenOut private s client context op new.keys
 served_unchanged uid private s new client context op answer sound alone outside serves =
     let mid = serves.mid in
-    let after = (outcome_keeps uid private s client context op (sound_stands s sound) alone outside.other).meets mid answer
-    serves.meant in
+    let after = ((law_of s client context op).fares.meets mid answer serves.meant).keeps uid private (sound_stands s sound) alone
+    outside.other in
     let houses = houses_stay uid private s client context op mid.contexts mid.processes mid.uids sound alone outside
-    ((outcome_houses s client context op).meets mid answer serves.meant) in
+    ((law_of s client context op).fares.meets mid answer serves.meant).houses in
     let held : (k : ℕ) → private k ≡ true → IsSome (at mid.keys k) → IsHeld mid.keys (roots mid) k = λ k m there.
     held_stays private s.keys mid.keys (roots s) (roots mid) k (λ j q h i. alone.enclosed.linked j q h i)
     (λ q h i. roots_stay private s mid q sound houses h i)

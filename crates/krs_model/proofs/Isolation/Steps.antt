@@ -1,159 +1,40 @@
--- Each step leaves a uid its keys to itself, but where a context of it gives one away. A further ask costs a lemma of its own,
--- as `chown_guards`, and a line of `outcome_guards`.
-use Rattle.std.proofs.Common.{◌≡◌, ◌≢◌, ℕ, ℤ, ◌==◌, List, [], Bool, true, false, Some, filter}
+-- Each step leaves a uid its keys to itself, but where a context of it gives one away.
+use Rattle.std.proofs.Common.{◌≡◌, ◌≢◌, ℕ, ◌==◌, List, [], Bool, true, false, Some, filter}
 use Rattle.std.proofs.Common.{Result, Ok, Err, refl, ap, sym, subst, ◌∙◌, ◌⊎◌, inl, inr, ⊎_elim, arith}
 use Rattle.std.proofs.lemmas.Bool.{true≢false}
 use Rattle.std.proofs.lemmas.Bool.Decides.{nat_tests}
 use Rattle.krs_types.specs.declared.errno.Errno.{Errno}
 use Rattle.krs_types.specs.declared.context.Context.{Context}
-use Rattle.krs_types.specs.declared.rights.Want.TheVariants.{Granted}
 use Rattle.krs_types.specs.declared.ask.Answer.{Answer}
 use Rattle.krs_types.specs.declared.ask.Op.{Op}
-use Rattle.krs_types.specs.declared.ask.Op.TheVariants.{Hello, Thread, Fork, Exec, GetId, Join, Search, Request, Add}
-use Rattle.krs_types.specs.declared.ask.Op.TheVariants.{Update, Revoke, Invalidate, Chown, SetPerm, SetTimeout, Link}
-use Rattle.krs_types.specs.declared.ask.Op.TheVariants.{Unlink}
-use Rattle.krs_types.specs.declared.ask.Op.TheVariants.{Clear, Read, Describe, Watch, OpenQueue, SetFilter, ReadQueue}
-use Rattle.krs_types.specs.declared.ask.Op.TheVariants.{CloseQueue, Exit, Leave}
-use Rattle.krs_types.specs.declared.ask.Op.TheVariants.{Move, RestrictKeyring}
 use Rattle.krs_types.specs.declared.event.Event.{Event}
-use Rattle.krs_types.specs.declared.note.FilterEntry.{FilterEntry}
 use Rattle.krs_types.specs.declared.rights.Rights.{Rights}
-use Rattle.krs_types.specs.Rights.{has_all, VIEW, READ, SEARCH}
+use Rattle.krs_types.specs.Rights.{has_all, READ, SEARCH}
 use Rattle.krs_model.specs.Access.{rights_on}
 use Rattle.krs_model.specs.Table.{Table, at}
 use Rattle.krs_model.specs.State.{State, Key, raised}
 use Rattle.krs_model.specs.Possession.{possessed}
 use Rattle.krs_model.specs.Levels.{is_in}
 use Rattle.krs_model.specs.Reach.{links_of_key_at}
-use Rattle.krs_model.specs.Lookup.{context_of, look_up}
+use Rattle.krs_model.specs.Lookup.{context_of}
 use Rattle.krs_model.specs.History.{IsLegal}
 use Rattle.krs_model.specs.Revocation.{Reads}
 use Rattle.krs_model.specs.Secrecy.{MayBeRead, Grants}
 use Rattle.krs_model.specs.Sweep.{IsSweep, live_watches}
 use Rattle.krs_model.specs.Sound.{IsSound}
-use Rattle.krs_model.specs.Step.{Step, Serves, Ends, outcome_of, posts_by}
-use Rattle.krs_model.specs.Queues.{queues_of}
+use Rattle.krs_model.specs.Step.{Step, Serves, Ends, posts_by}
 use Rattle.krs_model.specs.Notes.Posting.{Post, posted_in}
-use Rattle.krs_model.specs.Asks.Watching.{opened, filtered, read_out, closed, with_watching, watch_id_of}
-use Rattle.krs_model.specs.Asks.Watching.{open_queue, set_filter, read_queue, close_queue, watch}
 use Rattle.krs_model.specs.Confidentiality.{is_own, AreEnclosed, HasToItself, ActsAs, may_give, IsGivenAway}
 use Rattle.krs_model.specs.Confidentiality.{GivesAway}
 use Rattle.krs_model.proofs.Asks.Later.{same_ok}
 use Rattle.krs_model.proofs.Lookups.Serials.{own_there}
-use Rattle.krs_model.proofs.Sound.Changes.{Stands}
 use Rattle.krs_model.proofs.Sound.Steps.{sound_stands, raised_sound}
 use Rattle.krs_model.proofs.Hiding.Readers.{reads_by_right}
 use Rattle.krs_model.proofs.Isolation.Keys.{kept_enclosed, no_rights}
 use Rattle.krs_model.proofs.Isolation.Attachments.{attaches_none, same_unattached}
-use Rattle.krs_model.proofs.Asks.Outcomes.{Meets, meets_ok, meets_after}
-use Rattle.krs_model.proofs.Isolation.KeyAsks.{Guarded, NotBy, guards_where}
-use Rattle.krs_model.proofs.Isolation.KeyAsks.{alone_guarded, with_queues_guarded, update_guards}
-use Rattle.krs_model.proofs.Isolation.KeyAsks.{revoke_guards, chown_guards, set_perm_guards, set_timeout_guards}
-use Rattle.krs_model.proofs.Isolation.KeyAsks.{unlink_guards, restrict_keyring_guards, clear_guards, read_guards}
-use Rattle.krs_model.proofs.Isolation.KeyAsks.{describe_guards, left_guarded, invalidate_guards, exit_guards, hello_guards}
-use Rattle.krs_model.proofs.Isolation.LinkAsks.{link_guards, move_guards, search_guards, request_guards, get_id_guards}
-use Rattle.krs_model.proofs.Isolation.LinkAsks.{join_guards, thread_guards, fork_guards, exec_guards, add_guards}
-
-open_queue_guards :
-    (uid : ℕ) (private : ℕ → Bool) (P : Type 0) (s : State) (client capacity : ℕ) → HasToItself uid private s
-    → Meets (Guarded uid private P) (open_queue s client capacity)
-unfolding open_queue
-open_queue_guards uid private P s client capacity alone =
-    meets_after (opened (queues_of s) client capacity) _ (λ made _.
-    meets_ok (with_queues_guarded uid private P s made.0 alone))
-
-set_filter_guards :
-    (uid : ℕ) (private : ℕ → Bool) (P : Type 0) (s : State) (client number : ℕ) (entries : List FilterEntry)
-    → HasToItself uid private s → Meets (Guarded uid private P) (set_filter s client number entries)
-unfolding set_filter
-set_filter_guards uid private P s client number entries alone =
-    meets_after (filtered (queues_of s) client number entries) _ (λ set _.
-    meets_ok (with_queues_guarded uid private P s set.0 alone))
-
-read_queue_guards :
-    (uid : ℕ) (private : ℕ → Bool) (P : Type 0) (s : State) (client number room : ℕ) → HasToItself uid private s
-    → Meets (Guarded uid private P) (read_queue s client number room)
-unfolding read_queue
-read_queue_guards uid private P s client number room alone =
-    meets_after (read_out (queues_of s) client number room) _ (λ taken _.
-    meets_ok (with_queues_guarded uid private P s taken.0 alone))
-
-close_queue_guards :
-    (uid : ℕ) (private : ℕ → Bool) (P : Type 0) (s : State) (client number : ℕ) → HasToItself uid private s
-    → Meets (Guarded uid private P) (close_queue s client number)
-unfolding close_queue
-close_queue_guards uid private P s client number alone =
-    meets_after (closed (queues_of s) client number) _ (λ left _.
-    meets_ok (with_queues_guarded uid private P s left.0 alone))
-
-watch_guards :
-    (uid : ℕ) (private : ℕ → Bool) (P : Type 0) (s : State) (client context : ℕ) (id : ℤ) (number : ℕ) (watch_id : ℤ)
-    → HasToItself uid private s → Meets (Guarded uid private P) (watch s client context id number watch_id)
-unfolding watch
-watch_guards uid private P s client context id number watch_id alone =
-    meets_after (context_of s client context) _ (λ c _.
-    meets_after (watch_id_of watch_id) _ (λ asked _.
-    meets_after (look_up s c id (Granted VIEW)) _ (λ found _.
-    meets_after (with_watching (queues_of s) client number found.0 asked) _ (λ queues _.
-    meets_ok (with_queues_guarded uid private P s queues alone)))))
-
--- no context of the uid asks, or the ask can't give a key away
-abbrev pub Holds : ℕ → State → ℕ → ℕ → Op → Type 0
-Holds uid s client context op = (may_give op ≡ true) → NotBy uid s client context
-
--- what any ask comes to is guarded, where it is accepted
-pub outcome_guards :
-    (uid : ℕ) (private : ℕ → Bool) (s : State) (client context : ℕ) (op : Op) → Stands s → HasToItself uid private s
-    → Meets (Guarded uid private (Holds uid s client context op)) (outcome_of s client context op)
-outcome_guards uid private s client context (Hello caller) stands alone = hello_guards uid private _ s client caller stands alone
-outcome_guards uid private s client context Thread stands alone = thread_guards uid private _ s client context alone
-outcome_guards uid private s client context Fork stands alone = fork_guards uid private _ s client context stands alone
-outcome_guards uid private s client context Exec stands alone = exec_guards uid private _ s client context alone
-outcome_guards uid private s client context (GetId id create) stands alone =
-    get_id_guards uid private _ s client context id create alone
-outcome_guards uid private s client context (Join name) stands alone =
-    join_guards uid private _ s client context name stands alone
-outcome_guards uid private s client context (Search head type_name desc dest) stands alone =
-    search_guards uid private s client context head type_name desc dest stands alone
-outcome_guards uid private s client context (Request type_name desc dest) stands alone =
-    request_guards uid private s client context type_name desc dest stands alone
-outcome_guards uid private s client context (Add type_name desc payload ring) stands alone =
-    add_guards uid private _ s client context type_name desc payload ring alone
-outcome_guards uid private s client context (Update id payload) stands alone =
-    update_guards uid private _ s client context id payload alone
-outcome_guards uid private s client context (Revoke id) stands alone = revoke_guards uid private _ s client context id alone
-outcome_guards uid private s client context (Invalidate id) stands alone =
-    invalidate_guards uid private _ s client context id alone
-outcome_guards uid private s client context (Chown id to gid) stands alone =
-    guards_where _ (λ to. to refl) (chown_guards uid private s client context id to gid alone)
-outcome_guards uid private s client context (SetPerm id mask) stands alone =
-    guards_where _ (λ to. to refl) (set_perm_guards uid private s client context id mask alone)
-outcome_guards uid private s client context (SetTimeout id seconds) stands alone =
-    set_timeout_guards uid private _ s client context id seconds alone
-outcome_guards uid private s client context (Link key ring) stands alone =
-    guards_where _ (λ to. to refl) (link_guards uid private s client context key ring stands alone)
-outcome_guards uid private s client context (Unlink key ring) stands alone =
-    unlink_guards uid private _ s client context key ring alone
-outcome_guards uid private s client context (Move key from to flags) stands alone =
-    guards_where _ (λ to. to refl) (move_guards uid private s client context key from to flags alone)
-outcome_guards uid private s client context (RestrictKeyring ring type_name) stands alone =
-    restrict_keyring_guards uid private _ s client context ring type_name alone
-outcome_guards uid private s client context (Clear id) stands alone = clear_guards uid private _ s client context id alone
-outcome_guards uid private s client context (Read id) stands alone = read_guards uid private _ s client context id alone
-outcome_guards uid private s client context (Describe id) stands alone =
-    describe_guards uid private _ s client context id alone
-outcome_guards uid private s client context (Watch id queue watch_id) stands alone =
-    watch_guards uid private _ s client context id queue watch_id alone
-outcome_guards uid private s client context (OpenQueue capacity) stands alone =
-    open_queue_guards uid private _ s client capacity alone
-outcome_guards uid private s client context (SetFilter queue entries) stands alone =
-    set_filter_guards uid private _ s client queue entries alone
-outcome_guards uid private s client context (ReadQueue queue room) stands alone =
-    read_queue_guards uid private _ s client queue room alone
-outcome_guards uid private s client context (CloseQueue queue) stands alone =
-    close_queue_guards uid private _ s client queue alone
-outcome_guards uid private s client context Exit stands alone = exit_guards uid private _ s client context stands alone
-outcome_guards uid private s client context Leave stands alone = meets_ok (left_guarded uid private _ s client alone)
+use Rattle.krs_model.proofs.Isolation.KeyAsks.{Guarded, NotBy, Holds}
+use Rattle.krs_model.proofs.Isolation.KeyAsks.{alone_guarded}
+use Rattle.krs_model.proofs.Asks.Laws.{law_of}
 
 sweep_guarded :
     (uid : ℕ) (private : ℕ → Bool) (P : Type 0) (old new : State) → IsSweep old new → Guarded uid private P old
@@ -193,7 +74,7 @@ served_guarded :
     → Guarded uid private (Holds uid s client context op) new
 served_guarded uid private s new client context op answer sound alone serves =
     let P = Holds uid s client context op in
-    let mid = (outcome_guards uid private s client context op (sound_stands s sound) alone).meets serves.mid answer serves.meant in
+    let mid = ((law_of s client context op).fares.meets serves.mid answer serves.meant).guards uid private (sound_stands s sound) alone in
     let swept = sweep_guarded uid private P serves.mid serves.swept serves.sweep mid in
     subst (Guarded uid private P) (sym serves.posted)
     (posted_guarded uid private P (posts_by s client context op answer serves.swept.keys) serves.swept swept)

@@ -1,0 +1,203 @@
+-- What is proved of UPDATE, REVOKE, CHOWN, SET_PERM and SET_TIMEOUT.
+use Rattle.std.proofs.Common.{ℕ, ℤ, ◌==◌, ◌||◌, ◌∙◌, ◌∷◌, ◌≡◌, Err, List, None, Ok, Result, [], ap, arith, refl, sym}
+use Rattle.std.proofs.Common.{true}
+use Rattle.std.proofs.lemmas.Bool.Decides.{nat_tests}
+use Rattle.krs_types.specs.Kind.{paid}
+use Rattle.krs_types.specs.Perm.{perm_of}
+use Rattle.krs_types.specs.Refusing.{◌>>=◌}
+use Rattle.krs_types.specs.Rights.{SETATTR, WRITE}
+use Rattle.krs_types.specs.declared.ask.Answer.TheVariants.{Nothing}
+use Rattle.krs_types.specs.declared.ask.Op.TheVariants.{Chown, Revoke, SetPerm, SetTimeout, Update}
+use Rattle.krs_types.specs.declared.context.Context.{Context}
+use Rattle.krs_types.specs.declared.errno.Errno.{Errno}
+use Rattle.krs_types.specs.declared.errno.Errno.TheVariants.{EACCES}
+use Rattle.krs_types.specs.declared.kind.Kind.{Kind}
+use Rattle.krs_types.specs.declared.kind.Kind.TheVariants.{Keyring}
+use Rattle.krs_types.specs.declared.rights.Want.TheVariants.{Either, Granted}
+use Rattle.krs_model.specs.Asks.Changing.{changed, chown, emptied, expiry_after, if_may_own, if_owner, may_own}
+use Rattle.krs_model.specs.Asks.Changing.{revoke, revoked, set_perm, set_timeout, updatable, update, updated}
+use Rattle.krs_model.specs.Asks.Changing.{with_expiry, with_owner, with_perm}
+use Rattle.krs_model.specs.Hiding.{Hides, Hiding, blind, blind_content, blind_key, hidden_at, over}
+use Rattle.krs_model.specs.Lookup.{context_of, look_up}
+use Rattle.krs_model.specs.Notes.Telling.{named}
+use Rattle.krs_model.specs.Possession.{links_of_content}
+use Rattle.krs_model.specs.Search.{found}
+use Rattle.krs_model.specs.Sound.{is_links}
+use Rattle.krs_model.specs.State.{Content, Key, Links, Payload, State}
+use Rattle.krs_model.proofs.Asks.Done.{of_keys}
+use Rattle.krs_model.proofs.Asks.Fares.{changed_fares}
+use Rattle.krs_model.proofs.Asks.Later.{changed_comes, keeping}
+use Rattle.krs_model.proofs.Asks.Lawful.{IsLawful}
+use Rattle.krs_model.proofs.Asks.NotedKeys.{about_small}
+use Rattle.krs_model.proofs.Asks.Outcomes.{meets_after, meets_ok}
+use Rattle.krs_model.proofs.Asks.Plain.{plain, plain_context, plain_look_up, plain_paid}
+use Rattle.krs_model.proofs.Hiding.KeyAsks.{blind_done, done_changed, found_in, named_is, paid_blind}
+use Rattle.krs_model.proofs.Hiding.Over.{after, bound, either}
+use Rattle.krs_model.proofs.Isolation.KeyAsks.{none_found}
+use Rattle.krs_model.proofs.Sound.Changes.{Lessens}
+use Rattle.krs_model.proofs.Sound.Contents.{form_stays}
+use Rattle.krs_model.proofs.Sound.KeyAsks.{leaves, updated_lessens}
+use Rattle.krs_model.proofs.Tables.Counts.{IsPart, none_part}
+use Rattle.krs_types.specs.declared.note.KeyEvent.TheVariants as told_of
+
+emptied_part : (content : Content) → IsPart (links_of_content (emptied content)) (links_of_content content)
+emptied_part (Payload bytes) = none_part []
+emptied_part (Links links) = none_part links
+
+emptied_form : (content : Content) → is_links (emptied content) ≡ is_links content
+emptied_form (Payload bytes) = refl
+emptied_form (Links links) = refl
+
+revoked_lessens : Lessens revoked
+revoked_lessens = record {
+  links = λ v. emptied_part v.content;
+  named = λ v name. refl;
+  fits = form_stays revoked (λ v. emptied_form v.content) (λ v. refl);
+}
+
+-- a payload without bytes is hidden as itself
+none_hidden : (hide : Hiding) (n : ℕ) → Hides hide → hide n [] ≡ []
+none_hidden hide n hides =
+    elim (hide n []) as (λ (bytes : List ℕ). paid Keyring bytes ≡ paid Keyring [] → bytes ≡ []) [
+      | [] ↦ λ e. refl
+      | x ∷ xs ↦ λ e. grind (arith, nat_tests)
+    ] (hides n Keyring [])
+
+emptied_blind : (h : List ℕ → List ℕ) (content : Content) → h [] ≡ []
+    → emptied (blind_content h content) ≡ blind_content h (emptied content)
+emptied_blind h (Payload bytes) none = ap Payload (sym none)
+emptied_blind h (Links serials) none = refl
+
+-- an UPDATE with another payload, which the same types take, and which is the hidden one of the key that it finds
+update_blind :
+    (hide : Hiding) (s : State) (client context : ℕ) (id : ℤ) (payload other : List ℕ)
+    → ((kind : Kind) → paid kind other ≡ paid kind payload)
+    → ((c : Context) (found : ℕ × Key) → context_of s client context ≡ Ok c
+    → look_up s c id (Granted WRITE) ≡ Ok found → other ≡ hide found.0 payload)
+    → update (blind hide s) client context id other ≡ over (blind_done hide) (update s client context id payload)
+unfolding update
+update_blind hide s client context id payload other fits is =
+    found_in hide s client context id (Granted WRITE) (blind_done hide) _ _ (λ c found own there.
+    after (blind_done hide) (updatable found.1.kind) _ _ (λ kind _.
+    ap (λ (r : Result (Unit {0}) Errno). r
+    >>= (λ fit. Ok (changed (blind hide s) found.0 (updated other), Nothing))) (fits kind)
+    ∙ after (blind_done hide) (paid kind payload) _ _ (λ fit _.
+    done_changed hide s found.0 (updated payload) (updated other) Nothing (λ v.
+    ap (λ (content : Content). record v { content = content; expiry = None })
+    (paid_blind (hide found.0) payload other v.content (is c found own there))))))
+
+-- the same types take a hidden payload
+at_fits : (hide : Hiding) (serial : Result ℕ Errno) (payload : List ℕ) (kind : Kind) → Hides hide
+    → paid kind (hidden_at hide serial payload) ≡ paid kind payload
+at_fits hide (Ok n) payload kind hides = hides n kind payload
+at_fits hide (Err e) payload kind hides = hides 0 kind payload
+
+pub update_law :
+    (s : State) (client context : ℕ) (id : ℤ) (payload : List ℕ) → IsLawful s client context (Update id payload)
+unfolding update
+update_law s client context id payload = record {
+  effect = of_keys s client context (Update id payload) refl refl (search (keeping, changed_comes));
+  small = λ mid answer few h. about_small told_of.Updated (named s client context id);
+  plain = search (plain, plain_context, plain_look_up, plain_paid);
+  blind = λ hide hides.
+      update_blind hide s client context id payload (hidden_at hide (named s client context id) payload)
+      (λ kind. at_fits hide (named s client context id) payload kind hides)
+      (λ c found own there. ap (λ (serial : Result ℕ Errno). hidden_at hide serial payload)
+      (named_is s client context id (Granted WRITE) c found own there));
+  fares =
+      meets_after (context_of s client context) _ (λ c own.
+      meets_after (look_up s c id (Granted WRITE)) _ (λ found is.
+      meets_after (updatable found.1.kind) _ (λ kind _.
+      meets_after (paid kind payload) _ (λ fit _.
+      meets_ok (changed_fares s client context _ c id (Granted WRITE) found (updated payload) own is refl
+      (updated_lessens payload) (λ uid private alone holds v m h. h))))));
+}
+
+pub revoke_law : (s : State) (client context : ℕ) (id : ℤ) → IsLawful s client context (Revoke id)
+unfolding revoke
+revoke_law s client context id = record {
+  effect = of_keys s client context (Revoke id) refl refl (search (keeping, changed_comes));
+  small = λ mid answer few h. about_small told_of.Revoked (named s client context id);
+  plain = search (plain, plain_context, plain_look_up);
+  blind = λ hide hides.
+      found_in hide s client context id (Either WRITE SETATTR) (blind_done hide) _ _ (λ c found _ _.
+      done_changed hide s found.0 revoked revoked Nothing (λ v.
+      ap (λ (content : Content). record v { revoked = true; content = content })
+      (emptied_blind (hide found.0) v.content (none_hidden hide found.0 hides))));
+  fares =
+      meets_after (context_of s client context) _ (λ c own.
+      meets_after (look_up s c id (Either WRITE SETATTR)) _ (λ found is.
+      meets_ok (changed_fares s client context _ c id (Either WRITE SETATTR) found revoked own is refl revoked_lessens
+      (λ uid private alone holds v m h. h))));
+}
+
+pub chown_law : (s : State) (client context : ℕ) (id : ℤ) (to gid : ℕ) → IsLawful s client context (Chown id to gid)
+unfolding chown
+chown_law s client context id to gid = record {
+  effect = of_keys s client context (Chown id to gid) refl refl (search (keeping, changed_comes));
+  small = λ mid answer few h. about_small told_of.Setattr (named s client context id);
+  plain = search (plain, plain_context, plain_look_up);
+  blind = λ hide hides.
+      found_in hide s client context id (Granted SETATTR) (blind_done hide) _ _ (λ c found _ _.
+      let key = found.1 in
+      ap (λ (r : Result Key Errno). r >>= (λ own. Ok (changed (blind hide s) found.0 (with_owner to gid), Nothing)))
+      (either (blind_key (hide found.0)) (may_own c.caller to gid key) (Ok key) (Err EACCES)
+      (Ok (blind_key (hide found.0) key)) (Err EACCES) refl refl)
+      ∙ bound (blind_key (hide found.0)) (blind_done hide) (if_may_own c.caller to gid key) _ _
+      (λ own _. done_changed hide s found.0 (with_owner to gid) (with_owner to gid) Nothing (λ v. refl)));
+  fares =
+      meets_after (context_of s client context) _ (λ c own.
+      meets_after (look_up s c id (Granted SETATTR)) _ (λ found is.
+      meets_after (if_may_own c.caller to gid found.1) _ (λ allowed _.
+      let same = leaves (with_owner to gid) (λ v. refl) (λ v name. refl) (λ v fits. fits) in
+      meets_ok (changed_fares s client context _ c id (Granted SETATTR) found (with_owner to gid) own is refl same
+      (λ uid private alone holds v m h. absurd
+      (none_found uid private s client context c id (Granted SETATTR) found alone own (holds refl) refl is m))))));
+}
+
+pub set_perm_law : (s : State) (client context : ℕ) (id : ℤ) (mask : ℕ) → IsLawful s client context (SetPerm id mask)
+unfolding set_perm
+set_perm_law s client context id mask = record {
+  effect = of_keys s client context (SetPerm id mask) refl refl (search (keeping, changed_comes));
+  small = λ mid answer few h. about_small told_of.Setattr (named s client context id);
+  plain = search (plain, plain_context, plain_look_up) depth 12;
+  blind = λ hide hides.
+      found_in hide s client context id (Granted SETATTR) (blind_done hide) _ _ (λ c found _ _.
+      after (blind_done hide) (perm_of mask) _ _ (λ perm _.
+      let key = found.1 in
+      let test = (c.caller.uid == 0) || (c.caller.uid == key.uid) in
+      ap (λ (r : Result Key Errno). r >>= (λ own. Ok (changed (blind hide s) found.0 (with_perm perm), Nothing)))
+      (either (blind_key (hide found.0)) test (Ok key) (Err EACCES) (Ok (blind_key (hide found.0) key))
+      (Err EACCES) refl refl)
+      ∙ bound (blind_key (hide found.0)) (blind_done hide) (if_owner c.caller key) _ _
+      (λ own _. done_changed hide s found.0 (with_perm perm) (with_perm perm) Nothing (λ v. refl))));
+  fares =
+      meets_after (context_of s client context) _ (λ c own.
+      meets_after (look_up s c id (Granted SETATTR)) _ (λ found is.
+      meets_after (perm_of mask) _ (λ perm _.
+      meets_after (if_owner c.caller found.1) _ (λ allowed _.
+      let same = leaves (with_perm perm) (λ v. refl) (λ v name. refl) (λ v fits. fits) in
+      meets_ok (changed_fares s client context _ c id (Granted SETATTR) found (with_perm perm) own is refl same
+      (λ uid private alone holds v m h. absurd
+      (none_found uid private s client context c id (Granted SETATTR) found alone own (holds refl) refl is m)))))));
+}
+
+pub set_timeout_law :
+    (s : State) (client context : ℕ) (id : ℤ) (seconds : ℕ) → IsLawful s client context (SetTimeout id seconds)
+unfolding set_timeout
+set_timeout_law s client context id seconds = record {
+  effect = of_keys s client context (SetTimeout id seconds) refl refl (search (keeping, changed_comes));
+  small = λ mid answer few h. about_small told_of.Setattr (named s client context id);
+  plain = search (plain, plain_context, plain_look_up);
+  blind = λ hide hides.
+      let expiry = expiry_after s.clock seconds in
+      found_in hide s client context id (Granted SETATTR) (blind_done hide) _ _ (λ c found _ _.
+      done_changed hide s found.0 (with_expiry expiry) (with_expiry expiry) Nothing (λ v. refl));
+  fares =
+      meets_after (context_of s client context) _ (λ c own.
+      meets_after (look_up s c id (Granted SETATTR)) _ (λ found is.
+      let expiry = expiry_after s.clock seconds in
+      let same = leaves (with_expiry expiry) (λ v. refl) (λ v name. refl) (λ v fits. fits) in
+      meets_ok (changed_fares s client context _ c id (Granted SETATTR) found (with_expiry expiry) own is refl same
+      (λ uid private alone holds v m h. h))));
+}

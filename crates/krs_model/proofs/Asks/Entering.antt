@@ -1,0 +1,139 @@
+-- What is proved of THREAD, FORK and EXEC.
+use Rattle.std.proofs.Common.{ℕ, ◌+◌, ◌≡◌, arith, inl, refl}
+use Rattle.std.specs.Option.{option_to_list}
+use Rattle.krs_types.specs.declared.ask.Op.TheVariants.{Exec, Fork, Thread}
+use Rattle.krs_model.specs.Asks.Adding.{made}
+use Rattle.krs_model.specs.Asks.Entering.{exec, execed, fork, if_context_number, thread, without_thread}
+use Rattle.krs_model.specs.Asks.Hello.{has_context_left, with_context}
+use Rattle.krs_model.specs.Asks.Leaving.{left}
+use Rattle.krs_model.specs.Hiding.{Hiding, blind, over}
+use Rattle.krs_model.specs.Lookup.{context_of}
+use Rattle.krs_model.specs.Possession.{process_ring}
+use Rattle.krs_model.specs.State.{State}
+use Rattle.krs_model.specs.Table.{put}
+use Rattle.krs_model.proofs.Asks.Done.{of_keys}
+use Rattle.krs_model.proofs.Asks.Houses.{Enters, Execs, Forked, Threads}
+use Rattle.krs_model.proofs.Asks.Later.{keeps_after, keeps_ok, same_comes}
+use Rattle.krs_model.proofs.Asks.Lawful.{IsLawful}
+use Rattle.krs_model.proofs.Asks.NewSerials.{same_counts}
+use Rattle.krs_model.proofs.Asks.Outcomes.{meets_after, meets_ok}
+use Rattle.krs_model.proofs.Asks.Plain.{plain, plain_context}
+use Rattle.krs_model.proofs.Hiding.KeyAsks.{blind_done}
+use Rattle.krs_model.proofs.Hiding.Over.{after}
+use Rattle.krs_model.proofs.Isolation.Attachments.{attaches_none, entered_unattached, execed_unattached}
+use Rattle.krs_model.proofs.Isolation.Attachments.{threaded_unattached}
+use Rattle.krs_model.proofs.Isolation.KeyAsks.{next_apart}
+use Rattle.krs_model.proofs.Lookups.Serials.{own_there}
+use Rattle.krs_model.proofs.Reach.Levels.{in_right}
+use Rattle.krs_model.proofs.Sound.Contexts.{owner_there}
+use Rattle.krs_model.proofs.Sound.NewContexts.{context_stands, entered_stands, execed_stands, own_process_there}
+use Rattle.krs_model.proofs.Sound.NewContexts.{own_session_there}
+
+-- the asks that leave the keys
+thread_blind : (hide : Hiding) (s : State) (client context : ℕ)
+    → thread (blind hide s) client context ≡ over (blind_done hide) (thread s client context)
+unfolding thread context_of
+thread_blind hide s client context =
+    after (blind_done hide) (context_of s client context) _ _ (λ c _.
+    after (blind_done hide) (has_context_left s client) _ _ (λ room _.
+    after (blind_done hide) (if_context_number s) _ _ (λ number _. refl)))
+
+fork_blind : (hide : Hiding) (s : State) (client context : ℕ)
+    → fork (blind hide s) client context ≡ over (blind_done hide) (fork s client context)
+unfolding fork context_of
+fork_blind hide s client context =
+    after (blind_done hide) (context_of s client context) _ _ (λ c _.
+    after (blind_done hide) (has_context_left s client) _ _ (λ room _.
+    after (blind_done hide) (if_context_number s) _ _ (λ number _. refl)))
+
+exec_blind : (hide : Hiding) (s : State) (client context : ℕ)
+    → exec (blind hide s) client context ≡ over (blind_done hide) (exec s client context)
+unfolding exec context_of
+exec_blind hide s client context = after (blind_done hide) (context_of s client context) _ _ (λ c _. refl)
+
+pub thread_law : (s : State) (client context : ℕ) → IsLawful s client context Thread
+unfolding thread
+thread_law s client context = record {
+  effect =
+      of_keys s client context Thread refl refl (keeps_after (context_of s client context) _ (λ c.
+      keeps_after (has_context_left s client) _ (λ room.
+      keeps_after (if_context_number s) _ (λ left. keeps_ok (same_comes s _ refl refl refl)))));
+  small = λ mid answer few h. tt;
+  plain = search (plain, plain_context);
+  blind = λ hide hides. thread_blind hide s client context;
+  fares =
+      meets_after (context_of s client context) _ (λ c own.
+      meets_after (has_context_left s client) _ (λ room _.
+      meets_after (if_context_number s) _ (λ left _.
+      let is = own_there s client context c own in
+      let contexts = put s.contexts s.next_context (without_thread c) in
+      meets_ok (record {
+        counts = λ placed. same_counts s (record s { contexts = contexts; next_context = s.next_context + 1 }) refl;
+        houses = Threads c refl own;
+        stands = λ stands. context_stands s (without_thread c) (λ k i. own_session_there s context c k is stands i)
+            (own_process_there s context c is stands.placed) (owner_there s.contexts s.uids context c is stands.housed.owned)
+            stands;
+        guards = λ uid private stands alone. record {
+          made = alone.made;
+          enclosed = λ p. alone.enclosed;
+          unattached = threaded_unattached uid private s context c is alone.unattached;
+        };
+        keeps = λ uid private stands alone other. inl (λ k m. refl);
+      }))));
+}
+
+pub fork_law : (s : State) (client context : ℕ) → IsLawful s client context Fork
+unfolding fork
+fork_law s client context = record {
+  effect =
+      of_keys s client context Fork refl refl (keeps_after (context_of s client context) _ (λ c.
+      keeps_after (has_context_left s client) _ (λ room.
+      keeps_after (if_context_number s) _ (λ left. keeps_ok (same_comes s _ refl refl refl)))));
+  small = λ mid answer few h. tt;
+  plain = search (plain, plain_context);
+  blind = λ hide hides. fork_blind hide s client context;
+  fares =
+      meets_after (context_of s client context) _ (λ c own.
+      meets_after (has_context_left s client) _ (λ room _.
+      meets_after (if_context_number s) _ (λ left _.
+      let is = own_there s client context c own in
+      meets_ok (record {
+        counts = λ placed. same_counts s (with_context s client c.caller c.session) refl;
+        houses = Enters c.caller c.session (Forked c refl own);
+        stands = λ stands. entered_stands s client c.caller c.session
+            (λ k i. own_session_there s context c k is stands i)
+            (owner_there s.contexts s.uids context c is stands.housed.owned) stands;
+        guards = λ uid private stands alone. record {
+          made = alone.made;
+          enclosed = λ p. alone.enclosed;
+          unattached = entered_unattached uid private s client c.caller c.session
+              (λ other k m i. attaches_none uid private s context c alone.unattached is other k m
+              (in_right k (option_to_list c.thread) _ (in_right k (option_to_list (process_ring s c.process)) _ i)))
+              (stands.housed.no_process s.next_context (omega arith)) stands.placed alone.unattached;
+        };
+        keeps = λ uid private stands alone other. inl (λ k m. refl);
+      }))));
+}
+
+pub exec_law : (s : State) (client context : ℕ) → IsLawful s client context Exec
+unfolding exec
+exec_law s client context = record {
+  effect =
+      of_keys s client context Exec refl refl (keeps_after (context_of s client context) _ (λ c. keeps_ok (same_comes s (execed s context c) refl refl refl)));
+  small = λ mid answer few h. tt;
+  plain = search (plain, plain_context);
+  blind = λ hide hides. exec_blind hide s client context;
+  fares =
+      meets_after (context_of s client context) _ (λ c own.
+      meets_ok (record {
+        counts = λ placed. same_counts s (execed s context c) refl;
+        houses = Execs c refl own;
+        stands = λ stands. execed_stands s context c stands;
+        guards = λ uid private stands alone. record {
+          made = alone.made;
+          enclosed = λ p. alone.enclosed;
+          unattached = execed_unattached uid private s context c (next_apart uid private s alone) alone.unattached;
+        };
+        keeps = λ uid private stands alone other. inl (λ k m. refl);
+      }));
+}

@@ -1,0 +1,152 @@
+-- What becomes of a store by an accepted ask.
+use Rattle.std.proofs.Common.{ℕ, ℤ, ◌≡◌, Bool, Ok, Result, Some, cond, false, inl, refl, subst, true}
+use Rattle.krs_types.specs.Refusing.{or_refuse}
+use Rattle.krs_types.specs.Rights.{WRITE, allows}
+use Rattle.krs_types.specs.declared.ask.Op.{Op}
+use Rattle.krs_types.specs.declared.context.Context.{Context}
+use Rattle.krs_types.specs.declared.errno.Errno.{Errno}
+use Rattle.krs_types.specs.declared.errno.Errno.TheVariants.{ENOKEY}
+use Rattle.krs_types.specs.declared.rights.Want.{Want}
+use Rattle.krs_types.specs.declared.rights.Want.TheVariants.{Granted}
+use Rattle.krs_model.specs.Asks.Changing.{changed}
+use Rattle.krs_model.specs.Asks.Finding.{found_into, if_linkable}
+use Rattle.krs_model.specs.Asks.Linked.{linked_into}
+use Rattle.krs_model.specs.Confidentiality.{HasToItself, is_own, may_give}
+use Rattle.krs_model.specs.Lookup.{context_of, look_up}
+use Rattle.krs_model.specs.Making.{made_for, within_serials}
+use Rattle.krs_model.specs.Outcome.{Outcome}
+use Rattle.krs_model.specs.Queues.{Queues, with_queues}
+use Rattle.krs_model.specs.Sound.{AllPlaced}
+use Rattle.krs_model.specs.State.{Key, State}
+use Rattle.krs_model.specs.Table.{at}
+use Rattle.krs_model.proofs.Asks.Houses.{HousesIn, Same, linked_houses, made_houses}
+use Rattle.krs_model.proofs.Asks.Later.{within_ok}
+use Rattle.krs_model.proofs.Asks.NewSerials.{IsWithin, counts_within, same_counts}
+use Rattle.krs_model.proofs.Asks.Outcomes.{Meets, meets_after, meets_ok}
+use Rattle.krs_model.proofs.Isolation.Attachments.{same_unattached}
+use Rattle.krs_model.proofs.Isolation.KeyAsks.{Guarded, Holds, NotBy, alone_guarded, changed_guarded, lessens_keeps}
+use Rattle.krs_model.proofs.Isolation.KeyAsks.{none_found}
+use Rattle.krs_model.proofs.Isolation.LinkAsks.{linked_guarded, made_alone, other_linkable, other_made}
+use Rattle.krs_model.proofs.Isolation.Untouched.{KeysAfter, linked_same, made_same, not_into, other_same, same_trans}
+use Rattle.krs_model.proofs.Lookups.Serials.{refused_is}
+use Rattle.krs_model.proofs.Sound.Changes.{Lessens, Stands, changed_stands, same_stands}
+use Rattle.krs_model.proofs.Sound.LinkAsks.{linkable_is, linked_into_stands}
+use Rattle.krs_model.proofs.Sound.NewContexts.{made_for_stands}
+
+-- what an accepted ask leaves before the sweep
+pub record Fares (s : State) (client context : ℕ) (op : Op) (new : State) : Type 0 where
+  -- no serial was given, or none above the last
+  pub counts : AllPlaced s → IsWithin s new
+  -- what it has done to contexts, processes and uids
+  pub houses : HousesIn s client context op new
+  -- keys, links and attachments stand as they should
+  pub stands : Stands s → Stands new
+  -- a uid has its keys to itself, but where a context of it gives one away
+  pub guards : (uid : ℕ) (private : ℕ → Bool) → Stands s → HasToItself uid private s
+      → Guarded uid private (Holds uid s client context op) new
+  -- in no context of a uid it leaves the keys that the uid has to itself as they are
+  pub keeps : (uid : ℕ) (private : ℕ → Bool) → Stands s → HasToItself uid private s → NotBy uid s client context
+      → KeysAfter private s client context op new
+
+-- a key changed, which the ask finds by a right that a stranger to the key has not
+pub changed_fares :
+    (s : State) (client context : ℕ) (op : Op) (c : Context) (id : ℤ) (want : Want) (found : ℕ × Key) (f : Key → Key)
+    → context_of s client context ≡ Ok c → look_up s c id want ≡ Ok found → allows want 0 false ≡ false → Lessens f
+    → ((uid : ℕ) (private : ℕ → Bool) → HasToItself uid private s → Holds uid s client context op → (v : Key)
+    → private found.0 ≡ true → is_own uid v ≡ true → is_own uid (f v) ≡ true)
+    → Fares s client context op (changed s found.0 f)
+changed_fares s client context op c id want found f own is wants less stays = record {
+  counts = λ placed. same_counts s (changed s found.0 f) refl;
+  houses = Same;
+  stands = λ stands. changed_stands s found.0 f less stands;
+  guards = λ uid private stands alone. changed_guarded uid private (Holds uid s client context op) s found.0 f
+      (λ holds. lessens_keeps uid private found.0 f less (stays uid private alone holds)) alone;
+  keeps = λ uid private stands alone other. inl (other_same private s.keys found.0 f
+      (λ m. none_found uid private s client context c id want found alone own other wants is m));
+}
+
+-- nothing changed
+pub same_fares : (s : State) (client context : ℕ) (op : Op) → Fares s client context op s
+same_fares s client context op = record {
+  counts = λ placed. same_counts s s refl;
+  houses = Same;
+  stands = λ stands. stands;
+  guards = λ uid private stands alone. alone_guarded uid private (Holds uid s client context op) s alone;
+  keeps = λ uid private stands alone other. inl (λ k m. refl);
+}
+
+-- queues and watches changed
+pub queues_fares :
+    (s : State) (client context : ℕ) (op : Op) (queues : Queues) → Fares s client context op (with_queues s queues)
+queues_fares s client context op queues = record {
+  counts = λ placed. same_counts s (with_queues s queues) refl;
+  houses = Same;
+  stands = λ stands. same_stands s _ refl refl stands.attached stands.placed stands.housed stands;
+  guards = λ uid private stands alone. record {
+    made = alone.made;
+    enclosed = λ p. alone.enclosed;
+    unattached = same_unattached uid private s (with_queues s queues) refl refl refl alone.unattached;
+  };
+  keeps = λ uid private stands alone other. inl (λ k m. refl);
+}
+
+-- where no serial above the last is given
+pub fares_within :
+    {P : State → Type 0} (s : State) (r : Outcome) → Meets (λ (new : State). IsWithin s new → P new) r
+    → Meets P (within_serials s r)
+fares_within s r h = record {
+  meets = λ new answer is.
+      h.meets new answer (within_ok s r (new, answer) is) ((counts_within s r).within new answer is);
+}
+
+-- one ask or the other, by a test
+pub meets_by :
+    {P : State → Type 0} (b : Bool) (x y : Outcome) → (b ≡ true → Meets P x) → Meets P y → Meets P (cond b x y)
+meets_by true x y h k = h refl
+meets_by false x y h k = k
+
+-- a key linked into the keyring that an id names, or that is made for it
+pub linked_fares :
+    (s : State) (client context : ℕ) (op : Op) (c : Context) (id : ℤ) (into found : ℕ × Key) (new : State)
+    → context_of s client context ≡ Ok c
+    → look_up (made_for s context c id).0 (made_for s context c id).1 id (Granted WRITE) ≡ Ok into
+    → at (made_for s context c id).0.keys found.0 ≡ Some found.1
+    → linked_into (made_for s context c id).0 into found ≡ Ok new
+    → ((uid : ℕ) (private : ℕ → Bool) → Stands s → HasToItself uid private s → Holds uid s client context op
+    → private found.0 ≡ true → ⊥) → IsWithin s new → Fares s client context op new
+linked_fares s client context op c id into found new own goes there linked apart within =
+    let made = made_for s context c id in
+    record {
+      counts = λ placed. within;
+      houses = linked_houses s made.0 client context op into found new linked
+          (made_houses s client context op c id own);
+      stands = λ stands. linked_into_stands made.0 into found new there linked (made_for_stands s context c id stands);
+      guards = λ uid private stands alone. linked_guarded uid private (Holds uid s client context op) made.0 into found
+          new (apart uid private stands alone) linked (made_alone uid private s context c id alone);
+      keeps = λ uid private stands alone other.
+          inl (same_trans private s.keys made.0.keys new.keys (made_same uid private s context c id alone)
+          (linked_same private made.0 into found new
+          (not_into uid private s client context c id into stands alone own other goes) linked));
+    }
+
+-- a key that was found, linked into the destination
+pub found_fares :
+    (s : State) (client context : ℕ) (op : Op) (c : Context) (id : ℤ) (into : ℕ × Key) (answer : Result ℕ Errno)
+    → context_of s client context ≡ Ok c
+    → look_up (made_for s context c id).0 (made_for s context c id).1 id (Granted WRITE) ≡ Ok into
+    → may_give op ≡ true
+    → Meets (λ (new : State). IsWithin s new → Fares s client context op new)
+    (found_into (made_for s context c id).0 (made_for s context c id).1 into answer)
+found_fares s client context op c id into answer own goes gives =
+    let made = made_for s context c id in
+    meets_after answer _ (λ serial _.
+    meets_after (or_refuse ENOKEY (at made.0.keys serial)) _ (λ key is.
+    meets_after (if_linkable made.0 made.1 serial key) _ (λ found same.
+    meets_after (linked_into made.0 into found) _ (λ new linked.
+    let key_there = refused_is (at made.0.keys serial) ENOKEY key is in
+    let there : at made.0.keys found.0 ≡ Some found.1 = subst (λ (x : ℕ × Key). at made.0.keys x.0 ≡ Some x.1)
+    (linkable_is made.0 made.1 serial key found same) key_there in
+    meets_ok (linked_fares s client context op c id into found new own goes there linked
+    (λ uid private stands alone holds m.
+    other_linkable uid private made.0 made.1 serial key found (made_alone uid private s context c id alone)
+    (other_made uid private s client context c id stands alone own (holds gives)) key_there same m))))))

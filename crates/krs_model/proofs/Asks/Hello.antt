@@ -1,0 +1,175 @@
+-- What is proved of HELLO.
+use Rattle.std.proofs.Common.{ℕ, ◌+◌, ◌<◌, ◌||◌, ◌∙◌, ◌∷◌, ◌≡◌, ◌≢◌, Bool, Err, None, Ok, Option, Some, [], ap, arith}
+use Rattle.std.proofs.Common.{cond, false, inl, inr, nat_lt, refl, subst, sym, true}
+use Rattle.std.proofs.lemmas.Bool.{true≢false, ltb-false}
+use Rattle.std.specs.Prelude.{codes}
+use Rattle.krs_types.specs.Caller.{caller_check}
+use Rattle.krs_types.specs.declared.ask.Answer.TheVariants.{Number}
+use Rattle.krs_types.specs.declared.ask.Op.TheVariants.{Hello}
+use Rattle.krs_types.specs.declared.caller.Caller.{Caller}
+use Rattle.krs_types.specs.declared.context.UidRings.{UidRings}
+use Rattle.krs_types.specs.declared.errno.Errno.TheVariants.{ENOSPC}
+use Rattle.krs_model.specs.Asks.Adding.{made}
+use Rattle.krs_model.specs.Asks.Hello.{first_session, has_context_left, has_numbers, hello, uid_ring, with_context}
+use Rattle.krs_model.specs.Asks.Hello.{with_uid}
+use Rattle.krs_model.specs.Asks.Leaving.{left}
+use Rattle.krs_model.specs.Confidentiality.{AreEnclosed, AreUnattached, HasToItself}
+use Rattle.krs_model.specs.Hiding.{Hiding, blind}
+use Rattle.krs_model.specs.Making.{with_new}
+use Rattle.krs_model.specs.State.{Key, State}
+use Rattle.krs_model.specs.Table.{Table, at, put}
+use Rattle.krs_model.proofs.Asks.Done.{of_keys}
+use Rattle.krs_model.proofs.Asks.Houses.{Begins, Enters, HousesIn, Named}
+use Rattle.krs_model.proofs.Asks.Later.{Comes, comes_trans, keeping, same_comes, with_new_comes}
+use Rattle.krs_model.proofs.Asks.Lawful.{IsLawful}
+use Rattle.krs_model.proofs.Asks.NewSerials.{IsWithin, same_counts}
+use Rattle.krs_model.proofs.Asks.Outcomes.{meets_after, meets_ok}
+use Rattle.krs_model.proofs.Asks.Plain.{plain}
+use Rattle.krs_model.proofs.Hiding.KeyAsks.{accepted, blind_done}
+use Rattle.krs_model.proofs.Hiding.Keys.{put_blind}
+use Rattle.krs_model.proofs.Hiding.Over.{after}
+use Rattle.krs_model.proofs.Isolation.Attachments.{entered_unattached, first_session_apart, with_uid_unattached}
+use Rattle.krs_model.proofs.Isolation.KeyAsks.{next_apart, uid_placed, uid_processes}
+use Rattle.krs_model.proofs.Isolation.Keys.{put_enclosed}
+use Rattle.krs_model.proofs.Isolation.Untouched.{AreSame, put_same, same_trans}
+use Rattle.krs_model.proofs.Reach.Levels.{only_in}
+use Rattle.krs_model.proofs.Sound.Changes.{Stands}
+use Rattle.krs_model.proofs.Sound.NewContexts.{entered_stands, session_there, uid_there, with_uid_stands}
+
+-- the keyrings of a uid come one by one
+with_uid_comes : (s : State) (c : Caller) (rings : Option UidRings) → Comes s (with_uid s c rings)
+with_uid_comes s c None =
+    let n = s.next_serial in
+    let one = with_new s (uid_ring (codes "_uid.") [] c) in
+    let two = with_new one (uid_ring (codes "_uid_ses.") (n ∷ []) c) in
+    let next : n + 2 ≡ (n + 1) + 1 = omega arith in
+    let both = comes_trans one two _ (with_new_comes one _) (same_comes two (with_uid s c None) refl next refl) in
+    comes_trans s one _ (with_new_comes s _) both
+with_uid_comes s c (Some rings) = same_comes s s refl refl refl
+
+entered_comes :
+    (s : State) (client : ℕ) (c : Caller) (rings : Option UidRings) (session : Option ℕ)
+    → Comes s (with_context (with_uid s c rings) client c session)
+entered_comes s client c rings session =
+    let with_rings = with_uid s c rings in
+    comes_trans s with_rings _ (with_uid_comes s c rings) (same_comes with_rings _ refl refl refl)
+
+or_false : (a b : Bool) → (a || b) ≡ false → b ≡ false
+or_false true b h = cc
+or_false false b h = h
+
+uid_within :
+    (s : State) (c : Caller) (rings : Option UidRings) (x : Unit {0}) → has_numbers s rings ≡ Ok x
+    → IsWithin s (with_uid s c rings)
+uid_within s c (Some rings) x h = same_counts s s refl
+uid_within s c None x h =
+    elim (nat_lt 4294967295 s.next_context || nat_lt 2147483646 s.next_serial) as
+    (λ b. (nat_lt 4294967295 s.next_context || nat_lt 2147483646 s.next_serial) ≡ b
+    → cond b (Err ENOSPC) (Ok tt) ≡ Ok x → IsWithin s (with_uid s c None)) [
+      | true ↦ λ t no. cc
+      | false ↦ λ t is.
+          let low = ltb-false 2147483646 s.next_serial (or_false _ _ t) in
+          inr (omega arith)
+    ] refl h
+
+hello_ends :
+    (s : State) (client context : ℕ) (c : Caller) (rings : Option UidRings) → at s.uids c.uid ≡ rings
+    → HousesIn s client context (Hello c)
+    (with_context (with_uid s c rings) client c (first_session s.next_serial rings))
+hello_ends s client context c (Some rings) is = Enters c rings.session (Named c rings refl is)
+hello_ends s client context c None is = Begins c _ _ refl is
+
+-- HELLO
+with_uid_blind : (hide : Hiding) (s : State) (c : Caller) (rings : Option UidRings)
+    → with_uid (blind hide s) c rings ≡ blind hide (with_uid s c rings)
+with_uid_blind hide s c (Some rings) = refl
+with_uid_blind hide s c None =
+    let n = s.next_serial in
+    let first = uid_ring (codes "_uid.") [] c in
+    let second = uid_ring (codes "_uid_ses.") (n ∷ []) c in
+    let t = with_uid s c None in
+    let to : Table Key → State = λ es. record t { keys = es } in
+    ap (λ (es : Table Key). to (put es (n + 1) second)) (put_blind hide s.keys n first)
+    ∙ ap to (put_blind hide (put s.keys n first) (n + 1) second)
+
+second_apart : (uid : ℕ) (private : ℕ → Bool) (s : State) → HasToItself uid private s → private (s.next_serial + 1) ≡ true → ⊥
+second_apart uid private s alone m =
+    let less : s.next_serial + 1 < s.next_serial = alone.made (s.next_serial + 1) m in omega arith
+
+uid_enclosed :
+    (uid : ℕ) (private : ℕ → Bool) (s : State) (c : Caller) (rings : Option UidRings) → HasToItself uid private s
+    → AreEnclosed uid private (with_uid s c rings).keys
+uid_enclosed uid private s c (Some rings) alone = alone.enclosed
+uid_enclosed uid private s c None alone =
+    let n = s.next_serial in
+    let fresh = next_apart uid private s alone in
+    let second = second_apart uid private s alone in
+    put_enclosed uid private _ (n + 1) _ second
+    (λ k m i. fresh (subst (λ (z : ℕ). private z ≡ true) (only_in k n i) m))
+    (put_enclosed uid private s.keys n _ fresh (λ k m no. true≢false (sym no)) alone.enclosed)
+
+uid_made :
+    (uid : ℕ) (private : ℕ → Bool) (s : State) (c : Caller) (rings : Option UidRings) → HasToItself uid private s
+    → (k : ℕ) → private k ≡ true → k < (with_uid s c rings).next_serial
+uid_made uid private s c (Some rings) alone k m = alone.made k m
+uid_made uid private s c None alone k m = let less : k < s.next_serial = alone.made k m in omega arith
+
+uid_contexts :
+    (uid : ℕ) (private : ℕ → Bool) (s : State) (client : ℕ) (c : Caller) → Stands s → HasToItself uid private s
+    → AreUnattached uid private
+    (with_context (with_uid s c (at s.uids c.uid)) client c (first_session s.next_serial (at s.uids c.uid)))
+uid_contexts uid private s client c stands alone =
+    let rings = at s.uids c.uid in
+    let one = with_uid s c rings in
+    let first = with_uid_unattached uid private s c rings (next_apart uid private s alone) (second_apart uid private s alone)
+    alone.unattached in
+    entered_unattached uid private one client c (first_session s.next_serial rings)
+    (λ other k m i. first_session_apart uid private s c rings k refl (second_apart uid private s alone) alone.unattached other m i)
+    (uid_processes s c rings (stands.housed.no_process s.next_context (omega arith)))
+    (uid_placed s c rings stands.placed) first
+
+uid_same :
+    (uid : ℕ) (private : ℕ → Bool) (s : State) (c : Caller) (rings : Option UidRings) → HasToItself uid private s
+    → AreSame private s.keys (with_uid s c rings).keys
+uid_same uid private s c (Some rings) alone = λ k m. refl
+uid_same uid private s c None alone =
+    let n = s.next_serial in
+    let user = uid_ring (codes "_uid.") [] c in
+    let session = uid_ring (codes "_uid_ses.") (n ∷ []) c in
+    same_trans private s.keys (put s.keys n user) (put (put s.keys n user) (n + 1) session)
+    (put_same private s.keys n user (next_apart uid private s alone))
+    (put_same private (put s.keys n user) (n + 1) session (second_apart uid private s alone))
+
+pub hello_law : (s : State) (client context : ℕ) (caller : Caller) → IsLawful s client context (Hello caller)
+unfolding hello
+hello_law s client context caller = record {
+  effect = of_keys s client context (Hello caller) refl refl (search (keeping, entered_comes));
+  small = λ mid answer few h. tt;
+  plain = search plain;
+  blind = λ hide hides.
+      let rings = at s.uids caller.uid in
+      after (blind_done hide) (caller_check caller) _ _ (λ known _.
+      after (blind_done hide) (has_context_left s client) _ _ (λ room _.
+      after (blind_done hide) (has_numbers s rings) _ _ (λ numbers _.
+      ap (λ (t : State). accepted (with_context t client caller (first_session s.next_serial rings)) (Number s.next_context))
+      (with_uid_blind hide s caller rings))));
+  fares =
+      let rings = at s.uids caller.uid in
+      let with_rings = with_uid s caller rings in
+      meets_after (caller_check caller) _ (λ known _.
+      meets_after (has_context_left s client) _ (λ room _.
+      meets_after (has_numbers s rings) _ (λ left is.
+      meets_ok (record {
+        counts = λ placed. uid_within s caller rings left is;
+        houses = hello_ends s client context caller rings refl;
+        stands = λ stands. entered_stands with_rings client caller (first_session s.next_serial rings)
+            (λ k i. session_there s caller rings k refl stands i) (uid_there s caller rings refl)
+            (with_uid_stands s caller rings stands);
+        guards = λ uid private stands alone. record {
+          made = uid_made uid private s caller rings alone;
+          enclosed = λ p. uid_enclosed uid private s caller rings alone;
+          unattached = uid_contexts uid private s client caller stands alone;
+        };
+        keeps = λ uid private stands alone other. inl (uid_same uid private s caller rings alone);
+      }))));
+}

@@ -1,0 +1,203 @@
+-- What is proved of JOIN.
+use Rattle.std.proofs.Common.{ℕ, ◌==◌, ◌∙◌, ◌∷◌, ◌≡◌, ◌≢◌, Bool, List, None, Ok, Option, Some, [], ap, arith, cond}
+use Rattle.std.proofs.Common.{false, inl, length, refl, sym, true}
+use Rattle.std.proofs.lemmas.Bool.{true≢false}
+use Rattle.std.proofs.lemmas.Bool.Decides.{nat_tests}
+use Rattle.std.proofs.lemmas.Option.{none-some}
+use Rattle.std.specs.List.{find}
+use Rattle.std.specs.Option.{option_map}
+use Rattle.std.specs.Prelude.{codes}
+use Rattle.krs_types.specs.Perm.{named_session_mask, session_mask}
+use Rattle.krs_types.specs.Rights.{SEARCH, has_all}
+use Rattle.krs_types.specs.declared.ask.Answer.TheVariants.{Number}
+use Rattle.krs_types.specs.declared.ask.Op.TheVariants.{Join}
+use Rattle.krs_types.specs.declared.caller.Caller.{Caller}
+use Rattle.krs_types.specs.declared.context.Context.{Context}
+use Rattle.krs_model.specs.Asks.Adding.{made}
+use Rattle.krs_model.specs.Asks.Joining.{is_joinable, join, joinable, joined_to, session_joined, session_named}
+use Rattle.krs_model.specs.Asks.Joining.{session_ring, session_to}
+use Rattle.krs_model.specs.Confidentiality.{AreUnattached, HasToItself}
+use Rattle.krs_model.specs.Hiding.{Hiding, blind, blind_key, blind_keys, over}
+use Rattle.krs_model.specs.Lookup.{context_of}
+use Rattle.krs_model.specs.Making.{own_ring, with_new, within_serials}
+use Rattle.krs_model.specs.Outcome.{Outcome}
+use Rattle.krs_model.specs.Search.{found}
+use Rattle.krs_model.specs.State.{Key, State}
+use Rattle.krs_model.specs.Table.{Rises, Table, at, put}
+use Rattle.krs_model.proofs.Asks.Done.{of_keys}
+use Rattle.krs_model.proofs.Asks.Fares.{Fares, fares_within}
+use Rattle.krs_model.proofs.Asks.NewSerials.{IsWithin}
+use Rattle.krs_model.proofs.Asks.Houses.{Alters}
+use Rattle.krs_model.proofs.Asks.Joins.{found_least, passed_may}
+use Rattle.krs_model.proofs.Asks.Later.{Keeps, keeps_after, keeps_ok, keeps_within, same_comes, with_new_comes}
+use Rattle.krs_model.proofs.Asks.LaterByAsk.{keeps_from}
+use Rattle.krs_model.proofs.Asks.Lawful.{IsLawful}
+use Rattle.krs_model.proofs.Asks.Outcomes.{Meets, meets_after, meets_ok}
+use Rattle.krs_model.proofs.Asks.Plain.{IsPlain, plain, plain_context, plain_ok, plain_within}
+use Rattle.krs_model.proofs.Hiding.KeyAsks.{blind_done}
+use Rattle.krs_model.proofs.Hiding.Keys.{put_blind}
+use Rattle.krs_model.proofs.Hiding.LinkAsks.{within_blind}
+use Rattle.krs_model.proofs.Hiding.Lookups.{blind_found}
+use Rattle.krs_model.proofs.Hiding.Over.{after}
+use Rattle.krs_model.proofs.Isolation.Attachments.{joined_unattached, own_joined_unattached, same_unattached}
+use Rattle.krs_model.proofs.Isolation.KeyAsks.{next_apart}
+use Rattle.krs_model.proofs.Isolation.Keys.{no_class}
+use Rattle.krs_model.proofs.Isolation.LinkAsks.{later_made, new_enclosed}
+use Rattle.krs_model.proofs.Isolation.Untouched.{put_same}
+use Rattle.krs_model.proofs.Lookups.Serials.{own_there}
+use Rattle.krs_model.proofs.Sound.NewContexts.{joinable_there, joined_stands, new_joined_stands, session_ring_empty}
+
+session_joined_comes :
+    (s : State) (number : ℕ) (c : Context) (name : List ℕ) (found : Option (ℕ × Key))
+    → Keeps s (session_joined s number c name found)
+session_joined_comes s number c name (Some found) = keeps_ok (same_comes s _ refl refl refl)
+session_joined_comes s number c name None =
+    let one = with_new s (session_ring name c.caller) in
+    keeps_from (with_new_comes s (session_ring name c.caller))
+    (keeps_ok (same_comes one (joined_to one number s.next_serial) refl refl refl))
+
+plain_session_named : (name : List ℕ) → IsPlain (session_named name)
+plain_session_named name = search plain
+
+plain_joined :
+    (s : State) (number : ℕ) (c : Context) (name : List ℕ) (found : Option (ℕ × Key))
+    → IsPlain (session_joined s number c name found)
+plain_joined s number c name None = plain_ok
+plain_joined s number c name (Some found) = plain_ok
+
+find_blind : (hide : Hiding) (es : Table Key) (p : Key → Bool) → ((n : ℕ) (v : Key) → p (blind_key (hide n) v) ≡ p v)
+    → find (λ e. p e.1) (blind_keys hide es) ≡ option_map (blind_found hide) (find (λ e. p e.1) es)
+find_blind hide [] p same = refl
+find_blind hide (e ∷ es) p same =
+    let first : ℕ × Key = (e.0, blind_key (hide e.0) e.1) in
+    ap (λ (b : Bool). cond b (Some first) (find (λ e. p e.1) (blind_keys hide es))) (same e.0 e.1)
+    ∙ (elim (p e.1) as (λ (b : Bool). cond b (Some first) (find (λ e. p e.1) (blind_keys hide es))
+    ≡ option_map (blind_found hide) (cond b (Some e) (find (λ e. p e.1) es))) [
+      | true ↦ refl
+      | false ↦ find_blind hide es p same
+    ])
+
+joinable_blind : (hide : Hiding) (s : State) (c : Caller) (name : List ℕ)
+    → joinable (blind hide s) c name ≡ option_map (blind_found hide) (joinable s c name)
+joinable_blind hide s c name =
+    elim (length name == 0) as (λ (b : Bool).
+    cond b None (find (λ e. is_joinable s.clock c name e.1) (blind_keys hide s.keys))
+    ≡ option_map (blind_found hide) (cond b None (find (λ e. is_joinable s.clock c name e.1) s.keys))) [
+      | true ↦ refl
+      | false ↦ find_blind hide s.keys (is_joinable s.clock c name) (λ n v. refl)
+    ]
+
+ring_stays : (h : List ℕ → List ℕ) (name : List ℕ) (c : Caller)
+    → blind_key h (session_ring name c) ≡ session_ring name c
+ring_stays h name c =
+    let none = own_ring (codes "_ses") session_mask true c in
+    let named = own_ring name named_session_mask true c in
+    elim (length name == 0) as (λ (b : Bool). blind_key h (cond b none named) ≡ cond b none named) [
+      | true ↦ refl
+      | false ↦ refl
+    ]
+
+joined_blind : (hide : Hiding) (s : State) (number : ℕ) (c : Context) (name : List ℕ) (o : Option (ℕ × Key))
+    → session_joined (blind hide s) number c name (option_map (blind_found hide) o)
+    ≡ over (blind_done hide) (session_joined s number c name o)
+joined_blind hide s number c name (Some found) = refl
+joined_blind hide s number c name None =
+    let n = s.next_serial in
+    let ring = session_ring name c.caller in
+    let t = joined_to (with_new s ring) number n in
+    let to : Table Key → Outcome = λ es. Ok (record t { keys = es }, Number n) in
+    ap (λ (key : Key). to (put (blind_keys hide s.keys) n key)) (sym (ring_stays (hide n) name c.caller))
+    ∙ ap to (put_blind hide s.keys n ring)
+
+join_blind : (hide : Hiding) (s : State) (client context : ℕ) (name : List ℕ)
+    → join (blind hide s) client context name ≡ over (blind_done hide) (join s client context name)
+unfolding join context_of
+join_blind hide s client context name =
+    after (blind_done hide) (context_of s client context) _ _ (λ c _.
+    after (blind_done hide) (session_named name) _ _ (λ fit _.
+    ap (λ (o : Option (ℕ × Key)). within_serials (blind hide s) (session_joined (blind hide s) context c name o))
+    (joinable_blind hide s c.caller name)
+    ∙ (ap (within_serials (blind hide s)) (joined_blind hide s context c name (joinable s c.caller name))
+    ∙ within_blind hide s (session_joined s context c name (joinable s c.caller name)))))
+
+joinable_first :
+    (s : State) (c : Context) (name : List ℕ) (found : ℕ × Key) → joinable s c.caller name ≡ Some found
+    → find (λ e. is_joinable s.clock c.caller name e.1) s.keys ≡ Some found
+joinable_first s c name found h =
+    let first = find (λ (e : ℕ × Key). is_joinable s.clock c.caller name e.1) s.keys in
+    elim (length name == 0) as (λ b. cond b None first ≡ Some found → first ≡ Some found) [
+      | true ↦ λ no. absurd (none-some found no)
+      | false ↦ λ is. is
+    ] h
+
+-- a context of another uid joins none of these keys
+other_joins :
+    (uid : ℕ) (private : ℕ → Bool) (s : State) (c : Context) (name : List ℕ) (found : ℕ × Key) → Rises s.keys
+    → HasToItself uid private s → c.caller.uid ≢ uid → joinable s c.caller name ≡ Some found → private found.0 ≡ true → ⊥
+other_joins uid private s c name found rises alone other is m =
+    let least = found_least (is_joinable s.clock c.caller name) s.keys found rises (joinable_first s c name found is) in
+    let may = passed_may s c name found.0 found.1 least.there least.passes in
+    let rights = no_class uid may.key c.caller (alone.enclosed.own found.0 may.key m may.there) other in
+    true≢false (sym may.granted ∙ ap (λ (n : ℕ). has_all n SEARCH) rights)
+
+found_joined :
+    (uid : ℕ) (private : ℕ → Bool) (s : State) (number : ℕ) (c : Context) (name : List ℕ) (found : ℕ × Key)
+    → Rises s.keys → HasToItself uid private s → at s.contexts number ≡ Some c → joinable s c.caller name ≡ Some found
+    → AreUnattached uid private (joined_to s number found.0)
+found_joined uid private s number c name found rises alone there is =
+    elim (c.caller.uid == uid) as
+    (λ b. (c.caller.uid == uid) ≡ b → AreUnattached uid private (joined_to s number found.0)) [
+      | true ↦ λ t. own_joined_unattached uid private s number found.0 c there (grind (arith, nat_tests)) alone.unattached
+      | false ↦ λ t. joined_unattached uid private s number found.0
+          (λ m. other_joins uid private s c name found rises alone (λ e. grind (arith, nat_tests)) is m) alone.unattached
+    ] refl
+
+joined_fares :
+    (s : State) (client context : ℕ) (c : Context) (name : List ℕ) (answer : Option (ℕ × Key))
+    → context_of s client context ≡ Ok c → joinable s c.caller name ≡ answer
+    → Meets (λ (new : State). IsWithin s new → Fares s client context (Join name) new)
+    (session_joined s context c name answer)
+joined_fares s client context c name (Some found) own is = meets_ok (λ within. record {
+  counts = λ placed. within;
+  houses = Alters c (session_to found.0) own (record { process = λ v. refl; caller = λ v. refl });
+  stands = λ stands. joined_stands s context found.0 (joinable_there s c.caller name found is) stands;
+  guards = λ uid private stands alone. record {
+    made = alone.made;
+    enclosed = λ p. alone.enclosed;
+    unattached = found_joined uid private s context c name found stands.rising alone
+        (own_there s client context c own) is;
+  };
+  keeps = λ uid private stands alone other. inl (λ k m. refl);
+})
+joined_fares s client context c name None own is =
+    let ring = session_ring name c.caller in
+    let one = with_new s ring in
+    meets_ok (λ within. record {
+      counts = λ placed. within;
+      houses = Alters c (session_to s.next_serial) own (record { process = λ v. refl; caller = λ v. refl });
+      stands = λ stands. new_joined_stands s context name c.caller stands;
+      guards = λ uid private stands alone. record {
+        made = later_made uid private s alone;
+        enclosed = λ p. new_enclosed uid private s ring (session_ring_empty name c.caller) alone;
+        unattached = joined_unattached uid private one context s.next_serial (next_apart uid private s alone)
+            (same_unattached uid private s one refl refl refl alone.unattached);
+      };
+      keeps = λ uid private stands alone other.
+          inl (put_same private s.keys s.next_serial ring (next_apart uid private s alone));
+    })
+
+pub join_law : (s : State) (client context : ℕ) (name : List ℕ) → IsLawful s client context (Join name)
+unfolding join
+join_law s client context name = record {
+  effect =
+      of_keys s client context (Join name) refl refl (keeps_after (context_of s client context) _ (λ c.
+      keeps_after (session_named name) _ (λ fit.
+      keeps_within s _ (session_joined_comes s context c name (joinable s c.caller name)))));
+  small = λ mid answer few h. tt;
+  plain = search (plain, plain_context, plain_session_named, plain_within, plain_joined);
+  blind = λ hide hides. join_blind hide s client context name;
+  fares =
+      meets_after (context_of s client context) _ (λ c own.
+      meets_after (session_named name) _ (λ fit _.
+      fares_within s _ (joined_fares s client context c name (joinable s c.caller name) own refl)));
+}

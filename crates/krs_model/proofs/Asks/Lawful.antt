@@ -1,0 +1,30 @@
+-- What is proved of each ask. A further ask has a record of these facts in a file of its own, and a line in `Laws`.
+use Rattle.std.proofs.Common.{◌≡◌, ℕ, Ok}
+use Rattle.krs_types.specs.declared.ask.Answer.{Answer}
+use Rattle.krs_types.specs.declared.ask.Op.{Op}
+use Rattle.krs_model.specs.Table.{IsBelow}
+use Rattle.krs_model.specs.State.{State}
+use Rattle.krs_model.specs.Step.{outcome_of}
+use Rattle.krs_model.specs.Notes.Telling.{notes_of}
+use Rattle.krs_model.specs.Hiding.{Hiding, Hides, blind, blind_ask, blind_outcome}
+use Rattle.krs_model.proofs.Asks.Done.{Effect}
+use Rattle.krs_model.proofs.Notes.Fitting.{AllSmall}
+use Rattle.krs_model.proofs.Asks.Plain.{IsPlain}
+use Rattle.krs_model.proofs.Asks.Outcomes.{Meets}
+use Rattle.krs_model.proofs.Asks.Fares.{Fares}
+
+pub record IsLawful (s : State) (client context : ℕ) (op : Op) : Type 0 where
+  -- what it has done, where it is accepted
+  pub effect : (new : State) (answer : Answer) → outcome_of s client context op ≡ Ok (new, answer)
+      → Effect s client context op new answer
+  -- the keys that its notes name have serials that fit a record
+  pub small : (mid : State) (answer : Answer) → IsBelow mid.keys 2147483648
+      → outcome_of s client context op ≡ Ok (mid, answer) → AllSmall (notes_of s client context op answer)
+  -- it may be refused, but not with ENOMEM
+  pub plain : IsPlain (outcome_of s client context op)
+  -- with the payloads hidden it comes to what it comes to, with the payloads hidden
+  pub blind : (hide : Hiding) → Hides hide
+      → outcome_of (blind hide s) client context (blind_ask hide s client context op)
+      ≡ blind_outcome hide s client context op (outcome_of s client context op)
+  -- what it leaves, where it is accepted
+  pub fares : Meets (Fares s client context op) (outcome_of s client context op)

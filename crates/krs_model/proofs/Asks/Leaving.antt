@@ -1,0 +1,153 @@
+-- What is proved of EXIT and LEAVE.
+use Rattle.std.proofs.Common.{ℕ, ◌==◌, ◌||◌, ◌∙◌, ◌∷◌, ◌≡◌, Bool, List, Ok, [], ap, cond, false, inl, refl, subst}
+use Rattle.std.proofs.Common.{sym, true}
+use Rattle.std.specs.List.{list_any}
+use Rattle.std.specs.Map.{values_of}
+use Rattle.std.specs.Option.{IsSome, option_to_list}
+use Rattle.krs_types.specs.declared.ask.Answer.TheVariants.{Nothing}
+use Rattle.krs_types.specs.declared.ask.Op.TheVariants.{Exit, Leave}
+use Rattle.krs_types.specs.declared.context.Context.{Context}
+use Rattle.krs_model.specs.Asks.Adding.{made}
+use Rattle.krs_model.specs.Asks.Leaving.{exit, exited, has_process, has_uid, left}
+use Rattle.krs_model.specs.Confidentiality.{HasToItself}
+use Rattle.krs_model.specs.Hiding.{Hiding, blind, over}
+use Rattle.krs_model.specs.Levels.{is_in}
+use Rattle.krs_model.specs.Lookup.{context_of}
+use Rattle.krs_model.specs.Sound.{AllAttached}
+use Rattle.krs_model.specs.State.{State}
+use Rattle.krs_model.specs.Sweep.{context_roots, process_roots, uid_roots}
+use Rattle.krs_model.specs.Table.{Table, at, without}
+use Rattle.krs_model.proofs.Asks.Done.{Leaves, ends_as, of_keys}
+use Rattle.krs_model.proofs.Asks.Houses.{Departs, Exits}
+use Rattle.krs_model.proofs.Asks.Later.{keeps_after, keeps_ok, same_comes, same_ok}
+use Rattle.krs_model.proofs.Asks.Lawful.{IsLawful}
+use Rattle.krs_model.proofs.Asks.NewSerials.{IsWithin, same_counts}
+use Rattle.krs_model.proofs.Asks.Outcomes.{meets_after, meets_ok}
+use Rattle.krs_model.proofs.Asks.Plain.{plain, plain_context, plain_ok}
+use Rattle.krs_model.proofs.Hiding.KeyAsks.{accepted, blind_done}
+use Rattle.krs_model.proofs.Hiding.Over.{after}
+use Rattle.krs_model.proofs.Isolation.Attachments.{exited_unattached, left_unattached}
+use Rattle.krs_model.proofs.Isolation.KeyAsks.{Guarded}
+use Rattle.krs_model.proofs.Isolation.Untouched.{AreSame}
+use Rattle.krs_model.proofs.Sound.Attached.{attached_by, attached_fewer, attached_without, attachments, context_keys}
+use Rattle.krs_model.proofs.Sound.Attached.{in_context, in_process, in_uid, own_process, uid_keys}
+use Rattle.krs_model.proofs.Sound.Changes.{Stands, kept_some, same_stands}
+use Rattle.krs_model.proofs.Sound.Contexts.{exited_housed, left_housed, there_unless}
+use Rattle.krs_model.proofs.Sound.NewContexts.{ArePlaced, in_placed, placed_in}
+use Rattle.krs_model.proofs.Tables.Changes.{at_kept}
+
+left_within : (s : State) (client : ℕ) → IsWithin s (left s client)
+unfolding left
+left_within s client = same_counts s (left s client) refl
+
+-- a process has a context
+process_of_one :
+    (es : Table Context) (p : ℕ)
+    → list_any (λ c. c.process == p) (values_of es) ≡ is_in p (attachments own_process es)
+process_of_one [] p = refl
+process_of_one (e ∷ es) p = ap (λ (b : Bool). (e.1.process == p) || b) (process_of_one es p)
+
+left_stands : (s : State) (client : ℕ) → Stands s → Stands (left s client)
+unfolding left
+left_stands s client stands =
+    let after = left s client in
+    let attached : AllAttached after = λ k i.
+    attached_by (context_roots after.contexts) (process_roots after.processes) (uid_roots after.uids) k
+    (λ h. stands.attached k (in_context s k (attached_fewer context_keys _ s.contexts k h)))
+    (λ h. stands.attached k (in_process s k (attached_fewer option_to_list _ s.processes k h)))
+    (λ h. stands.attached k (in_uid s k (attached_fewer uid_keys _ s.uids k h))) i in
+    let placed : ArePlaced after.contexts after.processes = λ p i.
+    let was = placed_in s stands.placed p (attached_fewer own_process _ s.contexts p i) in
+    let kept = process_of_one after.contexts p ∙ i in
+    subst IsSome (sym (at_kept (λ q. list_any (λ c. c.process == q) (values_of after.contexts)) s.processes p))
+    (kept_some _ (at s.processes p) kept was) in
+    same_stands s after refl refl attached (in_placed after placed)
+    (left_housed s.contexts s.processes s.uids s.next_context _ _ stands.housed) stands
+
+-- an entry goes where a test fails
+attached_unless :
+    {X : Type 0} (g : X → List ℕ) (stays : Bool) (es : Table X) (k q : ℕ)
+    → is_in q (attachments g (cond stays es (without es k))) ≡ true → is_in q (attachments g es) ≡ true
+attached_unless g true es k q h = h
+attached_unless g false es k q h = attached_without g es k q h
+
+exited_stands : (s : State) (number : ℕ) (c : Context) → Stands s → Stands (exited s number c)
+exited_stands s number c stands =
+    let after = exited s number c in
+    let attached : AllAttached after = λ k i.
+    attached_by (context_roots after.contexts) (process_roots after.processes) (uid_roots after.uids) k
+    (λ h. stands.attached k (in_context s k (attached_without context_keys s.contexts number k h)))
+    (λ h. stands.attached k (in_process s k
+    (attached_unless option_to_list (has_process after.contexts c.process) s.processes c.process k h)))
+    (λ h. stands.attached k (in_uid s k
+    (attached_unless uid_keys (has_uid after.contexts c.caller.uid) s.uids c.caller.uid k h))) i in
+    let placed : ArePlaced after.contexts after.processes = λ p i.
+    there_unless (has_process after.contexts) s.processes c.process p (has_process after.contexts c.process) refl
+    (process_of_one after.contexts p ∙ i)
+    (placed_in s stands.placed p (attached_without own_process s.contexts number p i)) in
+    same_stands s after refl refl attached (in_placed after placed)
+    (exited_housed s.contexts s.processes s.uids s.next_context number c.process c.caller.uid
+    (has_process after.contexts c.process) stands.housed) stands
+
+exit_blind : (hide : Hiding) (s : State) (client context : ℕ)
+    → exit (blind hide s) client context ≡ over (blind_done hide) (exit s client context)
+unfolding exit context_of
+exit_blind hide s client context = after (blind_done hide) (context_of s client context) _ _ (λ c _. refl)
+
+left_blind : (hide : Hiding) (s : State) (client : ℕ) → left (blind hide s) client ≡ blind hide (left s client)
+unfolding left
+left_blind hide s client = refl
+
+left_guarded :
+    (uid : ℕ) (private : ℕ → Bool) (P : Type 0) (s : State) (client : ℕ) → HasToItself uid private s
+    → Guarded uid private P (left s client)
+unfolding left
+left_guarded uid private P s client alone = record {
+  made = alone.made;
+  enclosed = λ p. alone.enclosed;
+  unattached = left_unattached uid private s client alone.unattached;
+}
+
+left_same : (private : ℕ → Bool) (s : State) (client : ℕ) → AreSame private s.keys (left s client).keys
+unfolding left
+left_same private s client = λ k m. refl
+
+pub exit_law : (s : State) (client context : ℕ) → IsLawful s client context Exit
+unfolding exit
+exit_law s client context = record {
+  effect =
+      of_keys s client context Exit refl refl (keeps_after (context_of s client context) _ (λ c. keeps_ok (same_comes s (exited s context c) refl refl refl)));
+  small = λ mid answer few h. tt;
+  plain = search (plain, plain_context);
+  blind = λ hide hides. exit_blind hide s client context;
+  fares =
+      meets_after (context_of s client context) _ (λ c own.
+      meets_ok (record {
+        counts = λ placed. same_counts s (exited s context c) refl;
+        houses = Exits c refl own;
+        stands = λ stands. exited_stands s context c stands;
+        guards = λ uid private stands alone. record {
+          made = alone.made;
+          enclosed = λ p. alone.enclosed;
+          unattached = exited_unattached uid private s context c stands.housed.uids_rise alone.unattached;
+        };
+        keeps = λ uid private stands alone other. inl (λ k m. refl);
+      }));
+}
+
+pub leave_law : (s : State) (client context : ℕ) → IsLawful s client context Leave
+leave_law s client context = record {
+  effect = λ new answer h.
+      ends_as s client context Leave _ new _ answer Leaves (same_ok (Ok (left s client, Nothing)) _ _ refl h);
+  small = λ mid answer few h. tt;
+  plain = plain_ok;
+  blind = λ hide hides. ap (λ (t : State). accepted t Nothing) (left_blind hide s client);
+  fares =
+      meets_ok (record {
+        counts = λ placed. left_within s client;
+        houses = Departs refl;
+        stands = λ stands. left_stands s client stands;
+        guards = λ uid private stands alone. left_guarded uid private _ s client alone;
+        keeps = λ uid private stands alone other. inl (left_same private s client);
+      });
+}

@@ -1,0 +1,89 @@
+-- What is proved of READ and DESCRIBE.
+use Rattle.std.proofs.Common.{ℕ, ℤ, ◌∙◌, ◌≡◌, List, Ok, Option, Result, ap, refl, sym}
+use Rattle.krs_types.specs.Refusing.{◌>>=◌}
+use Rattle.krs_types.specs.Rights.{VIEW}
+use Rattle.krs_types.specs.declared.ask.Answer.{Answer}
+use Rattle.krs_types.specs.declared.ask.Answer.TheVariants.{Bytes}
+use Rattle.krs_types.specs.declared.ask.Op.TheVariants.{Describe, Read}
+use Rattle.krs_types.specs.declared.context.Context.{Context}
+use Rattle.krs_types.specs.declared.errno.Errno.{Errno}
+use Rattle.krs_types.specs.declared.kind.Kind.{Kind}
+use Rattle.krs_types.specs.declared.kind.Kind.TheVariants.{Keyring, Logon, User}
+use Rattle.krs_types.specs.declared.rights.Want.TheVariants.{Granted, ToRead}
+use Rattle.krs_model.specs.Asks.Reading.{describe, read, readable}
+use Rattle.krs_model.specs.Hiding.{Hiding, blind, blind_answer, blind_content, over, told, told_at, told_of}
+use Rattle.krs_model.specs.Lookup.{context_of, look_up}
+use Rattle.krs_model.specs.Notes.Telling.{named}
+use Rattle.krs_model.specs.Search.{found}
+use Rattle.krs_model.specs.State.{Content, Key, Links, Payload, State}
+use Rattle.krs_model.proofs.Asks.Done.{of_keys}
+use Rattle.krs_model.proofs.Asks.Fares.{same_fares}
+use Rattle.krs_model.proofs.Asks.Later.{keeping, same_comes}
+use Rattle.krs_model.proofs.Asks.Lawful.{IsLawful}
+use Rattle.krs_model.proofs.Asks.Outcomes.{meets_after, meets_ok}
+use Rattle.krs_model.proofs.Asks.Plain.{IsPlain, plain, plain_context, plain_err, plain_look_up, plain_ok}
+use Rattle.krs_model.proofs.Hiding.KeyAsks.{accepted, blind_done, found_in, named_is}
+use Rattle.krs_model.proofs.Hiding.Over.{bound}
+use Rattle.krs_model.proofs.Lookups.Laws.{look_up_usable}
+use Rattle.krs_model.specs.Asks.Reading as reading
+
+plain_readable : (kind : Kind) (content : Content) → IsPlain (reading.readable kind content)
+plain_readable User (Payload bytes) = plain_ok
+plain_readable User (Links serials) = plain_err refl
+plain_readable Logon content = plain_err refl
+plain_readable Keyring (Payload bytes) = plain_err refl
+plain_readable Keyring (Links serials) = plain_ok
+
+-- what READ comes to, with the payloads of the store and the answer hidden
+abbrev pub blind_read : Hiding → State → ℕ → ℕ → ℤ → State × Answer → State × Answer
+blind_read hide s client context id done = (blind hide done.0, blind_answer hide s client context (Read id) done.1)
+
+readable_blind : (h : List ℕ → List ℕ) (kind : Kind) (content : Content)
+    → readable kind (blind_content h content) ≡ over (told_of h kind) (readable kind content)
+readable_blind h User (Payload bytes) = refl
+readable_blind h User (Links serials) = refl
+readable_blind h Logon (Payload bytes) = refl
+readable_blind h Logon (Links serials) = refl
+readable_blind h Keyring (Payload bytes) = refl
+readable_blind h Keyring (Links serials) = refl
+
+told_is :
+    (hide : Hiding) (s : State) (client context : ℕ) (id : ℤ) (c : Context) (found : ℕ × Key) (bytes : List ℕ)
+    → context_of s client context ≡ Ok c → look_up s c id ToRead ≡ Ok found
+    → told_at hide s.keys (named s client context id) bytes ≡ told_of (hide found.0) found.1.kind bytes
+told_is hide s client context id c found bytes own there =
+    ap (λ (r : Result ℕ Errno). told_at hide s.keys r bytes) (named_is s client context id ToRead c found own there)
+    ∙ ap (λ (o : Option Key). told (hide found.0) o bytes) (look_up_usable s c id ToRead found there).there
+
+pub read_law : (s : State) (client context : ℕ) (id : ℤ) → IsLawful s client context (Read id)
+unfolding read
+read_law s client context id = record {
+  effect = of_keys s client context (Read id) refl refl (search (keeping, same_comes));
+  small = λ mid answer few h. tt;
+  plain = search (plain, plain_context, plain_look_up, plain_readable);
+  blind = λ hide hides.
+      let view = blind_read hide s client context id in
+      found_in hide s client context id ToRead view _ _ (λ c found own there.
+      let h = hide found.0 in
+      ap (λ (r : Result (List ℕ) Errno). r >>= (λ bytes. accepted (blind hide s) (Bytes bytes)))
+      (readable_blind h found.1.kind found.1.content)
+      ∙ bound (told_of h found.1.kind) view (readable found.1.kind found.1.content) _ _ (λ bytes _.
+      ap (λ (told : List ℕ). accepted (blind hide s) (Bytes told))
+      (sym (told_is hide s client context id c found bytes own there))));
+  fares =
+      meets_after (context_of s client context) _ (λ c _.
+      meets_after (look_up s c id ToRead) _ (λ found _.
+      meets_after (readable found.1.kind found.1.content) _ (λ bytes _. meets_ok (same_fares s client context _))));
+}
+
+pub describe_law : (s : State) (client context : ℕ) (id : ℤ) → IsLawful s client context (Describe id)
+unfolding describe
+describe_law s client context id = record {
+  effect = of_keys s client context (Describe id) refl refl (search (keeping, same_comes));
+  small = λ mid answer few h. tt;
+  plain = search (plain, plain_context, plain_look_up);
+  blind = λ hide hides. found_in hide s client context id (Granted VIEW) (blind_done hide) _ _ (λ c found _ _. refl);
+  fares =
+      meets_after (context_of s client context) _ (λ c _.
+      meets_after (look_up s c id (Granted VIEW)) _ (λ found _. meets_ok (same_fares s client context _)));
+}

@@ -1,0 +1,329 @@
+-- What is proved of WATCH and the asks of queues.
+use Rattle.std.proofs.Common.{ℕ, ℤ, ◌∙◌, ◌∷◌, ◌≡◌, ◌≤◌, Bool, Err, List, None, Ok, Option, Result, Some, [], ap, cond}
+use Rattle.std.proofs.Common.{false, length, nat_le, nat_lt, not, refl, subst, true}
+use Rattle.std.proofs.lemmas.Bool.{leb-true}
+use Rattle.std.specs.Option.{IsSome, is_some}
+use Rattle.std.specs.Prelude.{negsuc, pos, suc, zero}
+use Rattle.krs_types.specs.Refusing.{◌>>=◌}
+use Rattle.krs_types.specs.Rights.{VIEW}
+use Rattle.krs_types.specs.declared.ask.Answer.{Answer}
+use Rattle.krs_types.specs.declared.ask.Answer.TheVariants.{Bytes, Nothing, Number}
+use Rattle.krs_types.specs.declared.ask.Op.TheVariants.{CloseQueue, OpenQueue, ReadQueue, SetFilter, Watch}
+use Rattle.krs_types.specs.declared.context.Context.{Context}
+use Rattle.krs_types.specs.declared.errno.Errno.{Errno}
+use Rattle.krs_types.specs.declared.errno.Errno.TheVariants.{EBUSY, EINVAL, ENFILE, ENOSPC}
+use Rattle.krs_types.specs.declared.note.FilterEntry.{FilterEntry}
+use Rattle.krs_types.specs.declared.note.Record.{Record}
+use Rattle.krs_types.specs.declared.rights.Want.TheVariants.{Granted}
+use Rattle.krs_model.specs.Asks.Adding.{made}
+use Rattle.krs_model.specs.Asks.Leaving.{left}
+use Rattle.krs_model.specs.Asks.Linked.{unless}
+use Rattle.krs_model.specs.Asks.Watching.{after_read, close_queue, closed, filtered, open_queue, opened, read_out}
+use Rattle.krs_model.specs.Asks.Watching.{read_queue, set_filter, unwatched, watch, watch_id_of, watched, with_filter}
+use Rattle.krs_model.specs.Asks.Watching.{with_queue, with_watching, without_queue}
+use Rattle.krs_model.specs.Hiding.{Hiding, blind, over}
+use Rattle.krs_model.specs.Lookup.{context_of, look_up, serial_of}
+use Rattle.krs_model.specs.Notes.Bytes.{bytes_of_all}
+use Rattle.krs_model.specs.Notes.Filter.{filter_of, is_good_filter}
+use Rattle.krs_model.specs.Notes.Front.{front, readable}
+use Rattle.krs_model.specs.Notes.Telling.{named}
+use Rattle.krs_model.specs.Notes.Waiting.{is_capacity}
+use Rattle.krs_model.specs.Outcome.{Outcome}
+use Rattle.krs_model.specs.Queues.{Queues, queue_of, queues_of, watch_at, with_queues, with_watch}
+use Rattle.krs_model.specs.Search.{found}
+use Rattle.krs_model.specs.State.{Key, Queue, State}
+use Rattle.krs_model.specs.Table.{Table, alter, at}
+use Rattle.krs_model.proofs.Asks.Done.{Closes, Effect, Filters, Opens, Reads, Unwatches, Watches, end_of, ends_as}
+use Rattle.krs_model.proofs.Asks.Done.{queue_there, readable_is, unwatched_is}
+use Rattle.krs_model.proofs.Asks.Fares.{queues_fares}
+use Rattle.krs_model.proofs.Asks.Later.{bind_ok, same_ok}
+use Rattle.krs_model.proofs.Asks.Lawful.{IsLawful}
+use Rattle.krs_model.proofs.Asks.Outcomes.{meets_after, meets_ok}
+use Rattle.krs_model.proofs.Asks.Plain.{IsPlain, plain, plain_context, plain_err, plain_look_up, plain_ok}
+use Rattle.krs_model.proofs.Hiding.KeyAsks.{accepted, blind_done}
+use Rattle.krs_model.proofs.Hiding.Lookups.{blind_found, look_up_blind}
+use Rattle.krs_model.proofs.Hiding.Over.{after, bound}
+use Rattle.krs_model.proofs.Lookups.Laws.{look_up_usable}
+use Rattle.krs_model.proofs.Lookups.Serials.{found_serial}
+
+unless_ok : (bad : Bool) (error : Errno) (x : Unit {0}) → unless bad error ≡ Ok x → bad ≡ false
+unless_ok true error x h = cc
+unless_ok false error x h = refl
+
+not_false : (b : Bool) → not b ≡ false → b ≡ true
+not_false true h = refl
+not_false false h = cc
+
+opened_is :
+    (q : Queues) (client capacity : ℕ) (x : Queues × ℕ) → opened q client capacity ≡ Ok x
+    → (is_capacity capacity ≡ true) × ((with_queue q client capacity, q.next_queue) ≡ x)
+unfolding opened
+opened_is q client capacity x h =
+    let a = bind_ok (unless (not (is_capacity capacity)) EINVAL) _ x h in
+    let b = bind_ok (unless (nat_le 256 (length q.queues)) ENFILE) _ x a.2 in
+    let c = bind_ok (unless (nat_lt 4294967295 q.next_queue) ENOSPC) _ x b.2 in
+    (not_false (is_capacity capacity) (unless_ok _ EINVAL a.0 a.1), same_ok _ _ x refl c.2)
+
+filter_is : (entries good : List FilterEntry) → filter_of entries ≡ Ok good → entries ≡ good
+filter_is entries good h =
+    elim (is_good_filter entries) as (λ b. cond b (Ok entries) (Err EINVAL) ≡ Ok good → entries ≡ good) [
+      | true ↦ λ is. cc
+      | false ↦ λ no. cc
+    ] h
+
+filtered_is :
+    (q : Queues) (client number : ℕ) (entries : List FilterEntry) (x : Queues × Unit {0})
+    → filtered q client number entries ≡ Ok x
+    → (queue : Queue) × (at q.queues number ≡ Some queue)
+    × ((record q { queues = alter q.queues number (with_filter entries) }, tt) ≡ x)
+unfolding filtered
+filtered_is q client number entries x h =
+    let a = bind_ok (queue_of q.queues client number) _ x h in
+    let b = bind_ok (filter_of entries) _ x a.2 in
+    let after : List FilterEntry → Queues × Unit {0} = λ good.
+    (record q { queues = alter q.queues number (with_filter good) }, tt) in
+    (a.0, queue_there q.queues client number a.0 a.1, ap after (filter_is entries b.0 b.1) ∙ same_ok _ _ x refl b.2)
+
+read_out_is :
+    (q : Queues) (client number room : ℕ) (x : Queues × List ℕ) → read_out q client number room ≡ Ok x
+    → (queue : Queue) × (at q.queues number ≡ Some queue)
+    × ((record q { queues = alter q.queues number (after_read room) }, bytes_of_all (front room queue.waiting)) ≡ x)
+unfolding read_out
+read_out_is q client number room x h =
+    let a = bind_ok (queue_of q.queues client number) _ x h in
+    let b = bind_ok (readable room a.0.waiting) _ x a.2 in
+    let after : List Record → Queues × List ℕ = λ notes.
+    (record q { queues = alter q.queues number (after_read room) }, bytes_of_all notes) in (
+      a.0,
+      queue_there q.queues client number a.0 a.1,
+      ap after (readable_is room a.0.waiting b.0 b.1) ∙ same_ok _ _ x refl b.2,
+    )
+
+closed_is :
+    (q : Queues) (client number : ℕ) (x : Queues × Unit {0}) → closed q client number ≡ Ok x
+    → (queue : Queue) × (at q.queues number ≡ Some queue) × ((without_queue q number, tt) ≡ x)
+unfolding closed
+closed_is q client number x h =
+    let a = bind_ok (queue_of q.queues client number) _ x h in
+    (a.0, queue_there q.queues client number a.0 a.1, same_ok _ _ x refl a.2)
+
+watched_is :
+    (q : Queues) (client number key n : ℕ) (x : Queues × Unit {0}) → watched q client number key n ≡ Ok x
+    → (queue : Queue) × (at q.queues number ≡ Some queue)
+    × ((record q { watches = with_watch q.watches key number n }, tt) ≡ x)
+unfolding watched
+watched_is q client number key n x h =
+    let a = bind_ok (queue_of q.queues client number) _ x h in
+    let b = bind_ok (unless (is_some (watch_at q.watches key number)) EBUSY) _ x a.2 in
+    (a.0, queue_there q.queues client number a.0 a.1, same_ok _ _ x refl b.2)
+
+small_id : (watch_id : ℤ) (n : ℕ) → watch_id_of watch_id ≡ Ok (Some n) → n ≤ 255
+small_id (pos m) n h =
+    elim (nat_le m 255) as (λ b. nat_le m 255 ≡ b → cond b (Ok (Some m)) (Err EINVAL) ≡ Ok (Some n) → n ≤ 255) [
+      | true ↦ λ t is. let small = leb-true m 255 t in let same : m ≡ n = cc in subst (λ (k : ℕ). k ≤ 255) same small
+      | false ↦ λ t no. cc
+    ] refl h
+small_id (negsuc zero) n h = cc
+small_id (negsuc (suc m)) n h = cc
+
+opens :
+    (s : State) (client context capacity : ℕ) (new : State) (answer : Answer)
+    → open_queue s client capacity ≡ Ok (new, answer) → Effect s client context (OpenQueue capacity) new answer
+unfolding open_queue
+opens s client context capacity new answer h =
+    let a = bind_ok (opened (queues_of s) client capacity) _ (new, answer) h in
+    let is = opened_is (queues_of s) client capacity a.0 a.1 in
+    let end : Queues × ℕ → State × Answer = λ x. end_of (with_queues s x.0) (Number x.1) in
+    ends_as s client context _ _ new _ answer (Opens capacity is.0) (ap end is.1 ∙ same_ok _ _ _ refl a.2)
+
+filters :
+    (s : State) (client context number : ℕ) (entries : List FilterEntry) (new : State) (answer : Answer)
+    → set_filter s client number entries ≡ Ok (new, answer)
+    → Effect s client context (SetFilter number entries) new answer
+unfolding set_filter
+filters s client context number entries new answer h =
+    let a = bind_ok (filtered (queues_of s) client number entries) _ (new, answer) h in
+    let is = filtered_is (queues_of s) client number entries a.0 a.1 in
+    let end : Queues × Unit {0} → State × Answer = λ x. (with_queues s x.0, Nothing) in
+    ends_as s client context _ _ new _ answer (Filters number entries is.0 is.1) (ap end is.2 ∙ same_ok _ _ _ refl a.2)
+
+reads :
+    (s : State) (client context number room : ℕ) (new : State) (answer : Answer)
+    → read_queue s client number room ≡ Ok (new, answer)
+    → Effect s client context (ReadQueue number room) new answer
+unfolding read_queue
+reads s client context number room new answer h =
+    let a = bind_ok (read_out (queues_of s) client number room) _ (new, answer) h in
+    let is = read_out_is (queues_of s) client number room a.0 a.1 in
+    let end : Queues × List ℕ → State × Answer = λ x. (with_queues s x.0, Bytes x.1) in
+    ends_as s client context _ _ new _ answer (Reads number room is.0 is.1) (ap end is.2 ∙ same_ok _ _ _ refl a.2)
+
+closes :
+    (s : State) (client context number : ℕ) (new : State) (answer : Answer)
+    → close_queue s client number ≡ Ok (new, answer) → Effect s client context (CloseQueue number) new answer
+unfolding close_queue
+closes s client context number new answer h =
+    let a = bind_ok (closed (queues_of s) client number) _ (new, answer) h in
+    let is = closed_is (queues_of s) client number a.0 a.1 in
+    let end : Queues × Unit {0} → State × Answer = λ x. (with_queues s x.0, Nothing) in
+    ends_as s client context _ _ new _ answer (Closes number is.0 is.1) (ap end is.2 ∙ same_ok _ _ _ refl a.2)
+
+-- a watch set, or ended
+watches_as :
+    (s : State) (client context : ℕ) (id watch_id : ℤ) (number key : ℕ) (asked : Option ℕ) (queues : Queues)
+    → IsSome (at s.keys key) → named s client context id ≡ Ok key → watch_id_of watch_id ≡ Ok asked
+    → with_watching (queues_of s) client number key asked ≡ Ok queues
+    → Effect s client context (Watch id number watch_id) (with_queues s queues) Nothing
+watches_as s client context id watch_id number key (Some n) queues there names is h =
+    let a = bind_ok (watched (queues_of s) client number key n) _ queues h in
+    let set = watched_is (queues_of s) client number key n a.0 a.1 in
+    let end : Queues × Unit {0} → State × Answer = λ x. (with_queues s x.0, Nothing) in
+    let same : a.0.0 ≡ queues = same_ok _ _ _ refl a.2 in
+    ends_as s client context _ _ _ _ Nothing
+    (Watches id watch_id number key n set.0 there set.1 is (small_id watch_id n is))
+    (ap end set.2 ∙ ap (λ (x : Queues). (with_queues s x, Nothing)) same)
+watches_as s client context id watch_id number key None queues there names is h =
+    let a = bind_ok (unwatched (queues_of s) client number key) _ queues h in
+    let ended = unwatched_is (queues_of s) client number key a.0 a.1 in
+    let same : a.0.0 ≡ queues = same_ok _ _ _ refl a.2 in
+    ends_as s client context _ _ _ _ Nothing
+    (Unwatches id watch_id number key a.0.1 ended.0 there names ended.1 is ended.2)
+    (ap (λ (x : Queues). (with_queues s x, Nothing)) (ended.3 ∙ same))
+
+named_is :
+    (s : State) (client context : ℕ) (id : ℤ) (c : Context) (serial : ℕ) → context_of s client context ≡ Ok c
+    → serial_of s c id ≡ Ok serial → named s client context id ≡ Ok serial
+named_is s client context id c serial own is = rw own is
+
+watches :
+    (s : State) (client context : ℕ) (id watch_id : ℤ) (number : ℕ) (new : State) (answer : Answer)
+    → watch s client context id number watch_id ≡ Ok (new, answer)
+    → Effect s client context (Watch id number watch_id) new answer
+unfolding watch
+watches s client context id watch_id number new answer h =
+    let a = bind_ok (context_of s client context) _ (new, answer) h in
+    let b = bind_ok (watch_id_of watch_id) _ (new, answer) a.2 in
+    let d = bind_ok (look_up s a.0 id (Granted VIEW)) _ (new, answer) b.2 in
+    let e = bind_ok (with_watching (queues_of s) client number d.0.0 b.0) _ (new, answer) d.2 in
+    let there = (look_up_usable s a.0 id (Granted VIEW) d.0 d.1).there in
+    let names = named_is s client context id a.0 d.0.0 a.1 (found_serial s a.0 id (Granted VIEW) d.0 d.1) in
+    let some : IsSome (at s.keys d.0.0) = rw there refl in
+    ends_as s client context _ _ new _ answer
+    (watches_as s client context id watch_id number d.0.0 b.0 e.0 some names b.1 e.1) (same_ok _ _ _ refl e.2)
+
+plain_queue : (queues : Table Queue) (client number : ℕ) → IsPlain (queue_of queues client number)
+plain_queue queues client number = search plain
+
+plain_open : (s : State) (client capacity : ℕ) → IsPlain (open_queue s client capacity)
+unfolding open_queue opened
+plain_open s client capacity = search plain depth 12
+
+plain_set_filter :
+    (s : State) (client number : ℕ) (entries : List FilterEntry) → IsPlain (set_filter s client number entries)
+unfolding set_filter filtered
+plain_set_filter s client number entries = search (plain, plain_queue)
+
+plain_front : (room : ℕ) (waiting : List Record) → IsPlain (readable room waiting)
+plain_front room [] = plain_err refl
+plain_front room (note ∷ waiting) = search plain
+
+plain_read_queue : (s : State) (client number room : ℕ) → IsPlain (read_queue s client number room)
+unfolding read_queue read_out
+plain_read_queue s client number room = search (plain, plain_queue, plain_front)
+
+plain_close : (s : State) (client number : ℕ) → IsPlain (close_queue s client number)
+unfolding close_queue closed
+plain_close s client number = search (plain, plain_queue)
+
+plain_watch_id : (id : ℤ) → IsPlain (watch_id_of id)
+plain_watch_id (pos n) = search plain
+plain_watch_id (negsuc zero) = plain_ok
+plain_watch_id (negsuc (suc n)) = plain_err refl
+
+plain_watching :
+    (s : Queues) (client number key : ℕ) (asked : Option ℕ) → IsPlain (with_watching s client number key asked)
+unfolding watched unwatched
+plain_watching s client number key (Some id) = search (plain, plain_queue)
+plain_watching s client number key None = search (plain, plain_queue)
+
+watch_blind : (hide : Hiding) (s : State) (client context : ℕ) (id : ℤ) (number : ℕ) (watch_id : ℤ)
+    → watch (blind hide s) client context id number watch_id
+    ≡ over (blind_done hide) (watch s client context id number watch_id)
+unfolding watch context_of
+watch_blind hide s client context id number watch_id =
+    after (blind_done hide) (context_of s client context) _ _ (λ c _.
+    after (blind_done hide) (watch_id_of watch_id) _ _ (λ asked _.
+    let end : ℕ × Key → Outcome = λ found.
+    with_watching (queues_of s) client number found.0 asked
+    >>= (λ q. accepted (with_queues (blind hide s) q) Nothing) in
+    ap (λ (r : Result (ℕ × Key) Errno). r >>= end) (look_up_blind hide s c id (Granted VIEW))
+    ∙ bound (blind_found hide) (blind_done hide) (look_up s c id (Granted VIEW)) _ _ (λ found _.
+    after (blind_done hide) (with_watching (queues_of s) client number found.0 asked) _ _ (λ q _. refl))))
+
+pub watch_law :
+    (s : State) (client context : ℕ) (id : ℤ) (queue : ℕ) (watch_id : ℤ)
+    → IsLawful s client context (Watch id queue watch_id)
+unfolding watch
+watch_law s client context id queue watch_id = record {
+  effect = λ new answer h. watches s client context id watch_id queue new answer h;
+  small = λ mid answer few h. tt;
+  plain = search (plain, plain_context, plain_watch_id, plain_look_up, plain_watching);
+  blind = λ hide hides. watch_blind hide s client context id queue watch_id;
+  fares =
+      meets_after (context_of s client context) _ (λ c _.
+      meets_after (watch_id_of watch_id) _ (λ asked _.
+      meets_after (look_up s c id (Granted VIEW)) _ (λ found _.
+      meets_after (with_watching (queues_of s) client queue found.0 asked) _ (λ queues _.
+      meets_ok (queues_fares s client context _ queues)))));
+}
+
+pub open_queue_law : (s : State) (client context : ℕ) (capacity : ℕ) → IsLawful s client context (OpenQueue capacity)
+unfolding open_queue
+open_queue_law s client context capacity = record {
+  effect = λ new answer h. opens s client context capacity new answer h;
+  small = λ mid answer few h. tt;
+  plain = plain_open s client capacity;
+  blind = λ hide hides. after (blind_done hide) (opened (queues_of s) client capacity) _ _ (λ x _. refl);
+  fares =
+      meets_after (opened (queues_of s) client capacity) _ (λ made _.
+      meets_ok (queues_fares s client context _ made.0));
+}
+
+pub set_filter_law :
+    (s : State) (client context : ℕ) (queue : ℕ) (entries : List FilterEntry)
+    → IsLawful s client context (SetFilter queue entries)
+unfolding set_filter
+set_filter_law s client context queue entries = record {
+  effect = λ new answer h. filters s client context queue entries new answer h;
+  small = λ mid answer few h. tt;
+  plain = plain_set_filter s client queue entries;
+  blind = λ hide hides. after (blind_done hide) (filtered (queues_of s) client queue entries) _ _ (λ x _. refl);
+  fares =
+      meets_after (filtered (queues_of s) client queue entries) _ (λ set _.
+      meets_ok (queues_fares s client context _ set.0));
+}
+
+pub read_queue_law :
+    (s : State) (client context : ℕ) (queue room : ℕ) → IsLawful s client context (ReadQueue queue room)
+unfolding read_queue
+read_queue_law s client context queue room = record {
+  effect = λ new answer h. reads s client context queue room new answer h;
+  small = λ mid answer few h. tt;
+  plain = plain_read_queue s client queue room;
+  blind = λ hide hides. after (blind_done hide) (read_out (queues_of s) client queue room) _ _ (λ x _. refl);
+  fares =
+      meets_after (read_out (queues_of s) client queue room) _ (λ taken _.
+      meets_ok (queues_fares s client context _ taken.0));
+}
+
+pub close_queue_law : (s : State) (client context : ℕ) (queue : ℕ) → IsLawful s client context (CloseQueue queue)
+unfolding close_queue
+close_queue_law s client context queue = record {
+  effect = λ new answer h. closes s client context queue new answer h;
+  small = λ mid answer few h. tt;
+  plain = plain_close s client queue;
+  blind = λ hide hides. after (blind_done hide) (closed (queues_of s) client queue) _ _ (λ x _. refl);
+  fares =
+      meets_after (closed (queues_of s) client queue) _ (λ left _.
+      meets_ok (queues_fares s client context _ left.0));
+}
