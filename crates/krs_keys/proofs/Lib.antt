@@ -7,6 +7,7 @@ pub mod Unlinking
 pub mod RisingTables
 pub mod HashedLemmas
 pub mod PlacesLemmas
+pub mod HintsLemmas
 pub mod AfterChanges
 pub mod RingsLemmas
 pub mod RingCount

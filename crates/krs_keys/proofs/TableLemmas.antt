@@ -1,9 +1,9 @@
 -- Laws of the table of keys.
 use Rattle.std.proofs.Common.{◌≡◌, ℕ, [], ◌∷◌, Option, Some, None, Bool, true, false, cond, Result, Ok, Err}
-use Rattle.std.proofs.Common.{refl, ap, rules}
+use Rattle.std.proofs.Common.{refl, ap}
 use Rattle.std.specs.Option.{option_map}
 use Rattle.std.specs.Map.{keys_of}
-use Rattle.std.specs.Result.{OnOk, OnErr, IfOk, IfErr, IsOk}
+use Rattle.std.specs.Result.{OnOk, OnErr, IfOk, IfErr}
 use Rattle.std.proofs.lemmas.Option.{none-some, same_Some}
 use Rattle.krs_model.specs.Table.{Table, map_values}
 use Rattle.krs_keys.specs.declared.key.Key.{Key}
@@ -46,11 +46,6 @@ if_ok (Err e) f h = h
 pub if_err : {X E : Type 0} {P Q : E → Type 0} (r : Result X E) → ((e : E) → P e → Q e) → IfErr r P → IfErr r Q
 if_err (Ok x) f h = h
 if_err (Err e) f h = f e h
-
--- a fact for Ok, where it is Ok
-pub given_ok : {X E : Type 0} {P : Type 0} (r : Result X E) → IsOk r → OnOk r P → P
-given_ok (Ok x) ok h = h
-given_ok (Err e) ok h = absurd (search rules)
 
 -- what holds either way
 pub by_result : {X E : Type 0} {P Q R : Type 0} (r : Result X E) → (P → R) → (Q → R) → OnOk r P → OnErr r Q → R

@@ -3,5 +3,7 @@ pub mod Changes
 pub mod Table
 pub mod Kept
 pub mod Hashed
+pub mod Listed
+pub mod Hints
 pub mod Places
 pub mod Sessions

@@ -2,24 +2,19 @@
 use Rattle.std.specs.Prelude.{◌≡◌, ℕ, ◌≤◌, List, [], ◌∷◌, Bool, false, nat_eq, nat_lt, true, Option, None, Some}
 use Rattle.std.specs.Prelude.{IsSome, cond, filter, slice_index_or}
 use Rattle.std.specs.List.{list_any}
-use Rattle.std.specs.Map.{lookup}
 use Rattle.std.specs.Option.{option_map}
 use Rattle.slab.specs.Slab.{HasRoomFor}
-use Rattle.indexmap.specs.IndexMap.{spare}
 use Rattle.indexmap.specs.IndexSet.{spare as spare_keys}
 use Rattle.krs_types.specs.declared.kind.Kind.TheVariants.{Keyring}
 use Rattle.krs_types.specs.Kind.{same_kind}
 use Rattle.krs_model.specs.Table.{Table, at, put, without}
+pub use Rattle.krs_keys.specs.Listed.{place_of}
 use Rattle.krs_keys.specs.declared.key.Key.{Key}
 use Rattle.krs_keys.specs.declared.placed.PlacedKeys.{PlacedKeys}
 
 -- what a place holds
 abbrev pub held : {X : Type 0} → List (Option X) → ℕ → Option X
 held slots place = slice_index_or slots place None
-
--- the place of a serial
-abbrev pub place_of : List (ℕ × ℕ) → ℕ → Option ℕ
-place_of places serial = lookup (nat_eq serial) places
 
 -- the serial is one of these
 abbrev pub is_among : List ℕ → ℕ → Bool
@@ -66,7 +61,7 @@ pub record ArePlaced (placed : PlacedKeys) : Type 0 where
 -- that many more keys take no memory
 pub record HaveRoom (placed : PlacedKeys) (more : ℕ) : Type 0 where
   pub slots : HasRoomFor placed.slots more
-  pub places : more ≤ spare placed.places
+  pub places : more ≤ placed.places.spare
   pub rings : more ≤ spare_keys placed.rings
 
 -- what a place holds is changed, and no other

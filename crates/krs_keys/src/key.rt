@@ -90,7 +90,7 @@ impl Key {
             && self.grants(caller, false).contains(Rights::SEARCH)
     }
 
-    /// Where it links the key of this name and this serial.
+    /// Where it links the key of this name and this serial. No names are compared.
     pub fn link_place(&self, name: &HashedName, serial: Serial) -> Option<usize>
         ensures there { IfSome result
             (λ place. slice_get (serials (named_links_of_content self.now.content)) place ≡ Some serial) }
@@ -98,19 +98,7 @@ impl Key {
     {
         match &self.content {
             Content::Payload(_) => None,
-            Content::Links(links) => {
-                let Some(place) = links.place_of_hashed(name) else {
-                    return None;
-                };
-                let Some(linked) = links.serial_at(place) else {
-                    return None;
-                };
-                if linked.number() == serial.number() {
-                    Some(place)
-                } else {
-                    None
-                }
-            }
+            Content::Links(links) => links.place_linked(name, serial),
         }
     }
 

@@ -91,6 +91,7 @@ impl KeyTable {
     }
 
     /// The key at a serial.
+    #[inline(always)]
     pub fn get(&self, serial: Serial) -> Option<&Key>
         ensures { option_copied result ≡ at self.now.keys serial }
     {

@@ -5,6 +5,7 @@ mod key;
 mod key_set;
 mod key_table;
 mod placed;
+mod places;
 mod sessions;
 mod slots;
 

@@ -7,13 +7,14 @@ ghost use Rattle.krs_model.specs.Table.{at, put, without, alter, map_values};
 ghost use Rattle.krs_keys.specs.Changes.{changed};
 ghost use Rattle.krs_keys.specs.Keys.{with_entry, without_key, displaced_at, named_links_of_key_at, seen};
 ghost use Rattle.krs_keys.specs.Keys.{joinable_in, AreFit, AreOfKind};
-ghost use Rattle.krs_keys.specs.Places.{by_place, keyrings_in, place_of, is_sooner, passes, ArePlaced, HaveRoom};
+ghost use Rattle.krs_keys.specs.Places.{by_place, keyrings_in, is_sooner, passes, ArePlaced, HaveRoom};
 ghost use Rattle.krs_keys.specs.Sessions.{AreSessions};
 
+use crate::places::Places;
 use crate::sessions::Sessions;
 use crate::slots::{self, list, unlist};
 use crate::{Change, Key};
-use indexmap::{IndexMap, IndexSet};
+use indexmap::IndexSet;
 use krs_links::HashedName;
 use krs_types::{Caller, Errno, Serial};
 use slab::Slab;
@@ -28,7 +29,7 @@ pub(crate) struct PlacedKeys {
     /// The keys, each at its place.
     slots: Slab<Key>,
     /// The place of each serial.
-    places: IndexMap<u32, usize>,
+    places: Places,
     /// The serials of the keyrings, so that what concerns keyrings alone passes over no other key.
     rings: IndexSet<u32>,
     /// How many keys have gone since the tables last gave memory back. No clause speaks of it.
@@ -43,7 +44,7 @@ impl PlacedKeys {
     {
         PlacedKeys {
             slots: Slab::new(alloc),
-            places: IndexMap::new(alloc),
+            places: Places::new(alloc),
             rings: IndexSet::new(alloc),
             gone: 0,
         }
@@ -66,20 +67,11 @@ impl PlacedKeys {
     }
 
     /// The key at a serial.
+    #[inline(always)]
     pub(crate) fn get(&self, serial: u32) -> Option<&Key>
         ensures { option_copied result ≡ at (by_place self.now) serial }
     {
         slots::get(&self.slots, &self.places, serial)
-    }
-
-    /// The place of a serial.
-    fn place_of(&self, serial: u32) -> Option<usize>
-        ensures { result ≡ place_of self.now.places.entries serial }
-    {
-        match self.places.get(&serial) {
-            Some(place) => Some(*place),
-            None => None,
-        }
     }
 
     /// The least serial of a keyring that a caller may join by this description, among those that JOIN made.
@@ -122,7 +114,7 @@ impl PlacedKeys {
         ensures placed { ArePlaced self.new }
         ensures keys { by_place self.new ≡ alter (by_place self.old) serial (changed change) }
     {
-        match self.place_of(serial) {
+        match self.places.get(serial) {
             Some(place) => slots::change(&mut self.slots, place, change),
             None => {}
         }
@@ -144,7 +136,7 @@ impl PlacedKeys {
         ensures error { IfErr result (λ e. e ≡ link_error (named_links_of_key_at (by_place self.old) ring) name) }
         ensures err { OnErr result (by_place self.new ≡ by_place self.old) }
     {
-        match self.place_of(ring) {
+        match self.places.get(ring) {
             Some(place) => slots::link(&mut self.slots, place, name, serial),
             None => Ok(None),
         }
@@ -205,7 +197,7 @@ impl PlacedKeys {
         ensures keys { by_place self.new ≡ without (by_place self.old) serial }
         ensures gone { at (by_place self.new) serial ≡ None }
     {
-        let place = self.places.swap_remove(&serial)?;
+        let place = self.places.remove(serial)?;
         let key = self.slots.remove(place);
         unlist(&mut self.rings, serial, &key);
         Some(key)
@@ -256,7 +248,7 @@ impl PlacedKeys {
     {
         list(&mut self.rings, serial, &key);
         let place = self.slots.insert_reserved(key);
-        let _ = self.places.insert(serial, place);
+        self.places.insert(serial, place);
     }
 }
 

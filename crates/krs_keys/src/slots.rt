@@ -11,8 +11,9 @@ ghost use Rattle.krs_keys.specs.Keys.{with_entry, without_key, without_link_at, 
 ghost use Rattle.krs_keys.specs.Keys.{name_at, named_links_of_key_at, AreNamed, AreFit, AreOfKind};
 ghost use Rattle.krs_keys.specs.Places.{held, in_slots, is_among, AreRings, HavePlaces, IsChangedAt};
 
+use crate::places::Places;
 use crate::{Change, Key};
-use indexmap::{IndexMap, IndexSet};
+use indexmap::IndexSet;
 use krs_links::HashedName;
 use krs_types::{Errno, Kind, Serial};
 use slab::Slab;
@@ -48,26 +49,18 @@ pub(crate) fn link(
 }
 
 /// The key at a serial.
-pub(crate) fn get<'a>(
-    slots: &'a Slab<Key>,
-    places: &IndexMap<u32, usize>,
-    serial: u32,
-) -> Option<&'a Key>
+#[inline(always)]
+pub(crate) fn get<'a>(slots: &'a Slab<Key>, places: &Places, serial: u32) -> Option<&'a Key>
     ensures { option_copied result ≡ at (in_slots slots.now.slots places.now.entries) serial }
 {
-    match places.get(&serial) {
-        Some(place) => slots.get(*place),
+    match places.get(serial) {
+        Some(place) => slots.get(place),
         None => None,
     }
 }
 
 /// Where the keyring at a place links a key. A link has its key's own name.
-fn link_place(
-    slots: &Slab<Key>,
-    places: &IndexMap<u32, usize>,
-    place: usize,
-    serial: Serial,
-) -> Option<usize>
+fn link_place(slots: &Slab<Key>, places: &Places, place: usize, serial: Serial) -> Option<usize>
     requires named { AreNamed (name_at (in_slots slots.now.slots places.now.entries))
         (named_links_of_key (held slots.now.slots place)) }
     ensures there { IfSome result
@@ -94,12 +87,7 @@ fn remove_link(slots: &mut Slab<Key>, place: usize, link: usize)
 }
 
 /// Takes a key out of the keyring at a place, and answers whether it was there.
-fn unlink(
-    slots: &mut Slab<Key>,
-    places: &IndexMap<u32, usize>,
-    place: usize,
-    serial: Serial,
-) -> bool
+fn unlink(slots: &mut Slab<Key>, places: &Places, place: usize, serial: Serial) -> bool
     requires named { AreNamed (name_at (in_slots slots.old.slots places.now.entries))
         (named_links_of_key (held slots.old.slots place)) }
     ensures linked { result ≡ has_link serial (named_links_of_key (held slots.old.slots place)) }
@@ -114,24 +102,19 @@ fn unlink(
 }
 
 /// Whether a keyring links a key.
-pub(crate) fn links_key(
-    slots: &Slab<Key>,
-    places: &IndexMap<u32, usize>,
-    ring: u32,
-    serial: Serial,
-) -> bool
+pub(crate) fn links_key(slots: &Slab<Key>, places: &Places, ring: u32, serial: Serial) -> bool
     requires fit { AreFit (in_slots slots.now.slots places.now.entries) }
     ensures { result
         ≡ has_link serial (named_links_of_key_at (in_slots slots.now.slots places.now.entries) ring) }
 {
-    match places.get(&ring) {
-        Some(place) => links_at(slots, places, *place, serial),
+    match places.get(ring) {
+        Some(place) => links_at(slots, places, place, serial),
         None => false,
     }
 }
 
 /// Whether the keyring at a place links a key.
-fn links_at(slots: &Slab<Key>, places: &IndexMap<u32, usize>, place: usize, serial: Serial) -> bool
+fn links_at(slots: &Slab<Key>, places: &Places, place: usize, serial: Serial) -> bool
     requires named { AreNamed (name_at (in_slots slots.now.slots places.now.entries))
         (named_links_of_key (held slots.now.slots place)) }
     ensures { result ≡ has_link serial (named_links_of_key (held slots.now.slots place)) }
@@ -143,12 +126,7 @@ fn links_at(slots: &Slab<Key>, places: &IndexMap<u32, usize>, place: usize, seri
 }
 
 /// Takes a key out of one keyring, and answers whether it was there.
-pub(crate) fn unlink_in(
-    slots: &mut Slab<Key>,
-    places: &IndexMap<u32, usize>,
-    ring: u32,
-    serial: Serial,
-) -> bool
+pub(crate) fn unlink_in(slots: &mut Slab<Key>, places: &Places, ring: u32, serial: Serial) -> bool
     requires places { HavePlaces slots.old.slots places.now.entries }
     requires fit { AreFit (in_slots slots.old.slots places.now.entries) }
     ensures places { HavePlaces slots.new.slots places.now.entries }
@@ -159,19 +137,14 @@ pub(crate) fn unlink_in(
     ensures stays { result ≡ false
         → in_slots slots.new.slots places.now.entries ≡ in_slots slots.old.slots places.now.entries }
 {
-    match places.get(&ring) {
-        Some(place) => unlink(slots, places, *place, serial),
+    match places.get(ring) {
+        Some(place) => unlink(slots, places, place, serial),
         None => false,
     }
 }
 
 /// Takes a key out of all keyrings, which are listed.
-pub(crate) fn unlink_all(
-    slots: &mut Slab<Key>,
-    places: &IndexMap<u32, usize>,
-    rings: &[u32],
-    serial: Serial,
-)
+pub(crate) fn unlink_all(slots: &mut Slab<Key>, places: &Places, rings: &[u32], serial: Serial)
     requires places { HavePlaces slots.old.slots places.now.entries }
     requires rings { AreRings (in_slots slots.old.slots places.now.entries) rings.now }
     requires kinds { AreOfKind (in_slots slots.old.slots places.now.entries) }

@@ -1,16 +1,17 @@
 -- What a look-up by a digest, and each change, say of the links.
 use Rattle.std.proofs.Common.{◌≡◌, ℕ, zero, suc, ◌+◌, ◌<◌, ◌≤◌, [], ◌∷◌, ◌++◌, Some, None, List, true, false}
-use Rattle.std.proofs.Common.{refl, sym, ap, subst, ◌∙◌, length, get_or, nat_eq, arith}
-use Rattle.std.specs.List.{position_from, remove, slice_get, AllByRecursion, IsDistinct}
+use Rattle.std.proofs.Common.{refl, sym, ap, subst, ◌∙◌, ◌≢◌, ◌-◌, cond, length, get_or, nat_eq, arith, take, drop, set}
+use Rattle.std.proofs.Common.{Option, IfSome, IfNone}
+use Rattle.std.specs.List.{position_from, remove, swap_remove, slice_get, find, AllByRecursion, IsDistinct}
 use Rattle.std.specs.Cmp.{nat_eq_equiv}
 use Rattle.std.specs.Map.{lookup, keys_of, values_of}
 use Rattle.std.specs.Option.{option_map, unwrap_or}
 use Rattle.std.proofs.lemmas.Iterator.Adapters.{position_from-zero}
 use Rattle.std.proofs.lemmas.List.Quantifiers.{position-Some}
-use Rattle.std.proofs.lemmas.List.{map-append}
+use Rattle.std.proofs.lemmas.List.{map-append, append-nil, take-set}
 use Rattle.std.proofs.lemmas.Map.Entries.{lookup_from_place}
 use Rattle.std.proofs.lemmas.Map.Keys.{IsDistinct-head, IsDistinct-tail}
-use Rattle.std.proofs.lemmas.Option.{none-some, slice_get-map}
+use Rattle.std.proofs.lemmas.Option.{none-some, same_Some, slice_get-map, slice_get_within}
 use Rattle.indexmap.specs.IndexMap.{set_value_at}
 use Rattle.krs_types.specs.declared.name.Name.{Name}
 use Rattle.krs_types.specs.Name.{same_name}
@@ -18,8 +19,9 @@ use Rattle.krs_types.proofs.Names.{equal_names, other_way}
 use Rattle.krs_links.specs.declared.seed.Seed.{Seed}
 use Rattle.krs_links.specs.declared.index.Link.{Link}
 use Rattle.krs_links.specs.Seeded.{name_digest}
-use Rattle.krs_links.specs.Links.{LinkList, names, serials, IsUnique, place_of, link_put}
-use Rattle.krs_links.specs.Indexed.{link_of, linked_in, behind, Stands, AllStand, StandsNot, with_serial_at}
+use Rattle.krs_links.specs.Links.{LinkList, names, serials, serial_named, IsUnique, place_of, link_put}
+use Rattle.krs_links.specs.Indexed.{link_of, linked_in, behind, Stands, AllStand, StandsNot, LinksNot}
+use Rattle.krs_links.specs.Indexed.{with_serial_at}
 
 -- ---- a place
 -- the name of the link at a place
@@ -185,6 +187,32 @@ linked_in-set name serial entries i h =
     let at_place = position-Some (λ (link : Name × ℕ). same_name name link.0) (linked_in entries) i d h in
     put_at name serial entries i d at_place.0 at_place.1 at_place.2
 
+-- ---- a serial
+-- a name under which a serial is linked has a link with it
+named_somewhere : (name : Name) (serial : ℕ) (entries : List (ℕ × Link)) → serial_named (linked_in entries) name ≡ Some serial →
+    (i : ℕ) × (e : ℕ × Link) × (slice_get entries i ≡ Some e) × (same_name name e.1.name ≡ true) × (e.1.serial ≡ serial)
+named_somewhere name serial [] h = absurd (none-some serial h)
+named_somewhere name serial (e ∷ es) h =
+    elim (same_name name e.1.name) as (λ b. same_name name e.1.name ≡ b → option_map (λ (link : Name × ℕ). link.1)
+    (cond b (Some (link_of e)) (find (λ (link : Name × ℕ). same_name name link.0) (linked_in es))) ≡ Some serial →
+    (i : ℕ) × (d : ℕ × Link) × (slice_get (e ∷ es) i ≡ Some d) × (same_name name d.1.name ≡ true) × (d.1.serial ≡ serial)) [
+      | true ↦ λ t here. (0, e, refl, t, same_Some e.1.serial serial here)
+      | false ↦ λ t later. let r = named_somewhere name serial es later in (suc r.0, r.1, r.2, r.3, r.4)
+    ] refl h
+
+-- where none behind the name's digest has the serial, it is not linked under the name
+pub not_linked : (seed : Seed) (span digest serial : ℕ) (name : Name) (entries : List (ℕ × Link)) →
+    IsDistinct nat_eq (keys_of entries) → AllStand seed span entries → digest ≡ name_digest seed name →
+    ((s : ℕ) → s < span → LinksNot serial entries (behind digest s)) → serial_named (linked_in entries) name ≢ Some serial
+not_linked seed span digest serial name entries apart all is none = λ linked.
+    let there = named_somewhere name serial entries linked in
+    let e : ℕ × Link = there.1 in
+    let stands = stands_at seed span entries there.0 e all there.2 in
+    let known : name_digest seed e.1.name ≡ digest = ap (name_digest seed) (sym (equal_names name e.1.name there.3)) ∙ sym is in
+    let number : e.0 ≡ behind digest stands.0 = stands.2 ∙ ap (λ d. behind d stands.0) known in
+    let found : lookup (nat_eq e.0) entries ≡ Some e.1 = lookup_from_place nat_eq_equiv entries there.0 e.0 e.1 apart there.2 in
+    none stands.0 stands.1 e.1 (subst (λ (k : ℕ). lookup (nat_eq k) entries ≡ Some e.1) number found) there.4
+
 -- ---- a link less
 pub linked_in-removed : (entries : List (ℕ × Link)) (i : ℕ) → linked_in (remove entries i) ≡ remove (linked_in entries) i
 linked_in-removed [] zero = refl
@@ -198,3 +226,33 @@ AllStand-removed seed span [] zero all = tt
 AllStand-removed seed span [] (suc i) all = tt
 AllStand-removed seed span (e ∷ es) zero all = all.1
 AllStand-removed seed span (e ∷ es) (suc i) all = (all.0, AllStand-removed seed span es i all.1)
+
+-- ---- the last of a list
+none_behind : {X : Type 0} (xs : List X) (i : ℕ) → length xs ≤ i → drop i xs ≡ []
+none_behind [] zero h = refl
+none_behind [] (suc i) h = refl
+none_behind (x ∷ xs) zero h = absurd (omega (arith, h))
+none_behind (x ∷ xs) (suc i) h = none_behind xs i (omega (arith, h))
+
+-- nothing moves into the place of the last
+last_removed : {X : Type 0} (xs : List X) (i : ℕ) (d : X) → suc i ≡ length xs → swap_remove xs i d ≡ remove xs i
+last_removed xs i d last =
+    let before : length xs - 1 ≡ i = omega (arith, last) in
+    let behind : length xs ≤ suc i = omega (arith, last) in
+    ap (λ (n : ℕ). take n (set xs i (get_or xs (length xs - 1) d))) before
+    ∙ (take-set xs i (get_or xs (length xs - 1) d)
+    ∙ (sym (append-nil (take i xs)) ∙ ap (λ zs. take i xs ++ zs) (sym (none_behind xs (suc i) behind))))
+
+nothing_removed : {X : Type 0} (xs : List X) (i : ℕ) → slice_get xs i ≡ None → remove xs i ≡ xs
+nothing_removed [] zero none = refl
+nothing_removed [] (suc i) none = refl
+nothing_removed (x ∷ xs) zero none = absurd (none-some x (sym none))
+nothing_removed (x ∷ xs) (suc i) none = ap (λ zs. x ∷ zs) (nothing_removed xs i none)
+
+-- what the last leaves is what any that is taken out leaves
+pub last_taken : {X : Type 0} (old new : List X) (i : ℕ) (o : Option X) → i ≡ length old - 1 → o ≡ slice_get old i
+    → IfSome o (λ x. new ≡ swap_remove old i x) → IfNone o (new ≡ old) → new ≡ remove old i
+last_taken old new i None last is some none = none ∙ sym (nothing_removed old i (sym is))
+last_taken old new i (Some x) last is some none =
+    let within : i < length old = slice_get_within old i x (sym is) in
+    some ∙ last_removed old i x (omega (arith, last, within))

@@ -1,6 +1,6 @@
 -- The links of a keyring as they are kept: each under a number, which is what its name hashes to, or some steps more
 -- where that was taken.
-use Rattle.std.specs.Prelude.{◌≡◌, ℕ, zero, suc, ◌+◌, ◌<◌, ◌%◌, ◌^◌, List, [], ◌∷◌, map, nat_eq, false, Some}
+use Rattle.std.specs.Prelude.{◌≡◌, ◌≢◌, ℕ, zero, suc, ◌+◌, ◌<◌, ◌%◌, ◌^◌, List, [], ◌∷◌, map, nat_eq, false, Some}
 use Rattle.std.specs.Map.{lookup}
 use Rattle.krs_types.specs.declared.name.Name.{Name}
 use Rattle.krs_types.specs.Name.{same_name}
@@ -42,6 +42,10 @@ IsIndexed index = AllStand index.seed index.span index.entries.entries
 abbrev pub StandsNot : Name → List (ℕ × Link) → ℕ → Type 0
 StandsNot name entries number =
     (link : Link) → lookup (nat_eq number) entries ≡ Some link → same_name name link.name ≡ false
+
+-- no link to this serial stands under this number
+abbrev pub LinksNot : ℕ → List (ℕ × Link) → ℕ → Type 0
+LinksNot serial entries number = (link : Link) → lookup (nat_eq number) entries ≡ Some link → link.serial ≢ serial
 
 -- with another serial at a place
 abbrev pub with_serial_at : List (ℕ × Link) → ℕ → ℕ → List (ℕ × Link)

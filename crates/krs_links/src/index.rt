@@ -1,14 +1,14 @@
 //! The links of a keyring in link order, with an index from what their names hash to.
-ghost use Rattle.std.specs.Prelude.{◌≡◌, ◌<◌, ◌≤◌, ◌+◌, ◌^◌, [], ◌∷◌, ◌++◌, length, nat_eq, slice_get};
-ghost use Rattle.std.specs.Prelude.{None, IfSome, IfNone, IsOk, IfOk, OnOk, OnErr, vec_len, vec_capacity};
+ghost use Rattle.std.specs.Prelude.{◌≡◌, ◌≢◌, ◌<◌, ◌≤◌, ◌+◌, ◌^◌, [], ◌∷◌, ◌++◌, length, nat_eq, slice_get};
+ghost use Rattle.std.specs.Prelude.{None, Some, IfSome, IfNone, IsOk, IfOk, OnOk, OnErr, vec_len, vec_capacity};
 ghost use Rattle.std.specs.Int.{w32, to_le_bytes};
 ghost use Rattle.std.specs.List.{remove};
 ghost use Rattle.std.specs.Option.{option_copied};
 ghost use Rattle.indexmap.specs.IndexMap.{get, spare};
 ghost use Rattle.krs_links.specs.Seeded.{name_digest};
-ghost use Rattle.krs_links.specs.Links.{place_of, names, serials, bytes_of, IsUnique};
+ghost use Rattle.krs_links.specs.Links.{place_of, names, serials, serial_named, bytes_of, IsUnique};
 ghost use Rattle.krs_links.specs.Indexed.{linked, linked_in, behind, with_serial_at};
-ghost use Rattle.krs_links.specs.Indexed.{IsIndexed, StandsNot};
+ghost use Rattle.krs_links.specs.Indexed.{IsIndexed, StandsNot, LinksNot};
 
 use crate::{HashedName, Seed};
 use indexmap::IndexMap;
@@ -37,6 +37,7 @@ impl LinkIndex {
     pub(crate) fn new(alloc: Global, seed: Seed) -> Self
         ensures links { linked result ≡ [] }
         ensures indexed { IsIndexed result }
+        ensures seed { result.seed ≡ seed }
     {
         LinkIndex {
             entries: IndexMap::new(alloc),
@@ -119,6 +120,23 @@ impl LinkIndex {
         None
     }
 
+    /// A place where a serial is linked under what a name hashes to. Serials are compared, and no names: if the link of the
+    /// name has the serial, it is found.
+    pub(crate) fn place_linked(&self, name: &HashedName, serial: Serial) -> Option<usize>
+        requires indexed { IsIndexed self.now }
+        ensures there { IfSome result (λ place. slice_get (serials (linked self.now)) place ≡ Some serial) }
+        ensures none { IfNone result (serial_named (linked self.now) name.now ≢ Some serial) }
+    {
+        let _len = self.entries.len();
+        let digest = self.digest_in(name);
+        for steps in 0..self.span {
+            if let Some(place) = place_with(&self.entries, behind(digest, steps), serial) {
+                return Some(place);
+            }
+        }
+        None
+    }
+
     /// A link under a new name, last. Where names hash alike it is kept all the same: it fails for memory alone, which
     /// it takes only where the index has no room left.
     pub(crate) fn push(&mut self, name: HashedName, serial: Serial) -> Result<(), AllocError>
@@ -156,7 +174,7 @@ impl LinkIndex {
         ensures removed { result ≡ slice_get (serials (linked self.old)) place }
         ensures links { linked self.new ≡ remove (linked self.old) place }
     {
-        match self.entries.shift_remove_index(place) {
+        match take_at(&mut self.entries, place) {
             Some((_number, link)) => Some(link.serial),
             None => None,
         }
@@ -201,6 +219,21 @@ fn place_under(entries: &IndexMap<u64, Link>, number: u64, name: &Name) -> Optio
     }
 }
 
+/// The place of the link under a number, where it has this serial.
+fn place_with(entries: &IndexMap<u64, Link>, number: u64, serial: Serial) -> Option<usize>
+    ensures there { IfSome result (λ place. slice_get (serials (linked_in entries.now.entries)) place ≡ Some serial) }
+    ensures none { IfNone result (LinksNot serial entries.now.entries number) }
+{
+    let Some((place, _, link)) = entries.get_full(&number) else {
+        return None;
+    };
+    if link.serial.number() == serial.number() {
+        Some(place)
+    } else {
+        None
+    }
+}
+
 /// How many steps behind a digest nothing stands. There are some, as each number that is passed over is a link's.
 fn free_steps(entries: &IndexMap<u64, Link>, digest: u64) -> usize
     ensures free { get nat_eq entries.now (behind digest result) ≡ None }
@@ -224,6 +257,18 @@ fn put_new(entries: &mut IndexMap<u64, Link>, number: u64, link: Link) -> Result
 {
     entries.insert(number, link)?;
     Ok(())
+}
+
+/// Takes out the entry at a place. Those behind it move up: behind the last there are none, and it is taken at once.
+fn take_at(entries: &mut IndexMap<u64, Link>, place: usize) -> Option<(u64, Link)>
+    ensures entry { result ≡ slice_get entries.old.entries place }
+    ensures entries { entries.new.entries ≡ remove entries.old.entries place }
+{
+    if place == entries.len().saturating_sub(1) {
+        entries.swap_remove_index(place)
+    } else {
+        entries.shift_remove_index(place)
+    }
 }
 
 /// Another serial in the link at a place.

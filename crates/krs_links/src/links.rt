@@ -1,4 +1,5 @@
-ghost use Rattle.std.specs.Prelude.{◌≡◌, ◌≤◌, [], ◌∷◌, length, slice_get, false, IfOk, OnOk, IfErr, OnErr, IsOk, IsSome};
+ghost use Rattle.std.specs.Prelude.{◌≡◌, ◌≢◌, ◌≤◌, [], ◌∷◌, length, slice_get, false, IfOk, OnOk, IfErr, OnErr, IsOk, IsSome};
+ghost use Rattle.std.specs.Prelude.{Some, IfSome, IfNone};
 ghost use Rattle.std.specs.List.{remove};
 ghost use Rattle.std.specs.Option.{ok_or, option_copied};
 ghost use Rattle.krs_links.specs.Links.{serial_named, place_of, link_put, unlinked, nested, names, serials, bytes_of};
@@ -128,6 +129,18 @@ impl Links {
     {
         match &self.kept {
             Some(table) => table.place_of_hashed(name),
+            None => None,
+        }
+    }
+
+    /// A place where a serial is linked under what this name hashes to. Serials are compared, and no names, so that it costs
+    /// little for whoever has a key with its name: if the link of the name has the serial, it is found.
+    pub fn place_linked(&self, name: &HashedName, serial: Serial) -> Option<usize>
+        ensures there { IfSome result (λ place. slice_get (serials self.now) place ≡ Some serial) }
+        ensures none { IfNone result (serial_named self.now name.now ≢ Some serial) }
+    {
+        match &self.kept {
+            Some(table) => table.place_linked(name, serial),
             None => None,
         }
     }

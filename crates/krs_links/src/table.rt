@@ -1,4 +1,5 @@
-ghost use Rattle.std.specs.Prelude.{◌≡◌, ◌≤◌, [], length, slice_get, false, IfOk, OnOk, IfErr, OnErr, IsOk, IsSome};
+ghost use Rattle.std.specs.Prelude.{◌≡◌, ◌≢◌, ◌≤◌, [], length, slice_get, false, Some, IfOk, OnOk, IfErr, OnErr, IsOk, IsSome};
+ghost use Rattle.std.specs.Prelude.{IfSome, IfNone};
 ghost use Rattle.std.specs.List.{remove};
 ghost use Rattle.std.specs.Option.{ok_or, option_copied};
 ghost use Rattle.krs_links.specs.Links.{serial_named, place_of, link_put, unlinked, nested, names, serials, bytes_of};
@@ -106,6 +107,14 @@ impl LinkTable {
         ensures { result ≡ place_of name.now self.now }
     {
         lists::place_of(&self.entries, name.as_name(), self.entries.digest_in(name))
+    }
+
+    /// A place where a serial is linked under what a name hashes to.
+    pub(crate) fn place_linked(&self, name: &HashedName, serial: Serial) -> Option<usize>
+        ensures there { IfSome result (λ place. slice_get (serials self.now) place ≡ Some serial) }
+        ensures none { IfNone result (serial_named self.now name.now ≢ Some serial) }
+    {
+        self.entries.place_linked(name, serial)
     }
 
     /// The nested keyrings, in link order.

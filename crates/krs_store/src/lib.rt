@@ -8,4 +8,5 @@ mod telling;
 mod watching;
 
 pub use krs_links::Seed;
+pub use krs_tables::KEEP_NOTHING;
 pub use store::Store;

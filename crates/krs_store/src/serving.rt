@@ -16,12 +16,16 @@ use krs_tables::Tables;
 use krs_types::{Answer, Ask, Fault, Op};
 
 /// One ask in the state that it finds, and the notes of what it did. Where it tells none, or no key is watched, none is
-/// looked for.
+/// looked for. A READ, which is asked most, is served before the ask is moved.
+#[inline(always)]
 pub(crate) fn serve(tables: &mut Tables, client: u32, ask: Ask) -> Result<Answer, Fault>
     requires sound { IsSound tables.old }
     ensures told { LeadsTold tables.old client ask.context ask.op result tables.new }
     ensures memory { IsErrOf result Fault.Memory → grows ask.op ≡ true }
 {
+    if let Op::Read { id } = ask.op {
+        return read(tables, client, ask.context, id);
+    }
     if !may_tell(&ask.op) {
         return run(tables, client, ask);
     }

@@ -86,6 +86,7 @@ impl Store {
     /// Serves one ask of a client at a moment, in seconds: one step of the store. An accepted ask has its effect; its
     /// notes are posted; then the sweep drops what is not held, and posts removal records. Profile, order of notes.
     #[tactic(auto, unfolding(krs_model::specs::Step::Step))]
+    #[inline(always)]
     pub fn apply(&mut self, client: u32, moment: u64, ask: Ask) -> Reply
         ensures step { Step self.old (event_of client moment ask result) self.new }
         ensures memory { grows ask.op ≡ false → result ≢ Err ENOMEM }

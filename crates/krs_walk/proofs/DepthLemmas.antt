@@ -110,6 +110,23 @@ any_deeper p f k n =
     ∙ ap (λ b. p k || b) (ap (λ (zs : List ℕ). list_any p (levels f zs n)) (append-nil (f k))
     ∙ any_heads p f (f k) n)
 
+or_none : (b : Bool) → (b || false) ≡ b
+or_none true = refl
+or_none false = refl
+
+any_ones : (p : ℕ → Bool) (f : ℕ → List ℕ) (xs : List ℕ)
+    → list_any (λ j. list_any p (levels f (j ∷ []) (suc zero))) xs ≡ list_any p xs
+unfolding level levels
+any_ones p f [] = refl
+any_ones p f (x ∷ xs) =
+    ap (λ b. b || list_any (λ j. list_any p (levels f (j ∷ []) (suc zero))) xs) (or_none (p x))
+    ∙ ap (λ b. p x || b) (any_ones p f xs)
+
+-- two levels are the key, and what it links
+pub any_near : (p : ℕ → Bool) (f : ℕ → List ℕ) (k : ℕ)
+    → list_any p (levels f (k ∷ []) 2) ≡ (p k || list_any p (f k))
+any_near p f k = any_deeper p f k (suc zero) ∙ ap (λ b. p k || b) (any_ones p f (f k))
+
 -- no level, so none that passes
 pub any_none : (p : ℕ → Bool) (f : ℕ → List ℕ) (k depth : ℕ) → depth ≡ 0
     → list_any p (levels f (k ∷ []) depth) ≡ false

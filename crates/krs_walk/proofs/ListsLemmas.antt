@@ -1,11 +1,12 @@
 -- Laws of lists of serials, and of joining them.
 use Rattle.std.proofs.Common.{◌≡◌, ◌⊎◌, ℕ, ◌==◌, ◌||◌, List, [], ◌∷◌, ◌++◌, Bool, true, false, cond, refl, ap, ◌∙◌}
-use Rattle.std.proofs.Common.{sym, subst, inl, inr, ⊎_elim, arith, append_assoc}
+use Rattle.std.proofs.Common.{sym, subst, inl, inr, ⊎_elim, arith, append_assoc, zero, suc, Some}
 use Rattle.std.proofs.lemmas.Bool.{true≢false}
 use Rattle.std.proofs.lemmas.Bool.Decides.{nat_tests}
 use Rattle.std.proofs.lemmas.List.{append-nil}
 use Rattle.std.proofs.lemmas.List.Folds.{list_any-append}
-use Rattle.std.specs.List.{list_any}
+use Rattle.std.proofs.lemmas.Option.{none-some, same_Some}
+use Rattle.std.specs.List.{list_any, slice_get}
 use Rattle.krs_model.specs.Levels.{is_in}
 use Rattle.krs_walk.specs.Lists.{join}
 
@@ -37,6 +38,12 @@ pub in_cons : (k x : ℕ) (xs : List ℕ) → is_in k (x ∷ xs) ≡ true → (k
 in_cons k x xs h =
     ⊎_elim (λ (e : (x == k) ≡ true). inl (sym (is_same x k e))) (λ (m : is_in k xs ≡ true). inr m)
     (or_one (x == k) (is_in k xs) h)
+
+-- what a list has at a place is in it
+pub in_at : (xs : List ℕ) (i k : ℕ) → slice_get xs i ≡ Some k → is_in k xs ≡ true
+in_at [] i k h = absurd (none-some k h)
+in_at (x ∷ xs) zero k h = or_left (x == k) (is_in k xs) (same_is x k (same_Some x k h))
+in_at (x ∷ xs) (suc i) k h = in_tail k x xs (in_at xs i k h)
 
 pub in_append : (k : ℕ) (xs ys : List ℕ) → is_in k (xs ++ ys) ≡ (is_in k xs || is_in k ys)
 in_append k xs ys = list_any-append (λ q. q == k) xs ys

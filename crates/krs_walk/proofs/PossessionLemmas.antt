@@ -1,8 +1,8 @@
 -- What is possessed, by the keyrings that link it.
 use Rattle.std.proofs.Common.{◌≡◌, ◌≤◌, ℕ, zero, suc, ◌==◌, ◌||◌, List, [], ◌∷◌, Bool, true, false, cond, filter}
-use Rattle.std.proofs.Common.{Option, None, Some, ⊎_elim, sym, refl, ap, ◌∙◌, arith}
+use Rattle.std.proofs.Common.{Option, None, Some, ⊎_elim, sym, refl, ap, ◌∙◌, arith, ◌≢◌, IfSome, IfNone, is_some}
 use Rattle.std.specs.Option.{option_map}
-use Rattle.std.specs.List.{list_any, find}
+use Rattle.std.specs.List.{list_any, find, slice_get}
 use Rattle.std.proofs.lemmas.Bool.{true≢false}
 use Rattle.std.proofs.lemmas.Option.{none-some, same_Some}
 use Rattle.krs_types.specs.declared.name.Name.{Name}
@@ -26,7 +26,7 @@ use Rattle.krs_keys.specs.Keys.{OnlyRingsLink}
 use Rattle.krs_walk.specs.Walks.{followed_rings}
 use Rattle.krs_walk.specs.Walks.{is_linked, is_found}
 use Rattle.krs_walk.proofs.ListsLemmas.{in_none, in_one, in_left, in_right, in_head, in_tail, is_same, or_left}
-use Rattle.krs_walk.proofs.ListsLemmas.{or_right, or_one, any_at, same_tests}
+use Rattle.krs_walk.proofs.ListsLemmas.{or_right, or_one, any_at, same_tests, in_at}
 use Rattle.krs_walk.proofs.LevelsLemmas.{Fewer, in_flat_map, levels_from, levels_next, levels_fewer}
 use Rattle.krs_walk.proofs.ReachLemmas.{in_filter, from_filter}
 use Rattle.krs_walk.proofs.CycleLemmas.{levels_up}
@@ -202,14 +202,33 @@ absent_linked keys clock c ring serial fit none =
     (levels (followed_rings (shown keys) clock c.caller) (attached_with c ring) search_depth)
     (λ j. absent_followed keys clock c.caller j serial (at keys j) refl fit none)
 
--- a followed keyring links a key where it links that key's name
+-- a name that links another serial, or none, finds none
+not_found : (serial : ℕ) (o : Option ℕ) → o ≢ Some serial → is_found serial o ≡ false
+not_found serial None other = refl
+not_found serial (Some k) other =
+    elim (k == serial) as (λ b. (k == serial) ≡ b → b ≡ false) [
+      | true ↦ λ t. absurd (other (ap (λ n. Some n) (is_same k serial t)))
+      | false ↦ λ t. refl
+    ] refl
+
+-- where a key is linked, if its name is at hand
+placed_linked : (names : ℕ → Option Name) (links : LinkList) (name : Name) (serial : ℕ) (place : Option ℕ)
+    → AreNamed names links → names serial ≡ Some name
+    → IfSome place (λ p. slice_get (serials links) p ≡ Some serial)
+    → IfNone place (serial_named links name ≢ Some serial) → is_some place ≡ is_in serial (serials links)
+placed_linked names links name serial None fit named there none =
+    sym (sym (found_linked names links name serial fit named) ∙ not_found serial (serial_named links name) none)
+placed_linked names links name serial (Some p) fit named there none = sym (in_at (serials links) p serial there)
+
+-- a followed keyring links a key where that is found at a place of it
 pub followed_links : (keys : Table Key) (clock : ℕ) (caller : Caller) (ring serial : ℕ) (key : Key) (name : Name)
-    → AreFit keys → at keys ring ≡ Some key → is_followed clock caller (seen key) ≡ true
-    → name_at keys serial ≡ Some name →
-    is_found serial (serial_named (named_links_of_content key.content) name)
-    ≡ is_in serial (followed_at (shown keys) clock caller ring)
-followed_links keys clock caller ring serial key name fit there is named =
-    found_linked (name_at keys) (named_links_of_content key.content) name serial (fit ring key there) named
+    (place : Option ℕ) → AreFit keys → at keys ring ≡ Some key → is_followed clock caller (seen key) ≡ true
+    → name_at keys serial ≡ Some name
+    → IfSome place (λ p. slice_get (serials (named_links_of_content key.content)) p ≡ Some serial)
+    → IfNone place (serial_named (named_links_of_content key.content) name ≢ Some serial)
+    → is_some place ≡ is_in serial (followed_at (shown keys) clock caller ring)
+followed_links keys clock caller ring serial key name place fit there is named found none =
+    placed_linked (name_at keys) (named_links_of_content key.content) name serial place (fit ring key there) named found none
     ∙ ap (is_in serial) (sym (followed_there keys clock caller ring key true there is))
 
 pub unfollowed : (keys : Table Key) (clock : ℕ) (caller : Caller) (serial : ℕ) (key : Key) → at keys serial ≡ Some key

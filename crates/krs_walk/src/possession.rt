@@ -18,8 +18,8 @@ use krs_keys::{Content, Key, KeyTable};
 use krs_links::HashedName;
 use krs_types::{Caller, Context, Rights, SEARCH_DEPTH, Serial};
 
-/// So many levels of keyrings are asked first, with no list of what was seen: a key is mostly linked by an attached
-/// keyring, or by one that it links, as the session keyring links the user keyring.
+/// So many levels of keyrings are asked first, by `is_linked_near`: a key is mostly linked by an attached keyring, or by
+/// one that it links, as the session keyring links the user keyring.
 const NEAR_LEVELS: u8 = 2;
 
 impl Walker {
@@ -41,7 +41,17 @@ impl Walker {
             return true;
         }
         match keys.get(serial) {
-            Some(key) => self.is_linked(keys, context, process_ring, clock, &key.name, serial),
+            Some(key) => {
+                let sought = Sought {
+                    keys,
+                    context,
+                    process_ring,
+                    clock,
+                    name: &key.name,
+                    serial,
+                };
+                sought.is_linked(self)
+            }
             None => false,
         }
     }
@@ -81,102 +91,222 @@ impl Walker {
         if is_attached(context, &process_ring, serial) {
             return true;
         }
-        self.is_linked(keys, context, process_ring, clock, name, serial)
-    }
-
-    /// Whether a followed keyring of the first `SEARCH_DEPTH` levels links a key.
-    fn is_linked(
-        &self,
-        keys: &KeyTable,
-        context: &Context,
-        process_ring: Option<Serial>,
-        clock: u64,
-        name: &HashedName,
-        serial: Serial,
-    ) -> bool
-        requires fit { AreFit keys.now.keys }
-        requires name { name_at keys.now.keys serial ≡ Some name.now }
-        ensures { result ≡ is_linked (shown keys.now.keys) clock context.now process_ring serial }
-    {
-        if is_linked_within_reach(
+        let sought = Sought {
             keys,
             context,
-            &process_ring,
+            process_ring,
             clock,
             name,
             serial,
-            NEAR_LEVELS,
-        ) {
-            return true;
-        }
-        match self.is_linked_below(keys, context, process_ring, clock, name, serial) {
-            Ok(linked) => linked,
-            Err(NoRoom) => {
-                is_linked_within_reach(
-                    keys,
-                    context,
-                    &process_ring,
-                    clock,
-                    name,
-                    serial,
-                    SEARCH_DEPTH,
-                )
-            }
-        }
-    }
-
-    /// Whether one does, where none of the near levels does.
-    fn is_linked_below(
-        &self,
-        keys: &KeyTable,
-        context: &Context,
-        process_ring: Option<Serial>,
-        clock: u64,
-        name: &HashedName,
-        serial: Serial,
-    ) -> Result<bool, NoRoom>
-        requires fit { AreFit keys.now.keys }
-        requires name { name_at keys.now.keys serial ≡ Some name.now }
-        requires near { list_any (is_linked_within (shown keys.now.keys) clock context.now.caller serial 2)
-            (attached_with context.now process_ring) ≡ false }
-        ensures { IfOk result (λ b. b ≡ is_linked (shown keys.now.keys) clock context.now process_ring serial) }
-    {
-        let mut seen = self.take(&self.followed);
-        let linked = is_linked_below(keys, context, process_ring, clock, name, serial, &mut seen);
-        self.followed.set(seen);
-        linked
+        };
+        sought.is_linked(self)
     }
 }
 
-/// Whether a followed keyring of the first `SEARCH_DEPTH` levels links a key, where none of the near levels does, which
-/// are not asked again. It has an empty list for the keyrings.
-fn is_linked_below(
-    keys: &KeyTable,
-    context: &Context,
+/// A key that is looked for: among which keys, by which context, its process's keyring, when, and its name and serial.
+#[derive(Clone, Copy)]
+struct Sought<'a> {
+    keys: &'a KeyTable,
+    context: &'a Context,
     process_ring: Option<Serial>,
     clock: u64,
-    name: &HashedName,
+    name: &'a HashedName,
     serial: Serial,
-    seen: &mut Visits,
-) -> Result<bool, NoRoom>
-    requires fit { AreFit keys.now.keys }
-    requires name { name_at keys.now.keys serial ≡ Some name.now }
-    requires near { list_any (is_linked_within (shown keys.now.keys) clock context.now.caller serial 2)
-        (attached_with context.now process_ring) ≡ false }
-    requires seen { seen.old ≡ [] }
-    ensures { IfOk result (λ b. b ≡ is_linked (shown keys.now.keys) clock context.now process_ring serial) }
-{
-    join_attached(seen, context, process_ring)?;
-    let below = next_level(keys, &context.caller, clock, seen, 0)?;
-    let mut start = next_level(keys, &context.caller, clock, seen, below)?;
-    for level in NEAR_LEVELS..SEARCH_DEPTH {
-        let _ = level;
-        if level_links(keys, &context.caller, clock, seen, start, name, serial) {
-            return Ok(true);
+}
+
+impl Sought<'_> {
+    /// Whether a followed keyring of the first `SEARCH_DEPTH` levels links it.
+    fn is_linked(&self, walker: &Walker) -> bool
+        requires fit { AreFit self.now.keys.now.keys }
+        requires name { name_at self.now.keys.now.keys self.now.serial ≡ Some self.now.name.now }
+        ensures { result ≡
+            is_linked (shown self.now.keys.now.keys) self.now.clock self.now.context.now self.now.process_ring self.now.serial }
+    {
+        if self.is_linked_near() {
+            return true;
         }
-        start = next_level(keys, &context.caller, clock, seen, start)?;
+        let mut seen = walker.take(&walker.followed);
+        let linked = self.is_linked_below(&mut seen);
+        walker.followed.set(seen);
+        match linked {
+            Ok(linked) => linked,
+            Err(NoRoom) => self.is_linked_within_reach(SEARCH_DEPTH),
+        }
     }
-    Ok(false)
+
+    /// Whether one does, where none of the near levels does, which are not asked again. It has an empty list for the
+    /// keyrings.
+    fn is_linked_below(&self, seen: &mut Visits) -> Result<bool, NoRoom>
+        requires fit { AreFit self.now.keys.now.keys }
+        requires name { name_at self.now.keys.now.keys self.now.serial ≡ Some self.now.name.now }
+        requires near { list_any
+            (is_linked_within (shown self.now.keys.now.keys) self.now.clock self.now.context.now.caller self.now.serial 2)
+            (attached_with self.now.context.now self.now.process_ring) ≡ false }
+        requires seen { seen.old ≡ [] }
+        ensures { IfOk result (λ b. b ≡
+            is_linked (shown self.now.keys.now.keys) self.now.clock self.now.context.now self.now.process_ring self.now.serial) }
+    {
+        let caller = &self.context.caller;
+        join_attached(seen, self.context, self.process_ring)?;
+        let below = next_level(self.keys, caller, self.clock, seen, 0)?;
+        let mut start = next_level(self.keys, caller, self.clock, seen, below)?;
+        for level in NEAR_LEVELS..SEARCH_DEPTH {
+            let _ = level;
+            if self.level_links(seen, start) {
+                return Ok(true);
+            }
+            start = next_level(self.keys, caller, self.clock, seen, start)?;
+        }
+        Ok(false)
+    }
+
+    /// Whether a followed keyring of the two nearest levels links it: an attached one, or one that it links. It keeps no
+    /// list of what was seen, and takes no memory.
+    fn is_linked_near(&self) -> bool
+        requires fit { AreFit self.now.keys.now.keys }
+        requires name { name_at self.now.keys.now.keys self.now.serial ≡ Some self.now.name.now }
+        ensures { result ≡ list_any
+            (is_linked_within (shown self.now.keys.now.keys) self.now.clock self.now.context.now.caller self.now.serial 2)
+            (attached_with self.now.context.now self.now.process_ring) }
+    {
+        self.one_links_near(self.context.thread)
+            || self.one_links_near(self.process_ring)
+            || self.one_links_near(self.context.session)
+    }
+
+    /// The same from one keyring, where there is one.
+    fn one_links_near(&self, ring: Option<Serial>) -> bool
+        requires fit { AreFit self.now.keys.now.keys }
+        requires name { name_at self.now.keys.now.keys self.now.serial ≡ Some self.now.name.now }
+        ensures { result ≡ list_any
+            (is_linked_within (shown self.now.keys.now.keys) self.now.clock self.now.context.now.caller self.now.serial 2)
+            (option_to_list ring) }
+    {
+        match ring {
+            Some(ring) => self.links_near(ring),
+            None => false,
+        }
+    }
+
+    /// Whether this keyring, or one that it links, links it, where they are followed.
+    fn links_near(&self, ring: Serial) -> bool
+        requires fit { AreFit self.now.keys.now.keys }
+        requires name { name_at self.now.keys.now.keys self.now.serial ≡ Some self.now.name.now }
+        ensures { result ≡
+            is_linked_within (shown self.now.keys.now.keys) self.now.clock self.now.context.now.caller self.now.serial 2 ring }
+    {
+        let (linked, rings) = self.look_into(ring);
+        if linked {
+            return true;
+        }
+        for nested in rings {
+            if self.links_key(*nested) {
+                return true;
+            }
+        }
+        false
+    }
+
+    /// Whether a followed keyring of so many levels links it, from each attached keyring down, with no list of what was
+    /// seen, so that it may come to a keyring more than once. It takes no memory.
+    fn is_linked_within_reach(&self, depth: u8) -> bool
+        requires fit { AreFit self.now.keys.now.keys }
+        requires name { name_at self.now.keys.now.keys self.now.serial ≡ Some self.now.name.now }
+        ensures { result ≡ list_any
+            (is_linked_within (shown self.now.keys.now.keys) self.now.clock self.now.context.now.caller self.now.serial depth)
+            (attached_with self.now.context.now self.now.process_ring) }
+    {
+        self.one_leads_to(self.context.thread, depth)
+            || self.one_leads_to(self.process_ring, depth)
+            || self.one_leads_to(self.context.session, depth)
+    }
+
+    /// The same from one keyring, where there is one.
+    fn one_leads_to(&self, ring: Option<Serial>, depth: u8) -> bool
+        requires fit { AreFit self.now.keys.now.keys }
+        requires name { name_at self.now.keys.now.keys self.now.serial ≡ Some self.now.name.now }
+        ensures { result ≡ list_any
+            (is_linked_within (shown self.now.keys.now.keys) self.now.clock self.now.context.now.caller self.now.serial depth)
+            (option_to_list ring) }
+    {
+        match ring {
+            Some(ring) => self.is_linked_within(ring, depth),
+            None => false,
+        }
+    }
+
+    /// Whether a followed keyring of so many levels links it, of which this keyring is the first.
+    fn is_linked_within(&self, ring: Serial, depth: u8) -> bool
+        requires fit { AreFit self.now.keys.now.keys }
+        requires name { name_at self.now.keys.now.keys self.now.serial ≡ Some self.now.name.now }
+        ensures { result ≡
+            is_linked_within (shown self.now.keys.now.keys) self.now.clock self.now.context.now.caller self.now.serial depth ring }
+    {
+        if depth == 0 {
+            return false;
+        }
+        let (linked, rings) = self.look_into(ring);
+        if linked {
+            return true;
+        }
+        for nested in rings {
+            if self.is_linked_within(*nested, depth - 1) {
+                return true;
+            }
+        }
+        false
+    }
+
+    /// Whether a keyring from this place on links it.
+    fn level_links(&self, seen: &Visits, start: usize) -> bool
+        requires fit { AreFit self.now.keys.now.keys }
+        requires name { name_at self.now.keys.now.keys self.now.serial ≡ Some self.now.name.now }
+        requires start { start ≤ length seen.now }
+        ensures { result ≡ list_any
+            (follows_link_to (shown self.now.keys.now.keys) self.now.clock self.now.context.now.caller self.now.serial)
+            (drop start seen.now) }
+    {
+        for place in start..seen.len() {
+            if self.links_key(seen.at(place)) {
+                return true;
+            }
+        }
+        false
+    }
+
+    /// Both at one look at a keyring: whether it links the key, and its possessor follows that; and the nested keyrings
+    /// that he follows.
+    fn look_into(&self, ring: Serial) -> (bool, &[Serial])
+        requires fit { AreFit self.now.keys.now.keys }
+        requires name { name_at self.now.keys.now.keys self.now.serial ≡ Some self.now.name.now }
+        ensures linked { result.0 ≡
+            follows_link_to (shown self.now.keys.now.keys) self.now.clock self.now.context.now.caller self.now.serial ring }
+        ensures rings { result.1.now ≡
+            followed_rings (shown self.now.keys.now.keys) self.now.clock self.now.context.now.caller ring }
+    {
+        match self.keys.get(ring) {
+            Some(holder) if is_followed(holder, &self.context.caller, self.clock) => {
+                let linked = holder.link_place(self.name, self.serial).is_some();
+                (linked, rings_in(&holder.content))
+            }
+            _ => (false, &[]),
+        }
+    }
+
+    /// Whether a keyring links it, and its possessor follows that.
+    fn links_key(&self, ring: Serial) -> bool
+        requires fit { AreFit self.now.keys.now.keys }
+        requires name { name_at self.now.keys.now.keys self.now.serial ≡ Some self.now.name.now }
+        ensures { result ≡
+            follows_link_to (shown self.now.keys.now.keys) self.now.clock self.now.context.now.caller self.now.serial ring }
+    {
+        match self.keys.get(ring) {
+            Some(holder) if is_followed(holder, &self.context.caller, self.clock) => {
+                holder.link_place(self.name, self.serial).is_some()
+            }
+            _ => false,
+        }
+    }
 }
 
 /// The attached keyrings join a list.
@@ -201,78 +331,6 @@ pub(crate) fn is_attached(context: &Context, process_ring: &Option<Serial>, seri
         || is_found(context.session, serial)
 }
 
-/// Whether a followed keyring of so many levels links a key, from each attached keyring down, with no list of what was
-/// seen, so that it may come to a keyring more than once. It takes no memory.
-fn is_linked_within_reach(
-    keys: &KeyTable,
-    context: &Context,
-    process_ring: &Option<Serial>,
-    clock: u64,
-    name: &HashedName,
-    serial: Serial,
-    depth: u8,
-) -> bool
-    requires fit { AreFit keys.now.keys }
-    requires name { name_at keys.now.keys serial ≡ Some name.now }
-    ensures { result ≡ list_any (is_linked_within (shown keys.now.keys) clock context.now.caller serial depth)
-        (attached_with context.now process_ring.now) }
-{
-    let caller = &context.caller;
-    one_leads_to(keys, caller, clock, context.thread, name, serial, depth)
-        || one_leads_to(keys, caller, clock, *process_ring, name, serial, depth)
-        || one_leads_to(keys, caller, clock, context.session, name, serial, depth)
-}
-
-/// The same from one keyring, where there is one.
-fn one_leads_to(
-    keys: &KeyTable,
-    caller: &Caller,
-    clock: u64,
-    ring: Option<Serial>,
-    name: &HashedName,
-    serial: Serial,
-    depth: u8,
-) -> bool
-    requires fit { AreFit keys.now.keys }
-    requires name { name_at keys.now.keys serial ≡ Some name.now }
-    ensures { result ≡
-        list_any (is_linked_within (shown keys.now.keys) clock caller.now serial depth) (option_to_list ring) }
-{
-    match ring {
-        Some(ring) => is_linked_within(keys, caller, clock, ring, depth, name, serial),
-        None => false,
-    }
-}
-
-/// Whether a followed keyring of so many levels links a key, of which this keyring is the first.
-fn is_linked_within(
-    keys: &KeyTable,
-    caller: &Caller,
-    clock: u64,
-    ring: Serial,
-    depth: u8,
-    name: &HashedName,
-    serial: Serial,
-) -> bool
-    requires fit { AreFit keys.now.keys }
-    requires name { name_at keys.now.keys serial ≡ Some name.now }
-    ensures { result ≡ is_linked_within (shown keys.now.keys) clock caller.now serial depth ring }
-{
-    if depth == 0 {
-        return false;
-    }
-    let (linked, rings) = look_into(keys, caller, clock, ring, name, serial);
-    if linked {
-        return true;
-    }
-    for nested in rings {
-        if is_linked_within(keys, caller, clock, *nested, depth - 1, name, serial) {
-            return true;
-        }
-    }
-    false
-}
-
 fn is_found(found: Option<Serial>, serial: Serial) -> bool
     ensures { result ≡ is_found serial found }
 {
@@ -280,29 +338,6 @@ fn is_found(found: Option<Serial>, serial: Serial) -> bool
         Some(found) => found == serial,
         None => false,
     }
-}
-
-/// Whether a keyring from this place on links a key.
-fn level_links(
-    keys: &KeyTable,
-    caller: &Caller,
-    clock: u64,
-    seen: &Visits,
-    start: usize,
-    name: &HashedName,
-    serial: Serial,
-) -> bool
-    requires fit { AreFit keys.now.keys }
-    requires name { name_at keys.now.keys serial ≡ Some name.now }
-    requires start { start ≤ length seen.now }
-    ensures { result ≡ list_any (follows_link_to (shown keys.now.keys) clock caller.now serial) (drop start seen.now) }
-{
-    for place in start..seen.len() {
-        if links_key(keys, caller, clock, seen.at(place), name, serial) {
-            return true;
-        }
-    }
-    false
 }
 
 /// Joins the nested keyrings of those from a place on, and gives the place where these begin.
@@ -346,51 +381,6 @@ fn followed_rings<'a>(
     match keys.get(serial) {
         Some(key) if is_followed(key, caller, clock) => rings_in(&key.content),
         _ => &[],
-    }
-}
-
-/// Both at one look at a keyring: whether it links a key, and its possessor follows that; and the nested keyrings that he
-/// follows.
-fn look_into<'a>(
-    keys: &'a KeyTable,
-    caller: &Caller,
-    clock: u64,
-    ring: Serial,
-    name: &HashedName,
-    serial: Serial,
-) -> (bool, &'a [Serial])
-    requires fit { AreFit keys.now.keys }
-    requires name { name_at keys.now.keys serial ≡ Some name.now }
-    ensures linked { result.0 ≡ follows_link_to (shown keys.now.keys) clock caller.now serial ring }
-    ensures rings { result.1.now ≡ followed_rings (shown keys.now.keys) clock caller.now ring }
-{
-    match keys.get(ring) {
-        Some(holder) if is_followed(holder, caller, clock) => {
-            let linked = is_found(find_in(&holder.content, name), serial);
-            (linked, rings_in(&holder.content))
-        }
-        _ => (false, &[]),
-    }
-}
-
-/// Whether a keyring links a key, and its possessor follows that.
-fn links_key(
-    keys: &KeyTable,
-    caller: &Caller,
-    clock: u64,
-    ring: Serial,
-    name: &HashedName,
-    serial: Serial,
-) -> bool
-    requires fit { AreFit keys.now.keys }
-    requires name { name_at keys.now.keys serial ≡ Some name.now }
-    ensures { result ≡ follows_link_to (shown keys.now.keys) clock caller.now serial ring }
-{
-    match keys.get(ring) {
-        Some(holder) if is_followed(holder, caller, clock) => {
-            is_found(find_in(&holder.content, name), serial)
-        }
-        _ => false,
     }
 }
 

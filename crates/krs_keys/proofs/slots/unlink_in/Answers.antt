@@ -21,7 +21,7 @@ returns-in-Some-clause-linked c =
 
 pub returns-in-Some-clause-keys : goal.returns-in-Some-clause-keys
 returns-in-Some-clause-keys c =
-    in_slots_alter c.args.slots.now.slots c.unlink.new.slots.slots c.args.places.now.entries c.in-Some.place.now
+    in_slots_alter c.args.slots.now.slots c.unlink.new.slots.slots c.args.places.now.entries c.in-Some.place
     (without_key c.args.serial) c.requires.places c.unlink.ensures.changed c.args.ring (sym c.in-Some.ensures.value)
 
 pub returns-in-None-clause-linked : goal.returns-in-None-clause-linked

@@ -1,5 +1,10 @@
-use Rattle.std.proofs.Common.{ap, sym, ◌∙◌}
+use Rattle.std.proofs.Common.{ap, refl, sym, subst, ◌∙◌, ℤ, SFits, w32, rules}
+use Rattle.std.proofs.lemmas.Int.{to_z-of_z}
+use Rattle.krs_types.specs.declared.ask.Op.{Op}
+use Rattle.krs_types.specs.declared.ask.Op.TheVariants.{Read}
+use Rattle.krs_tables.specs.Serving.{LeadsTold}
 use Rattle.krs_model.specs.State.{State}
+use Rattle.krs_store.specs.Telling.{Runs}
 use Rattle.krs_store.proofs.Noting.{unwatched_told, quiet_told}
 use Rattle.krs_store.proofs.serving.serve.Goals as goal
 
@@ -12,3 +17,14 @@ pub returns-then-not-may_tell-clause-told : goal.returns-then-not-may_tell-claus
 returns-then-not-may_tell-clause-told c =
     quiet_told c.args.tables.now c.run.new.tables c.args.client c.args.ask.context c.args.ask.op c.run.result
     (sym c.may_tell.ensures ∙ c.if-not-may_tell.true) c.run.ensures.step
+
+pub returns-in-Read-clause-told : goal.returns-in-Read-clause-told
+returns-in-Read-clause-told c =
+    let s = c.args.tables.now in
+    let context = c.args.ask.context in
+    let fits : SFits w32 c.in-Read.id = search rules in
+    let step : Runs s c.args.client context (Read c.in-Read.id) c.read.result s =
+    subst (λ (id : ℤ). Runs s c.args.client context (Read id) c.read.result s)
+    (to_z-of_z w32 c.in-Read.id fits) c.read.ensures in
+    subst (λ (op : Op). LeadsTold s c.args.client context op c.read.result s) (sym c.in-Read.is)
+    (quiet_told s s c.args.client context (Read c.in-Read.id) c.read.result refl step)

@@ -12,7 +12,7 @@ use Rattle.krs_keys.proofs.placed.PlacedKeys.change.Goals as goal
 pub returns-in-Some-clause-keys : goal.returns-in-Some-clause-keys
 returns-in-Some-clause-keys c =
     in_slots_alter c.args.self.now.slots.slots c.change.new.slots.slots c.args.self.now.places.entries
-    c.in-Some.place (changed c.args.change) c.requires.places c.change.ensures c.args.serial (sym c.in-Some.ensures)
+    c.in-Some.place (changed c.args.change) c.requires.places c.change.ensures c.args.serial (sym c.in-Some.ensures.value)
 
 pub returns-in-Some-clause-placed : goal.returns-in-Some-clause-placed
 returns-in-Some-clause-placed c = record {
@@ -27,4 +27,4 @@ pub returns-in-None-clause-keys : goal.returns-in-None-clause-keys
 returns-in-None-clause-keys c =
     let slots = c.args.self.now.slots.slots in
     sym (alter_none (by_place c.args.self.now) c.args.serial (changed c.args.change)
-    (at_in_slots slots c.args.self.now.places.entries c.args.serial ∙ ap (found slots) (sym c.in-None.ensures)))
+    (at_in_slots slots c.args.self.now.places.entries c.args.serial ∙ ap (found slots) (sym c.in-None.ensures.value)))

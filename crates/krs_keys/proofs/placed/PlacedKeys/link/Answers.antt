@@ -16,13 +16,13 @@ here : (c : goal.After-link)
     → at (by_place c.args.self.now) c.args.ring ≡ held c.args.self.now.slots.slots c.in-Some.place
 here c =
     let slots = c.args.self.now.slots.slots in
-    at_in_slots slots c.args.self.now.places.entries c.args.ring ∙ ap (found slots) (sym c.in-Some.ensures)
+    at_in_slots slots c.args.self.now.places.entries c.args.ring ∙ ap (found slots) (sym c.in-Some.ensures.value)
 
 pub returns-in-Some-clause-ok : goal.returns-in-Some-clause-ok
 returns-in-Some-clause-ok c =
     on_ok c.link.result (λ h. in_slots_alter c.args.self.now.slots.slots c.link.new.slots.slots
     c.args.self.now.places.entries c.in-Some.place (with_entry c.args.name c.args.serial) c.requires.places h
-    c.args.ring (sym c.in-Some.ensures)) c.link.ensures.ok
+    c.args.ring (sym c.in-Some.ensures.value)) c.link.ensures.ok
 
 pub returns-in-Some-clause-placed : goal.returns-in-Some-clause-placed
 returns-in-Some-clause-placed c =
@@ -36,7 +36,7 @@ returns-in-Some-clause-placed c =
       places = HavePlaces-alter slots new places c.in-Some.place f c.requires.places h;
       rings = subst (λ (t : Table Key). AreRings t rings)
           (sym (in_slots_alter slots new places c.in-Some.place f c.requires.places h c.args.ring
-          (sym c.in-Some.ensures)))
+          (sym c.in-Some.ensures.value)))
           (rings_alter (by_place c.args.self.now) rings c.args.ring f (λ v. refl) c.requires.rings);
     })
     (λ h. record {
@@ -72,7 +72,7 @@ returns-in-Some-clause-error c =
 nothing : (c : goal.After-drop-name-inside) → at (by_place c.args.self.now) c.args.ring ≡ None
 nothing c =
     let slots = c.args.self.now.slots.slots in
-    at_in_slots slots c.args.self.now.places.entries c.args.ring ∙ ap (found slots) (sym c.in-None.ensures)
+    at_in_slots slots c.args.self.now.places.entries c.args.ring ∙ ap (found slots) (sym c.in-None.ensures.value)
 
 pub returns-in-None-clause-displaced : goal.returns-in-None-clause-displaced
 returns-in-None-clause-displaced c = ap (displaced_by c.args.name) (sym (nothing c))

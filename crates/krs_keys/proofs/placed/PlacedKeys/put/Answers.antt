@@ -1,24 +1,28 @@
-use Rattle.std.proofs.Common.{◌≡◌, ℕ, Some, None, cond, nat_eq, sym, subst, arith}
+use Rattle.std.proofs.Common.{◌≡◌, ℕ, Some, None, cond, nat_eq, sym, subst}
 use Rattle.krs_model.specs.Table.{Table}
 use Rattle.krs_keys.specs.declared.key.Key.{Key}
 use Rattle.krs_keys.specs.Places.{by_place, place_of, AreRings}
 use Rattle.krs_keys.proofs.PlacesLemmas.{no_place, in_slots_put, HavePlaces-put}
 use Rattle.krs_keys.proofs.RingsLemmas.{rings_put}
-use Rattle.krs_keys.proofs.TableLemmas.{given_ok}
 use Rattle.krs_keys.proofs.placed.PlacedKeys.put.Goals as goal
 
 -- the serial has the place
 placed : (c : goal.After-insert) → (q : ℕ) → place_of c.insert.new.self.entries q
     ≡ cond (nat_eq c.args.serial q) (Some c.insert_reserved-place.result) (place_of c.args.self.now.places.entries q)
-placed c q =
-    (given_ok c.insert.result (c.insert.ensures.succeeds (omega (arith, c.requires.room.places)))
-    c.insert.ensures.updates).0 q
+placed c q = c.insert.ensures.placed q
 
 -- it had none
 absent : (c : goal.After-insert) → place_of c.args.self.now.places.entries c.args.serial ≡ None
 absent c =
     no_place c.args.self.now.slots.slots c.args.self.now.places.entries c.args.serial c.requires.placed.places
     c.requires.absent
+
+pub insert-requires : goal.insert-requires
+insert-requires c = record {
+  absent = no_place c.args.self.now.slots.slots c.args.self.now.places.entries c.args.serial c.requires.placed.places
+      c.requires.absent;
+  room = c.requires.room.places;
+}
 
 pub returns-clause-keys : goal.returns-clause-keys
 returns-clause-keys c =

@@ -17,7 +17,7 @@ pub returns-in_err-place-clause-key : goal.returns-in_err-place-clause-key
 returns-in_err-place-clause-key c = c.from_residual.ensures ∙ sym (nothing c)
 
 same_keys : (c : goal.After-from_residual)
-    → in_slots c.args.self.now.slots.slots c.swap_remove.new.self.entries ≡ by_place c.args.self.now
+    → in_slots c.args.self.now.slots.slots c.remove.new.self.entries ≡ by_place c.args.self.now
 same_keys c = ap (in_slots c.args.self.now.slots.slots) c.in_err-place.ensures.unchanged
 
 pub returns-in_err-place-clause-keys : goal.returns-in_err-place-clause-keys
@@ -46,18 +46,18 @@ returns-clause-key c =
 pub returns-clause-keys : goal.returns-clause-keys
 returns-clause-keys c =
     in_slots_without c.args.self.now.slots.slots c.remove-key.new.self.slots c.args.self.now.places.entries
-    c.swap_remove.new.self.entries c.args.serial c.in_ok-place.place c.requires.places
+    c.remove.new.self.entries c.args.serial c.in_ok-place.place c.requires.places
     (sym c.in_ok-place.ensures.value) c.remove-key.ensures.updates.changed c.remove-key.ensures.updates.others
-    c.swap_remove.ensures.updates.0
+    c.remove.ensures.gone
 
 pub returns-clause-placed : goal.returns-clause-placed
 returns-clause-placed c =
     let slots = c.args.self.now.slots.slots in
     let places = c.args.self.now.places.entries in
     record {
-      places = HavePlaces-without slots c.remove-key.new.self.slots places c.swap_remove.new.self.entries
+      places = HavePlaces-without slots c.remove-key.new.self.slots places c.remove.new.self.entries
           c.args.serial c.in_ok-place.place c.requires.places (sym c.in_ok-place.ensures.value)
-          c.remove-key.ensures.updates.changed c.remove-key.ensures.updates.others c.swap_remove.ensures.updates.0;
+          c.remove-key.ensures.updates.changed c.remove-key.ensures.updates.others c.remove.ensures.gone;
       rings = subst (λ (t : Table Key). AreRings t c.unlist.new.rings.keys) (sym (returns-clause-keys c))
           (rings_without (by_place c.args.self.now) c.args.self.now.rings.keys c.unlist.new.rings.keys c.args.serial
           (rises_in_slots slots places) c.unlist.ensures c.requires.rings);

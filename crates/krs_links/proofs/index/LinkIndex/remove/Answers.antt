@@ -24,3 +24,13 @@ returns-in-None-clause-removed c =
 pub returns-in-Some-clause-links : goal.returns-in-Some-clause-links
 returns-in-Some-clause-links c =
     ap linked_in c.in-Some.ensures.entries ∙ linked_in-removed c.args.self.now.entries.entries c.args.place
+
+pub returns-in-None-clause-indexed : goal.returns-in-None-clause-indexed
+returns-in-None-clause-indexed c =
+    let index = c.args.self.now in
+    rw c.in-None.ensures.entries
+    (AllStand-removed index.seed index.span index.entries.entries c.args.place c.requires.indexed)
+
+pub returns-in-None-clause-links : goal.returns-in-None-clause-links
+returns-in-None-clause-links c =
+    ap linked_in c.in-None.ensures.entries ∙ linked_in-removed c.args.self.now.entries.entries c.args.place

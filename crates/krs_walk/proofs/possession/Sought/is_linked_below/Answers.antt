@@ -7,11 +7,11 @@ use Rattle.krs_walk.specs.Lists.{join}
 use Rattle.krs_walk.specs.Walks.{followed_rings}
 use Rattle.krs_walk.proofs.DepthLemmas.{any_heads}
 use Rattle.krs_walk.proofs.RoundsLemmas.{IsSearch, search_behind, search_goes_on, search_finds, longer}
-use Rattle.krs_walk.proofs.possession.is_linked_below.Goals as goal
+use Rattle.krs_walk.proofs.possession.Sought.is_linked_below.Goals as goal
 
 pub next_level-requires-2-clause-start : goal.next_level-requires-2-clause-start
 next_level-requires-2-clause-start c =
-    let rings = followed_rings (shown c.args.keys.now.keys) c.args.clock c.args.context.now.caller in
+    let rings = followed_rings (shown c.args.self.now.keys.now.keys) c.args.self.now.clock c.args.self.now.context.now.caller in
     let all = c.join_attached.new.seen in
     subst (λ (n : ℕ). n ≤ length c.next_level.new.seen) (sym c.in_ok-below.ensures.place)
     (longer all (flat_map rings (drop 0 all)) c.next_level.new.seen c.in_ok-below.ensures.joined)
@@ -19,9 +19,9 @@ next_level-requires-2-clause-start c =
 pub loop-level-init : goal.loop-level-init
 loop-level-init c =
     let test : ℕ → Bool =
-    λ k. is_in c.args.serial (followed_at (shown c.args.keys.now.keys) c.args.clock c.args.context.now.caller k) in
-    let rings = followed_rings (shown c.args.keys.now.keys) c.args.clock c.args.context.now.caller in
-    let heads = attached_with c.args.context.now c.args.process_ring in
+    λ k. is_in c.args.self.now.serial (followed_at (shown c.args.self.now.keys.now.keys) c.args.self.now.clock c.args.self.now.context.now.caller k) in
+    let rings = followed_rings (shown c.args.self.now.keys.now.keys) c.args.self.now.clock c.args.self.now.context.now.caller in
+    let heads = attached_with c.args.self.now.context.now c.args.self.now.process_ring in
     let near : list_any test (levels rings heads 2) ≡ false = any_heads test rings heads 2 ∙ c.requires.near in
     subst (λ (n : ℕ). IsSearch test rings heads 2 n c.next_level-2.new.seen) (sym c.in_ok-start.ensures.place)
     (search_behind test rings heads c.join_attached.new.seen c.next_level.new.seen c.next_level-2.new.seen
@@ -32,9 +32,9 @@ loop-level-init c =
 pub loop-level-preserved : goal.loop-level-preserved
 loop-level-preserved c =
     let test : ℕ → Bool =
-    λ k. is_in c.args.serial (followed_at (shown c.args.keys.now.keys) c.args.clock c.args.context.now.caller k) in
-    let rings = followed_rings (shown c.args.keys.now.keys) c.args.clock c.args.context.now.caller in
-    let heads = attached_with c.args.context.now c.args.process_ring in
+    λ k. is_in c.args.self.now.serial (followed_at (shown c.args.self.now.keys.now.keys) c.args.self.now.clock c.args.self.now.context.now.caller k) in
+    let rings = followed_rings (shown c.args.self.now.keys.now.keys) c.args.self.now.clock c.args.self.now.context.now.caller in
+    let heads = attached_with c.args.self.now.context.now c.args.self.now.process_ring in
     subst (λ (n : ℕ). IsSearch test rings heads (c.loop-level.level + 1) n c.next_level-in-loop-level.new.seen)
     (sym c.in_ok-start-2.ensures.place)
     (search_goes_on test rings heads c.loop-level.level c.loop-level.start c.loop-level.seen
@@ -44,9 +44,9 @@ loop-level-preserved c =
 pub returns-then-level_links : goal.returns-then-level_links
 returns-then-level_links c =
     let test : ℕ → Bool =
-    λ k. is_in c.args.serial (followed_at (shown c.args.keys.now.keys) c.args.clock c.args.context.now.caller k) in
-    let rings = followed_rings (shown c.args.keys.now.keys) c.args.clock c.args.context.now.caller in
-    let heads = attached_with c.args.context.now c.args.process_ring in
+    λ k. is_in c.args.self.now.serial (followed_at (shown c.args.self.now.keys.now.keys) c.args.self.now.clock c.args.self.now.context.now.caller k) in
+    let rings = followed_rings (shown c.args.self.now.keys.now.keys) c.args.self.now.clock c.args.self.now.context.now.caller in
+    let heads = attached_with c.args.self.now.context.now c.args.self.now.process_ring in
     sym (search_finds test rings heads c.loop-level.level search_depth c.loop-level.start c.loop-level.seen
     c.loop-level.invariant (omega arith)
     (sym c.level_links.ensures ∙ c.if-level_links.true))
@@ -54,8 +54,8 @@ returns-then-level_links c =
 pub returns : goal.returns
 returns c =
     let test : ℕ → Bool =
-    λ k. is_in c.args.serial (followed_at (shown c.args.keys.now.keys) c.args.clock c.args.context.now.caller k) in
-    let rings = followed_rings (shown c.args.keys.now.keys) c.args.clock c.args.context.now.caller in
-    let heads = attached_with c.args.context.now c.args.process_ring in
+    λ k. is_in c.args.self.now.serial (followed_at (shown c.args.self.now.keys.now.keys) c.args.self.now.clock c.args.self.now.context.now.caller k) in
+    let rings = followed_rings (shown c.args.self.now.keys.now.keys) c.args.self.now.clock c.args.self.now.context.now.caller in
+    let heads = attached_with c.args.self.now.context.now c.args.self.now.process_ring in
     let last : c.loop-level.level ≡ search_depth = omega arith in
     sym (subst (λ (n : ℕ). list_any test (levels rings heads n) ≡ false) last c.loop-level.invariant.not_yet)

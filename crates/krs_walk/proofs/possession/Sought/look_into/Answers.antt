@@ -4,46 +4,44 @@ use Rattle.krs_model.specs.Table.{at}
 use Rattle.krs_model.specs.Levels.{is_in}
 use Rattle.krs_model.specs.Reach.{is_ring}
 use Rattle.krs_keys.specs.Keys.{shown}
-use Rattle.krs_walk.specs.Walks.{is_found}
 use Rattle.krs_walk.proofs.PossessionLemmas.{followed_links, followed_nested, followed_absent, unfollowed}
-use Rattle.krs_walk.proofs.possession.look_into.Goals as goal
-use Rattle.krs_walk.proofs.possession.look_into.Goals.{in_default-via-in-Some+else-is_followed}
-use Rattle.krs_walk.proofs.possession.look_into.Goals.{in_default-via-in_default}
+use Rattle.krs_walk.proofs.possession.Sought.look_into.Goals as goal
+use Rattle.krs_walk.proofs.possession.Sought.look_into.Goals.{in_default-via-in-Some+else-is_followed}
+use Rattle.krs_walk.proofs.possession.Sought.look_into.Goals.{in_default-via-in_default}
 
 pub returns-in-Some-clause-linked : goal.returns-in-Some-clause-linked
 returns-in-Some-clause-linked c =
-    c.is_found-linked.ensures ∙ (ap (is_found c.args.serial) c.find_in.ensures
-    ∙ followed_links c.args.keys.now.keys c.args.clock c.args.caller.now c.args.ring c.args.serial
-    c.in-Some.holder.now c.args.name.now c.requires.fit
+    c.is_some-linked.ensures ∙ followed_links c.args.self.now.keys.now.keys c.args.self.now.clock c.args.self.now.context.now.caller c.args.ring c.args.self.now.serial
+    c.in-Some.holder.now c.args.self.now.name.now c.link_place.result c.requires.fit
     (sym c.get.ensures ∙ ap option_copied c.in-Some.is) (sym c.is_followed.ensures ∙ c.if-is_followed.true)
-    c.requires.name)
+    c.requires.name c.link_place.ensures.there c.link_place.ensures.none
 
 pub returns-in-Some-clause-rings : goal.returns-in-Some-clause-rings
 returns-in-Some-clause-rings c =
-    c.rings_in.ensures ∙ followed_nested c.args.keys.now.keys c.args.clock c.args.caller.now c.args.ring
+    c.rings_in.ensures ∙ followed_nested c.args.self.now.keys.now.keys c.args.self.now.clock c.args.self.now.context.now.caller c.args.ring
     c.in-Some.holder.now c.requires.fit
     (sym c.get.ensures ∙ ap option_copied c.in-Some.is) (sym c.is_followed.ensures ∙ c.if-is_followed.true)
 
 pub returns-in_default-clause-linked : goal.returns-in_default-clause-linked
 returns-in_default-clause-linked c =
-    let keys = c.args.keys.now.keys in
+    let keys = c.args.self.now.keys.now.keys in
     elim c.in_default.branch [
-      | in_default-via-in-Some+else-is_followed w ↦ ap (is_in c.args.serial)
-          (sym (unfollowed keys c.args.clock c.args.caller.now c.args.ring w.in-Some.holder.now
+      | in_default-via-in-Some+else-is_followed w ↦ ap (is_in c.args.self.now.serial)
+          (sym (unfollowed keys c.args.self.now.clock c.args.self.now.context.now.caller c.args.ring w.in-Some.holder.now
           (sym c.get.ensures ∙ ap option_copied w.in-Some.is) (sym w.is_followed.ensures ∙ w.if-is_followed.false)))
-      | in_default-via-in_default w ↦ ap (is_in c.args.serial)
-          (sym (followed_absent keys c.args.clock c.args.caller.now c.args.ring
+      | in_default-via-in_default w ↦ ap (is_in c.args.self.now.serial)
+          (sym (followed_absent keys c.args.self.now.clock c.args.self.now.context.now.caller c.args.ring
           (sym c.get.ensures ∙ ap option_copied w.in_default.is)))
     ]
 
 pub returns-in_default-clause-rings : goal.returns-in_default-clause-rings
 returns-in_default-clause-rings c =
-    let keys = c.args.keys.now.keys in
+    let keys = c.args.self.now.keys.now.keys in
     elim c.in_default.branch [
       | in_default-via-in-Some+else-is_followed w ↦ ap (filter (λ k. is_ring (at (shown keys) k)))
-          (sym (unfollowed keys c.args.clock c.args.caller.now c.args.ring w.in-Some.holder.now
+          (sym (unfollowed keys c.args.self.now.clock c.args.self.now.context.now.caller c.args.ring w.in-Some.holder.now
           (sym c.get.ensures ∙ ap option_copied w.in-Some.is) (sym w.is_followed.ensures ∙ w.if-is_followed.false)))
       | in_default-via-in_default w ↦ ap (filter (λ k. is_ring (at (shown keys) k)))
-          (sym (followed_absent keys c.args.clock c.args.caller.now c.args.ring
+          (sym (followed_absent keys c.args.self.now.clock c.args.self.now.context.now.caller c.args.ring
           (sym c.get.ensures ∙ ap option_copied w.in_default.is)))
     ]
