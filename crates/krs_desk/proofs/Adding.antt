@@ -40,17 +40,18 @@ use Rattle.krs_desk.proofs.Serves.{posted_of}
 use Rattle.krs_desk.proofs.Seen.{last_step}
 use Rattle.krs_desk.proofs.Between.{unanswered}
 use Rattle.krs_desk.proofs.Looking.{not_both}
-use Rattle.krs_desk.proofs.Running.{Sits, IsSeatedIn, Within, within, known_of, turn_sits, seen_sits, begins_log}
+use Rattle.krs_desk.specs.Machine.{Sits, IsSeatedIn}
+use Rattle.krs_desk.proofs.Running.{Within, within, known_of, turn_sits, seen_sits, begins_log}
 use Rattle.krs_desk.proofs.Running.{step_grows}
 
 -- The history after a step is no longer than what the token brings.
 
 module _ (a : State) (s new : Board) (r : InOneOrder a s) (r' : InOneOrder a new) (h : IsStepped s new) where
-  now_views : views_of new.views ≡ set (views_of s.views) h.id h.w.view
+  pub now_views : views_of new.views ≡ set (views_of s.views) h.id h.w.view
   now_views = ap views_of h.views ∙ views_set s.views h.id h.w
 
   -- a token that is there was there before, or made the step
-  was_there : (j : ℕ) (v : View) → get_elem? (views_of new.views) j ≡ some v
+  pub was_there : (j : ℕ) (v : View) → get_elem? (views_of new.views) j ≡ some v
       → ((j ≡ h.id) × (h.w.view ≡ v)) ⊎ ((j ≢ h.id) × (get_elem? (views_of s.views) j ≡ some v))
   was_there j v at = law.at_set (views_of s.views) h.id j h.w.view v
       (subst (λ (l : List View). get_elem? l j ≡ some v) now_views at)
@@ -89,7 +90,7 @@ module _ (a : State) (s new : Board) (r : InOneOrder a s) (r' : InOneOrder a new
 
 -- How many calls of a lane the history has.
 
-sits_of : (lane : ℕ) (st : Standing) → StandsFor lane st → (p : Part) × Sits p st × (p.lane ≡ lane)
+pub sits_of : (lane : ℕ) (st : Standing) → StandsFor lane st → (p : Part) × Sits p st × (p.lane ≡ lane)
 sits_of lane Spent is = absurd is
 sits_of lane (One p) is = (p, refl, is)
 sits_of lane (Two p q) is =
@@ -116,7 +117,7 @@ count_same x slot (cells.Posted m ask) log p is fits not = fits.2
 count_same x slot (cells.Serving m ask) log p is fits not = fits.2
 count_same x slot (cells.Answered m ask reply) log p is fits not = absurd (not is.0)
 
-counts :
+pub counts :
     (x : ℕ) (slot slot' : Slot) (c c' : Cell) (log log' : List Event) (p q : Part) → q.lane ≡ p.lane → q.mine ≡ p.mine
     → CellIs x slot c → CellIs x slot' c' → Fits log p c → Fits log' q c'
     → length (events_of p.lane log) ≡ length (events_of p.lane log')
@@ -132,7 +133,7 @@ counts x slot slot' c c' log log' p q lane mine is is' fits fits' =
     (count_same x slot c log p is fits not ∙ (sym mine ∙ (sym (count_same x slot' c' log' q is' fits' not) ∙ same))))
 
 -- a list that another one begins is no shorter
-no_shorter : (xs ys : List Event) → Begins xs ys → length xs ≤ length ys
+pub no_shorter : (xs ys : List Event) → Begins xs ys → length xs ≤ length ys
 no_shorter xs ys b = let sum : length xs + length b.0 ≡ length ys = sym (length-append xs b.0) ∙ ap length b.1 in
     omega arith
 
@@ -149,13 +150,13 @@ set_or [] i n = inr refl
 set_or (x ∷ xs) zero n = inl refl
 set_or (x ∷ xs) (suc i) n = set_or xs i n
 
-empty_of : (x : ℕ) (slot : Slot) (c : Cell) → CellIs x slot c → x ≡ 0 → c ≡ cells.Empty
+pub empty_of : (x : ℕ) (slot : Slot) (c : Cell) → CellIs x slot c → x ≡ 0 → c ≡ cells.Empty
 empty_of x slot cells.Empty is e = refl
 empty_of x slot (cells.Posted m ask) is e = absurd (let one_is : x ≡ 1 = is.0 in omega arith)
 empty_of x slot (cells.Serving m ask) is e = absurd (let two_is : x ≡ 2 = is in omega arith)
 empty_of x slot (cells.Answered m ask reply) is e = absurd (let three_is : x ≡ 3 = is.0 in omega arith)
 
-serving_of :
+pub serving_of :
     (x : ℕ) (slot : Slot) (c : Cell) → CellIs x slot c → x ≡ 2
     → (m : ℕ) × (ask : Ask) × (c ≡ cells.Serving m ask)
 serving_of x slot cells.Empty is e = absurd (let zero_is : x ≡ 0 = is in omega arith)
@@ -163,13 +164,13 @@ serving_of x slot (cells.Posted m ask) is e = absurd (let one_is : x ≡ 1 = is.
 serving_of x slot (cells.Serving m ask) is e = (m, ask, refl)
 serving_of x slot (cells.Answered m ask reply) is e = absurd (let three_is : x ≡ 3 = is.0 in omega arith)
 
-unposted : (x : ℕ) (slot : Slot) (c : Cell) → x ≢ 1 → CellIs x slot c → IsUnposted c
+pub unposted : (x : ℕ) (slot : Slot) (c : Cell) → x ≢ 1 → CellIs x slot c → IsUnposted c
 unposted x slot cells.Empty not is = tt
 unposted x slot (cells.Posted m ask) not is = absurd (not is.0)
 unposted x slot (cells.Serving m ask) not is = tt
 unposted x slot (cells.Answered m ask reply) not is = tt
 
-last_same : (xs : List Event) (e f : Event) → xs ++ e ∷ [] ≡ xs ++ f ∷ [] → e ≡ f
+pub last_same : (xs : List Event) (e f : Event) → xs ++ e ∷ [] ≡ xs ++ f ∷ [] → e ≡ f
 last_same [] e f is = cc
 last_same (x ∷ xs) e f is = let tail : xs ++ e ∷ [] ≡ xs ++ f ∷ [] = cc in last_same xs e f tail
 
@@ -200,10 +201,10 @@ module _ (a : State) (s new : Board) (r : InOneOrder a s) (r' : InOneOrder a new
   abbrev cell_word : Board → ℕ → ℕ
   cell_word t l = get_or t.words (l + 1) 0
 
-  before : IsSeatedIn (views_of s.views) p
+  pub before : IsSeatedIn (views_of s.views) p
   before = (h.id, h.v.view, view_at s.views h.id h.v h.at, subst (Sits p) (sym was) refl)
 
-  afterwards : IsSeatedIn (views_of new.views) q
+  pub afterwards : IsSeatedIn (views_of new.views) q
   afterwards = (
     h.id,
     h.w.view,
@@ -212,12 +213,12 @@ module _ (a : State) (s new : Board) (r : InOneOrder a s) (r' : InOneOrder a new
     subst (Sits q) (sym is) refl,
   )
 
-  known : (t : Part) → (had : IsSeatedIn (views_of s.views) t)
+  pub known : (t : Part) → (had : IsSeatedIn (views_of s.views) t)
       → Known (law.shares a (turn s) r.home r.cell (views_of s.views) r.history) had.0 t
   known t had = known_of (law.shares a (turn s) r.home r.cell (views_of s.views) r.history) had.0 had.1.stands t had.3
       (r.history.each had.0 had.1 had.2)
 
-  known_after : (t : Part) → (had : IsSeatedIn (views_of new.views) t)
+  pub known_after : (t : Part) → (had : IsSeatedIn (views_of new.views) t)
       → Known (law.shares a (turn new) r'.home r'.cell (views_of new.views) r'.history) had.0 t
   known_after t had = known_of (law.shares a (turn new) r'.home r'.cell (views_of new.views) r'.history) had.0
       had.1.stands t had.3 (r'.history.each had.0 had.1 had.2)
@@ -329,10 +330,10 @@ module _ (a : State) (s new : Board) (r : InOneOrder a s) (r' : InOneOrder a new
   abbrev log' : List Event
   log' = r'.history.log
 
-  had : Within a s r p
+  pub had : Within a s r p
   had = within a s r p before
 
-  has : Within a new r' q
+  pub has : Within a new r' q
   has = within a new r' q afterwards
 
   its_seen : (l : List Event) → HasSeen l h.w.view.stands → q.seen ≡ l
@@ -345,7 +346,7 @@ module _ (a : State) (s new : Board) (r : InOneOrder a s) (r' : InOneOrder a new
   grows = step_grows a s new r r' (inl h)
 
   -- a step by which the token sees nothing more, and holds what it held
-  keeps_log : q.seen ≡ p.seen → q.holding ≡ p.holding → log' ≡ log ++ []
+  pub keeps_log : q.seen ≡ p.seen → q.holding ≡ p.holding → log' ≡ log ++ []
   keeps_log seen held =
       let back : Begins log' log =
       no_longer a s new r r' h log (law.prefix_self log)
@@ -367,13 +368,13 @@ module _ (a : State) (s new : Board) (r : InOneOrder a s) (r' : InOneOrder a new
   word_now i at =
       ap (λ (ws : List ℕ). get_or ws i 0) h.words ∙ ap (λ (k : ℕ). get_or (set s.words k h.becomes) i 0) at
 
-  word_found : (i n : ℕ) → h.made.word ≡ i → h.found ≡ Some n → get_or s.words i 0 ≡ n
+  pub word_found : (i n : ℕ) → h.made.word ≡ i → h.found ≡ Some n → get_or s.words i 0 ≡ n
   word_found i n at found = sym (h.truly n found ∙ ap (λ (k : ℕ). get_or s.words k 0) at)
 
-  left_by : (n : ℕ) → h.found ≡ Some n → n ≡ h.made.first → h.becomes ≡ h.made.second
+  pub left_by : (n : ℕ) → h.found ≡ Some n → n ≡ h.made.first → h.becomes ≡ h.made.second
   left_by n found first = (subst (λ (f : Option ℕ). IsLeft h.made f h.becomes) found h.left).0 first
 
-  left_at_store : h.found ≡ None → h.becomes ≡ h.made.first
+  pub left_at_store : h.found ≡ None → h.becomes ≡ h.made.first
   left_at_store found = subst (λ (f : Option ℕ). IsLeft h.made f h.becomes) found h.left
 
   out_at : (l : List Event) → p.holding ≡ Some l → IsOutAt a s r h.id
@@ -398,7 +399,7 @@ module _ (a : State) (s new : Board) (r : InOneOrder a s) (r' : InOneOrder a new
             (subst (λ (v : View). history.HasTurn r.history.log v.stands) same t.2),
       )
 
-  turn_becomes : (n : ℕ) → h.made.word ≡ 0 → h.becomes ≡ n → turn new ≡ n
+  pub turn_becomes : (n : ℕ) → h.made.word ≡ 0 → h.becomes ≡ n → turn new ≡ n
   turn_becomes n at is_n = word_now 0 at ∙ (get_or-set_same s.words 0 h.becomes 0 r.any ∙ is_n)
 
   returns : h.made.word ≡ 0 → h.made.first ≡ 1 → h.made.second ≡ 0 → h.found ≡ Some 1 → turn new ≡ 0

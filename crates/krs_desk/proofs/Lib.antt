@@ -16,3 +16,8 @@ pub mod Between
 pub mod Looking
 pub mod Running
 pub mod Adding
+pub mod Agreeing
+pub mod Going
+pub mod Making
+pub mod Leading
+pub mod Happening

@@ -30,7 +30,8 @@ use Rattle.krs_desk.specs.Rule.{InOneOrder}
 use Rattle.krs_desk.specs.Moves as move
 use Rattle.krs_desk.specs.Moves.{Move, after, IsMadeAt, IsMoved}
 use Rattle.krs_desk.specs.Between.{StaysSeen}
-use Rattle.krs_desk.specs.Running.{Board, IsStepped, IsCut, IsJoined, Happens, Leads}
+use Rattle.krs_desk.specs.Machine.{Sits, IsSeatedIn}
+use Rattle.krs_desk.specs.Running.{Board, IsStepped, IsCut, IsJoined, Happens}
 use Rattle.krs_desk.specs.Running.{KeepsSeenLists, OnlyGrows, SeesOneOrder, KeepsRealTime, StaysRefused}
 use Rattle.krs_desk.proofs.Steps.{turn, view_at, views_set}
 use Rattle.krs_desk.proofs.Joining.{views_cut, views_twice}
@@ -39,15 +40,8 @@ use Rattle.krs_desk.proofs.Between.{seen_by, idle_word, real_time, collected, re
 
 -- What becomes of a lane.
 
--- the token stands for this lane
-abbrev pub Sits : Part → Standing → Type 0
-Sits p Spent = ⊥
-Sits p (One q) = q ≡ p
-Sits p (Two q r) = (q ≡ p) ⊎ (r ≡ p)
-Sits p (Opening n) = ⊥
-
 -- what is known of it stays, or changes by one of the steps
-abbrev Goes : Part → Part → Type 0
+abbrev pub Goes : Part → Part → Type 0
 Goes p p' =
     (p' ≡ p)
     ⊎ ((made : Step Place) × (found : Option ℕ) × (m : Move) × IsMadeAt made found p m × (p' ≡ after p m))
@@ -94,16 +88,12 @@ moved_lane made found (Two q r) st' p moved sits =
     )) sits
 moved_lane made found (Opening n) st' p moved sits = absurd sits
 
--- a lane has a seat, and this is known of it
-abbrev pub IsSeatedIn : List View → Part → Type 0
-IsSeatedIn views p = (j : ℕ) × (v : View) × (get_elem? views j ≡ some v) × Sits p v.stands
-
 -- the lane has a seat still, maybe another, and what is known of it stays or changes by one of the steps
-abbrev GoesOn : List View → Part → Type 0
+abbrev pub GoesOn : List View → Part → Type 0
 GoesOn views p = (p' : Part) × IsSeatedIn views p' × Goes p p'
 
 -- the view at a place where one is known
-same_view :
+pub same_view :
     (views : List View) (j id : ℕ) (v w : View) → j ≡ id → get_elem? views j ≡ some v → get_elem? views id ≡ some w
     → v ≡ w
 same_view views j id v w same at there =
@@ -147,8 +137,9 @@ cut_lane (One q) p sits = inr sits
 cut_lane (Two q r) p sits = sits
 cut_lane (Opening n) p sits = absurd sits
 
-by_cut :
-    (s new : Board) (p : Part) → IsCut s new → IsSeatedIn (views_of s.views) p → GoesOn (views_of new.views) p
+-- what is known of it stays where tokens are cut and joined
+pub by_cut :
+    (s new : Board) (p : Part) → IsCut s new → IsSeatedIn (views_of s.views) p → IsSeatedIn (views_of new.views) p
 by_cut s new p h had =
     let views : List View = views_of s.views in
     let x : View = (kept_sight h.v).view in
@@ -161,38 +152,26 @@ by_cut s new p h had =
     (λ same.
     ⊎_elim
     (λ (k : Sits p x.stands). (
-      p,
-      (
-        h.id,
-        x,
-        subst (λ (l : List View). get_elem? l h.id ≡ some x) (sym is)
-            (law.snoc_at left h.id y x (law.set_at views h.id x h.v.view here)),
-        k,
-      ),
-      inl refl,
+      h.id,
+      x,
+      subst (λ (l : List View). get_elem? l h.id ≡ some x) (sym is)
+          (law.snoc_at left h.id y x (law.set_at views h.id x h.v.view here)),
+      k,
     ))
     (λ (g : Sits p y.stands). (
-      p,
-      (
-        length left,
-        y,
-        subst (λ (l : List View). get_elem? l (length left) ≡ some y) (sym is) (law.snoc_end left y),
-        g,
-      ),
-      inl refl,
+      length left,
+      y,
+      subst (λ (l : List View). get_elem? l (length left) ≡ some y) (sym is) (law.snoc_end left y),
+      g,
     ))
     (cut_lane h.v.view.stands p
     (subst (λ (z : View). Sits p z.stands) (same_view views had.0 h.id had.1 h.v.view same had.2 here) had.3)))
     (λ not. (
-      p,
-      (
-        had.0,
-        had.1,
-        subst (λ (l : List View). get_elem? l had.0 ≡ some had.1) (sym is)
-            (law.snoc_at left had.0 y had.1 (law.set_else views h.id had.0 x not ∙ had.2)),
-        had.3,
-      ),
-      inl refl,
+      had.0,
+      had.1,
+      subst (λ (l : List View). get_elem? l had.0 ≡ some had.1) (sym is)
+          (law.snoc_at left had.0 y had.1 (law.set_else views h.id had.0 x not ∙ had.2)),
+      had.3,
     ))
 
 -- both lanes are the joined token's
@@ -215,8 +194,8 @@ other_joined s new h p sits =
     (λ (t : (h.v.view.stands ≡ Spent) × (h.both ≡ settled_sight h.v h.w)).
     subst (λ (b : Sight). Sits p b.view.stands) (sym t.1) is) h.how
 
-by_join :
-    (s new : Board) (p : Part) → IsJoined s new → IsSeatedIn (views_of s.views) p → GoesOn (views_of new.views) p
+pub by_join :
+    (s new : Board) (p : Part) → IsJoined s new → IsSeatedIn (views_of s.views) p → IsSeatedIn (views_of new.views) p
 by_join s new p h had =
     let views : List View = views_of s.views in
     let x : View = h.both.view in
@@ -231,39 +210,27 @@ by_join s new p h had =
     (law.set_else first h.other h.id y (λ e. h.apart (sym e)) ∙ law.set_at views h.id x h.v.view here) in
     dite (ℕ_discrete had.0 h.id)
     (λ same. (
-      p,
-      (
-        h.id,
-        x,
-        joined,
-        first_joined s new h p
-            (subst (λ (z : View). Sits p z.stands) (same_view views had.0 h.id had.1 h.v.view same had.2 here) had.3),
-      ),
-      inl refl,
+      h.id,
+      x,
+      joined,
+      first_joined s new h p
+          (subst (λ (z : View). Sits p z.stands) (same_view views had.0 h.id had.1 h.v.view same had.2 here) had.3),
     ))
     (λ not. dite (ℕ_discrete had.0 h.other)
     (λ same. (
-      p,
-      (
-        h.id,
-        x,
-        joined,
-        other_joined s new h p
-            (subst (λ (z : View). Sits p z.stands) (same_view views had.0 h.other had.1 h.w.view same had.2 there)
-            had.3),
-      ),
-      inl refl,
+      h.id,
+      x,
+      joined,
+      other_joined s new h p
+          (subst (λ (z : View). Sits p z.stands) (same_view views had.0 h.other had.1 h.w.view same had.2 there)
+          had.3),
     ))
     (λ apart. (
-      p,
-      (
-        had.0,
-        had.1,
-        subst (λ (l : List View). get_elem? l had.0 ≡ some had.1) (sym is)
-            (law.set_else first h.other had.0 y apart ∙ (law.set_else views h.id had.0 x not ∙ had.2)),
-        had.3,
-      ),
-      inl refl,
+      had.0,
+      had.1,
+      subst (λ (l : List View). get_elem? l had.0 ≡ some had.1) (sym is)
+          (law.set_else first h.other had.0 y apart ∙ (law.set_else views h.id had.0 x not ∙ had.2)),
+      had.3,
     )))
 
 -- whatever happens, a lane that has a seat has one still
@@ -271,8 +238,8 @@ pub lane_goes_on :
     (s new : Board) (p : Part) → Happens s new → IsSeatedIn (views_of s.views) p → GoesOn (views_of new.views) p
 lane_goes_on s new p happens had =
     ⊎_elim (λ (h : IsStepped s new). by_step s new p h had)
-    (λ (t : IsCut s new ⊎ IsJoined s new). ⊎_elim (λ (h : IsCut s new). by_cut s new p h had)
-    (λ (h : IsJoined s new). by_join s new p h had) t) happens
+    (λ (t : IsCut s new ⊎ IsJoined s new). ⊎_elim (λ (h : IsCut s new). (p, by_cut s new p h had, inl refl))
+    (λ (h : IsJoined s new). (p, by_join s new p h had, inl refl)) t) happens
 
 -- What is known of a lane where the rule holds.
 
@@ -353,7 +320,7 @@ seen_sits seen (Two p q) has =
     ⊎_elim (λ (e : p.seen ≡ seen). (p, inl refl, e)) (λ (e : q.seen ≡ seen). (q, inr refl, e)) has
 seen_sits seen (Opening n) has = absurd has
 
-sits_seen : (p : Part) (st : Standing) → Sits p st → HasSeen p.seen st
+pub sits_seen : (p : Part) (st : Standing) → Sits p st → HasSeen p.seen st
 sits_seen p Spent sits = absurd sits
 sits_seen p (One q) sits = ap (λ (x : Part). x.seen) sits
 sits_seen p (Two q r) sits =
@@ -393,7 +360,7 @@ keeps_seen_lists a s end (new ∷ more) front r leads was =
 -- The history.
 
 -- where what is seen is seen still, and what is held begins the history, the history has only grown
-log_grows :
+pub log_grows :
     (a : State) (s new : Board) (r : InOneOrder a s) (r' : InOneOrder a new)
     → ((front : List Event) → IsSeenBy front (views_of s.views) → IsSeenBy front (views_of new.views))
     → ((p : Part) (l : List Event) → IsSeatedIn (views_of s.views) p → p.holding ≡ Some l → Begins l r'.history.log)

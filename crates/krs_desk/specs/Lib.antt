@@ -9,3 +9,5 @@ pub mod Seen
 pub mod Confidentiality
 pub mod Between
 pub mod Running
+pub mod Machine
+pub mod Happening

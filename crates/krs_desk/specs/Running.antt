@@ -1,6 +1,7 @@
 -- Running threads: what may happen to a table between two moments, and what stays so however much happens. The desk's
 -- calls are linearizable: Herlihy and Wing, "Linearizability" (1990). The form is this project's own.
-use Rattle.std.specs.Prelude.{◌≡◌, ◌≢◌, ◌⊎◌, ℕ, List, [], ◌∷◌, ◌++◌, Option, Some, None, slice_index, slice_set}
+use Rattle.std.specs.Prelude.{◌≡◌, ◌≢◌, ◌⊎◌, ℕ, ◌<◌, List, [], ◌∷◌, ◌++◌, Option, Some, None, length, slice_index}
+use Rattle.std.specs.Prelude.{slice_set}
 use mathlib.Core.Option.{some}
 use lib.ListN.{get_elem?}
 use Rattle.atomic_table.specs.Table as table
@@ -13,7 +14,6 @@ use Rattle.krs_model.specs.History.{IsLegal}
 use Rattle.krs_model.specs.Revocation.{Reads}
 use Rattle.krs_world.specs.declared.view.Cell.TheVariants.{Empty, Posted, Serving, Answered}
 use Rattle.krs_world.specs.declared.view.Part.{Part}
-use Rattle.krs_world.specs.declared.view.Standing.{Standing}
 use Rattle.krs_world.specs.declared.view.Standing.TheVariants.{Spent, One}
 use Rattle.krs_world.specs.Knowing.{events_of}
 use Rattle.krs_world.specs.World.{IsUnanswered, IsUnposted}
@@ -37,10 +37,11 @@ abbrev pub IsLeft : table.Step Place → Option ℕ → ℕ → Type 0
 IsLeft made None n = n ≡ made.first
 IsLeft made (Some found) n = (found ≡ made.first → n ≡ made.second) × (found ≢ made.first → n ≡ found)
 
--- A token makes one of the steps of `Moves`, on one word. What the others know stays as it is.
+-- A token makes one of the steps of `Moves`, on a word of the table. What the others know stays as it is.
 pub record IsStepped (s new : Board) : Type 0 where
   pub id : ℕ
   pub made : table.Step Place
+  pub there : made.word < length s.words
   pub found : Option ℕ
   pub becomes : ℕ
   pub v : Sight
@@ -52,15 +53,17 @@ pub record IsStepped (s new : Board) : Type 0 where
   pub moved : IsMoved made found v.view.stands w.view.stands
   pub views : new.views ≡ slice_set s.views id w
 
--- A token is cut in two: the new one comes last.
+-- A token is cut in two: the new one comes last. The words stay as they are, as atomic_table has it of a split
+-- (`Splits` in its specs/Table.antt).
 pub record IsCut (s new : Board) : Type 0 where
   pub id : ℕ
   pub v : Sight
   pub at : get_elem? s.views id ≡ some v
+  pub words : new.words ≡ s.words
   pub views : new.views ≡ slice_set s.views id (kept_sight v) ++ given_sight v ∷ []
 
 -- Two tokens of one lane each become one of both, or one that stands for no lane takes over another's, which is then
--- spent (`src/board.rt` joins no others).
+-- spent (`src/board.rt` joins no others). The words stay as they are, as atomic_table has it of a join (`Joins`).
 pub record IsJoined (s new : Board) : Type 0 where
   pub id : ℕ
   pub other : ℕ
@@ -75,6 +78,7 @@ pub record IsJoined (s new : Board) : Type 0 where
   pub how :
       ((p : Part) × (v.view.stands ≡ One p) × (both ≡ both_sights v w))
       ⊎ ((v.view.stands ≡ Spent) × (both ≡ settled_sight v w))
+  pub words : new.words ≡ s.words
   pub views : new.views ≡ slice_set (slice_set s.views id both) other (spent (starting_at 3))
 
 -- what a step of this kind adds to the history

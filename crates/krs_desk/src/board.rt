@@ -152,6 +152,7 @@ impl Board {
     }
 
     /// Asks the store in the slot that the token took last, which leaves so many bytes for others.
+    #[inline(always)]
     pub(crate) fn serve(
         &self,
         seat: &mut Token,

@@ -48,6 +48,7 @@ impl BoxedStore {
     }
 
     /// One ask, of the store where it lies.
+    #[inline(always)]
     pub fn apply(&mut self, lane: u32, moment: u64, ask: Ask) -> Reply
         ensures step { Step self.old (event_of lane moment ask result) self.new }
     {

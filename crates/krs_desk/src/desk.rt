@@ -14,7 +14,7 @@ ghost use Rattle.krs_desk.specs.Seated.{IsResting, Holds, Has, Serves, HoldsBefo
 use crate::bells::Bells;
 use crate::board::Board;
 use crate::note::{Added, Note};
-use crate::plays::{Puts, Takes, Token};
+use crate::plays::{Takes, Token};
 use crate::seat::Seat;
 use crate::word::{FREE, OUT, TURN};
 use krs_types::{Ask, Reply};
@@ -71,6 +71,7 @@ impl Desk {
     }
 
     // Asks the store that the token has, which stays in its slot.
+    #[inline(always)]
     pub(crate) fn serve(&self, token: &mut Token, lane: u32, moment: u64, ask: Ask) -> Reply
         requires table { token.old.table_id ≡ self.now }
         requires has { (store : State) × Has token.old.me store }
@@ -112,9 +113,8 @@ impl Desk {
         ensures mine { (log : List Event) → (part token.old.me).holding ≡ Some log
             → events_of (part token.old.me).lane log ≡ (part token.old.me).mine }
     {
-        self.table
-            .compare_exchange::<Puts<E>>(token, TURN, OUT, FREE);
-        self.wake();
+        let freed = self.put_back::<E>(token, note);
+        self.wake(freed);
     }
 
     // Asks the store for the token's own lane, as the last of its turn, and gives the turn back.

@@ -10,9 +10,9 @@ ghost use Rattle.krs_desk.specs.Helping.{held_of, lanes_of, turned_back};
 
 use crate::desk::Desk;
 use crate::place::Place;
-use crate::plays::{Answers, Brings, Glances, Grabs, Token};
+use crate::plays::{Answers, Glances, Grabs, Token};
 use crate::seat::Seat;
-use crate::word::{ANSWERED, FREE, OUT, POSTED, SERVING, TURN, cell_of};
+use crate::word::{ANSWERED, FREE, POSTED, SERVING, TURN, cell_of};
 use krs_store::Store;
 use krs_types::{Ask, Reply};
 
@@ -143,9 +143,8 @@ impl Desk {
             → events_of (part token.old.me).lane (held_of (part token.old.me).holding)
             ≡ (part token.old.me).mine }
     {
-        self.table
-            .compare_exchange::<Brings>(token, TURN, OUT, FREE);
-        self.wake();
+        let freed = self.bring_back(token);
+        self.wake(freed);
     }
 
     /// Takes the turn, where it is free, and answers each call that is posted, lane by lane. If a call of this seat is

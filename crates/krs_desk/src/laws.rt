@@ -12,6 +12,8 @@ ghost use Rattle.krs_desk.specs.Moves.{LooksInTurn, CountsLooks, CountsMisses, C
 ghost use Rattle.krs_desk.specs.Between.{KeepsRealTimeBetween, KeepsCollectedBetween, KeepsPostedBetween, RefusesRevoked};
 ghost use Rattle.krs_desk.specs.Running.{StepsAsNamed, KeepsSeenLists, OnlyGrows, SeesOneOrder};
 ghost use Rattle.krs_desk.specs.Running.{KeepsRealTime, StaysRefused};
+ghost use Rattle.krs_desk.specs.Machine.{IsSomeWorld, IsOneWorld, StepsAs, RunsAs, BeginsAs, FollowsSteps};
+ghost use Rattle.krs_desk.specs.Happening.{StepsHappen};
 
 use crate::seat::Seat;
 
@@ -23,10 +25,18 @@ impl Seat {
         let _token = &self.token;
     }
 
-    /// Each step of a seat does to the one history what the machine's step of that name does: a call that is put or
-    /// answered stands at its end, and the others leave it as it is.
+    /// The desk's table is a machine of krs_world, from the machine as it begins on, and each step of a seat is that
+    /// machine's of its name, whatever happens to the table meanwhile. So the machine's laws hold of running threads. A
+    /// call that is put or answered stands at the end of the one history, and the other steps leave it as it is.
     pub fn steps_are_the_machines(&self)
-        ensures { StepsAsNamed self.now.opening }
+        ensures named { StepsAsNamed self.now.opening }
+        ensures world { IsSomeWorld self.now.opening }
+        ensures one { IsOneWorld self.now.opening }
+        ensures steps { StepsAs self.now.opening }
+        ensures runs { RunsAs self.now.opening }
+        ensures begins { BeginsAs self.now.opening }
+        ensures follows { FollowsSteps self.now.opening }
+        ensures happens { StepsHappen self.now.opening }
     {
         let _token = &self.token;
     }

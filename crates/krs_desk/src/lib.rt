@@ -10,6 +10,7 @@ mod calling;
 mod closing;
 mod confidentiality;
 mod desk;
+mod giving;
 mod helping;
 mod laws;
 mod meeting;

@@ -95,17 +95,9 @@ impl Desk {
         let _was_asleep = self.bells.get_up(lane);
     }
 
-    // Wakes whom it may concern that the turn was given back.
-    #[inline]
-    pub(crate) fn wake(&self) {
-        if self.bells.is_any_asleep() {
-            self.wake_some();
-        }
-    }
-
     // Wakes each thread whose call was answered, and one whose call is still posted, if there is one.
     #[inline(never)]
-    fn wake_some(&self) {
+    pub(crate) fn wake_some(&self) {
         let lanes = (self.table.word_count() - 1) as u32;
         let mut is_one_called = false;
         for lane in 0..lanes {

@@ -10,5 +10,6 @@ mod making;
 mod tables;
 
 pub use holding::{check_room, hold_of, hold_twice, make_room};
+pub use krs_watch::KEEP_NOTHING;
 pub use making::Special;
 pub use tables::Tables;

@@ -14,3 +14,4 @@ pub use laws::{
     notes_reach_their_watchers, posts_reach_their_queues, reads_take_the_longest_front,
 };
 pub use queues::WatchQueues;
+pub use wanted::KEEP_NOTHING;

@@ -7,6 +7,7 @@ ghost use Rattle.krs_model.specs.Asks.Watching.{new_queue, with_filter};
 ghost use Rattle.krs_watch.specs.Reads.{ReadsQueue};
 ghost use Rattle.krs_watch.specs.Offers.{offered};
 
+use crate::wanted::Minded;
 use krs_notes::{Filter, Record, encode, passes};
 use krs_ring::NoteRing;
 use krs_types::{Body, Errno, Fault};
@@ -33,7 +34,12 @@ impl Model for NoteQueue {
 
 impl NoteQueue {
     /// A queue of so many records, of which there are some: ENOMEM.
-    pub(crate) fn new(alloc: Global, client: u32, capacity: u32) -> Result<NoteQueue, AllocError>
+    pub(crate) fn new(
+        alloc: Global,
+        client: u32,
+        capacity: u32,
+        _minded: Minded,
+    ) -> Result<NoteQueue, AllocError>
         ensures { IfOk result (λ q. q ≡ new_queue client capacity) }
     {
         let Ok(ring) = NoteRing::new(alloc, capacity) else {

@@ -63,7 +63,8 @@ impl WatchQueues {
         }
     }
 
-    /// From now on so many bytes are to be left for others: what would keep memory is refused where there are fewer.
+    /// From now on so many bytes are to be left for others: what would keep memory is refused where there are fewer, and
+    /// from `KEEP_NOTHING` on whatever there is.
     pub fn mind_memory(&self, wanted: u64) {
         self.wanted.set(wanted);
     }
@@ -88,9 +89,9 @@ impl WatchQueues {
         if self.next_queue > MAX_NUMBER {
             return Err(Fault::Refused(Errno::ENOSPC));
         }
-        self.check_memory()?;
+        let minded = self.wanted.mind()?;
         let number = self.next_queue as u32;
-        let queue = NoteQueue::new(self.alloc, client, capacity)?;
+        let queue = NoteQueue::new(self.alloc, client, capacity, minded)?;
         self.queues.insert(number, queue)?;
         self.next_queue += 1;
         Ok(number)
@@ -123,8 +124,8 @@ impl WatchQueues {
         if self.watches.all().contains_key(&place) {
             return Err(Fault::Refused(Errno::EBUSY));
         }
-        self.check_memory()?;
-        self.watches.insert(key.number(), number, id)?;
+        let minded = self.wanted.mind()?;
+        self.watches.insert(key.number(), number, id, minded)?;
         Ok(())
     }
 

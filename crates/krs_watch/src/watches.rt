@@ -7,6 +7,7 @@ ghost use Rattle.krs_model.specs.Queues.{place_cmp, watch_at, with_watch, withou
 ghost use Rattle.krs_watch.specs.Watched.{gone_watches, NoneGoneBefore};
 
 use crate::posting::Place;
+use crate::wanted::Minded;
 use krs_keys::KeySet;
 use krs_types::Serial;
 use std::alloc::{AllocError, Global};
@@ -53,7 +54,13 @@ impl Watches {
     }
 
     /// A new watch. A refusal leaves it nowhere.
-    pub(crate) fn insert(&mut self, key: u32, number: u32, id: u8) -> Result<(), AllocError>
+    pub(crate) fn insert(
+        &mut self,
+        key: u32,
+        number: u32,
+        id: u8,
+        _minded: Minded,
+    ) -> Result<(), AllocError>
         requires { watch_at self.old key number ≡ None }
         ensures ok { OnOk result (self.new ≡ with_watch self.old key number id) }
         ensures err { OnErr result (self.new ≡ self.old) }

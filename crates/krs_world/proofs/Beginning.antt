@@ -15,7 +15,7 @@ use Rattle.krs_world.specs.History.{Shared, Known, Fits, Stands}
 use Rattle.krs_world.specs.declared.lane.Lane.{Lane}
 use Rattle.krs_world.specs.declared.lane.Slot.{Slot}
 use Rattle.krs_world.specs.declared.lane.Slot.TheVariants as slots
-use Rattle.krs_world.specs.World.{Free, World, fresh_lanes, empty_cells, new_world, cell_of, IsOneHistory}
+use Rattle.krs_world.specs.World.{Free, World, fresh_lanes, empty_cells, begun, new_world, cell_of, IsOneHistory}
 use Rattle.krs_world.specs.World.{StaysOne}
 use Rattle.krs_world.specs.Kept.{part_by, lane_cell, cell_by, known_by, flight_by, world_of, IsFresh, AreFreshLanes}
 use Rattle.krs_world.specs.Kept.{IsSlotOf, IsKept}
@@ -35,7 +35,7 @@ fresh_at n (suc k) zero p e = let same : n + 0 ≡ n = omega arith in
 fresh_at n (suc k) (suc j) p e = let t = fresh_at (n + 1) k j p e in
     let same : n + suc j ≡ (n + 1) + j = omega arith in let lt = t.1 in (ap fresh same ∙ t.0, omega arith)
 
-fresh_here : (lanes j : ℕ) (p : Part) → get_elem? (fresh_lanes 0 lanes) j ≡ some p → (fresh j ≡ p) × (j < lanes)
+pub fresh_here : (lanes j : ℕ) (p : Part) → get_elem? (fresh_lanes 0 lanes) j ≡ some p → (fresh j ≡ p) × (j < lanes)
 fresh_here lanes j p e = let t = fresh_at 0 lanes j p e in let same : j ≡ 0 + j = omega arith in
     (ap fresh same ∙ t.0, t.1)
 
@@ -45,7 +45,7 @@ fresh_in n (suc k) zero lt = let same : n ≡ n + 0 = omega arith in ap (λ (m :
 fresh_in n (suc k) (suc j) lt = let same : (n + 1) + j ≡ n + suc j = omega arith in
     fresh_in (n + 1) k j (omega arith) ∙ ap (λ (m : ℕ). some (fresh m)) same
 
-fresh_there : (lanes j : ℕ) → j < lanes → get_elem? (fresh_lanes 0 lanes) j ≡ some (fresh j)
+pub fresh_there : (lanes j : ℕ) → j < lanes → get_elem? (fresh_lanes 0 lanes) j ≡ some (fresh j)
 fresh_there lanes j lt = let same : 0 + j ≡ j = omega arith in
     fresh_in 0 lanes j lt ∙ ap (λ (m : ℕ). some (fresh m)) same
 
@@ -73,8 +73,8 @@ known lanes j lt = record {
   unheld = λ _. refl;
 }
 
-pub begins_world : (lanes : ℕ) → IsOneHistory (new_world lanes)
-begins_world lanes = let a : State = starting_at 3 in record {
+pub begins_world : (a : State) (lanes : ℕ) → IsOneHistory (begun a lanes)
+begins_world a lanes = record {
   history = record {
     log = [];
     last = a;
@@ -114,11 +114,11 @@ begins_world lanes = let a : State = starting_at 3 in record {
 }
 
 pub always_one : StaysOne
-always_one lanes steps end r = runs_keep (new_world lanes) steps end (begins_world lanes) r
+always_one opening lanes steps end r = runs_keep (begun opening lanes) steps end (begins_world opening lanes) r
 
 begins_whole : (lanes : ℕ) → (o : IsOneHistory (new_world lanes)) × (o.history.log ≡ [])
 unfolding begins_world
-begins_whole lanes = (begins_world lanes, refl)
+begins_whole lanes = (begins_world (starting_at 3) lanes, refl)
 
 -- what the seat of a lane that nothing was done for knows
 fresh_part : (j : ℕ) (l : Lane) → IsFresh j l → part_by [] None l ≡ fresh j

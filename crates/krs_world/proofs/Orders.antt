@@ -10,6 +10,7 @@ use Rattle.krs_types.specs.declared.ask.Ask.{Ask}
 use Rattle.krs_types.specs.declared.ask.Answer as answer
 use Rattle.krs_types.specs.declared.errno.Errno.{Errno}
 use Rattle.krs_types.specs.declared.event.Event.{Event}
+use Rattle.krs_model.specs.State.{State}
 use Rattle.krs_model.specs.Lists.{Begins}
 use Rattle.krs_model.specs.History.{event_of}
 use Rattle.krs_world.specs.declared.view.Part.{Part}
@@ -20,7 +21,7 @@ use Rattle.krs_world.specs.declared.step.WorldStep.{WorldStep}
 use Rattle.krs_world.specs.Knowing.{one, taken, missed, put_own, put_none, loaded, posted, grabbed, answered}
 use Rattle.krs_world.specs.Knowing.{collected, looked_at}
 use Rattle.krs_world.specs.History.{StandsAfter}
-use Rattle.krs_world.specs.World.{Turn, Free, Out, World, new_world, Runs, StepsAs, IsLongest, IsHistoryBy, IsHistory}
+use Rattle.krs_world.specs.World.{Turn, Free, Out, World, begun, Runs, StepsAs, IsLongest, IsHistoryBy, IsHistory}
 use Rattle.krs_world.specs.World.{reseated, cell_of, IsOneHistory, is_answered, event_by}
 use Rattle.krs_world.specs.Order.{SeenGrows, OnlyGrows}
 use Rattle.krs_world.proofs.Keeping.{prefix_self, prefix_more, prefix_trans, set_at, set_else}
@@ -199,8 +200,8 @@ runs_grow w (s ∷ more) end o n r = let t = r.1 in let m : IsOneHistory r.0 = s
     (runs_grow r.0 more end m n r.2)
 
 pub only_grows : OnlyGrows
-only_grows lanes before after mid end log later first second was is =
-    let o : IsOneHistory mid = runs_keep (new_world lanes) before mid (begins_world lanes) first in
+only_grows opening lanes before after mid end log later first second was is =
+    let o : IsOneHistory mid = runs_keep (begun opening lanes) before mid (begins_world opening lanes) first in
     let n : IsOneHistory end = runs_keep mid after end o second in (
       subst (λ (x : List Event × List Event). Begins x.0 x.1)
           (λ i. (sym (history_is_one mid o log was) i, sym (history_is_one end n later is) i))
@@ -208,25 +209,25 @@ only_grows lanes before after mid end log later first second was is =
       runs_see mid after end o second,
     )
 
-pub one_order : (lanes : ℕ) (before after : List WorldStep) (mid end : World) (i j : ℕ) (p q : Part)
-    → Runs (new_world lanes) before mid → Runs mid after end
+pub one_order : (opening : State) (lanes : ℕ) (before after : List WorldStep) (mid end : World) (i j : ℕ) (p q : Part)
+    → Runs (begun opening lanes) before mid → Runs mid after end
     → get_elem? mid.seats i ≡ some p → get_elem? end.seats j ≡ some q → Begins p.seen q.seen ⊎ Begins q.seen p.seen
-one_order lanes before after mid end i j p q first second at there =
-    let o : IsOneHistory mid = runs_keep (new_world lanes) before mid (begins_world lanes) first in
+one_order opening lanes before after mid end i j p q first second at there =
+    let o : IsOneHistory mid = runs_keep (begun opening lanes) before mid (begins_world opening lanes) first in
     let last : IsOneHistory end = runs_keep mid after end o second in
     let grown = runs_see mid after end o second i p at in
     either_begins p.seen q.seen last.history.log
     (prefix_trans p.seen grown.0.seen last.history.log grown.2 (seen_begins end last i grown.0 grown.1))
     (seen_begins end last j q there)
 
-pub session_order : (lanes : ℕ) (before after : List WorldStep) (mid next end : World) (lane : ℕ) (p : Part)
-    (call : ℕ × Ask) (log : List Event) → Runs (new_world lanes) before mid → get_elem? mid.seats lane ≡ some p
+pub session_order : (opening : State) (lanes : ℕ) (before after : List WorldStep) (mid next end : World) (lane : ℕ)
+    (p : Part) (call : ℕ × Ask) (log : List Event) → Runs (begun opening lanes) before mid → get_elem? mid.seats lane ≡ some p
     → StepsAs mid lane p (Put (Some call)) next → Runs next after end → IsHistory end log
     → (reply : Result answer.Answer Errno) × (q : Part) × (get_elem? next.seats lane ≡ some q)
     × (q.mine ≡ p.mine ++ event_of lane call.0 call.1 reply ∷ [])
     × StandsAfter p.seen (event_of lane call.0 call.1 reply) log
-session_order lanes before after mid next end lane p call log first at step second history =
-    let o : IsOneHistory mid = runs_keep (new_world lanes) before mid (begins_world lanes) first in
+session_order opening lanes before after mid next end lane p call log first at step second history =
+    let o : IsOneHistory mid = runs_keep (begun opening lanes) before mid (begins_world opening lanes) first in
     let put : IsOneHistory next = step_as mid lane p (Put (Some call)) next o at step in
     let last : IsOneHistory end = runs_keep next after end put second in
     let h = step.0 in let e : Event = event_of lane call.0 call.1 step.1 in let q : Part = put_own p h.log e in

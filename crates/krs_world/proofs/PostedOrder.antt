@@ -10,7 +10,7 @@ use Rattle.krs_world.specs.declared.view.Part.{Part}
 use Rattle.krs_world.specs.declared.step.Kind.TheVariants.{Collect}
 use Rattle.krs_world.specs.Knowing.{one, collected}
 use Rattle.krs_world.specs.History.{Fits, StandsAfter}
-use Rattle.krs_world.specs.World.{World, new_world, IsOneHistory, cell_of}
+use Rattle.krs_world.specs.World.{World, begun, IsOneHistory, cell_of}
 use Rattle.krs_world.specs.Order.{KeepsPostedOrder}
 use Rattle.krs_world.proofs.Keeping.{prefix_trans, set_at}
 use Rattle.krs_world.proofs.Worlds.{get_map, history_is, step_as, runs_keep, cell_at}
@@ -27,8 +27,8 @@ stands_on had e log later s b = (
 )
 
 pub posted_order : KeepsPostedOrder
-posted_order lanes before after mid next end lane p size log first at step second history =
-    let o : IsOneHistory mid = runs_keep (new_world lanes) before mid (begins_world lanes) first in
+posted_order opening lanes before after mid next end lane p size log first at step second history =
+    let o : IsOneHistory mid = runs_keep (begun opening lanes) before mid (begins_world opening lanes) first in
     let then_one : IsOneHistory next = step_as mid lane p (Collect size) next o at step in
     let last : IsOneHistory end = runs_keep next after end then_one second in
     let h = step.0 in

@@ -8,13 +8,14 @@ use Rattle.krs_types.specs.declared.ask.Ask.{Ask}
 use Rattle.krs_types.specs.declared.ask.Answer.{Answer}
 use Rattle.krs_types.specs.declared.errno.Errno.{Errno}
 use Rattle.krs_types.specs.declared.event.Event.{Event}
+use Rattle.krs_model.specs.State.{State}
 use Rattle.krs_model.specs.Lists.{Begins}
 use Rattle.krs_model.specs.History.{event_of}
 use Rattle.krs_world.specs.declared.view.Part.{Part}
 use Rattle.krs_world.specs.declared.step.Kind.TheVariants.{Put, Collect}
 use Rattle.krs_world.specs.declared.step.WorldStep.{WorldStep}
 use Rattle.krs_world.specs.History.{StandsAfter, flight}
-use Rattle.krs_world.specs.World.{World, new_world, Runs, StepsAs, IsHistory}
+use Rattle.krs_world.specs.World.{World, begun, Runs, StepsAs, IsHistory}
 
 -- each seat is still there, and what it had seen begins what it has seen
 abbrev pub SeenGrows : World → World → Type 0
@@ -24,21 +25,21 @@ SeenGrows old new = (j : ℕ) (p : Part) → get_elem? old.seats j ≡ some p
 -- whatever steps are made, the history only grows, and so does what each seat has seen: no call is ever taken back,
 -- changed or moved
 abbrev pub OnlyGrows : Type 0
-OnlyGrows = (lanes : ℕ) (before after : List WorldStep) (mid end : World) (log later : List Event)
-    → Runs (new_world lanes) before mid → Runs mid after end → IsHistory mid log → IsHistory end later
+OnlyGrows = (opening : State) (lanes : ℕ) (before after : List WorldStep) (mid end : World) (log later : List Event)
+    → Runs (begun opening lanes) before mid → Runs mid after end → IsHistory mid log → IsHistory end later
     → Begins log later × SeenGrows mid end
 
 -- of the lists that two seats have seen, at one time or at two, one begins the other
 abbrev pub SeesOneOrder : Type 0
-SeesOneOrder = (lanes : ℕ) (before after : List WorldStep) (mid end : World) (i j : ℕ) (p q : Part)
-    → Runs (new_world lanes) before mid → Runs mid after end
+SeesOneOrder = (opening : State) (lanes : ℕ) (before after : List WorldStep) (mid end : World) (i j : ℕ) (p q : Part)
+    → Runs (begun opening lanes) before mid → Runs mid after end
     → get_elem? mid.seats i ≡ some p → get_elem? end.seats j ≡ some q → Begins p.seen q.seen ⊎ Begins q.seen p.seen
 
 -- An own call of a lane, whatever happens before and after: its event stands in the history, for ever after, behind all
 -- that its seat had seen as the call was made, events of other lanes among it.
 abbrev pub KeepsSessionOrder : Type 0
-KeepsSessionOrder = (lanes : ℕ) (before after : List WorldStep) (mid next end : World) (lane : ℕ) (p : Part)
-    (call : ℕ × Ask) (log : List Event) → Runs (new_world lanes) before mid → get_elem? mid.seats lane ≡ some p
+KeepsSessionOrder = (opening : State) (lanes : ℕ) (before after : List WorldStep) (mid next end : World) (lane : ℕ)
+    (p : Part) (call : ℕ × Ask) (log : List Event) → Runs (begun opening lanes) before mid → get_elem? mid.seats lane ≡ some p
     → StepsAs mid lane p (Put (Some call)) next → Runs next after end → IsHistory end log
     → (reply : Result Answer Errno) × (q : Part) × (get_elem? next.seats lane ≡ some q)
     × (q.mine ≡ p.mine ++ event_of lane call.0 call.1 reply ∷ [])
@@ -47,8 +48,8 @@ KeepsSessionOrder = (lanes : ℕ) (before after : List WorldStep) (mid next end 
 -- A posted call of a lane whose reply is collected, whatever happens before and after: its event stands in the history,
 -- for ever after, behind all that its seat had seen as the call was posted, events of other lanes among it.
 abbrev pub KeepsPostedOrder : Type 0
-KeepsPostedOrder = (lanes : ℕ) (before after : List WorldStep) (mid next end : World) (lane : ℕ) (p : Part) (size : ℕ)
-    (log : List Event) → Runs (new_world lanes) before mid → get_elem? mid.seats lane ≡ some p
+KeepsPostedOrder = (opening : State) (lanes : ℕ) (before after : List WorldStep) (mid next end : World) (lane : ℕ)
+    (p : Part) (size : ℕ) (log : List Event) → Runs (begun opening lanes) before mid → get_elem? mid.seats lane ≡ some p
     → StepsAs mid lane p (Collect size) next → Runs next after end → IsHistory end log
     → (moment : ℕ) × (ask : Ask) × (had : List Event) × (reply : Result Answer Errno) × (q : Part)
     × (p.flight ≡ Some (flight moment ask had)) × (get_elem? next.seats lane ≡ some q)

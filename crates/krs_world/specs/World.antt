@@ -48,14 +48,18 @@ abbrev pub empty_cells : ℕ → List Cell
 empty_cells zero = []
 empty_cells (suc k) = Empty ∷ empty_cells k
 
--- so many lanes over an empty store
-abbrev pub new_world : ℕ → World
-new_world lanes = record {
-  opening = starting_at 3;
-  turn = Free (starting_at 3);
+-- so many lanes over a store, as the machine begins
+abbrev pub begun : State → ℕ → World
+begun opening lanes = record {
+  opening = opening;
+  turn = Free opening;
   cells = empty_cells lanes;
   seats = fresh_lanes 0 lanes;
 }
+
+-- over an empty store
+abbrev pub new_world : ℕ → World
+new_world lanes = begun (starting_at 3) lanes
 
 -- the longest of the lists that the seats have seen
 abbrev pub IsLongest : List Event → List Part → Type 0
@@ -241,6 +245,9 @@ pub record IsOneHistory (w : World) : Type 0 where
   pub whole : IsHistory w history.log
   pub lanes : (j : ℕ) (p : Part) → get_elem? w.seats j ≡ some p → p.lane ≡ j
 
--- after every list of steps there is one history: what the holder of the turn holds, or the longest list that is seen
+-- after every list of steps, over any store, there is one history: what the holder of the turn holds, or the longest
+-- list that is seen
 abbrev pub StaysOne : Type 0
-StaysOne = (lanes : ℕ) (steps : List WorldStep) (end : World) → Runs (new_world lanes) steps end → IsOneHistory end
+StaysOne =
+    (opening : State) (lanes : ℕ) (steps : List WorldStep) (end : World) → Runs (begun opening lanes) steps end
+    → IsOneHistory end

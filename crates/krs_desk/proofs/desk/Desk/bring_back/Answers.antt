@@ -1,7 +1,7 @@
 use Rattle.std.proofs.Common.{rules}
 use Rattle.krs_desk.proofs.Serves.{brings_at}
 use Rattle.krs_desk.proofs.Helps.{brought_is, brought_mine}
-use Rattle.krs_desk.proofs.desk.Desk.bring.Goals as goal
+use Rattle.krs_desk.proofs.desk.Desk.bring_back.Goals as goal
 
 pub compare_exchange-requires : goal.compare_exchange-requires
 compare_exchange-requires c =

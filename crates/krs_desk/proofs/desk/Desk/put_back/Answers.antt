@@ -1,7 +1,7 @@
 use Rattle.std.proofs.Common.{rules}
 use Rattle.krs_desk.specs.Told.{event_in}
 use Rattle.krs_desk.proofs.Steps.{puts_at}
-use Rattle.krs_desk.proofs.desk.Desk.put.Goals as goal
+use Rattle.krs_desk.proofs.desk.Desk.put_back.Goals as goal
 
 pub compare_exchange-requires : goal.compare_exchange-requires
 compare_exchange-requires g c =

@@ -1,0 +1,230 @@
+-- What stays of a table's cells, turn and history where what its lanes know of their calls stays.
+use Rattle.std.proofs.Common.{◌≡◌, ℕ, ◌+◌, ◌≤◌, ◌<◌, List, [], ◌∷◌, ◌++◌, Option, Some, None, refl, sym, ap, ◌∙◌}
+use Rattle.std.proofs.Common.{subst, length, length-append, append-nil, append_assoc, get_or}
+use Rattle.std.proofs.Common.{arith, lt_of_not-le}
+use mathlib.Core.Logic.{dite}
+use native.Mathlib.Decide.{ℕ_discrete, dec_le}
+use lib.ListN.{get_elem?}
+use Rattle.krs_types.specs.declared.ask.Ask.{Ask}
+use Rattle.krs_types.specs.declared.event.Event.{Event}
+use Rattle.krs_model.specs.State.{State}
+use Rattle.krs_model.specs.Lists.{Begins}
+use Rattle.krs_model.specs.History.{event_of, IsLegal}
+use Rattle.krs_model.proofs.History.Determined.{one_history}
+use Rattle.krs_world.specs.declared.view.Cell.{Cell}
+use Rattle.krs_world.specs.declared.view.Cell.TheVariants as cells
+use Rattle.krs_world.specs.declared.view.Flight.{Flight}
+use Rattle.krs_world.specs.declared.view.Part.{Part}
+use Rattle.krs_world.specs.Knowing.{events_of, service, flight}
+use Rattle.krs_world.specs.History.{Fits}
+use Rattle.krs_world.specs.World.{World}
+use Rattle.krs_world.proofs.Keeping as law
+use Rattle.krs_desk.specs.Parts.{views_of}
+use Rattle.krs_desk.specs.Rule.{CellIs, InOneOrder}
+use Rattle.krs_desk.specs.Moves as move
+use Rattle.krs_desk.specs.Moves.{Move, after}
+use Rattle.krs_desk.specs.Running.{Board}
+use Rattle.krs_desk.specs.Machine.{IsSeatedIn}
+use Rattle.krs_desk.proofs.Steps.{turn}
+use Rattle.krs_desk.proofs.Running.{within, seen_sits, sits_seen, begins_log, log_grows}
+use Rattle.krs_desk.proofs.Adding.{counts, last_same, no_shorter}
+use Rattle.krs_desk.proofs.Agreeing.{Slot, Agrees, known_at, seat_there, holder_there}
+
+-- Cells.
+
+pub not_longer : (xs : List Event) (e : Event) → xs ≡ xs ++ e ∷ [] → ⊥
+not_longer xs e is =
+    let size : length xs ≡ length xs + 1 = ap length is ∙ length-append xs (e ∷ []) in
+    absurd (omega arith)
+
+no_call : (f : Flight) → ◌≡◌ {A = Option Flight} None (Some f) → ⊥
+no_call f e = absurd cc
+
+pub one_call : (f g : Flight) → ◌≡◌ {A = Option Flight} (Some f) (Some g) → f ≡ g
+one_call f g e = cc
+
+-- The cell of a lane is what the history and its call in flight say, but for whether it is served.
+cell_same :
+    (c c' : Cell) (log log' : List Event) (p p' : Part) → Fits log p c → Fits log' p' c' → p'.flight ≡ p.flight
+    → p'.mine ≡ p.mine → events_of p'.lane log' ≡ events_of p.lane log
+    → ((m : ℕ) (ask : Ask) → c ≡ cells.Serving m ask → c' ≡ cells.Serving m ask)
+    → ((m : ℕ) (ask : Ask) → c' ≡ cells.Serving m ask → c ≡ cells.Serving m ask) → c' ≡ c
+cell_same cells.Empty cells.Empty log log' p p' f f' fl mine ev to back = refl
+cell_same cells.Empty (cells.Posted m' ask') log log' p p' f f' fl mine ev to back =
+    absurd (no_call (flight m' ask' f'.0) (sym f.0 ∙ (sym fl ∙ f'.1)))
+cell_same cells.Empty (cells.Serving m' ask') log log' p p' f f' fl mine ev to back =
+    absurd (no_call (flight m' ask' f'.0) (sym f.0 ∙ (sym fl ∙ f'.1)))
+cell_same cells.Empty (cells.Answered m' ask' r') log log' p p' f f' fl mine ev to back =
+    absurd (no_call (flight m' ask' f'.0) (sym f.0 ∙ (sym fl ∙ f'.1)))
+cell_same (cells.Posted m ask) cells.Empty log log' p p' f f' fl mine ev to back =
+    absurd (no_call (flight m ask f.0) (sym f'.0 ∙ (fl ∙ f.1)))
+cell_same (cells.Posted m ask) (cells.Posted m' ask') log log' p p' f f' fl mine ev to back =
+    ap (λ (z : Flight). cells.Posted z.moment z.ask)
+    (one_call (flight m' ask' f'.0) (flight m ask f.0) (sym f'.1 ∙ (fl ∙ f.1)))
+cell_same (cells.Posted m ask) (cells.Serving m' ask') log log' p p' f f' fl mine ev to back =
+    absurd (let no : cells.Posted m ask ≡ cells.Serving m' ask' = back m' ask' refl in cc)
+cell_same (cells.Posted m ask) (cells.Answered m' ask' r') log log' p p' f f' fl mine ev to back =
+    absurd (not_longer p'.mine (event_of p'.lane m' ask' r') (mine ∙ (sym f.2 ∙ (sym ev ∙ f'.2))))
+cell_same (cells.Serving m ask) c' log log' p p' f f' fl mine ev to back = to m ask refl
+cell_same (cells.Answered m ask r) cells.Empty log log' p p' f f' fl mine ev to back =
+    absurd (no_call (flight m ask f.0) (sym f'.0 ∙ (fl ∙ f.1)))
+cell_same (cells.Answered m ask r) (cells.Posted m' ask') log log' p p' f f' fl mine ev to back =
+    absurd (not_longer p.mine (event_of p.lane m ask r) (sym mine ∙ (sym f'.2 ∙ (ev ∙ f.2))))
+cell_same (cells.Answered m ask r) (cells.Serving m' ask') log log' p p' f f' fl mine ev to back =
+    absurd (let no : cells.Answered m ask r ≡ cells.Serving m' ask' = back m' ask' refl in cc)
+cell_same (cells.Answered m ask r) (cells.Answered m' ask' r') log log' p p' f f' fl mine ev to back =
+    let e : Event = event_of p.lane m ask r in
+    let e' : Event = event_of p'.lane m' ask' r' in
+    let same : e' ≡ e =
+    last_same p.mine e' e (ap (λ (z : List Event). z ++ e' ∷ []) (sym mine) ∙ (sym f'.2 ∙ (ev ∙ f.2))) in
+    ap (λ (x : Event). cells.Answered x.moment x.ask x.reply) same
+
+pub after_lane : (p : Part) (m : Move) → (after p m).lane ≡ p.lane
+after_lane p move.stays = refl
+after_lane p (move.takes log) = refl
+after_lane p move.misses = refl
+after_lane p (move.puts_own log e) = refl
+after_lane p (move.puts_none log) = refl
+after_lane p (move.loads log) = refl
+after_lane p (move.posts moment ask) = refl
+after_lane p (move.finds lane) = refl
+after_lane p (move.grabs lane moment ask) = refl
+after_lane p (move.answers log e) = refl
+after_lane p (move.collects log e) = refl
+after_lane p (move.looks lane finished) = refl
+
+module _ (a : State) (s new : Board) (r : InOneOrder a s) (r' : InOneOrder a new) where
+  abbrev pub Was : Part → Type 0
+  Was p = IsSeatedIn (views_of s.views) p
+
+  abbrev pub Is : Part → Type 0
+  Is p = IsSeatedIn (views_of new.views) p
+
+  -- a lane's seat now is a lane's seat from before, with the same calls of its own
+  abbrev pub SameCalls : Part → Type 0
+  SameCalls u = (t : Part) × Was t × (u.lane ≡ t.lane) × (u.flight ≡ t.flight) × (u.mine ≡ t.mine)
+
+  abbrev pub KeepsServed : ℕ → Type 0
+  KeepsServed l =
+      ((m : ℕ) (ask : Ask) → r.cell l ≡ cells.Serving m ask → r'.cell l ≡ cells.Serving m ask)
+      × ((m : ℕ) (ask : Ask) → r'.cell l ≡ cells.Serving m ask → r.cell l ≡ cells.Serving m ask)
+
+  pub cell_stays : (l : ℕ) → KeepsServed l → events_of l r'.history.log ≡ events_of l r.history.log
+      → ((t : Part) → Was t → (u : Part) × Is u × (u.lane ≡ t.lane))
+      → ((u : Part) → Is u → u.lane ≡ l → SameCalls u) → r'.cell l ≡ r.cell l
+  cell_stays l served ev forth back =
+      dite (dec_le r'.history.dealt l)
+      (λ le. (r'.history.undealt l le).0 ∙ sym (dite (dec_le r.history.dealt l) (λ is. (r.history.undealt l is).0)
+      (λ nle.
+      let t = seat_there a s r l (lt_of_not-le nle) in
+      let u = forth t.0 t.1 in
+      let given = (known_at a new r' u.0 u.1).given in
+      let same : u.0.lane ≡ l = u.2 ∙ t.2 in
+      let less : l < r'.history.dealt = subst (λ (n : ℕ). n < r'.history.dealt) same given in
+      absurd (omega arith))))
+      (λ nle.
+      let u = seat_there a new r' l (lt_of_not-le nle) in
+      let t = back u.0 u.1 u.2 in
+      let at : t.0.lane ≡ l = sym t.2 ∙ u.2 in
+      cell_same (r.cell l) (r'.cell l) r.history.log r'.history.log t.0 u.0
+      (subst (λ (n : ℕ). Fits r.history.log t.0 (r.cell n)) at (known_at a s r t.0 t.1).fits)
+      (subst (λ (n : ℕ). Fits r'.history.log u.0 (r'.cell n)) u.2 (known_at a new r' u.0 u.1).fits) t.3 t.4
+      (ap (λ (n : ℕ). events_of n r'.history.log) u.2
+      ∙ (ev ∙ ap (λ (n : ℕ). events_of n r.history.log) (sym at))) served.0 served.1)
+
+  -- The call that is served.
+
+  pub same_serving : turn new ≡ turn s
+      → ((t : Part) → Was t → (u : Part) × Is u × (u.holding ≡ t.holding) × (u.serving ≡ t.serving))
+      → r'.history.serving ≡ r.history.serving
+  same_serving same forth =
+      dite (ℕ_discrete (turn s) 1)
+      (λ out.
+      let t = holder_there a s r out in
+      let u = forth t.0 t.1 in
+      let k = (known_at a s r t.0 t.1).holding r.history.log t.2 in
+      let k' = (known_at a new r' u.0 u.1).holding r.history.log (u.2 ∙ t.2) in
+      sym k'.same_service ∙ (u.3 ∙ k.same_service))
+      (λ not. r'.history.unserved (λ e. not (sym same ∙ e)) ∙ sym (r.history.unserved not))
+
+  pub keeps_served : r'.history.serving ≡ r.history.serving → (l : ℕ) → KeepsServed l
+  keeps_served same l = (
+    (λ m ask e. r'.history.served (service l m ask) (same ∙ r.history.serves l m ask e)),
+    λ m ask e. r.history.served (service l m ask) (sym same ∙ r'.history.serves l m ask e),
+  )
+
+  -- The history.
+
+  more_none : (rest : List Event) → r.history.log ++ rest ≡ r'.history.log
+      → ((l : ℕ) → length (events_of l r.history.log) ≡ length (events_of l r'.history.log))
+      → r'.history.log ≡ r.history.log
+  more_none [] e same = sym e ∙ append-nil r.history.log
+  more_none (x ∷ more) e same =
+      let l : ℕ = x.lane in
+      let old : List Event = events_of l r.history.log in
+      let longer : List Event = events_of l r'.history.log in
+      let b : Begins (r.history.log ++ x ∷ []) r'.history.log =
+      (more, append_assoc r.history.log (x ∷ []) more ∙ e) in
+      let has : Begins (old ++ x ∷ []) longer =
+      subst (λ (z : List Event). Begins z longer) (law.own_event l r.history.log x refl)
+      (law.events_prefix l (r.history.log ++ x ∷ []) r'.history.log b) in
+      let long : length (old ++ x ∷ []) ≤ length longer = no_shorter (old ++ x ∷ []) longer has in
+      let sum : length (old ++ x ∷ []) ≡ length old + 1 = length-append old (x ∷ []) in
+      let no : length old ≡ length longer = same l in
+      absurd (omega arith)
+
+  -- where all words of cells stay, and each lane knows of as many calls, it has no other call
+  pub same_log : ((l : ℕ) → get_or new.words (l + 1) 0 ≡ get_or s.words (l + 1) 0)
+      → ((u : Part) → Is u → SameCalls u) → Begins r.history.log r'.history.log → r'.history.log ≡ r.history.log
+  same_log words back grows =
+      more_none grows.0 grows.1 (λ l.
+      dite (dec_le r'.history.dealt l)
+      (λ le.
+      let short : length (events_of l r.history.log) ≤ length (events_of l r'.history.log) =
+      no_shorter (events_of l r.history.log) (events_of l r'.history.log)
+      (law.events_prefix l r.history.log r'.history.log grows) in
+      let none : length (events_of l r'.history.log) ≡ 0 = ap length (r'.history.undealt l le).1 in
+      omega arith)
+      (λ nle.
+      let u = seat_there a new r' l (lt_of_not-le nle) in
+      let t = back u.0 u.1 in
+      let n : ℕ = t.0.lane in
+      let at : n ≡ l = sym t.2 ∙ u.2 in
+      let slot : Slot = get_elem? new.homes (n + 1) in
+      subst (λ (k : ℕ). length (events_of k r.history.log) ≡ length (events_of k r'.history.log)) at
+      (counts (get_or s.words (n + 1) 0) (get_elem? s.homes (n + 1)) slot (r.cell n) (r'.cell n) r.history.log
+      r'.history.log t.0 u.0 t.2 t.4 (r.cells n)
+      (subst (λ (x : ℕ). CellIs x slot (r'.cell n)) (words n) (r'.cells n)) (known_at a s r t.0 t.1).fits
+      (subst (λ (k : ℕ). Fits r'.history.log u.0 (r'.cell k)) t.2 (known_at a new r' u.0 u.1).fits))))
+
+  -- where the seats are those that there were, it is no longer
+  pub log_back : ((p : Part) → Is p → Was p) → Begins r'.history.log r.history.log
+  log_back back =
+      log_grows a new s r' r
+      (λ front was.
+      let t = seen_sits was.2 was.1.stands was.4 in
+      let f = back t.0 (was.0, was.1, was.3, t.1) in
+      (f.0, f.1, t.0.seen, f.2, sits_seen t.0 f.1.stands f.3, subst (Begins front) (sym t.2) was.5))
+      (λ p l is held. begins_log l r.history.log ((within a s r p (back p is)).held l held))
+
+  -- The whole table.
+
+  pub last_same_of : r'.history.log ≡ r.history.log → r'.history.last ≡ r.history.last
+  last_same_of same = one_history a r'.history.last r.history.last r.history.log
+      (subst (λ (l : List Event). IsLegal a l r'.history.last) same r'.history.legal) r.history.legal
+
+  -- a machine that the table still is
+  pub same_world : (w : World) → Agrees a s r w → turn new ≡ turn s → length new.words ≡ length s.words
+      → ((p : Part) → Was p → Is p) → ((p : Part) → Is p → Was p) → r'.history.log ≡ r.history.log → Agrees a new r' w
+  same_world w g same wide forth back log =
+      let serving = same_serving same (λ t was. (t, forth t was, refl, refl)) in record {
+        opening = g.opening;
+        free = λ store e. let f = g.free store e in (same ∙ f.0, f.1 ∙ sym (last_same_of log));
+        out = λ lane e. let o = g.out lane e in (same ∙ o.0, o.1);
+        wide = wide ∙ g.wide;
+        cells = λ l c at. g.cells l c at
+            ∙ sym (cell_stays l (keeps_served serving l) (ap (events_of l) log) (λ t was. (t, forth t was, refl))
+            (λ u is e. (u, back u is, refl, refl, refl)));
+        seats = λ l p at. let t = g.seats l p at in (t.0, forth p t.1);
+        each = λ p is. g.each p (back p is);
+      }
