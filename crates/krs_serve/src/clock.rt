@@ -159,6 +159,11 @@ impl<'r, R: time::Clock> Clock for SystemClock<'r, R> {
         self.answer(readings)
     }
 
+    /// Its last answer: the system isn't asked.
+    fn again(&mut self) -> u64 {
+        self.last
+    }
+
     ghost starts = { λ a. kept_none a.last };
 
     ghost joins = { λ a b c xs ys p q. kept_both a.last b.last c.last xs ys p q };

@@ -1,7 +1,8 @@
 // The asks of a session.
 ghost use Rattle.std.specs.Prelude.{◌≡◌, ◌<◌, [], ◌∷◌, Some, None};
 ghost use Rattle.krs_types.specs.declared.event.Event.{Event};
-ghost use Rattle.krs_session.specs.Events.{reply_text};
+ghost use Rattle.krs_model.specs.History.{event_of};
+ghost use Rattle.krs_wire.specs.Reply.{reply_frame};
 ghost use Rattle.krs_session.specs.Serving.{Asked, Answers, Holds, PendingNext, StopsBy, StopsNext};
 
 use crate::writing::{flush, send_reply};
@@ -11,13 +12,34 @@ use krs_wire::Framed;
 use std::alloc::Global;
 use std::collections::VecDeque;
 
-/// What stays the same over a session: the runtime of the desk's calls, the memory, the desk and the gate.
+/// What stays the same over a session: the runtime of the desk's calls, the memory, the desk, the gate, and how many turns
+/// there are at most.
 #[derive(Drop)]
 pub(crate) struct Setting<'a, H, D, G> {
     pub rt: &'a H,
     pub alloc: Global,
     pub desk: &'a D,
     pub gate: &'a G,
+    pub turns: u64,
+}
+
+/// One ask at a moment, and its reply.
+pub(crate) fn ask_at<H, S, D: Keeper<S, H>, G: Gate>(
+    setting: &Setting<'_, H, D, G>,
+    seat: &mut S,
+    moment: u64,
+    ask: Ask,
+) -> Reply
+    requires { D.ready setting.now.desk.now seat.old }
+    ensures led { D.leads seat.old (event_of (D.lane_of seat.old) moment ask result ∷ []) seat.new }
+    ensures ready { D.ready setting.now.desk.now seat.new }
+    ensures lane { D.lane_of seat.new ≡ D.lane_of seat.old }
+{
+    let lane = setting.desk.lane(seat);
+    setting.gate.pass(lane, Point::Asked);
+    let reply = setting.desk.call(setting.rt, seat, moment, ask);
+    setting.gate.pass(lane, Point::Answered);
+    reply
 }
 
 /// One ask at the clock's moment, and its reply.
@@ -33,46 +55,44 @@ pub(crate) fn ask_one<H, S, D: Keeper<S, H>, C: Clock, G: Gate>(
     ensures ready { D.ready setting.now.desk.now seat.new }
     ensures lane { D.lane_of seat.new ≡ D.lane_of seat.old }
 {
-    let lane = setting.desk.lane(seat);
     let moment = clock.now();
-    setting.gate.pass(lane, Point::Asked);
-    let reply = setting.desk.call(setting.rt, seat, moment, ask);
-    setting.gate.pass(lane, Point::Answered);
-    reply
+    ask_at(setting, seat, moment, ask)
 }
 
-/// What a frame asks. Its reply is held or written where nothing stopped the writing before.
-fn answer_one<H, W: Sink, S, D: Keeper<S, H>, C: Clock, G: Gate>(
-    setting: &Setting<'_, H, D, G>,
+/// The moment of an ask: the clock's next answer, or the one before again, where it was asked for this piece already.
+fn moment_of<C: Clock>(clock: &mut C, was_asked: bool) -> u64
+    ensures { C.ticked clock.old (result ∷ []) clock.new }
+{
+    if was_asked {
+        return clock.again();
+    }
+    clock.now()
+}
+
+/// A reply is held or written where nothing stopped the writing before.
+fn reply_behind<W: Sink>(
     writer: &mut W,
     out: &mut Vec<u8>,
-    seat: &mut S,
-    clock: &mut C,
-    framed: Framed,
+    tag: Option<u64>,
+    reply: Reply,
     stop: Option<Ended>,
 ) -> Option<Ended>
-    requires ready { D.ready setting.now.desk.now seat.old }
-    requires failures { stop ≡ None → W.failures writer.old < u64.MAX }
-    ensures asked { (event : Event) × (event.ask ≡ framed.ask)
-        × Asked D.leads C.ticked (D.lane_of seat.old) seat.old seat.new clock.old clock.new (event ∷ [])
-        × PendingNext W.took writer.old writer.new out.old.items out.new.items
-        (reply_text framed event.reply) stop result }
+    requires { stop ≡ None → W.failures writer.old < u64.MAX }
+    ensures sent { PendingNext W.took writer.old writer.new out.old.items out.new.items
+        (reply_frame tag reply) stop result }
     ensures count { StopsNext (W.failures writer.old) (W.failures writer.new) stop result }
 
     // Where it ends for memory, the replies that were held before are written.
     ensures memory { stop ≡ None → result ≡ Some Ended.Memory → W.took writer.old out.old.items writer.new }
-    ensures ready { D.ready setting.now.desk.now seat.new }
-    ensures lane { D.lane_of seat.new ≡ D.lane_of seat.old }
 {
-    let Framed { ask, tag } = framed;
-    let reply = ask_one(setting, seat, clock, ask);
     match stop {
         None => send_reply(writer, out, tag, &reply),
         Some(_) => stop,
     }
 }
 
-/// Asks what all the frames ask, which are taken out. The replies are held or written while nothing stops the writing.
+/// Asks what all the frames ask, which are taken out: the clock is asked once for all of them. The replies are held or
+/// written while nothing stops the writing.
 fn ask_all<H, W: Sink, S, D: Keeper<S, H>, C: Clock, G: Gate>(
     setting: &Setting<'_, H, D, G>,
     writer: &mut W,
@@ -91,8 +111,13 @@ fn ask_all<H, W: Sink, S, D: Keeper<S, H>, C: Clock, G: Gate>(
     ensures lane { D.lane_of seat.new ≡ D.lane_of seat.old }
 {
     let mut stop = None;
+    let mut was_asked = false;
     'frames: while let Some(framed) = frames.pop_front() {
-        stop = answer_one(setting, writer, out, seat, clock, framed, stop);
+        let Framed { ask, tag } = framed;
+        let moment = moment_of(clock, was_asked);
+        was_asked = true;
+        let reply = ask_at(setting, seat, moment, ask);
+        stop = reply_behind(writer, out, tag, reply, stop);
     }
     stop
 }

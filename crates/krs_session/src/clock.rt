@@ -8,6 +8,13 @@ pub trait Clock {
     fn now(&mut self) -> u64
         ensures { ticked self.old (result ∷ []) self.new };
 
+    /// One answer more, shortly behind another: it may be that one again.
+    fn again(&mut self) -> u64
+        ensures { ticked self.old (result ∷ []) self.new }
+    {
+        self.now()
+    }
+
     ghost starts: { (c : Self) → ticked c [] c };
 
     ghost joins: { (a b c : Self) (xs ys : List ℕ) → ticked a xs b → ticked b ys c → ticked a (xs ++ ys) c };

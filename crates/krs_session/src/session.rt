@@ -21,16 +21,16 @@ const READ_SIZE: usize = 4096;
 /// all that are held until they are written, and the longest payload behind them.
 const REPLY_ROOM: usize = 98_368;
 
-/// More memory than any machine has to give. While a session that lacks some of its reserve has a piece asked, it tells
-/// that this much is lacking, so that the store keeps nothing more, from no client, until the session has taken back
+/// What is told to be lacking where the store is to keep nothing, from no client, whatever memory there is: `KEEP_NOTHING`
+/// of krs_watch. A session that lacks some of its reserve tells so while it has a piece asked, until it has taken back
 /// what it can: the C library may have memory for the thread that serves an ask, and none for this one.
 const UNMET: u64 = 1 << 40;
 
-/// What a session keeps from turn to turn: the reading end, room for what is read, and for replies that wait.
-#[derive(Drop)]
+/// What a session keeps from piece to piece: the reading end, what it has told to be lacking, and room for replies that
+/// wait.
 struct Held {
     feed: Feed,
-    room: [u8; READ_SIZE],
+    lack: Lack,
     out: Vec<u8>,
 }
 
@@ -46,19 +46,33 @@ impl Held {
         let _ = out.reserve(REPLY_ROOM);
         Held {
             feed,
-            room: [0u8; READ_SIZE],
+            lack: Lack::new(),
             out,
         }
     }
+
+    /// The session ends, and lacks nothing any more.
+    fn end<S, H, D: Keeper<S, H>>(self, desk: &D) {
+        let Held {
+            feed: _,
+            lack,
+            out: _,
+        } = self;
+        lack.end::<S, H, D>(desk);
+    }
+}
+
+/// What a session keeps from turn to turn: the room that a read fills, and what is held beside.
+struct Reading {
+    room: [u8; READ_SIZE],
+    held: Held,
 }
 
 /// Asks what all the frames ask, and writes the replies, as `answer_all`. Where this session lacks memory, the store
 /// keeps nothing until the session has taken back what it can, and leaves what it lacks then, a whole reserve at most.
 fn answer_fed<H, W: Sink, S, D: Keeper<S, H>, C: Clock, G: Gate>(
     setting: &Setting<'_, H, D, G>,
-    feed: &mut Feed,
-    lack: &mut Lack,
-    out: &mut Vec<u8>,
+    held: &mut Held,
     writer: &mut W,
     seat: &mut S,
     clock: &mut C,
@@ -69,28 +83,27 @@ fn answer_fed<H, W: Sink, S, D: Keeper<S, H>, C: Clock, G: Gate>(
     ensures answers { Answers D.leads C.ticked W.took (D.lane_of seat.old)
         seat.old seat.new clock.old clock.new writer.old writer.new frames.old.items result }
     ensures count { StopsBy (W.failures writer.old) (W.failures writer.new) result }
-    ensures feed { feed.new ≡ feed.old }
-    ensures told { lack.new ≤ 2097152 }
+    ensures feed { held.new.feed ≡ held.old.feed }
+    ensures told { held.new.lack ≤ 2097152 }
     ensures ready { D.ready setting.now.desk.now seat.new }
     ensures lane { D.lane_of seat.new ≡ D.lane_of seat.old }
 {
-    if feed.lacking() == 0 {
-        lack.tell::<S, H, D>(setting.desk, 0);
-        return answer_all(setting, writer, out, seat, clock, frames);
+    if held.feed.lacking() == 0 {
+        held.lack.tell::<S, H, D>(setting.desk, 0);
+        return answer_all(setting, writer, &mut held.out, seat, clock, frames);
     }
-    lack.tell::<S, H, D>(setting.desk, UNMET);
-    let stop = answer_all(setting, writer, out, seat, clock, frames);
-    feed.restock();
-    lack.tell::<S, H, D>(setting.desk, feed.lacking() as u64);
+    held.lack.tell::<S, H, D>(setting.desk, UNMET);
+    let stop = answer_all(setting, writer, &mut held.out, seat, clock, frames);
+    held.feed.restock();
+    let lacking = held.feed.lacking() as u64;
+    held.lack.tell::<S, H, D>(setting.desk, lacking);
     stop
 }
 
 /// Asks what all the frames ask, and writes the replies. The feed has the room of the frames back then.
 fn answer_cut<H, W: Sink, S, D: Keeper<S, H>, C: Clock, G: Gate>(
     setting: &Setting<'_, H, D, G>,
-    feed: &mut Feed,
-    lack: &mut Lack,
-    out: &mut Vec<u8>,
+    held: &mut Held,
     writer: &mut W,
     seat: &mut S,
     clock: &mut C,
@@ -101,14 +114,14 @@ fn answer_cut<H, W: Sink, S, D: Keeper<S, H>, C: Clock, G: Gate>(
     ensures answers { Answers D.leads C.ticked W.took (D.lane_of seat.old)
         seat.old seat.new clock.old clock.new writer.old writer.new frames.items result }
     ensures count { StopsBy (W.failures writer.old) (W.failures writer.new) result }
-    ensures feed { feed.new ≡ feed.old }
-    ensures told { lack.new ≤ 2097152 }
+    ensures feed { held.new.feed ≡ held.old.feed }
+    ensures told { held.new.lack ≤ 2097152 }
     ensures ready { D.ready setting.now.desk.now seat.new }
     ensures lane { D.lane_of seat.new ≡ D.lane_of seat.old }
 {
     let mut frames = VecDeque::from(frames);
-    let stop = answer_fed(setting, feed, lack, out, writer, seat, clock, &mut frames);
-    feed.reuse(Vec::from(frames));
+    let stop = answer_fed(setting, held, writer, seat, clock, &mut frames);
+    held.feed.reuse(Vec::from(frames));
     stop
 }
 
@@ -122,6 +135,9 @@ struct Lacking<'a, S, H, D> {
 }
 
 impl<S, H, D: Keeper<S, H>> Warned for Lacking<'_, S, H, D> {
+    // The desk was told that more is lacking than there can be.
+    ghost is_warned = { λ l. l.lack.now ≡ 1099511627776 };
+
     fn warn(&mut self) {
         self.lack.tell::<S, H, D>(self.desk, UNMET);
     }
@@ -152,33 +168,31 @@ fn cut<H, S, D: Keeper<S, H>>(
 /// Cuts a piece of the stream, asks what its frames ask, and writes the replies. What ends the session is the answer.
 fn serve_piece<H, W: Sink, S, D: Keeper<S, H>, C: Clock, G: Gate>(
     setting: &Setting<'_, H, D, G>,
-    feed: &mut Feed,
-    lack: &mut Lack,
-    out: &mut Vec<u8>,
+    held: &mut Held,
     piece: &[u8],
     writer: &mut W,
     seat: &mut S,
     clock: &mut C,
 ) -> Option<Ended>
-    requires unfailed { fault_of feed.old ≡ None }
+    requires unfailed { fault_of held.old.feed ≡ None }
     requires ready { D.ready setting.now.desk.now seat.old }
     requires failures { W.failures writer.old < u64.MAX }
     ensures served { Served D.leads C.ticked W.took (D.lane_of seat.old)
-        seat.old seat.new clock.old clock.new writer.old writer.new feed.old feed.new piece.now result }
+        seat.old seat.new clock.old clock.new writer.old writer.new held.old.feed held.new.feed piece.now result }
     ensures count { PieceEndsBy (W.failures writer.old) (W.failures writer.new) result }
     ensures not_wire { result ≢ Some (Ended.Wire WireFault.Memory) }
-    ensures told { result ≡ None → lack.new ≤ 2097152 }
+    ensures told { result ≡ None → held.new.lack ≤ 2097152 }
     ensures ready { D.ready setting.now.desk.now seat.new }
     ensures lane { D.lane_of seat.new ≡ D.lane_of seat.old }
 {
-    match cut::<H, S, D>(setting.desk, feed, lack, piece) {
+    match cut::<H, S, D>(setting.desk, &mut held.feed, &mut held.lack, piece) {
         Err(fault) => match fault {
             WireFault::Memory => Some(Ended::Memory),
             _ => Some(Ended::Wire(fault)),
         },
-        Ok(frames) => match answer_cut(setting, feed, lack, out, writer, seat, clock, frames) {
+        Ok(frames) => match answer_cut(setting, held, writer, seat, clock, frames) {
             Some(stop) => Some(stop),
-            None => match feed.fault() {
+            None => match held.feed.fault() {
                 None => None,
                 Some(fault) => Some(Ended::Wire(fault)),
             },
@@ -191,73 +205,67 @@ fn serve_piece<H, W: Sink, S, D: Keeper<S, H>, C: Clock, G: Gate>(
 /// back since.
 fn serve_read<H, W: Sink, S, D: Keeper<S, H>, C: Clock, G: Gate>(
     setting: &Setting<'_, H, D, G>,
-    feed: &mut Feed,
-    lack: &mut Lack,
-    out: &mut Vec<u8>,
-    piece: &[u8],
-    writer: &mut W,
-    seat: &mut S,
-    clock: &mut C,
-) -> Option<Ended>
-    requires unfailed { fault_of feed.old ≡ None }
-    requires ready { D.ready setting.now.desk.now seat.old }
-    requires failures { W.failures writer.old < u64.MAX }
-    ensures served { Served D.leads C.ticked W.took (D.lane_of seat.old)
-        seat.old seat.new clock.old clock.new writer.old writer.new feed.old feed.new piece.now result }
-    ensures count { PieceEndsBy (W.failures writer.old) (W.failures writer.new) result }
-    ensures not_wire { result ≢ Some (Ended.Wire WireFault.Memory) }
-    ensures told { result ≡ None → lack.new ≤ 2097152 }
-    ensures ready { D.ready setting.now.desk.now seat.new }
-    ensures lane { D.lane_of seat.new ≡ D.lane_of seat.old }
-{
-    if setting.desk.is_short() {
-        if feed.lacking() > 0 {
-            feed.restock();
-        }
-        lack.tell::<S, H, D>(setting.desk, RESERVE as u64);
-    }
-    serve_piece(setting, feed, lack, out, piece, writer, seat, clock)
-}
-
-/// One read, and what it leads to. While it waits, it holds no more room for replies than it began with.
-fn turn<H, R: Source, W: Sink, S, D: Keeper<S, H>, C: Clock, G: Gate>(
-    setting: &Setting<'_, H, D, G>,
     held: &mut Held,
-    lack: &mut Lack,
-    reader: &mut R,
+    piece: &[u8],
     writer: &mut W,
     seat: &mut S,
     clock: &mut C,
 ) -> Option<Ended>
     requires unfailed { fault_of held.old.feed ≡ None }
     requires ready { D.ready setting.now.desk.now seat.old }
+    requires failures { W.failures writer.old < u64.MAX }
+    ensures served { Served D.leads C.ticked W.took (D.lane_of seat.old)
+        seat.old seat.new clock.old clock.new writer.old writer.new held.old.feed held.new.feed piece.now result }
+    ensures count { PieceEndsBy (W.failures writer.old) (W.failures writer.new) result }
+    ensures not_wire { result ≢ Some (Ended.Wire WireFault.Memory) }
+    ensures told { result ≡ None → held.new.lack ≤ 2097152 }
+    ensures ready { D.ready setting.now.desk.now seat.new }
+    ensures lane { D.lane_of seat.new ≡ D.lane_of seat.old }
+{
+    if setting.desk.is_short() {
+        if held.feed.lacking() > 0 {
+            held.feed.restock();
+        }
+        held.lack.tell::<S, H, D>(setting.desk, RESERVE as u64);
+    }
+    serve_piece(setting, held, piece, writer, seat, clock)
+}
+
+/// One read, and what it leads to. While it waits, it holds no more room for replies than it began with.
+fn turn<H, R: Source, W: Sink, S, D: Keeper<S, H>, C: Clock, G: Gate>(
+    setting: &Setting<'_, H, D, G>,
+    reading: &mut Reading,
+    reader: &mut R,
+    writer: &mut W,
+    seat: &mut S,
+    clock: &mut C,
+) -> Option<Ended>
+    requires unfailed { fault_of reading.old.held.feed ≡ None }
+    requires ready { D.ready setting.now.desk.now seat.old }
     requires room { HaveRoom 1 (counts_of R.reads R.empties R.failures W.failures reader.old writer.old) }
     ensures served { (bytes : List ℕ) × R.gave reader.old bytes reader.new × (length bytes ≤ 4096)
-        × Served D.leads C.ticked W.took (D.lane_of seat.old)
-        seat.old seat.new clock.old clock.new writer.old writer.new held.old.feed held.new.feed bytes result }
+        × Served D.leads C.ticked W.took (D.lane_of seat.old) seat.old seat.new clock.old clock.new
+        writer.old writer.new reading.old.held.feed reading.new.held.feed bytes result }
     ensures reads { R.reads reader.new ≡ R.reads reader.old + 1 }
     ensures count { TurnEndsBy
         (counts_of R.reads R.empties R.failures W.failures reader.old writer.old)
         (counts_of R.reads R.empties R.failures W.failures reader.new writer.new) result }
     ensures not_wire { result ≢ Some (Ended.Wire WireFault.Memory) }
-    ensures told { result ≡ None → lack.new ≤ 2097152 }
+    ensures told { result ≡ None → reading.new.held.lack ≤ 2097152 }
     ensures ready { D.ready setting.now.desk.now seat.new }
     ensures lane { D.lane_of seat.new ≡ D.lane_of seat.old }
 {
-    held.out.shrink_to(REPLY_ROOM);
-    match reader.read(&mut held.room) {
+    reading.held.out.shrink_to(REPLY_ROOM);
+    match reader.read(&mut reading.room) {
         Err(_) => Some(Ended::Read),
         Ok(n) => {
             if n == 0 {
                 return Some(Ended::Closed);
             }
-            let piece = &held.room[..n];
             serve_read(
                 setting,
-                &mut held.feed,
-                lack,
-                &mut held.out,
-                piece,
+                &mut reading.held,
+                &reading.room[..n],
                 writer,
                 seat,
                 clock,
@@ -267,40 +275,73 @@ fn turn<H, R: Source, W: Sink, S, D: Keeper<S, H>, C: Clock, G: Gate>(
 }
 
 /// Turns until something ends the session.
-fn serve<H, R: Source, W: Sink, S, D: Keeper<S, H>, C: Clock, G: Gate>(
+fn serve_turns<H, R: Source, W: Sink, S, D: Keeper<S, H>, C: Clock, G: Gate>(
     setting: &Setting<'_, H, D, G>,
-    lack: &mut Lack,
+    reading: &mut Reading,
     reader: &mut R,
     writer: &mut W,
     seat: &mut S,
     clock: &mut C,
-    turns: u64,
 ) -> Ended
+    requires nothing { reading.old.held.feed ≡ rest [] }
+    requires empty { Frames [] [] reading.old.held.feed }
     requires ready { D.ready setting.now.desk.now seat.old }
-    requires room { HaveRoom turns (counts_of R.reads R.empties R.failures W.failures reader.old writer.old) }
+    requires room { HaveRoom setting.now.turns
+        (counts_of R.reads R.empties R.failures W.failures reader.old writer.old) }
     ensures finished { Finished R.gave D.leads C.ticked W.took (D.lane_of seat.old)
         (R.reads reader.new - R.reads reader.old)
         reader.old reader.new seat.old seat.new clock.old clock.new writer.old writer.new result }
-    ensures count { EndsBy turns
+    ensures count { EndsBy setting.now.turns
         (counts_of R.reads R.empties R.failures W.failures reader.old writer.old)
         (counts_of R.reads R.empties R.failures W.failures reader.new writer.new) result }
-    ensures bounded { R.reads reader.new ≤ R.reads reader.old + turns }
+    ensures bounded { R.reads reader.new ≤ R.reads reader.old + setting.now.turns }
     ensures not_wire { result ≢ Ended.Wire WireFault.Memory }
     ensures ready { D.ready setting.now.desk.now seat.new }
     ensures lane { D.lane_of seat.new ≡ D.lane_of seat.old }
 {
-    let mut held = Held::new(setting.alloc);
-    for made in 0..turns {
-        if let Some(ended) = turn(setting, &mut held, lack, reader, writer, seat, clock) {
+    for made in 0..setting.turns {
+        if let Some(ended) = turn(setting, reading, reader, writer, seat, clock) {
             return ended;
         }
     }
     Ended::Turns
 }
 
+/// A session without its LEAVE. It lacks nothing any more then.
+fn serve<H, R: Source, W: Sink, S, D: Keeper<S, H>, C: Clock, G: Gate>(
+    setting: &Setting<'_, H, D, G>,
+    reader: &mut R,
+    writer: &mut W,
+    seat: &mut S,
+    clock: &mut C,
+) -> Ended
+    requires ready { D.ready setting.now.desk.now seat.old }
+    requires room { HaveRoom setting.now.turns
+        (counts_of R.reads R.empties R.failures W.failures reader.old writer.old) }
+    ensures finished { Finished R.gave D.leads C.ticked W.took (D.lane_of seat.old)
+        (R.reads reader.new - R.reads reader.old)
+        reader.old reader.new seat.old seat.new clock.old clock.new writer.old writer.new result }
+    ensures count { EndsBy setting.now.turns
+        (counts_of R.reads R.empties R.failures W.failures reader.old writer.old)
+        (counts_of R.reads R.empties R.failures W.failures reader.new writer.new) result }
+    ensures bounded { R.reads reader.new ≤ R.reads reader.old + setting.now.turns }
+    ensures not_wire { result ≢ Ended.Wire WireFault.Memory }
+    ensures ready { D.ready setting.now.desk.now seat.new }
+    ensures lane { D.lane_of seat.new ≡ D.lane_of seat.old }
+{
+    let mut reading = Reading {
+        room: [0u8; READ_SIZE],
+        held: Held::new(setting.alloc),
+    };
+    let ended = serve_turns(setting, &mut reading, reader, writer, seat, clock);
+    let Reading { room: _, held } = reading;
+    held.end::<S, H, D>(setting.desk);
+    ended
+}
+
 /// Serves a connection to its end: docs/FORMAT.md, "A connection". A turn is one read of at most 4096 bytes, and
-/// after `turns` turns the session ends. Each ask takes one answer of the clock, and passes the gate before it goes
-/// to the desk and after its reply is there. The replies to what a turn brought go out together, or in pieces of about
+/// after `turns` turns the session ends. Each ask takes one answer of the clock, which is asked anew for the first that a
+/// read brings, and passes the gate before it goes to the desk and after its reply is there. The replies to what a turn brought go out together, or in pieces of about
 /// 64 KiB. However the session ends, LEAVE is asked last in the same way, and its reply is not written.
 pub fn run<H, R: Source, W: Sink, S, D: Keeper<S, H>, C: Clock, G: Gate>(
     rt: &H,
@@ -335,10 +376,9 @@ pub fn run<H, R: Source, W: Sink, S, D: Keeper<S, H>, C: Clock, G: Gate>(
         alloc,
         desk,
         gate,
+        turns,
     };
-    let mut lack = Lack::new();
-    let ended = serve(&setting, &mut lack, reader, writer, seat, clock, turns);
-    lack.end::<S, H, D>(desk);
+    let ended = serve(&setting, reader, writer, seat, clock);
     let leave = Ask {
         context: 0,
         op: Op::Leave,

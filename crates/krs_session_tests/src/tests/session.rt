@@ -5,7 +5,9 @@ mod joined;
 mod memory;
 mod tagged;
 
-use fakes::{Bites, Chair, Rising, Table, Then, Watching, chair_of, reader_of, watches, writer_of};
+use fakes::{
+    Anew, Bites, Chair, Rising, Table, Then, Watching, chair_of, reader_of, watches, writer_of,
+};
 use krs_session::*;
 use krs_wire::WireFault;
 use std::alloc::Global;
@@ -180,6 +182,36 @@ fn each_end_is_told_and_leave_is_asked_last(rt: HostRuntime) {
     for case in &CASES {
         check(&rt, rt.alloc(), case);
     }
+}
+
+// The moment of LEAVE, where the clock answers 100 first, and goes on by a second each time that it is asked anew.
+fn last_moment(rt: &impl Abort, alloc: Global, next: usize, later: usize) -> u64 {
+    let mut reader = reader_of(&ASKS, next, later, Then::GivesNone);
+    let mut writer = writer_of(alloc, 4096, 4096, Then::GivesNone);
+    let mut seat = chair_of(alloc, 7, 1);
+    let mut clock = Anew { last: 99 };
+    let gate = watches(7);
+    let _ = run(
+        rt,
+        alloc,
+        &mut reader,
+        &mut writer,
+        &Table,
+        &mut seat,
+        &mut clock,
+        &gate,
+        99,
+    );
+    seat.moment
+}
+
+// Three asks of one read have one moment, and LEAVE has the next; in reads of their own each has one of its own.
+#[test]
+fn the_clock_is_asked_anew_once_a_read(rt: HostRuntime) {
+    let together = last_moment(&rt, rt.alloc(), 4096, 4096);
+    assert!(rt; together == 101);
+    let apart = last_moment(&rt, rt.alloc(), 24, 35);
+    assert!(rt; apart == 103);
 }
 
 // A reply of ENOMEM is a reply as any other, and the session goes on.

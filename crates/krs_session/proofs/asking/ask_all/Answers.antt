@@ -1,4 +1,6 @@
 use Rattle.std.proofs.Common.{List, [], ◌∷◌, ◌++◌, ◌∙◌, subst, refl, sym, ap, append_assoc, ℕ}
+use Rattle.krs_types.specs.declared.event.Event.{Event}
+use Rattle.krs_model.specs.History.{event_of}
 use Rattle.krs_wire.specs.declared.framed.Framed.{Framed}
 use Rattle.krs_session.specs.Serving.{Asked}
 use Rattle.krs_session.proofs.JoinLemmas.{holds_more, holds_none, stops_next}
@@ -20,13 +22,15 @@ frames-init g c = record {
 
 pub frames-preserved : goal.frames-preserved
 frames-preserved g c =
-    let e = c.answer_one-stop.ensures in
     let i = c.frames.invariant in
     let done : List Framed = i.state.0 in
     let framed : Framed = c.in-Some.framed in
+    let event : Event =
+    event_of (g.D.Keeper.lane_of c.frames.seat) c.moment_of-moment.result framed.ask c.ask_at-reply.result in
     let one =
-    subst (λ (n : ℕ). Asked g.D.Keeper.leads g.C.Clock.ticked n c.frames.seat c.answer_one-stop.new.seat
-    c.frames.clock c.answer_one-stop.new.clock (e.asked.0 ∷ [])) i.lane e.asked.2 in
+    subst (λ (n : ℕ). Asked g.D.Keeper.leads g.C.Clock.ticked n c.frames.seat c.ask_at-reply.new.seat
+    c.frames.clock c.moment_of-moment.new.clock (event ∷ [])) i.lane
+    (record { led = c.ask_at-reply.ensures.led; moments = c.moment_of-moment.ensures; lanes = (refl, tt) }) in
     record {
       state = (
         done ++ framed ∷ [],
@@ -34,9 +38,9 @@ frames-preserved g c =
             ∙ (ap (λ (l : List Framed). done ++ l) (sym c.in-Some.ensures.items) ∙ i.state.1),
         holds_more g.D.Keeper.leads g.C.Clock.ticked g.W.Sink.took g.met.D.Keeper.joins g.met.C.Clock.joins
             g.met.W.Sink.joins
-            _ _ _ _ _ _ _ _ _ _ _ _ _ _ e.asked.0 _ _ i.state.2 e.asked.1 one e.asked.3,
+            _ _ _ _ _ _ _ _ _ _ _ _ _ _ event _ _ i.state.2 refl one c.reply_behind-stop.ensures.sent,
       );
-      count = stops_next _ _ _ _ _ i.count e.count;
-      ready = e.ready;
-      lane = e.lane ∙ i.lane;
+      count = stops_next _ _ _ _ _ i.count c.reply_behind-stop.ensures.count;
+      ready = c.ask_at-reply.ensures.ready;
+      lane = c.ask_at-reply.ensures.lane ∙ i.lane;
     }

@@ -33,7 +33,7 @@ pub returns-in-Some-clause-served : goal.returns-in-Some-clause-served
 returns-in-Some-clause-served g c =
     let e = c.in-Some.ensures.answers in
     let fed =
-    subst (λ (f : End). Feeds c.args.feed.now c.args.piece.now c.in-Ok.frames.items f) (sym c.in-Some.ensures.feed)
+    subst (λ (f : End). Feeds c.args.held.now.feed c.args.piece.now c.in-Ok.frames.items f) (sym c.in-Some.ensures.feed)
     c.in-Ok.ensures.frames in
     record {
       frames = c.in-Ok.frames.items;
@@ -53,7 +53,7 @@ pub returns-in-None-fault-clause-served : goal.returns-in-None-fault-clause-serv
 returns-in-None-fault-clause-served g c =
     let e = c.in-None.ensures.answers in
     let fed =
-    subst (λ (f : End). Feeds c.args.feed.now c.args.piece.now c.in-Ok.frames.items f) (sym c.in-None.ensures.feed)
+    subst (λ (f : End). Feeds c.args.held.now.feed c.args.piece.now c.in-Ok.frames.items f) (sym c.in-None.ensures.feed)
     c.in-Ok.ensures.frames in
     record {
       frames = c.in-Ok.frames.items;
@@ -67,7 +67,7 @@ pub returns-in-Some-fault-clause-served : goal.returns-in-Some-fault-clause-serv
 returns-in-Some-fault-clause-served g c =
     let e = c.in-None.ensures.answers in
     let fed =
-    subst (λ (f : End). Feeds c.args.feed.now c.args.piece.now c.in-Ok.frames.items f) (sym c.in-None.ensures.feed)
+    subst (λ (f : End). Feeds c.args.held.now.feed c.args.piece.now c.in-Ok.frames.items f) (sym c.in-None.ensures.feed)
     c.in-Ok.ensures.frames in
     record {
       frames = c.in-Ok.frames.items;

@@ -150,6 +150,29 @@ impl Clock for Rising {
     }
 }
 
+/// A clock that answers 100, 101 and so on where it is asked anew, and its last answer where it is asked again.
+#[derive(Drop)]
+pub(super) struct Anew {
+    pub last: u64,
+}
+
+impl Clock for Anew {
+    ghost ticked = { λ a moments b. Unit {0} };
+
+    ghost starts = { λ a. tt };
+
+    ghost joins = { λ a b c xs ys p q. tt };
+
+    fn now(&mut self) -> u64 {
+        self.last = self.last.wrapping_add(1);
+        self.last
+    }
+
+    fn again(&mut self) -> u64 {
+        self.last
+    }
+}
+
 /// A gate that counts the asks which passed it at Asked and then at Answered, on its lane.
 #[derive(Drop)]
 pub(super) struct Watching {

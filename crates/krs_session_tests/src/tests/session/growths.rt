@@ -4,18 +4,19 @@ ghost use Rattle.std.specs.Prelude.{◌≡◌, All, IfOk};
 ghost use Rattle.krs_desk.specs.Sitting.{IsIdleAt};
 ghost use Rattle.krs_session.specs.Over.{over_reads, over_empties, over_failures};
 
-use super::fakes::watches;
+use super::fakes::{Pieces, Rising, Then, reader_of, watches};
 use super::memory::{converse, with_room};
 use super::{ASKS, HELLO};
 use crate::tests::serve::{Open, Still};
 use krs_desk::{Desk, Seat};
 use krs_desk_tests::{one_seat, two_seats};
 use krs_serve::{Entry, run_sessions};
-use krs_session::{Ended, Keeper, Over};
+use krs_session::{Ended, Failed, Keeper, Over, Source, run};
 use krs_store::Store;
 use krs_store_asks::{Want, add, hello, is_wanted, number_of, read};
 use krs_types::{Answer, Ask, Errno, Op, Reply};
 use std::alloc::{AllocError, Global};
+use std::cell::Cell;
 use std::sync::atomic::{AtomicU64, Ordering};
 use std::test::*;
 
@@ -203,4 +204,98 @@ fn sessions_that_began_leave(rt: HostRuntime) -> Result<(), Fail> {
         assert!(rt; leaves == 1 || (ended.is_err() && hellos == 0));
     }
     Ok(())
+}
+
+/// A desk that accepts all, and keeps how much its session has told to be lacking. A seat is its lane.
+#[derive(Drop)]
+struct Hears {
+    told: Cell<u64>,
+}
+
+impl<R> Keeper<u32, R> for Hears {
+    ghost ready = { λ d s. Unit {0} };
+
+    ghost lane_of = { λ s. s };
+
+    ghost leads = { λ s events t. Unit {0} };
+
+    fn lane(&self, seat: &u32) -> u32 {
+        *seat
+    }
+
+    fn call(&self, _rt: &R, _seat: &mut u32, _moment: u64, _ask: Ask) -> Reply {
+        Ok(Answer::Nothing)
+    }
+
+    fn is_short(&self) -> bool {
+        false
+    }
+
+    fn tell_lack(&self, told: &mut u64, lack: u64) {
+        *told = lack;
+        self.told.set(lack);
+    }
+
+    ghost starts = { λ s. tt };
+
+    ghost joins = { λ s t u xs ys p q. tt };
+}
+
+/// A reader in pieces that notes the most which its session had told to be lacking as it came to read.
+#[derive(Drop)]
+struct Waits<'a> {
+    pieces: Pieces<'a>,
+    told: &'a Cell<u64>,
+    lacked: u64,
+}
+
+impl<'a> Source for Waits<'a> {
+    ghost gave = { λ a bytes b. Unit {0} };
+
+    ghost reads = { λ a. a.pieces.reads };
+
+    ghost empties = { λ a. a.pieces.empties };
+
+    ghost failures = { λ a. a.pieces.failures };
+
+    ghost starts = { λ a. tt };
+
+    ghost joins = { λ a b c xs ys p q. tt };
+
+    fn read(&mut self, room: &mut [u8]) -> Result<usize, Failed> {
+        self.lacked = self.lacked.max(self.told.get());
+        self.pieces.read(room)
+    }
+}
+
+// What a session had not of its reserve, or let go of it, it has taken back before it waits to read again: one growth
+// alone is refused.
+#[test]
+fn a_session_that_waits_lacks_nothing(rt: HostRuntime) {
+    let alloc = rt.alloc();
+    let desk = Hears { told: Cell::new(0) };
+    let mut reader = Waits {
+        pieces: reader_of(&ASKS, 24, 35, Then::GivesNone),
+        told: &desk.told,
+        lacked: 0,
+    };
+    let mut writer = Over::new(with_room(alloc));
+    let mut seat = 0;
+    let mut clock = Rising { at: 100 };
+    let ended = run(
+        &rt,
+        alloc,
+        &mut reader,
+        &mut writer,
+        &desk,
+        &mut seat,
+        &mut clock,
+        &watches(0),
+        99,
+    );
+    let lacked = reader.lacked;
+    assert!(rt;
+        lacked == 0 && desk.told.get() == 0,
+        "{lacked} bytes, {ended:?}"
+    );
 }

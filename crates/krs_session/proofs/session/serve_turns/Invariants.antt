@@ -2,13 +2,13 @@ use Rattle.std.proofs.Common.{◌≡◌, ◌+◌}
 use Rattle.std.specs.Prelude.{None}
 use Rattle.krs_wire.specs.Feeding.{fault_of}
 use Rattle.krs_session.proofs.PieceLemmas.{SoFar}
-use Rattle.krs_session.proofs.session.serve.Given as goal
+use Rattle.krs_session.proofs.session.serve_turns.Given as goal
 
 abbrev pub invariant-loop-made : goal.invariant-loop-made
 invariant-loop-made g l = record {
   state : SoFar g.R.Source.gave g.D.Keeper.leads g.C.Clock.ticked g.W.Sink.took (g.D.Keeper.lane_of l.initial.seat)
-      l.made l.initial.reader l.reader l.initial.seat l.seat l.initial.clock l.clock l.initial.writer l.writer l.held.feed;
-  unfailed : fault_of l.held.feed ≡ None;
+      l.made l.initial.reader l.reader l.initial.seat l.seat l.initial.clock l.clock l.initial.writer l.writer l.reading.held.feed;
+  unfailed : fault_of l.reading.held.feed ≡ None;
   reads : g.R.Source.reads l.reader ≡ g.R.Source.reads l.initial.reader + l.made;
   empties : g.R.Source.empties l.reader ≡ g.R.Source.empties l.initial.reader;
   read_failures : g.R.Source.failures l.reader ≡ g.R.Source.failures l.initial.reader;

@@ -2,15 +2,15 @@ use Rattle.std.proofs.Common.{ap, ◌∙◌, refl, arith}
 use Rattle.krs_wire.specs.Feeding.{fault_of}
 use Rattle.krs_session.specs.Session.{Counts}
 use Rattle.krs_session.proofs.PieceLemmas.{so_far_none, so_far_more, so_far_ends, turn_ends}
-use Rattle.krs_session.proofs.session.serve.Goals as goal
+use Rattle.krs_session.proofs.session.serve_turns.Goals as goal
 
 pub loop-made-init : goal.loop-made-init
 loop-made-init g c = record {
   state = so_far_none g.R.Source.gave g.D.Keeper.leads g.C.Clock.ticked g.W.Sink.took g.met.R.Source.joins
       g.met.D.Keeper.joins g.met.C.Clock.joins g.met.W.Sink.joins
       _ _ _ _ _ _ (g.met.R.Source.starts _) (g.met.D.Keeper.starts _) (g.met.C.Clock.starts _) (g.met.W.Sink.starts _)
-      c.new-held.ensures.empty;
-  unfailed = ap fault_of c.new-held.ensures.nothing;
+      c.requires.empty;
+  unfailed = ap fault_of c.requires.nothing;
   reads = omega arith;
   empties = refl;
   read_failures = refl;
