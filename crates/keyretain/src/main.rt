@@ -1,6 +1,7 @@
 //! A client of a key store.
 #![tactic(auto)]
 
+use krs_ctl::Voice;
 use std::env;
 use std::process::ExitCode;
 
@@ -12,6 +13,6 @@ fn main(rt: HostRuntime) -> ExitCode {
         words,
         rt.reader(),
         &mut rt.stdout(),
-        &mut rt.stderr(),
+        &mut Voice::new(rt.stderr()),
     ))
 }

@@ -1,9 +1,8 @@
 -- What the program does: docs/FORMAT.md, "The client, keyretain".
 use Rattle.std.specs.Prelude.{ℕ, ◌≡◌, ◌≢◌, ◌⊎◌, List, Option, codes, string_bytes}
 use Rattle.krs_model.specs.State.{starting_at}
-use Rattle.krs_words.specs.Writing.{WritesFront}
+use Rattle.krs_words.specs.Saying.{Heard, Says as Tells}
 use Rattle.krs_script.specs.Ending.{Says}
-use Rattle.krs_script.specs.Telling.{MayTell}
 use Rattle.krs_remote.specs.Remote.{EndsRemote}
 use Rattle.krs_remote.specs.Call.{EndsCall}
 use Rattle.krs_ctl.specs.declared.choice.Call.{Call as CallIs}
@@ -11,6 +10,7 @@ use Rattle.krs_ctl.specs.declared.choice.Choice.{Choice}
 use Rattle.krs_ctl.specs.declared.choice.Choice.TheVariants.{Script, Remote, Call, Usage, NoCommand, Memory, Shown, Refused}
 use Rattle.krs_ctl.specs.declared.script.ScriptEnd.{ScriptEnd}
 use Rattle.krs_ctl.specs.Running.{EndsScript}
+use Rattle.krs_ctl.specs.Telling.{TellsOf, TellsScript, TellsOver}
 
 -- there is no connection, or no memory to make one
 abbrev pub SaysUnconnected : Option (List ℕ) → Option (List ℕ) → ℕ → Type 0
@@ -31,28 +31,30 @@ CallsAt call old new status =
     ⊎ ((sent0 : Option (List ℕ)) × (sent1 : Option (List ℕ)) × (left : Option (List ℕ))
     × EndsCall call.caller call.command old new sent0 sent1 left status)
 
--- What is printed, and the status. A script runs on a new store, or over a connection; one with status 0, which came to
--- its end with nothing refused, tells nothing on standard error, nor does a single call whose status is not 3. What is
--- refused of the words is told there, as far as that takes it, and nothing is printed; of words that are none, where help
--- is to be had, and of those that are no command, some text. Every other choice says one text on standard output, and
--- nothing on standard error.
-abbrev pub Answers : Choice → Option (List ℕ) → Option (List ℕ) → Option (List ℕ) → Option (List ℕ) → Option (List ℕ)
-    → ℕ → Type 0
+-- What is printed, and the status. A script runs on a new store, or over a connection; of one that stopped a line is
+-- told on standard error, and of one with status 0, which came to its end with nothing refused, nothing; of a single
+-- call a line where its status is 3, and nothing else. What is refused of the words is told there, and nothing is
+-- printed; of words that are none, where help is to be had, and of those that are no command, some text. Every other
+-- choice says one text on standard output, and nothing on standard error. What is told stands there whole, or standard
+-- error has failed, or there was no memory for it.
+abbrev pub Answers : Choice → Option (List ℕ) → Option (List ℕ) → Option (List ℕ) → Heard → Heard → ℕ → Type 0
 Answers Script input old new old_errors new_errors status =
     ((end : ScriptEnd) × EndsScript input old new (starting_at 3) end × (status ≡ end.status))
-    × MayTell old_errors new_errors × (status ≡ 0 → new_errors ≡ old_errors)
+    × TellsScript status old_errors new_errors × (status ≡ 0 → new_errors ≡ old_errors)
 Answers (Remote path) input old new old_errors new_errors status =
-    RunsAt input old new status × MayTell old_errors new_errors × (status ≡ 0 → new_errors ≡ old_errors)
+    RunsAt input old new status × TellsOver (string_bytes path) status old_errors new_errors
+    × (status ≡ 0 → new_errors ≡ old_errors)
 Answers (Call call) input old new old_errors new_errors status =
-    CallsAt call old new status × MayTell old_errors new_errors × (status ≢ 3 → new_errors ≡ old_errors)
+    CallsAt call old new status × (status ≡ 3 → TellsOf (string_bytes call.path) old_errors new_errors)
+    × (status ≢ 3 → new_errors ≡ old_errors)
 Answers Usage input old new old_errors new_errors status =
     Says old new (codes "usage\n") 2 status
-    × WritesFront old_errors new_errors (codes "keyretain: see keyretain --help\n")
+    × Tells old_errors new_errors (codes "keyretain: see keyretain --help\n")
 Answers (NoCommand text) input old new old_errors new_errors status =
-    Says old new (codes "usage\n") 2 status × WritesFront old_errors new_errors text.items
+    Says old new (codes "usage\n") 2 status × Tells old_errors new_errors text.items
 Answers Memory input old new old_errors new_errors status =
     Says old new (codes "error 12 ENOMEM\n") 1 status × (new_errors ≡ old_errors)
 Answers (Shown text) input old new old_errors new_errors status =
     Says old new (string_bytes text) 0 status × (new_errors ≡ old_errors)
 Answers (Refused text) input old new old_errors new_errors status =
-    WritesFront old_errors new_errors (string_bytes text) × (new ≡ old) × (status ≡ 2)
+    Tells old_errors new_errors (string_bytes text) × (new ≡ old) × (status ≡ 2)

@@ -1,13 +1,14 @@
 //! What is done over a connection, which is made first.
 
-ghost use Rattle.std.specs.Prelude.{◌≡◌, ◌≢◌, ◌⊎◌};
-ghost use Rattle.krs_script.specs.Telling.{MayTell};
+ghost use Rattle.std.specs.Prelude.{◌≡◌, ◌≢◌, ◌⊎◌, IfOk, None, codes, string_bytes};
+ghost use Rattle.krs_words.specs.Saying.{heard, Says};
 ghost use Rattle.krs_ctl.specs.Program.{CallsAt, RunsAt, SaysUnconnected};
+ghost use Rattle.krs_ctl.specs.Telling.{TellsOf, TellsOver, path_text};
 
 use crate::choice::Call;
 use krs_remote::{run_call, run_remote_at};
 use krs_script::{NO_CONNECTION, OUT_OF_MEMORY, Place, push_quoted, say, tell};
-use krs_words::write_text;
+use krs_words::Voice;
 use std::alloc::{AllocError, Global};
 use std::io;
 use std::io::{ErrorKind, Read, Write};
@@ -25,11 +26,11 @@ pub(crate) fn script_at<N: Net, R: Read + Drop, W: Write, E: Write>(
     path: &str,
     input: R,
     output: &mut W,
-    errors: &mut E,
+    errors: &mut Voice<E>,
 ) -> u8
     ensures runs { RunsAt (R.remaining input) (W.contents output.old) (W.contents output.new) result }
-    ensures told { MayTell (E.contents errors.old) (E.contents errors.new) }
-    ensures well { result ≡ 0 → E.contents errors.new ≡ E.contents errors.old }
+    ensures told { TellsOver path.now result (heard E.contents errors.old) (heard E.contents errors.new) }
+    ensures well { result ≡ 0 → heard E.contents errors.new ≡ heard E.contents errors.old }
 {
     let mut place = Place::start(alloc);
     match UnixStream::connect(net, path) {
@@ -54,11 +55,12 @@ pub(crate) fn call_at<N: Net, W: Write, E: Write>(
     alloc: Global,
     call: Call,
     output: &mut W,
-    errors: &mut E,
+    errors: &mut Voice<E>,
 ) -> u8
     ensures calls { CallsAt call (W.contents output.old) (W.contents output.new) result }
-    ensures told { MayTell (E.contents errors.old) (E.contents errors.new) }
-    ensures well { result ≢ 3 → E.contents errors.new ≡ E.contents errors.old }
+    ensures told { result ≡ 3
+        → TellsOf (string_bytes call.path) (heard E.contents errors.old) (heard E.contents errors.new) }
+    ensures well { result ≢ 3 → heard E.contents errors.new ≡ heard E.contents errors.old }
 {
     match UnixStream::connect(net, call.path.as_str()) {
         Ok(stream) => {
@@ -79,12 +81,16 @@ pub(crate) fn call_at<N: Net, W: Write, E: Write>(
 /// status nothing is told.
 fn tell_end<E: Write>(
     alloc: Global,
-    errors: &mut E,
+    errors: &mut Voice<E>,
     path: &str,
     status: u8,
     cause: Option<io::Error>,
 )
-    ensures told { MayTell (E.contents errors.old) (E.contents errors.new) }
+    ensures told { status ≡ 3
+        → TellsOf path.now (heard E.contents errors.old) (heard E.contents errors.new) }
+    ensures failed { status ≡ 3 → cause ≡ None
+        → Says (heard E.contents errors.old) (heard E.contents errors.new) (path_text path.now (codes
+        "the connection failed, or gave no reply; or standard output cannot be written")) }
     ensures well { status ≢ 3 → errors.new ≡ errors.old }
 {
     if status != 3 {
@@ -97,25 +103,29 @@ fn tell_end<E: Write>(
 }
 
 /// Tells why there is no connection.
-fn tell_cause<E: Write>(alloc: Global, errors: &mut E, path: &str, error: &io::Error)
-    ensures { MayTell (E.contents errors.old) (E.contents errors.new) }
+fn tell_cause<E: Write>(alloc: Global, errors: &mut Voice<E>, path: &str, error: &io::Error)
+    ensures { TellsOf path.now (heard E.contents errors.old) (heard E.contents errors.new) }
 {
-    if let Ok(cause) = format!(in alloc; "{error}") {
-        tell_of(alloc, errors, path, cause.as_str());
+    match format!(in alloc; "{error}") {
+        Ok(cause) => tell_of(alloc, errors, path, cause.as_str()),
+        Err(_) => errors.lack(),
     }
 }
 
 /// Tells something of a path, as far as memory and the writer allow.
-fn tell_of<E: Write>(alloc: Global, errors: &mut E, path: &str, what: &str)
-    ensures { MayTell (E.contents errors.old) (E.contents errors.new) }
+fn tell_of<E: Write>(alloc: Global, errors: &mut Voice<E>, path: &str, what: &str)
+    ensures { Says (heard E.contents errors.old) (heard E.contents errors.new) (path_text path.now what.now) }
 {
-    if let Ok(text) = text_of(alloc, path, what) {
-        let _ = write_text(errors, text.as_slice());
+    match text_of(alloc, path, what) {
+        Ok(text) => errors.tell(text.as_slice()),
+        Err(_) => errors.lack(),
     }
 }
 
 /// The line that is told of a path.
-fn text_of(alloc: Global, path: &str, what: &str) -> Result<Vec<u8>, AllocError> {
+fn text_of(alloc: Global, path: &str, what: &str) -> Result<Vec<u8>, AllocError>
+    ensures { IfOk result (λ text. text.items ≡ path_text path.now what.now) }
+{
     let mut text = Vec::from_slice(alloc, b"keyretain: ")?;
     push_quoted(&mut text, path.as_bytes())?;
     text.extend_from_slice(b": ")?;

@@ -10,6 +10,7 @@ mod program;
 mod script;
 
 pub use krs_remote::run_remote;
+pub use krs_words::Voice;
 pub use laws::listed_keys;
 pub use program::run_program;
 pub use script::{ScriptEnd, run_script};

@@ -1,7 +1,7 @@
 ghost use Rattle.std.specs.Prelude.{IfOk, IfErr, map, codes, string_bytes};
 ghost use Rattle.std.specs.IoError.{error_kind};
 ghost use Rattle.std.specs.Vec.Iter.{into_iter_items};
-ghost use Rattle.krs_words.specs.Writing.{WritesFront};
+ghost use Rattle.krs_words.specs.Saying.{heard, Says as Tells};
 ghost use Rattle.krs_script.specs.Ending.{Says};
 ghost use Rattle.krs_ctl.specs.declared.choice.Choice.{Choice as ChoiceIs};
 ghost use Rattle.krs_ctl.specs.Choice.{IsUnread};
@@ -13,7 +13,7 @@ use crate::connecting::{call_at, script_at};
 use crate::script::run_script_at;
 use krs_script::{OUT_OF_MEMORY, Place, USAGE, say, tell};
 use krs_store::Store;
-use krs_words::write_text;
+use krs_words::Voice;
 use std::alloc::Global;
 use std::env::Args;
 use std::io;
@@ -31,13 +31,13 @@ pub fn run_program<N: Net, R: Read + Drop, W: Write, E: Write>(
     words: io::Result<Args>,
     input: R,
     output: &mut W,
-    errors: &mut E,
+    errors: &mut Voice<E>,
 ) -> u8
     ensures { (choice : ChoiceIs)
         × IfOk words (λ words. LeadsTo (map string_bytes (into_iter_items words)) choice)
         × IfErr words (λ error. IsUnread (error_kind error) choice)
         × Answers choice (R.remaining input) (W.contents output.old) (W.contents output.new)
-        (E.contents errors.old) (E.contents errors.new) result }
+        (heard E.contents errors.old) (heard E.contents errors.new) result }
 {
     let choice = choose(alloc, words);
     answer(net, alloc, choice, input, output, errors)
@@ -50,10 +50,10 @@ fn answer<N: Net, R: Read + Drop, W: Write, E: Write>(
     choice: Choice,
     input: R,
     output: &mut W,
-    errors: &mut E,
+    errors: &mut Voice<E>,
 ) -> u8
     ensures { Answers choice (R.remaining input) (W.contents output.old) (W.contents output.new)
-        (E.contents errors.old) (E.contents errors.new) result }
+        (heard E.contents errors.old) (heard E.contents errors.new) result }
 {
     match choice {
         Choice::Script => {
@@ -67,25 +67,25 @@ fn answer<N: Net, R: Read + Drop, W: Write, E: Write>(
         Choice::Call(call) => call_at(net, alloc, call, output, errors),
         Choice::Usage => say_usage(output, errors),
         Choice::NoCommand(text) => {
-            let _ = write_text(errors, text.as_slice());
+            errors.tell(text.as_slice());
             say(output, USAGE, 2)
         }
         Choice::Memory => say_out_of_memory(output),
         Choice::Shown(text) => say(output, text.as_str(), 0),
         Choice::Refused(text) => {
-            let _ = write_text(errors, text.as_bytes());
+            errors.say(text.as_str());
             2
         }
     }
 }
 
 /// Prints `usage`, and on the other output where help is to be had.
-fn say_usage<W: Write, E: Write>(output: &mut W, errors: &mut E) -> u8
+fn say_usage<W: Write, E: Write>(output: &mut W, errors: &mut Voice<E>) -> u8
     ensures said { Says (W.contents output.old) (W.contents output.new) (codes "usage\n") 2 result }
-    ensures told { WritesFront (E.contents errors.old) (E.contents errors.new)
+    ensures told { Tells (heard E.contents errors.old) (heard E.contents errors.new)
         (codes "keyretain: see keyretain --help\n") }
 {
-    let _ = write_text(errors, HINT.as_bytes());
+    errors.say(HINT);
     say(output, USAGE, 2)
 }
 

@@ -1,13 +1,13 @@
 ghost use Rattle.std.specs.Prelude.{◌≡◌, Ok};
 ghost use Rattle.krs_ctl.specs.Running.{EndsScript};
 
-use krs_commands::{Command, parse};
-use krs_script::{MOST_LINES, Place, READ_AHEAD, finish, listing, records, write_before_waiting};
+use krs_commands::Command;
+use krs_script::{Carries, Place, listing, records, run_by};
 use krs_store::Store;
 use krs_types::{Answer, Ask, Op, Reply};
-use krs_words::{Output, Stop, is_comment, print_output, words};
+use krs_words::{Output, Stop};
 use std::alloc::Global;
-use std::io::{BufReader, Read, Write};
+use std::io::{Read, Write};
 
 /// The client number of a script: it has its store for itself.
 const CLIENT: u32 = 0;
@@ -47,6 +47,7 @@ pub(crate) fn run_script_at<R: Read + Drop, W: Write>(
     ensures ends { EndsScript (R.remaining reader) (W.contents writer.old) (W.contents writer.new)
         store result.0 }
     ensures whole { result.0.status ≡ 0 → result.1 ≡ Ok tt }
+    ensures usage { result.0.status ≡ 2 → result.1 ≡ Err Stop.Usage }
 {
     let mut script = Script {
         store,
@@ -54,9 +55,7 @@ pub(crate) fn run_script_at<R: Read + Drop, W: Write>(
         moment: 0,
         refused: false,
     };
-    let mut pending = Vec::new(alloc);
-    let stopped = script.run(alloc, reader, writer, &mut pending, place);
-    let status = finish(writer, &mut pending, stopped, script.refused);
+    let (status, stopped) = run_by(alloc, &mut script, reader, writer, place);
     let end = ScriptEnd {
         status,
         store: script.store,
@@ -73,74 +72,41 @@ struct Script {
     refused: bool,
 }
 
+impl Carries for Script {
+    ghost use Rattle.krs_ctl.specs.declared.script.Script.{Script as ScriptIs};
+    ghost use Rattle.krs_ctl.specs.Running.{Acts, NeverBreaks};
+
+    ghost State = { ScriptIs };
+
+    ghost state = { λ script. script };
+
+    ghost Kept = { Unit {0} };
+
+    ghost kept = { λ _. tt };
+
+    // No ask has a number.
+    ghost asked = { λ _. 0 };
+
+    ghost refused = { λ script. script.refused };
+
+    ghost acts = { Acts };
+
+    ghost breaks = { NeverBreaks };
+
+    fn act(&mut self, _alloc: Global, command: Command) -> Result<Output, Stop> {
+        Ok(self.carry_out(command))
+    }
+
+    fn is_refused(&self) -> bool {
+        self.refused
+    }
+}
+
 impl Script {
     ghost use Rattle.std.specs.Prelude.{◌≡◌};
-    ghost use Rattle.std.specs.Io.Buffered.{reader_remaining};
-    ghost use Rattle.krs_script.specs.Running.{ObeysLine, Runs};
-    ghost use Rattle.krs_ctl.specs.Running.{Acts, Asks, ListsBy, NeverBreaks, StoreServes};
+    ghost use Rattle.krs_ctl.specs.Running.{Acts, Asks, ListsBy, StoreServes};
 
-    fn run<R: Read + Drop, W: Write>(
-        &mut self,
-        alloc: Global,
-        reader: R,
-        writer: &mut W,
-        pending: &mut Vec<u8>,
-        place: &mut Place,
-    ) -> Result<(), Stop>
-        ensures { Runs Acts NeverBreaks (R.remaining reader) self.old self.new (W.contents writer.old)
-            pending.old.items (W.contents writer.new) pending.new.items result }
-    {
-        match BufReader::with_capacity(alloc, READ_AHEAD, reader) {
-            Ok(mut reader) => self.run_lines(alloc, &mut reader, writer, pending, place),
-            Err(_) => Err(Stop::Memory),
-        }
-    }
-
-    fn run_lines<R: Read, W: Write>(
-        &mut self,
-        alloc: Global,
-        reader: &mut BufReader<R>,
-        writer: &mut W,
-        pending: &mut Vec<u8>,
-        place: &mut Place,
-    ) -> Result<(), Stop>
-        ensures { Runs Acts NeverBreaks (reader_remaining R.remaining reader.old) self.old self.new
-            (W.contents writer.old) pending.old.items (W.contents writer.new) pending.new.items
-            result }
-    {
-        for _ in 0..MOST_LINES {
-            write_before_waiting(reader, writer, pending)?;
-            if !place.read_next(reader)? {
-                return Ok(());
-            }
-            self.obey(alloc, place.line.as_slice(), writer, pending)?;
-        }
-        Err(Stop::TooLong)
-    }
-
-    fn obey<W: Write>(
-        &mut self,
-        alloc: Global,
-        line: &[u8],
-        writer: &mut W,
-        pending: &mut Vec<u8>,
-    ) -> Result<(), Stop>
-        ensures { ObeysLine Acts NeverBreaks self.old line.now self.new (W.contents writer.old)
-            pending.old.items (W.contents writer.new) pending.new.items result }
-    {
-        if is_comment(line) {
-            return Ok(());
-        }
-        let words = words(alloc, line)?;
-        if words.is_empty() {
-            return Ok(());
-        }
-        let command = parse(alloc, words.as_slice())?;
-        let output = self.act(command);
-        print_output(alloc, writer, pending, &output)
-    }
-
-    fn act(&mut self, command: Command) -> Output
+    fn carry_out(&mut self, command: Command) -> Output
         ensures { Acts self.old command result self.new }
     {
         match command {

@@ -5,7 +5,7 @@ use Rattle.krs_commands.specs.declared.command.Command.{Command}
 use Rattle.krs_words.specs.declared.stop.Stop.{Stop}
 use Rattle.krs_words.specs.declared.stop.Stop.TheVariants.{Memory, Printing}
 use Rattle.krs_script.specs.Ending.{Finishes}
-use Rattle.krs_script.specs.Running.{Runs}
+use Rattle.krs_script.specs.Running.{Ends}
 use Rattle.krs_script.proofs.Going.{going_start, runs_unread, ends_of}
 use Rattle.krs_remote.specs.Remote.{Talk, talk_on, Acts, Breaks, EndsRemote}
 use Rattle.krs_remote.specs.Call.{EndsCall}
@@ -22,16 +22,11 @@ pub talk_starts : (context : ℕ) (refused : Bool) (asked : ℕ) (sent left star
     → refused ≡ false → asked ≡ 0 → start ≡ left → talk_with context refused asked sent start ≡ talk_on sent left
 talk_starts context refused asked sent left start none good unasked same = rw (none, good, unasked, same) refl
 
--- lines that were run, from the first ask on, and what ended them
-pub ends_remote : (input sent left c w v : Option (List ℕ)) (p q : List ℕ) (start last : Talk)
-    (stopped : Result (Unit {0}) Stop) (status : ℕ) → start ≡ talk_on sent left → p ≡ []
-    → Runs Acts Breaks input start last c p w q stopped → Finishes w q v stopped last.refused status
-    → (stopped ≡ Err Printing → v ≡ w) → EndsRemote input c v sent last.sent left status
-ends_remote input sent left c w v p q start last stopped status is none runs says failed = (
-  last,
-  rw is at (ends_of Acts Breaks input start last c w v p q stopped last.refused status none runs says failed),
-  refl,
-)
+-- a script that was run from the first ask on
+pub ends_remote : (input c v sent0 sent1 left : Option (List ℕ)) (start last : Talk) (status : ℕ)
+    → start ≡ talk_on sent0 left → Ends Acts Breaks input c v start last last.refused status → last.sent ≡ sent1
+    → EndsRemote input c v sent0 sent1 left status
+ends_remote input c v sent0 sent1 left start last status is ends sent = (last, rw is at ends, sent)
 
 -- no memory for the first ask
 pub ends_unstarted : (input sent left c v : Option (List ℕ)) (p : List ℕ) (stop : Stop) (status : ℕ) → p ≡ []

@@ -1,2 +1,3 @@
 pub mod RemoteLemmas
 pub mod EndingLemmas
+pub mod HeadLemmas

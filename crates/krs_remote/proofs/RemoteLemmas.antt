@@ -11,13 +11,10 @@ use Rattle.krs_commands.specs.declared.command.Command.{Command}
 use Rattle.krs_commands.specs.declared.command.Command.TheVariants.{Context, Moment, Ask, Rlist, Readq}
 use Rattle.krs_words.specs.declared.stop.Stop.{Stop}
 use Rattle.krs_words.specs.declared.stop.Stop.TheVariants.{Usage, Memory, Reading, TooLong, Printing, Connection}
+use Rattle.krs_script.specs.Running.{IsCause}
 use Rattle.krs_remote.specs.Talking.{GivesUp}
 use Rattle.krs_remote.specs.Remote.{Talk, next_tag, ask_of, Breaks, BreaksCall, StopsList, GivesUpAsk}
 use Rattle.krs_remote.specs.Call.{StopsCall}
-
--- the causes for which a command breaks off
-abbrev pub IsCause : Stop → Type 0
-IsCause stop = (stop ≡ Usage) ⊎ ((stop ≡ Memory) ⊎ (stop ≡ Connection))
 
 gives_up_by : (sent0 left0 : Option (List ℕ)) (tag : ℕ) (ask : AskIs) (sent1 left1 : Option (List ℕ)) (stop : Stop)
     → GivesUp sent0 left0 tag ask sent1 left1 stop → IsCause stop

@@ -7,7 +7,7 @@ use Rattle.krs_types.specs.declared.ask.Answer.{Answer}
 use Rattle.krs_types.specs.declared.ask.Ask.{Ask}
 use Rattle.krs_wire.specs.declared.fault.WireFault.{WireFault}
 use Rattle.krs_wire.specs.declared.fault.WireFault.TheVariants as wire
-use Rattle.krs_wire.specs.declared.shape.Shape.{Shape}
+use Rattle.krs_types.specs.declared.shape.Shape.{Shape}
 use Rattle.krs_wire.specs.Encoding.{ask_frame, ask_text}
 use Rattle.krs_wire.specs.Reply.{reply_frame, shape_of, HasShape}
 use Rattle.krs_words.specs.declared.stop.Stop.{Stop}

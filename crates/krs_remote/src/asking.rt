@@ -1,11 +1,11 @@
 //! One ask over a connection, and its reply, in frames of version 2.
 
-ghost use Rattle.std.specs.Prelude.{◌≡◌, ◌⊎◌, ◌<◌, ◌++◌, length, vec_len, Some, OnOk, IfOk, IfErr};
+ghost use Rattle.std.specs.Prelude.{◌≡◌, ◌⊎◌, ◌<◌, ◌++◌, true, length, vec_len, Some, OnOk, IfOk, IfErr};
 ghost use Rattle.std.specs.Int.{w32, from_le_bytes};
 ghost use Rattle.std.specs.Io.Buffered.{reader_remaining};
 ghost use Rattle.std.specs.Io.KnownBytes.{Appends, Consumes};
 ghost use Rattle.krs_wire.specs.Encoding.{ask_frame, ask_text};
-ghost use Rattle.krs_wire.specs.Reply.{reply_frame, shape_of, HasShape};
+ghost use Rattle.krs_wire.specs.Reply.{is_bad_reply_length, reply_frame, shape_of, HasShape};
 ghost use Rattle.krs_remote.specs.Talking.{Exchanges, GivesReply, GivesUp, IsReply, NotSent, cause_of};
 
 use krs_types::{Ask, Op, Reply};
@@ -95,15 +95,15 @@ fn fill<F: Read>(from: &mut BufReader<F>, room: &mut [u8]) -> Result<(), Stop>
 fn announced(alloc: Global, op: &Op, head: &[u8; 4]) -> Result<Vec<u8>, Stop>
     ensures room { IfOk result (λ room. vec_len room ≡ from_le_bytes w32 head.now) }
     ensures causes { IfErr result (λ stop. (stop ≡ Stop.Memory) ⊎ (stop ≡ Stop.Connection)) }
+    ensures bad { result ≡ Err Stop.Connection
+        → is_bad_reply_length true (from_le_bytes w32 head.now) ≡ true }
 {
-    match decode_reply2(alloc, op, head) {
-        Ok(_) => {
-            let mut room = Vec::new(alloc);
-            room.resize(u32::from_le_bytes(*head) as usize, 0)?;
-            Ok(room)
-        }
-        Err(fault) => Err(stop_of(fault)),
+    if let Err(fault) = decode_reply2(alloc, op, head) {
+        return Err(stop_of(fault));
     }
+    let mut room = Vec::new(alloc);
+    room.resize(u32::from_le_bytes(*head) as usize, 0)?;
+    Ok(room)
 }
 
 /// The reply whose frame these bytes are, with this tag.

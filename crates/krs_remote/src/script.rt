@@ -2,11 +2,11 @@ ghost use Rattle.std.specs.Prelude.{◌≡◌, Ok};
 ghost use Rattle.krs_remote.specs.Remote.{EndsRemote};
 
 use crate::remote::Remote;
-use krs_commands::parse;
-use krs_script::{MOST_LINES, Place, READ_AHEAD, finish, write_before_waiting};
-use krs_words::{Stop, is_comment, print_output, words};
+use krs_commands::Command;
+use krs_script::{Carries, Place, finish, run_by};
+use krs_words::{Output, Stop};
 use std::alloc::Global;
-use std::io::{BufReader, Read, Write};
+use std::io::{Read, Write};
 
 /// Runs the lines of a reader over the two ends of a connection, and prints a line for each to the writer: the script's
 /// status. What was printed is written out before a line is waited for.
@@ -37,96 +37,58 @@ pub fn run_remote_at<R: Read + Drop, W: Write, F: Read + Drop, T: Write>(
     ensures ends { EndsRemote (R.remaining reader) (W.contents writer.old) (W.contents writer.new)
         (T.contents to.old) (T.contents to.new) (F.remaining from) result.0 }
     ensures whole { result.0 ≡ 0 → result.1 ≡ Ok tt }
+    ensures usage { result.0 ≡ 2 → result.1 ≡ Err Stop.Usage }
 {
-    let mut pending = Vec::new(alloc);
     match Remote::start(alloc, from) {
         Ok(mut remote) => {
-            let stopped = remote.run(alloc, reader, writer, &mut pending, to, place);
-            let status = finish(writer, &mut pending, stopped, remote.refused);
-            (status, stopped)
+            let mut client = Client {
+                remote: &mut remote,
+                to,
+            };
+            let ended = run_by(alloc, &mut client, reader, writer, place);
+            // Its parts are let go here, so that what they hold is known to be whose it was.
+            let Client { remote: _, to: _ } = client;
+            ended
         }
         Err(stop) => {
-            let status = finish(writer, &mut pending, Err(stop), false);
+            let status = finish(writer, &mut Vec::new(alloc), Err(stop), false);
             (status, Err(stop))
         }
     }
 }
 
-impl<F: Read> Remote<F> {
-    ghost use Rattle.std.specs.Prelude.{◌+◌, ◌<◌, ◌≤◌, ◌^◌};
-    ghost use Rattle.std.specs.Io.Buffered.{reader_remaining};
-    ghost use Rattle.krs_script.specs.Running.{ObeysLine, Runs};
-    ghost use Rattle.krs_remote.specs.Remote.{Acts, Breaks, talk_of};
+/// A client with the end that it writes to.
+struct Client<'a, F, T> {
+    remote: &'a mut Remote<F>,
+    to: &'a mut T,
+}
 
-    fn run<R: Read + Drop, W: Write, T: Write>(
-        &mut self,
-        alloc: Global,
-        reader: R,
-        writer: &mut W,
-        pending: &mut Vec<u8>,
-        to: &mut T,
-        place: &mut Place,
-    ) -> Result<(), Stop>
-        requires { self.old.asked ≡ 0 }
-        ensures { Runs Acts Breaks (R.remaining reader)
-            (talk_of F.remaining self.old (T.contents to.old))
-            (talk_of F.remaining self.new (T.contents to.new)) (W.contents writer.old)
-            pending.old.items (W.contents writer.new) pending.new.items result }
-    {
-        match BufReader::with_capacity(alloc, READ_AHEAD, reader) {
-            Ok(mut reader) => self.run_lines(alloc, &mut reader, writer, pending, to, place),
-            Err(_) => Err(Stop::Memory),
-        }
+impl<F: Read, T: Write> Carries for Client<'_, F, T> {
+    ghost use Rattle.std.specs.Borrow.{GName};
+    ghost use Rattle.krs_remote.specs.Remote.{Acts, Breaks, Talk, talk_of};
+
+    ghost State = { Talk };
+
+    ghost state = { λ client. talk_of F.remaining client.remote.now (T.contents client.to.now) };
+
+    // It writes to the end that it was made with.
+    ghost Kept = { GName };
+
+    ghost kept = { λ client. client.to.ghost_name };
+
+    ghost asked = { λ talk. talk.asked };
+
+    ghost refused = { λ talk. talk.refused };
+
+    ghost acts = { Acts };
+
+    ghost breaks = { Breaks };
+
+    fn act(&mut self, alloc: Global, command: Command) -> Result<Output, Stop> {
+        self.remote.act(alloc, self.to, command)
     }
 
-    fn run_lines<R: Read, W: Write, T: Write>(
-        &mut self,
-        alloc: Global,
-        reader: &mut BufReader<R>,
-        writer: &mut W,
-        pending: &mut Vec<u8>,
-        to: &mut T,
-        place: &mut Place,
-    ) -> Result<(), Stop>
-        requires { self.old.asked ≡ 0 }
-        ensures { Runs Acts Breaks (reader_remaining R.remaining reader.old)
-            (talk_of F.remaining self.old (T.contents to.old))
-            (talk_of F.remaining self.new (T.contents to.new)) (W.contents writer.old)
-            pending.old.items (W.contents writer.new) pending.new.items result }
-    {
-        for _ in 0..MOST_LINES {
-            write_before_waiting(reader, writer, pending)?;
-            if !place.read_next(reader)? {
-                return Ok(());
-            }
-            self.obey(alloc, place.line.as_slice(), writer, pending, to)?;
-        }
-        Err(Stop::TooLong)
-    }
-
-    fn obey<W: Write, T: Write>(
-        &mut self,
-        alloc: Global,
-        line: &[u8],
-        writer: &mut W,
-        pending: &mut Vec<u8>,
-        to: &mut T,
-    ) -> Result<(), Stop>
-        requires { self.old.asked + 2 < 2 ^ 64 }
-        ensures obeyed { ObeysLine Acts Breaks (talk_of F.remaining self.old (T.contents to.old)) line.now
-            (talk_of F.remaining self.new (T.contents to.new)) (W.contents writer.old)
-            pending.old.items (W.contents writer.new) pending.new.items result }
-        ensures few { self.new.asked ≤ self.old.asked + 2 }
-    {
-        if is_comment(line) {
-            return Ok(());
-        }
-        let words = words(alloc, line)?;
-        if words.is_empty() {
-            return Ok(());
-        }
-        let command = parse(alloc, words.as_slice())?;
-        let output = self.act(alloc, to, command)?;
-        print_output(alloc, writer, pending, &output)
+    fn is_refused(&self) -> bool {
+        self.remote.refused
     }
 }

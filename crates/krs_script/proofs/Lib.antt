@@ -1,2 +1,3 @@
 pub mod RunningLemmas
 pub mod Going
+pub mod SayingLemmas

@@ -40,6 +40,10 @@ TakesLines {S = S} acts old (line ∷ lines) text new =
     (mid : S) × (first : List ℕ) × (rest : List ℕ) × TakesLine acts old line first mid × (text ≡ first ++ rest)
     × TakesLines acts mid lines rest new
 
+-- the causes for which a command breaks off
+abbrev pub IsCause : Stop → Type 0
+IsCause stop = (stop ≡ Usage) ⊎ ((stop ≡ Memory) ⊎ (stop ≡ Connection))
+
 -- a line whose command broke off
 abbrev pub BreaksOff : {S : Type 0} → (S → Command → Stop → S → Type 0) → S → List ℕ → Stop → S → Type 0
 BreaksOff breaks old line stop new = (command : Command) × IsCommand line command × breaks old command stop new

@@ -1,9 +1,8 @@
 -- What is told on standard error where a program stopped, which no program reads: keyretain(1), "Exit status".
-use Rattle.std.specs.Prelude.{ℕ, ◌++◌, if◌then◌else◌, List, [], codes, length, nat_lt, take, get_or, Option}
+use Rattle.std.specs.Prelude.{ℕ, ◌++◌, if◌then◌else◌, List, [], codes, length, nat_lt, take, get_or}
 use Rattle.std.specs.Char.Escape.{escape_ascii}
 use Rattle.std.specs.Fmt.{decimal}
 use Rattle.std.specs.List.{flat_map}
-use Rattle.std.specs.Io.KnownBytes.{Appends}
 use Rattle.std.specs.Option.{is_some}
 use Rattle.krs_commands.specs.Command.{name_of_word}
 use Rattle.krs_words.specs.declared.stop.Stop.{Stop}
@@ -44,7 +43,3 @@ stop_text number line stop = codes "keyretain: line " ++ decimal number ++ codes
 -- what is told of words that are no command
 abbrev pub refusal_text : List (List ℕ) → List ℕ
 refusal_text words = codes "keyretain: " ++ no_command_text (get_or words 0 []) ++ codes "\n"
-
--- some text was written, or none
-abbrev pub MayTell : Option (List ℕ) → Option (List ℕ) → Type 0
-MayTell old new = (text : List ℕ) × Appends old new text

@@ -27,6 +27,7 @@ pub fn finish<W: Write>(
         stopped refused result }
     ensures failed { stopped ≡ Err Stop.Printing → writer.new ≡ writer.old }
     ensures whole { result ≡ 0 → stopped ≡ Ok tt }
+    ensures usage { result ≡ 2 → stopped ≡ Err Stop.Usage }
 {
     let (status, last) = ending(stopped, refused);
     if let Err(Stop::Printing) = stopped {

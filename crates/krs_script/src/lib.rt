@@ -1,15 +1,19 @@
-//! What scripts have in common, whatever carries their commands out: how what is printed waits for the next line, how
+//! A script, whatever carries its commands out: the loop over its lines, how what is printed waits for the next line, how
 //! keys and queues are listed, how a script ends, and what is told of one that stopped.
 #![tactic(auto)]
 
+mod carries;
 mod ending;
 mod listed;
 mod place;
+mod running;
 mod telling;
 mod waiting;
 
+pub use carries::Carries;
 pub use ending::{NO_CONNECTION, OUT_OF_MEMORY, USAGE, finish, say};
 pub use listed::{listing, records};
 pub use place::Place;
+pub use running::run_by;
 pub use telling::{no_command, push_quoted, tell};
-pub use waiting::{MOST_LINES, READ_AHEAD, write_before_waiting};
+pub use waiting::READ_AHEAD;

@@ -4,12 +4,12 @@ ghost use Rattle.std.specs.List.{flat_map};
 ghost use Rattle.std.specs.Option.{is_some};
 ghost use Rattle.krs_commands.specs.Command.{name_of_word};
 ghost use Rattle.krs_words.specs.Words.{words_of};
-ghost use Rattle.krs_words.specs.Writing.{WritesFront};
-ghost use Rattle.krs_script.specs.Telling.{MayTell, cause_text, no_command_text, quoted, refusal_text, stop_text};
+ghost use Rattle.krs_words.specs.Saying.{heard, Says};
+ghost use Rattle.krs_script.specs.Telling.{cause_text, no_command_text, quoted, refusal_text, stop_text};
 
 use crate::place::Place;
 use krs_commands::CommandName;
-use krs_words::{Stop, words, write_text};
+use krs_words::{Stop, Voice, words};
 use std::alloc::{AllocError, Global};
 use std::ascii::escape_default;
 use std::io::Write;
@@ -19,10 +19,14 @@ const QUOTED: usize = 64;
 
 /// Tells those who look at standard error why a script stopped, and at which line, as far as memory and the writer
 /// allow. Of one that came to its end nothing is told.
-pub fn tell<E: Write>(alloc: Global, errors: &mut E, place: &Place, stopped: Result<(), Stop>)
-    ensures exact { IfErr stopped (λ stop. WritesFront (E.contents errors.old) (E.contents errors.new)
+pub fn tell<E: Write>(
+    alloc: Global,
+    errors: &mut Voice<E>,
+    place: &Place,
+    stopped: Result<(), Stop>,
+)
+    ensures exact { IfErr stopped (λ stop. Says (heard E.contents errors.old) (heard E.contents errors.new)
         (stop_text place.now.number place.now.line.items stop)) }
-    ensures told { MayTell (E.contents errors.old) (E.contents errors.new) }
     ensures ended { stopped ≡ Ok tt → errors.new ≡ errors.old }
 {
     match stopped {
@@ -32,13 +36,13 @@ pub fn tell<E: Write>(alloc: Global, errors: &mut E, place: &Place, stopped: Res
 }
 
 /// Tells why a script stopped.
-fn tell_cause<E: Write>(alloc: Global, errors: &mut E, place: &Place, cause: Stop)
-    ensures told { MayTell (E.contents errors.old) (E.contents errors.new) }
-    ensures exact { WritesFront (E.contents errors.old) (E.contents errors.new)
+fn tell_cause<E: Write>(alloc: Global, errors: &mut Voice<E>, place: &Place, cause: Stop)
+    ensures { Says (heard E.contents errors.old) (heard E.contents errors.new)
         (stop_text place.now.number place.now.line.items cause) }
 {
-    if let Ok(text) = text_of(alloc, place, cause) {
-        let _ = write_text(errors, text.as_slice());
+    match text_of(alloc, place, cause) {
+        Ok(text) => errors.tell(text.as_slice()),
+        Err(_) => errors.lack(),
     }
 }
 

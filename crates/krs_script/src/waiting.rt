@@ -5,13 +5,13 @@ use krs_words::{Stop, has_line_at_hand, write_out};
 use std::io::{BufReader, Read, Write};
 
 /// How many lines are read at most: profile, limits.
-pub const MOST_LINES: u32 = 16_777_216;
+pub(crate) const MOST_LINES: u32 = 16_777_216;
 
 /// How many bytes are read at once.
 pub const READ_AHEAD: usize = 65_536;
 
 /// Writes what waits, unless the next line can be read without asking the reader for more.
-pub fn write_before_waiting<R: Read, W: Write>(
+pub(crate) fn write_before_waiting<R: Read, W: Write>(
     reader: &BufReader<R>,
     writer: &mut W,
     pending: &mut Vec<u8>,

@@ -5,3 +5,4 @@ pub mod Number
 pub mod Printing
 pub mod Stop
 pub mod Writing
+pub mod Saying

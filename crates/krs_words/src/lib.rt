@@ -11,6 +11,7 @@ mod output;
 mod printing;
 mod stop;
 mod version;
+mod voice;
 mod writing;
 
 pub use line::{is_comment, pieces, words};
@@ -23,4 +24,5 @@ pub use output::Output;
 pub use printing::output_line;
 pub use stop::Stop;
 pub use version::VERSION;
+pub use voice::Voice;
 pub use writing::{print_output, write_out, write_text};

@@ -16,6 +16,7 @@ pub(in crate::tests) mod moves;
 pub(in crate::tests) mod notes;
 pub(in crate::tests) mod programs;
 mod users;
+mod wanted;
 
 const ALPHA: &str = "hello 1000 1000\nadd user alpha s3 @u\nprint 5\nrdescribe 5\n";
 

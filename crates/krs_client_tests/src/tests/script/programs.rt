@@ -1,6 +1,6 @@
 //! The program over ends in memory: what its words make it print, and ends and words that fail.
 use super::{ALPHA, FailsOnce};
-use krs_ctl::run_program;
+use krs_ctl::{Voice, run_program};
 use std::alloc::{AllocError, Global};
 use std::cell::Cell;
 use std::env::Args;
@@ -53,7 +53,8 @@ pub(in crate::tests) fn status_of<N: Net>(
     output: &mut Vec<u8>,
     errors: &mut Vec<u8>,
 ) -> u8 {
-    run_program(net, alloc, words, input.as_bytes(), output, errors)
+    let mut errors = Voice::new(errors);
+    run_program(net, alloc, words, input.as_bytes(), output, &mut errors)
 }
 
 fn check_program<N: Abort + Net>(rt: &N, alloc: Global, args: Args, program: &Program<'_>) {
@@ -87,10 +88,10 @@ const UNPRINTED: [(&[&str], u8); 5] = [
 fn ended_unprinted<N: Net>(net: &N, alloc: Global, words: Args) -> (u8, usize, usize) {
     let (out, told) = (Cell::new(0), Cell::new(0));
     let mut output = FailsOnce::after(0, &out);
-    let mut errors = FailsOnce::after(0, &told);
+    let mut errors = Voice::new(FailsOnce::after(0, &told));
     let input = ALPHA.as_bytes();
     let status = run_program(net, alloc, Ok(words), input, &mut output, &mut errors);
-    (status, output.taken, errors.taken)
+    (status, output.taken, errors.writer().taken)
 }
 
 #[test]

@@ -1,8 +1,10 @@
-use Rattle.std.proofs.Common.{◌≡◌, ℕ, refl, sym, ap, subst}
+use Rattle.std.proofs.Common.{◌≡◌, ℕ, List, refl, sym, ap, subst}
 use Rattle.krs_model.specs.State.{State}
 use Rattle.krs_ctl.specs.declared.choice.Choice.{Choice as ChoiceIs}
 use Rattle.krs_ctl.specs.Running.{EndsScript}
+use Rattle.krs_words.specs.Saying.{heard}
 use Rattle.krs_ctl.specs.Program.{Answers}
+use Rattle.krs_ctl.specs.Telling.{TellsOver}
 use Rattle.krs_ctl.proofs.program.answer.Goals as goal
 
 -- a script on a new store: it ended as it is said, and told nothing where its status is 0
@@ -14,7 +16,7 @@ returns-in-Script g c =
     let new = g.W.Write.contents c.run_script_at-end.new.writer in
     subst
     (λ (choice : ChoiceIs).
-    Answers choice input old new (g.E.Write.contents c.args.errors.now) (g.E.Write.contents c.tell.new.errors)
+    Answers choice input old new (heard g.E.Write.contents c.args.errors.now) (heard g.E.Write.contents c.tell.new.errors)
     end.status)
     (sym c.in-Script.is) (
       (
@@ -22,6 +24,29 @@ returns-in-Script g c =
         subst (λ (s : State). EndsScript input old new s end) c.new-store.ensures c.run_script_at-end.ensures.ends,
         refl,
       ),
-      c.tell.ensures.told,
-      λ zero. ap g.E.Write.contents (c.tell.ensures.ended (c.run_script_at-end.ensures.whole zero)),
+      (
+        c.run_script_at-end.new.place.number,
+        c.run_script_at-end.new.place.line.items,
+        c.run_script_at-end.result.1,
+        c.tell.ensures.exact,
+        λ is. ap (heard g.E.Write.contents) (c.tell.ensures.ended is),
+        c.run_script_at-end.ensures.usage,
+      ),
+      λ zero. ap (heard g.E.Write.contents) (c.tell.ensures.ended (c.run_script_at-end.ensures.whole zero)),
+    )
+
+-- a script over a path, which is told as it was given
+pub returns-in-Remote : goal.returns-in-Remote
+returns-in-Remote g c =
+    let input = g.R.Read.remaining c.args.input in
+    let old = g.W.Write.contents c.args.output.now in
+    let new = g.W.Write.contents c.script_at.new.output in
+    let old_errors = heard g.E.Write.contents c.args.errors.now in
+    let new_errors = heard g.E.Write.contents c.script_at.new.errors in
+    subst (λ (choice : ChoiceIs). Answers choice input old new old_errors new_errors c.script_at.result)
+    (sym c.in-Remote.is) (
+      c.script_at.ensures.runs,
+      subst (λ (path : List ℕ). TellsOver path c.script_at.result old_errors new_errors) c.as_str.ensures.value
+          c.script_at.ensures.told,
+      c.script_at.ensures.well,
     )

@@ -1,0 +1,49 @@
+-- The length of a reply's frame, read before the rest of it.
+use Rattle.std.proofs.Common.{◌≡◌, ℕ, zero, suc, Bool, true, false, cond, ltb, List, [], ◌∷◌, length, Option, None, Some}
+use Rattle.std.proofs.Common.{Result, Ok, Err, refl, sym, ap, ◌∙◌, arith}
+use Rattle.std.proofs.lemmas.Bool.{true≢false, lt-ltb}
+use Rattle.std.specs.Int.{w32, from_le_bytes}
+use Rattle.krs_wire.specs.declared.fault.WireFault.{WireFault}
+use Rattle.krs_wire.specs.declared.fault.WireFault.TheVariants.{BadLength}
+use Rattle.krs_types.specs.declared.shape.Shape.{Shape}
+use Rattle.krs_wire.specs.Field.{number}
+use Rattle.krs_wire.specs.Reply.{is_bad_reply_length, reply_front, reply_in, Found}
+use Rattle.krs_wire.specs.declared.fault.WireFault.TheVariants as wire
+use Rattle.krs_words.specs.declared.stop.Stop.{Stop}
+use Rattle.krs_words.specs.declared.stop.Stop.TheVariants.{Memory, Connection}
+use Rattle.krs_remote.specs.Talking.{cause_of}
+
+-- a fault is that of the length, where nothing follows it
+chosen : (bad few : Bool) (x : Result (Option Found) WireFault) (fault : WireFault) → (bad ≡ false → few ≡ true)
+    → cond bad (Err BadLength) (cond few (Ok None) x) ≡ Err fault → bad ≡ true
+chosen true few x fault some is = refl
+chosen false true x fault some is = cc
+chosen false false x fault some is = some refl
+
+some_good : (n : ℕ) → is_bad_reply_length true n ≡ false → ltb 0 n ≡ true
+some_good zero good = absurd (true≢false good)
+some_good (suc n) good = lt-ltb 0 (suc n) (omega arith)
+
+bad_alone : (shape : Shape) (n : ℕ) (fault : WireFault) → reply_in true shape (Some (n, [])) ≡ Err fault
+    → is_bad_reply_length true n ≡ true
+unfolding reply_in
+bad_alone shape n fault is = chosen (is_bad_reply_length true n) (ltb 0 n) _ fault (some_good n) is
+
+four : (bytes : List ℕ) → length bytes ≡ 4 → (number w32).read bytes ≡ Some (from_le_bytes w32 bytes, [])
+four [] is = absurd (omega arith)
+four (a ∷ []) is = absurd (omega arith)
+four (a ∷ b ∷ []) is = absurd (omega arith)
+four (a ∷ b ∷ c ∷ []) is = absurd (omega arith)
+four (a ∷ b ∷ c ∷ d ∷ []) is = refl
+four (a ∷ b ∷ c ∷ d ∷ e ∷ more) is = absurd (omega arith)
+
+-- the four bytes of a length alone have no fault but that of the length
+pub bad_head : (shape : Shape) (head : List ℕ) (fault : WireFault) → length head ≡ 4
+    → reply_front true shape head ≡ Err fault → is_bad_reply_length true (from_le_bytes w32 head) ≡ true
+bad_head shape head fault whole is =
+    bad_alone shape (from_le_bytes w32 head) fault (sym (ap (reply_in true shape) (four head whole)) ∙ is)
+
+-- want of memory isn't told as a connection that failed
+pub not_memory : {A : Type 0} (fault : WireFault) (stop : Stop) → stop ≡ cause_of fault
+    → ◌≡◌ {A = Result A Stop} (Err stop) (Err Connection) → fault ≡ wire.Memory → ⊥
+not_memory fault stop told ends lacks = let is : stop ≡ Memory = told ∙ ap cause_of lacks in cc

@@ -1,0 +1,10 @@
+use Rattle.std.proofs.Common.{rules, ◌≡◌, length}
+use Rattle.krs_wire.specs.Reply.{shape_of}
+use Rattle.krs_remote.proofs.HeadLemmas.{bad_head, not_memory}
+use Rattle.krs_remote.proofs.asking.announced.Goals as goal
+
+pub returns-in-Err-clause-bad : goal.returns-in-Err-clause-bad
+returns-in-Err-clause-bad c = λ is.
+    let four : length c.args.head.now ≡ 4 = search rules in
+    bad_head (shape_of c.args.op.now) c.args.head.now c.in-Err.fault four
+    (c.in-Err.ensures.exact (not_memory c.in-Err.fault c.stop_of.result c.stop_of.ensures is))
