@@ -14,6 +14,9 @@ use byteorder::{ByteOrder, LittleEndian};
 use krs_types::{Ask, Op, asks};
 use std::alloc::Global;
 
+/// The number of READ.
+const READ: u16 = 11;
+
 macro_rules! readings {
     ($which:expr, $alloc:expr, $body:expr; $($ask:ident $number:literal $shape:ident $grows:tt $fields:tt;)*) => {
         match $which {
@@ -40,12 +43,31 @@ macro_rules! readings {
     (@field $alloc:expr, $rest:expr, entries) => { entries_at($alloc, $rest) };
 }
 
-/// What a body says for an operation's number.
+/// What a body says for any operation's number.
 #[tactic(auto, unfolding(crate::specs::Frame::op_of))]
-fn op_at(alloc: Global, which: u16, body: &[u8]) -> Result<Op, WireFault>
+fn any_op_at(alloc: Global, which: u16, body: &[u8]) -> Result<Op, WireFault>
     ensures { GivesRead (λ op. op) result (op_of which body.now) }
 {
     asks!(readings, which, alloc, body)
+}
+
+/// What a body says for READ.
+#[tactic(auto, unfolding(crate::specs::Frame::op_of))]
+fn read_at(body: &[u8]) -> Result<Op, WireFault>
+    ensures { GivesRead (λ op. op) result (op_of 11 body.now) }
+{
+    let (id, rest) = id_at(body)?;
+    ended(Op::Read { id }, rest)
+}
+
+/// What a body says for an operation's number. READ, which is asked most, clears no room for the fields of others.
+fn op_at(alloc: Global, which: u16, body: &[u8]) -> Result<Op, WireFault>
+    ensures { GivesRead (λ op. op) result (op_of which body.now) }
+{
+    match which {
+        READ => read_at(body),
+        _ => any_op_at(alloc, which, body),
+    }
 }
 
 /// What is said by an operation's number, a context, and what follows them. A frame too short for its tag has a bad

@@ -3,7 +3,7 @@ use Rattle.krs_types.specs.declared.ask.Op.TheVariants.{Move, Add}
 use Rattle.krs_wire.specs.Bodies.{a_number, an_id, a_text, a_blob}
 use Rattle.krs_wire.specs.Frame.{op_of}
 use Rattle.krs_wire.proofs.RowLemmas.{then_read, all_read, gives}
-use Rattle.krs_wire.proofs.asks.op_at.Goals as goal
+use Rattle.krs_wire.proofs.asks.any_op_at.Goals as goal
 
 pub returns-in_ok-rest-31 : goal.returns-in_ok-rest-31
 unfolding op_of
