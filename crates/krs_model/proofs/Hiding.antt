@@ -3,10 +3,10 @@ pub mod Over
 pub mod Keys
 pub mod Lookups
 pub mod Searches
-pub mod KeyAsks
-pub mod LinkAsks
+pub mod Accepted
+pub mod Links
 pub mod Adding
-pub mod OtherAsks
+pub mod Found
 pub mod Outcomes
 pub mod Sweeps
 pub mod Steps

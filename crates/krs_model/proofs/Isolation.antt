@@ -1,8 +1,8 @@
 -- That nobody else comes to the keys that a uid has to itself, changes them, or is told of them.
 pub mod Keys
 pub mod Attachments
-pub mod KeyAsks
-pub mod LinkAsks
+pub mod Guarded
+pub mod Links
 pub mod Steps
 pub mod Growth
 pub mod Births

@@ -1,8 +1,8 @@
 -- That each step leaves a store sound, part by part.
 pub mod Steps
 pub mod Changes
-pub mod KeyAsks
-pub mod LinkAsks
+pub mod KeyChanges
+pub mod Links
 pub mod NewContexts
 pub mod Contexts
 pub mod Contents

@@ -18,7 +18,7 @@ use Rattle.krs_types.specs.declared.kind.Kind.TheVariants.{Keyring, Logon, User}
 use Rattle.krs_types.specs.declared.name.Name.{Name}
 use Rattle.krs_types.specs.declared.rights.Want.TheVariants.{Granted}
 use Rattle.krs_model.specs.Access.{is_alive, rights_on}
-use Rattle.krs_model.specs.Asks.Adding.{IsKeyringAt, Made, Place, Updated, add, added, added_in, added_serial}
+use Rattle.krs_model.specs.Asks.Adding.{IsKeyringAt, Made, Place, Updated, add, added, added_serial}
 use Rattle.krs_model.specs.Asks.Adding.{admitted, by_match, first_content, if_room, made, new_key, over_match}
 use Rattle.krs_model.specs.Asks.Adding.{place_of}
 use Rattle.krs_model.specs.Asks.Changing.{is_updatable, updated}
@@ -37,11 +37,10 @@ use Rattle.krs_model.specs.Search.{found}
 use Rattle.krs_model.specs.Sound.{IsFitting, is_links}
 use Rattle.krs_model.specs.State.{Key, State}
 use Rattle.krs_model.specs.Table.{IsBelow, alter, at, put}
-use Rattle.krs_model.proofs.Asks.Done.{of_keys}
 use Rattle.krs_model.proofs.Asks.Houses.{HousesIn, made_houses}
-use Rattle.krs_model.proofs.Asks.Later.{Comes, Keeps, bind_ok, changed_comes, comes_trans, keeps_after, keeps_ok}
+use Rattle.krs_model.proofs.Asks.Later.{Comes, bind_ok, changed_comes, comes_trans}
 use Rattle.krs_model.proofs.Asks.Later.{same_ok, with_new_comes}
-use Rattle.krs_model.proofs.Asks.LaterByAsk.{keeps_from, made_for_comes}
+use Rattle.krs_model.proofs.Asks.LaterByAsk.{made_for_comes}
 use Rattle.krs_model.proofs.Asks.Lawful.{IsLawful}
 use Rattle.krs_model.proofs.Asks.NewSerials.{IsWithin, place_is, same_counts, small_there}
 use Rattle.krs_model.proofs.Asks.NotedKeys.{IsThere, about_link_small, about_small, there_ends}
@@ -50,9 +49,9 @@ use Rattle.krs_model.proofs.Asks.Plain.{IsPlain, plain, plain_context, plain_kin
 use Rattle.krs_model.proofs.Asks.Plain.{plain_ok, plain_paid, plain_room}
 use Rattle.krs_model.proofs.Hiding.Adding.{IsHidden, add_blind}
 use Rattle.krs_model.proofs.Isolation.Attachments.{same_unattached}
-use Rattle.krs_model.proofs.Isolation.KeyAsks.{Guarded, changed_guarded, lessens_keeps, next_apart}
+use Rattle.krs_model.proofs.Isolation.Guarded.{Guarded, changed_guarded, lessens_keeps, next_apart}
 use Rattle.krs_model.proofs.Isolation.Keys.{KeepsOwn, changed_enclosed, no_rights, not_found}
-use Rattle.krs_model.proofs.Isolation.LinkAsks.{IsOther, later_made, made_alone, new_enclosed, other_made}
+use Rattle.krs_model.proofs.Isolation.Links.{IsOther, later_made, made_alone, new_enclosed, other_made}
 use Rattle.krs_model.proofs.Isolation.Untouched.{AreSame, made_same, other_same, put_same, same_trans}
 use Rattle.krs_model.proofs.Lookups.Laws.{in_by_match, made_in_ring}
 use Rattle.krs_model.proofs.Lookups.Serials.{own_there}
@@ -62,8 +61,8 @@ use Rattle.krs_model.proofs.Notes.Fitting.{AllSmall}
 use Rattle.krs_model.proofs.Reach.Acyclic.{From}
 use Rattle.krs_model.proofs.Sound.Changes.{LinksTo, Stands, at_further, changed_stands, in_linked_content}
 use Rattle.krs_model.proofs.Sound.Changes.{linked_stands, not_there, there_alter, with_linked}
-use Rattle.krs_model.proofs.Sound.KeyAsks.{updated_lessens}
-use Rattle.krs_model.proofs.Sound.LinkAsks.{named_same}
+use Rattle.krs_model.proofs.Sound.KeyChanges.{updated_lessens}
+use Rattle.krs_model.proofs.Sound.Links.{named_same}
 use Rattle.krs_model.proofs.Sound.NewContexts.{empty_stands, made_for_stands, own_process_there, some_there}
 use Rattle.krs_model.proofs.Tables.Changes.{at_put_same}
 use Rattle.krs_types.specs.declared.note.KeyEvent.TheVariants as told_of
@@ -80,11 +79,6 @@ added_comes :
     → Comes s (added s c name payload place)
 added_comes s c name payload (Updated serial) = changed_comes s serial (updated payload) (λ v h. h)
 added_comes s c name payload (Made ring) = made_comes s ring name (new_key name payload c.caller.uid c.caller.gid)
-
-added_in_comes :
-    (s : State) (c : Context) (name : Name) (payload : List ℕ) (ring : ℤ) → Keeps s (added_in s c name payload ring)
-added_in_comes s c name payload ring =
-    keeps_after (place_of s c name ring) _ (λ place. keeps_ok (added_comes s c name payload place))
 
 -- an updated key was not put into a keyring that the ask made
 updated_within :
@@ -346,11 +340,6 @@ pub add_law :
     → IsLawful s client context (Add type_name desc payload ring)
 unfolding add
 add_law s client context type_name desc payload ring = record {
-  effect =
-      of_keys s client context (Add type_name desc payload ring) refl refl (keeps_after (context_of s client context) _ (λ c.
-      keeps_after (admitted type_name desc payload) _ (λ name.
-      let made = made_for s context c ring in
-      keeps_from (made_for_comes s context c ring) (added_in_comes made.0 made.1 name payload ring))));
   small = λ mid answer few h. added_small s mid (named s client context ring) answer few
       (add_there s mid client context type_name desc payload ring answer h);
   plain = search (plain, plain_context, plain_admitted, plain_place);
@@ -369,6 +358,8 @@ add_law s client context type_name desc payload ring = record {
       let there = own_there s client context c own in
       meets_after (place_of made.0 made.1 name ring) _ (λ place is.
       meets_ok (record {
+        comes = λ other. comes_trans s made.0 (added made.0 made.1 name payload place) (made_for_comes s context c ring)
+            (added_comes made.0 made.1 name payload place);
         counts = λ placed. added_within s c name payload ring place made
             (made_for_has s context c ring (own_process_there s context c there placed)) is;
         houses = added_houses s made.0 client context (Add type_name desc payload ring) made.1 name payload place

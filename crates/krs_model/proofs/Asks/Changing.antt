@@ -24,19 +24,17 @@ use Rattle.krs_model.specs.Possession.{links_of_content}
 use Rattle.krs_model.specs.Search.{found}
 use Rattle.krs_model.specs.Sound.{is_links}
 use Rattle.krs_model.specs.State.{Content, Key, Links, Payload, State}
-use Rattle.krs_model.proofs.Asks.Done.{of_keys}
 use Rattle.krs_model.proofs.Asks.Fares.{changed_fares}
-use Rattle.krs_model.proofs.Asks.Later.{changed_comes, keeping}
 use Rattle.krs_model.proofs.Asks.Lawful.{IsLawful}
 use Rattle.krs_model.proofs.Asks.NotedKeys.{about_small}
 use Rattle.krs_model.proofs.Asks.Outcomes.{meets_after, meets_ok}
 use Rattle.krs_model.proofs.Asks.Plain.{plain, plain_context, plain_look_up, plain_paid}
-use Rattle.krs_model.proofs.Hiding.KeyAsks.{blind_done, done_changed, found_in, named_is, paid_blind}
+use Rattle.krs_model.proofs.Hiding.Accepted.{blind_done, done_changed, found_in, named_is, paid_blind}
 use Rattle.krs_model.proofs.Hiding.Over.{after, bound, either}
-use Rattle.krs_model.proofs.Isolation.KeyAsks.{none_found}
+use Rattle.krs_model.proofs.Isolation.Guarded.{none_found}
 use Rattle.krs_model.proofs.Sound.Changes.{Lessens}
 use Rattle.krs_model.proofs.Sound.Contents.{form_stays}
-use Rattle.krs_model.proofs.Sound.KeyAsks.{leaves, updated_lessens}
+use Rattle.krs_model.proofs.Sound.KeyChanges.{leaves, updated_lessens}
 use Rattle.krs_model.proofs.Tables.Counts.{IsPart, none_part}
 use Rattle.krs_types.specs.declared.note.KeyEvent.TheVariants as told_of
 
@@ -96,7 +94,6 @@ pub update_law :
     (s : State) (client context : ℕ) (id : ℤ) (payload : List ℕ) → IsLawful s client context (Update id payload)
 unfolding update
 update_law s client context id payload = record {
-  effect = of_keys s client context (Update id payload) refl refl (search (keeping, changed_comes));
   small = λ mid answer few h. about_small told_of.Updated (named s client context id);
   plain = search (plain, plain_context, plain_look_up, plain_paid);
   blind = λ hide hides.
@@ -110,13 +107,12 @@ update_law s client context id payload = record {
       meets_after (updatable found.1.kind) _ (λ kind _.
       meets_after (paid kind payload) _ (λ fit _.
       meets_ok (changed_fares s client context _ c id (Granted WRITE) found (updated payload) own is refl
-      (updated_lessens payload) (λ uid private alone holds v m h. h))))));
+      (updated_lessens payload) (λ v h. h) (λ uid private alone holds v m h. h))))));
 }
 
 pub revoke_law : (s : State) (client context : ℕ) (id : ℤ) → IsLawful s client context (Revoke id)
 unfolding revoke
 revoke_law s client context id = record {
-  effect = of_keys s client context (Revoke id) refl refl (search (keeping, changed_comes));
   small = λ mid answer few h. about_small told_of.Revoked (named s client context id);
   plain = search (plain, plain_context, plain_look_up);
   blind = λ hide hides.
@@ -128,13 +124,12 @@ revoke_law s client context id = record {
       meets_after (context_of s client context) _ (λ c own.
       meets_after (look_up s c id (Either WRITE SETATTR)) _ (λ found is.
       meets_ok (changed_fares s client context _ c id (Either WRITE SETATTR) found revoked own is refl revoked_lessens
-      (λ uid private alone holds v m h. h))));
+      (λ v h. refl) (λ uid private alone holds v m h. h))));
 }
 
 pub chown_law : (s : State) (client context : ℕ) (id : ℤ) (to gid : ℕ) → IsLawful s client context (Chown id to gid)
 unfolding chown
 chown_law s client context id to gid = record {
-  effect = of_keys s client context (Chown id to gid) refl refl (search (keeping, changed_comes));
   small = λ mid answer few h. about_small told_of.Setattr (named s client context id);
   plain = search (plain, plain_context, plain_look_up);
   blind = λ hide hides.
@@ -151,14 +146,13 @@ chown_law s client context id to gid = record {
       meets_after (if_may_own c.caller to gid found.1) _ (λ allowed _.
       let same = leaves (with_owner to gid) (λ v. refl) (λ v name. refl) (λ v fits. fits) in
       meets_ok (changed_fares s client context _ c id (Granted SETATTR) found (with_owner to gid) own is refl same
-      (λ uid private alone holds v m h. absurd
+      (λ v h. h) (λ uid private alone holds v m h. absurd
       (none_found uid private s client context c id (Granted SETATTR) found alone own (holds refl) refl is m))))));
 }
 
 pub set_perm_law : (s : State) (client context : ℕ) (id : ℤ) (mask : ℕ) → IsLawful s client context (SetPerm id mask)
 unfolding set_perm
 set_perm_law s client context id mask = record {
-  effect = of_keys s client context (SetPerm id mask) refl refl (search (keeping, changed_comes));
   small = λ mid answer few h. about_small told_of.Setattr (named s client context id);
   plain = search (plain, plain_context, plain_look_up) depth 12;
   blind = λ hide hides.
@@ -178,7 +172,7 @@ set_perm_law s client context id mask = record {
       meets_after (if_owner c.caller found.1) _ (λ allowed _.
       let same = leaves (with_perm perm) (λ v. refl) (λ v name. refl) (λ v fits. fits) in
       meets_ok (changed_fares s client context _ c id (Granted SETATTR) found (with_perm perm) own is refl same
-      (λ uid private alone holds v m h. absurd
+      (λ v h. h) (λ uid private alone holds v m h. absurd
       (none_found uid private s client context c id (Granted SETATTR) found alone own (holds refl) refl is m)))))));
 }
 
@@ -186,7 +180,6 @@ pub set_timeout_law :
     (s : State) (client context : ℕ) (id : ℤ) (seconds : ℕ) → IsLawful s client context (SetTimeout id seconds)
 unfolding set_timeout
 set_timeout_law s client context id seconds = record {
-  effect = of_keys s client context (SetTimeout id seconds) refl refl (search (keeping, changed_comes));
   small = λ mid answer few h. about_small told_of.Setattr (named s client context id);
   plain = search (plain, plain_context, plain_look_up);
   blind = λ hide hides.
@@ -199,5 +192,5 @@ set_timeout_law s client context id seconds = record {
       let expiry = expiry_after s.clock seconds in
       let same = leaves (with_expiry expiry) (λ v. refl) (λ v name. refl) (λ v fits. fits) in
       meets_ok (changed_fares s client context _ c id (Granted SETATTR) found (with_expiry expiry) own is refl same
-      (λ uid private alone holds v m h. h))));
+      (λ v h. h) (λ uid private alone holds v m h. h))));
 }

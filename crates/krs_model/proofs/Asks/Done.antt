@@ -14,7 +14,6 @@ use Rattle.krs_types.specs.declared.ask.Op.TheVariants.{CloseQueue, Leave}
 use Rattle.krs_types.specs.Refusing.{◌>>=◌, or_refuse}
 use Rattle.krs_model.specs.Table.{Table, at, alter}
 use Rattle.krs_model.specs.State.{State, Queue}
-use Rattle.krs_model.specs.Step.{outcome_of}
 use Rattle.krs_model.specs.Queues.{Queues, queues_of, with_queues, if_own_queue, queue_of, watch_at, with_watch}
 use Rattle.krs_model.specs.Queues.{without_watch}
 use Rattle.krs_model.specs.Notes.Bytes.{bytes_of, bytes_of_all}
@@ -25,7 +24,7 @@ use Rattle.krs_model.specs.Asks.Leaving.{left}
 use Rattle.krs_model.specs.Asks.Watching.{with_queue, with_filter, after_read}
 use Rattle.krs_model.specs.Asks.Watching.{without_queue, unwatched, watch_id_of}
 use Rattle.krs_model.proofs.Lookups.Serials.{refused_is}
-use Rattle.krs_model.proofs.Asks.Later.{Keeps, Comes, bind_ok, same_ok}
+use Rattle.krs_model.proofs.Asks.Later.{Comes, bind_ok, same_ok}
 
 -- the queues with these in their place
 abbrev pub with_table : State → Table Queue → State
@@ -127,10 +126,3 @@ pub ends_as :
     → Effect s client context op mid told → end_of mid told ≡ end_of new answer → Effect s client context op new answer
 ends_as s client context op mid new told answer effect same =
     subst (λ (x : State × Answer). Effect s client context op x.0 x.1) same effect
-
--- an ask of keys
-pub of_keys :
-    (s : State) (client context : ℕ) (op : Op) → is_of_queues op ≡ false → ended_by s client context op ≡ []
-    → Keeps s (outcome_of s client context op) → (new : State) (answer : Answer)
-    → outcome_of s client context op ≡ Ok (new, answer) → Effect s client context op new answer
-of_keys s client context op other none keeps new answer h = OfKeys op new answer other (keeps.comes new answer h) none

@@ -11,18 +11,17 @@ use Rattle.krs_model.specs.Lookup.{context_of}
 use Rattle.krs_model.specs.Possession.{process_ring}
 use Rattle.krs_model.specs.State.{State}
 use Rattle.krs_model.specs.Table.{put}
-use Rattle.krs_model.proofs.Asks.Done.{of_keys}
 use Rattle.krs_model.proofs.Asks.Houses.{Enters, Execs, Forked, Threads}
-use Rattle.krs_model.proofs.Asks.Later.{keeps_after, keeps_ok, same_comes}
+use Rattle.krs_model.proofs.Asks.Later.{same_comes}
 use Rattle.krs_model.proofs.Asks.Lawful.{IsLawful}
 use Rattle.krs_model.proofs.Asks.NewSerials.{same_counts}
 use Rattle.krs_model.proofs.Asks.Outcomes.{meets_after, meets_ok}
 use Rattle.krs_model.proofs.Asks.Plain.{plain, plain_context}
-use Rattle.krs_model.proofs.Hiding.KeyAsks.{blind_done}
+use Rattle.krs_model.proofs.Hiding.Accepted.{blind_done}
 use Rattle.krs_model.proofs.Hiding.Over.{after}
 use Rattle.krs_model.proofs.Isolation.Attachments.{attaches_none, entered_unattached, execed_unattached}
 use Rattle.krs_model.proofs.Isolation.Attachments.{threaded_unattached}
-use Rattle.krs_model.proofs.Isolation.KeyAsks.{next_apart}
+use Rattle.krs_model.proofs.Isolation.Guarded.{next_apart}
 use Rattle.krs_model.proofs.Lookups.Serials.{own_there}
 use Rattle.krs_model.proofs.Reach.Levels.{in_right}
 use Rattle.krs_model.proofs.Sound.Contexts.{owner_there}
@@ -54,10 +53,6 @@ exec_blind hide s client context = after (blind_done hide) (context_of s client 
 pub thread_law : (s : State) (client context : ℕ) → IsLawful s client context Thread
 unfolding thread
 thread_law s client context = record {
-  effect =
-      of_keys s client context Thread refl refl (keeps_after (context_of s client context) _ (λ c.
-      keeps_after (has_context_left s client) _ (λ room.
-      keeps_after (if_context_number s) _ (λ left. keeps_ok (same_comes s _ refl refl refl)))));
   small = λ mid answer few h. tt;
   plain = search (plain, plain_context);
   blind = λ hide hides. thread_blind hide s client context;
@@ -67,8 +62,10 @@ thread_law s client context = record {
       meets_after (if_context_number s) _ (λ left _.
       let is = own_there s client context c own in
       let contexts = put s.contexts s.next_context (without_thread c) in
+      let after : State = record s { contexts = contexts; next_context = s.next_context + 1 } in
       meets_ok (record {
-        counts = λ placed. same_counts s (record s { contexts = contexts; next_context = s.next_context + 1 }) refl;
+        comes = λ other. same_comes s after refl refl refl;
+        counts = λ placed. same_counts s after refl;
         houses = Threads c refl own;
         stands = λ stands. context_stands s (without_thread c) (λ k i. own_session_there s context c k is stands i)
             (own_process_there s context c is stands.placed) (owner_there s.contexts s.uids context c is stands.housed.owned)
@@ -85,10 +82,6 @@ thread_law s client context = record {
 pub fork_law : (s : State) (client context : ℕ) → IsLawful s client context Fork
 unfolding fork
 fork_law s client context = record {
-  effect =
-      of_keys s client context Fork refl refl (keeps_after (context_of s client context) _ (λ c.
-      keeps_after (has_context_left s client) _ (λ room.
-      keeps_after (if_context_number s) _ (λ left. keeps_ok (same_comes s _ refl refl refl)))));
   small = λ mid answer few h. tt;
   plain = search (plain, plain_context);
   blind = λ hide hides. fork_blind hide s client context;
@@ -98,6 +91,7 @@ fork_law s client context = record {
       meets_after (if_context_number s) _ (λ left _.
       let is = own_there s client context c own in
       meets_ok (record {
+        comes = λ other. same_comes s (with_context s client c.caller c.session) refl refl refl;
         counts = λ placed. same_counts s (with_context s client c.caller c.session) refl;
         houses = Enters c.caller c.session (Forked c refl own);
         stands = λ stands. entered_stands s client c.caller c.session
@@ -118,14 +112,13 @@ fork_law s client context = record {
 pub exec_law : (s : State) (client context : ℕ) → IsLawful s client context Exec
 unfolding exec
 exec_law s client context = record {
-  effect =
-      of_keys s client context Exec refl refl (keeps_after (context_of s client context) _ (λ c. keeps_ok (same_comes s (execed s context c) refl refl refl)));
   small = λ mid answer few h. tt;
   plain = search (plain, plain_context);
   blind = λ hide hides. exec_blind hide s client context;
   fares =
       meets_after (context_of s client context) _ (λ c own.
       meets_ok (record {
+        comes = λ other. same_comes s (execed s context c) refl refl refl;
         counts = λ placed. same_counts s (execed s context c) refl;
         houses = Execs c refl own;
         stands = λ stands. execed_stands s context c stands;

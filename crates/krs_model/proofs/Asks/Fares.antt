@@ -1,5 +1,6 @@
 -- What becomes of a store by an accepted ask.
-use Rattle.std.proofs.Common.{ℕ, ℤ, ◌≡◌, Bool, Ok, Result, Some, cond, false, inl, refl, subst, true}
+use Rattle.std.proofs.lemmas.Bool.{true≢false}
+use Rattle.std.proofs.Common.{ℕ, ℤ, ◌≡◌, ◌∙◌, sym, Bool, Ok, Result, Some, cond, false, inl, refl, subst, true}
 use Rattle.krs_types.specs.Refusing.{or_refuse}
 use Rattle.krs_types.specs.Rights.{WRITE, allows}
 use Rattle.krs_types.specs.declared.ask.Op.{Op}
@@ -20,21 +21,25 @@ use Rattle.krs_model.specs.Sound.{AllPlaced}
 use Rattle.krs_model.specs.State.{Key, State}
 use Rattle.krs_model.specs.Table.{at}
 use Rattle.krs_model.proofs.Asks.Houses.{HousesIn, Same, linked_houses, made_houses}
-use Rattle.krs_model.proofs.Asks.Later.{within_ok}
+use Rattle.krs_model.proofs.Asks.Done.{is_of_queues}
+use Rattle.krs_model.proofs.Asks.Later.{Comes, changed_comes, comes_trans, same_comes, within_ok}
+use Rattle.krs_model.proofs.Asks.LaterByAsk.{linked_into_comes, made_for_comes}
 use Rattle.krs_model.proofs.Asks.NewSerials.{IsWithin, counts_within, same_counts}
 use Rattle.krs_model.proofs.Asks.Outcomes.{Meets, meets_after, meets_ok}
 use Rattle.krs_model.proofs.Isolation.Attachments.{same_unattached}
-use Rattle.krs_model.proofs.Isolation.KeyAsks.{Guarded, Holds, NotBy, alone_guarded, changed_guarded, lessens_keeps}
-use Rattle.krs_model.proofs.Isolation.KeyAsks.{none_found}
-use Rattle.krs_model.proofs.Isolation.LinkAsks.{linked_guarded, made_alone, other_linkable, other_made}
+use Rattle.krs_model.proofs.Isolation.Guarded.{Guarded, Holds, NotBy, alone_guarded, changed_guarded, lessens_keeps}
+use Rattle.krs_model.proofs.Isolation.Guarded.{none_found}
+use Rattle.krs_model.proofs.Isolation.Links.{linked_guarded, made_alone, other_linkable, other_made}
 use Rattle.krs_model.proofs.Isolation.Untouched.{KeysAfter, linked_same, made_same, not_into, other_same, same_trans}
 use Rattle.krs_model.proofs.Lookups.Serials.{refused_is}
 use Rattle.krs_model.proofs.Sound.Changes.{Lessens, Stands, changed_stands, same_stands}
-use Rattle.krs_model.proofs.Sound.LinkAsks.{linkable_is, linked_into_stands}
+use Rattle.krs_model.proofs.Sound.Links.{linkable_is, linked_into_stands}
 use Rattle.krs_model.proofs.Sound.NewContexts.{made_for_stands}
 
 -- what an accepted ask leaves before the sweep
 pub record Fares (s : State) (client context : ℕ) (op : Op) (new : State) : Type 0 where
+  -- an ask of keys leaves queues, and keys stay, or come under new serials
+  pub comes : is_of_queues op ≡ false → Comes s new
   -- no serial was given, or none above the last
   pub counts : AllPlaced s → IsWithin s new
   -- what it has done to contexts, processes and uids
@@ -52,10 +57,12 @@ pub record Fares (s : State) (client context : ℕ) (op : Op) (new : State) : Ty
 pub changed_fares :
     (s : State) (client context : ℕ) (op : Op) (c : Context) (id : ℤ) (want : Want) (found : ℕ × Key) (f : Key → Key)
     → context_of s client context ≡ Ok c → look_up s c id want ≡ Ok found → allows want 0 false ≡ false → Lessens f
+    → ((v : Key) → v.revoked ≡ true → (f v).revoked ≡ true)
     → ((uid : ℕ) (private : ℕ → Bool) → HasToItself uid private s → Holds uid s client context op → (v : Key)
     → private found.0 ≡ true → is_own uid v ≡ true → is_own uid (f v) ≡ true)
     → Fares s client context op (changed s found.0 f)
-changed_fares s client context op c id want found f own is wants less stays = record {
+changed_fares s client context op c id want found f own is wants less gone stays = record {
+  comes = λ other. changed_comes s found.0 f gone;
   counts = λ placed. same_counts s (changed s found.0 f) refl;
   houses = Same;
   stands = λ stands. changed_stands s found.0 f less stands;
@@ -68,6 +75,7 @@ changed_fares s client context op c id want found f own is wants less stays = re
 -- nothing changed
 pub same_fares : (s : State) (client context : ℕ) (op : Op) → Fares s client context op s
 same_fares s client context op = record {
+  comes = λ other. same_comes s s refl refl refl;
   counts = λ placed. same_counts s s refl;
   houses = Same;
   stands = λ stands. stands;
@@ -77,8 +85,10 @@ same_fares s client context op = record {
 
 -- queues and watches changed
 pub queues_fares :
-    (s : State) (client context : ℕ) (op : Op) (queues : Queues) → Fares s client context op (with_queues s queues)
-queues_fares s client context op queues = record {
+    (s : State) (client context : ℕ) (op : Op) (queues : Queues) → is_of_queues op ≡ true
+    → Fares s client context op (with_queues s queues)
+queues_fares s client context op queues of_queues = record {
+  comes = λ other. absurd (true≢false (sym of_queues ∙ other));
   counts = λ placed. same_counts s (with_queues s queues) refl;
   houses = Same;
   stands = λ stands. same_stands s _ refl refl stands.attached stands.placed stands.housed stands;
@@ -117,6 +127,8 @@ pub linked_fares :
 linked_fares s client context op c id into found new own goes there linked apart within =
     let made = made_for s context c id in
     record {
+      comes = λ other. comes_trans s made.0 new (made_for_comes s context c id)
+          (linked_into_comes made.0 into found new linked);
       counts = λ placed. within;
       houses = linked_houses s made.0 client context op into found new linked
           (made_houses s client context op c id own);

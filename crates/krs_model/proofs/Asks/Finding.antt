@@ -15,20 +15,19 @@ use Rattle.krs_model.specs.Hiding.{Hiding, blind, over}
 use Rattle.krs_model.specs.Lookup.{context_of, look_up}
 use Rattle.krs_model.specs.Making.{within_serials}
 use Rattle.krs_model.specs.State.{Key, State}
-use Rattle.krs_model.proofs.Asks.Done.{of_keys}
 use Rattle.krs_model.proofs.Asks.Fares.{fares_within}
 use Rattle.krs_model.proofs.Asks.Houses.{HousesIn, Same, made_houses}
-use Rattle.krs_model.proofs.Asks.Later.{Comes, Keeps, keeps_after, keeps_ok, keeps_within, same_comes}
-use Rattle.krs_model.proofs.Asks.LaterByAsk.{keeps_from, made_for_comes}
+use Rattle.krs_model.proofs.Asks.Later.{Comes, same_comes}
+use Rattle.krs_model.proofs.Asks.LaterByAsk.{made_for_comes}
 use Rattle.krs_model.proofs.Asks.Lawful.{IsLawful}
 use Rattle.krs_model.proofs.Asks.Outcomes.{meets_after, meets_ok}
 use Rattle.krs_model.proofs.Asks.Plain.{IsPlain, plain, plain_context, plain_look_up, plain_within}
-use Rattle.krs_model.proofs.Hiding.KeyAsks.{accepted, blind_done}
-use Rattle.krs_model.proofs.Hiding.LinkAsks.{blind_made, made_blind, within_blind}
+use Rattle.krs_model.proofs.Hiding.Accepted.{accepted, blind_done}
+use Rattle.krs_model.proofs.Hiding.Links.{blind_made, made_blind, within_blind}
 use Rattle.krs_model.proofs.Hiding.Lookups.{blind_found, look_up_blind}
 use Rattle.krs_model.proofs.Hiding.Over.{after, bound}
-use Rattle.krs_model.proofs.Isolation.KeyAsks.{alone_guarded}
-use Rattle.krs_model.proofs.Isolation.LinkAsks.{made_alone}
+use Rattle.krs_model.proofs.Isolation.Guarded.{alone_guarded}
+use Rattle.krs_model.proofs.Isolation.Links.{made_alone}
 use Rattle.krs_model.proofs.Isolation.Untouched.{AreSame, made_same}
 use Rattle.krs_model.proofs.Sound.Changes.{Stands}
 use Rattle.krs_model.proofs.Sound.NewContexts.{made_for_stands}
@@ -37,10 +36,6 @@ made_where_comes :
     (create : Bool) (s : State) (number : ℕ) (c : Context) (id : ℤ) → Comes s (made_where create s number c id).0
 made_where_comes true s number c id = made_for_comes s number c id
 made_where_comes false s number c id = same_comes s s refl refl refl
-
-got_comes : (s : State) (c : Context) (id : ℤ) → Keeps s (got s c id)
-got_comes s c id =
-    keeps_after (look_up s c id (Granted SEARCH)) _ (λ key. keeps_ok (same_comes s s refl refl refl))
 
 plain_got : (s : State) (c : Context) (id : ℤ) → IsPlain (got s c id)
 plain_got s c id = search (plain, plain_look_up)
@@ -96,11 +91,6 @@ where_same uid private false s number c id alone = λ k m. refl
 pub get_id_law : (s : State) (client context : ℕ) (id : ℤ) (create : Bool) → IsLawful s client context (GetId id create)
 unfolding get_id
 get_id_law s client context id create = record {
-  effect =
-      of_keys s client context (GetId id create) refl refl (keeps_after (context_of s client context) _ (λ c.
-      let made = made_where create s context c id in
-      keeps_within s (got made.0 made.1 id)
-      (keeps_from (made_where_comes create s context c id) (got_comes made.0 made.1 id))));
   small = λ mid answer few h. tt;
   plain = search (plain, plain_context, plain_within, plain_got);
   blind = λ hide hides. get_id_blind hide s client context id create;
@@ -109,6 +99,7 @@ get_id_law s client context id create = record {
       let made = made_where create s context c id in
       fares_within s _ (meets_after (look_up made.0 made.1 id (Granted SEARCH)) _ (λ key _.
       meets_ok (λ within. record {
+        comes = λ other. made_where_comes create s context c id;
         counts = λ placed. within;
         houses = where_houses create s client context (GetId id create) c id own;
         stands = λ stands. made_where_stands create s context c id stands;

@@ -18,18 +18,17 @@ use Rattle.krs_model.specs.Hiding.{Hiding, blind}
 use Rattle.krs_model.specs.Making.{with_new}
 use Rattle.krs_model.specs.State.{Key, State}
 use Rattle.krs_model.specs.Table.{Table, at, put}
-use Rattle.krs_model.proofs.Asks.Done.{of_keys}
 use Rattle.krs_model.proofs.Asks.Houses.{Begins, Enters, HousesIn, Named}
-use Rattle.krs_model.proofs.Asks.Later.{Comes, comes_trans, keeping, same_comes, with_new_comes}
+use Rattle.krs_model.proofs.Asks.Later.{Comes, comes_trans, same_comes, with_new_comes}
 use Rattle.krs_model.proofs.Asks.Lawful.{IsLawful}
 use Rattle.krs_model.proofs.Asks.NewSerials.{IsWithin, same_counts}
 use Rattle.krs_model.proofs.Asks.Outcomes.{meets_after, meets_ok}
 use Rattle.krs_model.proofs.Asks.Plain.{plain}
-use Rattle.krs_model.proofs.Hiding.KeyAsks.{accepted, blind_done}
+use Rattle.krs_model.proofs.Hiding.Accepted.{accepted, blind_done}
 use Rattle.krs_model.proofs.Hiding.Keys.{put_blind}
 use Rattle.krs_model.proofs.Hiding.Over.{after}
 use Rattle.krs_model.proofs.Isolation.Attachments.{entered_unattached, first_session_apart, with_uid_unattached}
-use Rattle.krs_model.proofs.Isolation.KeyAsks.{next_apart, uid_placed, uid_processes}
+use Rattle.krs_model.proofs.Isolation.Guarded.{next_apart, uid_placed, uid_processes}
 use Rattle.krs_model.proofs.Isolation.Keys.{put_enclosed}
 use Rattle.krs_model.proofs.Isolation.Untouched.{AreSame, put_same, same_trans}
 use Rattle.krs_model.proofs.Reach.Levels.{only_in}
@@ -143,7 +142,6 @@ uid_same uid private s c None alone =
 pub hello_law : (s : State) (client context : ℕ) (caller : Caller) → IsLawful s client context (Hello caller)
 unfolding hello
 hello_law s client context caller = record {
-  effect = of_keys s client context (Hello caller) refl refl (search (keeping, entered_comes));
   small = λ mid answer few h. tt;
   plain = search plain;
   blind = λ hide hides.
@@ -160,6 +158,7 @@ hello_law s client context caller = record {
       meets_after (has_context_left s client) _ (λ room _.
       meets_after (has_numbers s rings) _ (λ left is.
       meets_ok (record {
+        comes = λ other. entered_comes s client caller rings (first_session s.next_serial rings);
         counts = λ placed. uid_within s caller rings left is;
         houses = hello_ends s client context caller rings refl;
         stands = λ stands. entered_stands with_rings client caller (first_session s.next_serial rings)

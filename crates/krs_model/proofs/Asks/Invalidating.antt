@@ -18,24 +18,23 @@ use Rattle.krs_model.specs.Sound.{AllAttached}
 use Rattle.krs_model.specs.State.{Key, State}
 use Rattle.krs_model.specs.Sweep.{context_roots, process_roots, uid_roots}
 use Rattle.krs_model.specs.Table.{Table, at, map_values}
-use Rattle.krs_model.proofs.Asks.Done.{of_keys}
 use Rattle.krs_model.proofs.Asks.Houses.{Detaches}
-use Rattle.krs_model.proofs.Asks.Later.{Comes, is_gone, keeps_after, keeps_ok}
+use Rattle.krs_model.proofs.Asks.Later.{Comes, is_gone}
 use Rattle.krs_model.proofs.Asks.Lawful.{IsLawful}
 use Rattle.krs_model.proofs.Asks.NewSerials.{same_counts}
 use Rattle.krs_model.proofs.Asks.NotedKeys.{about_small}
 use Rattle.krs_model.proofs.Asks.Outcomes.{meets_after, meets_ok}
 use Rattle.krs_model.proofs.Asks.Plain.{plain, plain_context, plain_look_up}
-use Rattle.krs_model.proofs.Hiding.KeyAsks.{accepted, blind_done, found_in}
+use Rattle.krs_model.proofs.Hiding.Accepted.{accepted, blind_done, found_in}
 use Rattle.krs_model.proofs.Hiding.Keys.{map_blind}
-use Rattle.krs_model.proofs.Hiding.LinkAsks.{without_blind}
+use Rattle.krs_model.proofs.Hiding.Links.{without_blind}
 use Rattle.krs_model.proofs.Isolation.Attachments.{invalidated_unattached}
 use Rattle.krs_model.proofs.Isolation.Keys.{mapped_enclosed}
 use Rattle.krs_model.proofs.Sound.Attached.{attached_by, attached_mapped, context_keys, in_context, in_process}
 use Rattle.krs_model.proofs.Sound.Attached.{in_uid, own_process, uid_keys}
 use Rattle.krs_model.proofs.Sound.Changes.{Stands, mapped_stands, same_stands, there_map}
 use Rattle.krs_model.proofs.Sound.Contexts.{mapped_housed}
-use Rattle.krs_model.proofs.Sound.KeyAsks.{both_in, detached_in, unlinked_lessens}
+use Rattle.krs_model.proofs.Sound.KeyChanges.{both_in, detached_in, unlinked_lessens}
 use Rattle.krs_model.proofs.Sound.NewContexts.{ArePlaced, in_placed, placed_in}
 use Rattle.krs_model.proofs.Tables.Changes.{at_map}
 use Rattle.krs_model.proofs.Tables.Counts.{part_in}
@@ -94,10 +93,6 @@ invalidated_blind hide s serial =
 pub invalidate_law : (s : State) (client context : ℕ) (id : ℤ) → IsLawful s client context (Invalidate id)
 unfolding invalidate
 invalidate_law s client context id = record {
-  effect =
-      of_keys s client context (Invalidate id) refl refl (keeps_after (context_of s client context) _ (λ c.
-      keeps_after (look_up s c id (Granted SEARCH)) _ (λ found.
-      keeps_ok (mapped_comes s (invalidated s found.0) (without_link found.0) (λ v. refl) refl refl refl))));
   small = λ mid answer few h. about_small told_of.Invalidated (named s client context id);
   plain = search (plain, plain_context, plain_look_up);
   blind = λ hide hides.
@@ -107,6 +102,7 @@ invalidate_law s client context id = record {
       meets_after (context_of s client context) _ (λ c own.
       meets_after (look_up s c id (Granted SEARCH)) _ (λ gone is.
       meets_ok (record {
+        comes = λ other. mapped_comes s (invalidated s gone.0) (without_link gone.0) (λ v. refl) refl refl refl;
         counts = λ placed. same_counts s (invalidated s gone.0) refl;
         houses = Detaches c id gone refl own is;
         stands = λ stands. invalidated_stands s gone.0 stands;

@@ -24,37 +24,27 @@ use Rattle.krs_model.specs.Outcome.{Outcome}
 use Rattle.krs_model.specs.Search.{found}
 use Rattle.krs_model.specs.State.{Key, State}
 use Rattle.krs_model.specs.Table.{Rises, Table, at, put}
-use Rattle.krs_model.proofs.Asks.Done.{of_keys}
 use Rattle.krs_model.proofs.Asks.Fares.{Fares, fares_within}
 use Rattle.krs_model.proofs.Asks.NewSerials.{IsWithin}
 use Rattle.krs_model.proofs.Asks.Houses.{Alters}
 use Rattle.krs_model.proofs.Asks.Joins.{found_least, passed_may}
-use Rattle.krs_model.proofs.Asks.Later.{Keeps, keeps_after, keeps_ok, keeps_within, same_comes, with_new_comes}
-use Rattle.krs_model.proofs.Asks.LaterByAsk.{keeps_from}
+use Rattle.krs_model.proofs.Asks.Later.{same_comes, with_new_comes}
 use Rattle.krs_model.proofs.Asks.Lawful.{IsLawful}
 use Rattle.krs_model.proofs.Asks.Outcomes.{Meets, meets_after, meets_ok}
 use Rattle.krs_model.proofs.Asks.Plain.{IsPlain, plain, plain_context, plain_ok, plain_within}
-use Rattle.krs_model.proofs.Hiding.KeyAsks.{blind_done}
+use Rattle.krs_model.proofs.Hiding.Accepted.{blind_done}
 use Rattle.krs_model.proofs.Hiding.Keys.{put_blind}
-use Rattle.krs_model.proofs.Hiding.LinkAsks.{within_blind}
+use Rattle.krs_model.proofs.Hiding.Links.{within_blind}
 use Rattle.krs_model.proofs.Hiding.Lookups.{blind_found}
 use Rattle.krs_model.proofs.Hiding.Over.{after}
 use Rattle.krs_model.proofs.Isolation.Attachments.{joined_unattached, own_joined_unattached, same_unattached}
-use Rattle.krs_model.proofs.Isolation.KeyAsks.{next_apart}
+use Rattle.krs_model.proofs.Isolation.Guarded.{next_apart}
 use Rattle.krs_model.proofs.Isolation.Keys.{no_class}
-use Rattle.krs_model.proofs.Isolation.LinkAsks.{later_made, new_enclosed}
+use Rattle.krs_model.proofs.Isolation.Links.{later_made, new_enclosed}
 use Rattle.krs_model.proofs.Isolation.Untouched.{put_same}
 use Rattle.krs_model.proofs.Lookups.Serials.{own_there}
 use Rattle.krs_model.proofs.Sound.NewContexts.{joinable_there, joined_stands, new_joined_stands, session_ring_empty}
-
-session_joined_comes :
-    (s : State) (number : ℕ) (c : Context) (name : List ℕ) (found : Option (ℕ × Key))
-    → Keeps s (session_joined s number c name found)
-session_joined_comes s number c name (Some found) = keeps_ok (same_comes s _ refl refl refl)
-session_joined_comes s number c name None =
-    let one = with_new s (session_ring name c.caller) in
-    keeps_from (with_new_comes s (session_ring name c.caller))
-    (keeps_ok (same_comes one (joined_to one number s.next_serial) refl refl refl))
+use Rattle.krs_model.proofs.Asks.Later.{comes_trans}
 
 plain_session_named : (name : List ℕ) → IsPlain (session_named name)
 plain_session_named name = search plain
@@ -158,6 +148,7 @@ joined_fares :
     → Meets (λ (new : State). IsWithin s new → Fares s client context (Join name) new)
     (session_joined s context c name answer)
 joined_fares s client context c name (Some found) own is = meets_ok (λ within. record {
+  comes = λ other. same_comes s (joined_to s context found.0) refl refl refl;
   counts = λ placed. within;
   houses = Alters c (session_to found.0) own (record { process = λ v. refl; caller = λ v. refl });
   stands = λ stands. joined_stands s context found.0 (joinable_there s c.caller name found is) stands;
@@ -173,6 +164,8 @@ joined_fares s client context c name None own is =
     let ring = session_ring name c.caller in
     let one = with_new s ring in
     meets_ok (λ within. record {
+      comes = λ other. comes_trans s one (joined_to one context s.next_serial) (with_new_comes s ring)
+          (same_comes one (joined_to one context s.next_serial) refl refl refl);
       counts = λ placed. within;
       houses = Alters c (session_to s.next_serial) own (record { process = λ v. refl; caller = λ v. refl });
       stands = λ stands. new_joined_stands s context name c.caller stands;
@@ -189,10 +182,6 @@ joined_fares s client context c name None own is =
 pub join_law : (s : State) (client context : ℕ) (name : List ℕ) → IsLawful s client context (Join name)
 unfolding join
 join_law s client context name = record {
-  effect =
-      of_keys s client context (Join name) refl refl (keeps_after (context_of s client context) _ (λ c.
-      keeps_after (session_named name) _ (λ fit.
-      keeps_within s _ (session_joined_comes s context c name (joinable s c.caller name)))));
   small = λ mid answer few h. tt;
   plain = search (plain, plain_context, plain_session_named, plain_within, plain_joined);
   blind = λ hide hides. join_blind hide s client context name;

@@ -1,6 +1,6 @@
 -- What comes from a state by accepted asks of keys: serials rise, what is gone stays gone, and queues and watches
 -- stay.
-use Rattle.std.proofs.Common.{◌≡◌, ℕ, ℤ, ◌≤◌, ◌<◌, ◌&&◌, Option, Some, None, Bool, true, false}
+use Rattle.std.proofs.Common.{◌≡◌, ℕ, ◌≤◌, ◌<◌, ◌&&◌, Option, Some, None, Bool, true, false}
 use Rattle.std.proofs.Common.{cond, nat_lt}
 use Rattle.std.proofs.Common.{filter, Result, Ok, Err, refl, ap, ◌∙◌, sym, subst, arith, ⊎_elim}
 use Rattle.std.specs.Option.{option_map, IsSome}
@@ -9,15 +9,12 @@ use Rattle.std.specs.Ordering.{nat_cmp}
 use Rattle.std.specs.BTreeMap.{is_at}
 use Rattle.std.proofs.lemmas.Bool.Decides.{nat_tests}
 use Rattle.krs_types.specs.declared.errno.Errno.{Errno}
-use Rattle.krs_types.specs.declared.context.Context.{Context}
-use Rattle.krs_types.specs.declared.rights.Want.{Want}
 use Rattle.krs_types.specs.declared.ask.Answer.{Answer}
 use Rattle.krs_types.specs.declared.errno.Errno.TheVariants.{ENOSPC}
 use Rattle.krs_types.specs.Refusing.{◌>>=◌}
 use Rattle.krs_model.specs.Table.{at, alter, IsBelow}
 use Rattle.krs_model.specs.State.{State, Key}
 use Rattle.krs_model.specs.Queues.{queues_of}
-use Rattle.krs_model.specs.Lookup.{context_of, look_up}
 use Rattle.krs_model.specs.Sweep.{IsSweep}
 use Rattle.krs_model.specs.Outcome.{Outcome}
 use Rattle.krs_model.specs.Making.{with_new, within_serials}
@@ -154,10 +151,6 @@ changed_comes s serial f stays = record {
   there = λ k h. there_alter s.keys serial f k h;
 }
 
--- an ask of keys, where it is accepted
-pub record Keeps (s : State) (meant : Outcome) : Type 0 where
-  pub comes : (new : State) (answer : Answer) → meant ≡ Ok (new, answer) → Comes s new
-
 -- a result is one value
 pub same_ok : {A : Type 0} (r : Result A Errno) (x y : A) → r ≡ Ok x → r ≡ Ok y → x ≡ y
 same_ok r x y g h = cc
@@ -183,36 +176,3 @@ within_ok old (Ok y) x h =
       | true ↦ λ e. cc
       | false ↦ λ e. e
     ] h
-
-pub keeps_within : {s : State} (old : State) (r : Outcome) → Keeps s r → Keeps s (within_serials old r)
-keeps_within {s} old r keeps = record { comes = λ t a e. keeps.comes t a (within_ok old r (t, a) e) }
-
-pub keeps_ok : {s new : State} {answer : Answer} → Comes s new → Keeps s (Ok (new, answer))
-keeps_ok {s} {new} {answer} h = record {
-  comes = λ t a e. subst (Comes s) (same_state (Ok (new, answer)) new t answer a refl e) h;
-}
-
--- after a test that may refuse
-pub keeps_after :
-    {A : Type 0} {s : State} (r : Result A Errno) (f : A → Outcome) → ((x : A) → Keeps s (f x))
-    → Keeps s (r >>= f)
-keeps_after (Ok x) f h = h x
-keeps_after (Err e) f h = record { comes = λ t a no. cc }
-
--- after a look-up in a context
-pub keeps_found :
-    {s : State} (client context : ℕ) (id : ℤ) (want : Want) (f : Context → (ℕ × Key) → Outcome)
-    → ((c : Context) (found : ℕ × Key) → Keeps s (f c found))
-    → Keeps s (context_of s client context >>= (λ c. look_up s c id want >>= (λ found. f c found)))
-keeps_found {s} client context id want f h =
-    keeps_after (context_of s client context) _ (λ c. keeps_after (look_up s c id want) (f c) (h c))
-
--- after a test that may refuse, which gave this
-pub keeps_is :
-    {A : Type 0} {s : State} (r : Result A Errno) (f : A → Outcome) → ((x : A) → r ≡ Ok x → Keeps s (f x))
-    → Keeps s (r >>= f)
-keeps_is (Ok x) f h = h x refl
-keeps_is (Err e) f h = record { comes = λ t a no. cc }
-
--- an ask is done by these, and by the lemma on what it comes to where it is accepted
-pub ruleset keeping = (keeps_found, keeps_after, keeps_ok, refl)

@@ -6,35 +6,21 @@ use Rattle.std.specs.Prelude.{codes, is_some}
 use Rattle.krs_types.specs.declared.errno.Errno.{Errno}
 use Rattle.krs_types.specs.declared.context.Context.{Context}
 use Rattle.krs_types.specs.declared.key_id.KeyId.{KeyId}
-use Rattle.krs_types.specs.declared.errno.Errno.TheVariants.{ENOKEY, EPERM, EEXIST}
+use Rattle.krs_types.specs.declared.errno.Errno.TheVariants.{EPERM, EEXIST}
 use Rattle.krs_types.specs.KeyId.{key_id_of}
-use Rattle.krs_types.specs.Refusing.{◌>>=◌, or_refuse}
-use Rattle.krs_model.specs.Table.{at}
+use Rattle.krs_types.specs.Refusing.{◌>>=◌}
 use Rattle.krs_model.specs.State.{State, Key}
 use Rattle.krs_model.specs.Search.{found}
-use Rattle.krs_model.specs.Outcome.{Outcome}
 use Rattle.krs_model.specs.Making.{with_new, special_ring, with_thread, with_process, made_for}
 use Rattle.krs_model.specs.Linking.{linking, link_named, has_room, ring_links}
-use Rattle.krs_model.specs.Asks.Finding.{if_linkable, found_into, found_alone}
 use Rattle.krs_model.specs.Asks.Adding.{made}
 use Rattle.krs_model.specs.Asks.Changing.{changed}
 use Rattle.krs_model.specs.Asks.Linked.{linked, linked_into, nestable, link_check, name_of}
 use Rattle.krs_model.specs.Asks.Linked.{unless, if_linked, without_link}
 use Rattle.krs_model.specs.Asks.Moving.{moved, moved_over}
 use Rattle.krs_model.proofs.MadeKeyring.Which.{IsMade, NoneMade, ThreadMade, ProcessMade, made_for_is}
-use Rattle.krs_model.proofs.Asks.Later.{Comes, same_comes, comes_trans, with_new_comes, changed_comes, Keeps}
-use Rattle.krs_model.proofs.Asks.Later.{same_ok, bind_ok, keeps_ok, keeps_after, keeps_is}
-
--- what an ask comes to in a state that follows
-pub keeps_from : {s made : State} {meant : Outcome} → Comes s made → Keeps made meant → Keeps s meant
-keeps_from {s} {made} {meant} first keeps = record {
-  comes = λ new answer h. comes_trans s made new first (keeps.comes new answer h);
-}
-
--- one ask or the other, by a test
-pub keeps_either : {s : State} (b : Bool) (x y : Outcome) → Keeps s x → Keeps s y → Keeps s (cond b x y)
-keeps_either true x y h k = h
-keeps_either false x y h k = k
+use Rattle.krs_model.proofs.Asks.Later.{Comes, same_comes, comes_trans, with_new_comes, changed_comes}
+use Rattle.krs_model.proofs.Asks.Later.{same_ok, bind_ok}
 
 -- a made thread or process keyring
 is_made_comes :
@@ -106,14 +92,3 @@ moved_is s exclusive found from into new h =
       | true ↦ λ is. subst (IsMoved s found from into) (same_ok (Ok s) s new refl is) Stays
       | false ↦ λ is. moved_over_is s exclusive found from into b.0 new is
     ] c.2
-
-pub found_into_comes :
-    (s : State) (c : Context) (into : ℕ × Key) (answer : Result ℕ Errno) → Keeps s (found_into s c into answer)
-found_into_comes s c into answer =
-    keeps_after answer _ (λ serial.
-    keeps_after (or_refuse ENOKEY (at s.keys serial)) _ (λ key.
-    keeps_after (if_linkable s c serial key) _ (λ linkable.
-    keeps_is (linked_into s into linkable) _ (λ new is. keeps_ok (linked_into_comes s into linkable new is)))))
-
-pub found_alone_comes : (s : State) (answer : Result ℕ Errno) → Keeps s (found_alone s answer)
-found_alone_comes s answer = keeps_after answer _ (λ serial. keeps_ok (same_comes s s refl refl refl))

@@ -7,16 +7,12 @@ use Rattle.krs_model.specs.State.{State}
 use Rattle.krs_model.specs.Step.{outcome_of}
 use Rattle.krs_model.specs.Notes.Telling.{notes_of}
 use Rattle.krs_model.specs.Hiding.{Hiding, Hides, blind, blind_ask, blind_outcome}
-use Rattle.krs_model.proofs.Asks.Done.{Effect}
 use Rattle.krs_model.proofs.Notes.Fitting.{AllSmall}
 use Rattle.krs_model.proofs.Asks.Plain.{IsPlain}
 use Rattle.krs_model.proofs.Asks.Outcomes.{Meets}
 use Rattle.krs_model.proofs.Asks.Fares.{Fares}
 
 pub record IsLawful (s : State) (client context : ℕ) (op : Op) : Type 0 where
-  -- what it has done, where it is accepted
-  pub effect : (new : State) (answer : Answer) → outcome_of s client context op ≡ Ok (new, answer)
-      → Effect s client context op new answer
   -- the keys that its notes name have serials that fit a record
   pub small : (mid : State) (answer : Answer) → IsBelow mid.keys 2147483648
       → outcome_of s client context op ≡ Ok (mid, answer) → AllSmall (notes_of s client context op answer)

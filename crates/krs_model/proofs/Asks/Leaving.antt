@@ -1,9 +1,10 @@
 -- What is proved of EXIT and LEAVE.
-use Rattle.std.proofs.Common.{ℕ, ◌==◌, ◌||◌, ◌∙◌, ◌∷◌, ◌≡◌, Bool, List, Ok, [], ap, cond, false, inl, refl, subst}
+use Rattle.std.proofs.Common.{ℕ, ◌==◌, ◌||◌, ◌∙◌, ◌∷◌, ◌≡◌, Bool, List, [], ap, cond, false, inl, refl, subst}
 use Rattle.std.proofs.Common.{sym, true}
 use Rattle.std.specs.List.{list_any}
 use Rattle.std.specs.Map.{values_of}
 use Rattle.std.specs.Option.{IsSome, option_to_list}
+use Rattle.std.proofs.lemmas.Bool.{true≢false}
 use Rattle.krs_types.specs.declared.ask.Answer.TheVariants.{Nothing}
 use Rattle.krs_types.specs.declared.ask.Op.TheVariants.{Exit, Leave}
 use Rattle.krs_types.specs.declared.context.Context.{Context}
@@ -17,17 +18,16 @@ use Rattle.krs_model.specs.Sound.{AllAttached}
 use Rattle.krs_model.specs.State.{State}
 use Rattle.krs_model.specs.Sweep.{context_roots, process_roots, uid_roots}
 use Rattle.krs_model.specs.Table.{Table, at, without}
-use Rattle.krs_model.proofs.Asks.Done.{Leaves, ends_as, of_keys}
 use Rattle.krs_model.proofs.Asks.Houses.{Departs, Exits}
-use Rattle.krs_model.proofs.Asks.Later.{keeps_after, keeps_ok, same_comes, same_ok}
+use Rattle.krs_model.proofs.Asks.Later.{same_comes}
 use Rattle.krs_model.proofs.Asks.Lawful.{IsLawful}
 use Rattle.krs_model.proofs.Asks.NewSerials.{IsWithin, same_counts}
 use Rattle.krs_model.proofs.Asks.Outcomes.{meets_after, meets_ok}
 use Rattle.krs_model.proofs.Asks.Plain.{plain, plain_context, plain_ok}
-use Rattle.krs_model.proofs.Hiding.KeyAsks.{accepted, blind_done}
+use Rattle.krs_model.proofs.Hiding.Accepted.{accepted, blind_done}
 use Rattle.krs_model.proofs.Hiding.Over.{after}
 use Rattle.krs_model.proofs.Isolation.Attachments.{exited_unattached, left_unattached}
-use Rattle.krs_model.proofs.Isolation.KeyAsks.{Guarded}
+use Rattle.krs_model.proofs.Isolation.Guarded.{Guarded}
 use Rattle.krs_model.proofs.Isolation.Untouched.{AreSame}
 use Rattle.krs_model.proofs.Sound.Attached.{attached_by, attached_fewer, attached_without, attachments, context_keys}
 use Rattle.krs_model.proofs.Sound.Attached.{in_context, in_process, in_uid, own_process, uid_keys}
@@ -115,14 +115,13 @@ left_same private s client = λ k m. refl
 pub exit_law : (s : State) (client context : ℕ) → IsLawful s client context Exit
 unfolding exit
 exit_law s client context = record {
-  effect =
-      of_keys s client context Exit refl refl (keeps_after (context_of s client context) _ (λ c. keeps_ok (same_comes s (exited s context c) refl refl refl)));
   small = λ mid answer few h. tt;
   plain = search (plain, plain_context);
   blind = λ hide hides. exit_blind hide s client context;
   fares =
       meets_after (context_of s client context) _ (λ c own.
       meets_ok (record {
+        comes = λ other. same_comes s (exited s context c) refl refl refl;
         counts = λ placed. same_counts s (exited s context c) refl;
         houses = Exits c refl own;
         stands = λ stands. exited_stands s context c stands;
@@ -137,13 +136,12 @@ exit_law s client context = record {
 
 pub leave_law : (s : State) (client context : ℕ) → IsLawful s client context Leave
 leave_law s client context = record {
-  effect = λ new answer h.
-      ends_as s client context Leave _ new _ answer Leaves (same_ok (Ok (left s client, Nothing)) _ _ refl h);
   small = λ mid answer few h. tt;
   plain = plain_ok;
   blind = λ hide hides. ap (λ (t : State). accepted t Nothing) (left_blind hide s client);
   fares =
       meets_ok (record {
+        comes = λ other. absurd (true≢false other);
         counts = λ placed. left_within s client;
         houses = Departs refl;
         stands = λ stands. left_stands s client stands;

@@ -26,38 +26,31 @@ use Rattle.krs_model.specs.Search.{found}
 use Rattle.krs_model.specs.Sound.{is_links}
 use Rattle.krs_model.specs.State.{Content, Key, Links, Payload, State}
 use Rattle.krs_model.specs.Table.{at}
-use Rattle.krs_model.proofs.Asks.Done.{of_keys}
 use Rattle.krs_model.proofs.Asks.Fares.{changed_fares, fares_within, linked_fares}
-use Rattle.krs_model.proofs.Asks.Later.{Keeps, bind_ok, changed_comes, keeping, keeps_after, keeps_is, keeps_ok}
-use Rattle.krs_model.proofs.Asks.Later.{keeps_within, same_ok, same_state, within_ok}
-use Rattle.krs_model.proofs.Asks.LaterByAsk.{keeps_from, linked_into_comes, linked_into_is, made_for_comes}
+use Rattle.krs_model.proofs.Asks.Later.{bind_ok}
+use Rattle.krs_model.proofs.Asks.Later.{same_ok, same_state, within_ok}
+use Rattle.krs_model.proofs.Asks.LaterByAsk.{linked_into_is}
 use Rattle.krs_model.proofs.Asks.Lawful.{IsLawful}
 use Rattle.krs_model.proofs.Asks.NewSerials.{small_there}
 use Rattle.krs_model.proofs.Asks.NotedKeys.{about_link_small, about_small}
 use Rattle.krs_model.proofs.Asks.Outcomes.{meets_after, meets_ok}
 use Rattle.krs_model.proofs.Asks.Plain.{plain, plain_context, plain_linked_into, plain_links, plain_look_up}
 use Rattle.krs_model.proofs.Asks.Plain.{plain_serial, plain_within}
-use Rattle.krs_model.proofs.Hiding.KeyAsks.{accepted, blind_done, done_changed, found_in}
-use Rattle.krs_model.proofs.Hiding.LinkAsks.{linked_into_blind, made_blind, same_ring_links, within_blind}
-use Rattle.krs_model.proofs.Hiding.LinkAsks.{without_blind}
+use Rattle.krs_model.proofs.Hiding.Accepted.{accepted, blind_done, done_changed, found_in}
+use Rattle.krs_model.proofs.Hiding.Links.{linked_into_blind, made_blind, same_ring_links, within_blind}
+use Rattle.krs_model.proofs.Hiding.Links.{without_blind}
 use Rattle.krs_model.proofs.Hiding.Lookups.{blind_found, look_up_blind, there_blind}
 use Rattle.krs_model.proofs.Hiding.Over.{after, bound}
 use Rattle.krs_model.proofs.Isolation.Keys.{not_found}
-use Rattle.krs_model.proofs.Isolation.LinkAsks.{IsOther, made_alone, other_made}
+use Rattle.krs_model.proofs.Isolation.Links.{IsOther, made_alone, other_made}
 use Rattle.krs_model.proofs.Lookups.Laws.{look_up_usable}
 use Rattle.krs_model.proofs.Lookups.Serials.{found_serial, refused_is}
 use Rattle.krs_model.proofs.MadeKeyring.Which.{made_still}
 use Rattle.krs_model.proofs.Sound.Changes.{Lessens, there_alter}
 use Rattle.krs_model.proofs.Sound.Contents.{form_stays}
-use Rattle.krs_model.proofs.Sound.KeyAsks.{unlinked_lessens}
+use Rattle.krs_model.proofs.Sound.KeyChanges.{unlinked_lessens}
 use Rattle.krs_model.proofs.Tables.Counts.{IsPart, none_part}
 use Rattle.krs_types.specs.declared.note.KeyEvent.TheVariants as told_of
-
-linked_comes : (s : State) (c : Context) (key ring : ℤ) → Keeps s (linked s c key ring)
-linked_comes s c key ring =
-    keeps_after (look_up s c ring (Granted WRITE)) _ (λ into.
-    keeps_after (look_up s c key (Granted LINK)) _ (λ found.
-    keeps_is (linked_into s into found) _ (λ new is. keeps_ok (linked_into_comes s into found new is))))
 
 -- the key that LINK links, and the one that UNLINK takes out
 link_there :
@@ -177,11 +170,6 @@ other_found uid private s c id found alone other is m =
 pub link_law : (s : State) (client context : ℕ) (key ring : ℤ) → IsLawful s client context (Link key ring)
 unfolding link
 link_law s client context key ring = record {
-  effect =
-      of_keys s client context (Link key ring) refl refl (keeps_after (context_of s client context) _ (λ c.
-      let made = made_for s context c ring in
-      keeps_within s (linked made.0 made.1 key ring)
-      (keeps_from (made_for_comes s context c ring) (linked_comes made.0 made.1 key ring))));
   small = λ mid answer few h. about_link_small told_of.Linked (named s client context ring) (named s client context key)
       (λ k is. small_there mid.keys k few (link_there s mid client context key ring answer k h is));
   plain = search (plain, plain_context, plain_within, plain_look_up, plain_linked_into) depth 12;
@@ -203,14 +191,6 @@ link_law s client context key ring = record {
 pub unlink_law : (s : State) (client context : ℕ) (key ring : ℤ) → IsLawful s client context (Unlink key ring)
 unfolding unlink
 unlink_law s client context key ring = record {
-  effect =
-      of_keys s client context (Unlink key ring) refl refl (keeps_after (context_of s client context) _ (λ c.
-      keeps_after (look_up s c ring (Granted WRITE)) _ (λ from.
-      keeps_after (serial_of s c key) _ (λ serial.
-      keeps_after (or_refuse ENOKEY (at s.keys serial)) _ (λ there.
-      keeps_after (ring_links from.1.content) _ (λ links.
-      keeps_after (if_linked serial links) _ (λ linked.
-      keeps_ok (changed_comes s from.0 (without_link serial) (λ v h. h)))))))));
   small = λ mid answer few h.
       about_link_small told_of.Unlinked (named s client context ring) (named s client context key)
       (λ k is. small_there mid.keys k few (unlink_there s mid client context key ring answer k h is));
@@ -224,13 +204,12 @@ unlink_law s client context key ring = record {
       meets_after (ring_links from.1.content) _ (λ links _.
       meets_after (if_linked serial links) _ (λ linked _.
       meets_ok (changed_fares s client context _ c ring (Granted WRITE) from (without_link serial) own is refl
-      (unlinked_lessens serial) (λ uid private alone holds v m h. h))))))));
+      (unlinked_lessens serial) (λ v h. h) (λ uid private alone holds v m h. h))))))));
 }
 
 pub clear_law : (s : State) (client context : ℕ) (id : ℤ) → IsLawful s client context (Clear id)
 unfolding clear
 clear_law s client context id = record {
-  effect = of_keys s client context (Clear id) refl refl (search (keeping, changed_comes));
   small = λ mid answer few h. about_small told_of.Cleared (named s client context id);
   plain = search (plain, plain_context, plain_look_up, plain_links);
   blind = λ hide hides.
@@ -245,5 +224,5 @@ clear_law s client context id = record {
       meets_after (look_up s c id (Granted WRITE)) _ (λ found is.
       meets_after (ring_links found.1.content) _ (λ links _.
       meets_ok (changed_fares s client context _ c id (Granted WRITE) found cleared own is refl cleared_lessens
-      (λ uid private alone holds v m h. h)))));
+      (λ v h. h) (λ uid private alone holds v m h. h)))));
 }

@@ -28,37 +28,37 @@ use Rattle.krs_model.specs.Outcome.{Outcome}
 use Rattle.krs_model.specs.Search.{found}
 use Rattle.krs_model.specs.State.{Key, State}
 use Rattle.krs_model.specs.Table.{Table, alter, at}
-use Rattle.krs_model.proofs.Asks.Done.{OfKeys}
 use Rattle.krs_model.proofs.Asks.Fares.{fares_within}
 use Rattle.krs_model.proofs.Asks.Houses.{HousesIn, linked_houses, made_houses}
-use Rattle.krs_model.proofs.Asks.Later.{Comes, Keeps, bind_ok, changed_comes, comes_trans, keeps_after, keeps_is}
-use Rattle.krs_model.proofs.Asks.Later.{keeps_ok, keeps_within, same_comes, same_ok}
-use Rattle.krs_model.proofs.Asks.LaterByAsk.{IsMoved, Moves, Stays, keeps_from, linked_into_comes, made_for_comes}
+use Rattle.krs_model.proofs.Asks.Later.{Comes, bind_ok, changed_comes, comes_trans}
+use Rattle.krs_model.proofs.Asks.Later.{same_comes, same_ok}
+use Rattle.krs_model.proofs.Asks.LaterByAsk.{IsMoved, Moves, Stays, linked_into_comes, made_for_comes}
 use Rattle.krs_model.proofs.Asks.LaterByAsk.{moved_is}
 use Rattle.krs_model.proofs.Asks.Lawful.{IsLawful}
 use Rattle.krs_model.proofs.Asks.NewSerials.{small_there}
 use Rattle.krs_model.proofs.Asks.NotedKeys.{about_link_small}
-use Rattle.krs_model.proofs.Asks.Outcomes.{meets_after, meets_ok}
+use Rattle.krs_model.proofs.Asks.Outcomes.{Meets, meets_after, meets_ok}
 use Rattle.krs_model.proofs.Asks.Plain.{IsPlain, plain, plain_context, plain_linked_into, plain_links, plain_look_up}
 use Rattle.krs_model.proofs.Asks.Plain.{plain_within}
-use Rattle.krs_model.proofs.Hiding.KeyAsks.{accepted, blind_done}
+use Rattle.krs_model.proofs.Hiding.Accepted.{accepted, blind_done}
 use Rattle.krs_model.proofs.Hiding.Keys.{alter_blind}
-use Rattle.krs_model.proofs.Hiding.LinkAsks.{linked_into_blind, made_blind, same_link_named, same_ring_links}
-use Rattle.krs_model.proofs.Hiding.LinkAsks.{within_blind, without_blind}
+use Rattle.krs_model.proofs.Hiding.Links.{linked_into_blind, made_blind, same_link_named, same_ring_links}
+use Rattle.krs_model.proofs.Hiding.Links.{within_blind, without_blind}
 use Rattle.krs_model.proofs.Hiding.Lookups.{blind_found, look_up_blind}
 use Rattle.krs_model.proofs.Hiding.Over.{after, bound, either}
 use Rattle.krs_model.proofs.Isolation.Attachments.{same_unattached}
-use Rattle.krs_model.proofs.Isolation.KeyAsks.{Guarded, alone_guarded, lessens_keeps, none_found}
+use Rattle.krs_model.proofs.Isolation.Guarded.{Guarded, alone_guarded, lessens_keeps, none_found}
 use Rattle.krs_model.proofs.Isolation.Keys.{changed_enclosed}
-use Rattle.krs_model.proofs.Isolation.LinkAsks.{linked_guarded, made_alone}
+use Rattle.krs_model.proofs.Isolation.Links.{linked_guarded, made_alone}
 use Rattle.krs_model.proofs.Isolation.Untouched.{AreSame, linked_same, made_same, not_into, other_same, same_trans}
 use Rattle.krs_model.proofs.Lookups.Laws.{look_up_usable}
 use Rattle.krs_model.proofs.Lookups.Serials.{found_serial}
 use Rattle.krs_model.proofs.Notes.Fitting.{AllSmall}
 use Rattle.krs_model.proofs.Sound.Changes.{Stands, changed_stands}
-use Rattle.krs_model.proofs.Sound.KeyAsks.{unlinked_lessens}
-use Rattle.krs_model.proofs.Sound.LinkAsks.{linked_into_stands}
+use Rattle.krs_model.proofs.Sound.KeyChanges.{unlinked_lessens}
+use Rattle.krs_model.proofs.Sound.Links.{linked_into_stands}
 use Rattle.krs_model.proofs.Sound.NewContexts.{made_for_stands, made_for_there}
+use Rattle.krs_model.proofs.Asks.Fares.{Fares}
 use Rattle.krs_types.specs.declared.note.KeyEvent.TheVariants as told_of
 
 is_moved_comes :
@@ -67,27 +67,6 @@ is_moved_comes s found from into _ Stays = same_comes s s refl refl refl
 is_moved_comes s found from into _ (Moves mid linked) =
     comes_trans s mid _ (linked_into_comes s into found mid linked)
     (changed_comes mid from.0 (without_link found.0) (λ v h. h))
-
-moved_to_comes :
-    (s : State) (c : Context) (exclusive : Bool) (found from : ℕ × Key) (to : ℤ)
-    → Keeps s (moved_to s c exclusive found from to)
-moved_to_comes s c exclusive found from to =
-    keeps_after (look_up s c to (Granted WRITE)) _ (λ into.
-    keeps_is (moved s exclusive found from into) _ (λ new is.
-    keeps_ok (is_moved_comes s found from into new (moved_is s exclusive found from into new is))))
-
-move_comes :
-    (s : State) (client context : ℕ) (key from to : ℤ) (flags : ℕ)
-    → Keeps s (move_link s client context key from to flags)
-unfolding move_link
-move_comes s client context key from to flags =
-    keeps_after (context_of s client context) _ (λ c.
-    keeps_after (unless (nat_lt 1 flags) EINVAL) _ (λ known.
-    keeps_after (look_up s c key (Granted LINK)) _ (λ found.
-    keeps_after (look_up s c from (Granted WRITE)) _ (λ first.
-    let made = made_for s context c to in
-    keeps_within s (moved_to made.0 made.1 (flags == 1) found first to)
-    (keeps_from (made_for_comes s context c to) (moved_to_comes made.0 made.1 (flags == 1) found first to))))))
 
 all_small : (notes more : List Note) → AllSmall notes → AllSmall more → AllSmall (notes ++ more)
 all_small [] more h k = k
@@ -102,25 +81,6 @@ about_moved_small from into key small =
       | false ↦ all_small (about_link told_of.Unlinked from key) (about_link told_of.Linked into key)
           (about_link_small told_of.Unlinked from key small) (about_link_small told_of.Linked into key small)
     ]
-
--- the key that MOVE moves
-move_there :
-    (s new : State) (client context : ℕ) (key from to : ℤ) (flags : ℕ) (answer : Answer) (k : ℕ)
-    → move_link s client context key from to flags ≡ Ok (new, answer) → named s client context key ≡ Ok k
-    → IsSome (at new.keys k)
-unfolding move_link
-move_there s new client context key from to flags answer k h names =
-    let a = bind_ok (context_of s client context) _ (new, answer) h in
-    let own = bind_ok (context_of s client context) _ k names in
-    let here : serial_of s a.0 key ≡ Ok k = subst (λ (c : Context). serial_of s c key ≡ Ok k)
-    (same_ok (context_of s client context) own.0 a.0 own.1 a.1) own.2 in
-    let b = bind_ok (unless (nat_lt 1 flags) EINVAL) _ (new, answer) a.2 in
-    let d = bind_ok (look_up s a.0 key (Granted LINK)) _ (new, answer) b.2 in
-    let found = found_serial s a.0 key (Granted LINK) d.0 d.1 in
-    let same : d.0.0 ≡ k = same_ok (serial_of s a.0 key) d.0.0 k found here in
-    let there : IsSome (at s.keys d.0.0) = rw (look_up_usable s a.0 key (Granted LINK) d.0 d.1).there refl in
-    let comes = (move_comes s client context key from to flags).comes new answer h in
-    comes.there k (subst (λ (n : ℕ). IsSome (at s.keys n)) same there)
 
 plain_moved_over :
     (s : State) (exclusive : Bool) (found : ℕ × Key) (from : ℕ) (into : ℕ × Key) (links : List ℕ)
@@ -255,42 +215,67 @@ moved_same private s found from into _ out apart (Moves mid linked) =
     (linked_same private s into found mid apart linked)
     (other_same private mid.keys from.0 (without_link found.0) out)
 
+move_fares :
+    (s : State) (client context : ℕ) (key from to : ℤ) (flags : ℕ)
+    → Meets (Fares s client context (Move key from to flags)) (move_link s client context key from to flags)
+unfolding move_link
+move_fares s client context key from to flags =
+    meets_after (context_of s client context) _ (λ c own.
+    meets_after (unless (nat_lt 1 flags) EINVAL) _ (λ known _.
+    meets_after (look_up s c key (Granted LINK)) _ (λ found is.
+    meets_after (look_up s c from (Granted WRITE)) _ (λ first out.
+    let made = made_for s context c to in
+    fares_within s _ (
+    meets_after (look_up made.0 made.1 to (Granted WRITE)) _ (λ into goes.
+    meets_after (moved made.0 (flags == 1) found first into) _ (λ new moves.
+    let is_moved = moved_is made.0 (flags == 1) found first into new moves in
+    meets_ok (λ within. record {
+      comes = λ other. comes_trans s made.0 new (made_for_comes s context c to)
+          (is_moved_comes made.0 found first into new is_moved);
+      counts = λ placed. within;
+      houses = moved_houses s made.0 client context (Move key from to flags) found first into new is_moved
+          (made_houses s client context (Move key from to flags) c to own);
+      stands = λ stands.
+          let there = made_for_there s context c to found.0 found.1 stands.unused
+          (look_up_usable s c key (Granted LINK) found is).there in
+          is_moved_stands made.0 found first into new there is_moved (made_for_stands s context c to stands);
+      guards = λ uid private stands alone. is_moved_guarded uid private _ made.0 found first into new
+          (λ holds m. none_found uid private s client context c key (Granted LINK) found alone own (holds refl) refl is m)
+          is_moved (made_alone uid private s context c to alone);
+      keeps = λ uid private stands alone other.
+          inl (same_trans private s.keys made.0.keys new.keys (made_same uid private s context c to alone)
+          (moved_same private made.0 found first into new
+          (λ m. none_found uid private s client context c from (Granted WRITE) first alone own other refl out m)
+          (not_into uid private s client context c to into stands alone own other goes) is_moved));
+    }))))))))
+
+-- the key that MOVE moves
+move_there :
+    (s new : State) (client context : ℕ) (key from to : ℤ) (flags : ℕ) (answer : Answer) (k : ℕ)
+    → move_link s client context key from to flags ≡ Ok (new, answer) → named s client context key ≡ Ok k
+    → IsSome (at new.keys k)
+unfolding move_link
+move_there s new client context key from to flags answer k h names =
+    let a = bind_ok (context_of s client context) _ (new, answer) h in
+    let own = bind_ok (context_of s client context) _ k names in
+    let here : serial_of s a.0 key ≡ Ok k = subst (λ (c : Context). serial_of s c key ≡ Ok k)
+    (same_ok (context_of s client context) own.0 a.0 own.1 a.1) own.2 in
+    let b = bind_ok (unless (nat_lt 1 flags) EINVAL) _ (new, answer) a.2 in
+    let d = bind_ok (look_up s a.0 key (Granted LINK)) _ (new, answer) b.2 in
+    let found = found_serial s a.0 key (Granted LINK) d.0 d.1 in
+    let same : d.0.0 ≡ k = same_ok (serial_of s a.0 key) d.0.0 k found here in
+    let there : IsSome (at s.keys d.0.0) = rw (look_up_usable s a.0 key (Granted LINK) d.0 d.1).there refl in
+    let comes = ((move_fares s client context key from to flags).meets new answer h).comes refl in
+    comes.there k (subst (λ (n : ℕ). IsSome (at s.keys n)) same there)
+
 pub move_law :
     (s : State) (client context : ℕ) (key from to : ℤ) (flags : ℕ) → IsLawful s client context (Move key from to flags)
 unfolding move_link
 move_law s client context key from to flags = record {
-  effect = λ new answer h.
-      OfKeys _ new answer refl ((move_comes s client context key from to flags).comes new answer h) refl;
   small = λ mid answer few h.
       about_moved_small (named s client context from) (named s client context to) (named s client context key)
       (λ k is. small_there mid.keys k few (move_there s mid client context key from to flags answer k h is));
   plain = search (plain, plain_context, plain_within, plain_look_up, plain_moved_to) depth 12;
   blind = λ hide hides. move_blind hide s client context key from to flags;
-  fares =
-      meets_after (context_of s client context) _ (λ c own.
-      meets_after (unless (nat_lt 1 flags) EINVAL) _ (λ known _.
-      meets_after (look_up s c key (Granted LINK)) _ (λ found is.
-      meets_after (look_up s c from (Granted WRITE)) _ (λ first out.
-      let made = made_for s context c to in
-      fares_within s _ (
-      meets_after (look_up made.0 made.1 to (Granted WRITE)) _ (λ into goes.
-      meets_after (moved made.0 (flags == 1) found first into) _ (λ new moves.
-      let is_moved = moved_is made.0 (flags == 1) found first into new moves in
-      meets_ok (λ within. record {
-        counts = λ placed. within;
-        houses = moved_houses s made.0 client context (Move key from to flags) found first into new is_moved
-            (made_houses s client context (Move key from to flags) c to own);
-        stands = λ stands.
-            let there = made_for_there s context c to found.0 found.1 stands.unused
-            (look_up_usable s c key (Granted LINK) found is).there in
-            is_moved_stands made.0 found first into new there is_moved (made_for_stands s context c to stands);
-        guards = λ uid private stands alone. is_moved_guarded uid private _ made.0 found first into new
-            (λ holds m. none_found uid private s client context c key (Granted LINK) found alone own (holds refl) refl is m)
-            is_moved (made_alone uid private s context c to alone);
-        keeps = λ uid private stands alone other.
-            inl (same_trans private s.keys made.0.keys new.keys (made_same uid private s context c to alone)
-            (moved_same private made.0 found first into new
-            (λ m. none_found uid private s client context c from (Granted WRITE) first alone own other refl out m)
-            (not_into uid private s client context c to into stands alone own other goes) is_moved));
-      }))))))));
+  fares = move_fares s client context key from to flags;
 }

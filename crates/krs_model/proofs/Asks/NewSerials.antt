@@ -1,4 +1,4 @@
--- An accepted ask gives no serial above 2147483647: those that make keys.
+-- No serial above 2147483647 is given.
 use Rattle.std.proofs.Common.{◌≡◌, ℕ, ℤ, ◌≤◌, ◌<◌, ◌^◌, ◌&&◌, List, Option, Some, None, Bool, true, false, cond}
 use Rattle.std.proofs.Common.{nat_lt}
 use Rattle.std.proofs.Common.{Ok, Err, refl, ap, ◌∙◌, sym, subst, arith, ◌⊎◌, inl, inr, ⊎_elim}

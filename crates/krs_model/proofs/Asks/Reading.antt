@@ -16,13 +16,11 @@ use Rattle.krs_model.specs.Lookup.{context_of, look_up}
 use Rattle.krs_model.specs.Notes.Telling.{named}
 use Rattle.krs_model.specs.Search.{found}
 use Rattle.krs_model.specs.State.{Content, Key, Links, Payload, State}
-use Rattle.krs_model.proofs.Asks.Done.{of_keys}
 use Rattle.krs_model.proofs.Asks.Fares.{same_fares}
-use Rattle.krs_model.proofs.Asks.Later.{keeping, same_comes}
 use Rattle.krs_model.proofs.Asks.Lawful.{IsLawful}
 use Rattle.krs_model.proofs.Asks.Outcomes.{meets_after, meets_ok}
 use Rattle.krs_model.proofs.Asks.Plain.{IsPlain, plain, plain_context, plain_err, plain_look_up, plain_ok}
-use Rattle.krs_model.proofs.Hiding.KeyAsks.{accepted, blind_done, found_in, named_is}
+use Rattle.krs_model.proofs.Hiding.Accepted.{accepted, blind_done, found_in, named_is}
 use Rattle.krs_model.proofs.Hiding.Over.{bound}
 use Rattle.krs_model.proofs.Lookups.Laws.{look_up_usable}
 use Rattle.krs_model.specs.Asks.Reading as reading
@@ -58,7 +56,6 @@ told_is hide s client context id c found bytes own there =
 pub read_law : (s : State) (client context : ℕ) (id : ℤ) → IsLawful s client context (Read id)
 unfolding read
 read_law s client context id = record {
-  effect = of_keys s client context (Read id) refl refl (search (keeping, same_comes));
   small = λ mid answer few h. tt;
   plain = search (plain, plain_context, plain_look_up, plain_readable);
   blind = λ hide hides.
@@ -79,7 +76,6 @@ read_law s client context id = record {
 pub describe_law : (s : State) (client context : ℕ) (id : ℤ) → IsLawful s client context (Describe id)
 unfolding describe
 describe_law s client context id = record {
-  effect = of_keys s client context (Describe id) refl refl (search (keeping, same_comes));
   small = λ mid answer few h. tt;
   plain = search (plain, plain_context, plain_look_up);
   blind = λ hide hides. found_in hide s client context id (Granted VIEW) (blind_done hide) _ _ (λ c found _ _. refl);

@@ -16,18 +16,16 @@ use Rattle.krs_model.specs.Lookup.{context_of, look_up}
 use Rattle.krs_model.specs.Outcome.{Outcome}
 use Rattle.krs_model.specs.Search.{found}
 use Rattle.krs_model.specs.State.{Key, State}
-use Rattle.krs_model.proofs.Asks.Done.{of_keys}
 use Rattle.krs_model.proofs.Asks.Fares.{changed_fares}
-use Rattle.krs_model.proofs.Asks.Later.{changed_comes, keeps_after, keeps_ok}
 use Rattle.krs_model.proofs.Asks.Lawful.{IsLawful}
 use Rattle.krs_model.proofs.Asks.Outcomes.{meets_after, meets_ok}
 use Rattle.krs_model.proofs.Asks.Plain.{IsPlain, plain, plain_context, plain_err, plain_links, plain_look_up}
 use Rattle.krs_model.proofs.Asks.Plain.{plain_ok}
-use Rattle.krs_model.proofs.Hiding.KeyAsks.{accepted, blind_done, done_changed}
-use Rattle.krs_model.proofs.Hiding.LinkAsks.{same_ring_links}
+use Rattle.krs_model.proofs.Hiding.Accepted.{accepted, blind_done, done_changed}
+use Rattle.krs_model.proofs.Hiding.Links.{same_ring_links}
 use Rattle.krs_model.proofs.Hiding.Lookups.{blind_found, look_up_blind}
 use Rattle.krs_model.proofs.Hiding.Over.{after, bound}
-use Rattle.krs_model.proofs.Sound.KeyAsks.{leaves}
+use Rattle.krs_model.proofs.Sound.KeyChanges.{leaves}
 
 plain_no_type : (type_name : List ℕ) → IsPlain (no_type type_name)
 plain_no_type [] = plain_ok
@@ -56,13 +54,6 @@ pub restrict_keyring_law :
     → IsLawful s client context (RestrictKeyring ring type_name)
 unfolding restrict_keyring
 restrict_keyring_law s client context ring type_name = record {
-  effect =
-      of_keys s client context (RestrictKeyring ring type_name) refl refl (keeps_after (context_of s client context) _ (λ c.
-      keeps_after (no_type type_name) _ (λ untyped.
-      keeps_after (look_up s c ring (Granted SETATTR)) _ (λ found.
-      keeps_after (ring_links found.1.content) _ (λ links.
-      keeps_after (unless found.1.closed EEXIST) _ (λ unclosed.
-      keeps_ok (changed_comes s found.0 restricted (λ v h. h))))))));
   small = λ mid answer few h. tt;
   plain = search (plain, plain_context, plain_no_type, plain_look_up, plain_links) depth 12;
   blind = λ hide hides. restrict_blind hide s client context ring type_name;
@@ -74,5 +65,5 @@ restrict_keyring_law s client context ring type_name = record {
       meets_after (unless found.1.closed EEXIST) _ (λ unclosed _.
       let same = leaves restricted (λ v. refl) (λ v name. refl) (λ v fits. fits) in
       meets_ok (changed_fares s client context _ c ring (Granted SETATTR) found restricted own is refl same
-      (λ uid private alone holds v m h. h)))))));
+      (λ v h. h) (λ uid private alone holds v m h. h)))))));
 }

@@ -1,5 +1,5 @@
 -- What is proved of SEARCH.
-use Rattle.std.proofs.Common.{ℕ, ℤ, ◌∙◌, ◌≡◌, List, Ok, Result, ap, cond, refl, sym, true}
+use Rattle.std.proofs.Common.{ℕ, ℤ, ◌∙◌, ◌≡◌, List, Ok, Result, ap, cond, sym, true}
 use Rattle.krs_types.specs.Growth.{has_destination}
 use Rattle.krs_types.specs.Refusing.{◌>>=◌}
 use Rattle.krs_types.specs.Rights.{SEARCH, WRITE}
@@ -20,38 +20,19 @@ use Rattle.krs_model.specs.Notes.Telling.{named}
 use Rattle.krs_model.specs.Outcome.{Outcome}
 use Rattle.krs_model.specs.Search.{found}
 use Rattle.krs_model.specs.State.{Key, State}
-use Rattle.krs_model.proofs.Asks.Done.{of_keys}
 use Rattle.krs_model.proofs.Asks.Fares.{fares_within, found_fares, meets_by, same_fares}
-use Rattle.krs_model.proofs.Asks.Later.{Keeps, bind_ok, keeps_after, keeps_within, within_ok}
-use Rattle.krs_model.proofs.Asks.LaterByAsk.{found_alone_comes, found_into_comes, keeps_either, keeps_from}
-use Rattle.krs_model.proofs.Asks.LaterByAsk.{made_for_comes}
+use Rattle.krs_model.proofs.Asks.Later.{bind_ok, within_ok}
 use Rattle.krs_model.proofs.Asks.Lawful.{IsLawful}
 use Rattle.krs_model.proofs.Asks.NotedKeys.{IsThere, found_into_there, wanted_small}
 use Rattle.krs_model.proofs.Asks.Outcomes.{meets_after, meets_ok}
 use Rattle.krs_model.proofs.Asks.Plain.{IsPlain, plain, plain_context, plain_fault, plain_into, plain_links}
 use Rattle.krs_model.proofs.Asks.Plain.{plain_look_up, plain_sought, plain_there, plain_within}
-use Rattle.krs_model.proofs.Hiding.KeyAsks.{blind_done}
-use Rattle.krs_model.proofs.Hiding.LinkAsks.{made_blind, same_ring_links, within_blind}
+use Rattle.krs_model.proofs.Hiding.Accepted.{blind_done}
+use Rattle.krs_model.proofs.Hiding.Links.{made_blind, same_ring_links, within_blind}
 use Rattle.krs_model.proofs.Hiding.Lookups.{blind_found, look_up_blind}
-use Rattle.krs_model.proofs.Hiding.OtherAsks.{alone_blind, found_into_blind}
+use Rattle.krs_model.proofs.Hiding.Found.{alone_blind, found_into_blind}
 use Rattle.krs_model.proofs.Hiding.Over.{after, bound, either}
 use Rattle.krs_model.proofs.Hiding.Searches.{same_found}
-
-sought_into_comes :
-    (s : State) (c : Context) (head : ℕ × Key) (name : Name) (dest : ℤ) → Keeps s (sought_into s c head name dest)
-sought_into_comes s c head name dest =
-    keeps_after (look_up s c dest (Granted WRITE)) _ (λ into.
-    keeps_after (ring_links head.1.content) _ (λ links.
-    keeps_after (ring_links into.1.content) _ (λ room. found_into_comes s c into (found s c head.0 name))))
-
-searched_for_comes :
-    (s : State) (number : ℕ) (c : Context) (head : ℕ × Key) (name : Name) (dest : ℤ)
-    → Keeps s (searched_for s number c head name dest)
-searched_for_comes s number c head name dest =
-    let made = made_for s number c dest in
-    keeps_either (has_destination dest) _ _
-    (keeps_from (made_for_comes s number c dest) (sought_into_comes made.0 made.1 head name dest))
-    (keeps_after (ring_links head.1.content) _ (λ links. found_alone_comes s (found s c head.0 name)))
 
 sought_into_there :
     (s new : State) (c : Context) (head : ℕ × Key) (name : Name) (dest : ℤ) (answer : Answer)
@@ -144,11 +125,6 @@ pub search_law :
     → IsLawful s client context (Search head type_name desc dest)
 unfolding search_from
 search_law s client context head type_name desc dest = record {
-  effect =
-      of_keys s client context (Search head type_name desc dest) refl refl (keeps_after (context_of s client context) _ (λ c.
-      keeps_after (sought_name type_name desc) _ (λ name.
-      keeps_after (look_up s c head (Granted SEARCH)) _ (λ from.
-      keeps_within s _ (searched_for_comes s context c from name dest)))));
   small = λ mid answer few h. wanted_small mid (has_destination dest) (named s client context dest) answer few
       (λ wanted. search_there s mid client context head type_name desc dest answer wanted h);
   plain =

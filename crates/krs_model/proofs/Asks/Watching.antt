@@ -40,7 +40,7 @@ use Rattle.krs_model.proofs.Asks.Later.{bind_ok, same_ok}
 use Rattle.krs_model.proofs.Asks.Lawful.{IsLawful}
 use Rattle.krs_model.proofs.Asks.Outcomes.{meets_after, meets_ok}
 use Rattle.krs_model.proofs.Asks.Plain.{IsPlain, plain, plain_context, plain_err, plain_look_up, plain_ok}
-use Rattle.krs_model.proofs.Hiding.KeyAsks.{accepted, blind_done}
+use Rattle.krs_model.proofs.Hiding.Accepted.{accepted, blind_done}
 use Rattle.krs_model.proofs.Hiding.Lookups.{blind_found, look_up_blind}
 use Rattle.krs_model.proofs.Hiding.Over.{after, bound}
 use Rattle.krs_model.proofs.Lookups.Laws.{look_up_usable}
@@ -126,7 +126,7 @@ small_id (pos m) n h =
 small_id (negsuc zero) n h = cc
 small_id (negsuc (suc m)) n h = cc
 
-opens :
+pub opens :
     (s : State) (client context capacity : ℕ) (new : State) (answer : Answer)
     → open_queue s client capacity ≡ Ok (new, answer) → Effect s client context (OpenQueue capacity) new answer
 unfolding open_queue
@@ -136,7 +136,7 @@ opens s client context capacity new answer h =
     let end : Queues × ℕ → State × Answer = λ x. end_of (with_queues s x.0) (Number x.1) in
     ends_as s client context _ _ new _ answer (Opens capacity is.0) (ap end is.1 ∙ same_ok _ _ _ refl a.2)
 
-filters :
+pub filters :
     (s : State) (client context number : ℕ) (entries : List FilterEntry) (new : State) (answer : Answer)
     → set_filter s client number entries ≡ Ok (new, answer)
     → Effect s client context (SetFilter number entries) new answer
@@ -147,7 +147,7 @@ filters s client context number entries new answer h =
     let end : Queues × Unit {0} → State × Answer = λ x. (with_queues s x.0, Nothing) in
     ends_as s client context _ _ new _ answer (Filters number entries is.0 is.1) (ap end is.2 ∙ same_ok _ _ _ refl a.2)
 
-reads :
+pub reads :
     (s : State) (client context number room : ℕ) (new : State) (answer : Answer)
     → read_queue s client number room ≡ Ok (new, answer)
     → Effect s client context (ReadQueue number room) new answer
@@ -158,7 +158,7 @@ reads s client context number room new answer h =
     let end : Queues × List ℕ → State × Answer = λ x. (with_queues s x.0, Bytes x.1) in
     ends_as s client context _ _ new _ answer (Reads number room is.0 is.1) (ap end is.2 ∙ same_ok _ _ _ refl a.2)
 
-closes :
+pub closes :
     (s : State) (client context number : ℕ) (new : State) (answer : Answer)
     → close_queue s client number ≡ Ok (new, answer) → Effect s client context (CloseQueue number) new answer
 unfolding close_queue
@@ -195,7 +195,7 @@ named_is :
     → serial_of s c id ≡ Ok serial → named s client context id ≡ Ok serial
 named_is s client context id c serial own is = rw own is
 
-watches :
+pub watches :
     (s : State) (client context : ℕ) (id watch_id : ℤ) (number : ℕ) (new : State) (answer : Answer)
     → watch s client context id number watch_id ≡ Ok (new, answer)
     → Effect s client context (Watch id number watch_id) new answer
@@ -265,7 +265,6 @@ pub watch_law :
     → IsLawful s client context (Watch id queue watch_id)
 unfolding watch
 watch_law s client context id queue watch_id = record {
-  effect = λ new answer h. watches s client context id watch_id queue new answer h;
   small = λ mid answer few h. tt;
   plain = search (plain, plain_context, plain_watch_id, plain_look_up, plain_watching);
   blind = λ hide hides. watch_blind hide s client context id queue watch_id;
@@ -274,19 +273,18 @@ watch_law s client context id queue watch_id = record {
       meets_after (watch_id_of watch_id) _ (λ asked _.
       meets_after (look_up s c id (Granted VIEW)) _ (λ found _.
       meets_after (with_watching (queues_of s) client queue found.0 asked) _ (λ queues _.
-      meets_ok (queues_fares s client context _ queues)))));
+      meets_ok (queues_fares s client context (Watch id queue watch_id) queues refl)))));
 }
 
 pub open_queue_law : (s : State) (client context : ℕ) (capacity : ℕ) → IsLawful s client context (OpenQueue capacity)
 unfolding open_queue
 open_queue_law s client context capacity = record {
-  effect = λ new answer h. opens s client context capacity new answer h;
   small = λ mid answer few h. tt;
   plain = plain_open s client capacity;
   blind = λ hide hides. after (blind_done hide) (opened (queues_of s) client capacity) _ _ (λ x _. refl);
   fares =
       meets_after (opened (queues_of s) client capacity) _ (λ made _.
-      meets_ok (queues_fares s client context _ made.0));
+      meets_ok (queues_fares s client context (OpenQueue capacity) made.0 refl));
 }
 
 pub set_filter_law :
@@ -294,36 +292,33 @@ pub set_filter_law :
     → IsLawful s client context (SetFilter queue entries)
 unfolding set_filter
 set_filter_law s client context queue entries = record {
-  effect = λ new answer h. filters s client context queue entries new answer h;
   small = λ mid answer few h. tt;
   plain = plain_set_filter s client queue entries;
   blind = λ hide hides. after (blind_done hide) (filtered (queues_of s) client queue entries) _ _ (λ x _. refl);
   fares =
       meets_after (filtered (queues_of s) client queue entries) _ (λ set _.
-      meets_ok (queues_fares s client context _ set.0));
+      meets_ok (queues_fares s client context (SetFilter queue entries) set.0 refl));
 }
 
 pub read_queue_law :
     (s : State) (client context : ℕ) (queue room : ℕ) → IsLawful s client context (ReadQueue queue room)
 unfolding read_queue
 read_queue_law s client context queue room = record {
-  effect = λ new answer h. reads s client context queue room new answer h;
   small = λ mid answer few h. tt;
   plain = plain_read_queue s client queue room;
   blind = λ hide hides. after (blind_done hide) (read_out (queues_of s) client queue room) _ _ (λ x _. refl);
   fares =
       meets_after (read_out (queues_of s) client queue room) _ (λ taken _.
-      meets_ok (queues_fares s client context _ taken.0));
+      meets_ok (queues_fares s client context (ReadQueue queue room) taken.0 refl));
 }
 
 pub close_queue_law : (s : State) (client context : ℕ) (queue : ℕ) → IsLawful s client context (CloseQueue queue)
 unfolding close_queue
 close_queue_law s client context queue = record {
-  effect = λ new answer h. closes s client context queue new answer h;
   small = λ mid answer few h. tt;
   plain = plain_close s client queue;
   blind = λ hide hides. after (blind_done hide) (closed (queues_of s) client queue) _ _ (λ x _. refl);
   fares =
       meets_after (closed (queues_of s) client queue) _ (λ left _.
-      meets_ok (queues_fares s client context _ left.0));
+      meets_ok (queues_fares s client context (CloseQueue queue) left.0 refl));
 }

@@ -27,8 +27,8 @@ use Rattle.krs_model.specs.Hiding.{Hiding, blind_content, blind_keys, blind, ove
 use Rattle.krs_model.proofs.Hiding.Over.{bound, after, given}
 use Rattle.krs_model.proofs.Hiding.Keys.{alter_blind, put_blind, seen}
 use Rattle.krs_model.proofs.Hiding.Lookups.{blind_found, look_up_blind, same_possessed}
-use Rattle.krs_model.proofs.Hiding.KeyAsks.{blind_done, accepted, paid_blind}
-use Rattle.krs_model.proofs.Hiding.LinkAsks.{same_ring_links, same_link_named, linking_blind, made_blind}
+use Rattle.krs_model.proofs.Hiding.Accepted.{blind_done, accepted, paid_blind}
+use Rattle.krs_model.proofs.Hiding.Links.{same_ring_links, same_link_named, linking_blind, made_blind}
 
 same_admitted :
     (type_name desc payload other : List ℕ) → ((kind : Kind) → paid kind other ≡ paid kind payload)

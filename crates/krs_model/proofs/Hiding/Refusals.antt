@@ -15,7 +15,7 @@ use Rattle.krs_model.specs.Outcome.{Outcome}
 use Rattle.krs_model.specs.Asks.Adding.{add}
 use Rattle.krs_model.specs.Asks.Changing.{changed, update, updated, updatable}
 use Rattle.krs_model.specs.Hiding.{Hiding, blind_content, blind_keys, blind, over}
-use Rattle.krs_model.proofs.Hiding.KeyAsks.{blind_done, accepted}
+use Rattle.krs_model.proofs.Hiding.Accepted.{blind_done, accepted}
 use Rattle.krs_model.proofs.Hiding.Adding.{IsHidden, add_blind}
 
 -- what hides nothing

@@ -8,7 +8,7 @@ use Rattle.krs_model.specs.Levels.{is_in}
 use Rattle.krs_model.specs.Sweep.{IsHeld, Attached, Linked, IsSweep, roots, live_watches}
 use Rattle.krs_model.specs.Hiding.{Hiding, blind_key, blind_keys, blind}
 use Rattle.krs_model.proofs.Hiding.Keys.{at_blind, filter_blind, seen}
-use Rattle.krs_model.proofs.Hiding.LinkAsks.{same_links_at}
+use Rattle.krs_model.proofs.Hiding.Links.{same_links_at}
 
 held_to : (hide : Hiding) (keys : Table Key) (attached : List ℕ) (k : ℕ) → IsHeld keys attached k
     → IsHeld (blind_keys hide keys) attached k

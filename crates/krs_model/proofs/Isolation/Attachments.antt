@@ -23,7 +23,7 @@ use Rattle.krs_model.proofs.Tables.Changes.{at_map, at_kept, at_or_apart, at_wit
 use Rattle.krs_model.proofs.Reach.Levels.{same_is, in_left, in_right, in_one, only_in}
 use Rattle.krs_model.proofs.Sound.Changes.{IsChanged, at_change, IsPut, at_put}
 use Rattle.krs_model.proofs.Sound.Attached.{context_keys, uid_keys, attachments, own_process, attached_at, attached_either}
-use Rattle.krs_model.proofs.Sound.KeyAsks.{both_in}
+use Rattle.krs_model.proofs.Sound.KeyChanges.{both_in}
 use Rattle.krs_model.proofs.Sound.NewContexts.{placed_in}
 use Rattle.krs_model.specs.Sound.{AllPlaced}
 use Rattle.std.specs.Option.{IsSome}

@@ -48,11 +48,11 @@ use Rattle.krs_model.proofs.Asks.Later.{same_ok, bind_ok}
 use Rattle.krs_model.proofs.MadeKeyring.Which.{IsMade, NoneMade, ThreadMade, ProcessMade, made_for_is}
 use Rattle.krs_model.proofs.Sweep.Laws.{linking_is_there}
 use Rattle.krs_model.proofs.Sound.Changes.{Stands, LinksTo, IsPut, at_put, not_there, with_linked}
-use Rattle.krs_model.proofs.Sound.KeyAsks.{updated_lessens}
+use Rattle.krs_model.proofs.Sound.KeyChanges.{updated_lessens}
 use Rattle.krs_model.proofs.Sound.Steps.{sound_stands, raised_sound, step_sound}
 use Rattle.krs_model.proofs.Isolation.Keys.{KeepsOwn, changed_enclosed, kept_enclosed}
 use Rattle.krs_model.proofs.Asks.Outcomes.{Meets, meets_ok, meets_after, meets_within}
-use Rattle.krs_model.proofs.Isolation.KeyAsks.{lessens_keeps}
+use Rattle.krs_model.proofs.Isolation.Guarded.{lessens_keeps}
 use Rattle.krs_model.proofs.Isolation.Steps.{raised_alone}
 use Rattle.krs_model.proofs.Isolation.Growth.{step_grows, of_made, same_owner, IsNew}
 

@@ -39,7 +39,7 @@ use Rattle.krs_model.proofs.Asks.Houses.{Houses, Same, Begins, Enters, Named, Fo
 use Rattle.krs_model.proofs.Asks.Houses.{Detaches, Exits, Departs}
 use Rattle.krs_model.proofs.Tables.Entries.{rises_distinct}
 use Rattle.krs_model.proofs.Asks.Outcomes.{Meets, meets_ok, meets_after}
-use Rattle.krs_model.proofs.Isolation.KeyAsks.{uid_processes, uid_placed}
+use Rattle.krs_model.proofs.Isolation.Guarded.{uid_processes, uid_placed}
 use Rattle.krs_model.proofs.Isolation.Steps.{step_guarded, not_given, raised_alone, step_alone}
 use Rattle.krs_model.proofs.Asks.Laws.{law_of}
 

@@ -41,7 +41,7 @@ use Rattle.krs_model.proofs.Sound.Steps.{sound_stands, raised_sound}
 use Rattle.krs_model.proofs.Isolation.Attachments.{is_foreign}
 use Rattle.krs_model.proofs.Isolation.Keys.{false_where}
 use Rattle.krs_model.proofs.Sound.InUse.{was_mapped}
-use Rattle.krs_model.proofs.Isolation.KeyAsks.{NotBy, none_found}
+use Rattle.krs_model.proofs.Isolation.Guarded.{NotBy, none_found}
 use Rattle.krs_model.proofs.Isolation.Steps.{raised_alone, same_context}
 use Rattle.krs_model.proofs.Isolation.Untouched.{KeysAfter, IsDetached, AreSame}
 use Rattle.krs_model.proofs.Asks.Laws.{law_of}

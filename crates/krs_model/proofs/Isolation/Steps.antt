@@ -32,8 +32,8 @@ use Rattle.krs_model.proofs.Sound.Steps.{sound_stands, raised_sound}
 use Rattle.krs_model.proofs.Hiding.Readers.{reads_by_right}
 use Rattle.krs_model.proofs.Isolation.Keys.{kept_enclosed, no_rights}
 use Rattle.krs_model.proofs.Isolation.Attachments.{attaches_none, same_unattached}
-use Rattle.krs_model.proofs.Isolation.KeyAsks.{Guarded, NotBy, Holds}
-use Rattle.krs_model.proofs.Isolation.KeyAsks.{alone_guarded}
+use Rattle.krs_model.proofs.Isolation.Guarded.{Guarded, NotBy, Holds}
+use Rattle.krs_model.proofs.Isolation.Guarded.{alone_guarded}
 use Rattle.krs_model.proofs.Asks.Laws.{law_of}
 
 sweep_guarded :

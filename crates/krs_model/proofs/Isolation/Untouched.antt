@@ -21,11 +21,11 @@ use Rattle.krs_model.specs.Asks.Leaving.{left}
 use Rattle.krs_model.specs.Search.{found}
 use Rattle.krs_model.proofs.Asks.LaterByAsk.{linked_into_is}
 use Rattle.krs_model.proofs.Isolation.Keys.{not_found}
-use Rattle.krs_model.proofs.Isolation.LinkAsks.{other_made, made_alone}
+use Rattle.krs_model.proofs.Isolation.Links.{other_made, made_alone}
 use Rattle.krs_model.specs.Confidentiality.{HasToItself}
 use Rattle.krs_model.proofs.Sound.Changes.{Stands, IsChanged, at_change, IsPut, at_put, with_linked}
 use Rattle.krs_model.proofs.MadeKeyring.Which.{IsMade, NoneMade, ThreadMade, ProcessMade, made_for_is}
-use Rattle.krs_model.proofs.Isolation.KeyAsks.{NotBy, next_apart}
+use Rattle.krs_model.proofs.Isolation.Guarded.{NotBy, next_apart}
 
 abbrev pub AreSame : (ℕ → Bool) → Table Key → Table Key → Type 0
 AreSame private old new = (k : ℕ) → private k ≡ true → at new k ≡ at old k

@@ -1,4 +1,4 @@
--- The other asks, with the payloads hidden.
+-- A key that was found, with the payloads hidden.
 use Rattle.std.proofs.Common.{◌≡◌, ℕ, Bool, cond}
 use Rattle.std.proofs.Common.{Result, Ok, Err, refl, ap, ◌∙◌}
 use Rattle.krs_types.specs.declared.errno.Errno.{Errno}
@@ -17,8 +17,8 @@ use Rattle.krs_model.specs.Asks.Linked.{linked_into}
 use Rattle.krs_model.specs.Hiding.{Hiding, blind_key, blind, over}
 use Rattle.krs_model.proofs.Hiding.Over.{bound, after, either}
 use Rattle.krs_model.proofs.Hiding.Lookups.{blind_found, there_blind, same_possessed}
-use Rattle.krs_model.proofs.Hiding.KeyAsks.{blind_done, accepted}
-use Rattle.krs_model.proofs.Hiding.LinkAsks.{linked_into_blind}
+use Rattle.krs_model.proofs.Hiding.Accepted.{blind_done, accepted}
+use Rattle.krs_model.proofs.Hiding.Links.{linked_into_blind}
 
 -- SEARCH and REQUEST
 linkable_blind : (hide : Hiding) (s : State) (c : Context) (serial : ℕ) (key : Key)

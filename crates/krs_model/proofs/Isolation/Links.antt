@@ -1,4 +1,4 @@
--- An accepted ask leaves a uid its keys to itself: those that link a key, and those that make one.
+-- What a uid has to itself where a key is linked, or made.
 use Rattle.std.proofs.Common.{◌≡◌, ◌≢◌, ℕ, ℤ, ◌+◌, ◌<◌, List, [], ◌∷◌, ◌++◌, Some, Bool, true, false}
 use Rattle.std.proofs.Common.{cond, Result, Ok, Err, refl, ap, ◌∙◌, sym, subst, arith, inl, ⊎_elim}
 use Rattle.std.specs.Prelude.{codes}
@@ -30,12 +30,12 @@ use Rattle.krs_model.proofs.Lookups.Serials.{own_there}
 use Rattle.krs_model.proofs.Asks.LaterByAsk.{linked_into_is}
 use Rattle.krs_model.proofs.MadeKeyring.Which.{IsMade, NoneMade, ThreadMade, ProcessMade, made_for_is}
 use Rattle.krs_model.proofs.Sound.Changes.{Stands, with_linked, in_linked_content}
-use Rattle.krs_model.proofs.Sound.LinkAsks.{linkable_is}
+use Rattle.krs_model.proofs.Sound.Links.{linkable_is}
 use Rattle.krs_model.proofs.Isolation.Keys.{KeepsOwn, put_enclosed, AttachesNone, no_rights}
 use Rattle.krs_model.proofs.Isolation.Attachments.{attaches_none}
 use Rattle.krs_model.proofs.Isolation.Attachments.{thread_unattached, with_process_unattached}
-use Rattle.krs_model.proofs.Isolation.KeyAsks.{Guarded, NotBy}
-use Rattle.krs_model.proofs.Isolation.KeyAsks.{next_apart, changed_guarded}
+use Rattle.krs_model.proofs.Isolation.Guarded.{Guarded, NotBy}
+use Rattle.krs_model.proofs.Isolation.Guarded.{next_apart, changed_guarded}
 
 -- a new key that links nothing
 pub new_enclosed :

@@ -1,4 +1,4 @@
--- An accepted ask leaves a uid its keys to itself: those that change one key, or end one, or end what a client has.
+-- What a uid has to itself once an ask was accepted: where one key changes, and what others find.
 use Rattle.std.proofs.Common.{◌≡◌, ◌≢◌, ℕ, ℤ, ◌<◌, Option, Some, None, Bool, true, false}
 use Rattle.std.proofs.Common.{Ok, refl, arith, inl}
 use Rattle.krs_types.specs.declared.caller.Caller.{Caller}

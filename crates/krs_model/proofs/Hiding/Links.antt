@@ -1,4 +1,4 @@
--- The asks that change links, and keyrings that asks make, with the payloads hidden.
+-- Links, and keyrings that asks make, with the payloads hidden.
 use Rattle.std.proofs.Common.{◌≡◌, ℕ, suc, ℤ, ◌&&◌, List, [], ◌∷◌, Option, Some, None, Bool}
 use Rattle.std.proofs.Common.{Result, Ok, Err, refl, ap, ◌∙◌, length, filter}
 use Rattle.std.specs.List.{find}
@@ -28,7 +28,7 @@ use Rattle.krs_model.specs.Hiding.{Hiding, blind_content, blind_key, blind_keys,
 use Rattle.krs_model.proofs.Hiding.Over.{after, either}
 use Rattle.krs_model.proofs.Hiding.Keys.{alter_blind, put_blind, seen}
 use Rattle.krs_model.proofs.Hiding.Lookups.{same_links, blind_found}
-use Rattle.krs_model.proofs.Hiding.KeyAsks.{blind_done}
+use Rattle.krs_model.proofs.Hiding.Accepted.{blind_done}
 use Rattle.std.proofs.Common.{nat_lt}
 
 -- a keyring links what it did

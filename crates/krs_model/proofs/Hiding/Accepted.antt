@@ -1,4 +1,4 @@
--- The asks that change one key, with the payloads hidden.
+-- What an accepted ask comes to, and a change of one key, with the payloads hidden.
 use Rattle.std.proofs.Common.{◌≡◌, ℕ, ℤ, List}
 use Rattle.std.proofs.Common.{Result, Ok, refl, ap, ◌∙◌}
 use Rattle.krs_types.specs.declared.errno.Errno.{Errno}
