@@ -1,73 +1,14 @@
 -- The commands of a client, a row each: docs/FORMAT.md, "Commands".
-use Rattle.std.specs.Prelude.{◌≡◌, ℕ, ℤ, pos, Bool, true, false, if◌then◌else◌, List, [], ◌∷◌, find, bytes_eq, codes}
+use Rattle.std.specs.Prelude.{◌≡◌, ℕ, ℤ, pos, Bool, true, false, if◌then◌else◌, List, [], ◌∷◌, find, map, bytes_eq, codes}
 use Rattle.std.specs.Prelude.{Option, None, Some}
 use Rattle.krs_types.specs.Caller.{unchanged}
 use Rattle.krs_types.specs.declared.ask.Op.{Op}
 use Rattle.krs_types.specs.declared.ask.Op.TheVariants as op
-use Rattle.krs_commands.specs.declared.name.CommandName.{CommandName}
-use Rattle.krs_commands.specs.declared.name.CommandName.TheVariants.{Hello, Context, Moment, Thread, Fork, Exec}
-use Rattle.krs_commands.specs.declared.name.CommandName.TheVariants.{Exit, Add, Newring, Id, Join, Update, Print}
-use Rattle.krs_commands.specs.declared.name.CommandName.TheVariants.{Rlist, Rdescribe, Revoke, Invalidate, Clear}
-use Rattle.krs_commands.specs.declared.name.CommandName.TheVariants.{Chown, Chgrp, SetPerm, Timeout, Link, Unlink}
-use Rattle.krs_commands.specs.declared.name.CommandName.TheVariants.{Search, Request, Open, Closeq, Watch, Filter}
-use Rattle.krs_commands.specs.declared.name.CommandName.TheVariants.{Readq, Leave, Move, Restrict}
 use Rattle.krs_commands.specs.declared.command.Command.{Command}
 use Rattle.krs_commands.specs.declared.command.Command.TheVariants as command
 use Rattle.krs_words.specs.Parsed.{◌>>=◌}
 use Rattle.krs_words.specs.Number.{u32_of, u64_of, u32s_of, hexadecimal_of, key_of, data_of, watch_id_of}
 use Rattle.krs_commands.specs.Entry.{entries_of}
-
--- the first word of each command
-abbrev pub spelling : CommandName → List ℕ
-spelling Hello = codes "hello"
-spelling Context = codes "context"
-spelling Moment = codes "moment"
-spelling Thread = codes "thread"
-spelling Fork = codes "fork"
-spelling Exec = codes "exec"
-spelling Exit = codes "exit"
-spelling Add = codes "add"
-spelling Newring = codes "newring"
-spelling Id = codes "id"
-spelling Join = codes "join"
-spelling Update = codes "update"
-spelling Print = codes "print"
-spelling Rlist = codes "rlist"
-spelling Rdescribe = codes "rdescribe"
-spelling Revoke = codes "revoke"
-spelling Invalidate = codes "invalidate"
-spelling Clear = codes "clear"
-spelling Chown = codes "chown"
-spelling Chgrp = codes "chgrp"
-spelling SetPerm = codes "setperm"
-spelling Timeout = codes "timeout"
-spelling Link = codes "link"
-spelling Unlink = codes "unlink"
-spelling Move = codes "move"
-spelling Restrict = codes "restrict"
-spelling Search = codes "search"
-spelling Request = codes "request"
-spelling Open = codes "open"
-spelling Closeq = codes "closeq"
-spelling Watch = codes "watch"
-spelling Filter = codes "filter"
-spelling Readq = codes "readq"
-spelling Leave = codes "leave"
-
--- all commands that are built
-abbrev pub command_names : List CommandName
-command_names =
-    Hello ∷ Context ∷ Moment ∷ Thread ∷ Fork ∷ Exec ∷ Exit ∷ Add ∷ Newring ∷ Id ∷ Join ∷ Update ∷ Print ∷ Rlist
-    ∷ Rdescribe ∷ Revoke ∷ Invalidate ∷ Clear ∷ Chown ∷ Chgrp ∷ SetPerm ∷ Timeout ∷ Link ∷ Unlink ∷ Move ∷ Restrict
-    ∷ Search ∷ Request ∷ Open ∷ Closeq ∷ Watch ∷ Filter ∷ Readq ∷ Leave ∷ []
-
--- the command of a first word
-abbrev pub name_of_word : List ℕ → Option CommandName
-name_of_word word = find (λ name. bytes_eq (spelling name) word) command_names
-
--- each command is that of its first word
-abbrev pub HaveTheirWords : Type 0
-HaveTheirWords = (name : CommandName) → name_of_word (spelling name) ≡ Some name
 
 -- `hello UID GID [GROUP ..]`
 abbrev pub hello_of : List (List ℕ) → Option Command
@@ -313,46 +254,68 @@ readq_of (number ∷ (bytes ∷ [])) = do
   Some (command.Readq queue room)
 readq_of _ = None
 
--- a command's row
-abbrev pub row_of : CommandName → List (List ℕ) → Option Command
-row_of Hello args = hello_of args
-row_of Context args = context_of args
-row_of Moment args = moment_of args
-row_of Thread args = alone_of op.Thread args
-row_of Fork args = alone_of op.Fork args
-row_of Exec args = alone_of op.Exec args
-row_of Exit args = alone_of op.Exit args
-row_of Add args = add_of args
-row_of Newring args = newring_of args
-row_of Id args = id_of args
-row_of Join args = join_of args
-row_of Update args = update_of args
-row_of Print args = print_of args
-row_of Rlist args = rlist_of args
-row_of Rdescribe args = rdescribe_of args
-row_of Revoke args = revoke_of args
-row_of Invalidate args = invalidate_of args
-row_of Clear args = clear_of args
-row_of Chown args = chown_of args
-row_of Chgrp args = chgrp_of args
-row_of SetPerm args = setperm_of args
-row_of Timeout args = timeout_of args
-row_of Link args = link_of args
-row_of Unlink args = unlink_of args
-row_of Move args = move_of args
-row_of Restrict args = restrict_of args
-row_of Search args = search_of args
-row_of Request args = request_of args
-row_of Open args = open_of args
-row_of Closeq args = closeq_of args
-row_of Watch args = watch_of args
-row_of Filter args = filter_of args
-row_of Readq args = readq_of args
-row_of Leave args = alone_of op.Leave args
+-- a command: its first word, and what the words behind it make of it
+pub record Row : Type 0 where
+  pub word : List ℕ
+  pub reads : List (List ℕ) → Option Command
+
+abbrev pub row : List ℕ → (List (List ℕ) → Option Command) → Row
+row word reads = record { word = word; reads = reads }
+
+-- all commands
+abbrev pub commands : List Row
+commands =
+    row (codes "hello") hello_of
+    ∷ row (codes "context") context_of
+    ∷ row (codes "moment") moment_of
+    ∷ row (codes "thread") (alone_of op.Thread)
+    ∷ row (codes "fork") (alone_of op.Fork)
+    ∷ row (codes "exec") (alone_of op.Exec)
+    ∷ row (codes "exit") (alone_of op.Exit)
+    ∷ row (codes "add") add_of
+    ∷ row (codes "newring") newring_of
+    ∷ row (codes "id") id_of
+    ∷ row (codes "join") join_of
+    ∷ row (codes "update") update_of
+    ∷ row (codes "print") print_of
+    ∷ row (codes "rlist") rlist_of
+    ∷ row (codes "rdescribe") rdescribe_of
+    ∷ row (codes "revoke") revoke_of
+    ∷ row (codes "invalidate") invalidate_of
+    ∷ row (codes "clear") clear_of
+    ∷ row (codes "chown") chown_of
+    ∷ row (codes "chgrp") chgrp_of
+    ∷ row (codes "setperm") setperm_of
+    ∷ row (codes "timeout") timeout_of
+    ∷ row (codes "link") link_of
+    ∷ row (codes "unlink") unlink_of
+    ∷ row (codes "move") move_of
+    ∷ row (codes "restrict") restrict_of
+    ∷ row (codes "search") search_of
+    ∷ row (codes "request") request_of
+    ∷ row (codes "open") open_of
+    ∷ row (codes "closeq") closeq_of
+    ∷ row (codes "watch") watch_of
+    ∷ row (codes "filter") filter_of
+    ∷ row (codes "readq") readq_of
+    ∷ row (codes "leave") (alone_of op.Leave)
+    ∷ []
+
+-- the command of a first word
+abbrev pub row_of : List ℕ → Option Row
+row_of word = find (λ r. bytes_eq word r.word) commands
+
+-- each command is that of its first word: no two have one word
+abbrev pub HaveTheirWords : Type 0
+HaveTheirWords = map (λ r. row_of r.word) commands ≡ map Some commands
+
+-- the command of a first word with those behind it
+abbrev pub command_behind : List ℕ → List (List ℕ) → Option Command
+command_behind word args = do
+  r ← row_of word
+  r.reads args
 
 -- the command that a line's words are: none where they are no command, or more or less than it takes
 abbrev pub command_of : List (List ℕ) → Option Command
 command_of [] = None
-command_of (word ∷ args) = do
-  name ← name_of_word word
-  row_of name args
+command_of (word ∷ args) = command_behind word args

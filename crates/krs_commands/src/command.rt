@@ -1,9 +1,8 @@
 ghost use Rattle.std.specs.Prelude.{map};
-ghost use Rattle.krs_commands.specs.Command.{alone_of, command_of, row_of};
+ghost use Rattle.krs_commands.specs.Command.{alone_of, command_behind, command_of};
 ghost use Rattle.krs_words.specs.Parsed.{Reads};
 
-use crate::name::CommandName;
-use crate::{contexts, keyrings, keys, queues};
+use crate::{commands, contexts, keyrings, keys, queues};
 use krs_types::Op;
 use krs_words::NoCommand;
 use std::alloc::Global;
@@ -23,6 +22,19 @@ pub enum Command {
     Readq { queue: u32, room: u32 },
 }
 
+/// Reads the words behind a first one as its row says.
+macro_rules! read {
+    ($alloc:expr, $word:expr, $args:expr; $($name:literal $usage:literal $prints:literal $how:ident $reader:path;)*) => {{
+        $(if $word == $name.as_bytes() {
+            return read!(@$how $reader, $alloc, $args);
+        })*
+        Err(NoCommand::Usage)
+    }};
+    (@memory $reader:path, $alloc:expr, $args:expr) => { $reader($alloc, $args) };
+    (@words $reader:path, $alloc:expr, $args:expr) => { $reader($args) };
+    (@alone $op:path, $alloc:expr, $args:expr) => { alone($op, $args) };
+}
+
 /// The command that these words are.
 pub fn parse(alloc: Global, words: &[&[u8]]) -> Result<Command, NoCommand>
     ensures { Reads result (command_of (map (λ w. w.now) words.now)) }
@@ -30,50 +42,14 @@ pub fn parse(alloc: Global, words: &[&[u8]]) -> Result<Command, NoCommand>
     let [word, args @ ..] = words else {
         return Err(NoCommand::Usage);
     };
-    let name = CommandName::of_word(word).ok_or(NoCommand::Usage)?;
-    command_named(alloc, name, args)
+    read_behind(alloc, word, args)
 }
 
-/// The command of that name with these words.
-fn command_named(alloc: Global, name: CommandName, args: &[&[u8]]) -> Result<Command, NoCommand>
-    ensures { Reads result (row_of name (map (λ w. w.now) args.now)) }
+/// The command of this first word with these behind it.
+fn read_behind(alloc: Global, word: &[u8], args: &[&[u8]]) -> Result<Command, NoCommand>
+    ensures { Reads result (command_behind word.now (map (λ w. w.now) args.now)) }
 {
-    match name {
-        CommandName::Hello => contexts::hello(alloc, args),
-        CommandName::Context => contexts::context(args),
-        CommandName::Moment => contexts::moment(args),
-        CommandName::Thread => alone(Op::Thread, args),
-        CommandName::Fork => alone(Op::Fork, args),
-        CommandName::Exec => alone(Op::Exec, args),
-        CommandName::Exit => alone(Op::Exit, args),
-        CommandName::Add => keys::add(alloc, args),
-        CommandName::Newring => keyrings::newring(alloc, args),
-        CommandName::Id => contexts::get_id(args),
-        CommandName::Join => contexts::join(alloc, args),
-        CommandName::Update => keys::update(alloc, args),
-        CommandName::Print => keys::print(args),
-        CommandName::Rlist => keys::rlist(args),
-        CommandName::Rdescribe => keys::rdescribe(args),
-        CommandName::Revoke => keys::revoke(args),
-        CommandName::Invalidate => keys::invalidate(args),
-        CommandName::Clear => keyrings::clear(args),
-        CommandName::Chown => keys::chown(args),
-        CommandName::Chgrp => keys::chgrp(args),
-        CommandName::SetPerm => keys::setperm(args),
-        CommandName::Timeout => keys::timeout(args),
-        CommandName::Link => keyrings::link(args),
-        CommandName::Unlink => keyrings::unlink(args),
-        CommandName::Move => keyrings::move_link(args),
-        CommandName::Restrict => keyrings::restrict(alloc, args),
-        CommandName::Search => keyrings::search_from(alloc, args),
-        CommandName::Request => keyrings::request(alloc, args),
-        CommandName::Open => queues::open(args),
-        CommandName::Closeq => queues::closeq(args),
-        CommandName::Watch => queues::watch(args),
-        CommandName::Filter => queues::filter(alloc, args),
-        CommandName::Readq => queues::readq(args),
-        CommandName::Leave => alone(Op::Leave, args),
-    }
+    commands!(read, alloc, word, args)
 }
 
 /// The ask of a command that takes no words.

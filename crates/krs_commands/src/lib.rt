@@ -8,9 +8,10 @@ mod entry;
 mod keyrings;
 mod keys;
 mod laws;
-mod name;
 mod queues;
+mod table;
+mod words;
 
 pub use command::{Command, parse};
 pub use laws::each_command_has_its_word;
-pub use name::CommandName;
+pub use words::is_command;

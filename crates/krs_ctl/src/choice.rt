@@ -9,6 +9,7 @@ ghost use Rattle.krs_ctl.specs.CommandLine.{command_in, named, number_rule, opti
 
 use clap::error::ErrorKind;
 use clap::{Arg, ArgAction, ArgMatches, Command, Error, value_parser};
+use krs_commands::commands;
 use krs_remote::call_command;
 use krs_script::no_command;
 use krs_types::{Caller, Groups};
@@ -36,43 +37,12 @@ const WORDS_HELP: &str =
     "script: runs the lines of standard input, one command each, on a store of their own or over the socket; or, over \
 the socket, a single command";
 
-const COMMANDS: &str = "\
-Commands of a script, with what an accepted one prints:
-  hello UID GID [GROUP ..]      a new context of this caller, from here on the current one: its number
-  context N                     makes another context the current one: ok
-  moment N                      sets the time in seconds of the lines that follow: ok
-  thread                        a new context in the process of the current one: its number
-  fork                          a new context of the same caller in a new process: its number
-  exec                          ends the other contexts of the process: ok
-  exit                          ends the current context, which stays the current one: ok
-  add TYPE DESC DATA RING       a key in a keyring, new or with a new payload: its serial
-  newring DESC RING             a new keyring in a keyring: its serial
-  id KEY [create]               what an id stands for; create makes a missing keyring: its serial
-  join [NAME]                   another session keyring, of that name or of none: its serial
-  update KEY DATA               another payload for a key: ok
-  print KEY                     the payload of a key
-  rlist KEY                     the serials that a keyring links, or the payload of another key
-  rdescribe KEY                 a key as text: type;uid;gid;perm;description
-  revoke KEY                    ends a key for good: ok
-  invalidate KEY                takes a key out of every keyring and every attachment: ok
-  clear RING                    takes all links out of a keyring: ok
-  chown KEY UID                 another owner of a key: ok
-  chgrp KEY GID                 another group of a key: ok
-  setperm KEY MASK              another permission mask of a key, in hexadecimal: ok
-  timeout KEY SECONDS           lets a key expire after so many seconds, never for 0: ok
-  link KEY RING                 one more link in a keyring: ok
-  unlink KEY RING               one link less in a keyring: ok
-  move KEY FROM TO [excl]       a link out of one keyring and into another; excl displaces none: ok
-  restrict RING                 closes a keyring against further links, for good: ok
-  search RING TYPE DESC [RING]  a key found from a keyring on, and linked to the other one: its serial
-  request TYPE DESC [RING]      the same from the thread, process and session keyring on: its serial
-  open CAPACITY                 a queue that holds so many records: its number
-  closeq QUEUE                  ends a queue and its watches: ok
-  watch KEY QUEUE ID            a queue's watch of a key, with an id of 0 to 255; off ends it: ok
-  filter QUEUE ENTRY ..         which notes a queue takes in from now on: ok
-  readq QUEUE ROOM              the records of a queue that fit into so many bytes, in hexadecimal
-  leave                         closes all queues and ends all contexts: ok
-
+macro_rules! help {
+    (; $($name:literal $usage:literal $prints:literal $how:ident $reader:path;)*) => {
+        concat!(
+            "Commands of a script, with what an accepted one prints:\n",
+            $("  ", $name, $usage, $prints, "\n",)*
+            "
 KEY and RING are a serial, or @t, @p, @s, @u, @us for the thread, process, session, user and user-session
 keyring. DATA is the word's bytes or, after `hex:`, the bytes that pairs of hexadecimal digits spell. Bytes
 that aren't all printable are shown as `:hex:` and digits. ENTRY is `type:info_filter:info_mask:subtypes`, four
@@ -87,7 +57,12 @@ Example, a key that is made and read back:
 prints 1, 5 and s3, a line each.
 
 Exit status: 0; 1 if something was refused or memory ran out; 2 for usage; 3 if the connection, reading or
-printing failed.";
+printing failed."
+        )
+    };
+}
+
+const COMMANDS: &str = commands!(help);
 
 /// What the program does, by its words.
 #[derive(Drop)]

@@ -4,7 +4,7 @@ use Rattle.std.specs.Char.Escape.{escape_ascii}
 use Rattle.std.specs.Fmt.{decimal}
 use Rattle.std.specs.List.{flat_map}
 use Rattle.std.specs.Option.{is_some}
-use Rattle.krs_commands.specs.Command.{name_of_word}
+use Rattle.krs_commands.specs.Command.{row_of}
 use Rattle.krs_words.specs.declared.stop.Stop.{Stop}
 use Rattle.krs_words.specs.declared.stop.Stop.TheVariants.{Usage, Memory, Reading, TooLong, Printing, Connection}
 use Rattle.krs_words.specs.Words.{words_of}
@@ -24,7 +24,7 @@ quoted word =
 -- why words are no command whose first one this is
 abbrev pub no_command_text : List ℕ → List ℕ
 no_command_text word =
-    (if is_some (name_of_word word) then codes "not as it is used, see keyretain --help: " else codes "no such command: ")
+    (if is_some (row_of word) then codes "not as it is used, see keyretain --help: " else codes "no such command: ")
     ++ quoted word
 
 -- why a script stopped at this line

@@ -2,13 +2,13 @@ ghost use Rattle.std.specs.Prelude.{Ok, ◌≡◌, ◌++◌, IfOk, IfErr, OnOk, 
 ghost use Rattle.std.specs.Char.Escape.{escape_ascii};
 ghost use Rattle.std.specs.List.{flat_map};
 ghost use Rattle.std.specs.Option.{is_some};
-ghost use Rattle.krs_commands.specs.Command.{name_of_word};
+ghost use Rattle.krs_commands.specs.Command.{row_of};
 ghost use Rattle.krs_words.specs.Words.{words_of};
 ghost use Rattle.krs_words.specs.Saying.{heard, Says};
 ghost use Rattle.krs_script.specs.Telling.{cause_text, no_command_text, quoted, refusal_text, stop_text};
 
 use crate::place::Place;
-use krs_commands::CommandName;
+use krs_commands::is_command;
 use krs_words::{Stop, Voice, words};
 use std::alloc::{AllocError, Global};
 use std::ascii::escape_default;
@@ -114,13 +114,14 @@ fn push_reason(text: &mut Vec<u8>, word: &[u8]) -> Result<(), AllocError>
 
 /// What stands before the word.
 fn reason_of(word: &[u8]) -> &'static [u8]
-    ensures { result.now ≡ (if is_some (name_of_word word.now)
+    ensures { result.now ≡ (if is_some (row_of word.now)
         then codes "not as it is used, see keyretain --help: "
         else codes "no such command: ") }
 {
-    match CommandName::of_word(word) {
-        None => b"no such command: ",
-        Some(_) => b"not as it is used, see keyretain --help: ",
+    if is_command(word) {
+        b"not as it is used, see keyretain --help: "
+    } else {
+        b"no such command: "
     }
 }
 

@@ -1,5 +1,5 @@
-use Rattle.krs_commands.proofs.NameLemmas.{has_its_word}
+use Rattle.std.proofs.Common.{refl}
 use Rattle.krs_commands.proofs.laws.each_command_has_its_word.Goals as goal
 
 pub returns : goal.returns
-returns c = has_its_word
+returns c = refl
