@@ -9,7 +9,7 @@ use krs_types::{KeyEvent, Record};
 use std::marker::Model;
 
 /// The bytes of a record, 8 or 16 of them. A contract sees the list.
-#[derive(Debug, Drop)]
+#[derive(Drop)]
 pub struct RecordBytes {
     bytes: [u8; 16],
     len: usize,

@@ -24,7 +24,7 @@ const KEY_NOTE_SIZE: u32 = 16;
 const WATCH_ID: u32 = 0x100;
 
 /// Which records a queue takes in. A contract sees the list of its entries.
-#[derive(Debug, Drop)]
+#[derive(Drop)]
 pub struct Filter {
     entries: Vec<FilterEntry>,
 }

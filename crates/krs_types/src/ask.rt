@@ -10,14 +10,14 @@ use std::alloc::{AllocError, Global};
 pub const MOVE_EXCL: u32 = 1;
 
 /// What a client asks in one of its contexts.
-#[derive(Debug, Drop)]
+#[derive(Drop)]
 pub struct Ask {
     pub context: u32,
     pub op: Op,
 }
 
 /// What is asked. A key id is as `KeyId::from_i32` reads it, texts and payloads are as the client gave them.
-#[derive(Debug, Drop)]
+#[derive(Drop)]
 pub enum Op {
     /// A context of its own for this caller.
     Hello(Caller),
@@ -156,7 +156,7 @@ pub enum Op {
 }
 
 /// What an accepted ask is answered with.
-#[derive(Debug, Drop)]
+#[derive(Drop)]
 pub enum Answer {
     Nothing,
     /// A serial, a context or a queue.

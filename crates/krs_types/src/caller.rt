@@ -15,7 +15,7 @@ pub const UNCHANGED: u32 = 4_294_967_295;
 const NO_ID: u32 = 4_294_967_295;
 
 /// The supplementary groups of a caller.
-#[derive(Debug, Drop)]
+#[derive(Drop)]
 pub struct Groups {
     gids: Vec<u32>,
 }
@@ -49,7 +49,7 @@ impl Groups {
 }
 
 /// Whom a client says that it is: credentials(7).
-#[derive(Debug, Drop)]
+#[derive(Drop)]
 pub struct Caller {
     pub uid: u32,
     pub gid: u32,

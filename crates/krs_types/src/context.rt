@@ -2,7 +2,7 @@ use crate::{Caller, Serial};
 
 /// A context of a client: one thread's view of the store, as a task's credentials hold it. keyrings(7), "Anchoring
 /// keys".
-#[derive(Debug, Drop)]
+#[derive(Drop)]
 pub struct Context {
     pub client: u32,
     pub process: u32,

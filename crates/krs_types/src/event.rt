@@ -4,7 +4,7 @@ use crate::{Ask, Reply};
 use std::alloc::{AllocError, Global};
 
 /// One ask as it was served: whose it was, the moment in seconds that it was handed in with, and its reply.
-#[derive(Debug, Drop)]
+#[derive(Drop)]
 pub struct Event {
     pub lane: u32,
     pub moment: u64,

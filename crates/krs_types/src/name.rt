@@ -12,7 +12,7 @@ use std::hash::{Hash, Hasher};
 use std::marker::Model;
 
 /// The description of a key: 4095 bytes at most.
-#[derive(Debug, Drop)]
+#[derive(Drop)]
 pub struct Desc {
     bytes: Blob,
 }
@@ -76,7 +76,7 @@ impl Hash for Desc {
 }
 
 /// By what a key is found in a keyring. Two links of one keyring have different names.
-#[derive(Debug, Drop)]
+#[derive(Drop)]
 pub struct Name {
     pub kind: Kind,
     pub desc: Desc,

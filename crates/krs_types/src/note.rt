@@ -46,7 +46,7 @@ pub struct FilterEntry {
 }
 
 /// The lines of a filter as a client gave them, of any number.
-#[derive(Debug, Drop)]
+#[derive(Drop)]
 pub struct FilterEntries {
     entries: Vec<FilterEntry>,
 }

@@ -6,13 +6,13 @@ use std::alloc::{AllocError, Global};
 use std::marker::Model;
 
 /// The name of a key's type, as a client gave it. That of a known type takes no memory, nor does an empty one.
-#[derive(Debug, Drop)]
+#[derive(Drop)]
 pub struct TypeName {
     given: Given,
 }
 
 /// A name that is given: an empty one, the known type that it names, or else its bytes.
-#[derive(Debug, Drop)]
+#[derive(Drop)]
 enum Given {
     Empty,
     Known(Kind),

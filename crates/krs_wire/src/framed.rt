@@ -13,7 +13,7 @@ pub(crate) const MAX_LENGTH: usize = 65536;
 
 /// What a whole good frame of a client says. A frame of version 2 has a tag, which its reply repeats, and one of
 /// version 1 has none.
-#[derive(Debug, Drop)]
+#[derive(Drop)]
 pub struct Framed {
     pub ask: Ask,
     pub tag: Option<u64>,
