@@ -2,16 +2,16 @@
 
 - `rtlib.Crate.stamp`: each crate is summed up once a question. Some versions sum a library up once for each way down to
   it, which are thousands for the daemon.
-- `Crate.build_rlib` and `checked`, for `rt ci` alone: the edit of a crate's must-fail/ is tried over what the proof of the
-  crate left, and from nothing only where it isn't refused so.
+- `Crate.build_rlib`, for `rt ci` alone: a library keeps its checked modules, so that the wrong bodies of the crate may be
+  tried over its proof.
 
-Needed of the toolchain: rt is a file of Python with `main`, `Crate` and `checked(crate, texts, flags, kept)`; a crate has
-`stamp`, `build_rlib`, `folder`, `rlib` and `cuts_libraries`; an rlib has `format`, `toolchain/checked.json` and
-`toolchain/checked.a`. Where one of these isn't there, `load` raises Unknown, or a check begins at nothing: plain rt then
-does the same, and the tools say so in one line.
+Needed of the toolchain: rt is a file of Python with `main` and `Crate`; a crate has `stamp`, `build_rlib`, `folder`,
+`rlib` and `cuts_libraries`; an rlib has `format`, `toolchain/checked.json` and `toolchain/checked.a`. Where one of these
+isn't there, `load` raises Unknown, or a check begins at nothing: plain rt then does the same, and the tools say so in one
+line.
 
-This file can go once rt itself sums each crate up once, and tries edits over proofs. Until then whoever takes a new
-toolchain compares one run of plain `rt ci` with the gate's.
+This file can go once rt itself sums each crate up once, and tries many mutants over one proof. Until then whoever takes a
+new toolchain compares one run of plain `rt ci` with the gate's.
 """
 import importlib.machinery
 import importlib.util
@@ -19,7 +19,6 @@ import json
 import os
 import shutil
 import sys
-import tempfile
 import threading
 
 sys.dont_write_bytecode = True
@@ -68,25 +67,16 @@ def seed(crate, folder):
     return True
 
 
-def begin_at_proofs(rt):
-    """Has `rt ci` try a crate's edit over what the proof of the crate left, which it made a moment before and from nothing;
-    so it does itself where a crate has two edits. For that, libraries keep their checked modules, as they do outside the
-    gate. An edit that isn't refused so is tried from nothing."""
-    build, checked = rt.Crate.build_rlib, rt.checked
+def keep_proofs(rt):
+    """Has the libraries that `rt ci` builds keep their checked modules, as they do outside the gate, so that the wrong bodies
+    of a crate may be tried over its proof."""
+    build = rt.Crate.build_rlib
 
     def build_with_proofs(crate, flags, anew):
         crate.cuts_libraries = False
         return build(crate, flags, anew)
 
-    def check_over_proof(crate, texts, flags, kept):
-        if texts and not kept:
-            with tempfile.TemporaryDirectory(prefix="keyretain.") as room:
-                ran = checked(crate, texts, flags, room) if seed(crate, room) else None
-            if ran and ran.returncode == 1:
-                return ran
-        return checked(crate, texts, flags, kept)
-
-    rt.Crate.build_rlib, rt.checked = build_with_proofs, check_over_proof
+    rt.Crate.build_rlib = build_with_proofs
 
 
 def load():
