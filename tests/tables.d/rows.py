@@ -97,11 +97,10 @@ def ask_of(definition):
 def commands():
     """All of them, in the definitions' order."""
     text = text_of("crates/krs_commands/specs/Command.antt")
-    order = re.findall(r"\w+", re.search(r"^command_names =\n(.*?)∷ \[\]$", text, re.M | re.S)[1])
-    spellings, rows = equations(text, "spelling"), equations(text, "row_of")
+    table = re.search(r"^commands =\n(.*?)∷ \[\]$", text, re.M | re.S)[1]
     found = []
-    for name in order:
-        word, reader = spellings[name].removeprefix("codes ").strip('"'), rows[name]
+    for word, reader in re.findall(r'row \(codes "(\w+)"\) (\w+|\(.+\))$', table, re.M):
+        reader = reader.strip("()")
         head, _, definition = text.partition(f"\nabbrev pub {reader.split()[0]} :")
         usages = re.findall(r"`(\w+)((?: [^`]*)?)`", head.rsplit("\n-- ", 1)[1])
         usage = next((usage for spelled, usage in usages if spelled == word), "no usage")
