@@ -97,9 +97,8 @@ def ask_of(definition):
 def commands():
     """All of them, in the definitions' order."""
     text = text_of("crates/krs_commands/specs/Command.antt")
-    table = re.search(r"^commands =\n(.*?)∷ \[\]$", text, re.M | re.S)[1]
     found = []
-    for word, reader in re.findall(r'row \(codes "(\w+)"\) (\w+|\(.+\))$', table, re.M):
+    for word, reader in re.findall(r'^ +(?:∷ )?row \(codes "(\w+)"\) (\w+|\(.+\))$', text, re.M):
         reader = reader.strip("()")
         head, _, definition = text.partition(f"\nabbrev pub {reader.split()[0]} :")
         usages = re.findall(r"`(\w+)((?: [^`]*)?)`", head.rsplit("\n-- ", 1)[1])

@@ -1,6 +1,6 @@
 -- The commands of a client, a row each: docs/FORMAT.md, "Commands".
-use Rattle.std.specs.Prelude.{◌≡◌, ℕ, ℤ, pos, Bool, true, false, if◌then◌else◌, List, [], ◌∷◌, find, map, bytes_eq, codes}
-use Rattle.std.specs.Prelude.{Option, None, Some}
+use Rattle.std.specs.Prelude.{◌≡◌, ℕ, ℤ, pos, Bool, true, false, if◌then◌else◌, List, [], ◌∷◌, ◌++◌, find, map}
+use Rattle.std.specs.Prelude.{Option, None, Some, bytes_eq, codes}
 use Rattle.krs_types.specs.Caller.{unchanged}
 use Rattle.krs_types.specs.declared.ask.Op.{Op}
 use Rattle.krs_types.specs.declared.ask.Op.TheVariants as op
@@ -262,9 +262,9 @@ pub record Row : Type 0 where
 abbrev pub row : List ℕ → (List (List ℕ) → Option Command) → Row
 row word reads = record { word = word; reads = reads }
 
--- all commands
-abbrev pub commands : List Row
-commands =
+-- the commands of contexts, and of the time
+unfoldable pub context_commands : List Row
+context_commands =
     row (codes "hello") hello_of
     ∷ row (codes "context") context_of
     ∷ row (codes "moment") moment_of
@@ -272,7 +272,12 @@ commands =
     ∷ row (codes "fork") (alone_of op.Fork)
     ∷ row (codes "exec") (alone_of op.Exec)
     ∷ row (codes "exit") (alone_of op.Exit)
-    ∷ row (codes "add") add_of
+    ∷ []
+
+-- the commands that make keys and keyrings, and that read them
+unfoldable pub key_commands : List Row
+key_commands =
+    row (codes "add") add_of
     ∷ row (codes "newring") newring_of
     ∷ row (codes "id") id_of
     ∷ row (codes "join") join_of
@@ -280,20 +285,35 @@ commands =
     ∷ row (codes "print") print_of
     ∷ row (codes "rlist") rlist_of
     ∷ row (codes "rdescribe") rdescribe_of
-    ∷ row (codes "revoke") revoke_of
+    ∷ []
+
+-- the commands that change keys, and that end them
+unfoldable pub change_commands : List Row
+change_commands =
+    row (codes "revoke") revoke_of
     ∷ row (codes "invalidate") invalidate_of
     ∷ row (codes "clear") clear_of
     ∷ row (codes "chown") chown_of
     ∷ row (codes "chgrp") chgrp_of
     ∷ row (codes "setperm") setperm_of
     ∷ row (codes "timeout") timeout_of
-    ∷ row (codes "link") link_of
+    ∷ []
+
+-- the commands of links, and of searches
+unfoldable pub link_commands : List Row
+link_commands =
+    row (codes "link") link_of
     ∷ row (codes "unlink") unlink_of
     ∷ row (codes "move") move_of
     ∷ row (codes "restrict") restrict_of
     ∷ row (codes "search") search_of
     ∷ row (codes "request") request_of
-    ∷ row (codes "open") open_of
+    ∷ []
+
+-- the commands of queues, and the last of all
+unfoldable pub queue_commands : List Row
+queue_commands =
+    row (codes "open") open_of
     ∷ row (codes "closeq") closeq_of
     ∷ row (codes "watch") watch_of
     ∷ row (codes "filter") filter_of
@@ -301,19 +321,41 @@ commands =
     ∷ row (codes "leave") (alone_of op.Leave)
     ∷ []
 
+-- the commands from those of links on, from those that change keys on, and from those that make keys on
+abbrev pub commands_from_links : List Row
+commands_from_links = link_commands ++ queue_commands
+
+abbrev pub commands_from_changes : List Row
+commands_from_changes = change_commands ++ commands_from_links
+
+abbrev pub commands_from_keys : List Row
+commands_from_keys = key_commands ++ commands_from_changes
+
+-- all commands
+abbrev pub commands : List Row
+commands = context_commands ++ commands_from_keys
+
+-- of these commands the one of a first word
+abbrev pub row_in : List Row → List ℕ → Option Row
+row_in rows word = find (λ r. bytes_eq word r.word) rows
+
 -- the command of a first word
 abbrev pub row_of : List ℕ → Option Row
-row_of word = find (λ r. bytes_eq word r.word) commands
+row_of word = row_in commands word
 
 -- each command is that of its first word: no two have one word
 abbrev pub HaveTheirWords : Type 0
 HaveTheirWords = map (λ r. row_of r.word) commands ≡ map Some commands
 
+-- of these commands the one of a first word, with those behind it
+abbrev pub read_in : List Row → List ℕ → List (List ℕ) → Option Command
+read_in rows word args = do
+  r ← row_in rows word
+  r.reads args
+
 -- the command of a first word with those behind it
 abbrev pub command_behind : List ℕ → List (List ℕ) → Option Command
-command_behind word args = do
-  r ← row_of word
-  r.reads args
+command_behind word args = read_in commands word args
 
 -- the command that a line's words are: none where they are no command, or more or less than it takes
 abbrev pub command_of : List (List ℕ) → Option Command

@@ -1,5 +1,6 @@
-ghost use Rattle.std.specs.Prelude.{map};
-ghost use Rattle.krs_commands.specs.Command.{alone_of, command_behind, command_of};
+ghost use Rattle.std.specs.Prelude.{◌≡◌, map, bytes_eq};
+ghost use Rattle.krs_commands.specs.Command.{alone_of, command_behind, command_of, read_in};
+ghost use Rattle.krs_commands.specs.Command.{commands_from_keys, commands_from_changes, commands_from_links, queue_commands};
 ghost use Rattle.krs_words.specs.Parsed.{Reads};
 
 use crate::{commands, contexts, keyrings, keys, queues};
@@ -22,17 +23,22 @@ pub enum Command {
     Readq { queue: u32, room: u32 },
 }
 
-/// Reads the words behind a first one as its row says.
+/// Reads the words behind a first one of a group as its row says, and goes on behind that where it is none of them.
 macro_rules! read {
-    ($alloc:expr, $word:expr, $args:expr; $($name:literal $usage:literal $prints:literal $how:ident $reader:path;)*) => {{
-        $(if $word == $name.as_bytes() {
+    (contexts, $with:tt; contexts { $($rows:tt)* } $($others:tt)*) => { read!(@$with $($rows)*) };
+    (keys, $with:tt; keys { $($rows:tt)* } $($others:tt)*) => { read!(@$with $($rows)*) };
+    (changes, $with:tt; changes { $($rows:tt)* } $($others:tt)*) => { read!(@$with $($rows)*) };
+    (links, $with:tt; links { $($rows:tt)* } $($others:tt)*) => { read!(@$with $($rows)*) };
+    (queues, $with:tt; queues { $($rows:tt)* } $($others:tt)*) => { read!(@$with $($rows)*) };
+    ($group:ident, $with:tt; $other:ident { $($rows:tt)* } $($others:tt)*) => { read!($group, $with; $($others)*) };
+    (@($alloc:ident, $word:ident, $args:ident) $($name:literal $usage:literal $prints:literal $how:ident $reader:path;)*) => {
+        $(if is($word, $name) {
             return read!(@$how $reader, $alloc, $args);
         })*
-        Err(NoCommand::Usage)
-    }};
-    (@memory $reader:path, $alloc:expr, $args:expr) => { $reader($alloc, $args) };
-    (@words $reader:path, $alloc:expr, $args:expr) => { $reader($args) };
-    (@alone $op:path, $alloc:expr, $args:expr) => { alone($op, $args) };
+    };
+    (@memory $reader:path, $alloc:ident, $args:ident) => { $reader($alloc, $args) };
+    (@words $reader:path, $alloc:ident, $args:ident) => { $reader($args) };
+    (@alone $op:path, $alloc:ident, $args:ident) => { alone($op, $args) };
 }
 
 /// The command that these words are.
@@ -46,10 +52,55 @@ pub fn parse(alloc: Global, words: &[&[u8]]) -> Result<Command, NoCommand>
 }
 
 /// The command of this first word with these behind it.
+#[tactic(auto, unfolding(crate::specs::Command::context_commands))]
 fn read_behind(alloc: Global, word: &[u8], args: &[&[u8]]) -> Result<Command, NoCommand>
     ensures { Reads result (command_behind word.now (map (λ w. w.now) args.now)) }
 {
-    commands!(read, alloc, word, args)
+    commands!(read, contexts, (alloc, word, args));
+    read_from_keys(alloc, word, args)
+}
+
+/// The same among the commands from those of keys on.
+#[tactic(auto, unfolding(crate::specs::Command::key_commands))]
+fn read_from_keys(alloc: Global, word: &[u8], args: &[&[u8]]) -> Result<Command, NoCommand>
+    ensures { Reads result (read_in commands_from_keys word.now (map (λ w. w.now) args.now)) }
+{
+    commands!(read, keys, (alloc, word, args));
+    read_from_changes(alloc, word, args)
+}
+
+/// The same among the commands from those that change keys on.
+#[tactic(auto, unfolding(crate::specs::Command::change_commands))]
+fn read_from_changes(alloc: Global, word: &[u8], args: &[&[u8]]) -> Result<Command, NoCommand>
+    ensures { Reads result (read_in commands_from_changes word.now (map (λ w. w.now) args.now)) }
+{
+    commands!(read, changes, (alloc, word, args));
+    read_from_links(alloc, word, args)
+}
+
+/// The same among the commands from those of links on.
+#[tactic(auto, unfolding(crate::specs::Command::link_commands))]
+fn read_from_links(alloc: Global, word: &[u8], args: &[&[u8]]) -> Result<Command, NoCommand>
+    ensures { Reads result (read_in commands_from_links word.now (map (λ w. w.now) args.now)) }
+{
+    commands!(read, links, (alloc, word, args));
+    read_queue(alloc, word, args)
+}
+
+/// The same among the commands of queues.
+#[tactic(auto, unfolding(crate::specs::Command::queue_commands))]
+fn read_queue(alloc: Global, word: &[u8], args: &[&[u8]]) -> Result<Command, NoCommand>
+    ensures { Reads result (read_in queue_commands word.now (map (λ w. w.now) args.now)) }
+{
+    commands!(read, queues, (alloc, word, args));
+    Err(NoCommand::Usage)
+}
+
+/// Whether a word is this text.
+fn is(word: &[u8], text: &str) -> bool
+    ensures { result ≡ bytes_eq word.now text.now }
+{
+    word == text.as_bytes()
 }
 
 /// The ask of a command that takes no words.

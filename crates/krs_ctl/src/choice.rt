@@ -38,10 +38,10 @@ const WORDS_HELP: &str =
 the socket, a single command";
 
 macro_rules! help {
-    (; $($name:literal $usage:literal $prints:literal $how:ident $reader:path;)*) => {
+    (; $($group:ident { $($name:literal $usage:literal $prints:literal $how:ident $reader:path;)* })*) => {
         concat!(
             "Commands of a script, with what an accepted one prints:\n",
-            $("  ", $name, $usage, $prints, "\n",)*
+            $($("  ", $name, $usage, $prints, "\n",)*)*
             "
 KEY and RING are a serial, or @t, @p, @s, @u, @us for the thread, process, session, user and user-session
 keyring. DATA is the word's bytes or, after `hex:`, the bytes that pairs of hexadecimal digits spell. Bytes
