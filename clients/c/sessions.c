@@ -95,11 +95,12 @@ static int make_tag(uint64_t *tag) {
 }
 
 /* What this context has joined, with a holder of its own. */
-static struct session *add_session(const struct context *context, struct user *user, int32_t serial,
-                                   const char *name) {
+static struct session *add_session(const struct context *context, struct user *user, const uint32_t uids[PROC_UIDS],
+                                   int32_t serial, const char *name) {
     struct session *session = calloc(1, sizeof *session);
     if (!session) return NULL;
     session->user = user;
+    memcpy(session->uids, uids, sizeof session->uids);
     session->serial = serial;
     snprintf(session->name, sizeof session->name, "%s", name);
     if (make_tag(&session->tag) < 0 || context_fork(&session->holder, context) < 0) {
@@ -114,14 +115,21 @@ static struct session *add_session(const struct context *context, struct user *u
 }
 
 /* One without a name gets one that nobody can guess, as others may find it for a moment: session_enter_by_name. */
-struct session *session_join(const struct context *context, struct user *user, const char *name) {
+struct session *session_join(const struct context *context, struct user *user, const uint32_t uids[PROC_UIDS],
+                             const char *name) {
     struct kr_session named;
     struct kr *connection = context_connection(context);
     if (!connection || kr_name_session(&named, name) < 0) return NULL;
     int32_t serial = kr_join(connection, context->number, named.name);
     if (serial < 0) return NULL;
     struct session *session = find_session(serial);
-    return session ? session : add_session(context, user, serial, named.name);
+    return session ? session : add_session(context, user, uids, serial, named.name);
+}
+
+bool session_is_of(const struct session *session, uint32_t uid) {
+    for (int i = 0; i < PROC_UIDS; i++)
+        if (session->uids[i] == uid) return true;
+    return all.is_container && session == all.first;
 }
 
 /* ---- Entering ---- */
@@ -314,7 +322,8 @@ int sessions_begin(const struct kr_identity *identity, const char *name, bool is
     int32_t serial = kr_begin_session_as(connection, context.number, named.name, identity->uid);
     bool is_linked = is_container || (serial > 0 && kr_link(connection, context.number, KEY_SPEC_USER_KEYRING,
                                                             KEY_SPEC_SESSION_KEYRING) == 0);
-    if (serial > 0 && is_linked) all.first = session_use(add_session(&context, user, serial, named.name));
+    const uint32_t uid = identity->uid, uids[PROC_UIDS] = { uid, uid, uid, uid };
+    if (serial > 0 && is_linked) all.first = session_use(add_session(&context, user, uids, serial, named.name));
     context_end(&context);
     return all.first ? 0 : -1;
 }

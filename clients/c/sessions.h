@@ -2,7 +2,8 @@
  *
  * Which session a new process has is the one thing that fork(2) hands down and nobody tells. So what has joined a
  * session bears its tag: 62 random bits in the soft limit RLIMIT_LOCKS, which no kernel since 2.4.25 heeds. fork(2)
- * copies it, execve(2) keeps it, and prlimit(2) reads it in processes of one's uid. */
+ * copies it, execve(2) keeps it, and prlimit(2) reads it in processes of one's uid. But limits of proc(5) tell it to
+ * everybody, and any process may set it: so a tag says which session is meant, and not that a process may have it. */
 #ifndef KEYRETAIN_SESSIONS_H
 #define KEYRETAIN_SESSIONS_H
 
@@ -11,6 +12,7 @@
 #include <sys/types.h>
 
 #include "contexts.h"
+#include "proc.h"
 #include "session.h"
 
 /* An identity that has asked. Its context keeps its user keyrings as long as the supervisor lives. */
@@ -26,6 +28,7 @@ struct session {
     struct context holder;
     int32_t serial;
     uint64_t tag;
+    uint32_t uids[PROC_UIDS]; /* of the process that began it, as this one sees them */
     unsigned uses;   /* how many entries of threads have it */
     unsigned absent; /* how many sweeps have found no process with its tag, since none uses it */
     struct session *next;
@@ -50,7 +53,12 @@ struct session *session_use(struct session *session);
 void session_let_go(struct session *session);
 
 /* Joins the session of this name in the context of this identity, or one of its own for NULL: NULL with errno. */
-struct session *session_join(const struct context *context, struct user *user, const char *name);
+struct session *session_join(const struct context *context, struct user *user, const uint32_t uids[PROC_UIDS],
+                             const char *name);
+
+/* Whether a session was begun for this uid: by it, or by a process that can be it, as a login does; or it is the first
+ * of a container, which is all users'. */
+bool session_is_of(const struct session *session, uint32_t uid);
 
 /* Makes a context of this identity in a session: 0, with whether the session is lost to it; -1 with errno. */
 int session_enter(struct context *made, struct user *user, const struct session *session, bool *is_lost);

@@ -20,6 +20,8 @@
 
 enum { SEATS = 4, BUCKETS = 1024, SPARE_DESCRIPTORS = 32, LOOKED_AT = 64 };
 
+#define NO_UID ((uid_t)-1)
+
 /* An identity of a thread. */
 struct seat {
     struct user *user;
@@ -51,7 +53,7 @@ struct process {
     bool has_threads;   /* some call has named a thread keyring: each thread has a context of its own */
     bool may_have_keyrings; /* some call has named a thread or process keyring */
     unsigned long turn; /* when it asked last */
-    uid_t uid;          /* as whom */
+    uid_t uid;          /* that all its four were, when it was last looked at; else NO_UID */
     struct task *tasks;
     struct task *first; /* thread: the last of them */
     struct process *next;
@@ -72,7 +74,6 @@ static struct {
     struct process *buckets[BUCKETS];
     unsigned long turn;
     bool has_had_others; /* sessions than the first */
-    bool has_tags;       /* the child was given one, and so all that it starts */
     struct proc_map uids, gids;
     bool has_maps;
     struct serials serials;
@@ -82,6 +83,7 @@ static struct {
     /* of the call that is served */
     struct task *task;
     struct kr_identity identity;
+    uint32_t own_uids[PROC_UIDS];
     struct memory memory;
 } all;
 
@@ -178,11 +180,10 @@ static struct task *add_task(struct process *process, pid_t thread, int descript
 }
 
 /* An entry of a process, with its first thread, which has this session. It owns the descriptor. */
-static struct process *add_process(pid_t id, int descriptor, struct session *session) {
+static struct process *add_process(pid_t id, int descriptor, struct session *session, uid_t uid) {
     struct process *process = calloc(1, sizeof *process);
     if (process)
-        *process = (struct process){ .kind = PROCESS, .id = id, .descriptor = descriptor, .memory = -1,
-                                     .uid = (uid_t)-1 };
+        *process = (struct process){ .kind = PROCESS, .id = id, .descriptor = descriptor, .memory = -1, .uid = uid };
     if (!process || !is_told_of(descriptor, process) || !(process->first = add_task(process, id, -1, session))) {
         free(process);
         close_one(&descriptor);
@@ -277,12 +278,18 @@ static bool make_room(unsigned age) {
     return task != NULL;
 }
 
-/* Where descriptors run short, gives up the entry of a process that has nothing to lose: its session is known by its
- * tag, or is the first one. */
-static bool can_be_known_again(const struct process *process) {
+/* The session that the tag says, if it was begun for this uid; else NULL. */
+static struct session *own_session(pid_t id, uid_t uid) {
     struct session *tagged;
-    return process->tasks == process->first && process->first->reqkey == 0 &&
-           session_of_tag(process->id, &tagged) == TAG_READ && tagged == process->first->session;
+    return session_of_tag(id, &tagged) == TAG_READ && tagged && session_is_of(tagged, uid) ? tagged : NULL;
+}
+
+/* Where descriptors run short, gives up the entry of a process that has nothing to lose: its session is known by its
+ * tag. */
+static bool can_be_known_again(const struct process *process) {
+    const struct session *session = process->first->session;
+    return process->tasks == process->first && process->first->reqkey == 0 && session &&
+           own_session(process->id, process->uid) == session;
 }
 
 static void make_descriptors(void) {
@@ -300,47 +307,70 @@ static bool are_descriptors_short(void) {
 
 /* ---- Which session ---- */
 
-/* The tag; without one the session of the nearest ancestor that is known. Where all had tags, somebody has taken this
- * one away, which must not lead to the session of another user: so the ancestor has to be of the same uid. What has
- * lost its ancestors has the first session as long as there was no other. */
+static uid_t only_uid(const struct proc_status *status) {
+    for (int i = 0; i < PROC_UIDS; i++)
+        if (status->uids[i] != status->identity.uid) return NO_UID;
+    return status->identity.uid;
+}
+
+/* The nearest one that is known, or NULL. It may not be by its fork that a process is there: what ends leaves its
+ * children to another, and clone(2) gives some to the caller's parent. */
+static struct process *find_ancestor(pid_t parent) {
+    struct process *ancestor = NULL;
+    for (; !ancestor && parent > 1 && parent != getpid(); parent = proc_parent(parent)) ancestor = find_process(parent);
+    return ancestor;
+}
+
+/* The session of the tag, or without one of the nearest ancestor that is known. It must not be another user's, whose tag
+ * anybody could copy: unless there was never another session, it was begun for the process's uid, or an ancestor of that
+ * uid has it. Also where an ancestor of another uid has it and the tag says the same, as when a program becomes another
+ * user. Else it is lost. */
 static struct session *inherited(pid_t id, pid_t parent, uid_t uid) {
-    struct session *tagged;
-    enum tag tag = session_of_tag(id, &tagged);
-    if (tag == TAG_READ) return tagged;
-    bool is_taken_away = tag == TAG_NONE && all.has_tags;
-    for (; parent > 1 && parent != getpid(); parent = proc_parent(parent)) {
-        struct process *ancestor = find_process(parent);
-        if (ancestor) return is_taken_away && ancestor->uid != uid ? NULL : ancestor->first->session;
-    }
-    return all.has_had_others ? NULL : sessions_first();
+    struct session *session;
+    bool is_tagged = session_of_tag(id, &session) == TAG_READ;
+    struct process *ancestor = find_ancestor(parent);
+    if (!is_tagged) session = ancestor ? ancestor->first->session : sessions_first();
+    if (!session || !all.has_had_others || session_is_of(session, uid)) return session;
+    bool is_confirmed = ancestor && ancestor->first->session == session && (is_tagged || ancestor->uid == uid);
+    return is_confirmed ? session : NULL;
 }
 
 /* Processes whose children are still to be looked at. */
 struct unsettled {
-    struct session *session;
     pid_t *ids;
     size_t count, room;
 };
 
-/* A child that has no entry has the session that its parent had. */
-static void settle(pid_t child, void *data) {
-    struct unsettled *unsettled = data;
-    if (find_process(child)) return;
+static bool add_unsettled(struct unsettled *unsettled, pid_t id) {
     if (unsettled->count == unsettled->room) {
         size_t room = unsettled->room ? 2 * unsettled->room : BUCKETS;
         pid_t *ids = realloc(unsettled->ids, room * sizeof *ids);
-        if (!ids) return;
+        if (!ids) return false;
         unsettled->ids = ids;
         unsettled->room = room;
     }
-    int descriptor = proc_open(child);
-    if (descriptor >= 0 && add_process(child, descriptor, unsettled->session))
-        unsettled->ids[unsettled->count++] = child;
+    unsettled->ids[unsettled->count++] = id;
+    return true;
 }
 
-/* Before a process without a tag changes its session, its descendants that are not known are given what it had. */
-static void settle_descendants(pid_t process, struct session *session) {
-    struct unsettled unsettled = { .session = session };
+/* A child that has no entry gets one, unless its tag will tell which session it has. */
+static void settle(pid_t child, void *data) {
+    struct proc_status status;
+    if (find_process(child) || !add_unsettled(data, child)) return;
+    int descriptor = proc_open(child);
+    if (descriptor < 0) return;
+    bool is_known = !proc_read_status(child, &status) || own_session(child, status.identity.uid);
+    struct session *session = is_known ? NULL : inherited(child, status.parent, status.identity.uid);
+    if (is_known || proc_has_ended(descriptor))
+        close_one(&descriptor);
+    else
+        add_process(child, descriptor, session, only_uid(&status));
+}
+
+/* Before a process changes its session, its descendants that are not known are given what they have: those that have no
+ * tag, and those of other users, who could take that of the new one. */
+static void settle_descendants(pid_t process) {
+    struct unsettled unsettled = { 0 };
     proc_each_child(process, settle, &unsettled);
     while (unsettled.count > 0) proc_each_child(unsettled.ids[--unsettled.count], settle, &unsettled);
     free(unsettled.ids);
@@ -395,10 +425,11 @@ static struct task *settle_in(pid_t thread, struct arrival *arrival) {
     if (!process) {
         pid_t id = arrival->status.process;
         struct session *session = inherited(id, arrival->status.parent, arrival->status.identity.uid);
-        process = add_process(id, arrival->process_descriptor, session);
+        process = add_process(id, arrival->process_descriptor, session, NO_UID);
         arrival->process_descriptor = -1;
     }
     if (!process) return NULL;
+    process->uid = only_uid(&arrival->status);
     if (process->memory < 0) process->memory = fcntl(all.memory.file, F_DUPFD_CLOEXEC, 0);
     if (process->memory < 0) return NULL;
     if (arrival->task) return arrival->task;
@@ -410,28 +441,27 @@ static struct task *settle_in(pid_t thread, struct arrival *arrival) {
 
 /* What is opened by number is the notified thread's only where the notification still waits afterwards. So all is
  * opened first, then is_valid is asked once, and only then something is changed. */
-static struct task *admit(pid_t thread, struct kr_identity *identity, bool (*is_valid)(void)) {
+static struct task *admit(pid_t thread, bool (*is_valid)(void)) {
     struct arrival arrival;
     struct task *task = look_at(thread, &arrival) && is_valid() ? settle_in(thread, &arrival) : NULL;
     close_one(&arrival.process_descriptor);
     close_one(&arrival.thread_descriptor);
-    *identity = arrival.status.identity;
+    all.identity = arrival.status.identity;
+    memcpy(all.own_uids, arrival.status.uids, sizeof all.own_uids);
     return task;
 }
 
 bool tracees_enter(pid_t thread, struct tracees_wish wish, bool (*is_valid)(void)) {
     all.task = NULL;
-    struct task *task = admit(thread, &all.identity, is_valid);
+    struct task *task = admit(thread, is_valid);
     if (!task) {
         memory_close(&all.memory);
         return false;
     }
     all.has_maps = all.settings.is_container;
-    uid_t uid = all.identity.uid;
     to_inside(&all.identity);
     all.task = task;
     task->process->turn = ++all.turn;
-    task->process->uid = uid;
     task->process->has_threads |= wish.thread;
     if (wish.keyring) sweep_from_now_on(task->process);
     return true;
@@ -581,16 +611,18 @@ static void bring_seats(struct task *task, const struct seat *joined, const stru
 static void set_session(struct task *task, struct session *session) {
     struct session *before = task->session;
     struct process *process = task->process;
+    if (task == process->first) {
+        settle_descendants(process->id);
+        session_put_tag(process->id, session);
+    }
     if (session != sessions_first()) all.has_had_others = true;
-    if (task == process->first && !session_put_tag(process->id, session))
-        settle_descendants(process->id, before);
     task->session = session_use(session);
     session_let_go(before);
 }
 
 int32_t caller_join(struct caller *caller, const char *name) {
     struct seat *seat = caller->seat, joined = { .user = seat->user };
-    struct session *session = session_join(&seat->context, seat->user, name);
+    struct session *session = session_join(&seat->context, seat->user, all.own_uids, name);
     if (!session) return -1;
     seat->is_lost = false;
     bring_seats(all.task, &joined, session);
@@ -614,9 +646,10 @@ long tracees_set_reqkey_keyring(int choice) {
 /* The kernel's conditions: the parent is no init, has one thread, and the same ids; here it is supervised too. */
 static bool may_be_given(pid_t parent, struct proc_status *status) {
     if (parent <= 1 || parent == getpid() || !proc_read_status(parent, status)) return false;
-    to_inside(&status->identity);
-    return status->threads == 1 && status->is_filtered && status->identity.uid == all.identity.uid &&
-           status->identity.gid == all.identity.gid;
+    struct kr_identity identity = status->identity;
+    to_inside(&identity);
+    return status->threads == 1 && status->is_filtered && identity.uid == all.identity.uid &&
+           identity.gid == all.identity.gid;
 }
 
 static struct process *have_parent(const struct proc_status *status, pid_t parent) {
@@ -624,7 +657,8 @@ static struct process *have_parent(const struct proc_status *status, pid_t paren
     if (process) return process;
     int descriptor = proc_open(parent);
     if (descriptor < 0) return NULL;
-    return add_process(parent, descriptor, inherited(parent, status->parent, status->identity.uid));
+    struct session *session = inherited(parent, status->parent, status->identity.uid);
+    return add_process(parent, descriptor, session, only_uid(status));
 }
 
 long tracees_session_to_parent(void) {
@@ -665,8 +699,8 @@ void tracees_sweep(void) {
 
 static int begin_child(pid_t child) {
     int descriptor = proc_open(child);
-    if (descriptor < 0 || !add_process(child, descriptor, sessions_first())) return -1;
-    all.has_tags = session_put_tag(child, sessions_first());
+    if (descriptor < 0 || !add_process(child, descriptor, sessions_first(), NO_UID)) return -1;
+    session_put_tag(child, sessions_first());
     return 0;
 }
 

@@ -424,6 +424,124 @@ static int take_tag_away(void) {
     return 0;
 }
 
+/* ---- Other users, whose limits a supervisor may not read ---- */
+
+static void become_nobody(void) {
+    if (setgroups(0, NULL) < 0 || setresgid(NOBODY, NOBODY, NOBODY) < 0 || setresuid(NOBODY, NOBODY, NOBODY) < 0)
+        _exit(2);
+}
+
+/* Whether a session is this one, or is none that can be used. */
+static int tell_session(struct answer found, long wanted) {
+    return puts(found.value == wanted                              ? "the same"
+                : found.value < 0 && found.error == EKEYREVOKED ? "lost"
+                                                                   : "another") < 0;
+}
+
+/* A process that has not asked yet and is another user's; then its parent joins a session of its own. */
+static int join_late(void) {
+    long before = ring_of(KEY_SPEC_SESSION_KEYRING, 0);
+    begin();
+    if (fork() == 0) {
+        become_nobody();
+        give(0);
+        wait_at_gate();
+        give(ring_of(KEY_SPEC_SESSION_KEYRING, 0));
+        _exit(0);
+    }
+    take();
+    if (join(NULL) < 0) return 2;
+    close(gates[1]);
+    return tell_session(take(), before);
+}
+
+/* A process joins a session and leaves a child behind that has not asked yet and is another user's. That is given to
+ * an ancestor who has a session of its own. */
+static int leave_to_other(void) {
+    if (prctl(PR_SET_CHILD_SUBREAPER, 1, 0, 0, 0) < 0 || join(NULL) < 0) return 2;
+    begin();
+    pid_t child = fork();
+    if (child == 0) {
+        long joined = join(NULL);
+        if (fork() == 0) {
+            become_nobody();
+            while (getppid() == child) usleep(LOOK_MICROSECONDS);
+            give(ring_of(KEY_SPEC_SESSION_KEYRING, 0));
+        } else {
+            give(joined);
+        }
+        _exit(0);
+    }
+    long joined = take().value;
+    status_of(child);
+    return tell_session(take(), joined);
+}
+
+/* A process joins a session, and a child of it becomes another user. */
+static int become_other(void) {
+    begin();
+    long joined = join(NULL);
+    if (joined < 0) return 2;
+    if (fork() == 0) {
+        become_nobody();
+        give(ring_of(KEY_SPEC_SESSION_KEYRING, 0));
+        _exit(0);
+    }
+    return tell_session(take(), joined);
+}
+
+/* Takes the tag that another process has, of which everybody is told. */
+static void copy_tag(pid_t process) {
+    char path[64], line[256];
+    unsigned long long soft = 0;
+    snprintf(path, sizeof path, "/proc/%d/limits", (int)process);
+    FILE *limits = fopen(path, "r");
+    while (limits && fgets(line, sizeof line, limits) && sscanf(line, "Max file locks %llu", &soft) != 1) continue;
+    const struct rlimit copied = { soft, RLIM_INFINITY };
+    if (soft == 0 || setrlimit(RLIMIT_LOCKS, &copied) < 0) _exit(2);
+}
+
+/* Another user's process takes the tag of one that has joined a session of its own, for a child. */
+static int take_others_tag(void) {
+    pid_t other = getpid();
+    begin();
+    if (fork() == 0) {
+        become_nobody();
+        give(0);
+        wait_at_gate();
+        copy_tag(other);
+        if (fork() == 0) {
+            give(ring_of(KEY_SPEC_SESSION_KEYRING, 0));
+            _exit(0);
+        }
+        wait(NULL);
+        _exit(0);
+    }
+    take();
+    long joined = join(NULL);
+    if (joined < 0) return 2;
+    close(gates[1]);
+    return puts(take().value == joined ? "let in" : "kept out") < 0;
+}
+
+/* As a login does: root joins a session as the user, is root again, and starts the user's program. */
+static int log_in(void) {
+    begin();
+    if (fork() == 0) {
+        long joined = seteuid(NOBODY) == 0 ? join(NULL) : -1;
+        if (joined < 0 || seteuid(0) < 0 || ring_of(KEY_SPEC_SESSION_KEYRING, 0) != joined) _exit(2);
+        if (fork() == 0) {
+            become_nobody();
+            give(joined);
+            give(ring_of(KEY_SPEC_SESSION_KEYRING, 0));
+        }
+        wait(NULL);
+        _exit(0);
+    }
+    long joined = take().value;
+    return tell_session(take(), joined);
+}
+
 static int print_mask(void) {
     unsigned owner, mask;
     describe(KEY_SPEC_SESSION_KEYRING, &owner, &mask);
@@ -480,6 +598,11 @@ int main(int count, char **words) {
     if (strcmp(mode, "of-group") == 0 && count == 4 && many > 0) return read_by_group(many, atoi(words[3]));
     if (strcmp(mode, "to-parent") == 0 && count == 3) return give_to_parent(words[2]);
     if (strcmp(mode, "untagged") == 0) return take_tag_away();
+    if (strcmp(mode, "late") == 0) return join_late();
+    if (strcmp(mode, "left-to-other") == 0) return leave_to_other();
+    if (strcmp(mode, "login") == 0) return log_in();
+    if (strcmp(mode, "becomes-other") == 0) return become_other();
+    if (strcmp(mode, "copied") == 0) return take_others_tag();
     if (strcmp(mode, "mask") == 0) return print_mask();
     if (strcmp(mode, "closed") == 0) return close_all(ring_of(KEY_SPEC_SESSION_KEYRING, 0));
     return 2;
