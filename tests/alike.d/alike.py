@@ -1,0 +1,118 @@
+"""alike.py ASKS SEED FOLDER NAME=PROGRAM ..: the same lines by each way to ask, which must all print the same. ASKS is
+how many are made in all, by all ways. FOLDER is one of scripts NAME.in whose answers are in NAME.out, or `-`.
+
+Last it says how many plays were compared and how many were different. What differs is told with the seed and the
+episode, from which the same lines are drawn again."""
+import os
+import random
+import sys
+
+from compare import compare, conclude
+from draw import Lines
+from lines import ask_of
+import ways
+
+asks, seed, folder = int(sys.argv[1]), int(sys.argv[2]), sys.argv[3]
+for word in sys.argv[4:]:
+    setattr(ways.Programs, *word.split("=", 1))
+EPISODE = 400  # lines
+made = 0
+
+WHOLE = [ways.Script, ways.RemoteScript, ways.Frames1, ways.Frames2, ways.Python, ways.Library]
+OF_CALLS = [ways.Script, ways.SystemCalls]
+if ways.Programs.guard:
+    WHOLE.append(ways.FramesOfBoth)
+    OF_CALLS.append(ways.GuardedSystemCalls)
+OF_CALLS = OF_CALLS if ways.Programs.session else [ways.Script]
+
+
+def begin_as(user):
+    """What a session of system calls begins with, as sessions.c and tracees.c ask for it."""
+    groups = " ".join(map(str, sorted(os.getgroups())[:32]))
+    return [f"hello {user} {os.getegid()} {groups}".strip(), "fork", "context 2", "join work", "setperm @s 3f1b0000",
+            "link @u @s", "fork", "context 1", "fork", "context 3"]
+
+
+def draw_lines(way, lines, count, before):
+    """Draws lines one by one, each behind the answer to the one before."""
+    drawn, answers = [*before], way.play(before)
+    while len(drawn) < count + len(before):
+        line = lines.draw()
+        answer, = way.play([line])
+        lines.note(line, answer)
+        drawn.append(line)
+        answers.append(answer)
+    return drawn, answers
+
+
+def short(text):
+    return text if len(text) < 200 else f"{text[:100]} .. {len(text)} bytes"
+
+
+def compare_all(what, drawn, answers, kinds, skip=0):
+    """Each kind of way, on a store of its own."""
+    global made
+    made += len(drawn)
+    for kind in kinds:
+        way = kind()
+        try:
+            others = way.play(drawn[skip:])
+        finally:
+            way.end()
+        made += len(drawn) - skip
+        at = next((i for i, (one, other) in enumerate(zip(answers[skip:], others)) if one != other), None)
+        where = "" if at is None else f", line {at + skip + 1} of {len(drawn)}: {short(drawn[at + skip])}"
+        before = "" if at is None else " | ".join(map(short, drawn[max(0, at + skip - 6):at + skip]))
+        wanted, got = (None, None) if at is None else (short(answers[at + skip]), short(others[at]))
+        compare(f"{what}, {kind.name}{where} (before it: {before})", wanted, got)
+
+
+def try_whole(episode):
+    """All that a script can ask, by one client."""
+    way = ways.Frames2()
+    lines = Lines(random.Random(f"{seed} whole {episode}"))
+    drawn, answers = draw_lines(way, lines, EPISODE, ["moment 1000000000", "hello 1000 1000"])
+    way.end()
+    compare_all(f"seed {seed}, whole {episode}", drawn, answers, WHOLE)
+
+
+def try_calls(episode):
+    """What keyctl(2) and its kin can ask, in one context."""
+    for user, before, kinds in (
+            (os.geteuid(), begin_as(os.geteuid()), OF_CALLS),
+            (os.geteuid(), begin_as(os.geteuid())[:1], [ways.Script, ways.Keyutils])):
+        way = ways.Frames2()
+        lines = Lines(random.Random(f"{seed} calls {episode} {len(before)}"), of_calls=True)
+        drawn, answers = draw_lines(way, lines, EPISODE, ["moment 1000000000", *before])
+        way.end()
+        compare_all(f"seed {seed}, calls {episode}", drawn, answers, kinds[:1])
+        compare_all(f"seed {seed}, calls {episode}", drawn, answers, kinds[1:], skip=1 + len(before))
+
+
+def try_scripts():
+    """Scripts whose answers were worked out by hand."""
+    for name in sorted(it[:-3] for it in os.listdir(folder) if it.endswith(".in")):
+        with open(f"{folder}/{name}.in", encoding="utf-8") as given, open(f"{folder}/{name}.out", encoding="utf-8") as wanted:
+            lines = [it for it in given.read().splitlines() if it.strip() and not it.startswith("#")]
+            answers = wanted.read().splitlines()
+        try:
+            plain = [it for it in lines if it.split()[0] != "rlist" and ask_of(it)]
+        except (KeyError, ValueError, IndexError):
+            plain = []
+        if len(plain) == len(lines) == len(answers):
+            compare_all(f"script {name}", lines, answers, WHOLE)
+
+
+def main():
+    if folder != "-":
+        try_scripts()
+    episode = 0
+    while made < asks:
+        try_whole(episode)
+        try_calls(episode)
+        episode += 1
+    print(f"{made} asks in {episode} episodes")
+    conclude()
+
+
+main()

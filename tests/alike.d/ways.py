@@ -1,0 +1,360 @@
+"""The ways to ask: each plays lines on a store that nobody has used, and answers what is printed for each.
+
+A daemon under test has a clock of its own (moment.c), so that `moment` sets the time on each way."""
+import ctypes
+import errno
+import os
+import shutil
+import socket
+import struct
+import subprocess
+import tempfile
+
+import keyretain
+from lines import Player, ask_of, printed
+
+PATIENCE = 120
+AHEAD = 64
+
+
+class Programs:
+    """What is under test: set once, by alike.py."""
+
+    keyretain = keyretaind = moment = library = keyutils = session = guard = folder = None
+
+
+def environment(**more):
+    kept = {name: value for name, value in os.environ.items() if not name.startswith("KEYRETAIN_")}
+    return {**kept, **more}
+
+
+class Daemon:
+    """A daemon on a path of its own, and the file that has its moment."""
+
+    def __init__(self, guarded=False):
+        self.folder = tempfile.mkdtemp(dir=Programs.folder)
+        os.chmod(self.folder, 0o711)
+        self.moment = f"{self.folder}/moment"
+        self.set_moment(1_000_000_000)
+        self.path = f"{self.folder}/sock"
+        self.processes = []
+        with_clock = environment(KEYRETAIN_MOMENT=self.moment, LD_PRELOAD=Programs.moment)
+        self._start([Programs.keyretaind, "--socket", self.path, "--lanes", "32"], with_clock)
+        if guarded:
+            self.path = f"{self.folder}/public"
+            self._start([Programs.guard, "--listen", self.path, "--daemon", f"{self.folder}/sock", "--trust",
+                         str(os.geteuid()), "--connections", "32"], environment())
+
+    def _start(self, words, env):
+        process = subprocess.Popen(words, env=env, stdin=subprocess.DEVNULL, stdout=subprocess.PIPE)
+        self.processes.insert(0, process)
+        if not process.stdout.readline().startswith(b"listening"):
+            raise OSError(f"{words[0]} doesn't listen")
+
+    def set_moment(self, moment):
+        with open(self.moment, "r+b" if os.path.exists(self.moment) else "wb") as file:
+            file.write(struct.pack("<Q", moment))
+
+    def end(self):
+        for process in self.processes:
+            process.kill()
+            process.wait()
+            process.stdout.close()
+        shutil.rmtree(self.folder)
+
+
+class Process:
+    """A program that is given lines, and prints one for each."""
+
+    def __init__(self, words, env=None):
+        pipes = {"stdin": subprocess.PIPE, "stdout": subprocess.PIPE}
+        self.process = subprocess.Popen(words, env=env or environment(), text=True, **pipes)
+
+    def play(self, lines):
+        """Not so many at once that both could wait for each other."""
+        answers, at = [], 0
+        while at < len(lines):
+            piece = [lines[at]]
+            while len(piece) < AHEAD and at + len(piece) < len(lines) and sum(map(len, piece)) < 16384:
+                piece.append(lines[at + len(piece)])
+            self.process.stdin.write("".join(f"{line}\n" for line in piece))
+            self.process.stdin.flush()
+            answers += [self.process.stdout.readline().rstrip("\n") for _ in piece]
+            at += len(piece)
+        return answers
+
+    def end(self):
+        self.process.stdin.close()
+        self.process.wait(PATIENCE)
+        self.process.stdout.close()
+
+
+class Script:
+    """`keyretain script`, on a store of its own."""
+
+    name = "a script"
+
+    def __init__(self):
+        self.program = Process([Programs.keyretain, "script"])
+
+    def play(self, lines):
+        return self.program.play(lines)
+
+    def end(self):
+        self.program.end()
+
+
+class OfDaemon:
+    """A way with a daemon of its own. Moments are set between lines."""
+
+    guarded = False
+
+    def __init__(self):
+        self.daemon = Daemon(self.guarded)
+        self.begin()
+
+    def play(self, lines):
+        answers, piece = [], []
+        for line in [*lines, None]:
+            if line is not None and not line.startswith("moment "):
+                piece.append(line)
+                continue
+            answers += self.play_piece(piece)
+            piece = []
+            if line:
+                self.daemon.set_moment(int(line.split()[1]))
+                answers.append("ok")
+        return answers
+
+    def end(self):
+        self.close()
+        self.daemon.end()
+
+
+class RemoteScript(OfDaemon):
+    """`keyretain --socket PATH script`."""
+
+    name = "a script over a socket"
+
+    def begin(self):
+        self.program = Process([Programs.keyretain, "--socket", self.daemon.path, "script"])
+
+    def play_piece(self, lines):
+        return self.program.play(lines)
+
+    def close(self):
+        self.program.end()
+
+
+class OneByOne(OfDaemon):
+    """By a function that carries out one ask."""
+
+    def begin(self):
+        self.player = Player(self.ask, None)
+        self.connect()
+
+    def play_piece(self, lines):
+        return [self.player.play(line) for line in lines]
+
+
+class Frames(OfDaemon):
+    """Frames, many in one write. Their versions are drawn from `versions` in turn."""
+
+    versions = (1,)
+
+    def begin(self):
+        self.end_of_it = socket.socket(socket.AF_UNIX)
+        self.end_of_it.settimeout(PATIENCE)
+        self.end_of_it.connect(self.daemon.path)
+        self.received, self.context, self.asked = b"", 0, 0
+
+    def play_piece(self, lines):
+        """A HELLO says in which context the asks behind it are, so its reply is awaited."""
+        answers, waiting = [], []
+        for line in lines:
+            name, values = ask_of(line)
+            if name == "context":
+                answers += self._exchange(waiting)
+                answers.append("ok")
+                self.context, waiting = values, []
+                continue
+            waiting.append((name, self.context, values))
+            if name == "HELLO" or len(waiting) == AHEAD:
+                answers += self._exchange(waiting)
+                waiting = []
+                if name == "HELLO" and answers[-1].isdigit():
+                    self.context = int(answers[-1])
+        return answers + self._exchange(waiting)
+
+    def _exchange(self, asks):
+        sent, answers = b"", []
+        for at, (name, context, values) in enumerate(asks):
+            sent += keyretain.encode_ask(name, context, values, self._version(at), self.asked + at)
+        self._send(sent)
+        for at, (name, _, _) in enumerate(asks):
+            answers.append(self._receive(name, self._version(at), self.asked + at))
+        self.asked += len(asks)
+        return answers
+
+    def _version(self, at):
+        return self.versions[(self.asked + at) % len(self.versions)]
+
+    def _send(self, sent):
+        """Replies are taken meanwhile, as a daemon whose replies aren't taken reads no more."""
+        at = 0
+        while at < len(sent):
+            try:
+                at += self.end_of_it.send(sent[at:at + 65536], socket.MSG_DONTWAIT)
+            except BlockingIOError:
+                self.received += self.end_of_it.recv(65536)
+
+    def _receive(self, name, version, tag):
+        while (reply := keyretain.decode_reply(self.received, version)) is None:
+            piece = self.end_of_it.recv(65536)
+            if not piece:
+                return "the end"
+            self.received += piece
+        self.received = self.received[reply.length:]
+        if reply.tag not in (None, tag):
+            return f"the tag {reply.tag}"
+        try:
+            return printed(name, keyretain.answer_of(name, reply))
+        except keyretain.Refused as refused:
+            return printed(name, refused.name)
+
+    def close(self):
+        self.end_of_it.close()
+
+
+class Frames1(Frames):
+    name = "frames of version 1"
+
+
+class Frames2(Frames):
+    name, versions = "frames of version 2", (2,)
+
+
+class FramesOfBoth(Frames):
+    name, versions = "frames of both versions behind the guard", (2, 1, 1)
+    guarded = True
+
+
+class Python(OneByOne):
+    """The Python client's methods."""
+
+    name = "the Python client"
+    METHODS = {"GET_ID": lambda it, key, create: it(key, bool(create)), "MOVE": lambda it, key, source, to, flags: it(key, source, to, bool(flags))}
+
+    def connect(self):
+        self.client = keyretain.Client(self.daemon.path, timeout=PATIENCE)
+
+    def ask(self, name, context, values):
+        takes_context = name not in ("HELLO", "LEAVE", "OPEN_QUEUE", "SET_FILTER", "READ_QUEUE", "CLOSE_QUEUE")
+        try:
+            if name == "READ_QUEUE":  # its method gives records
+                return self.client.ask(name, 0, *values)
+            method = getattr(self.client, name.lower())
+            bound = (lambda *words: method(context, *words)) if takes_context else method
+            if name == "RESTRICT_KEYRING":
+                return bound(values[0])
+            answer = self.METHODS[name](bound, *values) if name in self.METHODS else bound(*values)
+            return answer.encode() if name == "DESCRIBE" and isinstance(answer, str) else answer
+        except keyretain.Refused as refused:
+            return refused.name
+
+    def close(self):
+        self.client.close()
+
+
+def name_of_error():
+    number = ctypes.get_errno()
+    return next((name for status, name in keyretain.STATUSES.items() if status == number), errno.errorcode.get(number, str(number)))
+
+
+class Library(OneByOne):
+    """The functions of libkeyretain."""
+
+    name = "the C library"
+    LONG = ("HELLO", "THREAD", "FORK", "READ", "DESCRIBE", "OPEN_QUEUE", "READ_QUEUE")
+    ROOM = 1 << 18
+
+    def connect(self):
+        self.library = ctypes.CDLL(Programs.library, use_errno=True)
+        self.library.kr_open.restype = ctypes.c_void_p
+        for name in self.LONG:
+            getattr(self.library, f"kr_{name.lower()}").restype = ctypes.c_int64
+        self.connection = ctypes.c_void_p(self.library.kr_open(self.daemon.path.encode()))
+        self.room = ctypes.create_string_buffer(self.ROOM)
+
+    def ask(self, name, context, values):
+        takes_context = name not in ("HELLO", "LEAVE", "OPEN_QUEUE", "SET_FILTER", "READ_QUEUE", "CLOSE_QUEUE")
+        words = [ctypes.c_uint32(context)] if takes_context else []
+        for value in values:
+            words += self._words(name, value)
+        if name == "ADD":  # the payload's length comes behind it
+            words.insert(4, ctypes.c_size_t(len(values[2])))
+        if name == "UPDATE":
+            words.append(ctypes.c_size_t(len(values[1])))
+        if name in ("READ", "DESCRIBE", "READ_QUEUE"):
+            room = values[1] if name == "READ_QUEUE" else self.ROOM
+            words = words[:1 if name == "READ_QUEUE" else None] + [self.room, ctypes.c_size_t(room)]
+        answer = getattr(self.library, f"kr_{name.lower()}")(self.connection, *words)
+        if answer == -1:
+            return name_of_error()
+        form = keyretain.ASKS[name].answer
+        return self.room.raw[:answer] if form == "bytes" else None if form == "nothing" else answer
+
+    @staticmethod
+    def _words(name, value):
+        if isinstance(value, int):
+            return [ctypes.c_uint32(value & 0xFFFFFFFF)]
+        if isinstance(value, bytes):
+            return [value]
+        if name == "HELLO":
+            return [ctypes.c_uint32(len(value)), (ctypes.c_uint32 * len(value))(*value)]
+        return [ctypes.c_uint32(len(value)), b"".join(keyretain.ENTRY.pack(*it) for it in value)]
+
+    def close(self):
+        self.library.kr_close(self.connection)
+
+
+# ---- What programs ask that know nothing of keyretain: calls.py carries the lines out
+
+
+class Calls(OfDaemon):
+    """A program that makes the calls, in the one context that it has."""
+
+    def begin(self):
+        env = environment(KEYRETAIN_SOCKET=self.daemon.path, KEYRETAIN_LIBRARY_FOLDER=os.path.dirname(Programs.keyutils),
+                          PYTHONPATH=os.environ.get("PYTHONPATH", ""))
+        self.program = Process([*self.words(), "python3", "-B", f"{os.path.dirname(__file__)}/calls.py", self.by()], env)
+
+    def play_piece(self, lines):
+        return self.program.play(lines)
+
+    def close(self):
+        self.program.end()
+
+
+class Keyutils(Calls):
+    name = "libkeyutils"
+
+    def words(self):
+        return []
+
+    def by(self):
+        return Programs.keyutils
+
+
+class SystemCalls(Calls):
+    name = "system calls"
+
+    def words(self):
+        return [Programs.session, "--syscalls", "work", "--"]
+
+    def by(self):
+        return "-"
+
+
+class GuardedSystemCalls(SystemCalls):
+    name, guarded = "system calls behind the guard", True
