@@ -12,6 +12,7 @@ import socket
 import struct
 import sys
 import time
+import traceback
 from collections import defaultdict
 from typing import NamedTuple
 
@@ -148,6 +149,8 @@ def run_clients():
                 os.read(begin[0], 1)
                 with os.fdopen(write, "wb") as out:
                     pickle.dump(client.run(asks // CLIENTS), out)
+            except Exception:
+                traceback.print_exc()
             finally:
                 os._exit(0)
         os.close(write)
