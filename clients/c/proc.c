@@ -59,9 +59,9 @@ static bool read_number(const char *text, const char *name, int *number) {
 }
 
 /* Real, effective, saved, and that of the file system. */
-static bool read_ids(const char *text, const char *name, uint32_t ids[PROC_UIDS]) {
+static bool read_ids(const char *text, const char *name, uint32_t ids[PROC_IDS]) {
     const char *at = find_field(text, name);
-    return at && sscanf(at, "%u %u %u %u", &ids[0], &ids[1], &ids[2], &ids[3]) == PROC_UIDS;
+    return at && sscanf(at, "%u %u %u %u", &ids[0], &ids[1], &ids[2], &ids[3]) == PROC_IDS;
 }
 
 static bool read_groups(const char *text, struct kr_identity *identity) {
@@ -80,15 +80,14 @@ static bool read_groups(const char *text, struct kr_identity *identity) {
 /* The last two stand behind the groups, of which there may be more than there is room for. */
 bool proc_read_status(pid_t thread, struct proc_status *status) {
     char text[4096];
-    uint32_t gids[PROC_UIDS];
     int mode = 0;
     memset(status, 0, sizeof *status);
     if (!read_of(thread, "status", text, sizeof text) || !read_number(text, "\nTgid:", &status->process) ||
         !read_number(text, "\nPPid:", &status->parent) || !read_ids(text, "\nUid:", status->uids) ||
-        !read_ids(text, "\nGid:", gids) || !read_groups(text, &status->identity))
+        !read_ids(text, "\nGid:", status->gids) || !read_groups(text, &status->identity))
         return false;
-    status->identity.uid = status->uids[PROC_UIDS - 1];
-    status->identity.gid = gids[PROC_UIDS - 1];
+    status->identity.uid = status->uids[PROC_IDS - 1];
+    status->identity.gid = status->gids[PROC_IDS - 1];
     status->is_filtered = read_number(text, "\nThreads:", &status->threads) &&
                           read_number(text, "\nSeccomp:", &mode) && mode == SECCOMP_MODE_FILTER;
     return true;

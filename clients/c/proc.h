@@ -14,12 +14,12 @@
 
 /* Ids are those by which the kernel judges access to keys: those of the file system, which follow the effective
  * ones. */
-enum { PROC_UIDS = 4 };
+enum { PROC_IDS = 4 };
 struct proc_status {
     pid_t process, parent;
     int threads;
     bool is_filtered; /* by a seccomp filter */
-    uint32_t uids[PROC_UIDS]; /* real, effective, saved, and that of the file system */
+    uint32_t uids[PROC_IDS], gids[PROC_IDS]; /* real, effective, saved, and that of the file system */
     struct kr_identity identity;
 };
 

@@ -95,7 +95,7 @@ static int make_tag(uint64_t *tag) {
 }
 
 /* What this context has joined, with a holder of its own. */
-static struct session *add_session(const struct context *context, struct user *user, const uint32_t uids[PROC_UIDS],
+static struct session *add_session(const struct context *context, struct user *user, const uint32_t uids[PROC_IDS],
                                    int32_t serial, const char *name) {
     struct session *session = calloc(1, sizeof *session);
     if (!session) return NULL;
@@ -115,7 +115,7 @@ static struct session *add_session(const struct context *context, struct user *u
 }
 
 /* One without a name gets one that nobody can guess, as others may find it for a moment: session_enter_by_name. */
-struct session *session_join(const struct context *context, struct user *user, const uint32_t uids[PROC_UIDS],
+struct session *session_join(const struct context *context, struct user *user, const uint32_t uids[PROC_IDS],
                              const char *name) {
     struct kr_session named;
     struct kr *connection = context_connection(context);
@@ -127,7 +127,7 @@ struct session *session_join(const struct context *context, struct user *user, c
 }
 
 bool session_is_of(const struct session *session, uint32_t uid) {
-    for (int i = 0; i < PROC_UIDS; i++)
+    for (int i = 0; i < PROC_IDS; i++)
         if (session->uids[i] == uid) return true;
     return all.is_container && session == all.first;
 }
@@ -322,7 +322,7 @@ int sessions_begin(const struct kr_identity *identity, const char *name, bool is
     int32_t serial = kr_begin_session_as(connection, context.number, named.name, identity->uid);
     bool is_linked = is_container || (serial > 0 && kr_link(connection, context.number, KEY_SPEC_USER_KEYRING,
                                                             KEY_SPEC_SESSION_KEYRING) == 0);
-    const uint32_t uid = identity->uid, uids[PROC_UIDS] = { uid, uid, uid, uid };
+    const uint32_t uid = identity->uid, uids[PROC_IDS] = { uid, uid, uid, uid };
     if (serial > 0 && is_linked) all.first = session_use(add_session(&context, user, uids, serial, named.name));
     context_end(&context);
     return all.first ? 0 : -1;

@@ -28,7 +28,7 @@ struct session {
     struct context holder;
     int32_t serial;
     uint64_t tag;
-    uint32_t uids[PROC_UIDS]; /* of the process that began it, as this one sees them */
+    uint32_t uids[PROC_IDS]; /* of the process that began it, as this one sees them */
     unsigned uses;   /* how many entries of threads have it */
     unsigned absent; /* how many sweeps have found no process with its tag, since none uses it */
     struct session *next;
@@ -53,7 +53,7 @@ struct session *session_use(struct session *session);
 void session_let_go(struct session *session);
 
 /* Joins the session of this name in the context of this identity, or one of its own for NULL: NULL with errno. */
-struct session *session_join(const struct context *context, struct user *user, const uint32_t uids[PROC_UIDS],
+struct session *session_join(const struct context *context, struct user *user, const uint32_t uids[PROC_IDS],
                              const char *name);
 
 /* Whether a session was begun for this uid: by it, or by a process that can be it, as a login does; or it is the first

@@ -83,7 +83,7 @@ static struct {
     /* of the call that is served */
     struct task *task;
     struct kr_identity identity;
-    uint32_t own_uids[PROC_UIDS];
+    uint32_t own_uids[PROC_IDS], own_gids[PROC_IDS];
     struct memory memory;
 } all;
 
@@ -307,10 +307,14 @@ static bool are_descriptors_short(void) {
 
 /* ---- Which session ---- */
 
+static bool are_all(const uint32_t ids[PROC_IDS], uint32_t id) {
+    for (int i = 0; i < PROC_IDS; i++)
+        if (ids[i] != id) return false;
+    return true;
+}
+
 static uid_t only_uid(const struct proc_status *status) {
-    for (int i = 0; i < PROC_UIDS; i++)
-        if (status->uids[i] != status->identity.uid) return NO_UID;
-    return status->identity.uid;
+    return are_all(status->uids, status->identity.uid) ? status->identity.uid : NO_UID;
 }
 
 /* The nearest one that is known, or NULL. It may not be by its fork that a process is there: what ends leaves its
@@ -448,6 +452,7 @@ static struct task *admit(pid_t thread, bool (*is_valid)(void)) {
     close_one(&arrival.thread_descriptor);
     all.identity = arrival.status.identity;
     memcpy(all.own_uids, arrival.status.uids, sizeof all.own_uids);
+    memcpy(all.own_gids, arrival.status.gids, sizeof all.own_gids);
     return task;
 }
 
@@ -643,13 +648,12 @@ long tracees_set_reqkey_keyring(int choice) {
     return before;
 }
 
-/* The kernel's conditions: the parent is no init, has one thread, and the same ids; here it is supervised too. */
+/* The kernel's conditions: the parent is no init, has one thread, and is who the caller is, nor could it be another;
+ * here it is supervised too. */
 static bool may_be_given(pid_t parent, struct proc_status *status) {
     if (parent <= 1 || parent == getpid() || !proc_read_status(parent, status)) return false;
-    struct kr_identity identity = status->identity;
-    to_inside(&identity);
-    return status->threads == 1 && status->is_filtered && identity.uid == all.identity.uid &&
-           identity.gid == all.identity.gid;
+    return status->threads == 1 && status->is_filtered && are_all(status->uids, all.own_uids[PROC_IDS - 1]) &&
+           are_all(status->gids, all.own_gids[PROC_IDS - 1]);
 }
 
 static struct process *have_parent(const struct proc_status *status, pid_t parent) {

@@ -379,18 +379,30 @@ static void *wait_for_ever(void *unused) {
     return unused;
 }
 
+/* Before it has a child: one that is to differ by an id that the parent alone can have again. */
+static bool prepare_parent(const char *how) {
+    pthread_t thread;
+    if (strcmp(how, "thread") == 0) return pthread_create(&thread, NULL, wait_for_ever, NULL) == 0;
+    if (strcmp(how, "saved-uid") == 0) return setresuid(NOBODY, NOBODY, 0) == 0;
+    if (strcmp(how, "real-uid") == 0) return setresuid(0, NOBODY, NOBODY) == 0;
+    if (strcmp(how, "saved-gid") == 0) return setresgid(NOBODY, NOBODY, 0) == 0;
+    return true;
+}
+
+static bool prepare_child(const char *how) {
+    if (strstr(how, "uid")) return setresuid(NOBODY, NOBODY, NOBODY) == 0;
+    return !strstr(how, "gid") || setresgid(NOBODY, NOBODY, NOBODY) == 0;
+}
+
 /* A child joins a session and gives it to its parent, which has another thread, or from which it differs, or whose name
  * looks like what stands behind a name in stat of proc(5). Says what the parent was given. */
 static int give_to_parent(const char *how) {
-    pthread_t thread;
     long before = ring_of(KEY_SPEC_SESSION_KEYRING, 0);
     begin();
-    if (strcmp(how, "thread") == 0 && pthread_create(&thread, NULL, wait_for_ever, NULL) != 0) return 2;
+    if (!prepare_parent(how)) return 2;
     pid_t child = fork();
     if (child == 0) {
-        bool is_ready = strcmp(how, "uid") == 0   ? setresuid(NOBODY, NOBODY, NOBODY) == 0
-                        : strcmp(how, "gid") == 0 ? setresgid(NOBODY, NOBODY, NOBODY) == 0
-                                                  : true;
+        bool is_ready = prepare_child(how);
         if (strcmp(how, "name") == 0) prctl(PR_SET_NAME, ") S 1 1 1 1 0 0", 0, 0, 0);
         long joined = is_ready ? join(NULL) : -1;
         errno = 0;
@@ -463,9 +475,10 @@ static int leave_to_other(void) {
     pid_t child = fork();
     if (child == 0) {
         long joined = join(NULL);
+        pid_t parent = getpid();
         if (fork() == 0) {
             become_nobody();
-            while (getppid() == child) usleep(LOOK_MICROSECONDS);
+            while (getppid() == parent) usleep(LOOK_MICROSECONDS);
             give(ring_of(KEY_SPEC_SESSION_KEYRING, 0));
         } else {
             give(joined);
