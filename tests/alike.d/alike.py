@@ -15,7 +15,7 @@ import ways
 asks, seed, folder = int(sys.argv[1]), int(sys.argv[2]), sys.argv[3]
 for word in sys.argv[4:]:
     setattr(ways.Programs, *word.split("=", 1))
-EPISODE = 400  # lines
+EPISODE, CLIENTS = 400, 3  # lines, and clients that take turns
 made = 0
 
 WHOLE = [ways.Script, ways.RemoteScript, ways.Frames1, ways.Frames2, ways.Python, ways.Library]
@@ -89,6 +89,60 @@ def try_calls(episode):
         compare_all(f"seed {seed}, calls {episode}", drawn, answers, kinds[1:], skip=1 + len(before))
 
 
+def play_clients(kinds, guarded, choose):
+    """Clients of one daemon, each by its kind of way, that take turns: what `choose` says of a client and a line, until
+    that is None, is played and told to it."""
+    daemon = ways.Daemon(guarded)
+    clients = [kind(daemon) for kind in kinds]
+    try:
+        while (chosen := choose()) is not None:
+            client, line, told = chosen
+            told(*clients[client].play([line]))
+    finally:
+        for client in clients:
+            client.end()
+        daemon.end()
+
+
+def draw_for_clients(name):
+    """Lines of several clients, which name each other's keys, with their answers."""
+    chance, drawn, answers = random.Random(f"{seed} {name}"), [], []
+    sources = [Lines(chance) for _ in range(CLIENTS)]
+    for source in sources:
+        source.others, source.has_no_context = sources, True
+
+    def choose():
+        if len(drawn) == EPISODE:
+            return None
+        client = chance.randrange(CLIENTS)
+        line = sources[client].draw()
+
+        def told(answer):
+            sources[client].note(line, answer)
+            drawn.append((client, line))
+            answers.append(answer)
+        return client, line, told
+
+    play_clients([ways.Frames2] * CLIENTS, False, choose)
+    return drawn, answers
+
+
+def try_clients(episode):
+    """Several clients of one daemon that take turns, each by the same way, and each by another."""
+    global made
+    name = f"clients {episode}"
+    drawn, answers = draw_for_clients(name)
+    made += len(drawn)
+    for kinds in ([ways.Frames1] * CLIENTS, [ways.Python, ways.Library, ways.Frames1]):
+        others, rest = [], iter(drawn)
+        play_clients(kinds, bool(ways.Programs.guard), lambda: next(((*it, others.append) for it in rest), None))
+        made += len(drawn)
+        at = next((i for i, (one, other) in enumerate(zip(answers, others)) if one != other), None)
+        where = "" if at is None else f", line {at + 1}: client {drawn[at][0]}, {short(drawn[at][1])}"
+        wanted, got = (None, None) if at is None else (short(answers[at]), short(others[at]))
+        compare(f"seed {seed}, {name}, {', '.join(it.name for it in kinds)}{where}", wanted, got)
+
+
 def try_scripts():
     """Scripts whose answers were worked out by hand."""
     for name in sorted(it[:-3] for it in os.listdir(folder) if it.endswith(".in")):
@@ -110,6 +164,7 @@ def main():
     while made < asks:
         try_whole(episode)
         try_calls(episode)
+        try_clients(episode)
         episode += 1
     print(f"{made} asks in {episode} episodes")
     conclude()

@@ -105,12 +105,12 @@ class Script:
 
 
 class OfDaemon:
-    """A way with a daemon of its own. Moments are set between lines."""
+    """A way with a daemon of its own, or as one client of that which is given. Moments are set between lines."""
 
     guarded = False
 
-    def __init__(self):
-        self.daemon = Daemon(self.guarded)
+    def __init__(self, daemon=None):
+        self.daemon, self.is_own = daemon or Daemon(self.guarded), daemon is None
         self.begin()
 
     def play(self, lines):
@@ -128,7 +128,8 @@ class OfDaemon:
 
     def end(self):
         self.close()
-        self.daemon.end()
+        if self.is_own:
+            self.daemon.end()
 
 
 class RemoteScript(OfDaemon):
