@@ -15,6 +15,7 @@ from lines import Player, ask_of, printed
 
 PATIENCE = 120
 AHEAD = 64
+FIRST_MOMENT = 1_000_000_000
 
 
 class Programs:
@@ -29,13 +30,16 @@ def environment(**more):
 
 
 class Daemon:
-    """A daemon on a path of its own, and the file that has its moment."""
+    """A daemon on a path of its own, and the file that has its moment. A clock that is set back counts as it was, so the
+    first moment is that with which lines begin."""
+
+    first_moment = FIRST_MOMENT
 
     def __init__(self, guarded=False):
         self.folder = tempfile.mkdtemp(dir=Programs.folder)
         os.chmod(self.folder, 0o711)
         self.moment = f"{self.folder}/moment"
-        self.set_moment(1_000_000_000)
+        self.set_moment(self.first_moment)
         self.path = f"{self.folder}/sock"
         self.processes = []
         with_clock = environment(KEYRETAIN_MOMENT=self.moment, LD_PRELOAD=Programs.moment)
