@@ -325,15 +325,16 @@ static struct process *find_ancestor(pid_t parent) {
     return ancestor;
 }
 
-/* The session of the tag, or without one of the nearest ancestor that is known. It must not be another user's, whose tag
- * anybody could copy: unless there was never another session, it was begun for the process's uid, or an ancestor of that
- * uid has it. Also where an ancestor of another uid has it and the tag says the same, as when a program becomes another
- * user. Else it is lost. */
+/* The session of the tag, or without one of the nearest ancestor that is known; of what has neither the first, as long as
+ * there was no other. It must not be another user's, whose tag anybody could copy: unless there was never another
+ * session, it was begun for the process's uid, or an ancestor of that uid has it. Also where an ancestor of another uid
+ * has it and the tag says the same, as when a program becomes another user. Else it is lost. */
 static struct session *inherited(pid_t id, pid_t parent, uid_t uid) {
     struct session *session;
     bool is_tagged = session_of_tag(id, &session) == TAG_READ;
     struct process *ancestor = find_ancestor(parent);
-    if (!is_tagged) session = ancestor ? ancestor->first->session : sessions_first();
+    if (!is_tagged && !ancestor) return all.has_had_others ? NULL : sessions_first();
+    if (!is_tagged) session = ancestor->first->session;
     if (!session || !all.has_had_others || session_is_of(session, uid)) return session;
     bool is_confirmed = ancestor && ancestor->first->session == session && (is_tagged || ancestor->uid == uid);
     return is_confirmed ? session : NULL;
