@@ -1,4 +1,4 @@
--- The commands of a client, a row each: docs/FORMAT.md, "Commands".
+-- The commands of a client, a row each: keyretain(1), "Commands".
 use Rattle.std.specs.Prelude.{◌≡◌, ℕ, ℤ, pos, Bool, true, false, if◌then◌else◌, List, [], ◌∷◌, ◌++◌, find, map}
 use Rattle.std.specs.Prelude.{Option, None, Some, bytes_eq, codes}
 use Rattle.krs_types.specs.Caller.{unchanged}

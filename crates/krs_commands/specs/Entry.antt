@@ -1,4 +1,4 @@
--- The entries of a filter as words spell them: docs/FORMAT.md, "Commands".
+-- The entries of a filter as words spell them: keyretain(1), "Commands".
 use Rattle.std.specs.Prelude.{ℕ, ◌==◌, List, [], ◌∷◌, Option, None, Some}
 use Rattle.std.specs.List.{slice_split}
 use Rattle.krs_types.specs.declared.note.FilterEntry.{FilterEntry}

@@ -1,4 +1,4 @@
--- What the program does, by its words: docs/FORMAT.md, "The client, keyretain".
+-- What the program does, by its words: keyretain(1), "DESCRIPTION".
 use Rattle.std.specs.Prelude.{◌≡◌, ◌≢◌, ◌⊎◌, ⊤}
 use Rattle.std.specs.declared.io.ErrorKind as io
 use Rattle.std.specs.declared.io.ErrorKind.TheVariants as io_kind

@@ -1,5 +1,5 @@
--- Which choice the words of the client make: docs/FORMAT.md, "The client, keyretain". `matches_of` says what `clap` finds
--- in words for a command line.
+-- Which choice the words of the client make: keyretain(1), "SYNOPSIS" and "DESCRIPTION". `matches_of` says what `clap`
+-- finds in words for a command line.
 use Rattle.std.specs.Prelude.{◌≡◌, ◌≢◌, ◌⊎◌, ◌<◌, ◌^◌, ⊤, ℕ, List, [], ◌∷◌, Option, Some, None, unwrap_or}
 use Rattle.std.specs.Prelude.{codes, string_bytes, pos, true, option_map}
 use Rattle.std.specs.Str.Parse.{IsNumeral, digits_value, without_leading_plus}

@@ -1,4 +1,4 @@
--- What `rlist` shows of the keys of a store: docs/FORMAT.md, "What is printed", "Commands"; profile, hidden describe.
+-- What `rlist` shows of the keys of a store: keyretain(1), "Commands"; profile, hidden describe.
 use Rattle.std.specs.Prelude.{ℕ, ◌≡◌, ◌≢◌, ◌<◌, ◌^◌, List, Ok}
 use Rattle.std.specs.List.{AllByRecursion}
 use Rattle.krs_types.specs.declared.ask.Answer.TheVariants.{Bytes}

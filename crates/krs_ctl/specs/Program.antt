@@ -1,4 +1,4 @@
--- What the program does: docs/FORMAT.md, "The client, keyretain".
+-- What the program does: keyretain(1), "DESCRIPTION" and "EXIT STATUS".
 use Rattle.std.specs.Prelude.{ℕ, ◌≡◌, ◌≢◌, ◌⊎◌, List, Option, codes, string_bytes}
 use Rattle.krs_model.specs.State.{starting_at}
 use Rattle.krs_words.specs.Saying.{Heard, Says as Tells}

@@ -1,4 +1,4 @@
--- What a script does to its store and what it prints: docs/FORMAT.md, "Lines and words", "Commands" and "Statuses".
+-- What a script does to its store and what it prints: keyretain(1), "Lines", "Commands" and "EXIT STATUS".
 use Rattle.std.specs.Prelude.{ℕ, ℤ, ◌≡◌, ◌||◌, List, false, Option, Result, Ok, Err}
 use Rattle.std.specs.Result.{is_err}
 use Rattle.krs_types.specs.declared.errno.Errno.{Errno}

@@ -1,4 +1,4 @@
--- Which asks make a context for a caller: docs/FORMAT.md, "Commands".
+-- Which asks make a context for a caller: keyretain(1), "Commands".
 use Rattle.std.specs.Prelude.{Bool, true, false}
 use Rattle.krs_types.specs.declared.ask.Op.{Op}
 use Rattle.krs_types.specs.declared.ask.Op.TheVariants.{Hello}

@@ -1,4 +1,4 @@
--- A single call over a connection: docs/FORMAT.md, "Single calls".
+-- A single call over a connection: keyretain(1), "Single calls".
 use Rattle.std.specs.Prelude.{ℕ, ◌≡◌, ◌⊎◌, Bool, true, false, if◌then◌else◌, List, [], ◌∷◌, ◌++◌, Option, None, Some}
 use Rattle.std.specs.Prelude.{Result, Ok, Err}
 use Rattle.krs_types.specs.declared.caller.Caller.{Caller}

@@ -1,4 +1,4 @@
--- What commands do over a connection: docs/FORMAT.md, "Commands", "Scripts over a socket" and "Single calls".
+-- What commands do over a connection: keyretain(1), "DESCRIPTION", "Commands" and "Single calls".
 use Rattle.std.specs.Prelude.{ℕ, ℤ, ◌≡◌, ◌+◌, ◌⊎◌, ◌||◌, Bool, false, List, Option, Result, Ok, Err}
 use Rattle.std.specs.Result.{is_err}
 use Rattle.std.specs.Io.Buffered.{reader_remaining}

@@ -1,5 +1,5 @@
--- What goes over a connection: docs/FORMAT.md, "Frames" and "Scripts over a socket". Frames are of version 2: each ask
--- has a tag, and only a reply with that tag is one to it.
+-- What goes over a connection: docs/FORMAT.md, "Frames"; keyretain(1), "DESCRIPTION". Frames are of version 2: each
+-- ask has a tag, and only a reply with that tag is one to it.
 use Rattle.std.specs.Prelude.{ℕ, ◌≡◌, ◌<◌, List, length, Option, Some, Result}
 use Rattle.std.specs.Io.KnownBytes.{Appends, Consumes}
 use Rattle.krs_types.specs.declared.errno.Errno.{Errno}

@@ -1,4 +1,4 @@
--- How a script goes on and ends: docs/FORMAT.md, "Lines and words" and "Statuses".
+-- How a script goes on and ends: keyretain(1), "Lines" and "EXIT STATUS".
 use Rattle.std.specs.Prelude.{ℕ, ◌≡◌, ◌⊎◌, ◌++◌, Bool, if◌then◌else◌, List, [], codes, Option, Result, Ok, Err}
 use Rattle.std.specs.Io.KnownBytes.{Appends}
 use Rattle.krs_types.specs.declared.errno.Errno.{Errno}

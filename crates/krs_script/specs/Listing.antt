@@ -1,5 +1,4 @@
--- How the bytes of a key or a queue are listed: docs/FORMAT.md, "What is printed", "Commands"; profile, hidden
--- describe.
+-- How the bytes of a key or a queue are listed: keyretain(1), "Commands"; profile, hidden describe.
 use Rattle.std.specs.Prelude.{ℕ, ◌==◌, ◌%◌, ◌&&◌, List, Bool, false, length, nat_eq, if◌then◌else◌, codes}
 use Rattle.std.specs.Prelude.{Result, Ok, Err}
 use Rattle.std.specs.List.{starts_with}

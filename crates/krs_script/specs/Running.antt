@@ -1,6 +1,6 @@
--- What a script does and prints, whatever carries its commands out: docs/FORMAT.md, "Lines and words", "Commands" and
--- "Statuses". `acts` says what a command does, from one state to another, and what it comes to; `breaks` says what one
--- did that broke off, and for which cause.
+-- What a script does and prints, whatever carries its commands out: keyretain(1), "Lines", "Commands" and "EXIT
+-- STATUS". `acts` says what a command does, from one state to another, and what it comes to; `breaks` says what one did
+-- that broke off, and for which cause.
 use Rattle.std.specs.Prelude.{ℕ, ◌≡◌, ◌≤◌, ◌⊎◌, ◌==◌, ◌||◌, List, [], ◌∷◌, ◌++◌, Bool, false, length, MatchBool}
 use Rattle.std.specs.Prelude.{IfSome, Option, Some, None, Result, Ok, Err}
 use Rattle.krs_commands.specs.declared.command.Command.{Command}

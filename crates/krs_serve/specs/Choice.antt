@@ -1,4 +1,4 @@
--- What the daemon does, by its words: docs/FORMAT.md, "The daemon, keyretaind".
+-- What the daemon does, by its words: keyretaind(8), "DESCRIPTION".
 use Rattle.std.specs.Prelude.{◌≡◌, ◌≢◌, ◌⊎◌, ⊤, ℕ, List, [], Option, Some, None, string_bytes}
 use Rattle.std.specs.declared.io.ErrorKind as io
 use Rattle.std.specs.declared.io.ErrorKind.TheVariants as io_kind

@@ -1,5 +1,5 @@
--- Which options the words of the daemon spell: docs/FORMAT.md, "The daemon, keyretaind". `matches_of` says what `clap`
--- finds in words for a command line.
+-- Which options the words of the daemon spell: keyretaind(8), "SYNOPSIS" and "DESCRIPTION". `matches_of` says what
+-- `clap` finds in words for a command line.
 use Rattle.std.specs.Prelude.{◌≡◌, ◌⊎◌, ◌<◌, ◌≤◌, ◌^◌, ℕ, List, [], ◌∷◌, Option, Some, None, IfSome}
 use Rattle.std.specs.Prelude.{codes, string_bytes, pos, true}
 use Rattle.std.specs.Str.Parse.{IsNumeral, digits_value, without_leading_plus}

@@ -1,4 +1,4 @@
--- What the daemon prints and answers: docs/FORMAT.md, "The daemon, keyretaind".
+-- What the daemon prints and answers: keyretaind(8), "DESCRIPTION" and "EXIT STATUS".
 use Rattle.std.specs.Prelude.{ℕ, ◌≡◌, ◌+◌, ◌<◌, ◌⊎◌, ◌++◌, List, Option, Some, None, codes, string_bytes}
 use Rattle.std.specs.Fmt.{decimal}
 use Rattle.krs_serve.specs.Saying.{Heard, Says}

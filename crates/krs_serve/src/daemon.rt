@@ -145,8 +145,8 @@ fn serve_all<'d, N: AtDesk + Send + Sync, R: Clock + Files + Threads + Wait + Sy
     }
 }
 
-/// Serves connections on a new store as the options say, and answers the status: docs/FORMAT.md, "The daemon,
-/// keyretaind". The memory for its seats and its lines is had before the path is bound.
+/// Serves connections on a new store as the options say, and answers the status: keyretaind(8),
+/// "DESCRIPTION" and "EXIT STATUS". The memory for its seats and its lines is had before the path is bound.
 pub fn listen<R: Clock + Files + Net + RandomSource + Threads + Wait + Sync, W: Write>(
     rt: &R,
     alloc: Global,

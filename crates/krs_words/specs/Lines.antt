@@ -1,4 +1,4 @@
--- The lines of a script: docs/FORMAT.md, "Lines and words"; profile, script lines.
+-- The lines of a script: keyretain(1), "Lines"; profile, script lines.
 use Rattle.std.specs.Prelude.{ℕ, ◌≡◌, ◌==◌, List, [], ◌∷◌, ◌++◌, ⊤, if◌then◌else◌, Option, None, Some}
 use Rattle.std.specs.List.{onto_first}
 

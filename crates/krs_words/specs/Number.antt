@@ -1,4 +1,4 @@
--- Numbers, keys and data as words spell them: docs/FORMAT.md, "Lines and words"; profile, numbers in words.
+-- Numbers, keys and data as words spell them: keyretain(1), "Lines"; profile, numbers in words.
 use Rattle.std.specs.Prelude.{ℕ, ◌^◌, ℤ, pos, negsuc, ◌&&◌, Bool, List, drop, length, nat_lt, nat_le, nat_eq}
 use Rattle.std.specs.Prelude.{if◌then◌else◌, bytes_eq, codes, Option, None, Some}
 use Rattle.std.specs.List.{list_all, starts_with}

@@ -1,4 +1,4 @@
--- What is printed for a reply: docs/FORMAT.md, "What is printed".
+-- What is printed for a reply: keyretain(1), "Commands".
 use Rattle.std.specs.Prelude.{ℕ, ◌==◌, ◌&&◌, List, [], ◌∷◌, ◌++◌, map, Bool, length, nat_le, if◌then◌else◌, codes}
 use Rattle.std.specs.Prelude.{Result, Ok, Err}
 use Rattle.std.specs.Int.{w32, from_le_bytes}

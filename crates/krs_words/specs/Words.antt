@@ -1,4 +1,4 @@
--- The words of a line: docs/FORMAT.md, "Lines and words"; profile, script lines.
+-- The words of a line: keyretain(1), "Lines"; profile, script lines.
 use Rattle.std.specs.Prelude.{ℕ, ◌==◌, List, Bool, not, filter, length, nat_eq, codes}
 use Rattle.std.specs.List.{slice_split, starts_with}
 

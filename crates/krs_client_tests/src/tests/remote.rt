@@ -1,4 +1,4 @@
-//! Scripts and single calls over a connection whose ends are in memory: docs/FORMAT.md, "Scripts over a socket",
+//! Scripts and single calls over a connection whose ends are in memory: keyretain(1), "DESCRIPTION" and
 //! "Single calls". The replies are the bytes of the vectors, and what is asked is compared with them.
 use super::script::programs::{program_words, status_of};
 use krs_commands::Command;

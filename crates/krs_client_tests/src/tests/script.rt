@@ -1,4 +1,4 @@
-//! Scripts over ends in memory: the worked examples of docs/FORMAT.md, and ends that fail.
+//! Scripts over ends in memory: worked examples of every ask, and ends that fail.
 use krs_ctl::{ScriptEnd, run_script};
 use krs_store::Store;
 use std::alloc::{AllocError, Global};
