@@ -99,10 +99,16 @@ def commands():
     text = text_of("crates/krs_commands/specs/Command.antt")
     found = []
     for word, reader in re.findall(r'^ +(?:∷ )?row \(codes "(\w+)"\) (\w+|\(.+\))$', text, re.M):
-        reader = reader.strip("()")
-        head, _, definition = text.partition(f"\nabbrev pub {reader.split()[0]} :")
+        name = re.search(r"\w+", reader)[0]
+        head, _, definition = text.partition(f"\nabbrev pub {name} :")
         usages = re.findall(r"`(\w+)((?: [^`]*)?)`", head.rsplit("\n-- ", 1)[1])
         usage = next((usage for spelled, usage in usages if spelled == word), "no usage")
         ask = ask_of(reader if " op." in reader else definition.split("\nabbrev", 1)[0])
         found.append(Command(word, usage.strip(), ask))
     return found
+
+
+def commands_of_code():
+    """Of the code's table: the usage of each command."""
+    rows = re.findall(r'^ +"(\w+)" "(.*?) *"$', text_of("crates/krs_commands/src/table.rt"), re.M)
+    return [(word, usage.strip()) for word, usage in rows]

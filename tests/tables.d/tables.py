@@ -45,6 +45,8 @@ def words_of(names):
 def try_definitions():
     compare("the asks of the code", sorted(ask.word for ask in ASKS), rows.variants())
     compare("the forms of fields", {name: said for name, (_, said) in rows.FORMS.items()}, rows.forms())
+    compare("the commands of the code", [(command.word, command.usage) for command in COMMANDS],
+            rows.commands_of_code())
     compare("commands name asks", [], [command.ask for command in COMMANDS
                                        if command.ask not in {None, *(ask.word for ask in ASKS)}])
 
