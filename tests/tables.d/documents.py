@@ -35,13 +35,14 @@ def format_table():
 
 
 def format_section(number, name):
-    """The fields of an ask's body, and what is said of its answer and growth."""
+    """The fields of an ask's body, and what is said of its answer. What has no such line has no fields or answer."""
     text = section(f"### {number} {name}\n")
-    body = " ".join(re.search(r"- \*\*Body\*\*: (.*?)\n- ", text, re.S)[1].split())
-    body = re.sub(r"count `u32`, then that many groups `u32`", "`groups`", body)
+    lines = re.findall(r"^- \*\*(\w+)\*\*: (.*?)(?=\n- |\n\n|\Z)", text, re.M | re.S)
+    said = {head: " ".join(words.split()) for head, words in lines}
+    body = re.sub(r"count `u32`, then that many groups `u32`", "`groups`", said.get("Body", ""))
     body = re.sub(r"count `u32`, then that many entries of 44 bytes", "`entries`", body)
-    answer, grows = re.search(r"- \*\*Answer\*\*: (.*?)\. \*\*Grows\*\*: (.*?)\.\n", text, re.S).groups()
-    return " ".join(re.findall(r"`(id|u8|u32|i32|text|blob|groups|entries)`", body)), answer, " ".join(grows.split())
+    fields = " ".join(re.findall(r"`(id|u8|u32|i32|text|blob|groups|entries)`", body))
+    return fields, said.get("Answer", "nothing").removesuffix(".")
 
 
 def listed_without_memory(text):
@@ -50,9 +51,9 @@ def listed_without_memory(text):
 
 
 def format_without_memory():
-    """Those that never take memory, and those that sometimes don't."""
-    always, _, sometimes = section("## 7. ").partition("; nor do ")
-    return listed_without_memory(always), listed_without_memory(sometimes)
+    """Those that never take memory, by the table of asks, and those that sometimes don't."""
+    always = {name[1] for _, name, _, _, grows in format_table() if grows == "no"}
+    return always, listed_without_memory(section("### Asks that take no memory").partition("nor do ")[2])
 
 
 def format_statuses():

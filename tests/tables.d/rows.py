@@ -1,6 +1,6 @@
 """The rows of all asks and commands, as the definitions have them that the programs are proved by: numbers, fields,
-answers and growth of the asks (krs_types), words of the commands (krs_commands), numbers of the errors
-(krs_types). What no proof reaches is compared with these."""
+answers and growth of the asks (krs_types), which of them look at the context (krs_model), words of the commands
+(krs_commands), numbers of the errors (krs_types). What no proof reaches is compared with these."""
 import os
 import re
 from typing import NamedTuple
@@ -9,11 +9,12 @@ TOP = os.path.join(os.path.dirname(os.path.abspath(__file__)), "../..")
 
 
 class Ask(NamedTuple):
-    """`word` is the ask's name as the definitions spell it, in capitals. `grows` says whether it takes memory, in the
-    words of docs/FORMAT.md."""
+    """`word` is the ask's name as the definitions spell it, in capitals. `looks` says whether it looks at the context,
+    and `grows` whether it takes memory, in the words of docs/FORMAT.md."""
 
     word: str
     number: int
+    looks: str
     fields: str
     answer: str
     grows: str
@@ -58,9 +59,17 @@ def fields_of(body):
     return " ".join(VALUES.get(field, VALUES.get(field.split()[0])) for field in fields)
 
 
+def looks():
+    """Whether what an ask comes to is said of the context."""
+    text = text_of("crates/krs_model/specs/Step.antt")
+    lines = re.findall(r"^outcome_of s client context \(?(\w+).*? = (.+)$", text, re.M)
+    return {name: "yes" if "context" in meant.split() else "no" for name, meant in lines}
+
+
 def asks():
     """All of them, by rising number."""
-    rows = [Ask(name.upper(), int(number), fields_of(body), shape.lower(), GROWS[grows])
+    looking = looks()
+    rows = [Ask(name.upper(), int(number), looking.get(name), fields_of(body), shape.lower(), GROWS[grows])
             for name, number, shape, grows, body in ROW.findall(text_of("crates/krs_types/specs/Rows.antt"))]
     return sorted(rows, key=lambda row: row.number)
 

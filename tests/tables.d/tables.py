@@ -59,13 +59,13 @@ def try_format():
     compare("FORMAT, the table of asks", [(ask.number, ask.word, ask.answer, ask.grows) for ask in ASKS],
             [(number, word_of(name[1]), documents.ANSWERS.get(answer), grows)
              for number, name, _, answer, grows in table])
-    for ask, (number, name, _, answer, grows) in zip(ASKS, table):
+    for ask, (number, name, looks, answer, _) in zip(ASKS, table):
         compare(f"FORMAT, the anchor of {name[1]}", (str(number), name[1].lower()), (name[2], name[3]))
-        fields, said, growth = documents.format_section(number, name[1])
+        compare(f"FORMAT, whether {name[1]} looks at the context", ask.looks, looks)
+        fields, said = documents.format_section(number, name[1])
         compare(f"FORMAT, the body of {name[1]}", ask.fields, fields)
         compare(f"FORMAT, the answer of {name[1]}", (ask.answer == "nothing", True),
                 (said == "nothing", ask.answer == "bytes" or answer in said))
-        compare(f"FORMAT, the growth of {name[1]}", True, growth.startswith(grows) or growth == ask.grows)
     compare_all("FORMAT, errors", rows.statuses(), documents.format_statuses())
 
 
@@ -77,8 +77,7 @@ def try_lists():
                       ("keyretain-protocol(7)", documents.protocol_without_memory())):
         compare(f"{page}, asks that take no memory", wanted, tuple(map(words_of, got)))
     compare("keyretain-protocol(7), asks that don't look at the context",
-            sorted(name[1] for _, name, looks, _, _ in documents.format_table() if looks == "no"),
-            sorted(documents.protocol_without_context()))
+            sorted(ask.word for ask in ASKS if ask.looks == "no"), words_of(documents.protocol_without_context()))
 
 
 def try_pages():
