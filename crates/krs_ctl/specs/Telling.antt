@@ -1,4 +1,4 @@
--- What is told on standard error of a script or a call that stopped: keyretain(1), "Exit status".
+-- What is told on standard error of a script or a call that stopped: keyretain(1), "EXIT STATUS".
 use Rattle.std.specs.Prelude.{ℕ, ◌≡◌, ◌⊎◌, ◌++◌, List, codes, Result, Ok, Err, IfErr}
 use Rattle.krs_words.specs.declared.stop.Stop.{Stop}
 use Rattle.krs_words.specs.declared.stop.Stop.TheVariants.{Usage}

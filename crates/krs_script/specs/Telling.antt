@@ -1,4 +1,4 @@
--- What is told on standard error where a program stopped, which no program reads: keyretain(1), "Exit status".
+-- What is told on standard error where a program stopped, which no program reads: keyretain(1), "EXIT STATUS".
 use Rattle.std.specs.Prelude.{ℕ, ◌++◌, if◌then◌else◌, List, [], codes, length, nat_lt, take, get_or}
 use Rattle.std.specs.Char.Escape.{escape_ascii}
 use Rattle.std.specs.Fmt.{decimal}
