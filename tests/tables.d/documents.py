@@ -89,6 +89,12 @@ def protocol_without_memory():
     return listed_without_memory(always), listed_without_memory("WATCH with" + sometimes)
 
 
+def protocol_frames():
+    """The frames that it spells, as hexadecimal digits."""
+    block = PROTOCOL.split(".Sh EXAMPLES")[1].split(".Bd -literal\n")[1].split("\n.Ed")[0]
+    return ["".join(lines.split()) for lines in re.findall(r"(?:^  [0-9a-f ]+\n?)+", block, re.M)]
+
+
 def page_commands():
     """Of keyretain(1): the usage of each command."""
     text = text_of("man/keyretain.1").split(".Ss Commands")[1].split("\n.El")[0]

@@ -1,11 +1,12 @@
-"""The frames that FORMAT.md spells, by the Python client and the C client, and each ask by both."""
+"""The frames that FORMAT.md and keyretain-protocol(7) spell, by the Python client and the C client, and each ask by
+both."""
 import re
 import subprocess
 
 from compare import compare
 import keyretain
 
-from documents import section
+from documents import protocol_frames, section
 
 SAMPLES = {"id": -5, "u8": 1, "u32": 0xFFFFFFFE, "i32": -1, "text": b"\x01text", "blob": bytes(range(256)),
            "groups": [0, 7, 0xFFFFFFFE], "entries": [tuple(range(11)), tuple(range(0xFFFFFFF5, 0x100000000))]}
@@ -78,6 +79,10 @@ def try_vectors(codec):
     """`codec` is None where the C client isn't there."""
     read = [(what, whole, read_ask(whole)) for what, whole in vectors()]
     compare("more than fifteen vectors", True, len(read) > 15)
+    rows = re.findall(r"^\| .*? \| (`.*`) \|$", section("### Frame vectors"), re.M)
+    spelled = {re.sub(r"[^0-9a-f]", "", row) for row in rows}
+    for frame in protocol_frames():
+        compare(f"keyretain-protocol(7), the frame {frame}", True, frame in spelled)
     for what, whole, (version, tag, name, context, values) in read:
         compare(f"vector {what}, its ask", what.split()[0], name)
         compare(f"Python, vector {what}", whole, keyretain.encode_ask(name, context, values, version, tag))
