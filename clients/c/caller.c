@@ -556,7 +556,7 @@ static enum carried try_operation(const struct caller *caller, enum kr_operation
     return found;
 }
 
-/* Both are older than version 2 of the frames. */
+/* A daemon that understands version 2 of the frames carries both. */
 static bool carries(const struct caller *caller, enum carried *known, enum kr_operation operation) {
     if (kr_frame_version(caller->connection) >= 2) return true;
     if (*known == UNKNOWN) *known = try_operation(caller, operation);

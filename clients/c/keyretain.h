@@ -66,7 +66,7 @@ struct kr *kr_open(const char *path);
 /* The same with frames of this version, 1 or 2; 0 finds it out. EINVAL for any other. */
 struct kr *kr_open_version(const char *path, int version);
 
-/* The same with flags, of which there is one, and with the patience that kr_set_patience sets later. */
+/* The same with flags, and with the patience that kr_set_patience sets later. */
 enum { KR_ANY_SERVER = 1 /* whoever listens at a path that is named is trusted */ };
 struct kr *kr_open_with(const char *path, int version, unsigned flags, int milliseconds);
 
@@ -148,7 +148,7 @@ int kr_set_timeout(struct kr *connection, uint32_t context, int32_t id, uint32_t
 
 int kr_invalidate(struct kr *connection, uint32_t context, int32_t id);
 
-/* These two came later: a daemon without them ends the connection, which is ECONNRESET. `type` is NULL or empty to
+/* A daemon that doesn't carry one of these two ends the connection, which is ECONNRESET. `type` is NULL or empty to
  * close a keyring against new links. With flag 1 a key of the same name is not displaced. */
 int kr_restrict_keyring(struct kr *connection, uint32_t context, int32_t ring, const char *type);
 int kr_move(struct kr *connection, uint32_t context, int32_t id, int32_t from, int32_t to, uint32_t flags);

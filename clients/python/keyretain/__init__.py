@@ -6,7 +6,7 @@
         client.read(context, serial)
 
 A call that the daemon refuses raises Refused, with the error's number; a connection that can't be used any more raises
-Lost, a reply that is none Malformed, and a daemon that takes too long TimeoutError: all are OSErrors. What fits no
+Lost, bytes that are no reply Malformed, and a daemon that takes too long TimeoutError: all are OSErrors. What fits no
 frame is a ValueError, and nothing is sent. A Client is one connection: its contexts and queues end with it. It isn't
 locked: one thread at a time, and never a handler of a signal. keyretain-protocol(7) has each ask with its errors.
 
