@@ -25,7 +25,7 @@ pub enum Op {
     Thread,
     /// A context of the same caller in a process of its own.
     Fork,
-    /// The process anew: its other contexts end.
+    /// The other contexts of the process end, and its thread and process attachments are emptied.
     Exec,
     /// The serial that an id stands for, with a thread or process keyring made where it is wanted: keyctl(2),
     /// KEYCTL_GET_KEYRING_ID.

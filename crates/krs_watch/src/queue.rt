@@ -33,7 +33,7 @@ impl Model for NoteQueue {
 }
 
 impl NoteQueue {
-    /// A queue of so many records, of which there are some: ENOMEM.
+    /// An empty queue with room for so many records. It fails only where there is no memory for it.
     pub(crate) fn new(
         alloc: Global,
         client: u32,
