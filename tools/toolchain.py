@@ -23,6 +23,11 @@ import threading
 
 sys.dont_write_bytecode = True
 
+# A check reads all checked modules of the libraries below it, also their proofs. It reads none of what is below these, whose
+# libraries hold statements alone: what stands above krs_store is checked in half the time, and in half the memory. The
+# wrong bodies of such a crate are tried over no proof of it, and so take as long as that proof.
+CUT = ("krs_store",)
+
 
 class Unknown(Exception):
     """The toolchain has another shape than these tools know."""
@@ -50,6 +55,8 @@ def remember_sums(crate):
 def seed(crate, folder):
     """Puts into a folder what the proof of a library left in its rlib, so that checks may begin there. Returns whether
     there is as much: what a check can't use it proves itself."""
+    if is_cut(crate):
+        return False
     try:
         with open(f"{crate.rlib}/format", encoding="utf-8") as text:
             build = next(line.split()[1] for line in text if line.startswith("rattle-build "))
@@ -67,16 +74,39 @@ def seed(crate, folder):
     return True
 
 
+def is_cut(crate):
+    """Whether the crate's library holds statements and no proofs."""
+    return crate.name in CUT
+
+
 def keep_proofs(rt):
     """Has the libraries that `rt ci` builds keep their checked modules, as they do outside the gate, so that the wrong bodies
-    of a crate may be tried over its proof."""
+    of a crate may be tried over its proof; but for those that are cut."""
     build = rt.Crate.build_rlib
 
     def build_with_proofs(crate, flags, anew):
-        crate.cuts_libraries = False
+        crate.cuts_libraries = is_cut(crate)
         return build(crate, flags, anew)
 
     rt.Crate.build_rlib = build_with_proofs
+
+
+def build_library(rt, crate, flags):
+    """Proves a crate and builds its library, over what earlier checks kept; one that is cut from nothing, unless another
+    checkout on this machine has it. Returns the status."""
+    if not is_cut(crate) or crate.is_built():
+        return crate.build_rlib(flags, False)
+    if hasattr(rt, "take_rlib") and rt.take_rlib(crate):
+        return 0
+    crate.cuts_libraries, stamp = True, crate.stamp()
+    status = crate.build_rlib(flags, True)
+    if not status and stamp == crate.stamp():
+        # rt writes none for a library of statements, which fits only the libraries below that it was built over
+        with open(f"{crate.folder}/out/rlib/stamp", "w", encoding="utf-8") as file:
+            file.write(stamp)
+        if hasattr(rt, "offer"):
+            rt.offer(crate, stamp)
+    return status
 
 
 def load():
