@@ -63,6 +63,7 @@ struct process {
 struct arrival {
     struct proc_status status;
     int process_descriptor, thread_descriptor; /* for new entries, or -1 */
+    struct session *session;                   /* of a new process */
     struct process *process;                   /* NULL where it is a new one */
     struct task *task;                         /* NULL where it is a new one */
     bool has_executed;
@@ -419,6 +420,7 @@ static bool look_at(pid_t thread, struct arrival *arrival) {
     arrival->has_executed = arrival->process && has_executed(arrival->process);
     if (arrival->process && !arrival->has_executed) arrival->task = find_task(arrival->process, thread);
     if (!arrival->process && (arrival->process_descriptor = proc_open(status->process)) < 0) return false;
+    if (!arrival->process) arrival->session = inherited(status->process, status->parent, status->identity.uid);
     bool is_first = thread == status->process;
     return arrival->task || is_first || (arrival->thread_descriptor = proc_open_thread(thread)) >= 0;
 }
@@ -428,9 +430,7 @@ static struct task *settle_in(pid_t thread, struct arrival *arrival) {
     struct process *process = arrival->process;
     if (arrival->has_executed) note_executed(process);
     if (!process) {
-        pid_t id = arrival->status.process;
-        struct session *session = inherited(id, arrival->status.parent, arrival->status.identity.uid);
-        process = add_process(id, arrival->process_descriptor, session, NO_UID);
+        process = add_process(arrival->status.process, arrival->process_descriptor, arrival->session, NO_UID);
         arrival->process_descriptor = -1;
     }
     if (!process) return NULL;

@@ -10,6 +10,7 @@
 #include <stdint.h>
 #include <sys/epoll.h>
 #include <sys/mman.h>
+#include <sys/resource.h>
 
 #include "../clients.d/check.h"
 #include "calls.h"
@@ -119,6 +120,31 @@ static void try_reuse(void) {
     end_child(child);
 }
 
+/* The notification waited when it was asked, and just then the process is killed, and its number another's in a session
+ * that has been joined. */
+static struct rlimit tag;
+
+static bool replaced_in_session(void) {
+    return replaced() && prlimit(successor, RLIMIT_LOCKS, &tag, NULL) == 0;
+}
+
+static void try_session_of_stranger(void) {
+    long joined = 0;
+    pid_t child = begin_child();
+    if (check("a thread enters", tracees_enter(child, wish, always))) {
+        joined = ask(KEYCTL_JOIN_SESSION_KEYRING, 0, 0);
+        check("it joins a session", joined > 0 && prlimit(child, RLIMIT_LOCKS, NULL, &tag) == 0);
+        tracees_leave();
+    }
+    end_child(child);
+    child = begin_child();
+    if (check("another enters, whose number a third one gets", tracees_enter(child, wish, replaced_in_session))) {
+        check("it has not the session of that one", ring(KEY_SPEC_SESSION_KEYRING, 0) != joined);
+        tracees_leave();
+    }
+    end_child(successor);
+}
+
 /* ---- A thread's number ---- */
 
 static int orders[2], reports[2];
@@ -212,6 +238,7 @@ int main(int count, char **words) {
     try_validity();
     if (count == 1) try_stranger();
     try_reuse();
+    try_session_of_stranger();
     try_thread_reuse();
     return conclude("binding");
 }
