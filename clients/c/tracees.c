@@ -649,33 +649,36 @@ long tracees_set_reqkey_keyring(int choice) {
     return before;
 }
 
-/* The kernel's conditions: the parent is no init, has one thread, and is who the caller is, nor could it be another;
- * here it is supervised too. */
-static bool may_be_given(pid_t parent, struct proc_status *status) {
-    if (parent <= 1 || parent == getpid() || !proc_read_status(parent, status)) return false;
+/* The kernel's conditions: the parent has one thread, and is who the caller is, nor could it be another; here it is
+ * supervised too. */
+static bool may_be_given(const struct proc_status *status) {
     return status->threads == 1 && status->is_filtered && are_all(status->uids, all.own_uids[PROC_IDS - 1]) &&
            are_all(status->gids, all.own_gids[PROC_IDS - 1]);
 }
 
-static struct process *have_parent(const struct proc_status *status, pid_t parent) {
+/* The caller's parent, if it may be given a session, and is no init. It is bound before it is read by its number, and is
+ * the caller's parent still afterwards. */
+static struct process *have_parent(void) {
+    struct proc_status status;
+    pid_t child = all.task->process->id, parent = proc_parent(child);
+    if (parent <= 1 || parent == getpid()) return NULL;
     struct process *process = find_process(parent);
-    if (process) return process;
-    int descriptor = proc_open(parent);
-    if (descriptor < 0) return NULL;
-    struct session *session = inherited(parent, status->parent, status->identity.uid);
-    return add_process(parent, descriptor, session, only_uid(status));
+    int descriptor = process ? -1 : proc_open(parent);
+    bool is_one = (process || descriptor >= 0) && proc_read_status(parent, &status) && may_be_given(&status);
+    struct session *session = is_one && !process ? inherited(parent, status.parent, status.identity.uid) : NULL;
+    if (is_one && proc_parent(child) == parent)
+        return process ? process : add_process(parent, descriptor, session, only_uid(&status));
+    close_one(&descriptor);
+    return NULL;
 }
 
 long tracees_session_to_parent(void) {
-    struct proc_status status;
     const struct seat none = { 0 };
     struct session *session = all.task->session;
-    pid_t parent = proc_parent(all.task->process->id);
     if (have_connection() < 0) return -1;
-    if (!may_be_given(parent, &status)) return fail(EPERM);
-    if (session_is_lost(session)) return fail(EKEYREVOKED);
-    struct process *process = have_parent(&status, parent);
+    struct process *process = have_parent();
     if (!process) return fail(EPERM);
+    if (session_is_lost(session)) return fail(EKEYREVOKED);
     bring_seats(process->first, &none, session);
     set_session(process->first, session);
     return 0;
