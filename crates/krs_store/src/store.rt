@@ -80,7 +80,7 @@ impl Store {
     /// there are fewer, and nothing else refuses them. It is for whoever has read an ask with the last memory: the store
     /// would keep what was read, and the next ask could not be read. No contract sees it.
     pub fn mind_memory(&self, wanted: u64) {
-        self.tables.mind_memory(wanted);
+        self.tables.memory.leave(wanted);
     }
 
     /// Serves one ask of a client at a moment, in seconds: one step of the store. An accepted ask has its effect; its

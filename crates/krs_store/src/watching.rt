@@ -16,7 +16,7 @@ use krs_watch::watch_id;
 pub(crate) fn open_queue(tables: &mut Tables, client: u32, capacity: u32) -> Result<Answer, Fault>
     ensures { Leads tables.old result tables.new (open_queue tables.old client capacity) }
 {
-    let number = tables.queues.open_queue(client, capacity)?;
+    let number = tables.queues.open_queue(&tables.memory, client, capacity)?;
     Ok(Answer::Number(number))
 }
 
@@ -79,7 +79,7 @@ pub(crate) fn watch(
     let (key, _) = tables.look_up(context, id, Want::Granted(Rights::VIEW))?;
     let key = Serial::new(key);
     match asked {
-        Some(id) => tables.queues.watch(client, queue, key, id)?,
+        Some(id) => tables.queues.watch(&tables.memory, client, queue, key, id)?,
         None => tables.queues.unwatch(client, queue, key)?,
     }
     Ok(Answer::Nothing)

@@ -20,7 +20,7 @@ use krs_keys::{Change, Key, KeyTable};
 use krs_links::{HashedName, Links, NameHasher, Seed};
 use krs_types::{Context, Errno, KeyId, Kind, Name, Serial, Want};
 use krs_walk::Walker;
-use krs_watch::WatchQueues;
+use krs_watch::{Memory, WatchQueues};
 use std::alloc::{AllocError, Global};
 use std::marker::Model;
 
@@ -35,6 +35,8 @@ pub struct Tables {
     pub holders: Holders,
     pub walker: Walker,
     pub alloc: Global,
+    /// How much of it is to be left for others. It is no part of what contracts see.
+    pub memory: Memory,
     /// Of the names of links. It is no part of what contracts see.
     pub(crate) names: NameHasher,
 }
@@ -65,19 +67,15 @@ impl Tables {
             holders: Holders::new(alloc),
             walker: Walker::new(alloc),
             alloc,
+            memory: Memory::new(alloc),
             names: NameHasher::new(seed),
         }
     }
 
-    /// From now on so many bytes are to be left for others: asks that would keep memory are refused where there are fewer.
-    pub fn mind_memory(&self, wanted: u64) {
-        self.queues.mind_memory(wanted);
-    }
-
-    /// Asked before an ask keeps memory, once nothing else refuses it: whether as much is left as is wanted elsewhere. No
+    /// Asked before an ask keeps memory, once nothing else refuses it: whether as much is left as is lacking elsewhere. No
     /// clause can say how much that is.
     pub fn check_memory(&self) -> Result<(), AllocError> {
-        self.queues.check_memory()
+        self.memory.check()
     }
 
     /// The context of that number, where it is the client's.

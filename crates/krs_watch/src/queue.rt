@@ -7,7 +7,7 @@ ghost use Rattle.krs_model.specs.Asks.Watching.{new_queue, with_filter};
 ghost use Rattle.krs_watch.specs.Reads.{ReadsQueue};
 ghost use Rattle.krs_watch.specs.Offers.{offered};
 
-use crate::wanted::Minded;
+use crate::memory::Minded;
 use krs_notes::{Filter, Record, encode, passes};
 use krs_ring::NoteRing;
 use krs_types::{Body, Errno, Fault};

@@ -9,15 +9,15 @@ ghost use Rattle.krs_watch.specs.Reads.{ReadsAt};
 ghost use Rattle.krs_watch.specs.Watched.{gone_watches, owns};
 ghost use Rattle.krs_watch.specs.Changes.{LeadsQueues, LeadsAlways, OwnsQueue, watch_ended, swept};
 
+use crate::memory::Memory;
 use crate::posting::{Place, around, post, post_note};
 use crate::queue::NoteQueue;
-use crate::wanted::Wanted;
 use crate::watches::{Watches, first_gone};
 use krs_keys::KeySet;
 use krs_notes::Filter;
 use krs_ring::NoteRing;
 use krs_types::{Body, Errno, Fault, FilterEntry, KeyEvent, Record, Serial};
-use std::alloc::{AllocError, Global};
+use std::alloc::Global;
 use std::collections::BTreeMap;
 use std::marker::Model;
 
@@ -34,8 +34,6 @@ pub struct WatchQueues {
     watches: Watches,
     next_queue: u64,
     alloc: Global,
-    /// It is no part of what contracts see.
-    wanted: Wanted,
 }
 
 impl Model for WatchQueues {
@@ -59,25 +57,12 @@ impl WatchQueues {
             watches: Watches::new(alloc),
             next_queue: 1,
             alloc,
-            wanted: Wanted::new(alloc),
         }
-    }
-
-    /// From now on so many bytes are to be left for others: what would keep memory is refused where there are fewer, and
-    /// from `KEEP_NOTHING` on whatever there is.
-    pub fn mind_memory(&self, wanted: u64) {
-        self.wanted.set(wanted);
-    }
-
-    /// Asked before memory is kept, once nothing else refuses it: whether as much is left as is wanted elsewhere. No clause
-    /// can say how much that is: it lies in a cell.
-    pub fn check_memory(&self) -> Result<(), AllocError> {
-        self.wanted.check()
     }
 
     /// A new queue of 1 to 4096 records, by its number: EINVAL, ENFILE, ENOSPC, ENOMEM.
     #[tactic(auto, unfolding(krs_model::specs::Asks::Watching::opened))]
-    pub fn open_queue(&mut self, client: u32, capacity: u32) -> Result<u32, Fault>
+    pub fn open_queue(&mut self, memory: &Memory, client: u32, capacity: u32) -> Result<u32, Fault>
         ensures { LeadsQueues self.old result self.new (opened self.old client capacity) }
     {
         if !NoteRing::is_capacity(capacity) {
@@ -89,7 +74,7 @@ impl WatchQueues {
         if self.next_queue > MAX_NUMBER {
             return Err(Fault::Refused(Errno::ENOSPC));
         }
-        let minded = self.wanted.mind()?;
+        let minded = memory.mind()?;
         let number = self.next_queue as u32;
         let queue = NoteQueue::new(self.alloc, client, capacity, minded)?;
         self.queues.insert(number, queue)?;
@@ -116,7 +101,14 @@ impl WatchQueues {
 
     /// A watch of a key, whose records go to a queue: EBADF, EBUSY, ENOMEM.
     #[tactic(auto, unfolding(krs_model::specs::Asks::Watching::watched))]
-    pub fn watch(&mut self, client: u32, number: u32, key: Serial, id: u8) -> Result<(), Fault>
+    pub fn watch(
+        &mut self,
+        memory: &Memory,
+        client: u32,
+        number: u32,
+        key: Serial,
+        id: u8,
+    ) -> Result<(), Fault>
         ensures { LeadsQueues self.old result self.new (watched self.old client number key id) }
     {
         check_own(&self.queues, client, number)?;
@@ -124,7 +116,7 @@ impl WatchQueues {
         if self.watches.all().contains_key(&place) {
             return Err(Fault::Refused(Errno::EBUSY));
         }
-        let minded = self.wanted.mind()?;
+        let minded = memory.mind()?;
         self.watches.insert(key.number(), number, id, minded)?;
         Ok(())
     }

@@ -6,8 +6,8 @@ ghost use Rattle.std.specs.Map.{keys_of};
 ghost use Rattle.krs_model.specs.Queues.{place_cmp, watch_at, with_watch, without_watch};
 ghost use Rattle.krs_watch.specs.Watched.{gone_watches, NoneGoneBefore};
 
+use crate::memory::Minded;
 use crate::posting::Place;
-use crate::wanted::Minded;
 use krs_keys::KeySet;
 use krs_types::Serial;
 use std::alloc::{AllocError, Global};
