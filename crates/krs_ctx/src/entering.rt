@@ -130,7 +130,6 @@ impl Contexts {
         ensures ok { OnOk result (Opens self.old self.new client caller (Some rings)) }
         ensures err { OnErr result (self.new ≡ self.old) }
     {
-        let uid = caller.uid;
         let context = own_context(client, caller, number, rings.session);
         enter_first(
             &mut self.contexts,
@@ -138,7 +137,6 @@ impl Contexts {
             &mut self.uids,
             number,
             context,
-            uid,
             rings,
         )?;
         self.next += 1;

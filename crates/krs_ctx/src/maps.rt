@@ -81,18 +81,18 @@ pub(crate) fn enter_first(
     uids: &mut BTreeMap<u32, UidRings>,
     number: u32,
     context: Context,
-    uid: u32,
     rings: UidRings,
 ) -> Result<(), AllocError>
     requires absent_context { at contexts.old number ≡ None }
     requires absent_process { at processes.old.entries number ≡ None }
     ensures context { OnOk result (contexts.new ≡ put contexts.old number context) }
     ensures process { OnOk result (processes.new.entries ≡ put processes.old.entries number None) }
-    ensures uids { OnOk result (uids.new.entries ≡ put uids.old.entries uid rings) }
+    ensures uids { OnOk result (uids.new.entries ≡ put uids.old.entries context.caller.uid rings) }
     ensures err_contexts { OnErr result (contexts.new ≡ contexts.old) }
     ensures err_processes { OnErr result (processes.new.entries ≡ processes.old.entries) }
     ensures err_uids { OnErr result (uids.new.entries ≡ uids.old.entries) }
 {
+    let uid = context.caller.uid;
     enter(contexts, processes, number, context)?;
     if put_new(uids, uid, rings).is_err() {
         let _ = contexts.remove(number);

@@ -17,8 +17,9 @@ invariant_of-self-2 c =
     let uid = ap (λ (x : Context). x.caller.uid) c.own_context-context.ensures in
     let contexts = c.in_ok-enter_first.ensures.context ∙ ap (λ n. put old.contexts n own) number in
     let processes = c.in_ok-enter_first.ensures.process ∙ ap (λ n. put old.processes n None) number in
+    let uids = c.in_ok-enter_first.ensures.uids ∙ ap (λ n. put old.uids n c.args.rings) uid in
     record {
       fit = enter_fit old _ own c.self.invariant.fit process contexts processes refl;
       whole = λ is. first_whole old _ own c.args.caller.uid c.args.rings c.self.invariant.fit process uid contexts
-          processes c.in_ok-enter_first.ensures.uids (c.self.invariant.whole is);
+          processes uids (c.self.invariant.whole is);
     }
