@@ -22,6 +22,13 @@ use krs_links::HashedName;
 use krs_tables::{Special, Tables};
 use krs_types::{Answer, Errno, Fault, MOVE_EXCL, Rights, Serial, Want};
 
+/// The link that is moved: a key's, out of this keyring.
+#[derive(Clone, Copy)]
+struct OldLink {
+    serial: Serial,
+    from: Serial,
+}
+
 /// A link out of one keyring and into another, which is made where it is wanted: keyctl(2), KEYCTL_MOVE. Where both are
 /// one keyring, nothing changes.
 #[tactic(auto, unfolding(krs_model::specs::Asks::Moving::move_link))]
@@ -44,7 +51,13 @@ pub fn move_link(
     let (serial, first) = (Serial::new(serial), Serial::new(first));
     match tables.wanted(number, context, to) {
         Some(special) => move_to_new(tables, client, number, special, serial, first),
-        None => move_to(tables, client, number, serial, first, to, flags),
+        None => {
+            let link = OldLink {
+                serial,
+                from: first,
+            };
+            move_to(tables, client, number, link, to, flags)
+        }
     }
 }
 
@@ -63,14 +76,14 @@ fn move_to(
     tables: &mut Tables,
     client: u32,
     number: u32,
-    serial: Serial,
-    from: Serial,
+    link: OldLink,
     to: i32,
     flags: u32,
 ) -> Result<Answer, Fault>
     requires sound { IsSound tables.old }
-    ensures { Leads tables.old result tables.new (moved_at tables.old client number serial from to flags) }
+    ensures { Leads tables.old result tables.new (moved_at tables.old client number link.serial link.from to flags) }
 {
+    let OldLink { serial, from } = link;
     let context = tables.context_of(client, number)?;
     let key = tables.key(serial).ok_or(Errno::ENOKEY)?;
     let source = tables.key(from).ok_or(Errno::ENOKEY)?;
