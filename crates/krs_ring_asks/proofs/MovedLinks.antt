@@ -21,7 +21,7 @@ use Rattle.krs_model.specs.Table.{Table, at, put, alter}
 use Rattle.krs_model.specs.State.{State, Key, Content, Payload, Links}
 use Rattle.krs_model.specs.Levels.{is_in}
 use Rattle.krs_model.specs.Sweep.{links_of_key}
-use Rattle.krs_model.specs.Reach.{links_of_key_at, has_chain}
+use Rattle.krs_model.specs.Reach.{links_of_key_at, has_chain, nesting_depth}
 use Rattle.krs_model.specs.Linking.{ring_links, link_named, linking}
 use Rattle.krs_model.specs.Lookup.{context_of, look_up}
 use Rattle.krs_model.specs.Making.{made_for, within_serials, special_ring}
@@ -173,7 +173,7 @@ move_new_is special s client number key from to flags c found source l new =
     let source_there = (look_up_usable s c from (Granted WRITE) source l.ring_found).there in
     let unused : (k : ℕ) (v : Key) → at s.keys k ≡ Some v → k ≢ n = λ k v is e.
     none-some v (sym (ap (λ (z : ℕ). at s.keys z) e ∙ new.fit.none) ∙ is) in
-    let nests : Result (Unit {0}) Errno = unless (has_chain s.keys found.0 6) ELOOP in
+    let nests : Result (Unit {0}) Errno = unless (has_chain s.keys found.0 nesting_depth) ELOOP in
     let x : State = changed t n (linking t.keys (name_of found.1) found.0) in
     let over : cond (source.0 == n) (Ok t) (moved_over t exclusive found source.0 into [])
     ≡ going x source.0 found.0 nests =
@@ -265,7 +265,7 @@ pub making_leaves :
 making_leaves special s mid client number serial from answer none h linked =
     let a = bind_ok (context_of s client number) _ (mid, answer) h in
     let b = bind_ok (or_refuse ENOKEY (at s.keys serial)) _ (mid, answer) a.2 in
-    let d = bind_ok (unless (has_chain s.keys serial 6) ELOOP) _ (mid, answer) b.2 in
+    let d = bind_ok (unless (has_chain s.keys serial nesting_depth) ELOOP) _ (mid, answer) b.2 in
     let t = with_ring special s number a.0 in
     let n = s.next_serial in
     let f = linking t.keys (name_of b.0) serial in

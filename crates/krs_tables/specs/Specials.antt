@@ -19,7 +19,7 @@ use Rattle.krs_model.specs.State as model
 use Rattle.krs_model.specs.Possession.{process_ring}
 use Rattle.krs_model.specs.Lookup.{context_of}
 use Rattle.krs_model.specs.Linking.{linking}
-use Rattle.krs_model.specs.Reach.{has_chain}
+use Rattle.krs_model.specs.Reach.{has_chain, nesting_depth}
 use Rattle.krs_model.specs.Making.{with_new, with_thread, with_process, thread_to, made_for}
 use Rattle.krs_model.specs.Making.{within_serials}
 use Rattle.krs_model.specs.Asks.Adding.{made, new_key}
@@ -92,7 +92,7 @@ abbrev pub linking_made : Special → State → ℕ → ℕ → ℕ → Answer �
 linking_made special s client number serial answer = do
   c ← context_of s client number
   key ← or_refuse ENOKEY (at s.keys serial)
-  nests ← unless (has_chain s.keys serial 6) ELOOP
+  nests ← unless (has_chain s.keys serial nesting_depth) ELOOP
   within_serials s (Ok (
     changed (with_ring special s number c) s.next_serial
         (linking (with_ring special s number c).keys (name_of key) serial),
