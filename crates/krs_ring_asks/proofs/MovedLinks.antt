@@ -1,13 +1,13 @@
 -- MOVE, from what the store has looked up to what it comes to.
 use Rattle.std.proofs.Common.{◌≡◌, ◌≢◌, ℕ, ℤ, ◌==◌, ◌&&◌, List, [], Option, None, Some, Bool, true, false, cond, nat_lt}
-use Rattle.std.proofs.Common.{Result, Ok, Err, refl, ap, ◌∙◌, sym, subst, arith, ⊎_elim, FitsSigned, to_z, of_z}
+use Rattle.std.proofs.Common.{Result, Ok, Err, refl, ap, ◌∙◌, sym, subst, ⊎_elim, FitsSigned, to_z, of_z}
 use Rattle.std.specs.Option.{IsSome, IfSome, is_some, option_map}
 use Rattle.std.specs.Int.{w32}
 use Rattle.std.proofs.lemmas.Int.{to_z-of_z}
 use Rattle.std.proofs.lemmas.Bool.{true≢false, eqb-true}
 use Rattle.std.proofs.lemmas.Option.{none-some}
 use Rattle.krs_types.specs.declared.errno.Errno.{Errno}
-use Rattle.krs_types.specs.declared.errno.Errno.TheVariants.{ENOKEY, ENOENT, ENOSPC, ELOOP, EINVAL, EEXIST}
+use Rattle.krs_types.specs.declared.errno.Errno.TheVariants.{ENOKEY, ENOENT, ENOSPC, ELOOP, EINVAL}
 use Rattle.krs_types.specs.declared.ask.Answer.{Answer}
 use Rattle.krs_types.specs.declared.ask.Answer.TheVariants.{Nothing}
 use Rattle.krs_types.specs.declared.context.Context.{Context}
@@ -17,8 +17,8 @@ use Rattle.krs_types.specs.declared.name.Name.{Name}
 use Rattle.krs_types.specs.declared.rights.Want.TheVariants.{Granted}
 use Rattle.krs_types.specs.Rights.{WRITE, LINK}
 use Rattle.krs_types.specs.Refusing.{◌>>=◌, or_refuse}
-use Rattle.krs_model.specs.Table.{Table, at, put, alter}
-use Rattle.krs_model.specs.State.{State, Key, Content, Payload, Links}
+use Rattle.krs_model.specs.Table.{Table, at, alter}
+use Rattle.krs_model.specs.State.{State, Key}
 use Rattle.krs_model.specs.Levels.{is_in}
 use Rattle.krs_model.specs.Sweep.{links_of_key}
 use Rattle.krs_model.specs.Reach.{links_of_key_at, has_chain, nesting_depth}

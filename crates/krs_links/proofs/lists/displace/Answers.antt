@@ -6,7 +6,6 @@ use Rattle.krs_links.specs.Indexed.{linked}
 use Rattle.krs_links.proofs.PlacesLemmas.{linked_as_at, serial_at_named, AreLists-displaced}
 use Rattle.krs_links.proofs.IndexLemmas.{never_both}
 use Rattle.krs_links.proofs.IndexedLemmas.{linked_in-set}
-use Rattle.krs_links.proofs.lists.displace.Goals.{After-set_serial}
 use Rattle.krs_links.proofs.lists.displace.Goals as goal
 
 pub set_serial-requires : goal.set_serial-requires

@@ -1,4 +1,4 @@
-use Rattle.std.proofs.Common.{◌≡◌, ℕ, ap, sym, ◌∙◌, subst, Bool, cond, Ok, Err}
+use Rattle.std.proofs.Common.{◌≡◌, ap, sym, ◌∙◌, subst, Bool, cond, Ok, Err}
 use Rattle.krs_types.specs.declared.errno.Errno.TheVariants.{ENOENT}
 use Rattle.krs_model.specs.State.{State}
 use Rattle.krs_model.specs.Reach.{links_of_key_at}

@@ -1,4 +1,4 @@
-use Rattle.std.proofs.Common.{ℕ, List, Bool, false, subst}
+use Rattle.std.proofs.Common.{ℕ, List, Bool, subst}
 use Rattle.krs_types.specs.declared.event.Event.{Event}
 use Rattle.krs_model.specs.State.{State}
 use Rattle.krs_model.specs.Confidentiality.{HasToItself, KeepsPrivate, ReadsAlone}

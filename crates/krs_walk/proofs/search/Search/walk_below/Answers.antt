@@ -3,7 +3,7 @@ use Rattle.std.specs.List.{flat_map}
 use Rattle.krs_types.specs.declared.errno.Errno.{Errno}
 use Rattle.krs_walk.specs.Lists.{join}
 use Rattle.krs_walk.specs.Searching.{searcher_for, entered_rings, Joins}
-use Rattle.krs_walk.proofs.FindingLemmas.{IsSeek, first_finds, seek_starts, seek_goes_on, seek_finds, seek_fails}
+use Rattle.krs_walk.proofs.FindingLemmas.{IsSeek, seek_starts, seek_goes_on, seek_finds, seek_fails}
 use Rattle.krs_walk.proofs.search.Search.walk_below.Goals as goal
 
 pub loop-level-init : goal.loop-level-init
