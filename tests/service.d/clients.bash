@@ -97,6 +97,20 @@ try_few_files() {
   is_served 'few files' 14
 }
 
+# Keyrings that are nested crosswise are walked each once, whatever the number of ways to them.
+try_crosswise() {
+  start
+  is 'keyrings that are nested crosswise' walked "$(python3 -B "$top/tests/service.d/mesh.py" "$path" 2>/dev/null)"
+  kill_daemon KILL
+}
+
+# are_woken CLIENTS: each of them is answered that asked while another had the turn for long, though nobody asks then
+are_woken() {
+  start --lanes "$1"
+  is "$1 clients, whose threads sleep" woken "$(python3 -B "$top/tests/service.d/wakes.py" "$path" "$1" 2>/dev/null)"
+  kill_daemon KILL
+}
+
 # keeps_all SIZE CLIENTS [ASK]: so many clients fill the memory of a daemon with payloads of so many bytes, and then with
 # what the ask that is named takes. What is too much is refused with ENOMEM, no connection ends and no key is lost.
 keeps_all() {
