@@ -1,7 +1,10 @@
 //! What is done over a connection, which is made first.
 
 ghost use Rattle.std.specs.Prelude.{◌≡◌, ◌≢◌, ◌⊎◌, IfOk, None, codes, string_bytes};
+ghost use Rattle.std.specs.IoError.{error_kind};
+ghost use Rattle.std.specs.declared.io.ErrorKind.TheVariants.{OutOfMemory};
 ghost use Rattle.krs_words.specs.Saying.{heard, Says};
+ghost use Rattle.krs_script.specs.Ending.{Says as Prints};
 ghost use Rattle.krs_ctl.specs.Program.{CallsAt, RunsAt, SaysUnconnected};
 ghost use Rattle.krs_ctl.specs.Telling.{TellsOf, TellsOver, path_text};
 
@@ -136,7 +139,11 @@ fn text_of(alloc: Global, path: &str, what: &str) -> Result<Vec<u8>, AllocError>
 
 /// Says why there is no connection.
 fn say_unconnected<W: Write>(output: &mut W, error: &io::Error) -> u8
-    ensures { SaysUnconnected (W.contents output.old) (W.contents output.new) result }
+    ensures says { SaysUnconnected (W.contents output.old) (W.contents output.new) result }
+    ensures memory { error_kind error.now ≡ OutOfMemory
+        → Prints (W.contents output.old) (W.contents output.new) (codes "error 12 ENOMEM\n") 1 result }
+    ensures other { error_kind error.now ≢ OutOfMemory
+        → Prints (W.contents output.old) (W.contents output.new) (codes "error: connection\n") 3 result }
 {
     if error.kind() == ErrorKind::OutOfMemory {
         return say(output, OUT_OF_MEMORY, 1);
