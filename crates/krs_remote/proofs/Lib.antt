@@ -1,3 +1,4 @@
 pub mod RemoteLemmas
 pub mod EndingLemmas
 pub mod HeadLemmas
+pub mod WholeLemmas

@@ -1,9 +1,11 @@
 //! One ask over a connection, and its reply, in frames of version 2.
 
-ghost use Rattle.std.specs.Prelude.{◌≡◌, ◌⊎◌, ◌<◌, ◌++◌, true, length, vec_len, Some, OnOk, IfOk, IfErr};
+ghost use Rattle.std.specs.Prelude.{◌≡◌, ◌⊎◌, ◌<◌, ◌++◌, true, length, vec_len, Some, Result, Err, OnOk, IfOk, IfErr};
 ghost use Rattle.std.specs.Int.{w32, from_le_bytes};
 ghost use Rattle.std.specs.Io.Buffered.{reader_remaining};
 ghost use Rattle.std.specs.Io.KnownBytes.{Appends, Consumes};
+ghost use Rattle.krs_types.specs.declared.ask.Answer.{Answer};
+ghost use Rattle.krs_types.specs.declared.errno.Errno.{Errno};
 ghost use Rattle.krs_wire.specs.Encoding.{ask_frame, ask_text};
 ghost use Rattle.krs_wire.specs.Reply.{is_bad_reply_length, reply_frame, shape_of, HasShape};
 ghost use Rattle.krs_remote.specs.Talking.{Exchanges, GivesReply, GivesUp, IsReply, NotSent, cause_of};
@@ -106,14 +108,21 @@ fn announced(alloc: Global, op: &Op, head: &[u8; 4]) -> Result<Vec<u8>, Stop>
     Ok(room)
 }
 
-/// The reply whose frame these bytes are, with this tag.
+/// The reply whose frame these bytes are, with this tag. Only bytes that are no such frame end the connection.
 fn whole_reply(alloc: Global, op: &Op, tag: u64, frame: &[u8]) -> Result<Reply, Stop>
     ensures ok { IfOk result (IsReply (shape_of op.now) tag frame.now) }
     ensures causes { IfErr result (λ stop. (stop ≡ Stop.Memory) ⊎ (stop ≡ Stop.Connection)) }
+    ensures none { result ≡ Err Stop.Connection → (reply : Result Answer Errno)
+        → ¬ IsReply (shape_of op.now) tag frame.now reply }
 {
     match decode_reply2(alloc, op, frame) {
-        Ok(Some((reply, found, length))) if found == tag && length == frame.len() => Ok(reply),
-        Ok(_) => Err(Stop::Connection),
+        Ok(Some((reply, found, length))) => {
+            if found == tag && length == frame.len() {
+                return Ok(reply);
+            }
+            Err(Stop::Connection)
+        }
+        Ok(None) => Err(Stop::Connection),
         Err(fault) => Err(stop_of(fault)),
     }
 }
