@@ -20,15 +20,20 @@ use Rattle.krs_model.specs.Linking.{ring_links, linking}
 use Rattle.krs_model.specs.Lookup.{context_of, look_up}
 use Rattle.krs_model.specs.Making.{made_for, within_serials}
 use Rattle.krs_model.specs.Search.{found, requested}
-use Rattle.krs_model.specs.Outcome.{Outcome}
+use Rattle.krs_model.specs.Outcome.{Outcome, Is}
 use Rattle.krs_model.specs.Asks.Changing.{changed}
 use Rattle.krs_model.specs.Asks.Linked.{name_of, unless, nestable, linked_into}
-use Rattle.krs_model.specs.Asks.Finding.{search_from, request, sought_name, sought_into, requested_into, found_into}
+use Rattle.krs_model.specs.Asks.Finding.{sought_into, requested_into, found_into}
 use Rattle.krs_model.specs.Asks.Finding.{if_linkable}
 use Rattle.krs_types.specs.Growth.{has_destination}
 use Rattle.krs_tables.specs.Linked.{room_in}
-use Rattle.krs_ring_asks.specs.Found.{if_granted, link_found}
+use Rattle.krs_ring_asks.specs.Found.{if_granted, link_found, search_named, request_named}
 use Rattle.krs_ring_asks.proofs.LinkAndUnlink.{IsFoundRing, within_as}
+
+-- what was sought, as it was found
+pub as_sought : (found meant : Result Name Errno) → Is (λ name. name) found meant → meant ≡ found
+as_sought (Ok name) meant is = is
+as_sought (Err e) meant is = is
 
 -- a link whose tests are these
 by_tests :
@@ -80,21 +85,21 @@ pub found_is :
 found_is s client number c into serial own is = by_key s c into serial (at s.keys serial) is ∙ sym (rw (own, is.there) refl)
 
 -- what SEARCH has looked up, with a destination that is there
-pub record Seeks (s : State) (client number : ℕ) (head : ℤ) (type_name desc : List ℕ) (dest : ℤ) (c : Context)
+pub record Seeks (s : State) (client number : ℕ) (head : ℤ) (sought : Result Name Errno) (dest : ℤ) (c : Context)
     (name : Name) (from : ℕ × Key) : Type 0 where
   pub own : context_of s client number ≡ Ok c
-  pub named : sought_name type_name desc ≡ Ok name
+  pub named : sought ≡ Ok name
   pub from_found : look_up s c head (Granted SEARCH) ≡ Ok from
   pub made : made_for s number c dest ≡ (s, c)
   pub wanted : has_destination dest ≡ true
 
 pub search_is :
-    (s : State) (client number : ℕ) (head : ℤ) (type_name desc : List ℕ) (dest : ℤ) (c : Context) (name : Name)
+    (s : State) (client number : ℕ) (head : ℤ) (sought : Result Name Errno) (dest : ℤ) (c : Context) (name : Name)
     (from : ℕ × Key)
-    → Seeks s client number head type_name desc dest c name from
-    → search_from s client number head type_name desc dest ≡ within_serials s (sought_into s c from name dest)
-unfolding search_from
-search_is s client number head type_name desc dest c name from seeks =
+    → Seeks s client number head sought dest c name from
+    → search_named s client number head sought dest ≡ within_serials s (sought_into s c from name dest)
+unfolding search_named
+search_is s client number head sought dest c name from seeks =
     rw (seeks.own, seeks.named, seeks.from_found, seeks.wanted, seeks.made) refl
 
 -- a number that is not 0 is a destination
@@ -104,14 +109,14 @@ wanted_of (pos (suc n)) h = refl
 wanted_of (negsuc n) h = refl
 
 pub seeks :
-    (s : State) (client number : ℕ) (head : ℤ) (type_name desc : List ℕ) (dest : ℤ) (c : Context) (name : Name)
+    (s : State) (client number : ℕ) (head : ℤ) (sought : Result Name Errno) (dest : ℤ) (c : Context) (name : Name)
     (from : ℕ × Key)
     → FitsSigned w32 head → FitsSigned w32 dest → context_of s client number ≡ Ok c
-    → sought_name type_name desc ≡ Ok name
+    → sought ≡ Ok name
     → look_up s c (to_z w32 (of_z w32 head)) (Granted SEARCH) ≡ Ok from → (of_z w32 dest ≡ 0 → ⊥)
     → made_for s number c (to_z w32 (of_z w32 dest)) ≡ (s, c)
-    → Seeks s client number head type_name desc dest c name from
-seeks s client number head type_name desc dest c name from head_fits dest_fits own named from_found wanted made =
+    → Seeks s client number head sought dest c name from
+seeks s client number head sought dest c name from head_fits dest_fits own named from_found wanted made =
     record {
       own = own;
       named = named;
@@ -122,48 +127,48 @@ seeks s client number head type_name desc dest c name from head_fits dest_fits o
 
 -- a search whose destination and key were found comes to the link of the key
 pub search_links :
-    (s : State) (client number : ℕ) (head : ℤ) (type_name desc : List ℕ) (dest : ℤ) (c : Context) (name : Name)
+    (s : State) (client number : ℕ) (head : ℤ) (sought : Result Name Errno) (dest : ℤ) (c : Context) (name : Name)
     (from into : ℕ × Key) (links : List ℕ) (serial : ℕ)
-    → Seeks s client number head type_name desc dest c name from → look_up s c dest (Granted WRITE) ≡ Ok into
+    → Seeks s client number head sought dest c name from → look_up s c dest (Granted WRITE) ≡ Ok into
     → ring_links from.1.content ≡ Ok links → IsFoundRing s into → found s c from.0 name ≡ Ok serial
-    → search_from s client number head type_name desc dest ≡ link_found s client number into.0 serial
-search_links s client number head type_name desc dest c name from into links serial l into_found heads is key_found =
-    search_is s client number head type_name desc dest c name from l
+    → search_named s client number head sought dest ≡ link_found s client number into.0 serial
+search_links s client number head sought dest c name from into links serial l into_found heads is key_found =
+    search_is s client number head sought dest c name from l
     ∙ (rw (into_found, heads, is.links, key_found) refl ∙ found_is s client number c into serial l.own is)
 
 -- a search whose destination is refused
 pub search_unlooked :
-    (s : State) (client number : ℕ) (head : ℤ) (type_name desc : List ℕ) (dest : ℤ) (c : Context) (name : Name)
+    (s : State) (client number : ℕ) (head : ℤ) (sought : Result Name Errno) (dest : ℤ) (c : Context) (name : Name)
     (from : ℕ × Key) (e : Errno)
-    → Seeks s client number head type_name desc dest c name from → look_up s c dest (Granted WRITE) ≡ Err e
-    → (search_from s client number head type_name desc dest ≡ Err e) × (s ≡ s)
-search_unlooked s client number head type_name desc dest c name from e l h =
-    (search_is s client number head type_name desc dest c name from l ∙ rw h refl, refl)
+    → Seeks s client number head sought dest c name from → look_up s c dest (Granted WRITE) ≡ Err e
+    → (search_named s client number head sought dest ≡ Err e) × (s ≡ s)
+search_unlooked s client number head sought dest c name from e l h =
+    (search_is s client number head sought dest c name from l ∙ rw h refl, refl)
 
 -- a search whose destination is no keyring
 pub search_no_ring :
-    (s : State) (client number : ℕ) (head : ℤ) (type_name desc : List ℕ) (dest : ℤ) (c : Context) (name : Name)
+    (s : State) (client number : ℕ) (head : ℤ) (sought : Result Name Errno) (dest : ℤ) (c : Context) (name : Name)
     (from into : ℕ × Key) (links : List ℕ) (e : Errno)
-    → Seeks s client number head type_name desc dest c name from → look_up s c dest (Granted WRITE) ≡ Ok into
+    → Seeks s client number head sought dest c name from → look_up s c dest (Granted WRITE) ≡ Ok into
     → ring_links from.1.content ≡ Ok links → ring_links into.1.content ≡ Err e
-    → (search_from s client number head type_name desc dest ≡ Err e) × (s ≡ s)
-search_no_ring s client number head type_name desc dest c name from into links e l into_found heads h =
-    (search_is s client number head type_name desc dest c name from l ∙ rw (into_found, heads, h) refl, refl)
+    → (search_named s client number head sought dest ≡ Err e) × (s ≡ s)
+search_no_ring s client number head sought dest c name from into links e l into_found heads h =
+    (search_is s client number head sought dest c name from l ∙ rw (into_found, heads, h) refl, refl)
 
 -- what REQUEST has looked up, with a destination that is there
-pub record Requests (s : State) (client number : ℕ) (type_name desc : List ℕ) (dest : ℤ) (c : Context)
+pub record Requests (s : State) (client number : ℕ) (sought : Result Name Errno) (dest : ℤ) (c : Context)
     (name : Name) : Type 0 where
   pub own : context_of s client number ≡ Ok c
-  pub named : sought_name type_name desc ≡ Ok name
+  pub named : sought ≡ Ok name
   pub made : made_for s number c dest ≡ (s, c)
   pub wanted : has_destination dest ≡ true
 
 pub requests :
-    (s : State) (client number : ℕ) (type_name desc : List ℕ) (dest : ℤ) (c : Context) (name : Name)
-    → FitsSigned w32 dest → context_of s client number ≡ Ok c → sought_name type_name desc ≡ Ok name
+    (s : State) (client number : ℕ) (sought : Result Name Errno) (dest : ℤ) (c : Context) (name : Name)
+    → FitsSigned w32 dest → context_of s client number ≡ Ok c → sought ≡ Ok name
     → (of_z w32 dest ≡ 0 → ⊥)
-    → made_for s number c (to_z w32 (of_z w32 dest)) ≡ (s, c) → Requests s client number type_name desc dest c name
-requests s client number type_name desc dest c name dest_fits own named wanted made = record {
+    → made_for s number c (to_z w32 (of_z w32 dest)) ≡ (s, c) → Requests s client number sought dest c name
+requests s client number sought dest c name dest_fits own named wanted made = record {
   own = own;
   named = named;
   made = ap (made_for s number c) (sym (to_z-of_z w32 dest dest_fits)) ∙ made;
@@ -171,28 +176,28 @@ requests s client number type_name desc dest c name dest_fits own named wanted m
 }
 
 request_is :
-    (s : State) (client number : ℕ) (type_name desc : List ℕ) (dest : ℤ) (c : Context) (name : Name)
-    → Requests s client number type_name desc dest c name
-    → request s client number type_name desc dest ≡ within_serials s (requested_into s c name dest)
-unfolding request
-request_is s client number type_name desc dest c name l = rw (l.own, l.named, l.wanted, l.made) refl
+    (s : State) (client number : ℕ) (sought : Result Name Errno) (dest : ℤ) (c : Context) (name : Name)
+    → Requests s client number sought dest c name
+    → request_named s client number sought dest ≡ within_serials s (requested_into s c name dest)
+unfolding request_named
+request_is s client number sought dest c name l = rw (l.own, l.named, l.wanted, l.made) refl
 
 -- a request whose destination and key were found comes to the link of the key
 pub request_links :
-    (s : State) (client number : ℕ) (type_name desc : List ℕ) (dest : ℤ) (c : Context) (name : Name) (into : ℕ × Key)
+    (s : State) (client number : ℕ) (sought : Result Name Errno) (dest : ℤ) (c : Context) (name : Name) (into : ℕ × Key)
     (serial : ℕ)
-    → Requests s client number type_name desc dest c name → look_up s c dest (Granted WRITE) ≡ Ok into
+    → Requests s client number sought dest c name → look_up s c dest (Granted WRITE) ≡ Ok into
     → IsFoundRing s into → requested s c name ≡ Ok serial
-    → request s client number type_name desc dest ≡ link_found s client number into.0 serial
-request_links s client number type_name desc dest c name into serial l into_found is key_found =
-    request_is s client number type_name desc dest c name l
+    → request_named s client number sought dest ≡ link_found s client number into.0 serial
+request_links s client number sought dest c name into serial l into_found is key_found =
+    request_is s client number sought dest c name l
     ∙ (rw (into_found, is.links, key_found) refl ∙ found_is s client number c into serial l.own is)
 
 -- a request whose destination is no keyring
 pub request_no_ring :
-    (s : State) (client number : ℕ) (type_name desc : List ℕ) (dest : ℤ) (c : Context) (name : Name) (into : ℕ × Key)
+    (s : State) (client number : ℕ) (sought : Result Name Errno) (dest : ℤ) (c : Context) (name : Name) (into : ℕ × Key)
     (e : Errno)
-    → Requests s client number type_name desc dest c name → look_up s c dest (Granted WRITE) ≡ Ok into
-    → ring_links into.1.content ≡ Err e → (request s client number type_name desc dest ≡ Err e) × (s ≡ s)
-request_no_ring s client number type_name desc dest c name into e l into_found h =
-    (request_is s client number type_name desc dest c name l ∙ rw (into_found, h) refl, refl)
+    → Requests s client number sought dest c name → look_up s c dest (Granted WRITE) ≡ Ok into
+    → ring_links into.1.content ≡ Err e → (request_named s client number sought dest ≡ Err e) × (s ≡ s)
+request_no_ring s client number sought dest c name into e l into_found h =
+    (request_is s client number sought dest c name l ∙ rw (into_found, h) refl, refl)

@@ -29,7 +29,7 @@ use Rattle.krs_model.specs.Sound.{IsSound}
 use Rattle.krs_model.specs.Outcome.{Outcome}
 use Rattle.krs_model.specs.Asks.Changing.{changed}
 use Rattle.krs_model.specs.Asks.Linked.{unless, name_of, linked_into}
-use Rattle.krs_model.specs.Asks.Finding.{search_from, request, sought_name, sought_into, requested_into, found_into}
+use Rattle.krs_model.specs.Asks.Finding.{sought_into, requested_into, found_into}
 use Rattle.krs_model.specs.Asks.Finding.{if_linkable}
 use Rattle.krs_types.specs.Growth.{has_destination}
 use Rattle.krs_model.proofs.Lookups.Laws.{look_up_usable}
@@ -40,7 +40,7 @@ use Rattle.krs_model.proofs.MadeKeyring.Links.{found_into_new, found_into_self, 
 use Rattle.krs_model.proofs.MadeKeyring.Links.{requested_into_new}
 use Rattle.krs_tables.specs.declared.making.Special.{Special}
 use Rattle.krs_tables.specs.declared.making.Special.TheVariants.{Thread, Process}
-use Rattle.krs_ring_asks.specs.Found.{if_granted, found_below}
+use Rattle.krs_ring_asks.specs.Found.{if_granted, found_below, search_named, request_named}
 use Rattle.krs_tables.specs.Specials.{special_name, with_ring, Makes}
 use Rattle.krs_ring_asks.specs.Beside.{is_of_name, found_made}
 use Rattle.krs_ring_asks.specs.Beside.{found_in, found_before, or_itself, beside}
@@ -235,22 +235,22 @@ refused_first e first next h = rw h refl
 
 -- what SEARCH has looked up, with a destination that is made
 pub record SeeksNew (special : Special) (s : State) (client number : ℕ) (head : ℤ)
-    (type_name desc : List ℕ) (dest : ℤ)
+    (sought : Result Name Errno) (dest : ℤ)
     (c : Context) (name : Name) (from : ℕ × Key) : Type 0 where
   pub own : context_of s client number ≡ Ok c
-  pub named : sought_name type_name desc ≡ Ok name
+  pub named : sought ≡ Ok name
   pub from_found : look_up s c head (Granted SEARCH) ≡ Ok from
   pub wanted : has_destination dest ≡ true
   pub new : IsNew special s number c dest
 
 pub seeks_new :
-    (special : Special) (s : State) (client number : ℕ) (head : ℤ) (type_name desc : List ℕ) (dest : ℤ) (c : Context)
+    (special : Special) (s : State) (client number : ℕ) (head : ℤ) (sought : Result Name Errno) (dest : ℤ) (c : Context)
     (name : Name) (from : ℕ × Key) → IsSound s → FitsSigned w32 head → FitsSigned w32 dest
-    → context_of s client number ≡ Ok c → sought_name type_name desc ≡ Ok name
+    → context_of s client number ≡ Ok c → sought ≡ Ok name
     → look_up s c (to_z w32 (of_z w32 head)) (Granted SEARCH) ≡ Ok from → (of_z w32 dest ≡ 0 → ⊥)
     → Makes (Some special) s number c (to_z w32 (of_z w32 dest))
-    → SeeksNew special s client number head type_name desc dest c name from
-seeks_new special s client number head type_name desc dest c name from sound head_fits dest_fits own named from_found
+    → SeeksNew special s client number head sought dest c name from
+seeks_new special s client number head sought dest c name from sound head_fits dest_fits own named from_found
     wanted makes =
     let makes_it = subst (Makes (Some special) s number c) (to_z-of_z w32 dest dest_fits) makes in
     record {
@@ -262,66 +262,66 @@ seeks_new special s client number head type_name desc dest c name from sound hea
     }
 
 search_is_new :
-    (special : Special) (s : State) (client number : ℕ) (head : ℤ) (type_name desc : List ℕ) (dest : ℤ) (c : Context)
-    (name : Name) (from : ℕ × Key) → SeeksNew special s client number head type_name desc dest c name from
-    → search_from s client number head type_name desc dest
+    (special : Special) (s : State) (client number : ℕ) (head : ℤ) (sought : Result Name Errno) (dest : ℤ) (c : Context)
+    (name : Name) (from : ℕ × Key) → SeeksNew special s client number head sought dest c name from
+    → search_named s client number head sought dest
     ≡ within_serials s (sought_into (with_ring special s number c) (context_with special s c) from name dest)
-unfolding search_from
-search_is_new special s client number head type_name desc dest c name from l =
+unfolding search_named
+search_is_new special s client number head sought dest c name from l =
     rw (l.own, l.named, l.from_found, l.wanted, l.new.is) refl
 
 -- a search whose destination is made comes to the link of what it finds
 search_new :
-    (special : Special) (s : State) (client number : ℕ) (head : ℤ) (type_name desc : List ℕ) (dest : ℤ) (c : Context)
-    (name : Name) (from : ℕ × Key) → SeeksNew special s client number head type_name desc dest c name from
-    → search_from s client number head type_name desc dest
+    (special : Special) (s : State) (client number : ℕ) (head : ℤ) (sought : Result Name Errno) (dest : ℤ) (c : Context)
+    (name : Name) (from : ℕ × Key) → SeeksNew special s client number head sought dest c name from
+    → search_named s client number head sought dest
     ≡ (found_below s c from name >>= (λ k. found_made special s client number k))
-search_new special s client number head type_name desc dest c name from l =
+search_new special s client number head sought dest c name from l =
     let there : at s.keys from.0 ≡ Some from.1 = (look_up_usable s c head (Granted SEARCH) from l.from_found).there in
     let apart : from.0 ≢ s.next_serial = other s from.0 l.new.fit.none (rw there refl) in
     let into = sought_into_new s (with_ring special s number c) c (context_with special s c)
     (special_name special).desc (before special c) (behind special s c) from name dest l.new.made l.new.fit.linked
     l.new.fit.none l.new.named apart in
-    search_is_new special s client number head type_name desc dest c name from l
+    search_is_new special s client number head sought dest c name from l
     ∙ (ap (within_serials s) into
     ∙ by_links special s client number c dest name from.0 (ring_links from.1.content) l.own l.new)
 
 -- a search that finds nothing
 pub search_new_refused :
-    (special : Special) (s : State) (client number : ℕ) (head : ℤ) (type_name desc : List ℕ) (dest : ℤ) (c : Context)
-    (name : Name) (from : ℕ × Key) (e : Errno) → SeeksNew special s client number head type_name desc dest c name from
-    → found_below s c from name ≡ Err e → (search_from s client number head type_name desc dest ≡ Err e) × (s ≡ s)
-search_new_refused special s client number head type_name desc dest c name from e l h = (
-  search_new special s client number head type_name desc dest c name from l
+    (special : Special) (s : State) (client number : ℕ) (head : ℤ) (sought : Result Name Errno) (dest : ℤ) (c : Context)
+    (name : Name) (from : ℕ × Key) (e : Errno) → SeeksNew special s client number head sought dest c name from
+    → found_below s c from name ≡ Err e → (search_named s client number head sought dest ≡ Err e) × (s ≡ s)
+search_new_refused special s client number head sought dest c name from e l h = (
+  search_new special s client number head sought dest c name from l
       ∙ refused_first e (found_below s c from name) (λ k. found_made special s client number k) h,
   refl,
 )
 
 -- a search that finds a key
 pub search_new_links :
-    (special : Special) (s : State) (client number : ℕ) (head : ℤ) (type_name desc : List ℕ) (dest : ℤ) (c : Context)
+    (special : Special) (s : State) (client number : ℕ) (head : ℤ) (sought : Result Name Errno) (dest : ℤ) (c : Context)
     (name : Name) (from : ℕ × Key) (serial : ℕ)
-    → SeeksNew special s client number head type_name desc dest c name from
+    → SeeksNew special s client number head sought dest c name from
     → found_below s c from name ≡ Ok serial
-    → search_from s client number head type_name desc dest ≡ found_made special s client number serial
-search_new_links special s client number head type_name desc dest c name from serial l found_it =
-    search_new special s client number head type_name desc dest c name from l ∙ rw found_it refl
+    → search_named s client number head sought dest ≡ found_made special s client number serial
+search_new_links special s client number head sought dest c name from serial l found_it =
+    search_new special s client number head sought dest c name from l ∙ rw found_it refl
 
 -- what REQUEST has looked up, with a destination that is made
-pub record RequestsNew (special : Special) (s : State) (client number : ℕ) (type_name desc : List ℕ) (dest : ℤ)
+pub record RequestsNew (special : Special) (s : State) (client number : ℕ) (sought : Result Name Errno) (dest : ℤ)
     (c : Context) (name : Name) : Type 0 where
   pub own : context_of s client number ≡ Ok c
-  pub named : sought_name type_name desc ≡ Ok name
+  pub named : sought ≡ Ok name
   pub wanted : has_destination dest ≡ true
   pub new : IsNew special s number c dest
 
 pub requests_new :
-    (special : Special) (s : State) (client number : ℕ) (type_name desc : List ℕ) (dest : ℤ) (c : Context)
+    (special : Special) (s : State) (client number : ℕ) (sought : Result Name Errno) (dest : ℤ) (c : Context)
     (name : Name) → IsSound s → FitsSigned w32 dest → context_of s client number ≡ Ok c
-    → sought_name type_name desc ≡ Ok name
+    → sought ≡ Ok name
     → (of_z w32 dest ≡ 0 → ⊥) → Makes (Some special) s number c (to_z w32 (of_z w32 dest))
-    → RequestsNew special s client number type_name desc dest c name
-requests_new special s client number type_name desc dest c name sound dest_fits own named wanted makes =
+    → RequestsNew special s client number sought dest c name
+requests_new special s client number sought dest c name sound dest_fits own named wanted makes =
     let makes_it = subst (Makes (Some special) s number c) (to_z-of_z w32 dest dest_fits) makes in
     record {
       own = own;
@@ -331,43 +331,43 @@ requests_new special s client number type_name desc dest c name sound dest_fits 
     }
 
 request_is_new :
-    (special : Special) (s : State) (client number : ℕ) (type_name desc : List ℕ) (dest : ℤ) (c : Context)
-    (name : Name) → RequestsNew special s client number type_name desc dest c name
-    → request s client number type_name desc dest
+    (special : Special) (s : State) (client number : ℕ) (sought : Result Name Errno) (dest : ℤ) (c : Context)
+    (name : Name) → RequestsNew special s client number sought dest c name
+    → request_named s client number sought dest
     ≡ within_serials s (requested_into (with_ring special s number c) (context_with special s c) name dest)
-unfolding request
-request_is_new special s client number type_name desc dest c name l =
+unfolding request_named
+request_is_new special s client number sought dest c name l =
     rw (l.own, l.named, l.wanted, l.new.is) refl
 
 -- a request whose destination is made comes to the link of what it finds beside it
 request_new :
-    (special : Special) (s : State) (client number : ℕ) (type_name desc : List ℕ) (dest : ℤ) (c : Context)
-    (name : Name) → RequestsNew special s client number type_name desc dest c name
-    → request s client number type_name desc dest
+    (special : Special) (s : State) (client number : ℕ) (sought : Result Name Errno) (dest : ℤ) (c : Context)
+    (name : Name) → RequestsNew special s client number sought dest c name
+    → request_named s client number sought dest
     ≡ (beside special s c name >>= (λ k. found_made special s client number k))
-request_new special s client number type_name desc dest c name l =
+request_new special s client number sought dest c name l =
     let into = requested_into_new s (with_ring special s number c) c (context_with special s c)
     (special_name special).desc (before special c) (behind special s c) name dest l.new.made l.new.named in
-    request_is_new special s client number type_name desc dest c name l
+    request_is_new special s client number sought dest c name l
     ∙ (ap (within_serials s) (into ∙ ap (into_new special s number c) (asked special s number c dest name l.new))
     ∙ by_name special s client number c dest name (is_of_name special c name) l.own l.new)
 
 -- a request that finds nothing beside it
 pub request_new_refused :
-    (special : Special) (s : State) (client number : ℕ) (type_name desc : List ℕ) (dest : ℤ) (c : Context)
-    (name : Name) (e : Errno) → RequestsNew special s client number type_name desc dest c name
-    → beside special s c name ≡ Err e → (request s client number type_name desc dest ≡ Err e) × (s ≡ s)
-request_new_refused special s client number type_name desc dest c name e l h = (
-  request_new special s client number type_name desc dest c name l
+    (special : Special) (s : State) (client number : ℕ) (sought : Result Name Errno) (dest : ℤ) (c : Context)
+    (name : Name) (e : Errno) → RequestsNew special s client number sought dest c name
+    → beside special s c name ≡ Err e → (request_named s client number sought dest ≡ Err e) × (s ≡ s)
+request_new_refused special s client number sought dest c name e l h = (
+  request_new special s client number sought dest c name l
       ∙ refused_first e (beside special s c name) (λ k. found_made special s client number k) h,
   refl,
 )
 
 -- a request that finds a key
 pub request_new_links :
-    (special : Special) (s : State) (client number : ℕ) (type_name desc : List ℕ) (dest : ℤ) (c : Context)
-    (name : Name) (serial : ℕ) → RequestsNew special s client number type_name desc dest c name
+    (special : Special) (s : State) (client number : ℕ) (sought : Result Name Errno) (dest : ℤ) (c : Context)
+    (name : Name) (serial : ℕ) → RequestsNew special s client number sought dest c name
     → beside special s c name ≡ Ok serial
-    → request s client number type_name desc dest ≡ found_made special s client number serial
-request_new_links special s client number type_name desc dest c name serial l found_it =
-    request_new special s client number type_name desc dest c name l ∙ rw found_it refl
+    → request_named s client number sought dest ≡ found_made special s client number serial
+request_new_links special s client number sought dest c name serial l found_it =
+    request_new special s client number sought dest c name l ∙ rw found_it refl

@@ -1,19 +1,22 @@
 -- What the store makes of a key that a search or a request found.
-use Rattle.std.specs.Prelude.{ℕ, Result, Ok, Err, if◌then◌else◌}
+use Rattle.std.specs.Prelude.{ℕ, ℤ, Result, Ok, Err, if◌then◌else◌}
 use Rattle.krs_types.specs.declared.errno.Errno.{Errno}
 use Rattle.krs_types.specs.declared.errno.Errno.TheVariants.{ENOKEY, EACCES, EPERM}
 use Rattle.krs_types.specs.declared.context.Context.{Context}
 use Rattle.krs_types.specs.declared.name.Name.{Name}
 use Rattle.krs_types.specs.declared.ask.Answer.TheVariants.{Number}
-use Rattle.krs_types.specs.Rights.{has_all, LINK}
+use Rattle.krs_types.specs.declared.rights.Want.TheVariants.{Granted}
+use Rattle.krs_types.specs.Rights.{has_all, SEARCH, LINK}
 use Rattle.krs_types.specs.Refusing.{◌>>=◌, or_refuse}
 use Rattle.krs_model.specs.Table.{at}
 use Rattle.krs_model.specs.State.{State, Key}
 use Rattle.krs_model.specs.Access.{rights_on}
 use Rattle.krs_model.specs.Possession.{possessed}
-use Rattle.krs_model.specs.Lookup.{context_of}
+use Rattle.krs_model.specs.Lookup.{context_of, look_up}
 use Rattle.krs_model.specs.Linking.{linking, ring_links}
 use Rattle.krs_model.specs.Search.{found}
+use Rattle.krs_model.specs.Making.{within_serials}
+use Rattle.krs_model.specs.Asks.Finding.{searched_for, requested_for}
 use Rattle.krs_model.specs.Asks.Changing.{changed}
 use Rattle.krs_model.specs.Asks.Linked.{name_of, nestable, unless}
 use Rattle.krs_model.specs.Outcome.{Outcome}
@@ -45,3 +48,18 @@ link_found s client context into serial = do
   nests ← nestable s.keys into serial
   room ← room_in s.keys into (name_of key)
   Ok (changed s into (linking s.keys (name_of key) serial), Number serial)
+
+-- a search for what is sought, or its refusal
+unfoldable pub search_named : State → ℕ → ℕ → ℤ → Result Name Errno → ℤ → Outcome
+search_named s client number head sought dest = do
+  c ← context_of s client number
+  name ← sought
+  from ← look_up s c head (Granted SEARCH)
+  within_serials s (searched_for s number c from name dest)
+
+-- a request for what is sought, or its refusal
+unfoldable pub request_named : State → ℕ → ℕ → Result Name Errno → ℤ → Outcome
+request_named s client number sought dest = do
+  c ← context_of s client number
+  name ← sought
+  within_serials s (requested_for s number c name dest)

@@ -7,7 +7,7 @@ ghost use Rattle.krs_model.specs.Asks.Adding.{IsKeyringAt};
 ghost use Rattle.krs_model.specs.Lookup.{context_of};
 ghost use Rattle.krs_model.specs.Sound.{IsSound};
 ghost use Rattle.krs_model.specs.Asks.Finding.{search_from, request, sought_name, sought_from, found_alone};
-ghost use Rattle.krs_ring_asks.specs.Found.{found_below, link_found, linkable};
+ghost use Rattle.krs_ring_asks.specs.Found.{found_below, link_found, linkable, request_named, search_named};
 ghost use Rattle.krs_tables.specs.Specials.{IsMissing};
 ghost use Rattle.krs_ring_asks.specs.Beside.{found_made, found_before, beside};
 ghost use Rattle.krs_keys.specs.Keys.{seen};
@@ -34,9 +34,18 @@ fn sought_name(tables: &Tables, type_name: TypeName, desc: Blob) -> Result<Hashe
     }))
 }
 
+/// The name that is looked for, or its refusal.
+fn found_name(name: &Result<HashedName, Errno>) -> Result<&HashedName, Errno>
+    ensures { Is (λ name. name.now) result name.now }
+{
+    match name {
+        Ok(name) => Ok(name),
+        Err(errno) => Err(*errno),
+    }
+}
+
 /// A key of that type and description, from a keyring on, and a link to it in a destination other than 0, which
 /// is made where it is wanted: keyctl(2), KEYCTL_SEARCH.
-#[tactic(auto, unfolding(krs_model::specs::Asks::Finding::search_from))]
 pub fn search(
     tables: &mut Tables,
     client: u32,
@@ -51,26 +60,44 @@ pub fn search(
         (search_from tables.old client number head type_name desc dest) }
     ensures memory { IsErrOf result Fault.Memory → has_destination dest ≡ true }
 {
+    let name = sought_name(tables, type_name, desc);
+    search_named(tables, client, number, head, &name, dest)
+}
+
+/// The same for a name, or its refusal, which is lent, so that no return lets it go.
+#[tactic(auto, unfolding(crate::specs::Found::search_named))]
+fn search_named(
+    tables: &mut Tables,
+    client: u32,
+    number: u32,
+    head: i32,
+    name: &Result<HashedName, Errno>,
+    dest: i32,
+) -> Result<Answer, Fault>
+    requires sound { IsSound tables.old }
+    ensures step { Leads tables.old result tables.new
+        (search_named tables.old client number head name.now dest) }
+    ensures memory { IsErrOf result Fault.Memory → has_destination dest ≡ true }
+{
     let context = tables.context_of(client, number)?;
-    let name = sought_name(tables, type_name, desc)?;
+    let name = found_name(name)?;
     let (head, from) = tables.look_up(context, head, Want::Granted(Rights::SEARCH))?;
     if dest == 0 {
-        return Ok(find_from(tables, context, head, from, &name)?);
+        return Ok(find_from(tables, context, head, from, name)?);
     }
     if let Some(special) = tables.wanted(number, context, dest) {
-        let serial = find_in(tables, context, head, from, &name)?;
+        let serial = find_in(tables, context, head, from, name)?;
         return link_found_new(tables, client, number, special, serial);
     }
     let (into, ring) = tables.look_up(context, dest, Want::Granted(Rights::WRITE))?;
     links_of(from)?;
     links_of(ring)?;
-    let serial = find(tables, context, head, &name)?;
+    let serial = find(tables, context, head, name)?;
     link_found(tables, client, number, into, serial)
 }
 
 /// A key of that type and description, from the attached keyrings on, and a link to it in a destination other
 /// than 0, which is made where it is wanted: request_key(2).
-#[tactic(auto, unfolding(krs_model::specs::Asks::Finding::request))]
 pub fn request(
     tables: &mut Tables,
     client: u32,
@@ -83,18 +110,36 @@ pub fn request(
     ensures step { Leads tables.old result tables.new (request tables.old client number type_name desc dest) }
     ensures memory { IsErrOf result Fault.Memory → has_destination dest ≡ true }
 {
+    let name = sought_name(tables, type_name, desc);
+    request_named(tables, client, number, &name, dest)
+}
+
+/// The same for a name, or its refusal, which is lent.
+#[tactic(auto, unfolding(crate::specs::Found::request_named))]
+fn request_named(
+    tables: &mut Tables,
+    client: u32,
+    number: u32,
+    name: &Result<HashedName, Errno>,
+    dest: i32,
+) -> Result<Answer, Fault>
+    requires sound { IsSound tables.old }
+    ensures step { Leads tables.old result tables.new
+        (request_named tables.old client number name.now dest) }
+    ensures memory { IsErrOf result Fault.Memory → has_destination dest ≡ true }
+{
     let context = tables.context_of(client, number)?;
-    let name = sought_name(tables, type_name, desc)?;
+    let name = found_name(name)?;
     if dest == 0 {
-        return Ok(request_alone(tables, context, &name)?);
+        return Ok(request_alone(tables, context, name)?);
     }
     if let Some(special) = tables.wanted(number, context, dest) {
-        let serial = find_beside(tables, context, special, &name)?;
+        let serial = find_beside(tables, context, special, name)?;
         return link_found_new(tables, client, number, special, serial);
     }
     let (into, ring) = tables.look_up(context, dest, Want::Granted(Rights::WRITE))?;
     links_of(ring)?;
-    let serial = find_attached(tables, context, &name)?;
+    let serial = find_attached(tables, context, name)?;
     link_found(tables, client, number, into, serial)
 }
 
