@@ -23,6 +23,11 @@ pub enum Command {
     Readq { queue: u32, room: u32 },
 }
 
+impl Command {
+    /// Lets a command go. Where it ends without this call, the place has to be proved for each ask that it may hold.
+    pub fn let_go(self) {}
+}
+
 /// Reads the words behind a first one of a group as its row says, and goes on behind that where it is none of them.
 macro_rules! read {
     (contexts, $with:tt; contexts { $($rows:tt)* } $($others:tt)*) => { read!(@$with $($rows)*) };

@@ -18,6 +18,7 @@ pub fn call_command(alloc: Global, words: &[&[u8]]) -> Result<Command, NoCommand
     if is_single(&command) {
         Ok(command)
     } else {
+        command.let_go();
         Err(NoCommand::Usage)
     }
 }
@@ -45,7 +46,10 @@ pub fn run_call<W: Write, F: Read + Drop, T: Write>(
 {
     match Remote::start(alloc, from) {
         Ok(mut remote) => remote.call_once(alloc, to, caller, command, writer),
-        Err(stop) => finish(writer, &mut Vec::new(alloc), Err(stop), false),
+        Err(stop) => {
+            command.let_go();
+            finish(writer, &mut Vec::new(alloc), Err(stop), false)
+        }
     }
 }
 
