@@ -221,9 +221,10 @@ fn choice_of_call(
     ensures { IfOk result (CallsOver path.now caller (map (λ w. w.now) words.now)) }
 {
     let words = bytes_of(alloc, words)?;
+    let path = String::from_str(alloc, path)?;
     match call_command(alloc, words.as_slice()) {
         Ok(command) => Ok(Choice::Call(Call {
-            path: String::from_str(alloc, path)?,
+            path,
             caller,
             command,
         })),

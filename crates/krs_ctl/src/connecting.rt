@@ -75,6 +75,7 @@ pub(crate) fn call_at<N: Net, W: Write, E: Write>(
         Err(error) => {
             let status = say_unconnected(output, &error);
             tell_end(alloc, errors, call.path.as_str(), status, Some(error));
+            call.command.let_go();
             status
         }
     }
