@@ -7,6 +7,7 @@ mod asks;
 mod faults;
 mod pieces;
 mod replies;
+mod told;
 
 // READ of 5 in context 1.
 const READ: [u8; 16] = [0x0c, 0, 0, 0, 1, 0, 0x0b, 0, 1, 0, 0, 0, 5, 0, 0, 0];

@@ -1,4 +1,5 @@
 //! Every ask, as its frame and its reply encode it.
+use super::told::told;
 use super::{NOTHING, READ, TAG, is_fault, is_reply, with_tag};
 use krs_store_asks::Want;
 use krs_types::{Ask, Op};
@@ -47,14 +48,14 @@ const NOTES: Form = (
 #[rattlefmt::skip]
 static ASKS: [(&[u8], &str, Form); 32] = [
     (&[0x14, 0, 0, 0, 1, 0, 0, 1, 0, 0, 0, 0, 0xe8, 3, 0, 0, 0xe8, 3, 0, 0, 0, 0, 0, 0],
-        "0 Hello(Caller { uid: 1000, gid: 1000, groups: Groups { gids: [] } })", NUMBER),
+        "0 Hello { uid: 1000, gid: 1000, groups: [] }", NUMBER),
     (&[0x1f, 0, 0, 0, 1, 0, 6, 1, 1, 0, 0, 0, 4, 0, 0x75, 0x73, 0x65, 0x72, 5, 0, 0x61, 0x6c, 0x70, 0x68, 0x61,
         2, 0, 0, 0, 0x73, 0x33, 0xfc, 0xff, 0xff, 0xff],
-        "1 Add { type_name: TypeName { given: Known(User) }, desc: Blob { bytes: [97, 108, 112, 104, 97] }, \
-        payload: Blob { bytes: [115, 51] }, ring: -4 }", NUMBER),
+        "1 Add { type_name: [117, 115, 101, 114], desc: [97, 108, 112, 104, 97], \
+        payload: [115, 51], ring: -4 }", NUMBER),
     (&READ, "1 Read { id: 5 }", S3),
     (&[0x12, 0, 0, 0, 1, 0, 2, 0, 1, 0, 0, 0, 5, 0, 0, 0, 2, 0, 0, 0, 0x73, 0x34],
-        "1 Update { id: 5, payload: Blob { bytes: [115, 52] } }", DONE),
+        "1 Update { id: 5, payload: [115, 52] }", DONE),
     (&[0x0c, 0, 0, 0, 1, 0, 3, 0, 1, 0, 0, 0, 0xfc, 0xff, 0xff, 0xff], "1 Revoke { id: -4 }", DONE),
     (&[0x14, 0, 0, 0, 1, 0, 4, 0, 1, 0, 0, 0, 5, 0, 0, 0, 0xe8, 3, 0, 0, 0xff, 0xff, 0xff, 0xff],
         "1 Chown { id: 5, uid: 1000, gid: 4294967295 }", DONE),
@@ -66,22 +67,22 @@ static ASKS: [(&[u8], &str, Form); 32] = [
     (&[0x18, 0, 0, 0, 1, 0, 0x1e, 0, 1, 0, 0, 0, 7, 0, 0, 0, 5, 0, 0, 0, 6, 0, 0, 0, 1, 0, 0, 0],
         "1 Move { key: 7, from: 5, to: 6, flags: 1 }", DONE),
     (&[0x0e, 0, 0, 0, 1, 0, 0x1d, 0, 1, 0, 0, 0, 5, 0, 0, 0, 0, 0],
-        "1 RestrictKeyring { ring: 5, type_name: TypeName { given: Empty } }", DONE),
+        "1 RestrictKeyring { ring: 5, type_name: [] }", DONE),
     (&[0x0c, 0, 0, 0, 1, 0, 7, 0, 1, 0, 0, 0, 5, 0, 0, 0], "1 Clear { id: 5 }", DONE),
     (&[0x0d, 0, 0, 0, 1, 0, 0, 0, 1, 0, 0, 0, 0xff, 0xff, 0xff, 0xff, 1], "1 GetId { id: -1, create: true }", NUMBER),
     (&[0x0d, 0, 0, 0, 1, 0, 0, 0, 1, 0, 0, 0, 5, 0, 0, 0, 0], "1 GetId { id: 5, create: false }", NUMBER),
-    (&[0x0a, 0, 0, 0, 1, 0, 1, 0, 1, 0, 0, 0, 0, 0], "1 Join { name: Blob { bytes: [] } }", NUMBER),
-    (&[0x0b, 0, 0, 0, 1, 0, 1, 0, 1, 0, 0, 0, 1, 0, 0x73], "1 Join { name: Blob { bytes: [115] } }", NUMBER),
+    (&[0x0a, 0, 0, 0, 1, 0, 1, 0, 1, 0, 0, 0, 0, 0], "1 Join { name: [] }", NUMBER),
+    (&[0x0b, 0, 0, 0, 1, 0, 1, 0, 1, 0, 0, 0, 1, 0, 0x73], "1 Join { name: [115] }", NUMBER),
     (&[8, 0, 0, 0, 1, 0, 1, 1, 1, 0, 0, 0], "1 Thread", NUMBER),
     (&[8, 0, 0, 0, 1, 0, 2, 1, 1, 0, 0, 0], "1 Fork", NUMBER),
     (&[0x1d, 0, 0, 0, 1, 0, 0x0a, 0, 1, 0, 0, 0, 0xfd, 0xff, 0xff, 0xff, 4, 0, 0x75, 0x73, 0x65, 0x72,
         5, 0, 0x61, 0x6c, 0x70, 0x68, 0x61, 6, 0, 0, 0],
-        "1 Search { head: -3, type_name: TypeName { given: Known(User) }, \
-        desc: Blob { bytes: [97, 108, 112, 104, 97] }, dest: 6 }", NUMBER),
+        "1 Search { head: -3, type_name: [117, 115, 101, 114], \
+        desc: [97, 108, 112, 104, 97], dest: 6 }", NUMBER),
     (&[0x19, 0, 0, 0, 1, 0, 7, 1, 1, 0, 0, 0, 4, 0, 0x75, 0x73, 0x65, 0x72, 5, 0, 0x61, 0x6c, 0x70, 0x68, 0x61,
         0, 0, 0, 0],
-        "1 Request { type_name: TypeName { given: Known(User) }, \
-        desc: Blob { bytes: [97, 108, 112, 104, 97] }, dest: 0 }", NUMBER),
+        "1 Request { type_name: [117, 115, 101, 114], \
+        desc: [97, 108, 112, 104, 97], dest: 0 }", NUMBER),
     (&[0x0c, 0, 0, 0, 1, 0, 0x15, 0, 1, 0, 0, 0, 6, 0, 0, 0], "1 Invalidate { id: 6 }", DONE),
     (&[0x0c, 0, 0, 0, 1, 0, 0x15, 0, 1, 0, 0, 0, 0xfc, 0xff, 0xff, 0xff], "1 Invalidate { id: -4 }", DONE),
     (&[8, 0, 0, 0, 1, 0, 3, 1, 1, 0, 0, 0], "1 Exec", DONE),
@@ -92,11 +93,11 @@ static ASKS: [(&[u8], &str, Form); 32] = [
         "1 Watch { id: -4, queue: 1, watch: -1 }", DONE),
     (&[0x0c, 0, 0, 0, 1, 0, 8, 1, 1, 0, 0, 0, 8, 0, 0, 0], "1 OpenQueue { capacity: 8 }", NUMBER),
     (&[0x10, 0, 0, 0, 1, 0, 9, 1, 1, 0, 0, 0, 1, 0, 0, 0, 0, 0, 0, 0],
-        "1 SetFilter { queue: 1, entries: FilterEntries { entries: [] } }", DONE),
+        "1 SetFilter { queue: 1, entries: [] }", DONE),
     (&[0x3c, 0, 0, 0, 1, 0, 9, 1, 1, 0, 0, 0, 1, 0, 0, 0, 1, 0, 0, 0, 1, 0, 0, 0, 0, 5, 0, 0, 0, 0xff, 0, 0,
         2, 0, 0, 0, 0, 0, 0, 0x80, 3, 0, 0, 0, 4, 0, 0, 0, 5, 0, 0, 0, 6, 0, 0, 0, 7, 0, 0, 0, 8, 0, 0, 0],
-        "1 SetFilter { queue: 1, entries: FilterEntries { entries: [FilterEntry { note_type: 1, info_filter: 1280, \
-        info_mask: 65280, subtypes: [2, 2147483648, 3, 4, 5, 6, 7, 8] }] } }", DONE),
+        "1 SetFilter { queue: 1, entries: [FilterEntry { note_type: 1, info_filter: 1280, \
+        info_mask: 65280, subtypes: [2, 2147483648, 3, 4, 5, 6, 7, 8] }] }", DONE),
     (&[0x10, 0, 0, 0, 1, 0, 0x0a, 1, 1, 0, 0, 0, 1, 0, 0, 0, 0x40, 0, 0, 0], "1 ReadQueue { queue: 1, room: 64 }", NOTES),
     (&[0x0c, 0, 0, 0, 1, 0, 0x0b, 1, 1, 0, 0, 0, 1, 0, 0, 0], "1 CloseQueue { queue: 1 }", DONE),
 ];
@@ -108,8 +109,9 @@ pub(super) fn asks() -> &'static [(&'static [u8], &'static str, Form)] {
 /// Whether the ask is encoded so in words and in bytes.
 fn is_ask(alloc: Global, ask: &Ask, text: &str, frame: &[u8]) -> Result<bool, WireFault> {
     let (context, op) = (ask.context, &ask.op);
-    let told = format!(in alloc; "{context} {op:?}")?;
-    Ok(told.as_str() == text && encode_ask(alloc, ask)?.as_slice() == frame)
+    let asked = told(alloc, op)?;
+    let words = format!(in alloc; "{context} {asked}")?;
+    Ok(words.as_str() == text && encode_ask(alloc, ask)?.as_slice() == frame)
 }
 
 /// Whether the reply to the ask has this form alone.
