@@ -98,15 +98,23 @@ def build_library(rt, crate, flags):
         return crate.build_rlib(flags, False)
     if hasattr(rt, "take_rlib") and rt.take_rlib(crate):
         return 0
-    crate.cuts_libraries, stamp = True, crate.stamp()
-    status = crate.build_rlib(flags, True)
+    stamp = crate.stamp()
+    status = build_statements(rt, crate, flags)
     if not status and stamp == crate.stamp():
-        # rt writes none for a library of statements, which fits only the libraries below that it was built over
         with open(f"{crate.folder}/out/rlib/stamp", "w", encoding="utf-8") as file:
             file.write(stamp)
         if hasattr(rt, "offer"):
             rt.offer(crate, stamp)
     return status
+
+
+def build_statements(rt, crate, flags):
+    """Proves a crate from nothing, over libraries that may rest on work that was kept, and builds a library of its
+    statements. Returns the status."""
+    shutil.rmtree(f"{crate.folder}/out/rlib", ignore_errors=True)
+    os.makedirs(f"{crate.folder}/out/rlib")
+    words = [*crate.words(flags, keeps=False), "--statements", "-o", crate.rlib]
+    return crate.call(rt.rtlib.RATTLE, "build", *words)
 
 
 def load():
