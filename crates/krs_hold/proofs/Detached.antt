@@ -21,7 +21,7 @@ use Rattle.krs_hold.proofs.Gathered.{gathered}
 use Rattle.krs_hold.proofs.Tallies.{tallied_let_go_all}
 
 -- how often a serial is left where one key goes
-abbrev left : ℕ → ℕ → ℕ → ℕ
+abbrev pub left : ℕ → ℕ → ℕ → ℕ
 left serial q n = cond (q == serial) 0 n
 
 left-none : (serial q : ℕ) → 0 ≡ left serial q 0
@@ -61,7 +61,7 @@ kept-one : (serial q k : ℕ) → (k == serial) ≡ false → cond (k == q) 1 0 
 kept-one serial q k h = grind (arith, nat_tests)
 
 -- of a list without the key
-times-others :
+pub times-others :
     (serial q : ℕ) (ks : List ℕ)
     → times q (filter (λ k. not (k == serial)) ks) ≡ left serial q (times q ks)
 times-others serial q [] = left-none serial q
@@ -104,7 +104,7 @@ times-two serial q a b =
     (option_to_list (detached serial b)) (times-detached serial q a) (times-detached serial q b)
 
 -- of all attachments
-times-roots : (s : State) (serial q : ℕ) → times q (roots (invalidated s serial)) ≡ left serial q (times q (roots s))
+pub times-roots : (s : State) (serial q : ℕ) → times q (roots (invalidated s serial)) ≡ left serial q (times q (roots s))
 times-roots s serial q =
     let two : Option ℕ → Option ℕ → List ℕ = λ a b. option_to_list a ++ option_to_list b in
     let contexts = times-map (λ (c : Context). two c.thread c.session) (context_without serial) serial q s.contexts

@@ -120,6 +120,13 @@ impl Holders {
         Ok(())
     }
 
+    /// How many links and attachments hold a key.
+    pub fn number(&self, serial: Serial) -> u64
+        ensures { result ≡ number_at self.now serial }
+    {
+        holders(&self.counts, serial.number())
+    }
+
     /// Whether so many more may hold a key. It is for the caller to ask before it changes anything.
     pub fn has_room(&self, serial: Serial, more: u64) -> bool
         ensures { result ≡ nat_le (number_at self.now serial + more) (2 ^ 64 - 1) }
