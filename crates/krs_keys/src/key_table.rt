@@ -14,9 +14,10 @@ ghost use Rattle.krs_keys.specs.Keys.{joinable_in};
 ghost use Rattle.krs_keys.specs.Places.{by_place, keyrings_in, ArePlaced};
 ghost use Rattle.krs_keys.specs.Sessions.{AreSessions};
 
+use crate::linkers::Linkers;
 use crate::placed::PlacedKeys;
 use crate::sessions::Sessions;
-use crate::{Change, Key};
+use crate::{Change, Content, Key};
 use krs_links::{HashedName, Seed};
 use krs_types::{Caller, Errno, Serial};
 use std::alloc::Global;
@@ -30,6 +31,8 @@ pub const LAST_SERIAL: u32 = 2_147_483_647;
 pub struct KeyTable {
     keys: PlacedKeys,
     sessions: Sessions,
+    /// Where to look for the links of a key. No contract speaks of it.
+    linkers: Linkers,
     next: u32,
 }
 
@@ -55,6 +58,7 @@ impl KeyTable {
         KeyTable {
             keys: PlacedKeys::new(alloc),
             sessions: Sessions::new(alloc, seed),
+            linkers: Linkers::new(alloc),
             next,
         }
     }
@@ -128,7 +132,15 @@ impl KeyTable {
         if serial > LAST_SERIAL {
             return Err(Errno::ENOSPC);
         }
-        put_in(&mut self.keys, &mut self.sessions, serial, key)?;
+        put_in(
+            &mut self.keys,
+            &mut self.sessions,
+            &mut self.linkers,
+            serial,
+            key,
+            0,
+        )?;
+        note_links(&self.keys, &mut self.linkers, serial);
         self.next += 1;
         Ok(Serial::new(serial))
     }
@@ -148,7 +160,16 @@ impl KeyTable {
         if serial >= LAST_SERIAL {
             return Err(Errno::ENOSPC);
         }
-        put_two(&mut self.keys, &mut self.sessions, serial, first, second)?;
+        put_two(
+            &mut self.keys,
+            &mut self.sessions,
+            &mut self.linkers,
+            serial,
+            first,
+            second,
+        )?;
+        note_links(&self.keys, &mut self.linkers, serial);
+        note_links(&self.keys, &mut self.linkers, serial + 1);
         self.next += 2;
         Ok(Serial::new(serial))
     }
@@ -173,14 +194,27 @@ impl KeyTable {
         if serial > LAST_SERIAL {
             return Err(Errno::ENOSPC);
         }
-        put_in(&mut self.keys, &mut self.sessions, serial, key)?;
+        put_in(
+            &mut self.keys,
+            &mut self.sessions,
+            &mut self.linkers,
+            serial,
+            key,
+            ring.number(),
+        )?;
         match self.keys.link(ring.number(), name, Serial::new(serial)) {
             Ok(displaced) => {
+                forget(&self.keys, &mut self.linkers, ring.number(), &displaced);
                 self.next += 1;
                 Ok(displaced)
             }
             Err(error) => {
-                let _ = take_out(&mut self.keys, &mut self.sessions, serial);
+                let _ = take_out(
+                    &mut self.keys,
+                    &mut self.sessions,
+                    &mut self.linkers,
+                    serial,
+                );
                 Err(error)
             }
         }
@@ -203,6 +237,8 @@ impl KeyTable {
         ensures err { OnErr result (self.new ≡ self.old) }
     {
         let displaced = self.keys.link(ring.number(), name, serial)?;
+        forget(&self.keys, &mut self.linkers, ring.number(), &displaced);
+        note(&self.keys, &mut self.linkers, ring.number(), serial);
         Ok(displaced)
     }
 
@@ -222,7 +258,28 @@ impl KeyTable {
         ensures keys { self.new ≡ record self.old { keys = alter self.old.keys ring (without_key serial) } }
         ensures stays { result ≡ false → self.new ≡ self.old }
     {
-        self.keys.unlink(ring.number(), serial)
+        let linked = self.keys.unlink(ring.number(), serial);
+        forget(&self.keys, &mut self.linkers, ring.number(), &Some(serial));
+        linked
+    }
+
+    /// Two keyrings that may link a key. They are hints: no clause speaks of them, and the links may be gone.
+    pub fn near_linkers(&self, serial: Serial) -> (Option<Serial>, Option<Serial>) {
+        match self.keys.place_of(serial.number()) {
+            Some(place) => {
+                let (first, second) = self.linkers.near(place);
+                (ring_at(first), ring_at(second))
+            }
+            None => (None, None),
+        }
+    }
+
+    /// A further keyring that links a key, by another such hint.
+    pub fn far_linker(&self, serial: Serial) -> Option<Serial> {
+        match self.linkers.far(serial.number()) {
+            Some(ring) => ring_at(ring),
+            None => None,
+        }
     }
 
     /// Takes a key out of all keyrings, from each by the key's own name. It takes no memory. keyctl(2),
@@ -232,12 +289,14 @@ impl KeyTable {
         ensures { self.new ≡ record self.old { keys = map_values (without_key serial) self.old.keys } }
     {
         self.keys.unlink_all(serial);
+        forget_key(&self.keys, &mut self.linkers, serial.number());
     }
 
     /// Changes the key at a serial, where there is one.
     pub fn set(&mut self, serial: Serial, change: Change)
         ensures { self.new ≡ record self.old { keys = alter self.old.keys serial (changed change) } }
     {
+        forget_taken(&self.keys, &mut self.linkers, serial.number(), &change);
         self.keys.change(serial.number(), change);
     }
 
@@ -247,16 +306,102 @@ impl KeyTable {
         ensures keys { self.new ≡ record self.old { keys = without self.old.keys serial } }
         ensures gone { at self.new.keys serial ≡ None }
     {
-        take_out(&mut self.keys, &mut self.sessions, serial.number())
+        take_out(
+            &mut self.keys,
+            &mut self.sessions,
+            &mut self.linkers,
+            serial.number(),
+        )
     }
 }
 
-/// A new key, which is listed where it is a keyring that JOIN made. A refusal leaves what is there: ENOMEM.
+/// The keyring of a serial, which 0 is of none.
+fn ring_at(ring: u32) -> Option<Serial> {
+    if ring == 0 {
+        return None;
+    }
+    Some(Serial::new(ring))
+}
+
+/// A keyring links a key from now on.
+#[inline(always)]
+fn note(keys: &PlacedKeys, linkers: &mut Linkers, ring: u32, serial: Serial) {
+    if let Some(place) = keys.place_of(serial.number()) {
+        linkers.add(place, serial.number(), ring);
+    }
+}
+
+/// A keyring links a key no more, if that is one.
+#[inline(always)]
+fn forget(keys: &PlacedKeys, linkers: &mut Linkers, ring: u32, serial: &Option<Serial>) {
+    if let Some(gone) = serial {
+        if let Some(place) = keys.place_of(gone.number()) {
+            linkers.remove(place, gone.number(), ring);
+        }
+    }
+}
+
+/// The key at a serial has come with its links.
+fn note_links(keys: &PlacedKeys, linkers: &mut Linkers, ring: u32) {
+    let Some(key) = keys.get(ring) else {
+        return;
+    };
+    if let Content::Links(links) = &key.content {
+        for place in 0..links.len() {
+            if let Some(serial) = links.serial_at(place) {
+                note(keys, linkers, ring, serial);
+            }
+        }
+    }
+}
+
+/// No keyring links the key at a serial any more.
+fn forget_key(keys: &PlacedKeys, linkers: &mut Linkers, serial: u32) {
+    if let Some(place) = keys.place_of(serial) {
+        linkers.remove_all(place, serial);
+    }
+}
+
+/// What a change is about to take out of the key at a serial is linked no more. Where no key has more than two links, the
+/// hints stay until another keyring wants their room.
+fn forget_taken(keys: &PlacedKeys, linkers: &mut Linkers, ring: u32, change: &Change) {
+    if !linkers.has_far() {
+        return;
+    }
+    match (change, keys.get(ring)) {
+        (Change::Revoked | Change::Cleared, Some(key)) => {
+            forget_each(keys, linkers, ring, &key.content);
+        }
+        _ => {}
+    }
+}
+
+/// A key has gone, and what it linked is linked no more.
+fn forget_gone(keys: &PlacedKeys, linkers: &mut Linkers, ring: u32, key: &Key) {
+    linkers.cut(keys.capacity());
+    if linkers.has_far() {
+        forget_each(keys, linkers, ring, &key.content);
+    }
+}
+
+/// What a keyring links it links no more.
+fn forget_each(keys: &PlacedKeys, linkers: &mut Linkers, ring: u32, content: &Content) {
+    if let Content::Links(links) = content {
+        for place in 0..links.len() {
+            forget(keys, linkers, ring, &links.serial_at(place));
+        }
+    }
+}
+
+/// A new key, which is listed where it is a keyring that JOIN made, and which a keyring is to link, where that is one. A
+/// refusal leaves what is there: ENOMEM.
 fn put_in(
     keys: &mut PlacedKeys,
     sessions: &mut Sessions,
+    linkers: &mut Linkers,
     serial: u32,
     key: Key,
+    ring: u32,
 ) -> Result<(), Errno>
     requires placed { ArePlaced keys.old }
     requires sessions { AreSessions sessions.old (by_place keys.old) }
@@ -267,10 +412,14 @@ fn put_in(
     ensures error { IfErr result (λ e. e ≡ Errno.ENOMEM) }
     ensures err { OnErr result (by_place keys.new ≡ by_place keys.old) }
 {
-    if keys.reserve(1).is_err() || sessions.list(serial, &key).is_err() {
+    if keys.reserve(1).is_err()
+        || linkers.reserve(keys.capacity()).is_err()
+        || sessions.list(serial, &key).is_err()
+    {
         return Err(Errno::ENOMEM);
     }
-    keys.put(serial, key);
+    let place = keys.put(serial, key);
+    linkers.begin(place, ring);
     Ok(())
 }
 
@@ -278,6 +427,7 @@ fn put_in(
 fn put_two(
     keys: &mut PlacedKeys,
     sessions: &mut Sessions,
+    linkers: &mut Linkers,
     serial: u32,
     first: Key,
     second: Key,
@@ -294,18 +444,23 @@ fn put_two(
     ensures error { IfErr result (λ e. e ≡ Errno.ENOMEM) }
     ensures err { OnErr result (by_place keys.new ≡ by_place keys.old) }
 {
-    put_in(keys, sessions, serial, first)?;
-    match put_in(keys, sessions, serial + 1, second) {
+    put_in(keys, sessions, linkers, serial, first, 0)?;
+    match put_in(keys, sessions, linkers, serial + 1, second, 0) {
         Ok(()) => Ok(()),
         Err(error) => {
-            let _ = take_out(keys, sessions, serial);
+            let _ = take_out(keys, sessions, linkers, serial);
             Err(error)
         }
     }
 }
 
 /// Takes out the key at a serial, which is listed no more, and answers it.
-fn take_out(keys: &mut PlacedKeys, sessions: &mut Sessions, serial: u32) -> Option<Key>
+fn take_out(
+    keys: &mut PlacedKeys,
+    sessions: &mut Sessions,
+    linkers: &mut Linkers,
+    serial: u32,
+) -> Option<Key>
     requires placed { ArePlaced keys.old }
     requires sessions { AreSessions sessions.old (by_place keys.old) }
     ensures placed { ArePlaced keys.new }
@@ -316,5 +471,6 @@ fn take_out(keys: &mut PlacedKeys, sessions: &mut Sessions, serial: u32) -> Opti
 {
     let key = keys.remove(serial)?;
     sessions.unlist(serial, &key);
+    forget_gone(keys, linkers, serial, &key);
     Some(key)
 }

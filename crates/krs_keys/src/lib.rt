@@ -4,6 +4,7 @@
 mod key;
 mod key_set;
 mod key_table;
+mod linkers;
 mod placed;
 mod places;
 mod sessions;

@@ -66,6 +66,17 @@ impl PlacedKeys {
         self.rings.len()
     }
 
+    /// How many places there are, taken and free.
+    pub(crate) fn capacity(&self) -> usize {
+        self.slots.capacity()
+    }
+
+    /// Where the key at a serial stands.
+    #[inline(always)]
+    pub(crate) fn place_of(&self, serial: u32) -> Option<usize> {
+        self.places.get(serial)
+    }
+
     /// The key at a serial.
     #[inline(always)]
     pub(crate) fn get(&self, serial: u32) -> Option<&Key>
@@ -237,8 +248,8 @@ impl PlacedKeys {
         self.rings.reserve(more)
     }
 
-    /// Puts a key at a serial that has none, where there is room.
-    pub(crate) fn put(&mut self, serial: u32, key: Key)
+    /// Puts a key at a serial that has none, where there is room, and answers its place.
+    pub(crate) fn put(&mut self, serial: u32, key: Key) -> usize
         requires placed { ArePlaced self.old }
         requires absent { at (by_place self.old) serial ≡ None }
         requires room { HaveRoom self.old 1 }
@@ -249,6 +260,7 @@ impl PlacedKeys {
         list(&mut self.rings, serial, &key);
         let place = self.slots.insert_reserved(key);
         self.places.insert(serial, place);
+        place
     }
 }
 

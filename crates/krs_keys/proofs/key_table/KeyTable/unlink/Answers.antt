@@ -9,19 +9,19 @@ use Rattle.krs_keys.specs.Sessions.{AreSessions}
 use Rattle.krs_keys.proofs.SessionsLemmas.{sessions_alter}
 use Rattle.krs_keys.proofs.key_table.KeyTable.unlink.Goals as goal
 
-pub unlink-requires-clause-fit : goal.unlink-requires-clause-fit
-unlink-requires-clause-fit c = subst (λ (t : Keys). AreFit t.keys) (sym c.self.view_is) c.requires.fit
+pub unlink-linked-requires-clause-fit : goal.unlink-linked-requires-clause-fit
+unlink-linked-requires-clause-fit c = subst (λ (t : Keys). AreFit t.keys) (sym c.self.view_is) c.requires.fit
 
 pub invariant_of-self : goal.invariant_of-self
 invariant_of-self c =
     let es = by_place c.self.inside.keys in (
-      c.unlink.ensures.placed,
+      c.unlink-linked.ensures.placed,
       record {
         below = λ q h.
-            ap (λ zs. at zs q) c.unlink.ensures.keys ∙ at_alter_none es _ q _ (c.self.invariant.1.below q h);
-        kinds = subst AreOfKind (sym c.unlink.ensures.keys) (kinds_alter es _ (without_key c.args.serial)
+            ap (λ zs. at zs q) c.unlink-linked.ensures.keys ∙ at_alter_none es _ q _ (c.self.invariant.1.below q h);
+        kinds = subst AreOfKind (sym c.unlink-linked.ensures.keys) (kinds_alter es _ (without_key c.args.serial)
             (keyless_kind c.args.serial) c.self.invariant.1.kinds);
-        sessions = subst (AreSessions c.self.inside.sessions) (sym c.unlink.ensures.keys)
+        sessions = subst (AreSessions c.self.inside.sessions) (sym c.unlink-linked.ensures.keys)
             (sessions_alter c.self.inside.sessions es _ (without_key c.args.serial) (λ v. (refl, refl))
             c.self.invariant.1.sessions);
       },

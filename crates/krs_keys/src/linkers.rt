@@ -1,0 +1,158 @@
+//! Which keyrings link a key, found without looking at the others.
+use std::alloc::{AllocError, Global};
+use std::collections::BTreeSet;
+use std::collections::btree_set::Range;
+
+/// Up to two keyrings that link the key at a place, or did; 0 is none.
+#[derive(Clone, Copy)]
+struct Near {
+    first: u32,
+    second: u32,
+}
+
+impl Near {
+    const NONE: Near = Near {
+        first: 0,
+        second: 0,
+    };
+
+    /// Takes in a keyring, where there is room, and answers whether it stands here.
+    fn take_in(&mut self, ring: u32) -> bool {
+        if self.first == 0 || self.first == ring {
+            self.first = ring;
+            return true;
+        }
+        if self.second == 0 || self.second == ring {
+            self.second = ring;
+            return true;
+        }
+        false
+    }
+
+    /// Leaves out a keyring, and answers whether it stood here.
+    fn leave_out(&mut self, ring: u32) -> bool {
+        if self.first == ring {
+            self.first = 0;
+            return true;
+        }
+        if self.second == ring {
+            self.second = 0;
+            return true;
+        }
+        false
+    }
+}
+
+/// The keyrings that link each key: two stand at the key's place, and further ones in a set. They are hints, and no
+/// contract speaks of them: whoever follows one checks that the link is there, and counts the holders of the key to know
+/// whether there are others. Most keys have one link, so that the set is mostly empty. Memory that it lacks costs a look
+/// at all keyrings later, and refuses nothing.
+#[derive(Drop)]
+pub(crate) struct Linkers {
+    near: Vec<Near>,
+    /// The key, and the keyring.
+    far: BTreeSet<(u32, u32)>,
+}
+
+impl Linkers {
+    /// None. It takes no memory.
+    pub(crate) fn new(alloc: Global) -> Self {
+        Linkers {
+            near: Vec::new(alloc),
+            far: BTreeSet::new(alloc),
+        }
+    }
+
+    /// Makes room for the keys at so many places.
+    pub(crate) fn reserve(&mut self, places: usize) -> Result<(), AllocError> {
+        if self.near.len() < places {
+            self.near.resize(places, Near::NONE)?;
+        }
+        Ok(())
+    }
+
+    /// Gives back what memory it can where there are only so many places. It takes none that could be refused.
+    pub(crate) fn cut(&mut self, places: usize) {
+        if places < self.near.len() {
+            self.near.truncate(places);
+            self.near.shrink_to_fit();
+        }
+    }
+
+    /// Another key stands at a place, which one keyring links, or none: 0.
+    pub(crate) fn begin(&mut self, place: usize, ring: u32) {
+        if let Some(near) = self.near.get_mut(place) {
+            *near = Near {
+                first: ring,
+                second: 0,
+            };
+        }
+    }
+
+    /// A keyring links the key of a serial, at a place.
+    pub(crate) fn add(&mut self, place: usize, serial: u32, ring: u32) {
+        let is_near = match self.near.get_mut(place) {
+            Some(near) => near.take_in(ring),
+            None => false,
+        };
+        if !is_near {
+            let _ = self.far.insert((serial, ring));
+        }
+    }
+
+    /// A keyring links the key of a serial, at a place, no more.
+    pub(crate) fn remove(&mut self, place: usize, serial: u32, ring: u32) {
+        let was_near = match self.near.get_mut(place) {
+            Some(near) => near.leave_out(ring),
+            None => false,
+        };
+        if !was_near && self.has_far() {
+            let _ = self.far.remove(&(serial, ring));
+        }
+    }
+
+    /// No keyring links the key of a serial, at a place, any more.
+    pub(crate) fn remove_all(&mut self, place: usize, serial: u32) {
+        self.begin(place, 0);
+        for count in 0..self.far.len() {
+            let _ = count;
+            let Some(ring) = self.far(serial) else {
+                return;
+            };
+            let _ = self.far.remove(&(serial, ring));
+        }
+    }
+
+    /// Two keyrings that may link the key at a place; 0 is none.
+    pub(crate) fn near(&self, place: usize) -> (u32, u32) {
+        match self.near.get(place) {
+            Some(near) => (near.first, near.second),
+            None => (0, 0),
+        }
+    }
+
+    /// Whether more than two keyrings link any key.
+    pub(crate) fn has_far(&self) -> bool {
+        self.far.len() > 0
+    }
+
+    /// A further keyring that may link the key of a serial.
+    pub(crate) fn far(&self, serial: u32) -> Option<u32> {
+        if !self.has_far() {
+            return None;
+        }
+        let mut entries = self.entries(serial);
+        match entries.next() {
+            Some(entry) => Some(entry.1),
+            None => None,
+        }
+    }
+
+    /// The entries of a serial in the set.
+    fn entries(&self, serial: u32) -> Range<'_, (u32, u32)> {
+        match serial.checked_add(1) {
+            Some(next) => self.far.range((serial, 0)..(next, 0)),
+            None => self.far.range((serial, 0)..),
+        }
+    }
+}
