@@ -3,4 +3,5 @@ pub mod SearchAndRequest
 pub mod SearchWithMade
 pub mod MovedLinks
 mod KeyDetached
+mod Detaching
 mod PayloadLinks

@@ -1,3 +1,4 @@
 pub mod Found
 pub mod Beside
+pub mod Detached
 pub mod Moved

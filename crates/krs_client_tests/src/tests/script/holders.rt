@@ -86,6 +86,95 @@ const DETACHED: [(&str, &str); 10] = [
     ("id @u", "3"),
 ];
 
+/// A key that many keyrings link is out of each of them, however its links came and went: by UNLINK, CLEAR, MOVE, a link
+/// that took the place of another, and the end of a keyring.
+#[rattlefmt::skip]
+const LINKED_BY_MANY: [(&str, &str); 30] = [
+    ("hello 1000 1000", "1"),
+    ("newring a @u", "5"),
+    ("newring b @u", "6"),
+    ("newring c @u", "7"),
+    ("newring d @u", "8"),
+    ("newring e @u", "9"),
+    ("add user k x 5", "10"),
+    ("link 10 6", "ok"),
+    ("link 10 7", "ok"),
+    ("link 10 8", "ok"),
+    ("link 10 9", "ok"),
+    ("unlink 10 6", "ok"),
+    ("clear 7", "ok"),
+    ("unlink 9 @u", "ok"),
+    ("link 10 7", "ok"),
+    ("link 10 7", "ok"),
+    ("link 10 @u", "ok"),
+    ("newring f @u", "11"),
+    ("move 10 5 11", "ok"),
+    ("newring g @u", "12"),
+    ("add user k y 12", "13"),
+    ("link 13 8", "ok"),
+    ("link 10 12", "ok"),
+    ("invalidate 10", "ok"),
+    ("rlist @u", "5 6 7 8 11 12"),
+    ("rlist 7", ""),
+    ("rlist 11", ""),
+    ("rlist 12", ""),
+    ("rlist 8", "13"),
+    ("print 10", "error 126 ENOKEY"),
+];
+
+/// A key that stands where one was that is gone is out of the keyrings that link it.
+#[rattlefmt::skip]
+const IN_ANOTHERS_PLACE: [(&str, &str); 12] = [
+    ("hello 1000 1000", "1"),
+    ("newring a @u", "5"),
+    ("newring b @u", "6"),
+    ("add user k x 5", "7"),
+    ("link 7 6", "ok"),
+    ("invalidate 7", "ok"),
+    ("add user m y @u", "8"),
+    ("link 8 6", "ok"),
+    ("invalidate 8", "ok"),
+    ("rlist 6", ""),
+    ("rlist @u", "5 6"),
+    ("print 8", "error 126 ENOKEY"),
+];
+
+/// A keyring that three contexts and a uid attach, and that keyrings at three levels link, is out of all of them, and so
+/// is one that a process attaches; what they alone link goes along.
+#[rattlefmt::skip]
+const HELD_IN_ALL_WAYS: [(&str, &str); 30] = [
+    ("hello 1000 1000", "1"),
+    ("id @t create", "5"),
+    ("link @us @t", "ok"),
+    ("newring a @t", "6"),
+    ("link @us 6", "ok"),
+    ("newring b 6", "7"),
+    ("link @us 7", "ok"),
+    ("add user k x @us", "8"),
+    ("thread", "2"),
+    ("fork", "3"),
+    ("rlist @t", "4 6"),
+    ("invalidate @us", "ok"),
+    ("id @s", "error 126 ENOKEY"),
+    ("id @us", "error 126 ENOKEY"),
+    ("print 8", "error 126 ENOKEY"),
+    ("rlist @t", "6"),
+    ("rlist 6", "7"),
+    ("rlist 7", ""),
+    ("context 2", "ok"),
+    ("id @s", "error 126 ENOKEY"),
+    ("context 3", "ok"),
+    ("id @s", "error 126 ENOKEY"),
+    ("id @u", "3"),
+    ("id @p create", "9"),
+    ("add user m y @p", "10"),
+    ("link @p @u", "ok"),
+    ("invalidate @p", "ok"),
+    ("id @p", "error 126 ENOKEY"),
+    ("rlist @u", ""),
+    ("print 10", "error 126 ENOKEY"),
+];
+
 /// INVALIDATE looks its key up for SEARCH.
 #[rattlefmt::skip]
 const NOT_INVALIDATED: [(&str, &str); 15] = [
@@ -110,7 +199,14 @@ const NOT_INVALIDATED: [(&str, &str); 15] = [
 const LET_GO: [&[(&str, &str)]; 3] = [&LAST_LINK, &LAST_CONTEXT, &LAST_OF_A_PROCESS];
 
 /// Keys that are invalidated, or are not.
-const INVALIDATIONS: [&[(&str, &str)]; 3] = [&INVALIDATED, &DETACHED, &NOT_INVALIDATED];
+const INVALIDATIONS: [&[(&str, &str)]; 6] = [
+    &INVALIDATED,
+    &DETACHED,
+    &LINKED_BY_MANY,
+    &IN_ANOTHERS_PLACE,
+    &HELD_IN_ALL_WAYS,
+    &NOT_INVALIDATED,
+];
 
 /// Every script here has a refusal, so that its status is 1.
 fn check_scripts(rt: &impl Abort, alloc: Global, scripts: &[&[(&str, &str)]]) -> Result<(), Fail> {
@@ -121,7 +217,12 @@ fn check_scripts(rt: &impl Abort, alloc: Global, scripts: &[&[(&str, &str)]]) ->
 }
 
 /// The scripts that are run again with each allocation refused.
-pub(in crate::tests) const GROWING: [&[(&str, &str)]; 2] = [&LAST_OF_A_PROCESS, &DETACHED];
+pub(in crate::tests) const GROWING: [&[(&str, &str)]; 4] = [
+    &LAST_OF_A_PROCESS,
+    &DETACHED,
+    &LINKED_BY_MANY,
+    &HELD_IN_ALL_WAYS,
+];
 
 #[test]
 fn keys_are_let_go(rt: HostRuntime) -> Result<(), Fail> {

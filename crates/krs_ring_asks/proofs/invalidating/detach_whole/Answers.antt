@@ -2,7 +2,7 @@ use Rattle.std.proofs.Common.{◌∙◌, ap}
 use Rattle.krs_model.specs.State.{State}
 use Rattle.krs_model.specs.Asks.Invalidating.{invalidated}
 use Rattle.krs_ring_asks.proofs.KeyDetached.{detached_told}
-use Rattle.krs_ring_asks.proofs.invalidating.detach.Goals as goal
+use Rattle.krs_ring_asks.proofs.invalidating.detach_whole.Goals as goal
 
 pub invariant_of-tables : goal.invariant_of-tables
 invariant_of-tables c =
