@@ -12,7 +12,7 @@ use Rattle.krs_world.specs.declared.view.Cell.{Cell}
 use Rattle.krs_world.specs.declared.view.Cell.TheVariants as cells
 use Rattle.krs_world.specs.declared.view.Part.{Part}
 use Rattle.krs_world.specs.declared.step.Kind.{Kind}
-use Rattle.krs_world.specs.declared.step.Kind.TheVariants.{Take, TakeFound, Put, Load, Post, Answer, LookAt}
+use Rattle.krs_world.specs.declared.step.Kind.TheVariants.{Take, TakeFound, Put, Serve, Load, Post, Answer, LookAt}
 use Rattle.krs_world.specs.declared.view.Service.{Service}
 use Rattle.krs_world.specs.declared.lane.Lane.{Lane}
 use Rattle.krs_world.specs.declared.lane.Slot.{Slot}
@@ -99,17 +99,15 @@ unserved : (o : Option Service) → ((s : Service) → o ≡ Some s → ⊥) →
 unserved None not = refl
 unserved (Some s) not = absurd (not s refl)
 
--- a seat puts a call of its own only where it may
-puts_where_it_may : (store : State) (out : Option ℕ) (serving : Option Service) (log : List Event) (lanes : List Lane) (i : ℕ)
-    (call : ℕ × Ask) → IsKept store out serving log lanes → (p : Part) (other : World)
-    → get_elem? (seats_by log serving lanes) i ≡ some p
-    → StepsAs (world_of store out serving log lanes) i p (Put (Some call)) other → MayPut out serving lanes i
-puts_where_it_may store out serving log lanes i call k p other e steps =
+-- a seat has a call of its own served only where it may
+serves_where_it_may : (store : State) (out : Option ℕ) (serving : Option Service) (log : List Event) (lanes : List Lane) (i : ℕ)
+    → IsKept store out serving log lanes → (p : Part) → get_elem? (seats_by log serving lanes) i ≡ some p
+    → IsHolder (world_of store out serving log lanes) i p → p.flight ≡ None → MayPut out serving lanes i
+serves_where_it_may store out serving log lanes i k p e holds quiet =
     let m = of_map (part_by log serving) lanes i p e in let x : Lane = m.0 in
-    let idle : flight_by (take x.after log) (lane_cell log serving x) ≡ None =
-    ap (λ (q : Part). q.flight) m.2 ∙ steps.3 in (
-      out_by store out i steps.0.out,
-      unserved serving (λ s is. no_holder store out serving log lanes i x k m.1 s is p e steps.0),
+    let idle : flight_by (take x.after log) (lane_cell log serving x) ≡ None = ap (λ (q : Part). q.flight) m.2 ∙ quiet in (
+      out_by store out i holds.out,
+      unserved serving (λ s is. no_holder store out serving log lanes i x k m.1 s is p e holds),
       (x, m.1, slot_empty serving log i x.slot (k.each i x m.1).slot (cell_idle (take x.after log) (lane_cell log serving x) idle)),
     )
 
@@ -119,7 +117,15 @@ pub puts_not : (w : World) (store : State) (out : Option ℕ) (serving : Option 
     → (MayPut out serving lanes i → ⊥) → MovesBy w i (Put (Some call)) false w
 puts_not w store out serving log lanes i call k is not =
     moves_not w store out serving log lanes i (Put (Some call)) is
-    (λ p other e steps. not (puts_where_it_may store out serving log lanes i call k p other e steps))
+    (λ p other e steps. not (serves_where_it_may store out serving log lanes i k p e steps.0 steps.3))
+
+-- a serve where it may not
+pub keeps_not : (w : World) (store : State) (out : Option ℕ) (serving : Option Service) (log : List Event) (lanes : List Lane) (i : ℕ)
+    (call : ℕ × Ask) → IsKept store out serving log lanes → world_of store out serving log lanes ≡ w
+    → (MayPut out serving lanes i → ⊥) → MovesBy w i (Serve call.0 call.1) false w
+keeps_not w store out serving log lanes i call k is not =
+    moves_not w store out serving log lanes i (Serve call.0 call.1) is
+    (λ p other e steps. not (serves_where_it_may store out serving log lanes i k p e steps.0 steps.3))
 
 -- a call that is posted where something is in the cell
 pub posts_not : (w : World) (store : State) (out : Option ℕ) (serving : Option Service) (log : List Event) (lanes : List Lane) (i : ℕ)
@@ -163,24 +169,36 @@ found_full w store out serving log lanes i x holder at is held not full =
       (part_by log serving x, get_map (part_by log serving) lanes i x at, (refl, full, (holder, ap (turn_by store) held, not))),
     )
 
+-- who may have a call of its own served, as a holder
+may_serve : (store : State) (out : Option ℕ) (serving : Option Service) (log : List Event) (lanes : List Lane) (i : ℕ) (x : Lane)
+    → IsKept store out serving log lanes → get_elem? lanes i ≡ some x → out ≡ Some i → serving ≡ None
+    → x.slot ≡ slots.Empty
+    → IsHolder (world_of store out serving log lanes) i (part_by log serving x)
+    × ((part_by log serving x).flight ≡ None)
+may_serve store out serving log lanes i x k at here none idle = (
+  holder store out serving log lanes i x k at here none,
+  ap (λ (s : Slot). flight_by (take x.after log) (cell_by log serving s)) idle,
+)
+
 -- no memory for the event of a call
 pub no_memory : (w : World) (store : State) (out : Option ℕ) (serving : Option Service) (log : List Event) (lanes : List Lane) (i : ℕ) (x : Lane)
     (call : ℕ × Ask) → IsKept store out serving log lanes → get_elem? lanes i ≡ some x → world_of store out serving log lanes ≡ w
     → out ≡ Some i → serving ≡ None → x.slot ≡ slots.Empty
     → RefusedBy w i (Put (Some call)) ENOMEM w
 no_memory w store out serving log lanes i x call k at is here none idle =
-    subst (λ (z : World). RefusedBy z i (Put (Some call)) ENOMEM z) is (
-      refl,
-      (
-        part_by log serving x,
-        get_map (part_by log serving) lanes i x at,
-        (
-          refl,
-          holder store out serving log lanes i x k at here none,
-          ap (λ (s : Slot). flight_by (take x.after log) (cell_by log serving s)) idle,
-        ),
-      ),
-    )
+    let may = may_serve store out serving log lanes i x k at here none idle in
+    subst (λ (z : World). RefusedBy z i (Put (Some call)) ENOMEM z) is
+    (refl, (part_by log serving x, get_map (part_by log serving) lanes i x at, (refl, may.0, may.1)))
+
+-- the same of one that is served in a turn that is kept
+pub keep_refused : (w : World) (store : State) (out : Option ℕ) (serving : Option Service) (log : List Event) (lanes : List Lane) (i : ℕ) (x : Lane)
+    (call : ℕ × Ask) → IsKept store out serving log lanes → get_elem? lanes i ≡ some x → world_of store out serving log lanes ≡ w
+    → out ≡ Some i → serving ≡ None → x.slot ≡ slots.Empty
+    → RefusedBy w i (Serve call.0 call.1) ENOMEM w
+keep_refused w store out serving log lanes i x call k at is here none idle =
+    let may = may_serve store out serving log lanes i x k at here none idle in
+    subst (λ (z : World). RefusedBy z i (Serve call.0 call.1) ENOMEM z) is
+    (refl, (part_by log serving x, get_map (part_by log serving) lanes i x at, (refl, may.0, may.1)))
 
 -- a cell that no lane has
 pub beyond_cell : (serving : Option Service) (log : List Event) (lanes : List Lane) (other : ℕ) (c : Cell)

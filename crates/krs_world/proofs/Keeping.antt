@@ -16,7 +16,7 @@ use Rattle.krs_world.specs.declared.view.Part.{Part}
 use Rattle.krs_world.specs.declared.view.Standing.{Standing}
 use Rattle.krs_world.specs.declared.view.Standing.TheVariants.{Spent, One}
 use Rattle.krs_world.specs.declared.view.View.{View}
-use Rattle.krs_world.specs.Knowing.{events_of, view, one, taken, missed, put_own}
+use Rattle.krs_world.specs.Knowing.{events_of, view, one, taken, missed, put_own, kept}
 use Rattle.krs_world.specs.Knowing.{put_none, loaded}
 use Rattle.krs_world.specs.History.{Shared, Fits, Known, Stands, OneHistory}
 pub use Rattle.krs_world.proofs.Lanes.{prefix_self, prefix_more, prefix_trans, prefix_both, events_prefix, own_event}
@@ -238,6 +238,78 @@ module _ (a : State) (views : List View) (id : ℕ) (p : Part) (at : get_elem? v
               (λ two is. absurd (let n : 1 ≡ 2 = sym out ∙ two in omega arith)) v.stands (o.each j v at'));
         },
       )
+
+  -- the holder adds the event of its own call to the list, and keeps the turn
+  pub keeps : (turn : ℕ) (home : Option State) (cell : ℕ → Cell) (log : List Event) (e : Event) (last next : State)
+      → (o : OneHistory a turn home cell views) → p.holding ≡ Some log → p.serving ≡ None → p.flight ≡ None
+      → IsLegal a log last → Step last e next → e.lane ≡ p.lane
+      → OneHistory a turn home cell (set views id (one a (kept p log e)))
+  keeps turn home cell log e last next o held idle quiet legal step lane = let k = own turn home cell o in
+      let s : Shared = shares a turn home cell views o in
+      let s' : Shared = record s { log = log ++ e ∷ [] } in
+      let t = k.holding log held in let all : log ≡ o.log = t.whole in let out : turn ≡ 1 = t.out in
+      let q : Part = kept p log e in let w : View = one a q in
+      let empty : cell p.lane ≡ Empty = empty_if_idle p o.log (cell p.lane) quiet k.fits in
+      let fits : Fits o.log p Empty = subst (Fits o.log p) empty k.fits in
+      let mine : events_of p.lane (log ++ e ∷ []) ≡ p.mine ++ e ∷ [] = own_event p.lane log e lane
+      ∙ ap (λ l. l ++ e ∷ []) (ap (events_of p.lane) all ∙ fits.1) in
+      let more : (x : Part) → x.lane ≢ p.lane → Fits o.log x (cell x.lane) → Fits (log ++ e ∷ []) x (cell x.lane) =
+      λ x other f.
+      subst (λ l. Fits (l ++ e ∷ []) x (cell x.lane)) (sym all) (fits_more o.log e x (λ same. other (sym same ∙ lane))
+      (cell x.lane) f) in record {
+        log = log ++ e ∷ [];
+        last = next;
+        holder = o.holder;
+        dealt = o.dealt;
+        seat = o.seat;
+        serving = o.serving;
+        word = o.word;
+        held = λ _. (w, ap (get_elem? (set views id w)) (sym t.here) ∙ set_at views id w (one a p) at, refl);
+        longest = λ n. absurd (n out);
+        legal = legal_more a last next log e legal step;
+        at_home = λ n. absurd (n out);
+        away = o.away;
+        opener = λ n. absurd (let no : 1 ≡ 2 = sym out ∙ n in omega arith);
+        young = λ n. absurd (let no : 1 ≡ 2 = sym out ∙ n in omega arith);
+        unserved = λ n. absurd (n out);
+        seated = seats_stay turn home cell o q refl;
+        undealt = λ l le. let u = o.undealt l le in let g : p.lane < o.dealt = k.given in (
+          u.0,
+          other_event l log e (λ is. let same : p.lane ≡ l = sym lane ∙ is in omega arith)
+              ∙ (ap (events_of l) all ∙ u.1),
+        );
+        serves = o.serves;
+        served = o.served;
+        openings = views_open turn home cell o (One q);
+        each = each_set (λ j v. Stands s' j v.stands) views id w
+            record {
+              at = k.at;
+              given = k.given;
+              seen = prefix_self (log ++ e ∷ []);
+              base = subst (λ l. Begins p.base (l ++ e ∷ [])) (sym all) (prefix_more p.base o.log (e ∷ []) k.base);
+              calls = subst (Begins (p.mine ++ e ∷ [])) (sym mine) (prefix_self (p.mine ++ e ∷ []));
+              fits = subst (Fits (log ++ e ∷ []) q) (sym empty) (quiet, mine, fits.2);
+              holding = λ l is. record {
+                out = out;
+                here = t.here;
+                whole = cc;
+                same_service = t.same_service;
+              };
+              unheld = λ no. absurd cc;
+            }
+            (λ j v not at'. others_stand s s' j
+            (λ x h. record {
+              at = h.at;
+              given = h.given;
+              seen = subst (λ l. Begins x.seen (l ++ e ∷ [])) (sym all) (prefix_more x.seen o.log (e ∷ []) h.seen);
+              base = subst (λ l. Begins x.base (l ++ e ∷ [])) (sym all) (prefix_more x.base o.log (e ∷ []) h.base);
+              calls = h.calls;
+              fits = more x (λ same. not (sym h.at ∙ (ap o.seat same ∙ k.at))) h.fits;
+              holding = λ l is. let u = h.holding l is in absurd (not (u.here ∙ sym t.here));
+              unheld = h.unheld;
+            })
+            (λ two is. absurd (let n : 1 ≡ 2 = sym out ∙ two in omega arith)) v.stands (o.each j v at'));
+      }
 
   -- the holder brings the store home, with no call of its own
   pub puts_none : (turn : ℕ) (home : Option State) (cell : ℕ → Cell) (log : List Event) (last : State)

@@ -21,12 +21,12 @@ use Rattle.krs_model.proofs.History.Legal.{legal_more}
 use Rattle.krs_world.specs.declared.view.Part.{Part}
 use Rattle.krs_world.specs.declared.view.Service.{Service}
 use Rattle.krs_world.specs.declared.step.Kind.{Kind}
-use Rattle.krs_world.specs.declared.step.Kind.TheVariants.{Take, TakeFound, Put, Load}
+use Rattle.krs_world.specs.declared.step.Kind.TheVariants.{Take, TakeFound, Put, Serve, Load}
 use Rattle.krs_world.specs.declared.lane.Lane.{Lane}
 use Rattle.krs_world.specs.declared.lane.Slot.{Slot}
 use Rattle.krs_world.specs.declared.lane.Slot.TheVariants as slots
-use Rattle.krs_world.specs.Knowing.{events_of, taken, missed, put_own, put_none, loaded}
-use Rattle.krs_world.specs.World.{Free, World, IsHistory, reseated, IsHolder, StepsAs, IsOneHistory}
+use Rattle.krs_world.specs.Knowing.{events_of, taken, missed, put_own, put_none, loaded, kept}
+use Rattle.krs_world.specs.World.{World, IsHistory, reseated, IsHolder, StepsAs, IsOneHistory}
 use Rattle.krs_world.specs.Kept.{part_by, lane_cell, cell_by, known_by, flight_by, turn_by, world_of, IsLane}
 use Rattle.krs_world.specs.Kept.{IsKept}
 use Rattle.krs_world.proofs.Keeping.{at_set, set_at, set_else, own_event}
@@ -204,6 +204,72 @@ module _ (store : State) (out : Option ℕ) (serving : Option Service) (log : Li
         steps,
       )
 
+  -- The machine behind an own call of the lane: its seat, as y, knows q, and the list has the event more.
+  own_more : (store' : State) (out' : Option ℕ) (y : Lane) (q : Part) (e : Event) → out ≡ Some i → e.lane ≡ i
+      → y.slot ≡ x.slot → part_by (log ++ e ∷ []) serving y ≡ q
+      → world_of store' out' serving (log ++ e ∷ []) (set lanes i y)
+      ≡ record (reseated w i q) { turn = turn_by store' out' }
+  own_more store' out' y q e here own same part =
+      let log' : List Event = log ++ e ∷ [] in
+      let o = k.each i x at in
+      let others : (j : ℕ) (l : Lane) → j ≢ i → get_elem? lanes j ≡ some l
+      → part_by log' serving l ≡ part_by log serving l =
+      λ j l not is. part_more out serving log e j l (k.each j l is) (λ mine. not (sym mine ∙ own))
+      (unheld j l is not here) in
+      let seats : map (part_by log' serving) (set lanes i y) ≡ set (seats_by log serving lanes) i q =
+      map_else (part_by log serving) (part_by log' serving) lanes (set lanes i y) i q (length-set lanes i y)
+      (λ j z v there was. (
+        (λ same. ap (part_by log' serving) (sym (some-injective y z (sym (set_at lanes i y x at)
+            ∙ (ap (get_elem? (set lanes i y)) (sym same) ∙ there)))) ∙ part),
+        (λ not. let one : z ≡ v = some-injective z v (sym there ∙ (set_else lanes i j y not ∙ was)) in
+            ap (part_by log' serving) one ∙ others j v not was),
+      )) in
+      let cells : map (lane_cell log' serving) (set lanes i y) ≡ cells_by log serving lanes =
+      map_alike (lane_cell log serving) (lane_cell log' serving) lanes (set lanes i y) (length-set lanes i y)
+      (λ j z v there was. ⊎_elim
+      (λ (t : (j ≡ i) × (y ≡ z)). let old : x ≡ v =
+      some-injective x v (sym at ∙ (ap (get_elem? lanes) (sym t.0) ∙ was)) in
+      ap (lane_cell log' serving) (sym t.1) ∙ (ap (cell_by log' serving) same
+      ∙ (cell_more serving log e i x.slot o.slot ∙ ap (lane_cell log serving) old)))
+      (λ (t : (j ≢ i) × (get_elem? lanes j ≡ some z)). let one : z ≡ v = some-injective z v (sym t.1 ∙ was) in
+      cell_more serving log e j z.slot (k.each j z t.1).slot ∙ ap (lane_cell log serving) one)
+      (at_set lanes i j y z there)) in
+      λ m. record {
+        opening = starting_at 3;
+        turn = turn_by store' out';
+        cells = cells m;
+        seats = seats m;
+      }
+
+  -- what the seat knows then, which has seen the whole list, and holds it or not
+  own_part : (seen : ℕ) (holds : Bool) (e : Event) → x.slot ≡ slots.Empty → e.lane ≡ i → seen ≡ length log + 1
+      → part_by (log ++ e ∷ []) serving record x { seen = seen; holding = holds }
+      ≡ record (part_by log serving x) {
+        seen = log ++ e ∷ [];
+        mine = (part_by log serving x).mine ++ e ∷ [];
+        holding = cond holds (Some (log ++ e ∷ [])) None;
+        serving = cond holds serving None;
+      }
+  own_part seen holds e idle own es =
+      let log' : List Event = log ++ e ∷ [] in
+      let size : length log' ≡ length log + 1 = length-append log (e ∷ []) in
+      let o = k.each i x at in
+      let based : take x.base log' ≡ take x.base log = take-append-le x.base log (e ∷ []) o.base in
+      let saw : take seen log' ≡ log' = ap (λ (b : ℕ). take b log') (es ∙ sym size) ∙ take-length log' in
+      let calls : events_of x.lane (known_by log' x.slot) ≡ events_of x.lane (known_by log x.slot) ++ e ∷ [] =
+      subst (λ (s : Slot). events_of x.lane (known_by log' s) ≡ events_of x.lane (known_by log s) ++ e ∷ []) (sym idle)
+      (own_event x.lane log e (own ∙ sym o.number)) in
+      let quiet : (after : List Event) (l : List Event) → flight_by after (cell_by l serving x.slot) ≡ None = λ after l.
+      ap (λ (s : Slot). flight_by after (cell_by l serving s)) idle in
+      λ j. record (part_by log serving x) {
+        seen = saw j;
+        mine = calls j;
+        holding = cond holds (Some log') None;
+        serving = cond holds serving None;
+        flight = (quiet (take x.after log') log' ∙ sym (quiet (take x.after log) log)) j;
+        base = based j;
+      }
+
   -- put with an own call
   pub puts : (seen : ℕ) (call : ℕ × Ask) (reply : Result Answer Errno) (next : State) → out ≡ Some i
       → serving ≡ None → x.slot ≡ slots.Empty
@@ -217,55 +283,20 @@ module _ (store : State) (out : Option ℕ) (serving : Option Service) (log : Li
       let whole : seen ≡ length log' = es ∙ sym size in
       let o = k.each i x at in
       let y : Lane = record x { seen = seen; holding = false } in
-      let based : take x.base log' ≡ take x.base log = take-append-le x.base log (e ∷ []) o.base in
-      let saw : take seen log' ≡ log' = ap (λ (b : ℕ). take b log') whole ∙ take-length log' in
-      let calls : events_of x.lane (known_by log' x.slot) ≡ events_of x.lane (known_by log x.slot) ++ e ∷ [] =
-      subst (λ (s : Slot). events_of x.lane (known_by log' s) ≡ events_of x.lane (known_by log s) ++ e ∷ []) (sym idle)
-      (own_event x.lane log e (sym o.number)) in
-      let quiet : (after : List Event) (l : List Event) → flight_by after (cell_by l serving x.slot) ≡ None = λ after l.
-      ap (λ (s : Slot). flight_by after (cell_by l serving s)) idle in
       let part : part_by log' serving y ≡ put_own (part_by log serving x) log e =
-      λ j. record (put_own (part_by log serving x) log e) {
-        seen = saw j;
-        mine = calls j;
-        serving = sym (cond_none x.holding serving none) j;
-        flight = (quiet (take x.after log') log' ∙ sym (quiet (take x.after log) log)) j;
-        base = based j;
-      } in
-      let others : (j : ℕ) (l : Lane) → j ≢ i → get_elem? lanes j ≡ some l
-      → part_by log' serving l ≡ part_by log serving l =
-      λ j l not is. part_more out serving log e j l (k.each j l is) (λ mine. not (sym mine)) (unheld j l is not here) in
-      let seats : map (part_by log' serving) (set lanes i y)
-      ≡ set (seats_by log serving lanes) i (put_own (part_by log serving x) log e) =
-      map_else (part_by log serving) (part_by log' serving) lanes (set lanes i y) i
-      (put_own (part_by log serving x) log e) (length-set lanes i y)
-      (λ j z v there was. (
-        (λ same. ap (part_by log' serving) (sym (some-injective y z (sym (set_at lanes i y x at)
-            ∙ (ap (get_elem? (set lanes i y)) (sym same) ∙ there)))) ∙ part),
-        (λ not. let one : z ≡ v = some-injective z v (sym there ∙ (set_else lanes i j y not ∙ was)) in
-            ap (part_by log' serving) one ∙ others j v not was),
-      )) in
-      let cells : map (lane_cell log' serving) (set lanes i y) ≡ cells_by log serving lanes =
-      map_alike (lane_cell log serving) (lane_cell log' serving) lanes (set lanes i y) (length-set lanes i y)
-      (λ j z v there was. ⊎_elim
-      (λ (t : (j ≡ i) × (y ≡ z)). let old : x ≡ v =
-      some-injective x v (sym at ∙ (ap (get_elem? lanes) (sym t.0) ∙ was)) in
-      ap (lane_cell log' serving) (sym t.1) ∙ (cell_more serving log e i x.slot o.slot
-      ∙ ap (lane_cell log serving) old))
-      (λ (t : (j ≢ i) × (get_elem? lanes j ≡ some z)). let one : z ≡ v = some-injective z v (sym t.1 ∙ was) in
-      cell_more serving log e j z.slot (k.each j z t.1).slot ∙ ap (lane_cell log serving) one)
-      (at_set lanes i j y z there)) in
-      let new : world_of next None serving log' (set lanes i y)
-      ≡ record (reseated w i (put_own (part_by log serving x) log e)) { turn = Free next } =
-      λ m. record {
-        opening = starting_at 3;
-        turn = Free next;
-        cells = cells m;
-        seats = seats m;
-      } in
+      own_part seen false e idle refl es
+      ∙ (λ j. record (put_own (part_by log serving x) log e) { serving = sym (cond_none x.holding serving none) j }) in
+      let quiet : flight_by (take x.after log) (cell_by log serving x.slot) ≡ None =
+      ap (λ (s : Slot). flight_by (take x.after log) (cell_by log serving s)) idle in
       let steps : StepsAs w i (part_by log serving x) (Put (Some call))
-      (world_of next None serving log' (set lanes i y)) =
-      (holder here none, reply, next, quiet (take x.after log) log, step, new) in (
+      (world_of next None serving log' (set lanes i y)) = (
+        holder here none,
+        reply,
+        next,
+        quiet,
+        step,
+        own_more next None y (put_own (part_by log serving x) log e) e here refl refl part,
+      ) in (
         after next None serving log' (set lanes i y) (Put (Some call)) steps
             (λ _. inr (i, y, set_at lanes i y x at, whole))
             (legal_more (starting_at 3) store next log e k.legal step)
@@ -283,6 +314,63 @@ module _ (store : State) (out : Option ℕ) (serving : Option Service) (log : Li
             (λ _. none) (still_served y refl),
         steps,
       )
+
+  -- serve
+  pub keeps : (seen : ℕ) (call : ℕ × Ask) (reply : Result Answer Errno) (next : State) → out ≡ Some i
+      → serving ≡ None → x.slot ≡ slots.Empty
+      → Step store (event_of i call.0 call.1 reply) next → seen ≡ length log + 1
+      → Moved next out (log ++ event_of i call.0 call.1 reply ∷ [])
+      record x { seen = seen } (Serve call.0 call.1)
+  keeps seen call reply next here none idle step es =
+      let e : Event = event_of i call.0 call.1 reply in
+      let log' : List Event = log ++ e ∷ [] in
+      let size : length log' ≡ length log + 1 = length-append log (e ∷ []) in
+      let o = k.each i x at in
+      let y : Lane = record x { seen = seen } in
+      let q : Part = kept (part_by log serving x) log e in
+      let holds : x.holding ≡ true = held_true x.holding log log (holding_is here) in
+      let part : part_by log' serving y ≡ q =
+      own_part seen x.holding e idle refl es
+      ∙ (λ j. record q { holding = ap (λ (b : Bool). cond b (Some log') None) holds j }) in
+      let quiet : flight_by (take x.after log) (cell_by log serving x.slot) ≡ None =
+      ap (λ (s : Slot). flight_by (take x.after log) (cell_by log serving s)) idle in
+      let turns : turn_by next out ≡ turn_by store out = ap (turn_by next) here ∙ sym (ap (turn_by store) here) in
+      let steps : StepsAs w i (part_by log serving x) (Serve call.0 call.1)
+      (world_of next out serving log' (set lanes i y)) = (
+        holder here none,
+        reply,
+        next,
+        quiet,
+        step,
+        own_more next out y q e here refl refl part ∙ (λ j. record (reseated w i q) { turn = turns j }),
+      ) in (
+        after next out serving log' (set lanes i y) (Serve call.0 call.1) steps
+            (λ no. absurd (let both : None ≡ Some i = sym no ∙ here in cc))
+            (legal_more (starting_at 3) store next log e k.legal step)
+            (each_at (IsLane out serving log') lanes i y
+            (let b = o.base in let a = o.after in record {
+              number = o.number;
+              seen = omega arith;
+              base = omega arith;
+              after = omega arith;
+              holds = o.holds;
+              slot = slot_more serving log e i x.slot o.slot;
+            })
+            (λ j l not is. let u = k.each j l is in lane_more out out serving log e j l u u.holds))
+            k.idle (still_served y refl),
+        steps,
+      )
+
+  -- the same, by what was appended
+  pub keeps_at : (seen : ℕ) (call : ℕ × Ask) (reply : Result Answer Errno) (next : State) (log' : List Event)
+      → out ≡ Some i → serving ≡ None → x.slot ≡ slots.Empty → Step store (event_of i call.0 call.1 reply) next
+      → log' ≡ log ++ event_of i call.0 call.1 reply ∷ [] → seen ≡ length log'
+      → Moved next out log' record x { seen = seen } (Serve call.0 call.1)
+  keeps_at seen call reply next log' here none idle step is es =
+      let e : Event = event_of i call.0 call.1 reply in
+      let size : seen ≡ length log + 1 = es ∙ (ap length is ∙ length-append log (e ∷ [])) in
+      subst (λ (l : List Event). Moved next out l record x { seen = seen } (Serve call.0 call.1)) (sym is)
+      (keeps seen call reply next here none idle step size)
 
   -- the same, by what was appended
   pub puts_at : (seen : ℕ) (call : ℕ × Ask) (reply : Result Answer Errno) (next : State) (log' : List Event)

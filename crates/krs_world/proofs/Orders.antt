@@ -1,14 +1,11 @@
 -- The history only grows, and so does what seats have seen, which begins it.
-use Rattle.std.proofs.Common.{◌≡◌, ℕ, List, [], ◌∷◌, ◌++◌, set, Some, None, Result, refl, sym, ap, ◌∙◌, subst}
+use Rattle.std.proofs.Common.{◌≡◌, ℕ, List, [], ◌∷◌, ◌++◌, set, Some, None, refl, sym, ap, ◌∙◌, subst}
 use Rattle.std.proofs.Common.{inl, inr, cond, ◌==◌, false}
 use Rattle.std.proofs.Common.{◌⊎◌, ⊎_elim, append_assoc}
 use mathlib.Core.Option.{some, some-injective}
 use mathlib.Core.Logic.{dite}
 use native.Mathlib.Decide.{ℕ_discrete}
 use lib.ListN.{get_elem?}
-use Rattle.krs_types.specs.declared.ask.Ask.{Ask}
-use Rattle.krs_types.specs.declared.ask.Answer as answer
-use Rattle.krs_types.specs.declared.errno.Errno.{Errno}
 use Rattle.krs_types.specs.declared.event.Event.{Event}
 use Rattle.krs_model.specs.State.{State}
 use Rattle.krs_model.specs.Lists.{Begins}
@@ -16,14 +13,14 @@ use Rattle.krs_model.specs.History.{event_of}
 use Rattle.krs_world.specs.declared.view.Part.{Part}
 use Rattle.krs_world.specs.declared.step.Kind.{Kind}
 use Rattle.krs_world.specs.declared.step.Kind.TheVariants.{Take, TakeFound, Put, Load, Post, Grab, Answer, Collect}
-use Rattle.krs_world.specs.declared.step.Kind.TheVariants.{CollectFound, LookAt}
+use Rattle.krs_world.specs.declared.step.Kind.TheVariants.{CollectFound, LookAt, Serve}
 use Rattle.krs_world.specs.declared.step.WorldStep.{WorldStep}
 use Rattle.krs_world.specs.Knowing.{one, taken, missed, put_own, put_none, loaded, posted, grabbed, answered}
-use Rattle.krs_world.specs.Knowing.{collected, looked_at}
+use Rattle.krs_world.specs.Knowing.{collected, looked_at, kept}
 use Rattle.krs_world.specs.History.{StandsAfter}
 use Rattle.krs_world.specs.World.{Turn, Free, Out, World, begun, Runs, StepsAs, IsLongest, IsHistoryBy, IsHistory}
 use Rattle.krs_world.specs.World.{reseated, cell_of, IsOneHistory, is_answered, event_by}
-use Rattle.krs_world.specs.Order.{SeenGrows, OnlyGrows}
+use Rattle.krs_world.specs.Order.{SeenGrows, OnlyGrows, KeepsSessionOrder, KeepsServedOrder}
 use Rattle.krs_world.proofs.Keeping.{prefix_self, prefix_more, prefix_trans, set_at, set_else}
 use Rattle.krs_world.proofs.Worlds.{get_map, prefix_none, history_is, history_is_one, step_as, steps_keep, runs_keep}
 use Rattle.krs_world.proofs.Beginning.{begins_world}
@@ -76,6 +73,11 @@ step_sees w lane p (Put (Some call)) new o at t j r is = let h = t.0 in
     let e : Event = event_of lane call.0 call.1 t.1 in
     subst (λ (z : World). Grown z.seats j r) (sym t.5)
     (grown_at w.seats lane p (put_own p h.log e) at
+    (prefix_more p.seen h.log (e ∷ []) (held_begins w o lane p h.log at h.held)) j r is)
+step_sees w lane p (Serve m ask) new o at t j r is = let h = t.0 in
+    let e : Event = event_of lane m ask t.1 in
+    subst (λ (z : World). Grown z.seats j r) (sym t.5)
+    (grown_at w.seats lane p (kept p h.log e) at
     (prefix_more p.seen h.log (e ∷ []) (held_begins w o lane p h.log at h.held)) j r is)
 step_sees w lane p (Load n) new o at t j r is = subst (λ (z : World). Grown z.seats j r) (sym t.6)
     (grown_at w.seats lane p (loaded p t.1) at t.3 j r is)
@@ -150,6 +152,17 @@ put_grows w new o n lane p q log turn at held more is =
     subst (λ (x : List Event). Begins x n.history.log) (k.holding log held).whole
     (prefix_trans log q.seen n.history.log more (seen_begins new n lane q here))
 
+-- the list that the holder holds is longer by one event, and is the history still
+holder_grows : (w new : World) (o : IsOneHistory w) (n : IsOneHistory new) (lane : ℕ) (p q : Part) (log : List Event)
+    (e : Event) → get_elem? w.seats lane ≡ some p → p.holding ≡ Some log → q.holding ≡ Some (log ++ e ∷ [])
+    → new.turn ≡ Out lane → new.seats ≡ set w.seats lane q → Begins o.history.log n.history.log
+holder_grows w new o n lane p q log e at held holds turns seats =
+    let k = o.history.each lane (one w.opening p) (get_map (one w.opening) w.seats lane p at) in
+    let now : IsHistory new (log ++ e ∷ []) = subst (λ (x : Turn × List Part). IsHistoryBy x.0 (log ++ e ∷ []) x.1)
+    (λ i. (sym turns i, sym seats i)) (q, set_at w.seats lane q p at, holds) in
+    subst (λ (x : List Event × List Event). Begins x.0 x.1)
+    (λ i. ((k.holding log held).whole i, history_is_one new n (log ++ e ∷ []) now i)) (e ∷ [], refl)
+
 pub log_grows : (w : World) (lane : ℕ) (p : Part) (k : Kind) (new : World) (o : IsOneHistory w) (n : IsOneHistory new)
     → get_elem? w.seats lane ≡ some p → StepsAs w lane p k new → Begins o.history.log n.history.log
 log_grows w lane p Take new o n at t = same_grows w new o n t.1 t.3 (subst (λ (x : World). IsHistory x t.1) (sym t.4)
@@ -162,6 +175,9 @@ log_grows w lane p (Put (Some call)) new o n at t = let h = t.0 in
     let e : Event = event_of lane call.0 call.1 t.1 in
     put_grows w new o n lane p (put_own p h.log e) h.log (Free t.2) at h.held
     (prefix_more h.log h.log (e ∷ []) (prefix_self h.log)) t.5
+log_grows w lane p (Serve m ask) new o n at t = let h = t.0 in let e : Event = event_of lane m ask t.1 in
+    holder_grows w new o n lane p (kept p h.log e) h.log e at h.held refl (ap (λ (x : World). x.turn) t.5 ∙ h.out)
+    (ap (λ (x : World). x.seats) t.5)
 log_grows w lane p (Load seen) new o n at t = turn_grows w new lane p (loaded p t.1) o n at refl
     (ap (λ (x : World). x.turn) t.6) (ap (λ (x : World). x.seats) t.6) (step_sees w lane p (Load seen) new o at t)
     w.turn refl
@@ -172,14 +188,8 @@ log_grows w lane p (Grab other) new o n at t = turn_grows w new lane p (grabbed 
     (ap (λ (x : World). x.turn) t.4) (ap (λ (x : World). x.seats) t.4) (step_sees w lane p (Grab other) new o at t)
     w.turn refl
 log_grows w lane p Answer new o n at t = let h = t.0 in let e : Event = event_by h.call t.1 in
-    let q : Part = answered p h.log e in
-    let k = o.history.each lane (one w.opening p) (get_map (one w.opening) w.seats lane p at) in
-    let turns : new.turn ≡ Out lane = ap (λ (x : World). x.turn) t.4 ∙ h.out in
-    let seats : new.seats ≡ set w.seats lane q = ap (λ (x : World). x.seats) t.4 in
-    let now : IsHistory new (h.log ++ e ∷ []) = subst (λ (x : Turn × List Part). IsHistoryBy x.0 (h.log ++ e ∷ []) x.1)
-    (λ i. (sym turns i, sym seats i)) (q, set_at w.seats lane q p at, refl) in
-    subst (λ (x : List Event × List Event). Begins x.0 x.1)
-    (λ i. ((k.holding h.log h.held).whole i, history_is_one new n (h.log ++ e ∷ []) now i)) (e ∷ [], refl)
+    holder_grows w new o n lane p (answered p h.log e) h.log e at h.held refl (ap (λ (x : World). x.turn) t.4 ∙ h.out)
+    (ap (λ (x : World). x.seats) t.4)
 log_grows w lane p (Collect size) new o n at t = let h = t.0 in
     turn_grows w new lane p (collected p h.seen (event_of lane h.moment h.ask h.reply)) o n at refl
     (ap (λ (x : World). x.turn) t.1) (ap (λ (x : World). x.seats) t.1) (step_sees w lane p (Collect size) new o at t)
@@ -220,33 +230,50 @@ one_order opening lanes before after mid end i j p q first second at there =
     (prefix_trans p.seen grown.0.seen last.history.log grown.2 (seen_begins end last i grown.0 grown.1))
     (seen_begins end last j q there)
 
-pub session_order : (opening : State) (lanes : ℕ) (before after : List WorldStep) (mid next end : World) (lane : ℕ)
-    (p : Part) (call : ℕ × Ask) (log : List Event) → Runs (begun opening lanes) before mid → get_elem? mid.seats lane ≡ some p
-    → StepsAs mid lane p (Put (Some call)) next → Runs next after end → IsHistory end log
-    → (reply : Result answer.Answer Errno) × (q : Part) × (get_elem? next.seats lane ≡ some q)
-    × (q.mine ≡ p.mine ++ event_of lane call.0 call.1 reply ∷ [])
-    × StandsAfter p.seen (event_of lane call.0 call.1 reply) log
-session_order opening lanes before after mid next end lane p call log first at step second history =
+-- an own call at the end of the list that its seat held, which has seen that list then
+own_order : (opening : State) (lanes : ℕ) (before after : List WorldStep) (mid next end : World) (lane : ℕ) (p q : Part)
+    (kind : Kind) (had : List Event) (e : Event) (log : List Event) → Runs (begun opening lanes) before mid
+    → get_elem? mid.seats lane ≡ some p → StepsAs mid lane p kind next → p.holding ≡ Some had
+    → get_elem? next.seats lane ≡ some q → q.seen ≡ had ++ e ∷ [] → Runs next after end → IsHistory end log
+    → StandsAfter p.seen e log
+own_order opening lanes before after mid next end lane p q kind had e log first at step held here seen second history =
     let o : IsOneHistory mid = runs_keep (begun opening lanes) before mid (begins_world opening lanes) first in
-    let put : IsOneHistory next = step_as mid lane p (Put (Some call)) next o at step in
-    let last : IsOneHistory end = runs_keep next after end put second in
-    let h = step.0 in let e : Event = event_of lane call.0 call.1 step.1 in let q : Part = put_own p h.log e in
-    let here : get_elem? next.seats lane ≡ some q =
-    subst (λ (z : World). get_elem? z.seats lane ≡ some q) (sym step.5) (set_at mid.seats lane q p at) in
-    let grown = runs_see next after end put second lane q here in
+    let made : IsOneHistory next = step_as mid lane p kind next o at step in
+    let last : IsOneHistory end = runs_keep next after end made second in
+    let grown = runs_see next after end made second lane q here in
     let whole : log ≡ last.history.log =
     history_is end.opening (cell_of end.cells) end.seats end.turn last.history log history in
-    let begun : Begins (h.log ++ e ∷ []) log = subst (Begins (h.log ++ e ∷ [])) (sym whole)
-    (prefix_trans (h.log ++ e ∷ []) grown.0.seen last.history.log grown.2
-    (seen_begins end last lane grown.0 grown.1)) in
-    let saw : Begins p.seen h.log = held_begins mid o lane p h.log at h.held in (
+    let begun : Begins (had ++ e ∷ []) log = subst (λ (l : List Event). Begins l log) seen
+    (subst (Begins q.seen) (sym whole)
+    (prefix_trans q.seen grown.0.seen last.history.log grown.2 (seen_begins end last lane grown.0 grown.1))) in
+    let saw : Begins p.seen had = held_begins mid o lane p had at held in (
+      saw.0,
+      begun.0,
+      sym begun.1 ∙ (append_assoc had (e ∷ []) begun.0 ∙ ap (λ (l : List Event). l ++ e ∷ begun.0) (sym saw.1)),
+    )
+
+pub session_order : KeepsSessionOrder
+session_order opening lanes before after mid next end lane p call log first at step second history =
+    let h = step.0 in let e : Event = event_of lane call.0 call.1 step.1 in let q : Part = put_own p h.log e in
+    let here : get_elem? next.seats lane ≡ some q =
+    subst (λ (z : World). get_elem? z.seats lane ≡ some q) (sym step.5) (set_at mid.seats lane q p at) in (
       step.1,
       q,
       here,
       refl,
-      (
-        saw.0,
-        begun.0,
-        sym begun.1 ∙ (append_assoc h.log (e ∷ []) begun.0 ∙ ap (λ (l : List Event). l ++ e ∷ begun.0) (sym saw.1)),
-      ),
+      own_order opening lanes before after mid next end lane p q (Put (Some call)) h.log e log first at step h.held here
+          refl second history,
+    )
+
+pub served_order : KeepsServedOrder
+served_order opening lanes before after mid next end lane p call log first at step second history =
+    let h = step.0 in let e : Event = event_of lane call.0 call.1 step.1 in let q : Part = kept p h.log e in
+    let here : get_elem? next.seats lane ≡ some q =
+    subst (λ (z : World). get_elem? z.seats lane ≡ some q) (sym step.5) (set_at mid.seats lane q p at) in (
+      step.1,
+      q,
+      here,
+      refl,
+      own_order opening lanes before after mid next end lane p q (Serve call.0 call.1) h.log e log first at step h.held
+          here refl second history,
     )

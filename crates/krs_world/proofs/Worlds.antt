@@ -20,10 +20,10 @@ use Rattle.krs_world.specs.declared.view.Service.{Service}
 use Rattle.krs_world.specs.declared.view.View.{View}
 use Rattle.krs_world.specs.declared.step.Kind.{Kind}
 use Rattle.krs_world.specs.declared.step.Kind.TheVariants.{Take, TakeFound, Put, Load, Post, Grab, Answer, Collect}
-use Rattle.krs_world.specs.declared.step.Kind.TheVariants.{CollectFound, LookAt}
+use Rattle.krs_world.specs.declared.step.Kind.TheVariants.{CollectFound, LookAt, Serve}
 use Rattle.krs_world.specs.declared.step.WorldStep.{WorldStep}
 use Rattle.krs_world.specs.Knowing.{events_of, one, taken, missed, put_own, put_none, loaded, posted, grabbed, answered}
-use Rattle.krs_world.specs.Knowing.{collected, looked_at, celled}
+use Rattle.krs_world.specs.Knowing.{collected, looked_at, celled, kept}
 use Rattle.krs_world.specs.History.{Fits, OneHistory, HasSeen}
 use Rattle.krs_world.specs.World.{Turn, Free, Out, World, IsLongest, IsHistoryBy, reseated, recelled, StepsAs, Steps, Runs}
 use Rattle.krs_world.specs.World.{is_answered, event_by}
@@ -256,6 +256,15 @@ step_as w lane p (Put (Some call)) new o at t = let a = w.opening in let cell = 
     (at_home w.turn) cell h.log e h.last t.2 o.history h.held h.unserving t.3 h.legal t.4 (sym (o.lanes lane p at)) in
     subst IsOneHistory (sym t.5) (one_now (record (reseated w lane q) { turn = Free t.2 })
     (reads a cell w.seats 0 (Some t.2) lane q r.1) tt (lanes_stay w.seats lane p q at refl o.lanes))
+step_as w lane p (Serve m ask) new o at t = let a = w.opening in let cell = cell_of w.cells in let h = t.0 in
+    let e : Event = event_of lane m ask t.1 in let q : Part = kept p h.log e in
+    let out : IsOutAt w.turn (set w.seats lane q) = subst (λ (x : Turn). IsOutAt x (set w.seats lane q)) (sym h.out)
+    (q, h.log ++ e ∷ [], set_at w.seats lane q p at, refl) in
+    subst IsOneHistory (sym t.5) (one_now (reseated w lane q)
+    (reads a cell w.seats (turn_word w.turn) (at_home w.turn) lane q
+    (law.keeps a (views_of w) lane p (seat_of a cell w.seats lane p at) (turn_word w.turn) (at_home w.turn) cell h.log e
+    h.last t.2 o.history h.held h.unserving t.3 h.legal t.4 (sym (o.lanes lane p at))))
+    out (lanes_stay w.seats lane p q at refl o.lanes))
 step_as w lane p (Load n) new o at t = let a = w.opening in let cell = cell_of w.cells in let q : Part = loaded p t.1 in
     let is : t.0 ≡ o.history.log = history_is a cell w.seats w.turn o.history t.0 t.2 in
     subst IsOneHistory (sym t.6) (one_now (reseated w lane q)

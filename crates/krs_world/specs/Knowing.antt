@@ -46,6 +46,10 @@ missed p = record p { found = p.found + 1 }
 abbrev pub put_own : Part → List Event → Event → Part
 put_own p log e = record p { seen = log ++ e ∷ []; mine = p.mine ++ e ∷ []; holding = None }
 
+-- serve: the event of an own call stands at the end of the list that is held, and is seen; the turn is kept
+abbrev pub kept : Part → List Event → Event → Part
+kept p log e = record p { seen = log ++ e ∷ []; mine = p.mine ++ e ∷ []; holding = Some (log ++ e ∷ []) }
+
 -- put with no call of its own: the list that was held is seen
 abbrev pub put_none : Part → List Event → Part
 put_none p log = record p { seen = log; holding = None }

@@ -12,7 +12,7 @@ use Rattle.krs_model.specs.State.{State}
 use Rattle.krs_model.specs.Lists.{Begins}
 use Rattle.krs_model.specs.History.{event_of}
 use Rattle.krs_world.specs.declared.view.Part.{Part}
-use Rattle.krs_world.specs.declared.step.Kind.TheVariants.{Put, Collect}
+use Rattle.krs_world.specs.declared.step.Kind.TheVariants.{Put, Serve, Collect}
 use Rattle.krs_world.specs.declared.step.WorldStep.{WorldStep}
 use Rattle.krs_world.specs.History.{StandsAfter, flight}
 use Rattle.krs_world.specs.World.{World, begun, Runs, StepsAs, IsHistory}
@@ -41,6 +41,15 @@ abbrev pub KeepsSessionOrder : Type 0
 KeepsSessionOrder = (opening : State) (lanes : ℕ) (before after : List WorldStep) (mid next end : World) (lane : ℕ)
     (p : Part) (call : ℕ × Ask) (log : List Event) → Runs (begun opening lanes) before mid → get_elem? mid.seats lane ≡ some p
     → StepsAs mid lane p (Put (Some call)) next → Runs next after end → IsHistory end log
+    → (reply : Result Answer Errno) × (q : Part) × (get_elem? next.seats lane ≡ some q)
+    × (q.mine ≡ p.mine ++ event_of lane call.0 call.1 reply ∷ [])
+    × StandsAfter p.seen (event_of lane call.0 call.1 reply) log
+
+-- The same of an own call whose seat keeps the turn.
+abbrev pub KeepsServedOrder : Type 0
+KeepsServedOrder = (opening : State) (lanes : ℕ) (before after : List WorldStep) (mid next end : World) (lane : ℕ)
+    (p : Part) (call : ℕ × Ask) (log : List Event) → Runs (begun opening lanes) before mid → get_elem? mid.seats lane ≡ some p
+    → StepsAs mid lane p (Serve call.0 call.1) next → Runs next after end → IsHistory end log
     → (reply : Result Answer Errno) × (q : Part) × (get_elem? next.seats lane ≡ some q)
     × (q.mine ≡ p.mine ++ event_of lane call.0 call.1 reply ∷ [])
     × StandsAfter p.seen (event_of lane call.0 call.1 reply) log

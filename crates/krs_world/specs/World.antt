@@ -20,10 +20,10 @@ use Rattle.krs_world.specs.declared.view.Service.{Service}
 use Rattle.krs_world.specs.declared.view.View.{View}
 use Rattle.krs_world.specs.declared.step.Kind.{Kind}
 use Rattle.krs_world.specs.declared.step.Kind.TheVariants.{Take, TakeFound, Put, Load, Post, Grab, Answer, Collect}
-use Rattle.krs_world.specs.declared.step.Kind.TheVariants.{CollectFound, LookAt}
+use Rattle.krs_world.specs.declared.step.Kind.TheVariants.{CollectFound, LookAt, Serve}
 use Rattle.krs_world.specs.declared.step.WorldStep.{WorldStep}
 use Rattle.krs_world.specs.Knowing.{one, fresh, taken, missed, put_own, put_none, loaded, posted, grabbed, answered}
-use Rattle.krs_world.specs.Knowing.{collected, looked_at, events_of}
+use Rattle.krs_world.specs.Knowing.{collected, looked_at, events_of, kept}
 use Rattle.krs_world.specs.History.{OneHistory}
 
 -- the turn is free, with the store's state at home, or out at a lane
@@ -163,6 +163,10 @@ StepsAs w lane p (Put (Some call)) new =
     (h : IsHolder w lane p) × (reply : Result answer.Answer Errno) × (next : State) × (p.flight ≡ None)
     × Step h.last (event_of lane call.0 call.1 reply) next
     × (new ≡ brought_home w lane (put_own p h.log (event_of lane call.0 call.1 reply)) next)
+StepsAs w lane p (Serve moment ask) new =
+    (h : IsHolder w lane p) × (reply : Result answer.Answer Errno) × (next : State) × (p.flight ≡ None)
+    × Step h.last (event_of lane moment ask reply) next
+    × (new ≡ reseated w lane (kept p h.log (event_of lane moment ask reply)))
 StepsAs w lane p (Load n) new =
     (log : List Event) × (seen : List Event) × IsHistory w log × Begins p.seen seen × Begins seen log
     × (length seen ≡ n) × (new ≡ reseated w lane (loaded p seen))
@@ -201,7 +205,7 @@ MovesBy old lane kind false new =
     (new ≡ old) × ((p : Part) (other : World) → get_elem? old.seats lane ≡ some p → ¬ StepsAs old lane p kind other)
 
 -- What a step that was possible is refused with: ENOSPC where it would raise a number that is the greatest already,
--- ENOMEM where it was to put or answer a call, or to keep a lane that was looked at
+-- ENOMEM where it was to put, serve or answer a call, or to keep a lane that was looked at
 abbrev pub Refuses : World → ℕ → Part → Kind → Errno → Type 0
 Refuses w lane p Take error =
     (error ≡ ENOSPC) × (18446744073709551615 ≤ p.taken) × ((store : State) × (w.turn ≡ Free store))
@@ -210,6 +214,8 @@ Refuses w lane p TakeFound error =
     × ((holder : ℕ) × (w.turn ≡ Out holder) × (holder ≢ lane))
 Refuses w lane p (Put None) error = ⊥
 Refuses w lane p (Put (Some call)) error =
+    (error ≡ ENOMEM) × IsHolder w lane p × (p.flight ≡ None)
+Refuses w lane p (Serve moment ask) error =
     (error ≡ ENOMEM) × IsHolder w lane p × (p.flight ≡ None)
 Refuses w lane p (Load n) error = ⊥
 Refuses w lane p (Post moment ask) error = ⊥

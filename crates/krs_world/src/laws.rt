@@ -1,6 +1,6 @@
 //! The laws of the machine.
 ghost use Rattle.krs_world.specs.World.{StaysOne};
-ghost use Rattle.krs_world.specs.Order.{OnlyGrows, SeesOneOrder, KeepsSessionOrder, KeepsPostedOrder};
+ghost use Rattle.krs_world.specs.Order.{OnlyGrows, SeesOneOrder, KeepsSessionOrder, KeepsServedOrder, KeepsPostedOrder};
 ghost use Rattle.krs_world.specs.Between.{KeepsRealTimeBetween, KeepsPostedBetween, KeepsCollectedBetween};
 
 /// However many seats there are, and whatever steps they make in whatever order, there is one history of all calls.
@@ -18,9 +18,11 @@ pub fn seats_see_one_order()
     ensures { SeesOneOrder }
 {}
 
-/// A call stands in the history behind all that its seat had seen before it: session order.
+/// A call stands in the history behind all that its seat had seen before it, whether or not the seat keeps its turn:
+/// session order.
 pub fn session_order_is_kept()
-    ensures { KeepsSessionOrder }
+    ensures put { KeepsSessionOrder }
+    ensures served { KeepsServedOrder }
 {}
 
 /// A call that was posted stands in the history behind all that its seat had seen as it posted it, once its reply is

@@ -13,6 +13,9 @@ pub enum Kind {
     /// It brings the store home and frees the turn, with one own call served (its moment and ask), or with none.
     Put(Option<(u64, Ask)>),
 
+    /// It has one own call served (its moment and ask), and keeps the turn.
+    Serve(u64, Ask),
+
     /// It has seen the first so many calls of the history.
     Load(usize),
 

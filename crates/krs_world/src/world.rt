@@ -1,7 +1,7 @@
 //! The machine: it runs the steps, and a contract sees what every seat knows.
 ghost use Rattle.std.specs.Prelude.{◌≡◌, ◌<◌, ◌≤◌, Some, None, IfOk, IfErr, true, false, vec_len, vec_capacity};
 ghost use Rattle.krs_world.specs.Kept.{MayPut, Serves};
-ghost use Rattle.krs_world.specs.declared.step.Kind.TheVariants.{Take, TakeFound, Put, Load};
+ghost use Rattle.krs_world.specs.declared.step.Kind.TheVariants.{Take, TakeFound, Put, Serve, Load};
 ghost use Rattle.krs_world.specs.World.{new_world, MovesBy, RefusedBy};
 
 use crate::lane::{Lane, Slot, is_idle};
@@ -63,8 +63,8 @@ impl World {
         })
     }
 
-    /// One step: true where it was made, false where it isn't possible. A put serves its ask by the store, and so does
-    /// an answer; the reply is what the store answers, ENOMEM too. ENOSPC where the step would raise a number that is
+    /// One step: true where it was made, false where it isn't possible. A put serves its ask by the store, and so do a
+    /// serve and an answer; the reply is what the store answers, ENOMEM too. ENOSPC where the step would raise a number that is
     /// the greatest already; ENOMEM where there is no memory for the event of a call, or to keep that a lane's cell was
     /// looked at.
     pub fn step(&mut self, step: WorldStep) -> Result<bool, Errno>
@@ -77,6 +77,7 @@ impl World {
             Kind::TakeFound => self.take_found(lane),
             Kind::Put(Some((moment, ask))) => self.put(lane, moment, ask),
             Kind::Put(None) => Ok(self.put_none(lane)),
+            Kind::Serve(moment, ask) => self.serve_own(lane, moment, ask),
             Kind::Load(seen) => Ok(self.load(lane, seen)),
             Kind::Post(moment, ask) => Ok(self.post(lane, moment, ask)),
             Kind::Grab(other) => Ok(self.grab(lane, other)),
@@ -169,6 +170,23 @@ impl World {
         seat.seen = self.log.len();
         seat.holding = false;
         self.out = None;
+        Ok(true)
+    }
+
+    // The holder has its ask served, and keeps the turn.
+    fn serve_own(&mut self, lane: u32, moment: u64, ask: Ask) -> Result<bool, Errno>
+        ensures moved { IfOk result (λ done. MovesBy self.old lane (Serve moment ask) done self.new) }
+        ensures refused { IfErr result (λ error. RefusedBy self.old lane (Serve moment ask) error self.new) }
+    {
+        if !may_put(self.out, &self.serving, &self.lanes, lane) {
+            return Ok(false);
+        }
+        let Ok(copy) = copy_with_room(&mut self.log, &ask) else {
+            return Err(Errno::ENOMEM);
+        };
+        serve(&mut self.store, &mut self.log, lane, moment, ask, copy);
+        let seat = &mut self.lanes[lane as usize];
+        seat.seen = self.log.len();
         Ok(true)
     }
 

@@ -114,7 +114,8 @@ fn step(alloc: Global, lane: u32, number: u8) -> WorldStep {
         7 => Kind::Answer,
         8 => Kind::CollectFound,
         9 => Kind::Collect(0),
-        _ => Kind::Collect(1),
+        10 => Kind::Collect(1),
+        _ => Kind::Serve(0, leave()),
     };
     WorldStep { lane, kind }
 }
@@ -140,6 +141,29 @@ const ONE_TURN: [Row<'static>; 3] = [
 fn one_seat_has_the_turn(rt: HostRuntime) -> Result<(), Fail> {
     let mut world = World::new(rt.alloc(), 2)?;
     check_steps(&rt, rt.alloc(), &mut world, &ONE_TURN);
+    Ok(())
+}
+
+/// Seat 0 takes the turn, has two calls served in it, and gives it back: each step in turn, and between them those that
+/// aren't possible.
+#[rattlefmt::skip]
+const KEPT: [Row<'static>; 10] = [
+    (0, 11, false, "no turn"),
+    (0, 0, true, "the turn is free"),
+    (0, 11, true, "a call is served"),
+    (1, 0, false, "the turn is kept"),
+    (1, 11, false, "another's"),
+    (0, 11, true, "a second call"),
+    (0, 4, true, "a post"),
+    (0, 11, false, "a call is in its cell"),
+    (0, 2, true, "a put"),
+    (1, 0, true, "the turn is free again"),
+];
+
+#[test]
+fn a_turn_is_kept(rt: HostRuntime) -> Result<(), Fail> {
+    let mut world = World::new(rt.alloc(), 2)?;
+    check_steps(&rt, rt.alloc(), &mut world, &KEPT);
     Ok(())
 }
 
@@ -194,23 +218,34 @@ fn kind_of(alloc: Global, index: usize, other: u64, calls: usize) -> Kind {
     let lane = (other % 4) as u32;
     let some = calls.saturating_add(lane as usize).saturating_sub(2);
     match index {
-        0 => Kind::Take,
-        1 => Kind::TakeFound,
-        2 => Kind::Put(None),
-        3 => Kind::Put(Some((other % 7, ask_of(alloc, other)))),
-        4 => Kind::Load(some),
-        5 => Kind::Post(other % 7, ask_of(alloc, other)),
-        6 => Kind::Grab(lane),
-        7 => Kind::Answer,
-        8 => Kind::Collect(some),
-        9 => Kind::CollectFound,
+        0 => Kind::TakeFound,
+        1 => Kind::Put(None),
+        2 => Kind::Post(other % 7, ask_of(alloc, other)),
+        3 => Kind::CollectFound,
+        4 => Kind::Take,
+        5 => Kind::Put(Some((other % 7, ask_of(alloc, other)))),
+        6 => Kind::Serve(other % 7, ask_of(alloc, other)),
+        7 => Kind::Load(some),
+        8 => Kind::Grab(lane),
+        9 => Kind::Answer,
+        10 => Kind::Collect(some),
         _ => Kind::LookAt(lane),
     }
 }
 
+/// The number of a kind, by one of 36. Each of the first four comes once, and each other four times: lanes whose calls
+/// wait, and turns that are given back with nothing served, would leave few steps possible.
+fn index_of(number: u64) -> usize {
+    let number = number % 36;
+    if number < 4 {
+        return number as usize;
+    }
+    4 + ((number - 4) % 8) as usize
+}
+
 /// Which kinds of steps were drawn, by their numbers.
 #[derive(Drop)]
-struct Kinds([bool; 11]);
+struct Kinds([bool; 12]);
 
 impl Kinds {
     fn mark(&mut self, index: usize) {
@@ -245,8 +280,8 @@ impl Recipe {
                 seen: [0; 3],
                 stages: [Stage::Empty; 3],
             },
-            made: Kinds([false; 11]),
-            refused: Kinds([false; 11]),
+            made: Kinds([false; 12]),
+            refused: Kinds([false; 12]),
         }
     }
 
@@ -255,8 +290,8 @@ impl Recipe {
         self.number = further(self.number);
         let drawn = self.number >> 33;
         let lane = (drawn % 4) as u32;
-        let index = (drawn / 4 % 11) as usize;
-        let kind = kind_of(alloc, index, drawn / 44, self.small.calls);
+        let index = index_of(drawn / 4);
+        let kind = kind_of(alloc, index, drawn / 144, self.small.calls);
         (index, WorldStep { lane, kind })
     }
 

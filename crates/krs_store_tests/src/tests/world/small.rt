@@ -59,6 +59,7 @@ impl Small {
             Kind::TakeFound => self.out.is_some() && !self.has_turn(lane),
             Kind::Put(None) => self.is_holder(lane),
             Kind::Put(Some(_)) => self.is_holder(lane) && matches!(stage, Stage::Empty),
+            Kind::Serve(..) => self.is_holder(lane) && matches!(stage, Stage::Empty),
             Kind::Load(calls) => self.may_see(lane, *calls),
             Kind::Post(..) => matches!(stage, Stage::Empty),
             Kind::Grab(other) => {
@@ -109,6 +110,11 @@ impl Small {
                     self.calls = self.calls.saturating_add(1);
                 }
                 self.out = None;
+                let calls = self.calls;
+                self.sees(lane, calls);
+            }
+            Kind::Serve(..) => {
+                self.calls = self.calls.saturating_add(1);
                 let calls = self.calls;
                 self.sees(lane, calls);
             }

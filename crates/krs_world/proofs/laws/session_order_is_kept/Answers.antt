@@ -1,5 +1,8 @@
-use Rattle.krs_world.proofs.Orders.{session_order}
+use Rattle.krs_world.proofs.Orders.{session_order, served_order}
 use Rattle.krs_world.proofs.laws.session_order_is_kept.Goals as goal
 
-pub returns : goal.returns
-returns c = session_order
+pub returns-clause-put : goal.returns-clause-put
+returns-clause-put c = session_order
+
+pub returns-clause-served : goal.returns-clause-served
+returns-clause-served c = served_order
