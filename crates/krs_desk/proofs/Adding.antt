@@ -1,5 +1,5 @@
 -- Each step is the machine's of its name.
-use Rattle.std.proofs.Common.{◌≡◌, ◌≢◌, ℕ, zero, suc, ◌+◌, ◌≤◌, ◌<◌, List, [], ◌∷◌, ◌++◌, Option, Some, None, Result}
+use Rattle.std.proofs.Common.{◌≡◌, ◌≢◌, ℕ, zero, suc, ◌+◌, ◌≤◌, List, [], ◌∷◌, ◌++◌, Option, Some, None, Result}
 use Rattle.std.proofs.Common.{refl, sym, ap, ◌∙◌, subst, set, inl, inr, ⊎_elim, length, get_or, arith, append_assoc}
 use Rattle.std.proofs.Common.{append-nil, length-append, get_or-set_other, get_or-set_same, ◌⊎◌, lt_of_not-le}
 use mathlib.Core.Option.{some, some-injective}
@@ -33,7 +33,7 @@ use Rattle.krs_desk.specs.Parts.{views_of}
 use Rattle.krs_desk.specs.Rule.{CellIs, InOneOrder}
 use Rattle.krs_desk.specs.Moves as move
 use Rattle.krs_desk.specs.Moves.{Move, after, IsMadeAt}
-use Rattle.krs_desk.specs.Running.{Board, IsStepped, IsLeft, IsOutAt, IsNamed, added, BringsOf, StepsAsNamed}
+use Rattle.krs_desk.specs.Running.{Board, IsStepped, IsLeft, IsOutAt, StepsAsNamed}
 use Rattle.krs_desk.proofs.Steps.{turn, view_at, views_set}
 use Rattle.krs_desk.proofs.Posts.{answered_of}
 use Rattle.krs_desk.proofs.Serves.{posted_of}
@@ -572,6 +572,20 @@ steps_as_named a s new p (move.puts_none l) r r' h was made is =
       whole,
       puts_log a s new r r' h p q was is refl r.history.log (law.prefix_self r.history.log) whole refl
           ∙ sym (append-nil r.history.log),
+    )
+steps_as_named a s new p (move.serves_own l e) r r' h was made is =
+    let q : Part = after p (move.serves_own l e) in
+    let whole : l ≡ r.history.log = (had a s new r r' h p q was is refl).held l made.1 in
+    let longer =
+    sym ((has a s new r r' h p q was is refl).held (l ++ e ∷ []) refl)
+    ∙ ap (λ (x : List Event). x ++ e ∷ []) whole in (
+      (
+        out_at a s new r r' h p q was is refl l made.1,
+        out_after a s new r r' h p q was is refl (l ++ e ∷ []) refl,
+        step_of a s new r r' h p q was is refl e longer,
+      ),
+      whole,
+      longer,
     )
 steps_as_named a s new p (move.loads l) r r' h was made is =
     let q : Part = after p (move.loads l) in

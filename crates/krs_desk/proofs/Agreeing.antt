@@ -1,6 +1,6 @@
 -- What a machine that a table is has in common with the one history of the table.
 use Rattle.std.proofs.Common.{◌≡◌, ◌≢◌, ℕ, zero, suc, ◌+◌, ◌<◌, List, [], ◌∷◌, ◌++◌, Option, Some, None, refl, sym, ap}
-use Rattle.std.proofs.Common.{◌∙◌, subst, inl, inr, ⊎_elim, ◌⊎◌, length, length-append, get_or, arith, lt_of_not-le}
+use Rattle.std.proofs.Common.{◌∙◌, subst, inl, inr, ⊎_elim, length, length-append, get_or, arith, lt_of_not-le}
 use mathlib.Core.Option.{some, some-injective, some-ne-none}
 use mathlib.Core.Option as maybe
 use mathlib.Core.Logic.{dite}

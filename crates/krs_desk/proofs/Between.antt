@@ -95,6 +95,7 @@ seen_by made found p (move.takes log) held is = prefix_self p.seen
 seen_by made found p move.misses held is = prefix_self p.seen
 seen_by made found p (move.puts_own log event) held is = prefix_more p.seen log (event ∷ []) (held log is.2)
 seen_by made found p (move.puts_none log) held is = held log is.2
+seen_by made found p (move.serves_own log event) held is = prefix_more p.seen log (event ∷ []) (held log is.1)
 seen_by made found p (move.loads log) held is = is.1
 seen_by made found p (move.posts moment ask) held is = prefix_self p.seen
 seen_by made found p (move.finds other) held is = prefix_self p.seen

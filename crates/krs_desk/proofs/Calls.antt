@@ -160,3 +160,14 @@ adds_after s t u moment ask asked reply e same a =
 pub looked_after :
     (desk : TableId) (s t u : Sitting) → t ≡ found_taken s t.part.found → HasLooked desk t u → HasLooked desk s u
 looked_after desk s t u e looked = subst (λ (z : Sitting). HasLooked desk z u) e looked
+
+-- A call at a seat that stayed as it was.
+
+pub adds_same :
+    (s t u : Sitting) (moment : ℕ) (ask asked : Ask) (reply : Result Answer Errno) → t ≡ s → asked ≡ ask
+    → Adds t (event_of t.part.lane moment asked reply) u → Adds s (event_of s.part.lane moment ask reply) u
+adds_same s t u moment ask asked reply same is a =
+    subst (λ (z : Sitting × Ask). Adds z.0 (event_of z.0.part.lane moment z.1 reply) u) (λ i. (same i, is i)) a
+
+pub looked_same : (desk : TableId) (s t u : Sitting) → t ≡ s → HasLooked desk t u → HasLooked desk s u
+looked_same desk s t u same looked = subst (λ (z : Sitting). HasLooked desk z u) same looked

@@ -85,6 +85,7 @@ after_lane p (move.takes log) = refl
 after_lane p move.misses = refl
 after_lane p (move.puts_own log e) = refl
 after_lane p (move.puts_none log) = refl
+after_lane p (move.serves_own log e) = refl
 after_lane p (move.loads log) = refl
 after_lane p (move.posts moment ask) = refl
 after_lane p (move.finds lane) = refl

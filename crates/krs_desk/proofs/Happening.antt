@@ -1,5 +1,5 @@
 -- Each step of the table is one that may happen.
-use Rattle.std.proofs.Common.{◌≡◌, ℕ, ◌<◌, eqb, Some, None, Option, refl, sym, ap, ◌∙◌, inl, inr, ⊎_elim, ◌⊎◌}
+use Rattle.std.proofs.Common.{◌≡◌, ℕ, ◌<◌, eqb, Some, None, Option, refl, sym, ap, ◌∙◌, inl, inr, ⊎_elim}
 use Rattle.std.proofs.Common.{length, get_or, arith, eq-eqb, ne_eqb}
 use mathlib.Core.Option.{none, some}
 use lib.ListN.{get_elem?}

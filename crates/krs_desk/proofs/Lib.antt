@@ -15,6 +15,7 @@ pub mod Words
 pub mod Between
 pub mod Looking
 pub mod Running
+pub mod KeptTurns
 pub mod Adding
 pub mod Agreeing
 pub mod Going

@@ -44,6 +44,7 @@ by_move made found p lane (move.takes log) is e = absurd (not_empty p.checked la
 by_move made found p lane move.misses is e = absurd (no_longer p.checked lane e)
 by_move made found p lane (move.puts_own log event) is e = absurd (no_longer p.checked lane e)
 by_move made found p lane (move.puts_none log) is e = absurd (no_longer p.checked lane e)
+by_move made found p lane (move.serves_own log event) is e = absurd (no_longer p.checked lane e)
 by_move made found p lane (move.loads log) is e = absurd (no_longer p.checked lane e)
 by_move made found p lane (move.posts moment ask) is e = absurd (no_longer p.checked lane e)
 by_move made found p lane (move.finds other) is e = absurd (no_longer p.checked lane e)
@@ -67,6 +68,8 @@ missed_by made n p (move.puts_own log event) is try not =
     absurd (let a : made.first ≡ 0 = try.1 in let b : made.first ≡ 1 = is.0.1 in omega arith)
 missed_by made n p (move.puts_none log) is try not =
     absurd (let a : made.first ≡ 0 = try.1 in let b : made.first ≡ 1 = is.0.1 in omega arith)
+missed_by made n p (move.serves_own log event) is try not =
+    absurd (let a : made.second ≡ 1 = try.2 in let b : made.second ≡ 0 = is.0.2 in omega arith)
 missed_by made n p (move.loads log) is try not =
     absurd (let a : made.second ≡ 1 = try.2 in let b : made.second ≡ 0 = is.0.2 in omega arith)
 missed_by made n p (move.posts moment ask) is try not = absurd (no_cell made.word p.lane try.0 is.0)
@@ -91,6 +94,8 @@ taken_by made p (move.puts_own log event) is try =
     absurd (let a : made.first ≡ 0 = try.1 in let b : made.first ≡ 1 = is.0.1 in omega arith)
 taken_by made p (move.puts_none log) is try =
     absurd (let a : made.first ≡ 0 = try.1 in let b : made.first ≡ 1 = is.0.1 in omega arith)
+taken_by made p (move.serves_own log event) is try =
+    absurd (let a : made.second ≡ 1 = try.2 in let b : made.second ≡ 0 = is.0.2 in omega arith)
 taken_by made p (move.loads log) is try =
     absurd (let a : made.second ≡ 1 = try.2 in let b : made.second ≡ 0 = is.0.2 in omega arith)
 taken_by made p (move.posts moment ask) is try = absurd (no_cell made.word p.lane try.0 is.0)
@@ -113,6 +118,7 @@ looked_by made n p lane (move.takes log) is at not held = absurd (not_both p is.
 looked_by made n p lane move.misses is at not held = absurd (not_both p is.2 held)
 looked_by made n p lane (move.puts_own log event) is at not held = absurd (no_cell made.word lane is.0.0 at)
 looked_by made n p lane (move.puts_none log) is at not held = absurd (no_cell made.word lane is.0.0 at)
+looked_by made n p lane (move.serves_own log event) is at not held = absurd (no_cell made.word lane is.0.0 at)
 looked_by made n p lane (move.loads log) is at not held = absurd (no_cell made.word lane is.0.0 at)
 looked_by made n p lane (move.posts moment ask) is at not held = absurd (nothing (Some n) n is.1 refl)
 looked_by made n p lane (move.finds other) is at not held = absurd (not (one_number n 1 is.1))

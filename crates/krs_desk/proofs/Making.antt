@@ -19,11 +19,11 @@ use Rattle.krs_world.specs.declared.view.Part.{Part}
 use Rattle.krs_world.specs.declared.view.Service.{Service}
 use Rattle.krs_world.specs.declared.view.Standing.TheVariants.{One}
 use Rattle.krs_world.specs.declared.view.View.{View}
-use Rattle.krs_world.specs.Knowing.{events_of, service, flight, put_own, answered, collected, looked_at}
+use Rattle.krs_world.specs.Knowing.{events_of, service, flight, put_own, answered, collected, looked_at, kept}
 use Rattle.krs_world.specs.History.{Fits}
 use Rattle.krs_world.specs.declared.step.Kind.{Kind}
 use Rattle.krs_world.specs.declared.step.Kind.TheVariants.{Take, TakeFound, Put, Load, Post, Grab, Answer, Collect}
-use Rattle.krs_world.specs.declared.step.Kind.TheVariants.{CollectFound, LookAt}
+use Rattle.krs_world.specs.declared.step.Kind.TheVariants.{CollectFound, LookAt, Serve}
 use Rattle.krs_world.specs.declared.step.WorldStep.{WorldStep}
 use Rattle.krs_world.specs.World as world
 use Rattle.krs_world.specs.World.{Turn, Free, Out, World, IsHistory, IsUnanswered, is_answered, Runs, StepsAs}
@@ -353,6 +353,19 @@ module _ (a : State) (s new : Board) (r : InOneOrder a s) (r' : InOneOrder a new
       absurd (not_longer p.mine e (sym had ∙ (sym more ∙ (ap (λ (n : ℕ). events_of n r'.history.log) (sym lane)
       ∙ (has ∙ mine))))))
 
+  -- where an own call is added, with none in flight, all cells stay
+  idle_cells : (e : Event) → e.lane ≡ p.lane → r'.history.serving ≡ r.history.serving → p.flight ≡ None
+      → q.flight ≡ None → r'.history.log ≡ r.history.log ++ e ∷ [] → (k : ℕ) → r'.cell k ≡ r.cell k
+  idle_cells e own serving idle idle_now longer k =
+      dite (ℕ_discrete k p.lane)
+      (λ same.
+      ap r'.cell (same ∙ sym lane)
+      ∙ (law.empty_if_idle q r'.history.log (r'.cell q.lane) idle_now (known_at a new r' q its_now).fits
+      ∙ (sym (law.empty_if_idle p r.history.log (r.cell p.lane) idle (known_at a s r p its).fits)
+      ∙ ap r.cell (sym same))))
+      (λ not. other_cell k not serving
+      (ap (events_of k) longer ∙ law.other_event k r.history.log e (λ x. not (sym x ∙ own))))
+
   -- a call that is taken up is the one that was posted
   same_call : (k m n : ℕ) (ask other : Ask) → q.flight ≡ p.flight → q.mine ≡ p.mine → r.cell k ≡ cells.Posted m ask
       → r'.cell k ≡ cells.Serving n other → cells.Posted m ask ≡ cells.Posted n other
@@ -529,22 +542,12 @@ module _ (a : State) (s new : Board) (p : Part) (w : World) (r : InOneOrder a s)
       let q : Part = after p (move.puts_own l e) in
       let named = steps_as_named a s new p (move.puts_own l e) r r' h was made is in
       let here = its a s new r r' h p q was is refl in
-      let here_now = its_now a s new r r' h p q was is refl in
       let zero_is : turn new ≡ 0 = named.0.1 in
       let serving : r'.history.serving ≡ r.history.serving =
       r'.history.unserved (λ one. omega arith)
       ∙ (sym made.3 ∙ serves_it a s new r r' h p q was is refl l made.2) in
       let own : e.lane ≡ p.lane = own_lane a s new r r' h p q was is refl e made.4 made.4 refl named.2 in
-      let stay : (k : ℕ) → r'.cell k ≡ r.cell k =
-      λ k. dite (ℕ_discrete k p.lane)
-      (λ same.
-      ap r'.cell same
-      ∙ (law.empty_if_idle q r'.history.log (r'.cell p.lane) made.4 (known_at a new r' q here_now).fits
-      ∙ (sym (law.empty_if_idle p r.history.log (r.cell p.lane) made.4 (known_at a s r p here).fits)
-      ∙ ap r.cell (sym same))))
-      (λ not.
-      other_cell a s new r r' h p q was is refl k not serving
-      (ap (events_of k) named.2 ∙ law.other_event k r.history.log e (λ x. not (sym x ∙ own)))) in
+      let stay = idle_cells a s new r r' h p q was is refl e own serving made.4 made.4 named.2 in
       let next : World = machine_with (Free r'.history.last) w.cells q in
       let now : Agrees a new r' next =
       after_step a s new r r' h p q was is refl w g (Free r'.history.last)
@@ -598,6 +601,45 @@ module _ (a : State) (s new : Board) (p : Part) (w : World) (r : InOneOrder a s)
             legal = legal_later a s new r r' h p q was is refl w g l (named.1 ∙ sym log);
           },
           refl,
+        ),
+      )
+
+  makes_serves_own : (l : List Event) (e : Event) → Makes (move.serves_own l e)
+  makes_serves_own l e made is =
+      let q : Part = after p (move.serves_own l e) in
+      let named = steps_as_named a s new p (move.serves_own l e) r r' h was made is in
+      let here = its a s new r r' h p q was is refl in
+      let one_is : turn s ≡ 1 = named.0.0.0 in
+      let same : turn new ≡ turn s =
+      reads_words s new h made.0.0 made.0.1 made.0.2 made.0.3.0 made.0.3.1 0 in
+      let serving : r'.history.serving ≡ r.history.serving =
+      sym (serves_now a s new r r' h p q was is refl (l ++ e ∷ []) refl)
+      ∙ serves_it a s new r r' h p q was is refl l made.1 in
+      let own : e.lane ≡ p.lane = own_lane a s new r r' h p q was is refl e made.3 made.3 refl named.2 in
+      let next : World = machine_with w.turn w.cells q in
+      let now : Agrees a new r' next =
+      after_step a s new r r' h p q was is refl w g w.turn
+      (on_free a s new r r' h p q was is refl w g same (λ zero_is. absurd (omega arith)))
+      (on_out a s new r r' h p q was is refl w g same (λ _. (l ++ e ∷ [], refl))) w.cells refl
+      (cells_same a s new r r' h p q was is refl w g
+      (idle_cells a s new r r' h p q was is refl e own serving made.3 made.3 named.2)) in
+      let it : event_of p.lane e.moment e.ask e.reply ≡ e = event_is p.lane e own in (
+        next,
+        is_world a new r' next now,
+        one_run w next p (Serve e.moment e.ask) (g.each p here) (
+          record {
+            log = l;
+            last = r.history.last;
+            out = out_here a s r w g p here (l, made.1);
+            held = made.1;
+            unserving = made.2;
+            legal = legal_held a s new r r' h p q was is refl w g l named.1;
+          },
+          e.reply,
+          r'.history.last,
+          made.3,
+          subst (λ (x : Event). Step r.history.last x r'.history.last) (sym it) named.0.2,
+          ap (λ (x : Event). reseated w p.lane (kept p l x)) (sym it),
         ),
       )
 
@@ -820,6 +862,7 @@ module _ (a : State) (s new : Board) (p : Part) (w : World) (r : InOneOrder a s)
   makes move.misses = makes_misses
   makes (move.puts_own l e) = makes_puts_own l e
   makes (move.puts_none l) = makes_puts_none l
+  makes (move.serves_own l e) = makes_serves_own l e
   makes (move.loads l) = makes_loads l
   makes (move.posts m ask) = makes_posts m ask
   makes (move.finds k) = makes_finds k

@@ -1,5 +1,5 @@
 -- Of the list that a seat has seen: a key that a uid has to itself is read by it alone.
-use Rattle.std.proofs.Common.{ℕ, List, Bool, subst}
+use Rattle.std.proofs.Common.{List, subst}
 use Rattle.krs_types.specs.declared.event.Event.{Event}
 use Rattle.krs_model.specs.State.{State}
 use Rattle.krs_model.specs.Sound.{IsSound}

@@ -291,6 +291,10 @@ held_moves a s r made found p (move.puts_own log e) l is held k =
 held_moves a s r made found p (move.puts_none log) l is held k =
     let same : log ≡ l = same_list log l (sym is.2 ∙ held) in
     subst (λ (x : List Event). Begins x r.history.log) same k.seen
+held_moves a s r made found p (move.serves_own log e) l is held k =
+    let same : log ≡ l = same_list log l (sym is.1 ∙ held) in
+    subst (λ (x : List Event). Begins x r.history.log) same
+    (subst (Begins log) (k.held (log ++ e ∷ []) refl) (law.prefix_more log log (e ∷ []) (law.prefix_self log)))
 held_moves a s r made found p (move.loads log) l is held k = begins_log l r.history.log (k.held l held)
 held_moves a s r made found p (move.posts moment ask) l is held k = begins_log l r.history.log (k.held l held)
 held_moves a s r made found p (move.finds other) l is held k = begins_log l r.history.log (k.held l held)

@@ -1,5 +1,5 @@
 -- The laws of a store, told of the list that a seat has seen.
-use Rattle.std.proofs.Common.{◌≡◌, ℕ, List, [], ◌∷◌, ◌++◌, refl, subst, ⊎_elim}
+use Rattle.std.proofs.Common.{◌≡◌, List, [], ◌∷◌, ◌++◌, refl, subst, ⊎_elim}
 use Rattle.krs_types.specs.declared.event.Event.{Event}
 use Rattle.krs_model.specs.State.{State}
 use Rattle.krs_model.specs.Sound.{IsSound}

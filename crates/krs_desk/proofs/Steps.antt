@@ -21,7 +21,7 @@ use Rattle.krs_world.specs.declared.view.Cell.{Cell}
 use Rattle.krs_world.specs.declared.view.Part.{Part}
 use Rattle.krs_world.specs.declared.view.View.{View}
 use Rattle.krs_world.specs.declared.view.Standing.TheVariants.{Spent}
-use Rattle.krs_world.specs.Knowing.{events_of, one, taken, missed, put_own}
+use Rattle.krs_world.specs.Knowing.{events_of, one, taken, missed, put_own, kept}
 use Rattle.krs_world.specs.History.{OneHistory}
 use Rattle.krs_world.proofs.Keeping as law
 use Rattle.krs_desk.specs.declared.place.Place.{Place}
@@ -29,7 +29,7 @@ use Rattle.krs_desk.specs.declared.place.Place.TheVariants.{Home}
 use Rattle.krs_desk.specs.declared.sight.Sight.{Sight}
 use Rattle.krs_desk.specs.Parts.{sat, views_of, IsLaid, AreHoused, hand_of}
 use Rattle.krs_desk.specs.Rule.{IsAtHome, CellIs, IsVacant, InOneOrder}
-use Rattle.krs_desk.specs.Told.{takes_told, puts_told}
+use Rattle.krs_desk.specs.Told.{takes_told, puts_told, keeps_told}
 use Rattle.krs_desk.specs.Moves as move
 use Rattle.krs_desk.specs.Moves.{moved_told}
 use Rattle.krs_desk.specs.Seated.{Me, opening, part, HoldsBefore}
@@ -261,6 +261,39 @@ puts_allowed a slots id p store c e log last held legal unserving idle does lane
       ),
     )
 
+-- the turn is kept, and the list that is held has one event more
+keeps_allowed :
+    (a : State) (slots id : ℕ) (p : Part) (store : State) (c : List (ℕ × Place)) (e : Event) (log : List Event)
+    (last : State) → p.holding ≡ Some log → IsLegal a log last → p.serving ≡ None → p.flight ≡ None
+    → Step last e store → e.lane ≡ p.lane
+    → Allows (InOneOrder a) slots id (sat a p, c) 0 (λ n. n)
+    (moved_told (keeps_told (e ∷ [])) (step slots 0 0 0 none) (sat a p, c))
+keeps_allowed a slots id p store c e log last held legal unserving idle does lane s r len at small =
+    let x : ℕ = turn s in
+    let views : List View = views_of s.views in
+    let is : get_elem? views id ≡ some (one a p) = view_at s.views id (sat a p) at in
+    let h = law.keeps a views id p is x r.home r.cell log e last store r.history held unserving idle legal does lane in
+    let k = law.own a views id p is x r.home r.cell r.history in
+    let mine : events_of p.lane log ≡ p.mine =
+    ap (events_of p.lane) (k.holding log held).whole
+    ∙ law.idle_mine p r.history.log (r.cell p.lane) idle k.fits in
+    let w : Sight = sat a (kept p log e) in (
+      w,
+      keeps,
+      tt,
+      unmoved a s r 0 id w c (λ l lies. sat_lies (IsVacant s.homes r.cell) a (kept p log e) l lies)
+          (r.housed id (sat a p) at) h,
+      (
+        (λ log' e' held' said'.
+            let same_log : log ≡ log' = cc in
+            let same_event : e ≡ e' = cc in (
+              ap (λ (z : List Event × Event). (sat a (kept p z.0 z.1), c)) (λ i. (same_log i, same_event i)),
+              ap (events_of p.lane) (sym same_log) ∙ mine,
+            )),
+        (refl, (move.serves_own log e, ((refl, refl, refl, (x, refl)), held, unserving, idle), refl)),
+      ),
+    )
+
 -- the key is what every view has for the opening state
 pub any_key :
     (key a : State) (slots id word : ℕ) (p : Part) (c : List (ℕ × Place)) (f : ℕ → ℕ) (then : ℕ → Me → Type 0)
@@ -307,3 +340,17 @@ puts_at key slots id m e log h lane =
     (sym h.has)
     (any_key key a slots id 0 p c (λ k. either (eqb k 1) 0 k) (moved_told (puts_told (e ∷ [])) (step slots 0 1 0 none) (sat a p, c))
     (puts_allowed a slots id p h.after (rest m.1) e log h.last h.held h.legal h.unserving h.idle h.step lane))
+
+pub keeps_at :
+    (key : State) (slots id : ℕ) (m : Me) (e : Event) (log : List Event) → HoldsBefore m log e
+    → e.lane ≡ (part m).lane
+    → Allows (InOneOrder key) slots id m 0 (λ k. k) (moved_told (keeps_told (e ∷ [])) (step slots 0 0 0 none) m)
+keeps_at key slots id m e log h lane =
+    let a : State = opening m in
+    let p : Part = part m in
+    let c : List (ℕ × Place) = (0, Home h.after) ∷ rest m.1 in
+    subst
+    (λ (z : Me). Allows (InOneOrder key) slots id z 0 (λ k. k) (moved_told (keeps_told (e ∷ [])) (step slots 0 0 0 none) z))
+    (sym h.has)
+    (any_key key a slots id 0 p c (λ k. k) (moved_told (keeps_told (e ∷ [])) (step slots 0 0 0 none) (sat a p, c))
+    (keeps_allowed a slots id p h.after c e log h.last h.held h.legal h.unserving h.idle h.step lane))

@@ -1,6 +1,6 @@
 -- Two moments at which the rule of the table holds: what a call stands behind at the second that wasn't asked, or wasn't
 -- answered, at the first. Herlihy and Wing, "Linearizability" (1990), real-time order.
-use Rattle.std.specs.Prelude.{◌≡◌, ◌≢◌, ℕ, Bool, List, ◌∷◌, ◌++◌, Option, None, Result, slice_index}
+use Rattle.std.specs.Prelude.{◌≡◌, ◌≢◌, ℕ, Bool, List, ◌∷◌, ◌++◌, None, Result, slice_index}
 use mathlib.Core.Option.{some}
 use lib.ListN.{get_elem?}
 use Rattle.atomic_table.specs.Table as table

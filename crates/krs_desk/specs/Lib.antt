@@ -5,6 +5,7 @@ pub mod Moves
 pub mod Sitting
 pub mod Seated
 pub mod Helping
+pub mod Keeping
 pub mod Seen
 pub mod Confidentiality
 pub mod Between

@@ -7,7 +7,7 @@ use Rattle.krs_types.specs.declared.event.Event.{Event}
 use Rattle.krs_model.specs.State.{State}
 use Rattle.krs_world.specs.declared.step.Kind.{Kind}
 use Rattle.krs_world.specs.declared.step.Kind.TheVariants.{Take, TakeFound, Put, Load, Post, Grab, Answer, Collect}
-use Rattle.krs_world.specs.declared.step.Kind.TheVariants.{CollectFound, LookAt}
+use Rattle.krs_world.specs.declared.step.Kind.TheVariants.{CollectFound, LookAt, Serve}
 use Rattle.krs_world.specs.declared.step.WorldStep.{WorldStep}
 use Rattle.krs_world.specs.declared.view.Cell.{Cell}
 use Rattle.krs_world.specs.declared.view.Cell.TheVariants.{Empty, Posted, Serving, Answered}
@@ -23,7 +23,7 @@ use Rattle.krs_desk.specs.declared.word.TheConstants.{TURN, FREE, OUT, DEALING}
 use Rattle.krs_desk.specs.Parts.{cell_of, views_of}
 use Rattle.krs_desk.specs.Rule.{CellIs, InOneOrder}
 use Rattle.krs_desk.specs.Moves.{Move, stays, takes, misses, puts_own, puts_none, loads, posts, finds, grabs, answers}
-use Rattle.krs_desk.specs.Moves.{collects, looks, after, IsMadeAt}
+use Rattle.krs_desk.specs.Moves.{collects, looks, serves_own, after, IsMadeAt}
 use Rattle.krs_desk.specs.Running.{Board, IsStepped, Leads, turn_of}
 
 -- the token stands for a lane that knows p
@@ -75,6 +75,7 @@ kinds_of (takes log) = Take ∷ []
 kinds_of misses = TakeFound ∷ []
 kinds_of (puts_own log e) = Put (Some (e.moment, e.ask)) ∷ []
 kinds_of (puts_none log) = Put None ∷ []
+kinds_of (serves_own log e) = Serve e.moment e.ask ∷ []
 kinds_of (loads log) = Load (length log) ∷ []
 kinds_of (posts moment ask) = Post moment ask ∷ []
 kinds_of (finds lane) = []

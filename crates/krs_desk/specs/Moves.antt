@@ -12,7 +12,7 @@ use Rattle.krs_model.specs.State.{State}
 use Rattle.krs_world.specs.declared.view.Part.{Part}
 use Rattle.krs_world.specs.declared.view.Standing.{Standing}
 use Rattle.krs_world.specs.declared.view.Standing.TheVariants.{Spent, One, Two, Opening}
-use Rattle.krs_world.specs.Knowing.{service, taken, missed, put_own, put_none, loaded}
+use Rattle.krs_world.specs.Knowing.{service, taken, missed, put_own, put_none, loaded, kept}
 use Rattle.krs_world.specs.Knowing.{posted, grabbed, answered, collected, looked_at}
 use Rattle.krs_desk.specs.declared.place.Place.{Place}
 use Rattle.krs_desk.specs.declared.word.TheConstants.{TURN, FREE, OUT, EMPTY, POSTED, SERVING, ANSWERED}
@@ -33,6 +33,7 @@ pub data Move : Type 0 where
   misses : Move
   puts_own : List Event → Event → Move
   puts_none : List Event → Move
+  serves_own : List Event → Event → Move
   loads : List Event → Move
   posts : ℕ → Ask → Move
   finds : ℕ → Move
@@ -48,6 +49,7 @@ after p (takes log) = taken p log
 after p misses = missed p
 after p (puts_own log e) = put_own p log e
 after p (puts_none log) = put_none p log
+after p (serves_own log e) = kept p log e
 after p (loads log) = loaded p log
 after p (posts moment ask) = posted p moment ask
 after p (finds lane) = p
@@ -74,8 +76,8 @@ abbrev pub HasTurn : Part → Type 0
 HasTurn p = (log : List Event) × (p.holding ≡ Some log)
 
 -- By which step on which word each is made, and what was found there: nothing at a store. The turn is taken by a try
--- that finds it free, and missed by one that finds it out, at another token; who gives it back, finds, takes up or
--- answers a call, or looks at a cell, has the turn. A call is posted in the lane's own cell, and taken up where one is
+-- that finds it free, and missed by one that finds it out, at another token; who gives it back, has a call of its own
+-- served, finds, takes up or answers a call, or looks at a cell, has the turn. A call is posted in the lane's own cell, and taken up where one is
 -- posted; a reply is collected where the cell was answered, by who hasn't the turn, and there alone a step may find
 -- something and tell nothing of it. What was seen begins what is seen then.
 abbrev pub IsMadeAt : Step Place → Option ℕ → Part → Move → Type 0
@@ -87,6 +89,8 @@ IsMadeAt made found p (puts_own log e) =
     IsReturn made × (found ≡ Some OUT) × (p.holding ≡ Some log) × (p.serving ≡ None) × (p.flight ≡ None)
 IsMadeAt made found p (puts_none log) =
     IsReturn made × (found ≡ Some OUT) × (p.holding ≡ Some log) × (p.serving ≡ None)
+IsMadeAt made found p (serves_own log e) =
+    IsReading made found × (p.holding ≡ Some log) × (p.serving ≡ None) × (p.flight ≡ None)
 IsMadeAt made found p (loads log) = IsReading made found × Begins p.seen log
 IsMadeAt made found p (posts moment ask) =
     (made.word ≡ cell_of p.lane) × (found ≡ None) × (made.first ≡ POSTED) × (p.flight ≡ None)

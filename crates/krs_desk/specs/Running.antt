@@ -24,7 +24,7 @@ use Rattle.krs_desk.specs.declared.word.TheConstants.{TURN, FREE, OUT, ANSWERED}
 use Rattle.krs_desk.specs.Parts.{cell_of, views_of, spent, kept_sight, given_sight, both_sights, settled_sight}
 use Rattle.krs_desk.specs.Rule.{InOneOrder}
 use Rattle.krs_desk.specs.Moves.{Move, stays, takes, misses, puts_own, puts_none, loads, posts, finds, grabs, answers}
-use Rattle.krs_desk.specs.Moves.{collects, looks, after, IsMadeAt, IsMoved}
+use Rattle.krs_desk.specs.Moves.{collects, looks, serves_own, after, IsMadeAt, IsMoved}
 use Rattle.krs_desk.specs.Between.{IsSat, HasRevoked}
 
 -- the words, the slots, and what each token knows
@@ -84,6 +84,7 @@ pub record IsJoined (s new : Board) : Type 0 where
 -- what a step of this kind adds to the history
 abbrev pub added : Move → List Event
 added (puts_own log e) = e ∷ []
+added (serves_own log e) = e ∷ []
 added (answers log e) = e ∷ []
 added move = []
 
@@ -92,6 +93,7 @@ abbrev pub BringsOf : Move → List Event → Type 0
 BringsOf (takes log) whole = log ≡ whole
 BringsOf (puts_own log e) whole = log ≡ whole
 BringsOf (puts_none log) whole = log ≡ whole
+BringsOf (serves_own log e) whole = log ≡ whole
 BringsOf (loads log) whole = Begins log whole
 BringsOf (answers log e) whole = log ≡ whole
 BringsOf (collects log e) whole = Begins log whole
@@ -116,6 +118,8 @@ IsNamed opening s new now later id p misses = (turn_of s ≢ FREE) × ¬ IsOutAt
 IsNamed opening s new now later id p (puts_own log e) =
     IsOutAt opening s now id × (turn_of new ≡ FREE) × Step now.history.last e later.history.last
 IsNamed opening s new now later id p (puts_none log) = IsOutAt opening s now id × (turn_of new ≡ FREE)
+IsNamed opening s new now later id p (serves_own log e) =
+    IsOutAt opening s now id × IsOutAt opening new later id × Step now.history.last e later.history.last
 IsNamed opening s new now later id p (loads log) = Unit {0}
 IsNamed opening s new now later id p (posts moment ask) =
     (now.cell p.lane ≡ Empty) × (later.cell p.lane ≡ Posted moment ask)
@@ -133,7 +137,7 @@ IsNamed opening s new now later id p (looks lane finished) =
     IsOutAt opening s now id × IsUnposted (now.cell lane)
 
 -- Each step of a lane's token is the machine's step of its name (krs_world): so it finds the turn and the cells, and so
--- it leaves them; and the history has a call more that is put or answered, and else is what it was. Who takes the turn
+-- it leaves them; and the history has a call more that is put, served or answered, and else is what it was. Who takes the turn
 -- holds it whole.
 abbrev pub StepsAsNamed : State → Type 0
 StepsAsNamed opening =

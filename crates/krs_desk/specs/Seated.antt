@@ -8,6 +8,7 @@ use Rattle.krs_model.specs.Sound.{IsSound}
 use Rattle.krs_model.specs.Step.{Step}
 use Rattle.krs_model.specs.History.{IsLegal}
 use Rattle.krs_world.specs.declared.view.Flight.{Flight}
+use Rattle.krs_world.specs.declared.view.Part.{Part}
 use Rattle.krs_world.specs.Knowing.{taken, loaded}
 use Rattle.krs_desk.specs.declared.place.Place.TheVariants.{Home}
 use Rattle.krs_desk.specs.Parts.{cell_of, sat, hand_of}
@@ -19,9 +20,13 @@ use Rattle.krs_desk.specs.Sitting.{Sitting}
 abbrev pub Me : Type 0
 Me = Known
 
+-- what a caller is told of a lane: not whether its seat has kept a turn, whose list it has seen
+abbrev pub untold : Part → Part
+untold p = record p { holding = None }
+
 -- what a caller knows of a seat
 abbrev pub sitting_of : TableId → Me → Sitting
-sitting_of table m = record { table = table; opening = opening m; part = part m }
+sitting_of table m = record { table = table; opening = opening m; part = untold (part m) }
 
 -- it stands for one lane, has its slot unless a call is in flight, and no list is held
 abbrev pub IsResting : Me → Type 0
@@ -37,7 +42,7 @@ is_free (Some call) = false
 abbrev pub HasSlot : ℕ → TableId → Type 0
 HasSlot lane table = cell_of lane < table.words
 
--- what holds of a seat between two calls
+-- what holds of a seat between two calls, where it has no turn
 pub record IsSeated (lane : ℕ) (idle : Bool) (m : Me) : Type 0 where
   pub rests : IsResting m
   pub unserving : (part m).serving ≡ None

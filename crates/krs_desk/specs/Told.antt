@@ -10,7 +10,7 @@ use Rattle.krs_model.specs.Lists.{Begins}
 use Rattle.krs_model.specs.History.{IsLegal, event_of}
 use Rattle.krs_world.specs.declared.view.Part.{Part}
 use Rattle.krs_world.specs.declared.view.Standing.TheVariants.{Two}
-use Rattle.krs_world.specs.Knowing.{events_of, service, flight, view, taken, missed, put_own, put_none, loaded}
+use Rattle.krs_world.specs.Knowing.{events_of, service, flight, view, taken, missed, put_own, put_none, loaded, kept}
 use Rattle.krs_world.specs.Knowing.{posted, grabbed, answered, collected, looked_at}
 use Rattle.krs_world.specs.History.{StandsAfter}
 use Rattle.krs_desk.specs.declared.note.Note.{Note}
@@ -54,6 +54,12 @@ abbrev pub puts_told : List Event → Step Place → Known → ℕ → Known →
 puts_told events step m found n =
     (log : List Event) (event : Event) → (part m).holding ≡ Some log → events ≡ event ∷ []
     → (n ≡ (sat (opening m) (put_own (part m) log event), rest m.1)) × (events_of (part m).lane log ≡ (part m).mine)
+
+-- the list that is held has this event more, and is seen; it had the lane's calls
+abbrev pub keeps_told : List Event → Step Place → Known → ℕ → Known → Type 0
+keeps_told events step m found n =
+    (log : List Event) (event : Event) → (part m).holding ≡ Some log → events ≡ event ∷ []
+    → (n ≡ (sat (opening m) (kept (part m) log event), m.1)) × (events_of (part m).lane log ≡ (part m).mine)
 
 -- the list that was held is seen; it had the lane's calls, where none is in flight
 abbrev pub brings_told : Step Place → Known → ℕ → Known → Type 0

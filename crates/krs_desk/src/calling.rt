@@ -12,10 +12,10 @@ use krs_types::{Ask, Reply};
 use std::sync::Wait;
 
 impl Desk {
-    // Asks the store where the turn is free, after it has answered each call that is posted. The ask comes back where
-    // the turn is found taken.
+    // Asks the store where the turn is free, after it has answered each call that is posted, and keeps the turn where
+    // more calls follow. The ask comes back where the turn is found taken.
     #[inline(always)]
-    fn call_in_turn(&self, seat: &mut Seat, moment: u64, ask: Ask) -> Result<Reply, Ask>
+    fn call_in_turn(&self, seat: &mut Seat, moment: u64, ask: Ask, more: bool) -> Result<Reply, Ask>
         requires table { seat.old.table ≡ self.now }
         requires idle { seat.old.part.flight ≡ None }
         ensures table { seat.new.table ≡ seat.old.table }
@@ -24,10 +24,16 @@ impl Desk {
         ensures looked { IfOk result (λ reply. HasLooked self.now seat.old seat.new) }
         ensures missed { IfErr result (λ back. (back ≡ ask) × (seat.new ≡ missed_by seat.old)) }
     {
+        self.give_back(&mut seat.served, &mut seat.token);
         if self.take(&mut seat.token) != FREE {
             return Err(ask);
         }
         let _answered = self.serve_all(&mut seat.token, true);
+        if self.may_keep(more, 0) {
+            let reply = self.go_on(&mut seat.token, seat.lane, moment, ask);
+            seat.served = 1;
+            return Ok(reply);
+        }
         Ok(self.finish(&mut seat.token, seat.lane, moment, ask))
     }
 
@@ -58,7 +64,14 @@ impl Desk {
     // Pauses and tries again to have the turn, and at last posts the call. Apart from `call`, which moves the ask less
     // often so, and clears no room for it.
     #[inline(never)]
-    fn call_again<R: Wait>(&self, rt: &R, seat: &mut Seat, moment: u64, ask: Ask) -> Reply
+    fn call_again<R: Wait>(
+        &self,
+        rt: &R,
+        seat: &mut Seat,
+        moment: u64,
+        ask: Ask,
+        more: bool,
+    ) -> Reply
         requires table { seat.old.table ≡ self.now }
         requires idle { seat.old.part.flight ≡ None }
         ensures table { seat.new.table ≡ seat.old.table }
@@ -71,13 +84,62 @@ impl Desk {
         for _ in 0..TRIES {
             spins = pause(spins);
             if self.is_free() {
-                ask = match self.call_in_turn(seat, moment, ask) {
+                ask = match self.call_in_turn(seat, moment, ask, more) {
                     Ok(reply) => return reply,
                     Err(back) => back,
                 };
             }
         }
         self.call_by_post(rt, seat, moment, ask)
+    }
+
+    // Asks the store in a turn that is taken for it, and keeps that where more calls follow.
+    #[inline(always)]
+    fn call_anew<R: Wait>(
+        &self,
+        rt: &R,
+        seat: &mut Seat,
+        moment: u64,
+        ask: Ask,
+        more: bool,
+    ) -> Reply
+        requires table { seat.old.table ≡ self.now }
+        requires idle { seat.old.part.flight ≡ None }
+        ensures table { seat.new.table ≡ seat.old.table }
+        ensures idle { seat.new.part.flight ≡ None }
+        ensures added { Adds seat.old (event_of seat.old.part.lane moment ask result) seat.new }
+        ensures looked { HasLooked self.now seat.old seat.new }
+    {
+        if !self.is_free() {
+            return self.call_again(rt, seat, moment, ask, more);
+        }
+        match self.call_in_turn(seat, moment, ask, more) {
+            Ok(reply) => reply,
+            Err(back) => self.call_again(rt, seat, moment, back, more),
+        }
+    }
+
+    /// As `call`. Where more calls of this seat follow at once, it may keep the turn for them, until a call with no more,
+    /// `rest`, or another function of the seat. Nobody else is served while it has the turn.
+    pub fn call_on<R: Wait>(
+        &self,
+        rt: &R,
+        seat: &mut Seat,
+        moment: u64,
+        ask: Ask,
+        more: bool,
+    ) -> Reply
+        requires table { seat.old.table ≡ self.now }
+        requires idle { seat.old.part.flight ≡ None }
+        ensures table { seat.new.table ≡ seat.old.table }
+        ensures idle { seat.new.part.flight ≡ None }
+        ensures added { Adds seat.old (event_of seat.old.part.lane moment ask result) seat.new }
+        ensures looked { HasLooked self.now seat.old seat.new }
+    {
+        match self.call_in_kept_turn(seat, moment, ask, more) {
+            Ok(reply) => reply,
+            Err(back) => self.call_anew(rt, seat, moment, back, more),
+        }
     }
 
     /// Asks the store in a turn of its own, after each call that is posted. Where the turn is taken again and again it
@@ -90,12 +152,6 @@ impl Desk {
         ensures added { Adds seat.old (event_of seat.old.part.lane moment ask result) seat.new }
         ensures looked { HasLooked self.now seat.old seat.new }
     {
-        if !self.is_free() {
-            return self.call_again(rt, seat, moment, ask);
-        }
-        match self.call_in_turn(seat, moment, ask) {
-            Ok(reply) => reply,
-            Err(back) => self.call_again(rt, seat, moment, back),
-        }
+        self.call_on(rt, seat, moment, ask, false)
     }
 }

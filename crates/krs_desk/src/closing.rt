@@ -21,12 +21,18 @@ impl Desk {
         ensures ended { IfOk result (λ store. EndsIn seat store) }
         ensures missed { IfErr result (λ stopped. stopped.seat ≡ missed_by seat) }
     {
-        let (lane, idle, mut token) = seat.into_parts();
+        let (lane, idle, mut served, mut token) = seat.into_parts();
+        self.give_back(&mut served, &mut token);
         match self.fetch(&mut token) {
             Ok(store) => Ok(store),
             Err(turn) => Err(Stopped {
                 turn,
-                seat: Seat { lane, idle, token },
+                seat: Seat {
+                    lane,
+                    idle,
+                    served,
+                    token,
+                },
             }),
         }
     }

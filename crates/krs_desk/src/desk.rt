@@ -149,6 +149,7 @@ impl Desk {
         ensures alone { IfOk result (λ reply. seat.new.part.checked ≡ []) }
         ensures missed { IfErr result (λ back. (back ≡ ask) × (seat.new ≡ missed_by seat.old)) }
     {
+        self.give_back(&mut seat.served, &mut seat.token);
         if self.take(&mut seat.token) != FREE {
             return Err(ask);
         }

@@ -130,7 +130,7 @@ impl Desk {
     }
 
     // Gives the turn back, with the list as it is held, and wakes whom it may concern.
-    fn bring(&self, token: &mut Token)
+    pub(crate) fn bring(&self, token: &mut Token)
         requires table { token.old.table_id ≡ self.now }
         requires held { HoldsAll token.old.me }
         ensures table { token.new.table_id ≡ token.old.table_id }
@@ -155,6 +155,7 @@ impl Desk {
         ensures flight { seat.new.part.flight ≡ seat.old.part.flight }
         ensures helped { HasHelped self.now seat.old result seat.new }
     {
+        self.give_back(&mut seat.served, &mut seat.token);
         if self.take(&mut seat.token) != FREE {
             return Helped::Busy;
         }

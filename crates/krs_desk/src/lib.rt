@@ -1,6 +1,6 @@
 //! A store that any number of threads share, each by a seat of its own. There is one history of all calls: each reply
 //! is the sequential store's at one point of it, and a contract sees a seat as what it knows of that history. A call
-//! may be posted, and is then answered in a turn of `call` or `help`.
+//! may be posted, and is then answered in a turn of `call` or `help`. A seat may keep its turn for calls that follow.
 #![tactic(auto)]
 
 mod bells;
@@ -12,6 +12,7 @@ mod confidentiality;
 mod desk;
 mod giving;
 mod helping;
+mod keeping;
 mod laws;
 mod meeting;
 mod note;

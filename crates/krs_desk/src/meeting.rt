@@ -59,6 +59,8 @@ impl Desk {
         ensures table { (first.new.table ≡ self.now) × (second.new.table ≡ self.now) }
         ensures met { Meets first.old second.old first.new second.new }
     {
+        self.give_back(&mut first.served, &mut first.token);
+        self.give_back(&mut second.served, &mut second.token);
         self.look_as_one(&mut first.token, &mut second.token);
     }
 }

@@ -52,6 +52,7 @@ impl Desk {
             seats.push_reserved(Seat {
                 lane,
                 idle: true,
+                served: 0,
                 token,
             });
         }

@@ -1,7 +1,7 @@
 //! The rule of the table, and what each step on it tells.
 ghost use Rattle.krs_desk.specs.Told.{takes_told, puts_told, looks_told, opens_told, picks_told};
 ghost use Rattle.krs_desk.specs.Told.{posts_told, collects_told, glances_told, grabs_told, answers_told, brings_told};
-ghost use Rattle.krs_desk.specs.Told.{checks_told};
+ghost use Rattle.krs_desk.specs.Told.{checks_told, keeps_told};
 ghost use Rattle.krs_desk.specs.Parts.{kept_sight, given_sight};
 
 use crate::board::Tells;
@@ -40,6 +40,15 @@ pub(crate) struct Puts<E> {
 
 impl<E: Added> Tells for Puts<E> {
     ghost told = { puts_told E.events };
+}
+
+// The turn is kept, and the history has one event more.
+pub(crate) struct Keeps<E> {
+    event: PhantomData<E>,
+}
+
+impl<E: Added> Tells for Keeps<E> {
+    ghost told = { keeps_told E.events };
 }
 
 // A lane's call is posted.

@@ -16,6 +16,7 @@ impl Desk {
         requires idle { seat.old.part.flight ≡ None }
         ensures { seat.new ≡ posted_by seat.old moment ask }
     {
+        self.give_back(&mut seat.served, &mut seat.token);
         let table = &self.table;
         let cell = cell_of!(seat.lane);
         drop(table.exchange(&mut seat.token, cell, Place::Asked(moment, ask)));
@@ -30,6 +31,7 @@ impl Desk {
         ensures some { IfSome result (λ reply. Collects seat.old reply seat.new) }
         ensures none { IfNone result ((seat.new ≡ seat.old) × (seat.old.part.done ≢ true)) }
     {
+        self.give_back(&mut seat.served, &mut seat.token);
         let table = &self.table;
         let cell = cell_of!(seat.lane);
         if table.compare_exchange::<plays::Collects>(&mut seat.token, cell, ANSWERED, EMPTY)

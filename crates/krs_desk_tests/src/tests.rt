@@ -1,3 +1,4 @@
 mod desk;
+mod kept;
 mod many;
 mod posted;

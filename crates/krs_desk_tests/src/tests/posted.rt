@@ -155,8 +155,30 @@ fn add_ring(alloc: Global, context: u32) -> Result<Ask, AllocError> {
     Ok(Ask { context, op })
 }
 
-/// Adds keyrings of one name, each of which displaces the one before, and gives their serials.
+/// Adds keyrings of one name, each of which displaces the one before, and gives their serials. A seat of an odd lane
+/// may keep its turn in runs of 100 calls.
 fn add_rings<R: Wait>(
+    rt: &R,
+    alloc: Global,
+    desk: &Desk,
+    seat: &mut Seat,
+) -> Result<Vec<u32>, AllocError>
+    requires { IsIdleAt desk.now seat.old }
+    ensures { IsIdleAt desk.now seat.new }
+{
+    let keeps = seat.lane() % 2 == 1;
+    let context = number_of(&desk.call(rt, seat, 0, hello(alloc, 1000)));
+    let mut serials = Vec::with_capacity(alloc, CALLS as usize)?;
+    'calls: for call in 0..CALLS {
+        let ask = add_ring(alloc, context)?;
+        let more = keeps && call % 100 != 99;
+        serials.push(number_of(&desk.call_on(rt, seat, 0, ask, more)))?;
+    }
+    Ok(serials)
+}
+
+/// The same, and nobody waits for the seat after it.
+fn add_rings_and_rest<R: Wait>(
     rt: &R,
     alloc: Global,
     desk: &Desk,
@@ -164,21 +186,22 @@ fn add_rings<R: Wait>(
 ) -> Result<Vec<u32>, AllocError>
     requires { IsIdleAt desk.now seat }
 {
-    let context = number_of(&desk.call(rt, &mut seat, 0, hello(alloc, 1000)));
-    let mut serials = Vec::with_capacity(alloc, CALLS as usize)?;
-    'calls: for _ in 0..CALLS {
-        let ask = add_ring(alloc, context)?;
-        serials.push(number_of(&desk.call(rt, &mut seat, 0, ask)))?;
-    }
-    Ok(serials)
+    let serials = add_rings(rt, alloc, desk, &mut seat);
+    desk.rest(&mut seat);
+    serials
 }
 
-// A million calls of eight threads: each new keyring has a serial of its own, and none is left out.
+// A million calls of eight threads, half of which keep their turns: each new keyring has a serial of its own, and none
+// is left out.
 #[test]
 fn a_million_calls_have_serials_of_their_own(rt: HostRuntime) -> Result<(), Fail> {
     let alloc = rt.alloc();
     let (desk, seats) = opened(alloc, THREADS, Store::new(alloc)).ok_or("no desk")?;
-    let lists = thread::map_vec(&rt, seats, &|seat| add_rings(&rt, alloc, &desk, seat))?;
+    let lists = thread::map_vec(
+        &rt,
+        seats,
+        &|seat| add_rings_and_rest(&rt, alloc, &desk, seat),
+    )?;
     let mut serials = Vec::with_capacity(alloc, 1_000_000)?;
     for list in lists {
         for serial in list? {

@@ -1,70 +1,229 @@
-use Rattle.std.proofs.Common.{rules, sym, ap, ◌∙◌}
+use Rattle.std.proofs.Common.{rules, sym, ap, ◌∙◌, arith}
 use Rattle.krs_desk.specs.Sitting.{Sitting}
 use Rattle.krs_desk.specs.Seated.{Me, part, is_free}
+use Rattle.krs_desk.specs.Keeping.{given_back}
+use Rattle.krs_desk.proofs.Seats.{missed_seated}
 use Rattle.krs_desk.proofs.Helps.{had_held, held_at}
 use Rattle.krs_desk.proofs.Turns.{turn_seated, turn_adds, turn_idle, turn_looked}
+use Rattle.krs_desk.proofs.KeptTurns.{given_seated, given_view, placed, placed_kept, goes_finished, goes_kept}
 use Rattle.krs_desk.proofs.desk.Desk.call_in_turn.Goals as goal
+
+pub give_back-requires-clause-kept : goal.give_back-requires-clause-kept
+give_back-requires-clause-kept c = c.seat.invariant.0.keeps
+
+pub take-requires-clause-rests : goal.take-requires-clause-rests
+take-requires-clause-rests c =
+    let seat = c.seat.inside in
+    let m = c.give_back.new.token.me in
+    let seated =
+    given_seated seat.lane seat.idle seat.served seat.token.me m c.seat.invariant.0 c.give_back.ensures.given in
+    seated.rests
+
+pub invariant_of-seat : goal.invariant_of-seat
+invariant_of-seat c =
+    let seat = c.seat.inside in
+    let m = c.give_back.new.token.me in
+    let seated =
+    given_seated seat.lane seat.idle seat.served seat.token.me m c.seat.invariant.0 c.give_back.ensures.given in (
+      placed seat.lane seat.idle c.give_back.new.served c.take.new.token.me c.give_back.ensures.none
+          (missed_seated seat.lane seat.idle m c.take.new.token.me seated (c.take.ensures.missed c.if-take-ne-FREE.true)),
+      search rules,
+    )
 
 pub serve_all-answered-requires-clause-held : goal.serve_all-answered-requires-clause-held
 serve_all-answered-requires-clause-held c =
     let seat = c.seat.inside in
-    (had_held seat.lane seat.idle seat.token.me _ c.seat.invariant.0 (c.take.ensures.had c.if-take-ne-FREE.false)).0
+    let m = c.give_back.new.token.me in
+    let seated =
+    given_seated seat.lane seat.idle seat.served seat.token.me m c.seat.invariant.0 c.give_back.ensures.given in
+    let had = c.take.ensures.had c.if-take-ne-FREE.false in
+    (had_held seat.lane seat.idle m _ seated had).0
 
 pub serve_all-answered-requires-clause-unlooked : goal.serve_all-answered-requires-clause-unlooked
 serve_all-answered-requires-clause-unlooked c =
     let seat = c.seat.inside in
-    (had_held seat.lane seat.idle seat.token.me _ c.seat.invariant.0 (c.take.ensures.had c.if-take-ne-FREE.false)).1
+    let m = c.give_back.new.token.me in
+    let seated =
+    given_seated seat.lane seat.idle seat.served seat.token.me m c.seat.invariant.0 c.give_back.ensures.given in
+    let had = c.take.ensures.had c.if-take-ne-FREE.false in
+    (had_held seat.lane seat.idle m _ seated had).1
 
 pub serve_all-answered-requires-clause-hand : goal.serve_all-answered-requires-clause-hand
 serve_all-answered-requires-clause-hand c =
+    let seat = c.seat.inside in
+    let m = c.give_back.new.token.me in
+    let view =
+    given_view seat.token.table_id c.give_back.new.token.table_id seat.served seat.token.me m c.args.seat.now
+    c.seat.view_is c.give_back.ensures.table c.give_back.ensures.given in
     sym (ap (λ (k : Me). is_free (part k).flight) (c.take.ensures.had c.if-take-ne-FREE.false).has
-    ∙ ap (λ f. is_free f) (ap (λ (s : Sitting). s.part.flight) c.seat.view_is ∙ c.requires.idle))
+    ∙ ap (λ f. is_free f) (ap (λ (s : Sitting). s.part.flight) view ∙ c.requires.idle))
+
+pub go_on-reply-requires-clause-held : goal.go_on-reply-requires-clause-held
+go_on-reply-requires-clause-held c =
+    let seat = c.seat.inside in
+    let m = c.give_back.new.token.me in
+    let seated =
+    given_seated seat.lane seat.idle seat.served seat.token.me m c.seat.invariant.0 c.give_back.ensures.given in
+    let had = c.take.ensures.had c.if-take-ne-FREE.false in
+    held_at c.take.new.token.me c.serve_all-answered.new.token.me _ _ (had_held seat.lane seat.idle m _ seated had).0
+    c.serve_all-answered.ensures.gone
+
+pub go_on-reply-requires-clause-idle : goal.go_on-reply-requires-clause-idle
+go_on-reply-requires-clause-idle c =
+    let seat = c.seat.inside in
+    let m = c.give_back.new.token.me in
+    let view =
+    given_view seat.token.table_id c.give_back.new.token.table_id seat.served seat.token.me m c.args.seat.now
+    c.seat.view_is c.give_back.ensures.table c.give_back.ensures.given in
+    c.serve_all-answered.ensures.gone.2.flight
+    ∙ (ap (λ (k : Me). (part k).flight) (c.take.ensures.had c.if-take-ne-FREE.false).has
+    ∙ (ap (λ (s : Sitting). s.part.flight) view ∙ c.requires.idle))
+
+pub go_on-reply-requires-clause-lane : goal.go_on-reply-requires-clause-lane
+go_on-reply-requires-clause-lane c =
+    let seat = c.seat.inside in
+    let m = c.give_back.new.token.me in
+    let seated =
+    given_seated seat.lane seat.idle seat.served seat.token.me m c.seat.invariant.0 c.give_back.ensures.given in
+    seated.numbered
+    ∙ sym (c.serve_all-answered.ensures.gone.2.same_lane
+    ∙ ap (λ (k : Me). (part k).lane) (c.take.ensures.had c.if-take-ne-FREE.false).has)
 
 pub finish-requires-clause-held : goal.finish-requires-clause-held
 finish-requires-clause-held c =
     let seat = c.seat.inside in
+    let m = c.give_back.new.token.me in
+    let seated =
+    given_seated seat.lane seat.idle seat.served seat.token.me m c.seat.invariant.0 c.give_back.ensures.given in
     let had = c.take.ensures.had c.if-take-ne-FREE.false in
-    held_at c.take.new.token.me c.serve_all-answered.new.token.me _ _
-    (had_held seat.lane seat.idle seat.token.me _ c.seat.invariant.0 had).0 c.serve_all-answered.ensures.gone
+    held_at c.take.new.token.me c.serve_all-answered.new.token.me _ _ (had_held seat.lane seat.idle m _ seated had).0
+    c.serve_all-answered.ensures.gone
 
 pub finish-requires-clause-idle : goal.finish-requires-clause-idle
 finish-requires-clause-idle c =
+    let seat = c.seat.inside in
+    let m = c.give_back.new.token.me in
+    let view =
+    given_view seat.token.table_id c.give_back.new.token.table_id seat.served seat.token.me m c.args.seat.now
+    c.seat.view_is c.give_back.ensures.table c.give_back.ensures.given in
     c.serve_all-answered.ensures.gone.2.flight
     ∙ (ap (λ (k : Me). (part k).flight) (c.take.ensures.had c.if-take-ne-FREE.false).has
-    ∙ (ap (λ (s : Sitting). s.part.flight) c.seat.view_is ∙ c.requires.idle))
+    ∙ (ap (λ (s : Sitting). s.part.flight) view ∙ c.requires.idle))
 
 pub finish-requires-clause-lane : goal.finish-requires-clause-lane
 finish-requires-clause-lane c =
-    c.seat.invariant.0.numbered
+    let seat = c.seat.inside in
+    let m = c.give_back.new.token.me in
+    let seated =
+    given_seated seat.lane seat.idle seat.served seat.token.me m c.seat.invariant.0 c.give_back.ensures.given in
+    seated.numbered
     ∙ sym (c.serve_all-answered.ensures.gone.2.same_lane
     ∙ ap (λ (k : Me). (part k).lane) (c.take.ensures.had c.if-take-ne-FREE.false).has)
 
+pub invariant_of-seat-then-may_keep : goal.invariant_of-seat-then-may_keep
+invariant_of-seat-then-may_keep c =
+    let seat = c.seat.inside in
+    let m = c.give_back.new.token.me in
+    let seated =
+    given_seated seat.lane seat.idle seat.served seat.token.me m c.seat.invariant.0 c.give_back.ensures.given in
+    let view =
+    given_view seat.token.table_id c.give_back.new.token.table_id seat.served seat.token.me m c.args.seat.now
+    c.seat.view_is c.give_back.ensures.table c.give_back.ensures.given in
+    let had = c.take.ensures.had c.if-take-ne-FREE.false in
+    let held =
+    held_at c.take.new.token.me c.serve_all-answered.new.token.me _ _ (had_held seat.lane seat.idle m _ seated had).0
+    c.serve_all-answered.ensures.gone in
+    let quiet =
+    c.serve_all-answered.ensures.gone.2.flight
+    ∙ (ap (λ (k : Me). (part k).flight) had.has ∙ (ap (λ (s : Sitting). s.part.flight) view ∙ c.requires.idle)) in
+    let w = c.go_on-reply.new.token.me in (
+      placed_kept seat.lane seat.idle 1 w (λ no. absurd (omega arith))
+          (turn_seated seat.lane seat.idle m c.take.new.token.me c.serve_all-answered.new.token.me (given_back w) _ _ _
+          seated had c.serve_all-answered.ensures.gone
+          (goes_finished c.serve_all-answered.new.token.me w _ c.go_on-reply.ensures.gone))
+          (goes_kept c.serve_all-answered.new.token.me w _ held quiet c.go_on-reply.ensures.gone),
+      search rules,
+    )
+
+pub returns-then-may_keep-clause-added : goal.returns-then-may_keep-clause-added
+returns-then-may_keep-clause-added c =
+    let seat = c.seat.inside in
+    let m = c.give_back.new.token.me in
+    let seated =
+    given_seated seat.lane seat.idle seat.served seat.token.me m c.seat.invariant.0 c.give_back.ensures.given in
+    let view =
+    given_view seat.token.table_id c.give_back.new.token.table_id seat.served seat.token.me m c.args.seat.now
+    c.seat.view_is c.give_back.ensures.table c.give_back.ensures.given in
+    let had = c.take.ensures.had c.if-take-ne-FREE.false in
+    let w = c.go_on-reply.new.token.me in
+    turn_adds c.give_back.new.token.table_id c.go_on-reply.new.token.table_id m c.take.new.token.me
+    c.serve_all-answered.new.token.me (given_back w) c.args.seat.now seat.lane seat.idle _ _ c.args.moment c.args.ask
+    c.go_on-reply.result view (search rules) seated had c.serve_all-answered.ensures.gone
+    (goes_finished c.serve_all-answered.new.token.me w _ c.go_on-reply.ensures.gone)
+
+pub returns-then-may_keep-clause-idle : goal.returns-then-may_keep-clause-idle
+returns-then-may_keep-clause-idle c =
+    let seat = c.seat.inside in
+    let m = c.give_back.new.token.me in
+    let seated =
+    given_seated seat.lane seat.idle seat.served seat.token.me m c.seat.invariant.0 c.give_back.ensures.given in
+    let view =
+    given_view seat.token.table_id c.give_back.new.token.table_id seat.served seat.token.me m c.args.seat.now
+    c.seat.view_is c.give_back.ensures.table c.give_back.ensures.given in
+    let had = c.take.ensures.had c.if-take-ne-FREE.false in
+    let w = c.go_on-reply.new.token.me in
+    turn_idle m c.take.new.token.me c.serve_all-answered.new.token.me (given_back w) _ _ _
+    (ap (λ (s : Sitting). s.part.flight) view ∙ c.requires.idle) had c.serve_all-answered.ensures.gone
+    (goes_finished c.serve_all-answered.new.token.me w _ c.go_on-reply.ensures.gone)
+
+pub returns-then-may_keep-clause-looked : goal.returns-then-may_keep-clause-looked
+returns-then-may_keep-clause-looked c =
+    let w = c.go_on-reply.new.token.me in
+    turn_looked c.args.self.now c.go_on-reply.new.token.table_id c.args.seat.now c.take.new.token.me
+    c.serve_all-answered.new.token.me (given_back w) _ _ c.serve_all-answered.ensures.gone
+    (goes_finished c.serve_all-answered.new.token.me w _ c.go_on-reply.ensures.gone)
+
 pub invariant_of-seat-2 : goal.invariant_of-seat-2
 invariant_of-seat-2 c =
-    let had = c.take.ensures.had c.if-take-ne-FREE.false in
-    let seat = c.seat.inside in (
-      turn_seated seat.lane seat.idle seat.token.me c.take.new.token.me c.serve_all-answered.new.token.me
-          c.finish.new.token.me _ _ _ c.seat.invariant.0 had c.serve_all-answered.ensures.gone
-          c.finish.ensures.finished,
+    let seat = c.seat.inside in
+    let m = c.give_back.new.token.me in
+    let seated =
+    given_seated seat.lane seat.idle seat.served seat.token.me m c.seat.invariant.0 c.give_back.ensures.given in
+    let had = c.take.ensures.had c.if-take-ne-FREE.false in (
+      placed seat.lane seat.idle c.give_back.new.served c.finish.new.token.me c.give_back.ensures.none
+          (turn_seated seat.lane seat.idle m c.take.new.token.me c.serve_all-answered.new.token.me
+          c.finish.new.token.me _ _ _ seated had c.serve_all-answered.ensures.gone c.finish.ensures.finished),
       search rules,
     )
 
 pub returns-clause-added : goal.returns-clause-added
 returns-clause-added c =
-    let had = c.take.ensures.had c.if-take-ne-FREE.false in
     let seat = c.seat.inside in
-    turn_adds seat.token.table_id c.finish.new.token.table_id seat.token.me c.take.new.token.me
-    c.serve_all-answered.new.token.me c.finish.new.token.me c.args.seat.now seat.lane seat.idle _ _
-    c.args.moment c.args.ask c.finish.result c.seat.view_is (search rules) c.seat.invariant.0 had
-    c.serve_all-answered.ensures.gone c.finish.ensures.finished
+    let m = c.give_back.new.token.me in
+    let seated =
+    given_seated seat.lane seat.idle seat.served seat.token.me m c.seat.invariant.0 c.give_back.ensures.given in
+    let view =
+    given_view seat.token.table_id c.give_back.new.token.table_id seat.served seat.token.me m c.args.seat.now
+    c.seat.view_is c.give_back.ensures.table c.give_back.ensures.given in
+    let had = c.take.ensures.had c.if-take-ne-FREE.false in
+    turn_adds c.give_back.new.token.table_id c.finish.new.token.table_id m c.take.new.token.me
+    c.serve_all-answered.new.token.me c.finish.new.token.me c.args.seat.now seat.lane seat.idle _ _ c.args.moment
+    c.args.ask c.finish.result view (search rules) seated had c.serve_all-answered.ensures.gone
+    c.finish.ensures.finished
 
 pub returns-clause-idle : goal.returns-clause-idle
 returns-clause-idle c =
-    let had = c.take.ensures.had c.if-take-ne-FREE.false in
     let seat = c.seat.inside in
-    turn_idle seat.token.me c.take.new.token.me c.serve_all-answered.new.token.me c.finish.new.token.me _ _ _
-    (ap (λ (s : Sitting). s.part.flight) c.seat.view_is ∙ c.requires.idle) had
-    c.serve_all-answered.ensures.gone c.finish.ensures.finished
+    let m = c.give_back.new.token.me in
+    let seated =
+    given_seated seat.lane seat.idle seat.served seat.token.me m c.seat.invariant.0 c.give_back.ensures.given in
+    let view =
+    given_view seat.token.table_id c.give_back.new.token.table_id seat.served seat.token.me m c.args.seat.now
+    c.seat.view_is c.give_back.ensures.table c.give_back.ensures.given in
+    let had = c.take.ensures.had c.if-take-ne-FREE.false in
+    turn_idle m c.take.new.token.me c.serve_all-answered.new.token.me c.finish.new.token.me _ _ _
+    (ap (λ (s : Sitting). s.part.flight) view ∙ c.requires.idle) had c.serve_all-answered.ensures.gone
+    c.finish.ensures.finished
 
 pub returns-clause-looked : goal.returns-clause-looked
 returns-clause-looked c =

@@ -1,10 +1,11 @@
-use Rattle.std.proofs.Common.{rules, ap, false}
+use Rattle.std.proofs.Common.{rules, ap, true, false, refl}
 use Rattle.krs_world.specs.declared.view.Standing.TheVariants.{Opening}
 use Rattle.krs_world.specs.Knowing.{view}
 use Rattle.krs_desk.specs.Parts.{sight}
 use Rattle.krs_desk.proofs.Joining.{cuts_of, cuts_deal, given_is}
 use Rattle.krs_desk.proofs.Dealing.{opens_at, picks_at, picked_is}
 use Rattle.krs_desk.proofs.Seats.{fresh_seated}
+use Rattle.krs_desk.proofs.KeptTurns.{placed}
 use Rattle.krs_desk.proofs.desk.Desk.deal.Goals as goal
 
 pub split_seat-token-requires : goal.split_seat-token-requires
@@ -32,8 +33,9 @@ store-requires c = (
 
 pub invariant_of-push_reserved : goal.invariant_of-push_reserved
 invariant_of-push_reserved c = (
-  fresh_seated c.loop-lane.lane c.args.about.value c.load.new.seat.me c.requires.sound
+  placed c.loop-lane.lane true 0 c.load.new.seat.me refl
+      (fresh_seated c.loop-lane.lane c.args.about.value c.load.new.seat.me c.requires.sound
       (picked_is c.args.about.value 0 c.loop-lane.lane 0 c.split_seat-token.result.me _
-      (given_is _ _ _ _ c.loop-lane.invariant.opens c.split_seat-token.ensures.4) c.load.ensures.2),
+      (given_is _ _ _ _ c.loop-lane.invariant.opens c.split_seat-token.ensures.4) c.load.ensures.2)),
   search rules,
 )

@@ -1,52 +1,103 @@
 use Rattle.std.proofs.Common.{rules, sym, ap, ◌∙◌}
 use Rattle.krs_desk.specs.Sitting.{Sitting}
 use Rattle.krs_desk.specs.Seated.{Me, part}
+use Rattle.krs_desk.proofs.Seats.{missed_seated}
 use Rattle.krs_desk.proofs.Helps.{had_held, starts}
 use Rattle.krs_desk.proofs.Turns.{turn_seated, turn_adds, turn_idle}
+use Rattle.krs_desk.proofs.KeptTurns.{given_seated, given_view, placed}
 use Rattle.krs_desk.proofs.desk.Desk.try_call.Goals as goal
+
+pub give_back-requires-clause-kept : goal.give_back-requires-clause-kept
+give_back-requires-clause-kept c = c.seat.invariant.0.keeps
+
+pub take-requires-clause-rests : goal.take-requires-clause-rests
+take-requires-clause-rests c =
+    let seat = c.seat.inside in
+    let m = c.give_back.new.token.me in
+    let seated =
+    given_seated seat.lane seat.idle seat.served seat.token.me m c.seat.invariant.0 c.give_back.ensures.given in
+    seated.rests
+
+pub invariant_of-seat : goal.invariant_of-seat
+invariant_of-seat c =
+    let seat = c.seat.inside in
+    let m = c.give_back.new.token.me in
+    let seated =
+    given_seated seat.lane seat.idle seat.served seat.token.me m c.seat.invariant.0 c.give_back.ensures.given in (
+      placed seat.lane seat.idle c.give_back.new.served c.take.new.token.me c.give_back.ensures.none
+          (missed_seated seat.lane seat.idle m c.take.new.token.me seated (c.take.ensures.missed c.if-take-ne-FREE.true)),
+      search rules,
+    )
 
 pub finish-requires-clause-held : goal.finish-requires-clause-held
 finish-requires-clause-held c =
     let seat = c.seat.inside in
-    (had_held seat.lane seat.idle seat.token.me _ c.seat.invariant.0 (c.take.ensures.had c.if-take-ne-FREE.false)).0
+    let m = c.give_back.new.token.me in
+    let seated =
+    given_seated seat.lane seat.idle seat.served seat.token.me m c.seat.invariant.0 c.give_back.ensures.given in
+    let had = c.take.ensures.had c.if-take-ne-FREE.false in
+    (had_held seat.lane seat.idle m _ seated had).0
 
 pub finish-requires-clause-idle : goal.finish-requires-clause-idle
 finish-requires-clause-idle c =
+    let seat = c.seat.inside in
+    let m = c.give_back.new.token.me in
+    let view =
+    given_view seat.token.table_id c.give_back.new.token.table_id seat.served seat.token.me m c.args.seat.now
+    c.seat.view_is c.give_back.ensures.table c.give_back.ensures.given in
     ap (λ (k : Me). (part k).flight) (c.take.ensures.had c.if-take-ne-FREE.false).has
-    ∙ (ap (λ (s : Sitting). s.part.flight) c.seat.view_is ∙ c.requires.idle)
+    ∙ (ap (λ (s : Sitting). s.part.flight) view ∙ c.requires.idle)
 
 pub finish-requires-clause-lane : goal.finish-requires-clause-lane
 finish-requires-clause-lane c =
-    c.seat.invariant.0.numbered
-    ∙ sym (ap (λ (k : Me). (part k).lane) (c.take.ensures.had c.if-take-ne-FREE.false).has)
+    let seat = c.seat.inside in
+    let m = c.give_back.new.token.me in
+    let seated =
+    given_seated seat.lane seat.idle seat.served seat.token.me m c.seat.invariant.0 c.give_back.ensures.given in
+    seated.numbered ∙ sym (ap (λ (k : Me). (part k).lane) (c.take.ensures.had c.if-take-ne-FREE.false).has)
 
 pub invariant_of-seat-2 : goal.invariant_of-seat-2
 invariant_of-seat-2 c =
-    let had = c.take.ensures.had c.if-take-ne-FREE.false in
     let seat = c.seat.inside in
-    let held = had_held seat.lane seat.idle seat.token.me _ c.seat.invariant.0 had in (
-      turn_seated seat.lane seat.idle seat.token.me c.take.new.token.me c.take.new.token.me c.finish.new.token.me 0 0 _
-          c.seat.invariant.0 had (starts _ held.0 held.1) c.finish.ensures.finished,
+    let m = c.give_back.new.token.me in
+    let seated =
+    given_seated seat.lane seat.idle seat.served seat.token.me m c.seat.invariant.0 c.give_back.ensures.given in
+    let had = c.take.ensures.had c.if-take-ne-FREE.false in
+    let held = had_held seat.lane seat.idle m _ seated had in (
+      placed seat.lane seat.idle c.give_back.new.served c.finish.new.token.me c.give_back.ensures.none
+          (turn_seated seat.lane seat.idle m c.take.new.token.me c.take.new.token.me c.finish.new.token.me 0 0 _ seated
+          had (starts _ held.0 held.1) c.finish.ensures.finished),
       search rules,
     )
 
 pub returns-clause-added : goal.returns-clause-added
 returns-clause-added c =
-    let had = c.take.ensures.had c.if-take-ne-FREE.false in
     let seat = c.seat.inside in
-    let held = had_held seat.lane seat.idle seat.token.me _ c.seat.invariant.0 had in
-    turn_adds seat.token.table_id c.finish.new.token.table_id seat.token.me c.take.new.token.me c.take.new.token.me
-    c.finish.new.token.me c.args.seat.now seat.lane seat.idle 0 0 c.args.moment c.args.ask c.finish.result
-    c.seat.view_is (search rules) c.seat.invariant.0 had (starts _ held.0 held.1) c.finish.ensures.finished
+    let m = c.give_back.new.token.me in
+    let seated =
+    given_seated seat.lane seat.idle seat.served seat.token.me m c.seat.invariant.0 c.give_back.ensures.given in
+    let view =
+    given_view seat.token.table_id c.give_back.new.token.table_id seat.served seat.token.me m c.args.seat.now
+    c.seat.view_is c.give_back.ensures.table c.give_back.ensures.given in
+    let had = c.take.ensures.had c.if-take-ne-FREE.false in
+    let held = had_held seat.lane seat.idle m _ seated had in
+    turn_adds c.give_back.new.token.table_id c.finish.new.token.table_id m c.take.new.token.me c.take.new.token.me
+    c.finish.new.token.me c.args.seat.now seat.lane seat.idle 0 0 c.args.moment c.args.ask c.finish.result view
+    (search rules) seated had (starts _ held.0 held.1) c.finish.ensures.finished
 
 pub returns-clause-idle : goal.returns-clause-idle
 returns-clause-idle c =
-    let had = c.take.ensures.had c.if-take-ne-FREE.false in
     let seat = c.seat.inside in
-    let held = had_held seat.lane seat.idle seat.token.me _ c.seat.invariant.0 had in
-    turn_idle seat.token.me c.take.new.token.me c.take.new.token.me c.finish.new.token.me 0 0 _
-    (ap (λ (s : Sitting). s.part.flight) c.seat.view_is ∙ c.requires.idle) had (starts _ held.0 held.1)
-    c.finish.ensures.finished
+    let m = c.give_back.new.token.me in
+    let seated =
+    given_seated seat.lane seat.idle seat.served seat.token.me m c.seat.invariant.0 c.give_back.ensures.given in
+    let view =
+    given_view seat.token.table_id c.give_back.new.token.table_id seat.served seat.token.me m c.args.seat.now
+    c.seat.view_is c.give_back.ensures.table c.give_back.ensures.given in
+    let had = c.take.ensures.had c.if-take-ne-FREE.false in
+    let held = had_held seat.lane seat.idle m _ seated had in
+    turn_idle m c.take.new.token.me c.take.new.token.me c.finish.new.token.me 0 0 _
+    (ap (λ (s : Sitting). s.part.flight) view ∙ c.requires.idle) had (starts _ held.0 held.1) c.finish.ensures.finished
 
 pub returns-clause-alone : goal.returns-clause-alone
 returns-clause-alone c =

@@ -1,4 +1,4 @@
-use Rattle.std.proofs.Common.{ℕ, List, Bool, false, subst}
+use Rattle.std.proofs.Common.{ℕ, List, Bool, subst}
 use Rattle.krs_types.specs.declared.event.Event.{Event}
 use Rattle.krs_model.specs.State.{State}
 use Rattle.krs_model.specs.Confidentiality.{HasToItself, KeepsPrivate, ReadsAlone}
@@ -7,11 +7,12 @@ use Rattle.krs_model.proofs.Isolation.Histories.{keeps_to_itself, end_alone}
 use Rattle.krs_desk.specs.Sitting.{Sitting}
 use Rattle.krs_desk.specs.Confidentiality.{AreReadAlone}
 use Rattle.krs_desk.proofs.ReadAlone.{read_alone}
+use Rattle.krs_desk.proofs.KeptTurns.{knows}
 use Rattle.krs_desk.proofs.seat.Seat.no_user_reads_anothers_keys.Goals as goal
 
 pub returns-clause-seen : goal.returns-clause-seen
 returns-clause-seen c =
-    let seated = c.self.invariant.0 in
+    let seated = knows _ _ _ _ c.self.invariant.0 in
     subst (λ (s : Sitting). AreReadAlone s.opening s.part.seen) c.self.view_is
     (read_alone _ seated.last _ seated.sound seated.legal)
 
@@ -19,7 +20,7 @@ pub returns-clause-always : goal.returns-clause-always
 returns-clause-always c =
     subst (λ (s : Sitting). (uid : ℕ) (private : ℕ → Bool) → HasToItself uid private s.opening
     → ReadsAlone uid private s.opening) c.self.view_is
-    (λ uid private alone. keeps_to_itself uid private _ c.self.invariant.0.sound alone)
+    (λ uid private alone. keeps_to_itself uid private _ (knows _ _ _ _ c.self.invariant.0).sound alone)
 
 pub returns-clause-kept : goal.returns-clause-kept
 returns-clause-kept c =
@@ -27,7 +28,7 @@ returns-clause-kept c =
     → HasToItself uid private s.opening → KeepsPrivate uid private s.opening events end last
     → HasToItself uid last end) c.self.view_is
     (λ uid private last events end alone keeps.
-    end_alone uid private last _ end events c.self.invariant.0.sound alone keeps)
+    end_alone uid private last _ end events (knows _ _ _ _ c.self.invariant.0).sound alone keeps)
 
 pub returns-clause-begins : goal.returns-clause-begins
 returns-clause-begins c uid = none_alone uid _

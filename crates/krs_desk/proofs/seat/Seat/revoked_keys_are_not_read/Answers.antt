@@ -8,25 +8,26 @@ use Rattle.krs_desk.specs.Running.{StaysRefused}
 use Rattle.krs_desk.proofs.Seen.{not_read_revoked}
 use Rattle.krs_desk.proofs.Between.{refuses_revoked}
 use Rattle.krs_desk.proofs.Running.{stays_refused}
+use Rattle.krs_desk.proofs.KeptTurns.{knows}
 use Rattle.krs_desk.proofs.seat.Seat.revoked_keys_are_not_read.Goals as goal
 
 pub returns-clause-seen : goal.returns-clause-seen
 returns-clause-seen c =
-    let seated = c.self.invariant.0 in
+    let seated = knows _ _ _ _ c.self.invariant.0 in
     subst (λ (s : Sitting). IsNotReadRevoked s.opening s.part.seen) c.self.view_is
     (not_read_revoked _ seated.last _ (revoked_unread _ seated.sound.unused) seated.legal)
 
 pub returns-clause-always : goal.returns-clause-always
 returns-clause-always c =
     subst (λ (s : Sitting). StaysUnread s.opening) c.self.view_is
-    (revoked_unread _ c.self.invariant.0.sound.unused)
+    (revoked_unread _ (knows _ _ _ _ c.self.invariant.0).sound.unused)
 
 pub returns-clause-between : goal.returns-clause-between
 returns-clause-between c =
     subst (λ (s : Sitting). RefusesRevoked s.opening) c.self.view_is
-    (refuses_revoked _ (revoked_unread _ c.self.invariant.0.sound.unused))
+    (refuses_revoked _ (revoked_unread _ (knows _ _ _ _ c.self.invariant.0).sound.unused))
 
 pub returns-clause-running : goal.returns-clause-running
 returns-clause-running c =
     subst (λ (s : Sitting). StaysRefused s.opening) c.self.view_is
-    (stays_refused _ (revoked_unread _ c.self.invariant.0.sound.unused))
+    (stays_refused _ (revoked_unread _ (knows _ _ _ _ c.self.invariant.0).sound.unused))

@@ -6,6 +6,7 @@ use Rattle.krs_model.proofs.Hiding.Gone.{tells_nobody}
 use Rattle.krs_desk.specs.Sitting.{Sitting}
 use Rattle.krs_desk.specs.Seen.{TellsNobodyAfter}
 use Rattle.krs_desk.proofs.Seen.{told_to_nobody}
+use Rattle.krs_desk.proofs.KeptTurns.{knows}
 use Rattle.krs_desk.proofs.seat.Seat.unread_payloads_stay_secret.Goals as goal
 
 pub returns-clause-alone : goal.returns-clause-alone
@@ -23,4 +24,4 @@ returns-clause-gone c = tells_nobody
 pub returns-clause-ended : goal.returns-clause-ended
 returns-clause-ended c =
     subst (λ (s : Sitting). TellsNobodyAfter s.opening) c.self.view_is
-    (told_to_nobody _ c.self.invariant.0.sound.unused)
+    (told_to_nobody _ (knows _ _ _ _ c.self.invariant.0).sound.unused)

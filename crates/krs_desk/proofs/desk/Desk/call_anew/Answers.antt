@@ -1,6 +1,6 @@
 use Rattle.std.proofs.Common.{refl}
 use Rattle.krs_desk.proofs.Calls.{found_more, adds_after, looked_after}
-use Rattle.krs_desk.proofs.desk.Desk.call.Goals as goal
+use Rattle.krs_desk.proofs.desk.Desk.call_anew.Goals as goal
 
 pub returns-in-Err-clause-added : goal.returns-in-Err-clause-added
 returns-in-Err-clause-added g c =

@@ -1,0 +1,249 @@
+-- A turn that a seat keeps: what its token and its seat are then, and what its caller is told.
+use Rattle.std.proofs.Common.{◌≡◌, ◌≢◌, ℕ, zero, suc, ◌<◌, Bool, true, List, [], ◌∷◌, ◌++◌, Some, None, Option, Result}
+use Rattle.std.proofs.Common.{refl, sym, ap, ◌∙◌, subst, append-nil, arith}
+use Rattle.atomic_table.specs.Seated.{TableId}
+use Rattle.atomic_table.specs.Table.{rest}
+use Rattle.krs_types.specs.declared.ask.Ask.{Ask}
+use Rattle.krs_types.specs.declared.ask.Answer.{Answer}
+use Rattle.krs_types.specs.declared.errno.Errno.{Errno}
+use Rattle.krs_types.specs.declared.event.Event.{Event}
+use Rattle.krs_model.specs.State.{State}
+use Rattle.krs_model.specs.Sound.{IsSound}
+use Rattle.krs_model.specs.History.{IsLegal, event_of}
+use Rattle.krs_model.proofs.History.Legal.{legal_more}
+use Rattle.krs_world.specs.declared.view.Flight.{Flight}
+use Rattle.krs_world.specs.declared.view.Part.{Part}
+use Rattle.krs_world.specs.Knowing.{events_of, put_own, put_none, kept}
+use Rattle.krs_world.proofs.Keeping.{own_event}
+use Rattle.krs_desk.specs.declared.place.Place.{Place}
+use Rattle.krs_desk.specs.declared.place.Place.TheVariants.{Home}
+use Rattle.krs_desk.specs.Parts.{sat, hand_of}
+use Rattle.krs_desk.specs.Sitting.{Sitting, Adds}
+use Rattle.krs_desk.specs.Seated.{Me, part, opening, sitting_of, is_free, IsSeated, Serves}
+use Rattle.krs_desk.specs.Helping.{HoldsAll, Finishes, HasLooked, held_of}
+use Rattle.krs_desk.specs.Keeping.{HasKept, given_back, at_rest, IsPlaced, GoesOn}
+use Rattle.krs_desk.proofs.Running.{same_list}
+use Rattle.krs_desk.proofs.Turns.{serves_is, serves_last}
+
+-- A seat, whether or not it has kept a turn.
+
+-- the same is told of it, without its turn
+rest_same : (t : TableId) (served : ℕ) (m : Me) → sitting_of t (at_rest served m) ≡ sitting_of t m
+rest_same t zero m = refl
+rest_same t (suc n) m = refl
+
+-- what is known of it either way
+pub record Knows (lane : ℕ) (idle : Bool) (m : Me) : Type 0 where
+  pub numbered : lane ≡ (part m).lane
+  pub tells : idle ≡ is_free (part m).flight
+  pub sound : IsSound (opening m)
+  pub last : State
+  pub legal : IsLegal (opening m) (part m).seen last
+
+known_at : (lane : ℕ) (idle : Bool) (served : ℕ) (m : Me) → IsSeated lane idle (at_rest served m) → Knows lane idle m
+known_at lane idle zero m s = record {
+  numbered = s.numbered;
+  tells = s.tells;
+  sound = s.sound;
+  last = s.last;
+  legal = s.legal;
+}
+known_at lane idle (suc n) m s = record {
+  numbered = s.numbered;
+  tells = s.tells;
+  sound = s.sound;
+  last = s.last;
+  legal = s.legal;
+}
+
+pub knows : (lane : ℕ) (idle : Bool) (served : ℕ) (m : Me) → IsPlaced lane idle served m → Knows lane idle m
+knows lane idle served m placed = known_at lane idle served m placed.rests
+
+-- the lane of a seat, and whether it is idle
+pub lane_told : (t : TableId) (lane : ℕ) (idle : Bool) (served : ℕ) (m : Me) (s : Sitting)
+    → IsPlaced lane idle served m → sitting_of t m ≡ s → lane ≡ s.part.lane
+lane_told t lane idle served m s placed view =
+    (knows lane idle served m placed).numbered ∙ ap (λ (z : Sitting). z.part.lane) view
+
+free_none : (f : Option Flight) → true ≡ is_free f → f ≡ None
+free_none None e = refl
+free_none (Some call) e = absurd cc
+
+none_free : (f : Option Flight) → f ≡ None → is_free f ≡ true
+none_free f e = ap (λ (g : Option Flight). is_free g) e
+
+pub idle_told : (t : TableId) (lane : ℕ) (idle : Bool) (served : ℕ) (m : Me) (s : Sitting)
+    → IsPlaced lane idle served m → sitting_of t m ≡ s → idle ≡ true → s.part.flight ≡ None
+idle_told t lane idle served m s placed view is_so =
+    let tells : idle ≡ is_free (part m).flight = (knows lane idle served m placed).tells in
+    sym (ap (λ (z : Sitting). z.part.flight) view) ∙ free_none (part m).flight (sym is_so ∙ tells)
+
+pub busy_told : (t : TableId) (lane : ℕ) (idle : Bool) (served : ℕ) (m : Me) (s : Sitting)
+    → IsPlaced lane idle served m → sitting_of t m ≡ s → s.part.flight ≡ None → idle ≡ true
+busy_told t lane idle served m s placed view quiet =
+    (knows lane idle served m placed).tells
+    ∙ none_free (part m).flight (ap (λ (z : Sitting). z.part.flight) view ∙ quiet)
+
+-- a seat whose turn was given back, or which had none
+pub given_seated : (lane : ℕ) (idle : Bool) (served : ℕ) (m n : Me) → IsPlaced lane idle served m
+    → n ≡ at_rest served m → IsSeated lane idle n
+given_seated lane idle served m n placed is = subst (λ (z : Me). IsSeated lane idle z) (sym is) placed.rests
+
+pub given_view : (t t' : TableId) (served : ℕ) (m n : Me) (s : Sitting) → sitting_of t m ≡ s → t' ≡ t
+    → n ≡ at_rest served m → sitting_of t' n ≡ s
+given_view t t' served m n s view same is =
+    (λ i. sitting_of (same i) (is i)) ∙ (rest_same t served m ∙ view)
+
+-- a seat that has no turn
+pub placed : (lane : ℕ) (idle : Bool) (served : ℕ) (m : Me) → served ≡ 0 → IsSeated lane idle m
+    → IsPlaced lane idle served m
+placed lane idle zero m none seated = record { rests = seated; keeps = λ not. absurd (not refl) }
+placed lane idle (suc n) m none seated = absurd (omega arith)
+
+-- one that has kept its turn
+pub placed_kept : (lane : ℕ) (idle : Bool) (served : ℕ) (m : Me) → served ≢ 0 → IsSeated lane idle (given_back m)
+    → HasKept m → IsPlaced lane idle served m
+placed_kept lane idle zero m not seated kept = absurd (not refl)
+placed_kept lane idle (suc n) m not seated kept = record { rests = seated; keeps = λ _. kept }
+
+rests_back : (lane : ℕ) (idle : Bool) (served : ℕ) (m : Me) → served ≢ 0 → IsSeated lane idle (at_rest served m)
+    → IsSeated lane idle (given_back m)
+rests_back lane idle zero m not seated = absurd (not refl)
+rests_back lane idle (suc n) m not seated = seated
+
+-- The turn is given back.
+
+pub gives_back : (served : ℕ) (m n : Me) → served ≢ 0 → HasKept m
+    → n ≡ (sat (opening m) (put_none (part m) (held_of (part m).holding)), rest m.1) → n ≡ at_rest served m
+gives_back zero m n not kept is = absurd (not refl)
+gives_back (suc served) m n not kept is =
+    is ∙ ap (λ l. (sat (opening m) (put_none (part m) (held_of l)), rest m.1)) kept.whole
+
+-- where it was kept for no call, nothing is given back
+pub none_given : (served : ℕ) (m : Me) → served ≡ 0 → m ≡ at_rest served m
+none_given zero m none = refl
+none_given (suc n) m none = absurd (omega arith)
+
+-- A call is served, and the turn kept.
+
+pub goes_on :
+    (m w n : Me) (said e : Event) → said ≡ e → (h : HoldsAll m) → Serves m e w
+    → ((l : List Event) → (part w).holding ≡ Some l → n ≡ (sat (opening w) (kept (part w) l said), w.1))
+    → ((l : List Event) → (part w).holding ≡ Some l → events_of (part w).lane l ≡ (part w).mine) → GoesOn m e n
+goes_on m w n said e says h s keep mine =
+    let w_is = serves_is m w e h s in
+    let held : (part w).holding ≡ Some h.log = ap (λ (k : Me). (part k).holding) w_is ∙ h.held in
+    record {
+      log = h.log;
+      last = h.last;
+      after = s.after;
+      held = h.held;
+      has =
+          keep h.log held
+          ∙ (ap (λ (k : Me). (sat (opening k) (kept (part k) h.log said), k.1)) w_is
+          ∙ ((λ i. (
+            sat (opening m) (kept (part m) h.log (says i)),
+            (0, Home s.after) ∷ hand_of (part m).flight (part m).lane,
+          ))
+          ∙ ap (λ (c : List (ℕ × Place)). (sat (opening m) (kept (part m) h.log e), (0, Home s.after) ∷ c))
+          (sym (ap (λ (k : Me). rest k.1) h.has))));
+      legal = h.legal;
+      step = serves_last m w e h s;
+      mine =
+          ap (λ (p : Part). events_of p.lane h.log) (sym (ap part w_is))
+          ∙ (mine h.log held ∙ ap (λ (k : Me). (part k).mine) w_is);
+    }
+
+-- it would have been the last of its turn, had that been given back
+pub goes_finished : (m n : Me) (e : Event) → GoesOn m e n → Finishes m e (given_back n)
+goes_finished m n e g = record {
+  log = g.log;
+  last = g.last;
+  after = g.after;
+  held = g.held;
+  has = ap given_back g.has;
+  legal = g.legal;
+  step = g.step;
+  mine = g.mine;
+}
+
+-- and the token has kept it
+pub goes_kept : (m n : Me) (e : Event) → HoldsAll m → (part m).flight ≡ None → GoesOn m e n → HasKept n
+goes_kept m n e h quiet g =
+    let hand : rest m.1 ≡ hand_of (part m).flight (part m).lane = ap (λ (k : Me). rest k.1) h.has in
+    subst HasKept (sym g.has)
+    record {
+      holds = record {
+        log = g.log ++ e ∷ [];
+        last = g.after;
+        has = ap (λ (c : List (ℕ × Place)). (sat (opening m) (kept (part m) g.log e), (0, Home g.after) ∷ c)) hand;
+        held = refl;
+        legal = legal_more (opening m) g.last g.after g.log e g.legal g.step;
+        unserving = h.unserving;
+      };
+      whole = refl;
+      quiet = quiet;
+    }
+
+-- A call in a turn that was kept.
+
+pub kept_seated : (lane : ℕ) (idle : Bool) (served : ℕ) (m w : Me) (e : Event) → served ≢ 0
+    → IsPlaced lane idle served m → Finishes m e w → IsSeated lane idle w
+kept_seated lane idle served m w e not placed f =
+    let seated = rests_back lane idle served m not placed.rests in
+    let kept = placed.keeps not in
+    let hand : rest m.1 ≡ hand_of (part m).flight (part m).lane = ap (λ (k : Me). rest k.1) kept.holds.has in
+    subst (λ (z : Me). IsSeated lane idle z) (sym f.has)
+    record {
+      rests = (ap (λ (c : List (ℕ × Place)). (sat (opening m) (put_own (part m) f.log e), c)) hand, refl);
+      unserving = kept.holds.unserving;
+      tells = seated.tells;
+      numbered = seated.numbered;
+      sound = seated.sound;
+      last = f.after;
+      legal = legal_more (opening m) f.last f.after f.log e f.legal f.step;
+    }
+
+kept_adds : (t : TableId) (m w : Me) (e : Event) → HasKept m → (f : Finishes m e w) → e.lane ≡ (part m).lane
+    → Adds (sitting_of t m) e (sitting_of t (sat (opening m) (put_own (part m) f.log e), rest m.1))
+kept_adds t m w e kept f lane =
+    let same : f.log ≡ (part m).seen = same_list f.log (part m).seen (sym f.held ∙ kept.whole) in record {
+      table = refl;
+      opening = refl;
+      lane = refl;
+      upto = f.log ++ e ∷ [];
+      between = [];
+      last = f.after;
+      begins = ([], append-nil (f.log ++ e ∷ []));
+      legal = legal_more (opening m) f.last f.after f.log e f.legal f.step;
+      ends = ap (λ l. l ++ e ∷ []) (same ∙ sym (append-nil (part m).seen));
+      mine = refl;
+      own = own_event (part m).lane f.log e lane ∙ ap (λ l. l ++ e ∷ []) f.mine;
+    }
+
+pub kept_told :
+    (t t' : TableId) (m w : Me) (s : Sitting) (lane : ℕ) (idle : Bool) (served moment : ℕ) (ask : Ask)
+    (reply : Result Answer Errno) → sitting_of t m ≡ s → t' ≡ t → served ≢ 0 → IsPlaced lane idle served m
+    → Finishes m (event_of lane moment ask reply) w
+    → Adds s (event_of s.part.lane moment ask reply) (sitting_of t' w)
+kept_told t t' m w s lane idle served moment ask reply view same not placed f =
+    let e : Event = event_of lane moment ask reply in
+    let is : lane ≡ (part m).lane = (knows lane idle served m placed).numbered in
+    let made : Adds (sitting_of t m) e (sitting_of t (sat (opening m) (put_own (part m) f.log e), rest m.1)) =
+    kept_adds t m w e (placed.keeps not) f is in
+    let there : Adds (sitting_of t m) e (sitting_of t' w) =
+    subst (λ (z : Sitting). Adds (sitting_of t m) e z) (λ i. sitting_of (sym same i) (sym f.has i)) made in
+    subst (λ (z : Sitting). Adds z (event_of z.part.lane moment ask reply) (sitting_of t' w)) view
+    (subst (λ (j : ℕ). Adds (sitting_of t m) (event_of j moment ask reply) (sitting_of t' w)) is there)
+
+pub kept_idle : (m w : Me) (e : Event) → HasKept m → Finishes m e w → (part w).flight ≡ None
+kept_idle m w e kept f = ap (λ (z : Me). (part z).flight) f.has ∙ kept.quiet
+
+-- the turn was taken before
+pub kept_looked : (desk t t' : TableId) (m w : Me) (s : Sitting) (e : Event) → sitting_of t m ≡ s → Finishes m e w
+    → HasLooked desk s (sitting_of t' w)
+kept_looked desk t t' m w s e view f lt =
+    let same : (part w).taken ≡ (part m).taken = ap (λ (z : Me). (part z).taken) f.has in
+    let was : (part m).taken ≡ s.part.taken = ap (λ (z : Sitting). z.part.taken) view in
+    let less : s.part.taken < (part w).taken = lt in
+    absurd (omega arith)

@@ -1,0 +1,125 @@
+//! A turn that a seat keeps for the calls that follow at once.
+ghost use Rattle.std.specs.Prelude.{◌≡◌, ◌≢◌, ◌<◌, true, List, [], ◌∷◌, IfOk, IfErr, Some, None};
+ghost use Rattle.krs_types.specs.declared.event.Event.{Event};
+ghost use Rattle.krs_model.specs.History.{event_of};
+ghost use Rattle.krs_world.specs.Knowing.{events_of, kept};
+ghost use Rattle.krs_desk.specs.Parts.{sat};
+ghost use Rattle.krs_desk.specs.Told.{event_in};
+ghost use Rattle.krs_desk.specs.Sitting.{Adds};
+ghost use Rattle.krs_desk.specs.Seated.{HoldsBefore, part, opening};
+ghost use Rattle.krs_desk.specs.Helping.{HoldsAll, HasLooked};
+ghost use Rattle.krs_desk.specs.Keeping.{HasKept, GoesOn, at_rest};
+
+use crate::desk::Desk;
+use crate::note::{Added, Note};
+use crate::plays::{Keeps, Token};
+use crate::seat::Seat;
+use crate::word::TURN;
+use krs_types::{Ask, Reply};
+use std::marker::Brand;
+use std::snapshot::Snapshot;
+
+/// So many calls of its own a seat has served in one turn at most, besides the last.
+const MOST_KEPT: u32 = 63;
+
+impl Desk {
+    // The history has one event more, and the token holds it still.
+    fn keep<E: Added>(&self, token: &mut Token, note: Note)
+        requires table { token.old.table_id ≡ self.now }
+        requires held { (log : List Event) × HoldsBefore token.old.me log (event_in note) }
+        requires event { (E.events ≡ event_in note ∷ []) × (note.lane ≡ (part token.old.me).lane) }
+        ensures table { token.new.table_id ≡ token.old.table_id }
+        ensures kept { (log : List Event) → (part token.old.me).holding ≡ Some log
+            → token.new.me
+            ≡ (sat (opening token.old.me) (kept (part token.old.me) log (event_in note)), token.old.me.1) }
+        ensures mine { (log : List Event) → (part token.old.me).holding ≡ Some log
+            → events_of (part token.old.me).lane log ≡ (part token.old.me).mine }
+    {
+        self.table.load::<Keeps<E>>(token, TURN);
+    }
+
+    // Asks the store for the token's own lane, and keeps the turn.
+    pub(crate) fn go_on(&self, token: &mut Token, lane: u32, moment: u64, ask: Ask) -> Reply
+        requires table { token.old.table_id ≡ self.now }
+        requires held { HoldsAll token.old.me }
+        requires idle { (part token.old.me).flight ≡ None }
+        requires lane { lane ≡ (part token.old.me).lane }
+        ensures table { token.new.table_id ≡ token.old.table_id }
+        ensures gone { GoesOn token.old.me (event_of lane moment ask result) token.new.me }
+    {
+        let asked = Snapshot::of(&ask);
+        let reply = self.serve(token, lane, moment, ask);
+        let note = Note {
+            lane,
+            moment,
+            ask: asked,
+            reply: Snapshot::of(&reply),
+        };
+        self.keep::<Brand>(token, note);
+        reply
+    }
+
+    // Gives the turn back, where the token has kept it for so many calls.
+    #[inline]
+    pub(crate) fn give_back(&self, served: &mut u32, token: &mut Token)
+        requires table { token.old.table_id ≡ self.now }
+        requires kept { served.old ≢ 0 → HasKept token.old.me }
+        ensures table { token.new.table_id ≡ token.old.table_id }
+        ensures none { served.new ≡ 0 }
+        ensures given { token.new.me ≡ at_rest served.old token.old.me }
+    {
+        if *served == 0 {
+            return;
+        }
+        self.bring(token);
+        *served = 0;
+    }
+
+    /// Gives the turn back, if the seat has kept it.
+    #[inline]
+    pub fn rest(&self, seat: &mut Seat)
+        requires { seat.old.table ≡ self.now }
+        ensures { seat.new ≡ seat.old }
+    {
+        self.give_back(&mut seat.served, &mut seat.token);
+    }
+
+    // Whether a turn that has served so many calls of its seat is kept, where more follow. It isn't while somebody sleeps:
+    // who waits for the turn, or whose call was answered in it, is woken as it is given back.
+    #[inline]
+    pub(crate) fn may_keep(&self, more: bool, served: u32) -> bool
+        ensures { result ≡ true → served < 63 }
+    {
+        more && served < MOST_KEPT && !self.bells.is_any_asleep()
+    }
+
+    // Asks the store in the turn that the seat has kept. The ask comes back where it has none.
+    #[inline(always)]
+    pub(crate) fn call_in_kept_turn(
+        &self,
+        seat: &mut Seat,
+        moment: u64,
+        ask: Ask,
+        more: bool,
+    ) -> Result<Reply, Ask>
+        requires table { seat.old.table ≡ self.now }
+        requires idle { seat.old.part.flight ≡ None }
+        ensures table { seat.new.table ≡ seat.old.table }
+        ensures idle { seat.new.part.flight ≡ None }
+        ensures added { IfOk result (λ reply. Adds seat.old (event_of seat.old.part.lane moment ask reply) seat.new) }
+        ensures looked { IfOk result (λ reply. HasLooked self.now seat.old seat.new) }
+        ensures none { IfErr result (λ back. (back ≡ ask) × (seat.new ≡ seat.old)) }
+    {
+        if seat.served == 0 {
+            return Err(ask);
+        }
+        if self.may_keep(more, seat.served) {
+            let reply = self.go_on(&mut seat.token, seat.lane, moment, ask);
+            seat.served += 1;
+            return Ok(reply);
+        }
+        let reply = self.finish(&mut seat.token, seat.lane, moment, ask);
+        seat.served = 0;
+        Ok(reply)
+    }
+}
