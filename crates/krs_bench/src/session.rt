@@ -37,6 +37,10 @@ struct Open;
 
 impl Gate for Open {
     fn pass(&self, _lane: u32, _at: Point) {}
+
+    fn may_hold(&self) -> bool {
+        false
+    }
 }
 
 /// Times asks that a session hands to a store.

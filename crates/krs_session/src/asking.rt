@@ -5,9 +5,9 @@ ghost use Rattle.krs_model.specs.History.{event_of};
 ghost use Rattle.krs_wire.specs.Reply.{reply_frame};
 ghost use Rattle.krs_session.specs.Serving.{Asked, Answers, Holds, PendingNext, StopsBy, StopsNext};
 
-use crate::writing::{flush, send_reply};
+use crate::writing::{can_hold, flush, send_reply};
 use crate::{Clock, Ended, Gate, Keeper, Point, Sink};
-use krs_types::{Ask, Reply};
+use krs_types::{Ask, Op, Reply};
 use krs_wire::Framed;
 use std::alloc::Global;
 use std::collections::VecDeque;
@@ -23,12 +23,13 @@ pub(crate) struct Setting<'a, H, D, G> {
     pub turns: u64,
 }
 
-/// One ask at a moment, and its reply.
+/// One ask at a moment, and its reply. Where more follow, others may have to wait for them.
 pub(crate) fn ask_at<H, S, D: Keeper<S, H>, G: Gate>(
     setting: &Setting<'_, H, D, G>,
     seat: &mut S,
     moment: u64,
     ask: Ask,
+    more: bool,
 ) -> Reply
     requires { D.ready setting.now.desk.now seat.old }
     ensures led { D.leads seat.old (event_of (D.lane_of seat.old) moment ask result ∷ []) seat.new }
@@ -37,7 +38,7 @@ pub(crate) fn ask_at<H, S, D: Keeper<S, H>, G: Gate>(
 {
     let lane = setting.desk.lane(seat);
     setting.gate.pass(lane, Point::Asked);
-    let reply = setting.desk.call(setting.rt, seat, moment, ask);
+    let reply = setting.desk.call_on(setting.rt, seat, moment, ask, more);
     setting.gate.pass(lane, Point::Answered);
     reply
 }
@@ -56,7 +57,46 @@ pub(crate) fn ask_one<H, S, D: Keeper<S, H>, C: Clock, G: Gate>(
     ensures lane { D.lane_of seat.new ≡ D.lane_of seat.old }
 {
     let moment = clock.now();
-    ask_at(setting, seat, moment, ask)
+    ask_at(setting, seat, moment, ask, false)
+}
+
+/// Whether an ask may walk far, or make or drop much: behind such a one others don't wait for more.
+fn is_long(op: &Op) -> bool {
+    matches!(
+        op,
+        Op::Link { .. }
+            | Op::Move { .. }
+            | Op::Search { .. }
+            | Op::Request { .. }
+            | Op::Invalidate { .. }
+            | Op::Clear { .. }
+            | Op::Join { .. }
+            | Op::Leave
+    )
+}
+
+/// One ask at a moment among those of a piece, and its reply. Nobody waits for those that follow where that reply can't
+/// be held behind the others: what is held is written then, which may block.
+fn ask_among<H, S, D: Keeper<S, H>, G: Gate>(
+    setting: &Setting<'_, H, D, G>,
+    seat: &mut S,
+    moment: u64,
+    ask: Ask,
+    out: &Vec<u8>,
+    more: bool,
+) -> Reply
+    requires { D.ready setting.now.desk.now seat.old }
+    ensures led { D.leads seat.old (event_of (D.lane_of seat.old) moment ask result ∷ []) seat.new }
+    ensures ready { D.ready setting.now.desk.now seat.new }
+    ensures lane { D.lane_of seat.new ≡ D.lane_of seat.old }
+{
+    let goes_on = more && !setting.gate.may_hold() && !is_long(&ask.op);
+    let reply = ask_at(setting, seat, moment, ask, goes_on);
+    if can_hold(out, &reply) {
+        return reply;
+    }
+    setting.desk.rest(seat);
+    reply
 }
 
 /// The moment of an ask: the clock's next answer, or the one before again, where it was asked for this piece already.
@@ -116,7 +156,8 @@ fn ask_all<H, W: Sink, S, D: Keeper<S, H>, C: Clock, G: Gate>(
         let Framed { ask, tag } = framed;
         let moment = moment_of(clock, was_asked);
         was_asked = true;
-        let reply = ask_at(setting, seat, moment, ask);
+        let more = !frames.is_empty();
+        let reply = ask_among(setting, seat, moment, ask, out, more);
         stop = reply_behind(writer, out, tag, reply, stop);
     }
     stop

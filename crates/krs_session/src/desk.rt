@@ -24,6 +24,14 @@ impl<R: Wait> Keeper<Seat, R> for Desk {
         Desk::call(self, rt, seat, moment, ask)
     }
 
+    fn call_on(&self, rt: &R, seat: &mut Seat, moment: u64, ask: Ask, more: bool) -> Reply {
+        Desk::call_on(self, rt, seat, moment, ask, more)
+    }
+
+    fn rest(&self, seat: &mut Seat) {
+        Desk::rest(self, seat);
+    }
+
     fn is_short(&self) -> bool {
         Desk::is_short(self)
     }

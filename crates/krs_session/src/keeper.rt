@@ -26,6 +26,28 @@ pub trait Keeper<S, R> {
         ensures lane { lane_of seat.new ≡ lane_of seat.old }
         ensures led { leads seat.old (event_of (lane_of seat.old) moment ask result ∷ []) seat.new };
 
+    /// As `call`. Where more calls of the seat follow at once, all others may have to wait for them, until a call with no
+    /// more, or `rest`.
+    fn call_on(&self, rt: &R, seat: &mut S, moment: u64, ask: Ask, more: bool) -> Reply
+        requires { ready self.now seat.old }
+        ensures ready { ready self.now seat.new }
+        ensures lane { lane_of seat.new ≡ lane_of seat.old }
+        ensures led { leads seat.old (event_of (lane_of seat.old) moment ask result ∷ []) seat.new }
+    {
+        let _ = more;
+        self.call(rt, seat, moment, ask)
+    }
+
+    /// Nobody has to wait for calls of the seat that would follow. What may block comes behind it.
+    fn rest(&self, seat: &mut S)
+        requires { ready self.now seat.old }
+        ensures ready { ready self.now seat.new }
+        ensures lane { lane_of seat.new ≡ lane_of seat.old }
+        ensures led { leads seat.old [] seat.new }
+    {
+        let _ = seat;
+    }
+
     /// Whether the session of a seat lacks memory.
     fn is_short(&self) -> bool;
 

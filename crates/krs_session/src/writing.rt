@@ -5,11 +5,24 @@ ghost use Rattle.krs_session.specs.Session.{TookFront};
 ghost use Rattle.krs_session.specs.Serving.{Wrote, Pending, StopsBy};
 
 use crate::{Ended, Failed, Sink};
-use krs_types::Reply;
+use krs_types::{Answer, Reply};
 use krs_wire::append_reply;
 
 /// The replies that are held are written before the next ask from so many bytes on: docs/FORMAT.md, "A connection".
 const FLUSH_SIZE: usize = 65_536;
+
+/// So many bytes stand before the body of a reply at most.
+const HEAD_SIZE: usize = 16;
+
+/// Whether a reply can be held behind those that are, with no write and no memory taken.
+pub(crate) fn can_hold(out: &Vec<u8>, reply: &Reply) -> bool {
+    let body = match reply {
+        Ok(Answer::Bytes(bytes)) => bytes.as_slice().len(),
+        _ => 4,
+    };
+    let size = out.len().saturating_add(HEAD_SIZE).saturating_add(body);
+    size < FLUSH_SIZE && size <= out.capacity()
+}
 
 /// Writes all the bytes, or as many as the writer took before it failed.
 fn write_all<W: Sink>(writer: &mut W, bytes: &[u8]) -> Result<(), Failed>

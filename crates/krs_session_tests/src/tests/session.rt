@@ -2,6 +2,7 @@
 mod fakes;
 mod growths;
 mod joined;
+mod kept;
 mod memory;
 mod tagged;
 

@@ -26,11 +26,11 @@ frames-preserved g c =
     let done : List Framed = i.state.0 in
     let framed : Framed = c.in-Some.framed in
     let event : Event =
-    event_of (g.D.Keeper.lane_of c.frames.seat) c.moment_of-moment.result framed.ask c.ask_at-reply.result in
+    event_of (g.D.Keeper.lane_of c.frames.seat) c.moment_of-moment.result framed.ask c.ask_among-reply.result in
     let one =
-    subst (λ (n : ℕ). Asked g.D.Keeper.leads g.C.Clock.ticked n c.frames.seat c.ask_at-reply.new.seat
+    subst (λ (n : ℕ). Asked g.D.Keeper.leads g.C.Clock.ticked n c.frames.seat c.ask_among-reply.new.seat
     c.frames.clock c.moment_of-moment.new.clock (event ∷ [])) i.lane
-    (record { led = c.ask_at-reply.ensures.led; moments = c.moment_of-moment.ensures; lanes = (refl, tt) }) in
+    (record { led = c.ask_among-reply.ensures.led; moments = c.moment_of-moment.ensures; lanes = (refl, tt) }) in
     record {
       state = (
         done ++ framed ∷ [],
@@ -41,6 +41,6 @@ frames-preserved g c =
             _ _ _ _ _ _ _ _ _ _ _ _ _ _ event _ _ i.state.2 refl one c.reply_behind-stop.ensures.sent,
       );
       count = stops_next _ _ _ _ _ i.count c.reply_behind-stop.ensures.count;
-      ready = c.ask_at-reply.ensures.ready;
-      lane = c.ask_at-reply.ensures.lane ∙ i.lane;
+      ready = c.ask_among-reply.ensures.ready;
+      lane = c.ask_among-reply.ensures.lane ∙ i.lane;
     }

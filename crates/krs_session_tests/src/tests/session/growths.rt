@@ -4,16 +4,16 @@ ghost use Rattle.std.specs.Prelude.{◌≡◌, All, IfOk};
 ghost use Rattle.krs_desk.specs.Sitting.{IsIdleAt};
 ghost use Rattle.krs_session.specs.Over.{over_reads, over_empties, over_failures};
 
-use super::fakes::{Pieces, Rising, Then, reader_of, watches};
+use super::fakes::{Pieces, Rising, Then, reader_of, watches, writer_of};
 use super::memory::{converse, with_room};
 use super::{ASKS, HELLO};
 use crate::tests::serve::{Open, Still};
 use krs_desk::{Desk, Seat};
 use krs_desk_tests::{one_seat, two_seats};
-use krs_serve::{Entry, run_sessions};
+use krs_serve::{Entry, OpenGate, run_sessions};
 use krs_session::{Ended, Failed, Keeper, Over, Source, run};
 use krs_store::Store;
-use krs_store_asks::{Want, add, hello, is_wanted, number_of, read};
+use krs_store_asks::{Want, add, hello, is_wanted, leave, number_of, read};
 use krs_types::{Answer, Ask, Errno, Op, Reply};
 use std::alloc::{AllocError, Global};
 use std::cell::Cell;
@@ -68,6 +68,28 @@ fn a_session_tells_of_a_refused_growth_or_ends(rt: HostRuntime) -> Result<(), Fa
         return Err(Fail::new("the turn is out"));
     };
     assert!(rt; is_wanted(&store.apply(0, 0, read(1, 5)), Want::Refused(Errno::ESRCH)));
+    Ok(())
+}
+
+// However a session ended, for memory too, another seat has the turn at once.
+#[test]
+fn a_session_that_ended_has_left_the_turn_free(rt: HostRuntime) -> Result<(), Fail> {
+    let alloc = rt.alloc();
+    let (desk, mut first, mut second) = two_seats(alloc, Store::new(alloc)).ok_or("no desk")?;
+    let mut reader = reader_of(&ASKS, 4096, 4096, Then::GivesNone);
+    let mut writer = writer_of(alloc, 4096, 4096, Then::GivesNone);
+    let _ended = run(
+        &rt,
+        alloc,
+        &mut reader,
+        &mut writer,
+        &desk,
+        &mut first,
+        &mut Still,
+        &OpenGate,
+        99,
+    );
+    assert!(rt; desk.try_call(&mut second, 0, leave()).is_ok());
     Ok(())
 }
 
