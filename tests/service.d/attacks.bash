@@ -54,6 +54,7 @@ try_attacks() {
   attack 'connections that end in mid-frame' 10000 cut-short 10000
   has_grown_little '10000 connections' "$left_by_many"
   attack 'clients that never read, whether they wait, and 100 others' $((15 + 1 + 100 + 1)) never-reads 15
+  attack 'a full socket of a client that has sent 64 asks, 100 others, and its replies' $((1 + 100 + 64)) full-socket 64
   attack 'three seconds of a byte a second, and 100 others in each' $((3 + 1 + 300)) slow 3
   attack 'a million random bytes, in pieces and whole' $((1000 + 1)) noise 1000
   attack '34 operations, bodies of 0 to 64 bytes, three of each' $((34 * 65 * 3)) frames 64

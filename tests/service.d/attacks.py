@@ -143,6 +143,24 @@ def never_reads():
     answers.see(True, rest(reader) == reply * waiting[reader][1], f"{waiting[reader][1]} replies that wait")
 
 
+def full_socket():
+    """A client that sends its READs of the longest payload in one write, and reads nothing: its socket is full soon.
+    Another one is served all the same. Then the first one reads all its replies."""
+    payload = bytes(range(256)) * 127 + bytes(255)
+    with connect() as end:
+        context = hello(end)
+        serial = number_of(end, frame(262, context, text(b"user") + text(b"long") + struct.pack("<I", len(payload))
+                                      + payload + struct.pack("<i", -4)))
+        end.sendall(frame(11, context, struct.pack("<i", serial)) * number)
+        answers.see([end], select.select([end], [], [], PATIENCE)[0], "the first reply")
+        time.sleep(SHORT)
+        for _ in range(100):
+            see_another()
+        wanted = accepted(payload)
+        for i in range(number):
+            answers.see(wanted, end.recv(len(wanted), socket.MSG_WAITALL), f"reply {i}")
+
+
 def slow():
     """A client that sends a byte a second; 100 others are served in each of these seconds."""
     slow_one = connect()
@@ -296,7 +314,7 @@ def lanes():
         end.close()
 
 
-CASES = (cut_short, side_by_side, never_reads, slow, noise, frames, mixed, queue_up, lanes)
+CASES = (cut_short, side_by_side, never_reads, full_socket, slow, noise, frames, mixed, queue_up, lanes)
 try:
     {run.__name__.replace("_", "-"): run for run in CASES}[case]()
     print(answers)
