@@ -17,3 +17,8 @@ or_bad_body (Some x) = Ok x
 abbrev pub GivesRead : {X Y : Type 0} → (X → Y) → Result X WireFault → Result Y WireFault → Type 0
 GivesRead view (Ok x) read = read ≡ Ok (view x)
 GivesRead view (Err fault) read = fault ≢ Memory → read ≡ Err fault
+
+-- what a function answered is made of what reading gives, as `made` tells, unless memory ran out
+abbrev pub Makes : {X Y : Type 0} → (X → Y → Type 0) → Result Y WireFault → Result X WireFault → Type 0
+Makes {X = X} made (Ok y) read = (x : X) × (read ≡ Ok x) × made x y
+Makes made (Err fault) read = fault ≢ Memory → read ≡ Err fault

@@ -4,9 +4,9 @@ ghost use Rattle.krs_wire.specs.Faulting.{GivesRead};
 ghost use Rattle.krs_wire.specs.Tag.{tag_field};
 ghost use Rattle.krs_wire.specs.Frame.{op_of, said_by, framed_of, front_of};
 
-use crate::fields::{
-    blob_at, caller_at, ended, entries_at, flag_at, id_at, tag_at, text_at, type_name_at, u16_at,
-    u32_at,
+use crate::fields::{tag_at, u16_at, u32_at};
+use crate::forms::{
+    BlobForm, CallerForm, EntriesForm, FlagForm, IdForm, NameForm, NumberForm, TextForm, row_at,
 };
 use crate::framed::{MAX_LENGTH, MIN_LENGTH, TAGGED, UNTAGGED};
 use crate::{Framed, WireFault};
@@ -14,60 +14,39 @@ use byteorder::{ByteOrder, LittleEndian};
 use krs_types::{Ask, Op, asks};
 use std::alloc::Global;
 
-/// The number of READ.
-const READ: u16 = 11;
-
 macro_rules! readings {
     ($which:expr, $alloc:expr, $body:expr; $($ask:ident $number:literal $shape:ident $grows:tt $fields:tt;)*) => {
         match $which {
-            $($number => readings!(@ask $alloc, $body, $ask $fields),)*
+            $($number => readings!(@row $alloc, $body, $ask $fields),)*
             _ => Err(WireFault::BadOp),
         }
     };
-    (@ask $alloc:expr, $body:expr, $ask:ident {$($field:ident: $form:ident),*}) => {{
-        let rest = $body;
-        $(let ($field, rest) = readings!(@field $alloc, rest, $form)?;)*
-        ended(Op::$ask { $($field),* }, rest)
-    }};
-    (@ask $alloc:expr, $body:expr, $ask:ident ($field:ident: $form:ident)) => {{
-        let ($field, rest) = readings!(@field $alloc, $body, $form)?;
-        ended(Op::$ask($field), rest)
-    }};
-    (@field $alloc:expr, $rest:expr, number) => { u32_at($rest) };
-    (@field $alloc:expr, $rest:expr, id) => { id_at($rest) };
-    (@field $alloc:expr, $rest:expr, flag) => { flag_at($rest) };
-    (@field $alloc:expr, $rest:expr, type_name) => { type_name_at($alloc, $rest) };
-    (@field $alloc:expr, $rest:expr, text) => { text_at($alloc, $rest) };
-    (@field $alloc:expr, $rest:expr, blob) => { blob_at($alloc, $rest) };
-    (@field $alloc:expr, $rest:expr, caller) => { caller_at($alloc, $rest) };
-    (@field $alloc:expr, $rest:expr, entries) => { entries_at($alloc, $rest) };
+    (@row $alloc:expr, $body:expr, $ask:ident {$($field:ident: $form:ident),*}) => {
+        row_at::<readings!(@forms $($form),*), _>($alloc, $body, |readings!(@names $($field),*)| Op::$ask { $($field),* })
+    };
+    (@row $alloc:expr, $body:expr, $ask:ident ($field:ident: $form:ident)) => {
+        row_at::<readings!(@forms $form), _>($alloc, $body, |readings!(@names $field)| Op::$ask($field))
+    };
+    (@forms) => { () };
+    (@forms $form:ident $(, $more:ident)*) => { (readings!(@form $form), readings!(@forms $($more),*)) };
+    (@names) => { () };
+    (@names $field:ident $(, $more:ident)*) => { ($field, readings!(@names $($more),*)) };
+    (@form number) => { NumberForm };
+    (@form id) => { IdForm };
+    (@form flag) => { FlagForm };
+    (@form type_name) => { NameForm };
+    (@form text) => { TextForm };
+    (@form blob) => { BlobForm };
+    (@form caller) => { CallerForm };
+    (@form entries) => { EntriesForm };
 }
 
-/// What a body says for any operation's number.
+/// What a body says for an operation's number.
 #[tactic(auto, unfolding(crate::specs::Frame::op_of))]
-fn any_op_at(alloc: Global, which: u16, body: &[u8]) -> Result<Op, WireFault>
-    ensures { GivesRead (λ op. op) result (op_of which body.now) }
-{
-    asks!(readings, which, alloc, body)
-}
-
-/// What a body says for READ.
-#[tactic(auto, unfolding(crate::specs::Frame::op_of))]
-fn read_at(body: &[u8]) -> Result<Op, WireFault>
-    ensures { GivesRead (λ op. op) result (op_of 11 body.now) }
-{
-    let (id, rest) = id_at(body)?;
-    ended(Op::Read { id }, rest)
-}
-
-/// What a body says for an operation's number. READ, which is asked most, clears no room for the fields of others.
 fn op_at(alloc: Global, which: u16, body: &[u8]) -> Result<Op, WireFault>
     ensures { GivesRead (λ op. op) result (op_of which body.now) }
 {
-    match which {
-        READ => read_at(body),
-        _ => any_op_at(alloc, which, body),
-    }
+    asks!(readings, which, alloc, body)
 }
 
 /// What is said by an operation's number, a context, and what follows them. A frame too short for its tag has a bad

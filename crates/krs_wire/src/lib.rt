@@ -8,6 +8,7 @@ mod encode;
 mod fault;
 mod feed;
 mod fields;
+mod forms;
 mod framed;
 mod laws;
 mod lengths;
