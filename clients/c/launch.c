@@ -10,6 +10,7 @@
 #include <signal.h>
 #include <stdbool.h>
 #include <stdint.h>
+#include <stdio.h>
 #include <stdlib.h>
 #include <string.h>
 #include <sys/prctl.h>
@@ -21,6 +22,7 @@
 
 #include "filter.h"
 #include "serve.h"
+#include "session.h"
 
 /* What the supervisor tells the process that waits. */
 struct report {
@@ -201,10 +203,31 @@ static int try_filter(void) {
     return WIFEXITED(status) ? WEXITSTATUS(status) : EIO;
 }
 
+struct attributes {
+    unsigned owner, mask;
+};
+
+static bool read_attributes(long id, struct attributes *attributes) {
+    char text[KR_SESSION_NAME_ROOM + 64];
+    long length = syscall(SYS_keyctl, KEYCTL_DESCRIBE, id, text, sizeof text);
+    return length > 0 && length <= (long)sizeof text &&
+           sscanf(text, "keyring;%u;%*u;%x;", &attributes->owner, &attributes->mask) == 2;
+}
+
+/* Whether the session that was joined by its name is this user's alone: see kr_begin_session. Which uid this process has
+ * to the daemon, its user keyring tells. */
+static bool is_session_private(void) {
+    struct attributes session, user;
+    bool are_known = read_attributes(KEY_SPEC_SESSION_KEYRING, &session) && read_attributes(KEY_SPEC_USER_KEYRING, &user);
+    errno = EACCES;
+    return are_known && session.owner == user.owner && !(session.mask & KR_GROUP_AND_OTHERS);
+}
+
 /* Where keyretaind answers already, a session is joined as by any program. */
 static void join_within(const char *name, char **command) {
     if (!is_served()) fail(NO_CONNECTION, "another supervisor");
     if (syscall(SYS_keyctl, KEYCTL_JOIN_SESSION_KEYRING, name) < 0) fail(REFUSED, name ? name : "the session");
+    if (name && !is_session_private()) fail(REFUSED, name);
     if (syscall(SYS_keyctl, KEYCTL_LINK, KEY_SPEC_USER_KEYRING, KEY_SPEC_SESSION_KEYRING) < 0)
         fail(REFUSED, "the user keyring");
     execute(command);

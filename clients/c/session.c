@@ -12,7 +12,7 @@
 
 #include "connection.h"
 
-enum { USER_MAY_SEARCH = 0x00080000, GROUP_AND_OTHERS = 0x00003f3f, DECIMAL = 10 };
+enum { USER_MAY_SEARCH = 0x00080000, DECIMAL = 10 };
 
 /* ---- Identity ---- */
 
@@ -127,7 +127,7 @@ static int check_private(struct kr *connection, uint32_t context, int32_t ring, 
                          struct attributes *attributes) {
     int known = read_attributes(connection, context, ring, attributes);
     if (known != 0) return known;
-    return attributes->owner != uid || attributes->mask & GROUP_AND_OTHERS;
+    return attributes->owner != uid || attributes->mask & KR_GROUP_AND_OTHERS;
 }
 
 /* Leaves what a context has joined for a keyring of its own. */

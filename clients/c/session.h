@@ -11,6 +11,9 @@
 
 enum { KR_SESSION_NAME_ROOM = 4096, KR_GROUPS_MAX = 32 };
 
+/* What a session's mask must not give: who made a keyring of its name first, open to all, would read its keys. */
+enum { KR_GROUP_AND_OTHERS = 0x00003f3f };
+
 /* The serial is 0 where any keyring of the name will do, and a new one too. */
 struct kr_session {
     int32_t serial;

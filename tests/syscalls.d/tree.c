@@ -13,7 +13,7 @@
 #include "calls.h"
 
 enum { MOST = 1000, SECONDS = 60, LOOK_MICROSECONDS = 20000 };
-enum { POSSESSOR_ALL = 0x3f000000, GROUP_READ = 0x00000200, NOBODY = 65534 };
+enum { POSSESSOR_ALL = 0x3f000000, EVERYBODY_ALL = 0x3f3f3f3f, GROUP_READ = 0x00000200, NOBODY = 65534 };
 
 struct answer {
     long value;
@@ -555,6 +555,21 @@ static int log_in(void) {
     return tell_session(take(), joined);
 }
 
+/* A user takes the name of a session first, and opens that to all; then words are executed. */
+static int take_name(const char *name, uid_t uid, char **words) {
+    begin();
+    if (fork() == 0) {
+        if (uid != geteuid()) become_nobody();
+        long joined = join(name);
+        give(joined < 0 ? -1 : keyctl(KEYCTL_SETPERM, (unsigned long)joined, EVERYBODY_ALL, 0, 0));
+        wait_at_gate();
+        _exit(0);
+    }
+    if (take().value != 0) return 2; /* it has the name as long as the words have the gate */
+    execvp(*words, words);
+    return 2;
+}
+
 static int print_mask(void) {
     unsigned owner, mask;
     describe(KEY_SPEC_SESSION_KEYRING, &owner, &mask);
@@ -616,6 +631,7 @@ int main(int count, char **words) {
     if (strcmp(mode, "login") == 0) return log_in();
     if (strcmp(mode, "becomes-other") == 0) return become_other();
     if (strcmp(mode, "copied") == 0) return take_others_tag();
+    if (strcmp(mode, "taken") == 0 && count > 4) return take_name(words[2], (uid_t)atol(words[3]), words + 4);
     if (strcmp(mode, "mask") == 0) return print_mask();
     if (strcmp(mode, "closed") == 0) return close_all(ring_of(KEY_SPEC_SESSION_KEYRING, 0));
     return 2;
