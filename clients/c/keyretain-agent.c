@@ -21,6 +21,7 @@
 #include "connection.h"
 #include "keyretain-agent-container.h"
 #include "keyretain-agent-visitor.h"
+#include "proc.h"
 #include "serve.h"
 
 #ifndef KEYRETAIN_VERSION
@@ -244,6 +245,7 @@ int main(int count, char **words) {
     umask(0077);
     if (serve_protect() < 0) fail("protection");
     watch_signals();
+    if (!proc_is_ours()) fail("/proc");
     if (access(settings.daemon, X_OK) < 0) fail(settings.daemon);
     if (!containers_begin(&settings)) fail(settings.folder);
     listen_for_runtimes();

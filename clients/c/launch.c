@@ -21,6 +21,7 @@
 #include <unistd.h>
 
 #include "filter.h"
+#include "proc.h"
 #include "serve.h"
 #include "session.h"
 
@@ -253,6 +254,7 @@ void launch(const char *path, const char *name, char **command) {
     if (error == EBUSY) join_within(name, command);
     errno = error;
     if (error != 0) fail(NO_CONNECTION, "seccomp user notification");
+    if (!proc_is_ours()) fail(NO_CONNECTION, "/proc");
     if (pipe2(reports, O_CLOEXEC) < 0 || prctl(PR_SET_CHILD_SUBREAPER, 1, 0, 0, 0) < 0)
         fail(REFUSED, "the supervisor");
     pid_t supervisor = fork();

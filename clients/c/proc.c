@@ -93,6 +93,17 @@ bool proc_read_status(pid_t thread, struct proc_status *status) {
     return true;
 }
 
+/* NStgid has the numbers of a process in the namespace of /proc and in those within it, down to its own. A kernel without
+ * PID namespaces doesn't say it. */
+bool proc_is_ours(void) {
+    char text[4096];
+    int number, within;
+    if (!read_file("/proc/self/status", text, sizeof text)) return false;
+    const char *at = find_field(text, "\nNStgid:");
+    errno = ESRCH;
+    return !at || (sscanf(at, "%d %d", &number, &within) == 1 && number == getpid());
+}
+
 /* ---- stat ---- */
 
 /* The parent and the flags, which stand behind the program's name in parentheses. */

@@ -23,6 +23,10 @@ struct proc_status {
     struct kr_identity identity;
 };
 
+/* Whether the numbers in /proc are those that this process gives and is told. They are another PID namespace's where one
+ * was made, and no /proc mounted for it: then each would mean some other process. False with errno. */
+bool proc_is_ours(void);
+
 /* False where there is no such thread, or it may not be looked at. */
 bool proc_read_status(pid_t thread, struct proc_status *status);
 

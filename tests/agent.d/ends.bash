@@ -164,6 +164,19 @@ refuses() {
   is "$name" 3 "$?"
 }
 
+# In a PID namespace without a /proc of its own each number there would mean another process.
+try_strange_numbers() {
+  local apart=(unshare --pid --fork --kill-child)
+  is_root || apart=(unshare --user --map-root-user --pid --fork --kill-child)
+  if ! "${apart[@]}" true 2>/dev/null; then
+    skipped 'an agent whose /proc has other numbers: no PID namespace may be made'
+    return
+  fi
+  timeout "$patience" "${apart[@]}" "$dir/$variant/keyretain-agent" --daemon "$keyretaind" --socket "$dir/other.sock" \
+    --folder "$dir/other" >/dev/null 2>>"$dir/$variant.err" </dev/null
+  is 'an agent whose /proc has other numbers' 3 "$?"
+}
+
 try_places() {
   mkdir -m 755 "$dir/open"
   mkdir -m 710 "$dir/group"
@@ -186,6 +199,7 @@ try_places() {
   refuses 'a path that is too long' --socket "$dir/$(printf '%0120d' 0)" --folder "$dir/other"
   refuses 'a daemon that lacks' --socket "$dir/other.sock" --folder "$dir/other" --daemon "$dir/none"
   refuses 'a folder that lacks' --socket "$dir/other.sock" --folder "$dir/none/none"
+  try_strange_numbers
   one_goes 'the first agent, after all that'
   rm -rf "$dir/open" "$dir/group" "$dir/private" "$dir/another" "$dir/link" "$dir/other"
 }
