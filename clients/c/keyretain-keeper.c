@@ -212,11 +212,12 @@ static int32_t have_ring(struct kr *connection, uint32_t context, const char *na
     return ring;
 }
 
-/* Unlinks the keys that can't be used any more, and answers whether one is left that can. */
+/* Unlinks the keys that can't be used any more, and answers whether one is left that can: there may be one where the
+ * daemon has no memory to say so, or no time. */
 static bool sweep(struct kr *connection, uint32_t context, int32_t ring) {
     static uint8_t links[KR_REPLY_ROOM];
     int64_t length = kr_read(connection, context, ring, links, sizeof links);
-    bool has_key = false;
+    bool has_key = length < 0 && (errno == ENOMEM || errno == ETIMEDOUT);
     for (int64_t at = 0; at + SERIAL_WIDTH <= length; at += SERIAL_WIDTH) {
         int32_t key = (int32_t)kr_get_u32(links + at);
         bool is_dead = kr_describe(connection, context, key, NULL, 0) < 0 &&

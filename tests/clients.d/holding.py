@@ -1,0 +1,58 @@
+"""holding.py KEEPER: whether keyretain-keeper --hold goes on where a daemon doesn't say for a while what the keyring has,
+and ends where there is no keyring any more. Prints a line for each difference, and last how many were compared."""
+import errno
+import itertools
+import os
+import struct
+import subprocess
+import sys
+import threading
+
+from compare import compare, conclude
+from servers import reply, served
+import keyretain
+
+RING, KEY = 77, 78
+SERIAL, LINK = struct.pack("<I", RING), struct.pack("<I", KEY)
+OTHERS = b"keyring;%d;0;3f1b0000;of another user" % (os.geteuid() + 1)
+FORMS = {"number": SERIAL, "serial": SERIAL, "nothing": b"", "bytes": OTHERS}
+
+
+class Daemon:
+    """One whose keyring reads as these, one after the other: bytes, or the number of an error. Another user has the name
+    of the keeper's session. `ended` is set when the keeper has gone, which has read `count` times then."""
+
+    def __init__(self, readings):
+        self.readings, self.count, self.ended = iter(readings), 0, threading.Event()
+
+    def answer(self, name):
+        if name == "READ":
+            self.count += 1
+            reading = next(self.readings)
+            return (b"", reading) if isinstance(reading, int) else (reading, 0)
+        return FORMS[keyretain.ASKS[name].answer], 0
+
+    def serve(self, end):
+        for version, tag, name, _ in end.asks():
+            body, status = self.answer(name)
+            end.socket.sendall(reply(version, tag, body, status))
+        self.ended.set()
+
+
+def readings_of(keeper, *readings):
+    """How often the keyring was read before the keeper ended."""
+    daemon = Daemon(itertools.chain(readings, itertools.repeat(b"")))
+    with served(daemon.serve) as path:
+        subprocess.run([keeper, "--hold", "ring", "--socket", path], input=b"", stdout=subprocess.DEVNULL, check=True)
+        compare("it ends", True, daemon.ended.wait(60))
+    return daemon.count
+
+
+# The last two looks find nothing, as the name of its session is given up between them.
+compare("a keyring without keys", 1, readings_of(sys.argv[1]))
+compare("keys that go", 4, readings_of(sys.argv[1], LINK, LINK))
+compare("a daemon without memory", 6, readings_of(sys.argv[1], LINK, errno.ENOMEM, errno.ENOMEM, LINK))
+compare("no memory at first", 4, readings_of(sys.argv[1], errno.ENOMEM, LINK))
+for gone in errno.ENOKEY, errno.EKEYREVOKED, errno.EACCES:
+    compare(f"a keyring that is gone, {gone}", 3, readings_of(sys.argv[1], LINK, gone, gone))
+conclude()
