@@ -21,7 +21,7 @@
 #define KEYRETAIN_KEEPER "/usr/local/libexec/keyretain/keyretain-keeper"
 #endif
 
-enum { KEPT_DESCRIPTOR = 200, READING = 0, WRITING = 1 };
+enum { KEPT_DESCRIPTOR = 200, READING = 0, WRITING = 1, LOOK_MILLISECONDS = 1 };
 
 /* Two pipes: the keeper waits on the reading end of one, and says on the other what it has made. */
 struct pipes {
@@ -75,7 +75,7 @@ static int prepare_signals(posix_spawnattr_t *attributes) {
     return error;
 }
 
-/* The process that is started goes to the background by itself, and has ended when its last word is awaited. */
+/* The process that is started goes to the background by itself, and ends. */
 static int spawn(const struct pipes *pipes, char *const words[], pid_t *started) {
     static char trusts_anybody[] = "KEYRETAIN_TRUST=any";
     char *environment[] = { kr_trusts_anybody() ? trusts_anybody : NULL, NULL };
@@ -94,9 +94,15 @@ static int spawn(const struct pipes *pipes, char *const words[], pid_t *started)
     return error;
 }
 
-/* A program that ignores SIGCHLD, or waits for any child in its handler, may have reaped it before. */
-static void reap(pid_t started) {
-    while (waitpid(started, NULL, 0) < 0 && errno == EINTR) continue;
+/* Mostly it has ended before its answer came. Who runs as the user may have stopped it, and could so stop a program of
+ * root's that has taken the user's effective uid: it is left then. A program that ignores SIGCHLD, or waits for any child
+ * in its handler, may have reaped it before. */
+static void reap(pid_t started, int64_t deadline) {
+    pid_t ended;
+    while ((ended = waitpid(started, NULL, WNOHANG)) == 0 || (ended < 0 && errno == EINTR)) {
+        if (kr_now() >= deadline) return;
+        poll(NULL, 0, LOOK_MILLISECONDS);
+    }
 }
 
 /* ---- Its answer ---- */
@@ -159,8 +165,11 @@ static int start(struct pipes *pipes, char *const words[], struct kr_session *se
         errno = error;
         return -1;
     }
-    reap(started);
-    return read_answer(pipes->answer[READING], session, deadline, why);
+    int result = read_answer(pipes->answer[READING], session, deadline, why);
+    error = errno;
+    reap(started, deadline);
+    errno = error;
+    return result;
 }
 
 int kr_start_keeper(struct kr_holder *holder, struct kr_session *session, const char *socket, bool links_user,

@@ -209,6 +209,13 @@ try_inherited() {
   is 'files under the number of what held a session' 'ok, 297 of 297 files left' \
     "$("$dir/acts" again <"$top/README.md")"
   is 'no keeper is there' 3 "$("$dir/no-keeper/keyretain-session" -- true 2>/dev/null; echo $?)"
+  mkdir -p "$dir/none/keyretain"
+  printf '#!/bin/sh\necho $$ >"%s"\nkill -STOP $$\n' "$dir/stopped" >"$dir/none/keyretain/keyretain-keeper"
+  chmod 755 "$dir/none/keyretain/keyretain-keeper"
+  is 'a keeper that is stopped before it is in the background' 3 \
+    "$(timeout 60 "$dir/no-keeper/keyretain-session" -- true 2>/dev/null; echo $?)"
+  kill -KILL "$(<"$dir/stopped")"
+  rm -r "$dir/none"
   kill_daemon TERM
   until_true has_no_keeper
   is 'no keeper is left' gone "$(has_no_keeper && echo gone)"
