@@ -144,50 +144,66 @@ long keyctl_watch_key(key_serial_t id, int pipe, int watch) {
     return CALL(KEYCTL_WATCH_KEY, word(id), word(pipe), word(watch));
 }
 
-/* ---- Commands on keys of other types, which are not there: EOPNOTSUPP ---- */
+/* ---- Commands on keys of other types, which are in the kernel alone: else EOPNOTSUPP ---- */
 
 long keyctl_dh_compute(key_serial_t private_key, key_serial_t prime, key_serial_t base, char *buffer, size_t room) {
-    (void)prime, (void)base;
-    return CALL(KEYCTL_DH_COMPUTE, word(private_key), address(buffer), room);
+    const struct keyctl_dh_params numbers = { .priv = private_key, .prime = prime, .base = base };
+    return CALL(KEYCTL_DH_COMPUTE, address(&numbers), address(buffer), room, 0);
 }
 
 long keyctl_dh_compute_kdf(key_serial_t private_key, key_serial_t prime, key_serial_t base, char *hash, char *info,
                            size_t info_length, char *buffer, size_t room) {
-    (void)hash, (void)info, (void)info_length;
-    return keyctl_dh_compute(private_key, prime, base, buffer, room);
+    const struct keyctl_dh_params numbers = { .priv = private_key, .prime = prime, .base = base };
+    const struct keyctl_kdf_params derived = { .hashname = hash, .otherinfo = info,
+                                               .otherinfolen = (uint32_t)info_length };
+    return CALL(KEYCTL_DH_COMPUTE, address(&numbers), address(buffer), room, address(&derived));
 }
 
 int keyctl_dh_compute_alloc(key_serial_t private_key, key_serial_t prime, key_serial_t base, void **buffer) {
-    (void)buffer;
-    return (int)keyctl_dh_compute(private_key, prime, base, NULL, 0);
+    const long room = keyctl_dh_compute(private_key, prime, base, NULL, 0);
+    char *bytes = room < 0 ? NULL : malloc((size_t)room + 1);
+    if (!bytes) return -1;
+    const long length = keyctl_dh_compute(private_key, prime, base, bytes, (size_t)room);
+    if (length < 0 || length > room) {
+        free(bytes);
+        return length < 0 ? -1 : (int)fail(EOVERFLOW);
+    }
+    bytes[length] = '\0';
+    *buffer = bytes;
+    return (int)length;
 }
 
 long keyctl_pkey_query(key_serial_t id, const char *info, struct keyctl_pkey_query *result) {
     return CALL(KEYCTL_PKEY_QUERY, word(id), 0, address(info), address(result));
 }
 
+/* A key, and the lengths of what comes in, and of what goes out or is compared. */
+static struct keyctl_pkey_params both_of(key_serial_t id, size_t in_length, size_t length) {
+    return (struct keyctl_pkey_params){ .key_id = id, .in_len = (uint32_t)in_length, .out_len = (uint32_t)length };
+}
+
 long keyctl_pkey_encrypt(key_serial_t id, const char *info, const void *data, size_t data_length, void *out,
                          size_t out_length) {
-    (void)data_length, (void)out_length;
-    return CALL(KEYCTL_PKEY_ENCRYPT, word(id), address(info), address(data), address(out));
+    const struct keyctl_pkey_params both = both_of(id, data_length, out_length);
+    return CALL(KEYCTL_PKEY_ENCRYPT, address(&both), address(info), address(data), address(out));
 }
 
 long keyctl_pkey_decrypt(key_serial_t id, const char *info, const void *data, size_t data_length, void *out,
                          size_t out_length) {
-    (void)data_length, (void)out_length;
-    return CALL(KEYCTL_PKEY_DECRYPT, word(id), address(info), address(data), address(out));
+    const struct keyctl_pkey_params both = both_of(id, data_length, out_length);
+    return CALL(KEYCTL_PKEY_DECRYPT, address(&both), address(info), address(data), address(out));
 }
 
 long keyctl_pkey_sign(key_serial_t id, const char *info, const void *data, size_t data_length, void *out,
                       size_t out_length) {
-    (void)data_length, (void)out_length;
-    return CALL(KEYCTL_PKEY_SIGN, word(id), address(info), address(data), address(out));
+    const struct keyctl_pkey_params both = both_of(id, data_length, out_length);
+    return CALL(KEYCTL_PKEY_SIGN, address(&both), address(info), address(data), address(out));
 }
 
 long keyctl_pkey_verify(key_serial_t id, const char *info, const void *data, size_t data_length,
                         const void *signature, size_t signature_length) {
-    (void)data_length, (void)signature_length;
-    return CALL(KEYCTL_PKEY_VERIFY, word(id), address(info), address(data), address(signature));
+    const struct keyctl_pkey_params both = both_of(id, data_length, signature_length);
+    return CALL(KEYCTL_PKEY_VERIFY, address(&both), address(info), address(data), address(signature));
 }
 
 /* ---- Answers in memory of their own ---- */

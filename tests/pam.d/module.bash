@@ -352,6 +352,7 @@ try_applications() {
 
 # A libkeyutils that asks the kernel where no session is named, and in programs that run set-uid.
 try_else_kernel() {
+  has_none 'what the kernel is handed' "$dir/handed"
   if [ "$("$dir/whose")" = 'no keys of the kernel' ]; then
     skipped 'a libkeyutils that asks the kernel too: it lets nobody have keys here'
     return
