@@ -41,7 +41,8 @@ bool memory_read(const struct memory *memory, void *to, unsigned long from, size
     return pread(memory->file, to, length, (off_t)from) == (ssize_t)length;
 }
 
-/* Up to the end of a page at a time, as the next may not be there; first a few bytes, as most texts are short. */
+/* Up to the end of a page at a time, as the next may not be there; first a few bytes, as most texts are short. Nothing
+ * stays of what was read behind the text, nor of one that can't be read. */
 bool memory_read_text(const struct memory *memory, char *to, unsigned long from, size_t max) {
     size_t length = 0;
     while (length < max) {
@@ -49,8 +50,15 @@ bool memory_read_text(const struct memory *memory, char *to, unsigned long from,
         if (wanted > max - length) wanted = max - length;
         if (length == 0 && wanted > SHORT) wanted = SHORT;
         ssize_t got = pread(memory->file, to + length, wanted, (off_t)(from + length));
-        if (got <= 0) return false;
-        if (memchr(to + length, '\0', (size_t)got)) return true;
+        if (got <= 0) {
+            explicit_bzero(to, length);
+            return false;
+        }
+        char *next = to + length, *end = memchr(next, '\0', (size_t)got);
+        if (end) {
+            explicit_bzero(end, (size_t)(next + got - end));
+            return true;
+        }
         length += (size_t)got;
     }
     to[length] = '\0';

@@ -328,6 +328,15 @@ static int get(const char *name) {
     return found > 0 ? 0 : 1;
 }
 
+/* A text of a call, behind which a file's first bytes stand in memory. */
+static int ask_beside(const char *file) {
+    char bytes[128] = "no key";
+    size_t length = strlen(bytes) + 1;
+    FILE *from = fopen(file, "r");
+    if (!from || fread(bytes + length, 1, sizeof bytes - length, from) == 0) return 2;
+    return request_key("user", bytes, NULL, 0) < 0 && errno == ENOKEY ? 0 : 1;
+}
+
 static void describe(int id, unsigned *owner, unsigned *mask) {
     char text[4200] = "";
     keyctl(KEYCTL_DESCRIBE, (unsigned long)(long)id, (unsigned long)text, sizeof text - 1, 0);
@@ -619,6 +628,7 @@ int main(int count, char **words) {
     if (strcmp(mode, "hidden") == 0) return hide();
     if (strcmp(mode, "put") == 0 && count == 4) return put(words[2], words[3]);
     if (strcmp(mode, "get") == 0 && count == 3) return get(words[2]);
+    if (strcmp(mode, "beside") == 0 && count == 3) return ask_beside(words[2]);
     if (strcmp(mode, "owner") == 0) return print_owner((uid_t)many);
     if (strcmp(mode, "ignoring") == 0 && count > 2) return ignore_children(words + 2);
     if (strcmp(mode, "interrupted") == 0 && count > 2) return reset_signals(words + 2);
