@@ -15,8 +15,10 @@ class Unusable(Exception):
 
 
 def keep_no_core() -> None:
-    """A program that crashes leaves no file of its memory, which may have secrets."""
-    resource.setrlimit(resource.RLIMIT_CORE, (0, resource.getrlimit(resource.RLIMIT_CORE)[1]))
+    """A program that crashes leaves no file of its memory, which may have secrets. With a limit of 0 a program that
+    core_pattern names is handed it all the same, core(5); with 1, which is less than any core, it isn't either."""
+    hard = resource.getrlimit(resource.RLIMIT_CORE)[1]
+    resource.setrlimit(resource.RLIMIT_CORE, (0 if hard == 0 else 1, hard))
 
 
 def standard(stream: Optional[TextIO]) -> BinaryIO:
