@@ -65,7 +65,8 @@ STEPS = (
 
 UNUSABLE = (b"", b"s3cret", b"[]", b"\"s3cret\"", b"null", b"{", b"\xff", b"{\"ServerURL\": \"a\", \"Username\": 7}",
             b"{\"ServerURL\": \"a\", \"Username\": \"u\", \"Secret\": [\"s3cret\"]}", b"[" * 100000,
-            b"{\"ServerURL\": \"a\", \"Username\": \"u\", \"Secret\": \"" + b"s3cret" * 6000 + b"\"}", b" " * (1 << 21))
+            b"{\"ServerURL\": \"a\", \"Username\": \"u\", \"Secret\": \"" + b"s3cret" * 6000 + b"\"}", b" " * (1 << 21),
+            b"{\"ServerURL\": \"" + b"a" * 70000 + b"\", \"Username\": \"u\", \"Secret\": \"s3cret\"}")
 
 
 def try_steps():

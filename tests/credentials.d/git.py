@@ -105,6 +105,9 @@ def try_bytes():
                         (status, out, is_one_line(err, PROGRAM), b"s3c" in err))
         status, _, err = run(helper("git", "store"), b"protocol=https\nhost=a\nusername=u\npassword=" + b"x" * 32767)
         compare("a password that no key can have", (1, True, False), (status, is_one_line(err, PROGRAM), b"xx" in err))
+        for count in 4096, 70000:
+            status, _, err = run(helper("git", "store"), lines(f"protocol=https host={'x' * count} username=u password=s3c"))
+            compare(f"a host of {count} bytes", (1, True, False), (status, is_one_line(err, PROGRAM), b"s3c" in err))
         compare("nothing was kept of all that", 1, len(look()))
 
 

@@ -15,7 +15,7 @@ from .. import THREAD, USER, Client, Refused
 from . import keeper
 
 PATIENCE = 10.0
-LONGEST_PAYLOAD = 32767
+LONGEST_NAME, LONGEST_PAYLOAD = 4095, 32767
 GROUPS = 32  # as many as the daemon takes
 GONE = (errno.EKEYEXPIRED, errno.EKEYREVOKED, errno.ENOKEY, errno.ENOENT)
 
@@ -83,6 +83,8 @@ class Locker(AbstractContextManager["Locker"]):
 
     def put(self, description: str, payload: bytes, seconds: int = 0) -> None:
         """Keeps an entry for so many seconds, or without an end for 0, in place of one of this description."""
+        if len(description) > LONGEST_NAME:
+            raise OSError(errno.ENAMETOOLONG, f"a name of more than {LONGEST_NAME} bytes")
         if len(payload) > LONGEST_PAYLOAD:
             raise OSError(errno.E2BIG, f"a secret of more than {LONGEST_PAYLOAD} bytes")
         self._ring = self._ring or self._make_ring()
