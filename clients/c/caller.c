@@ -314,11 +314,16 @@ static int64_t opening_deadline(int64_t deadline) {
     return end < deadline ? end : deadline;
 }
 
-/* Whom this seat asks from now on. What a user's own daemon was told isn't told to the system's in its place. Serials
- * of another daemon than the last one's mean nothing: it is known by its process. */
+/* Whom this seat asks from now on. Another thread may have taken another identity while the daemon was looked for, which
+ * is that one's then. What a user's own daemon was told isn't told to the system's in its place. Serials of another daemon
+ * than the last one's mean nothing: it is known by its process. */
 static int meet_daemon(struct seat *seat) {
     struct kr *connection = seat->connection;
     bool is_other = seat->daemon != 0 && connection->peer_pid != seat->daemon;
+    if (!kr_may_be_told(connection, seat->identity.uid)) {
+        errno = EACCES;
+        return -1;
+    }
     if (seat->is_own && connection->place == KR_SYSTEM) {
         errno = ENOSYS;
         return -1;

@@ -67,6 +67,9 @@ struct kr *kr_prepare(const char *path, int version, unsigned flags);
 int kr_connect(struct kr *connection);
 void kr_let_go(struct kr *connection);
 
+/* Whether who listens may be told what a user keeps. */
+bool kr_may_be_told(const struct kr *connection, uid_t user);
+
 /* Whether the descriptor is still the socket that was opened here, by this process. */
 bool kr_is_ours(const struct kr *connection);
 

@@ -70,8 +70,8 @@ static bool is_system_daemon(uid_t peer) {
     return peer == 0 || (lstat(SYSTEM_FOLDER, &status) == 0 && S_ISDIR(status.st_mode) && status.st_uid == peer);
 }
 
-bool kr_is_trusted(enum kr_place place, uid_t peer) {
-    bool is_own = peer == geteuid();
+bool kr_is_trusted(enum kr_place place, uid_t user, uid_t peer) {
+    bool is_own = peer == user;
     switch (place) {
     case KR_OWN: return is_own;
     case KR_SYSTEM: return is_system_daemon(peer);

@@ -151,6 +151,11 @@ static int connect_in_time(struct kr *connection) {
     }
 }
 
+bool kr_may_be_told(const struct kr *connection, uid_t user) {
+    if (connection->place == KR_NAMED && connection->trusts_anybody) return true;
+    return kr_is_trusted(connection->place, user, connection->peer_uid);
+}
+
 /* Who listens: not who owns a path, which may be turned. */
 static int check_peer(struct kr *connection) {
     struct ucred peer;
@@ -159,8 +164,7 @@ static int check_peer(struct kr *connection) {
     connection->peer_uid = peer.uid;
     connection->peer_gid = peer.gid;
     connection->peer_pid = peer.pid;
-    if (connection->place == KR_NAMED && connection->trusts_anybody) return 0;
-    return kr_is_trusted(connection->place, peer.uid) ? 0 : fail(EACCES);
+    return kr_may_be_told(connection, geteuid()) ? 0 : fail(EACCES);
 }
 
 int kr_connect(struct kr *connection) {

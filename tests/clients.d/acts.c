@@ -1,5 +1,6 @@
 /* acts MODE [WORD ..]: what programs do whose descriptors, identity or session the tests look at. */
 #define _GNU_SOURCE
+#include <dlfcn.h>
 #include <grp.h>
 #include <linux/capability.h>
 #include <pthread.h>
@@ -44,6 +45,25 @@ static void take_identities(char **words) {
     add_key("user", "root-secret", "hunter2", 7, KEY_SPEC_USER_KEYRING);
     (void)!seteuid(OTHER - 1);
     add_key("user", "ticket", "ticket", 6, KEY_SPEC_USER_KEYRING);
+}
+
+/* meanwhile: as if another thread took another identity in the midst of root's first call: where the library looks
+ * whether it runs set-uid, before it looks for a daemon. */
+static bool is_taken_meanwhile;
+
+unsigned long getauxval(unsigned long type) {
+    unsigned long (*ours)(unsigned long) = (unsigned long (*)(unsigned long))dlsym(RTLD_NEXT, "getauxval");
+    if (is_taken_meanwhile) (void)!seteuid(OTHER);
+    return ours(type);
+}
+
+static void take_identity_meanwhile(char **words) {
+    (void)words;
+    is_taken_meanwhile = true;
+    add_key("user", "root-secret", "hunter2", 7, KEY_SPEC_USER_KEYRING);
+    is_taken_meanwhile = false;
+    (void)!seteuid(0);
+    add_key("user", "root-secret", "hunter2", 7, KEY_SPEC_USER_KEYRING);
 }
 
 /* drop: asks as root, is another user for good, and asks again, which no daemon answers. How many sockets are open. */
@@ -289,6 +309,7 @@ int main(int count, char **words) {
         void (*run)(char **);
     } modes[] = { { "sockets", see_sockets },     { "identities", take_identities },
                   { "drop", drop_identity },      { "drop-groups", drop_groups },
+                  { "meanwhile", take_identity_meanwhile },
                   { "group", read_by_group },     { "back", go_and_come_back },
                   { "process-one", be_process_one }, { "open", open_session },
                   { "join", join },               { "interrupted", join_interrupted },
