@@ -191,11 +191,11 @@ static bool is_namespace(int descriptor, const char *path) {
            one.st_ino == other.st_ino;
 }
 
-/* -1 where the thread is in our pid namespace. */
-static int open_outermost(pid_t thread) {
-    static const char ours[] = "/proc/self/ns/pid";
-    char path[64];
-    snprintf(path, sizeof path, "/proc/%d/ns/pid", (int)thread);
+/* The outermost namespace of a kind around a thread that isn't ours; -1 where it is in ours. */
+static int open_outermost(pid_t thread, const char *kind) {
+    char path[64], ours[32];
+    snprintf(path, sizeof path, "/proc/%d/ns/%s", (int)thread, kind);
+    snprintf(ours, sizeof ours, "/proc/self/ns/%s", kind);
     int outermost = -1, next = open(path, O_RDONLY | O_CLOEXEC);
     while (next >= 0 && !is_namespace(next, ours)) {
         if (outermost >= 0) close(outermost);
@@ -215,10 +215,21 @@ static pid_t find_in_namespace(int namespace, pid_t process) {
     return process;
 }
 
+/* The same in our pid namespace. What runs in a container may make user namespaces too: they are another user's there. */
+static pid_t find_in_our_pids(pid_t thread) {
+    uid_t maker;
+    int outermost = open_outermost(thread, "user");
+    if (outermost < 0) return getpid();
+    bool is_runtimes = ioctl(outermost, NS_GET_OWNER_UID, &maker) == 0 && maker == geteuid();
+    pid_t process = is_runtimes ? find_in_namespace(outermost, thread) : getpid();
+    close(outermost);
+    return process;
+}
+
 /* A process whose maps are those of the thread's container; 0 for none. */
 static pid_t find_for_maps(pid_t thread) {
-    int outermost = open_outermost(thread);
-    if (outermost < 0) return thread;
+    int outermost = open_outermost(thread, "pid");
+    if (outermost < 0) return find_in_our_pids(thread);
     int owner = ioctl(outermost, NS_GET_USERNS);
     close(outermost);
     if (owner < 0) return 0;

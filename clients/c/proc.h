@@ -60,7 +60,8 @@ struct proc_map {
 
 /* The maps of the container that a thread is in. Its user namespace is the one that owns the outermost pid namespace
  * around the thread that isn't ours: it says nothing if the thread has made others within. Where all share our pid
- * namespace it is the thread's. False where no process of it is found among the thread and its ancestors. */
+ * namespace it is the outermost user namespace around the thread that isn't ours, if our user has made it, as runtimes
+ * do; else ours. False where no process of it is found among the thread and its ancestors. */
 bool proc_read_maps(pid_t thread, struct proc_map *uids, struct proc_map *gids);
 
 /* 65534 for an id that isn't mapped. */

@@ -205,6 +205,9 @@ try_other_ids() {
 try_nested() {
   local asks=("$dir/calls" become 33 exec unshare -Ur "$dir/calls" describe @u)
   says 'a user namespace within a container' 'keyring;33;33;1f3f0000;_uid.33 ' contain n --pids -- "${asks[@]}"
+  says 'one within a container that has no pids of its own' 'keyring;33;33;1f3f0000;_uid.33 ' contain n -- "${asks[@]}"
+  says 'one within that of a container that has none' 'keyring;33;33;1f3f0000;_uid.33 ' \
+    contain n --uids 100000 -- sh -c '"$@"; :' sh "${asks[@]}"
   says 'one within that of a container' 'keyring;33;33;1f3f0000;_uid.33 ' \
     contain n --uids 100000 --pids -- "${asks[@]}"
   says 'one within that of a container, with pids of its own' 'keyring;33;33;1f3f0000;_uid.33 ' \
