@@ -314,6 +314,14 @@ static int64_t opening_deadline(int64_t deadline) {
     return end < deadline ? end : deadline;
 }
 
+/* Under the lock, so that a child of fork(2) finds all of them or none. */
+static int begin_serials_anew(struct seat *seat) {
+    lock();
+    int begun = serials_begin_anew(&seat->serials);
+    unlock();
+    return begun;
+}
+
 /* Whom this seat asks from now on. Another thread may have taken another identity while the daemon was looked for, which
  * is that one's then. What a user's own daemon was told isn't told to the system's in its place. Serials of another daemon
  * than the last one's mean nothing: it is known by its process. */
@@ -328,7 +336,7 @@ static int meet_daemon(struct seat *seat) {
         errno = ENOSYS;
         return -1;
     }
-    if (is_other && serials_begin_anew(&seat->serials) < 0) return -1;
+    if (is_other && begin_serials_anew(seat) < 0) return -1;
     seat->daemon = connection->peer_pid;
     seat->is_own = connection->place == KR_OWN;
     seat->restrict_keyring = seat->move = UNKNOWN;

@@ -16,14 +16,15 @@ bool serials_is_stale(const struct serials *serials, int32_t serial) {
 
 int serials_begin_anew(struct serials *serials) {
     int32_t stale = serials->highest > serials->stale ? serials->highest : serials->stale;
-    uint8_t *again = calloc((size_t)stale / 8 + 1, 1);
+    uint8_t *again = calloc((size_t)stale / 8 + 1, 1), *before = serials->again;
     if (!again) return -1;
-    free(serials->again);
     *serials = (struct serials){ .stale = stale, .again = again };
+    free(before);
     return 0;
 }
 
 void serials_clear(struct serials *serials) {
-    free(serials->again);
+    uint8_t *before = serials->again;
     memset(serials, 0, sizeof *serials);
+    free(before);
 }
