@@ -126,10 +126,16 @@ struct session *session_join(const struct context *context, struct user *user, c
     return session ? session : add_session(context, user, uids, serial, named.name);
 }
 
+static bool is_all_users(const struct session *session) { return all.is_container && session == all.first; }
+
 bool session_is_of(const struct session *session, uint32_t uid) {
     for (int i = 0; i < PROC_IDS; i++)
         if (session->uids[i] == uid) return true;
-    return all.is_container && session == all.first;
+    return is_all_users(session);
+}
+
+bool session_was_begun_as(const struct session *session, uint32_t uid) {
+    return session->uids[PROC_IDS - 1] == uid || is_all_users(session);
 }
 
 /* ---- Entering ---- */

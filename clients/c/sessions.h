@@ -57,8 +57,10 @@ struct session *session_join(const struct context *context, struct user *user, c
                              const char *name);
 
 /* Whether a session was begun for this uid: by it, or by a process that can be it, as a login does; or it is the first
- * of a container, which is all users'. */
+ * of a container, which is all users'. A program that runs set-uid can be its caller too: so what its caller's processes
+ * could say by themselves, as a tag, is believed only where the session was begun as this uid. */
 bool session_is_of(const struct session *session, uint32_t uid);
+bool session_was_begun_as(const struct session *session, uint32_t uid);
 
 /* Makes a context of this identity in a session: 0, with whether the session is lost to it; -1 with errno. */
 int session_enter(struct context *made, struct user *user, const struct session *session, bool *is_lost);

@@ -279,10 +279,10 @@ static bool make_room(unsigned age) {
     return task != NULL;
 }
 
-/* The session that the tag says, if it was begun for this uid; else NULL. */
+/* The session that the tag says, if it was begun as this uid; else NULL. */
 static struct session *own_session(pid_t id, uid_t uid) {
     struct session *tagged;
-    return session_of_tag(id, &tagged) == TAG_READ && tagged && session_is_of(tagged, uid) ? tagged : NULL;
+    return session_of_tag(id, &tagged) == TAG_READ && tagged && session_was_begun_as(tagged, uid) ? tagged : NULL;
 }
 
 /* Where descriptors run short, gives up the entry of a process that has nothing to lose: its session is known by its
@@ -328,15 +328,17 @@ static struct process *find_ancestor(pid_t parent) {
 
 /* The session of the tag, or without one of the nearest ancestor that is known; of what has neither the first, as long as
  * there was no other. It must not be another user's, whose tag anybody could copy: unless there was never another
- * session, it was begun for the process's uid, or an ancestor of that uid has it. Also where an ancestor of another uid
- * has it and the tag says the same, as when a program becomes another user. Else it is lost. */
+ * session, it was begun for the process's uid, or as it where the tag says so, or an ancestor of that uid has it. Also
+ * where an ancestor of another uid has it and the tag says the same, as when a program becomes another user. Else it is
+ * lost. */
 static struct session *inherited(pid_t id, pid_t parent, uid_t uid) {
     struct session *session;
     bool is_tagged = session_of_tag(id, &session) == TAG_READ;
     struct process *ancestor = find_ancestor(parent);
     if (!is_tagged && !ancestor) return all.has_had_others ? NULL : sessions_first();
     if (!is_tagged) session = ancestor->first->session;
-    if (!session || !all.has_had_others || session_is_of(session, uid)) return session;
+    if (!session || !all.has_had_others) return session;
+    if (is_tagged ? session_was_begun_as(session, uid) : session_is_of(session, uid)) return session;
     bool is_confirmed = ancestor && ancestor->first->session == session && (is_tagged || ancestor->uid == uid);
     return is_confirmed ? session : NULL;
 }

@@ -523,8 +523,9 @@ static void copy_tag(pid_t process) {
     if (soft == 0 || setrlimit(RLIMIT_LOCKS, &copied) < 0) _exit(2);
 }
 
-/* Another user's process takes the tag of one that has joined a session of its own, for a child. */
-static int take_others_tag(void) {
+/* Another user's process takes the tag of one that has joined a session of its own, for a child; or of a program that runs
+ * set-uid, which that user has started. */
+static int take_others_tag(bool is_set_uid) {
     pid_t other = getpid();
     begin();
     if (fork() == 0) {
@@ -540,7 +541,7 @@ static int take_others_tag(void) {
         _exit(0);
     }
     take();
-    long joined = join(NULL);
+    long joined = is_set_uid && setresuid(NOBODY, 0, 0) < 0 ? -1 : join(NULL);
     if (joined < 0) return 2;
     close(gates[1]);
     return puts(take().value == joined ? "let in" : "kept out") < 0;
@@ -640,7 +641,8 @@ int main(int count, char **words) {
     if (strcmp(mode, "left-to-other") == 0) return leave_to_other();
     if (strcmp(mode, "login") == 0) return log_in();
     if (strcmp(mode, "becomes-other") == 0) return become_other();
-    if (strcmp(mode, "copied") == 0) return take_others_tag();
+    if (strcmp(mode, "copied") == 0) return take_others_tag(false);
+    if (strcmp(mode, "copied-set-uid") == 0) return take_others_tag(true);
     if (strcmp(mode, "taken") == 0 && count > 4) return take_name(words[2], (uid_t)atol(words[3]), words + 4);
     if (strcmp(mode, "mask") == 0) return print_mask();
     if (strcmp(mode, "closed") == 0) return close_all(ring_of(KEY_SPEC_SESSION_KEYRING, 0));
