@@ -7,7 +7,11 @@ use Rattle.krs_wire.specs.declared.fault.WireFault.{WireFault}
 use Rattle.krs_wire.specs.declared.fault.WireFault.TheVariants.{BadLength}
 use Rattle.krs_types.specs.declared.shape.Shape.{Shape}
 use Rattle.krs_wire.specs.Field.{number}
-use Rattle.krs_wire.specs.Reply.{is_bad_reply_length, reply_front, reply_in, Found}
+use Rattle.std.specs.Option.{option_map}
+use Rattle.krs_types.specs.declared.ask.Answer.{Answer}
+use Rattle.krs_types.specs.declared.errno.Errno.{Errno}
+use Rattle.krs_wire.specs.Faulting.{GivesRead}
+use Rattle.krs_wire.specs.Reply.{is_bad_reply_length, reply_front, reply_in, tagged, Found}
 use Rattle.krs_wire.specs.declared.fault.WireFault.TheVariants as wire
 use Rattle.krs_words.specs.declared.stop.Stop.{Stop}
 use Rattle.krs_words.specs.declared.stop.Stop.TheVariants.{Memory, Connection}
@@ -42,6 +46,30 @@ pub bad_head : (shape : Shape) (head : List ℕ) (fault : WireFault) → length 
     → reply_front true shape head ≡ Err fault → is_bad_reply_length true (from_le_bytes w32 head) ≡ true
 bad_head shape head fault whole is =
     bad_alone shape (from_le_bytes w32 head) fault (sym (ap (reply_in true shape) (four head whole)) ∙ is)
+
+-- where a length is no fault it is good
+chosen_good : (bad : Bool) (x : Result (Option Found) WireFault) (found : Option Found)
+    → cond bad (Err BadLength) x ≡ Ok found → bad ≡ false
+chosen_good true x found is = cc
+chosen_good false x found is = refl
+
+good_alone : (shape : Shape) (n : ℕ) (found : Option Found) → reply_in true shape (Some (n, [])) ≡ Ok found
+    → is_bad_reply_length true n ≡ false
+unfolding reply_in
+good_alone shape n found is = chosen_good (is_bad_reply_length true n) _ found is
+
+-- the four bytes of a length alone that have no fault are a good one
+pub good_head : (shape : Shape) (head : List ℕ) (found : Option Found) → length head ≡ 4
+    → reply_front true shape head ≡ Ok found → is_bad_reply_length true (from_le_bytes w32 head) ≡ false
+good_head shape head found whole is =
+    good_alone shape (from_le_bytes w32 head) found (sym (ap (reply_in true shape) (four head whole)) ∙ is)
+
+-- so they are where what is read of them is no fault
+pub good_told : (shape : Shape) (head : List ℕ) (read : Result (Option (Result Answer Errno × ℕ × ℕ)) WireFault)
+    → length head ≡ 4 → GivesRead (λ o. option_map tagged o) read (reply_front true shape head)
+    → ((fault : WireFault) → read ≡ Err fault → ⊥) → is_bad_reply_length true (from_le_bytes w32 head) ≡ false
+good_told shape head (Ok found) whole exact none = good_head shape head (option_map tagged found) whole exact
+good_told shape head (Err fault) whole exact none = absurd (none fault refl)
 
 -- want of memory isn't told as a connection that failed
 pub not_memory : {A : Type 0} (fault : WireFault) (stop : Stop) → stop ≡ cause_of fault

@@ -1,13 +1,14 @@
 //! One ask over a connection, and its reply, in frames of version 2.
 
-ghost use Rattle.std.specs.Prelude.{◌≡◌, ◌⊎◌, ◌<◌, ◌++◌, true, length, vec_len, Some, Result, Err, OnOk, IfOk, IfErr};
+ghost use Rattle.std.specs.Prelude.{◌≡◌, ◌⊎◌, ◌<◌, ◌++◌, true, false, length, vec_len, Some, Result, Err, OnOk, IfOk, IfErr};
+ghost use Rattle.std.specs.Prelude.{IsOk};
 ghost use Rattle.std.specs.Int.{w32, from_le_bytes};
 ghost use Rattle.std.specs.Io.Buffered.{reader_remaining};
 ghost use Rattle.std.specs.Io.KnownBytes.{Appends, Consumes};
 ghost use Rattle.krs_types.specs.declared.ask.Answer.{Answer};
 ghost use Rattle.krs_types.specs.declared.errno.Errno.{Errno};
 ghost use Rattle.krs_wire.specs.Encoding.{ask_frame, ask_text};
-ghost use Rattle.krs_wire.specs.Reply.{is_bad_reply_length, reply_frame, shape_of, HasShape};
+ghost use Rattle.krs_wire.specs.Reply.{is_bad_reply_length, reply_frame, reply_front, shape_of, HasShape, IsFound};
 ghost use Rattle.krs_remote.specs.Talking.{Exchanges, GivesReply, GivesUp, IsReply, NotSent, cause_of};
 
 use krs_types::{Ask, Op, Reply};
@@ -52,6 +53,7 @@ fn frame_of(alloc: Global, ask: &Ask, tag: u64) -> Result<Vec<u8>, Stop>
     ensures frame { IfOk result (λ v. v.items ≡ ask_frame (Some tag) ask.now) }
     ensures causes { IfErr result (λ stop. (stop ≡ Stop.Memory)
         ⊎ ((stop ≡ Stop.Usage) × (65536 < length (ask_text (Some tag) ask.now)))) }
+    ensures usage { 65536 < length (ask_text (Some tag) ask.now) → result ≡ Err Stop.Usage }
 {
     match encode_ask2(alloc, ask, tag) {
         Ok(frame) => Ok(frame),
@@ -99,6 +101,7 @@ fn announced(alloc: Global, op: &Op, head: &[u8; 4]) -> Result<Vec<u8>, Stop>
     ensures causes { IfErr result (λ stop. (stop ≡ Stop.Memory) ⊎ (stop ≡ Stop.Connection)) }
     ensures bad { result ≡ Err Stop.Connection
         → is_bad_reply_length true (from_le_bytes w32 head.now) ≡ true }
+    ensures good { IsOk result → is_bad_reply_length true (from_le_bytes w32 head.now) ≡ false }
 {
     if let Err(fault) = decode_reply2(alloc, op, head) {
         return Err(stop_of(fault));
@@ -114,6 +117,7 @@ fn whole_reply(alloc: Global, op: &Op, tag: u64, frame: &[u8]) -> Result<Reply, 
     ensures causes { IfErr result (λ stop. (stop ≡ Stop.Memory) ⊎ (stop ≡ Stop.Connection)) }
     ensures none { result ≡ Err Stop.Connection → (reply : Result Answer Errno)
         → ¬ IsReply (shape_of op.now) tag frame.now reply }
+    ensures memory { result ≡ Err Stop.Memory → IsFound (reply_front true (shape_of op.now) frame.now) }
 {
     match decode_reply2(alloc, op, frame) {
         Ok(Some((reply, found, length))) => {
