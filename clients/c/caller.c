@@ -27,7 +27,7 @@
 #include "wire.h"
 
 /* Identities that are remembered: seteuid(2) and back must not lose the process keyring. Each takes a lane. */
-enum { SEATS = 4, CONTEXTS = 64 };
+enum { SEATS = 4, CONTEXTS = 64, COMMANDS = 33 };
 
 /* A call ends after so long; one that finds no free lane, where the daemon accepts nothing, sooner. */
 enum { CALL_MILLISECONDS = 30000, OPENING_MILLISECONDS = 10000 };
@@ -48,7 +48,7 @@ struct seat {
     bool lost_session;
     uint32_t ended[CONTEXTS]; /* contexts of threads that have ended, which the daemon wasn't told yet */
     unsigned ended_count;
-    enum carried restrict_keyring, move;
+    enum carried carried[COMMANDS]; /* by the numbers of keyctl(2) */
     int32_t daemon; /* its pid, 0 before the first */
     bool is_own;    /* it is the user's own daemon */
     struct serials serials;
@@ -339,7 +339,7 @@ static int meet_daemon(struct seat *seat) {
     if (is_other && begin_serials_anew(seat) < 0) return -1;
     seat->daemon = connection->peer_pid;
     seat->is_own = connection->place == KR_OWN;
-    seat->restrict_keyring = seat->move = UNKNOWN;
+    memset(seat->carried, 0, sizeof seat->carried); /* UNKNOWN */
     return 0;
 }
 
@@ -550,8 +550,8 @@ int32_t caller_join(struct caller *caller, const char *name) {
 
 /* ---- What the daemon carries ---- */
 
-/* An ask that is EINVAL where it is carried. A daemon that doesn't carry it ends the connection, and with that go the
- * process and thread keyrings: so this is asked on a connection of its own. */
+/* An ask of ids that are 0 is EINVAL where it is carried. A daemon that doesn't carry it ends the connection, and with
+ * that go the process and thread keyrings: so this is asked on a connection of its own. */
 static enum carried try_operation(const struct caller *caller, enum kr_operation operation) {
     struct kr *connection = kr_open_with(NULL, 0, 0, OPENING_MILLISECONDS);
     enum carried found = UNKNOWN;
@@ -559,25 +559,18 @@ static enum carried try_operation(const struct caller *caller, enum kr_operation
     kr_set_deadline(connection, caller->deadline);
     int64_t context = kr_hello_as(connection, &caller->seat->identity);
     if (context >= 0) {
-        if (operation == KR_MOVE)
-            kr_move(connection, (uint32_t)context, 0, 0, 0, 0);
-        else
-            kr_restrict_keyring(connection, (uint32_t)context, 0, NULL);
+        const struct kr_field zeros[KR_FIELDS] = { { 0 } };
+        kr_ask(connection, operation, (uint32_t)context, zeros);
         found = kr_is_broken(connection) ? NOT_CARRIED : CARRIED;
     }
     kr_close(connection);
     return found;
 }
 
-/* A daemon that understands version 2 of the frames carries both. */
-static bool carries(const struct caller *caller, enum carried *known, enum kr_operation operation) {
+/* A daemon that understands version 2 of the frames carries all of them. */
+bool caller_can(struct caller *caller, enum kr_operation operation) {
     if (kr_frame_version(caller->connection) >= 2) return true;
+    enum carried *known = &caller->seat->carried[operation];
     if (*known == UNKNOWN) *known = try_operation(caller, operation);
     return *known == CARRIED;
 }
-
-bool caller_can_restrict(struct caller *caller) {
-    return carries(caller, &caller->seat->restrict_keyring, KR_RESTRICT_KEYRING);
-}
-
-bool caller_can_move(struct caller *caller) { return carries(caller, &caller->seat->move, KR_MOVE); }

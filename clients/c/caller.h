@@ -34,9 +34,8 @@ void caller_leave(struct caller *caller, long result);
  * keyring, or -1 with errno. */
 int32_t caller_join(struct caller *caller, const char *name);
 
-/* Whether the daemon carries RESTRICT_KEYRING and MOVE. */
-bool caller_can_restrict(struct caller *caller);
-bool caller_can_move(struct caller *caller);
+/* Whether the daemon carries an operation of keyctl(2) that a daemon of the first version of the frames may lack. */
+bool caller_can(struct caller *caller, enum kr_operation operation);
 
 /* Whether a serial was told by a daemon that is gone, and by this one not yet. */
 bool caller_is_stale(const struct caller *caller, int32_t serial);

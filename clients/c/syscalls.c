@@ -186,20 +186,20 @@ static long change_owner(struct caller *caller, int32_t id, uint32_t uid, uint32
 
 /* No type here has a restriction of its own. */
 static long restrict_keyring(struct caller *caller, int32_t ring, const char *type) {
-    if (!caller_can_restrict(caller)) return fail(EOPNOTSUPP);
+    if (!caller_can(caller, KR_RESTRICT_KEYRING)) return fail(EOPNOTSUPP);
     long answer = kr_restrict_keyring(caller->connection, caller->context, ring, type);
     return answer < 0 && errno == EINVAL && type ? fail(ENOENT) : answer;
 }
 
 static long move_link(struct caller *caller, values at) {
-    if (!caller_can_move(caller)) return fail(EOPNOTSUPP);
+    if (!caller_can(caller, KR_MOVE)) return fail(EOPNOTSUPP);
     return kr_move(caller->connection, caller->context, id_of(at[0]), id_of(at[1]), id_of(at[2]), (uint32_t)at[3]);
 }
 
 static long capabilities(struct caller *caller, unsigned char *buffer, size_t room) {
     unsigned char known[2] = { KEYCTL_CAPS0_CAPABILITIES | KEYCTL_CAPS0_INVALIDATE, 0 };
-    if (caller_can_restrict(caller)) known[0] |= KEYCTL_CAPS0_RESTRICT_KEYRING;
-    if (caller_can_move(caller)) known[0] |= KEYCTL_CAPS0_MOVE;
+    if (caller_can(caller, KR_RESTRICT_KEYRING)) known[0] |= KEYCTL_CAPS0_RESTRICT_KEYRING;
+    if (caller_can(caller, KR_MOVE)) known[0] |= KEYCTL_CAPS0_MOVE;
     if (buffer && room > 0) {
         memset(buffer, 0, room);
         memcpy(buffer, known, room < sizeof known ? room : sizeof known);

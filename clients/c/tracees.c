@@ -580,9 +580,10 @@ void caller_leave(struct caller *caller, long result) {
     errno = error;
 }
 
-bool caller_can_restrict(struct caller *caller) { return kr_frame_version(caller->connection) >= 2; }
-
-bool caller_can_move(struct caller *caller) { return kr_frame_version(caller->connection) >= 2; }
+bool caller_can(struct caller *caller, enum kr_operation operation) {
+    (void)operation;
+    return kr_frame_version(caller->connection) >= 2;
+}
 
 bool caller_is_stale(const struct caller *caller, int32_t serial) {
     (void)caller;
