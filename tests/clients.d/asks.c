@@ -30,54 +30,56 @@ static void say_bytes(const char *what, int64_t length, const char *buffer) {
     if (length >= 0) printf("%s: %s\n", what, buffer);
 }
 
+/* Each ask once, behind what the server must get of it: its name, its context, and its fields as Python spells them. */
+
 static void ask_contexts(void) {
     const uint32_t groups[] = { 7, 8, 9 };
-    say("hello", kr_hello(connection, 1000, 1001, 3, groups));
-    say("thread", kr_thread(connection, 2));
-    say("fork", kr_fork(connection, 3));
-    say("exec", kr_exec(connection, 4));
-    say("exit", kr_exit(connection, 5));
-    say("leave", kr_leave(connection));
+    say("HELLO 0 [1000, 1001, [7, 8, 9]]", kr_hello(connection, 1000, 1001, 3, groups));
+    say("THREAD 2 []", kr_thread(connection, 2));
+    say("FORK 3 []", kr_fork(connection, 3));
+    say("EXEC 4 []", kr_exec(connection, 4));
+    say("EXIT 5 []", kr_exit(connection, 5));
+    say("LEAVE 0 []", kr_leave(connection));
 }
 
 static void ask_keys(void) {
     char buffer[64] = "untouched";
-    say("get_id", kr_get_id(connection, 6, -1, 5));
-    say("join", kr_join(connection, 7, "name"));
-    say("join", kr_join(connection, 7, NULL));
-    say("update", kr_update(connection, 8, 11, "new", 3));
-    say("revoke", kr_revoke(connection, 9, 12));
-    say("chown", kr_chown(connection, 10, 13, 14, UINT32_MAX));
-    say("setperm", kr_setperm(connection, 11, 15, 0x3f010000));
-    say_bytes("describe", kr_describe(connection, 12, 16, buffer, 2), buffer);
-    say_bytes("describe", kr_describe(connection, 12, 16, buffer, sizeof buffer), buffer);
+    say("GET_ID 6 [-1, 1]", kr_get_id(connection, 6, -1, 5));
+    say("JOIN 7 [b'name']", kr_join(connection, 7, "name"));
+    say("JOIN 7 [b'']", kr_join(connection, 7, NULL));
+    say("UPDATE 8 [11, b'new']", kr_update(connection, 8, 11, "new", 3));
+    say("REVOKE 9 [12]", kr_revoke(connection, 9, 12));
+    say("CHOWN 10 [13, 14, 4294967295]", kr_chown(connection, 10, 13, 14, UINT32_MAX));
+    say("SETPERM 11 [15, 1057030144]", kr_setperm(connection, 11, 15, 0x3f010000));
+    say_bytes("DESCRIBE 12 [16]", kr_describe(connection, 12, 16, buffer, 2), buffer);
+    say_bytes("DESCRIBE 12 [16]", kr_describe(connection, 12, 16, buffer, sizeof buffer), buffer);
     memset(buffer, 0, sizeof buffer);
-    say_bytes("read", kr_read(connection, 13, 17, buffer, sizeof buffer), buffer);
-    say("read", kr_read(connection, 13, 17, NULL, 0));
-    say("set_timeout", kr_set_timeout(connection, 14, 18, 60));
-    say("invalidate", kr_invalidate(connection, 15, 19));
-    say("add", kr_add(connection, 16, "user", "alpha", "s3", 2, -4));
-    say("add", kr_add(connection, 16, "keyring", "ring", NULL, 0, -4));
-    say("request", kr_request(connection, 17, "user", "alpha", 0));
+    say_bytes("READ 13 [17]", kr_read(connection, 13, 17, buffer, sizeof buffer), buffer);
+    say("READ 13 [17]", kr_read(connection, 13, 17, NULL, 0));
+    say("SET_TIMEOUT 14 [18, 60]", kr_set_timeout(connection, 14, 18, 60));
+    say("INVALIDATE 15 [19]", kr_invalidate(connection, 15, 19));
+    say("ADD 16 [b'user', b'alpha', b's3', -4]", kr_add(connection, 16, "user", "alpha", "s3", 2, -4));
+    say("ADD 16 [b'keyring', b'ring', b'', -4]", kr_add(connection, 16, "keyring", "ring", NULL, 0, -4));
+    say("REQUEST 17 [b'user', b'alpha', 0]", kr_request(connection, 17, "user", "alpha", 0));
 }
 
 static void ask_rings(void) {
-    say("clear", kr_clear(connection, 18, 20));
-    say("link", kr_link(connection, 19, 21, 22));
-    say("unlink", kr_unlink(connection, 20, 23, 24));
-    say("search", kr_search(connection, 21, -3, "logon", "a:b", 25));
-    say("restrict_keyring", kr_restrict_keyring(connection, 22, 26, NULL));
-    say("move", kr_move(connection, 23, 27, 28, -2, 1));
+    say("CLEAR 18 [20]", kr_clear(connection, 18, 20));
+    say("LINK 19 [21, 22]", kr_link(connection, 19, 21, 22));
+    say("UNLINK 20 [23, 24]", kr_unlink(connection, 20, 23, 24));
+    say("SEARCH 21 [-3, b'logon', b'a:b', 25]", kr_search(connection, 21, -3, "logon", "a:b", 25));
+    say("RESTRICT_KEYRING 22 [26, b'']", kr_restrict_keyring(connection, 22, 26, NULL));
+    say("MOVE 23 [27, 28, -2, 1]", kr_move(connection, 23, 27, 28, -2, 1));
 }
 
 static void ask_queues(void) {
     const struct kr_entry entry = { 1, 2, 3, { 4, 5, 6, 7, 8, 9, 10, 11 } };
     char buffer[64] = "";
-    say("open_queue", kr_open_queue(connection, 8));
-    say("watch", kr_watch(connection, 24, 29, 30, -1));
-    say("set_filter", kr_set_filter(connection, 31, 1, &entry));
-    say_bytes("read_queue", kr_read_queue(connection, 32, buffer, sizeof buffer), buffer);
-    say("close_queue", kr_close_queue(connection, 33));
+    say("OPEN_QUEUE 0 [8]", kr_open_queue(connection, 8));
+    say("WATCH 24 [29, 30, -1]", kr_watch(connection, 24, 29, 30, -1));
+    say("SET_FILTER 0 [31, [(1, 2, 3, 4, 5, 6, 7, 8, 9, 10, 11)]]", kr_set_filter(connection, 31, 1, &entry));
+    say_bytes("READ_QUEUE 0 [32, 64]", kr_read_queue(connection, 32, buffer, sizeof buffer), buffer);
+    say("CLOSE_QUEUE 0 [33]", kr_close_queue(connection, 33));
 }
 
 static void ask_what_fits_no_frame(void) {

@@ -1,5 +1,7 @@
 """frames.py ASKS: runs the program ASKS (asks.c) against servers that are made for it, and compares what it sends and
 what it prints with what is wanted. Prints a line for each difference, and last how many were compared."""
+import ast
+import re
 import socket
 import struct
 import subprocess
@@ -72,36 +74,30 @@ def plain(version, tag, name, values):
     return reply(version, tag, 0, body)
 
 
-FILTER = (1, 2, 3, 4, 5, 6, 7, 8, 9, 10, 11)
-ALL_ASKED = [
-    ("HELLO", 0, [1000, 1001, [7, 8, 9]]), ("THREAD", 2, []), ("FORK", 3, []), ("EXEC", 4, []), ("EXIT", 5, []),
-    ("LEAVE", 0, []), ("GET_ID", 6, [-1, 1]), ("JOIN", 7, [b"name"]), ("JOIN", 7, [b""]),
-    ("UPDATE", 8, [11, b"new"]), ("REVOKE", 9, [12]), ("CHOWN", 10, [13, 14, 0xFFFFFFFF]),
-    ("SETPERM", 11, [15, 0x3F010000]), ("DESCRIBE", 12, [16]), ("DESCRIBE", 12, [16]), ("READ", 13, [17]),
-    ("READ", 13, [17]), ("SET_TIMEOUT", 14, [18, 60]), ("INVALIDATE", 15, [19]),
-    ("ADD", 16, [b"user", b"alpha", b"s3", -4]), ("ADD", 16, [b"keyring", b"ring", b"", -4]),
-    ("REQUEST", 17, [b"user", b"alpha", 0]), ("CLEAR", 18, [20]), ("LINK", 19, [21, 22]), ("UNLINK", 20, [23, 24]),
-    ("SEARCH", 21, [-3, b"logon", b"a:b", 25]), ("RESTRICT_KEYRING", 22, [26, b""]), ("MOVE", 23, [27, 28, -2, 1]),
-    ("OPEN_QUEUE", 0, [8]), ("WATCH", 24, [29, 30, -1]), ("SET_FILTER", 0, [31, [FILTER]]),
-    ("READ_QUEUE", 0, [32, 64]), ("CLOSE_QUEUE", 0, [33]),
-]
+def every_ask():
+    """The asks that the program has, as it spells them: their names, contexts and values."""
+    printed, _ = run("all", 2, plain)
+    spelled = (re.match(r"([A-Z_]+) (\d+) (\[.*\]): \d+$", line) for line in printed)
+    return [(it[1], int(it[2]), ast.literal_eval(it[3])) for it in spelled if it]
+
+
+ALL_ASKED = every_ask()
+# What the buffers of asks that answer bytes hold afterwards, in order: the first has too little room, one isn't there.
+BUFFERS = ["untouched", "DESCRIBEd", "READ", None, "READ_QUEUE"]
 
 
 def wanted_lines(version):
-    lines, described = [], 0
-    for name, _, values in ALL_ASKED:
-        form, word = keyretain.ASKS[name].answer, name.lower()
-        length = len(name)
-        lines.append(f"{word}: " + {"number": "77", "serial": "77", "nothing": "0", "bytes": str(length)}[form])
-        if name == "DESCRIBE":
-            described += 1
-            lines.append("describe: " + ("untouched" if described == 1 else "DESCRIBEd"))
-        elif form == "bytes" and lines[-2] != "read: READ":
-            lines.append(f"{word}: {name}")
+    lines, buffers = [], iter(BUFFERS)
+    for name, context, values in ALL_ASKED:
+        what, form = f"{name} {context} {values}", keyretain.ASKS[name].answer
+        lines.append(f"{what}: " + {"number": "77", "serial": "77", "nothing": "0", "bytes": str(len(name))}[form])
+        if form == "bytes" and (buffer := next(buffers)):
+            lines.append(f"{what}: {buffer}")
     return [*lines, "a name of 65536 bytes: EINVAL", "a payload of 65536 bytes: EINVAL", f"version {version}"]
 
 
 def try_all():
+    compare("every ask is made", set(keyretain.ASKS), {name for name, _, _ in ALL_ASKED})
     for asked_version, versions, version in ((1, (1, 2), 1), (2, (1, 2), 2), (0, (1, 2), 2), (0, (1,), 1)):
         printed, asked = run("all", asked_version, plain, versions)
         what = f"every ask, version {asked_version}, a server of {versions}:"
