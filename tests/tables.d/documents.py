@@ -116,19 +116,23 @@ def help_commands(program):
     return {word: usage for word, _, usage in lines}
 
 
-def completion_words():
-    """The commands that the completion in bash knows."""
-    text = text_of("contrib/bash-completion/keyretain")
-    return re.search(r"local commands='(.*?)'", text, re.S)[1].split()
+def completion(program, each, *words):
+    """What a command prints once the completion in bash is there; `$program` is the program, and `$@` are the words."""
+    script = f'source "$1"; program=$2; shift 2; {each}'
+    place = os.path.join(TOP, "contrib/bash-completion/keyretain")
+    return subprocess.run(["bash", "-c", script, "bash", place, program, *words], stdout=subprocess.PIPE, text=True,
+                          timeout=60, check=True).stdout.splitlines()
 
 
-def completion_places(words):
+def completion_words(program):
+    """The commands that it knows."""
+    return completion(program, '_keyretain_commands "$program"')
+
+
+def completion_places(program, words):
     """What it offers behind each command, by the number of the place: `add 1` and so on."""
-    script = 'source "$1"; shift; for one; do echo "$one=$(_keyretain_words ${one% *} ${one#* })"; done'
-    completion = os.path.join(TOP, "contrib/bash-completion/keyretain")
-    told = subprocess.run(["bash", "-c", script, "bash", completion, *words], stdout=subprocess.PIPE, text=True,
-                          timeout=60, check=True).stdout
-    return dict(line.split("=", 1) for line in told.splitlines())
+    told = completion(program, 'for one; do echo "$one=$(_keyretain_words "$program" ${one% *} ${one#* })"; done', *words)
+    return dict(line.split("=", 1) for line in told)
 
 
 # ---- Costs

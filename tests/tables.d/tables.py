@@ -105,16 +105,13 @@ def offered(command, word):
 def try_completion():
     known = [command for command in COMMANDS if command.word not in ("hello", "context", "moment")]
     compare("completion, commands of a single call", sorted(command.word for command in known),
-            sorted(documents.completion_words()))
+            sorted(documents.completion_words(KEYRETAIN)))
     wanted = {f"{command.word} {place}": offered(command, word.strip("[]"))
               for command in known for place, word in enumerate([*command.usage.split(), ""], 1)}
-    compare_all("completion", wanted, documents.completion_places(wanted))
+    compare_all("completion", wanted, documents.completion_places(KEYRETAIN, wanted))
 
 
 def try_help():
-    if not os.access(KEYRETAIN, os.X_OK):
-        print(f"skipped: keyretain --help: no program {KEYRETAIN}")
-        return
     compare_all("keyretain --help", {command.word: command.usage for command in COMMANDS},
                 documents.help_commands(KEYRETAIN))
 
@@ -174,8 +171,13 @@ def try_bench():
             sorted({word_of(name.split(",")[0].split(" ")[0]) for name in named}))
 
 
-for case in (try_definitions, try_format, try_lists, try_pages, try_completion, try_help, try_python, try_bench):
+for case in (try_definitions, try_format, try_lists, try_pages, try_python, try_bench):
     case()
+if os.access(KEYRETAIN, os.X_OK):
+    try_help()
+    try_completion()
+else:
+    print(f"skipped: keyretain --help, and the completion, which reads it: no program {KEYRETAIN}")
 if CODEC:
     try_c()
 else:
