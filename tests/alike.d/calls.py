@@ -40,10 +40,8 @@ def ask(name, _, values):
         answer = call(KEYCTL, number, values[0], room, ROOM)
     elif name == "UPDATE":
         answer = call(KEYCTL, number, values[0], values[1], len(values[1]))
-    elif name == "RESTRICT_KEYRING":
-        answer = call(KEYCTL, number, values[0], None, None)
-    else:
-        answer = call(KEYCTL, number, *values)
+    else:  # what isn't given is NULL
+        answer = call(KEYCTL, number, *[None if it == b"" else it for it in (*values, 0, 0, 0)][:4])
     if answer == -1:
         return name_of_error()
     if name == "DESCRIBE":

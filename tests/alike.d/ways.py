@@ -248,7 +248,6 @@ class Python(OneByOne):
     """The Python client's methods."""
 
     name = "the Python client"
-    METHODS = {"GET_ID": lambda it, key, create: it(key, bool(create)), "MOVE": lambda it, key, source, to, flags: it(key, source, to, bool(flags))}
 
     def connect(self):
         self.client = keyretain.Client(self.daemon.path, timeout=PATIENCE)
@@ -259,10 +258,9 @@ class Python(OneByOne):
             if name == "READ_QUEUE":  # its method gives records
                 return self.client.ask(name, 0, *values)
             method = getattr(self.client, name.lower())
-            bound = (lambda *words: method(context, *words)) if takes_context else method
-            if name == "RESTRICT_KEYRING":
-                return bound(values[0])
-            answer = self.METHODS[name](bound, *values) if name in self.METHODS else bound(*values)
+            if method.__defaults__ and not method.__defaults__[-1] and not values[-1]:
+                values = values[:-1]  # its method has that where it isn't given
+            answer = method(context, *values) if takes_context else method(*values)
             return answer.encode() if name == "DESCRIBE" and isinstance(answer, str) else answer
         except keyretain.Refused as refused:
             return refused.name
