@@ -5,16 +5,11 @@ import socket
 import sys
 import time
 
+sys.path.insert(0, os.path.join(os.path.dirname(os.path.abspath(__file__)), '../clients.d'))
+from compare import compare, conclude
+
 GOOD = b'{"fds":["seccompFd"],"state":{"id":"h"}}'
 SECONDS = 20  # in which a connection must end; the agent's patience is two
-passed = failed = 0
-
-
-def check(name, right):
-    global passed, failed
-    passed, failed = passed + bool(right), failed + (not right)
-    if not right:
-        print('fails:', name)
 
 
 def connect(path):
@@ -49,7 +44,7 @@ def has_ended(client):
 def sends(path, name, data, descriptors=()):
     client = connect(path)
     send(client, data, descriptors)
-    check(name, has_ended(client))
+    compare(name, True, has_ended(client))
 
 
 def main(path, seed):
@@ -68,7 +63,7 @@ def main(path, seed):
     sends(path, 'a text of a mebibyte, and nothing more', b'{"a":"' + b'x' * ((1 << 20) - 7))
     sends(path, 'an object, and then much', GOOD + b'x' * 100000, [null])
     client = connect(path)
-    check('a silent one', has_ended(client))
+    compare('a silent one', True, has_ended(client))
     drips(path)
     descriptors_in_pieces(path, null)
     many_silent(path)
@@ -79,9 +74,8 @@ def main(path, seed):
         client = connect(path)
         send(client, bytes(data[:some.randrange(len(data) + 1)]), [null] * some.randrange(3))
         client.shutdown(socket.SHUT_WR)
-        check('random bytes', has_ended(client))
-    print(f'hostile: {passed} passed, {failed} failed')
-    return failed != 0
+        compare('random bytes', True, has_ended(client))
+    conclude()
 
 
 def drips(path):
@@ -97,7 +91,7 @@ def drips(path):
             continue
         except OSError:
             break
-    check('one that drips', time.monotonic() - began < SECONDS)
+    compare('one that drips', True, time.monotonic() - began < SECONDS)
     client.close()
 
 
@@ -109,14 +103,14 @@ def descriptors_in_pieces(path, null):
             socket.send_fds(client, [bytes([byte])], [null] * 3)
     except OSError:
         pass
-    check('descriptors with each byte', has_ended(client))
+    compare('descriptors with each byte', True, has_ended(client))
 
 
 def many_silent(path):
     """More than the agent looks at together; those that wait get their turn."""
     clients = [connect(path) for _ in range(40)]
-    check('40 silent ones', all([has_ended(client) for client in clients]))
+    compare('40 silent ones', True, all([has_ended(client) for client in clients]))
 
 
 if __name__ == '__main__':
-    sys.exit(main(sys.argv[1], int(sys.argv[2])))
+    main(sys.argv[1], int(sys.argv[2]))

@@ -5,16 +5,11 @@ import subprocess
 import sys
 import tempfile
 
+sys.path.insert(0, os.path.join(os.path.dirname(os.path.abspath(__file__)), '../clients.d'))
+from compare import compare, conclude
+
 CALLS = {'add_key', 'request_key', 'keyctl'}
 INSTALLED = '/usr/share/containers/seccomp.json'
-passed = failed = 0
-
-
-def check(name, right):
-    global passed, failed
-    passed, failed = passed + bool(right), failed + (not right)
-    if not right:
-        print('fails:', name)
 
 
 def run(script, *words):
@@ -40,48 +35,48 @@ def rules_of(profile):
     return rules
 
 
-def compare(script, name, profile):
+def try_profile(script, name, profile):
     got = made(script, profile, '--agent', '/a')
-    check(f'{name}: {got.stderr}', got.returncode == 0)
+    compare(f'{name}: {got.stderr}', 0, got.returncode)
     after = json.loads(got.stdout)
     rules, before = rules_of(after), rules_of(profile)
-    check(f'{name}: the three calls', all(rules.pop(call) == ['{"action": "SCMP_ACT_NOTIFY"}'] for call in CALLS))
-    check(f'{name}: all others', rules == {call: rule for call, rule in before.items() if call not in CALLS})
-    check(f'{name}: the agent', after.pop('listenerPath') == '/a' and after.pop('listenerMetadata') == 'keyretain')
+    handed_over = ['{"action": "SCMP_ACT_NOTIFY"}']
+    compare(f'{name}: the three calls', True, all(rules.pop(call) == handed_over for call in CALLS))
+    compare(f'{name}: all others', {call: rule for call, rule in before.items() if call not in CALLS}, rules)
+    compare(f'{name}: the agent', ('/a', 'keyretain'), (after.pop('listenerPath'), after.pop('listenerMetadata')))
     same = ({key: value for key, value in some.items() if key != 'syscalls'} for some in (after, profile))
-    check(f'{name}: all else', next(same) == next(same))
+    compare(f'{name}: all else', next(same), next(same))
 
 
 def main(script):
-    compare(script, 'no rules', {'defaultAction': 'SCMP_ACT_ALLOW'})
-    compare(script, 'none', {'defaultAction': 'SCMP_ACT_ERRNO', 'defaultErrnoRet': 38, 'syscalls': None, 'x': [1]})
-    compare(script, 'rules', {'syscalls': [
+    try_profile(script, 'no rules', {'defaultAction': 'SCMP_ACT_ALLOW'})
+    try_profile(script, 'none', {'defaultAction': 'SCMP_ACT_ERRNO', 'defaultErrnoRet': 38, 'syscalls': None, 'x': [1]})
+    try_profile(script, 'rules', {'syscalls': [
         {'names': ['read', 'keyctl', 'write'], 'action': 'SCMP_ACT_ALLOW', 'args': []},
         {'names': ['add_key', 'request_key'], 'action': 'SCMP_ACT_ERRNO', 'errnoRet': 1, 'includes': {'caps': ['X']}},
         {'name': 'keyctl', 'action': 'SCMP_ACT_ALLOW'}, {'name': 'open', 'action': 'SCMP_ACT_ALLOW'},
         {'names': ['write'], 'action': 'SCMP_ACT_LOG', 'args': [{'index': 0, 'value': 1, 'op': 'SCMP_CMP_EQ'}]}]})
-    check('an agent that is there', made(script, {'listenerPath': '/other'}).returncode != 0)
-    check('all calls are handed over', made(script, {'defaultAction': 'SCMP_ACT_NOTIFY'}).returncode != 0)
-    check('no JSON', made(script, 'x').returncode != 0)
-    check('no object', made(script, '[]').returncode != 0)
-    check('no file', run(script, '/nowhere').returncode != 0)
+    compare('an agent that is there', True, made(script, {'listenerPath': '/other'}).returncode != 0)
+    compare('all calls are handed over', True, made(script, {'defaultAction': 'SCMP_ACT_NOTIFY'}).returncode != 0)
+    compare('no JSON', True, made(script, 'x').returncode != 0)
+    compare('no object', True, made(script, '[]').returncode != 0)
+    compare('no file', True, run(script, '/nowhere').returncode != 0)
     bundle = json.loads(made(script, {'process': {'args': ['x']}}, '--bundle').stdout)
     filter_of = bundle['linux']['seccomp']
-    check('a bundle without a filter', filter_of['defaultAction'] == 'SCMP_ACT_ALLOW' and
+    compare('a bundle without a filter', True, filter_of['defaultAction'] == 'SCMP_ACT_ALLOW' and
           filter_of['listenerPath'] == '/run/keyretain-agent.sock' and
           set(filter_of['syscalls'][0]['names']) == CALLS and bundle['process'] == {'args': ['x']})
     own = {'linux': {'seccomp': {'defaultAction': 'SCMP_ACT_ERRNO', 'architectures': ['SCMP_ARCH_X86_64']}, 'y': 1}}
     kept = json.loads(made(script, own, '--bundle').stdout)['linux']
-    check('a bundle with one', kept['seccomp']['defaultAction'] == 'SCMP_ACT_ERRNO' and kept['y'] == 1 and
+    compare('a bundle with one', True, kept['seccomp']['defaultAction'] == 'SCMP_ACT_ERRNO' and kept['y'] == 1 and
           kept['seccomp']['architectures'] == ['SCMP_ARCH_X86_64'])
     if os.path.exists(INSTALLED):
         with open(INSTALLED, encoding='utf-8') as file:
-            compare(script, 'the profile that is installed', json.load(file))
+            try_profile(script, 'the profile that is installed', json.load(file))
     else:
         print(f'skipped: the profile of containers-common: no {INSTALLED}')
-    print(f'profiles: {passed} passed, {failed} failed')
-    return failed != 0
+    conclude()
 
 
 if __name__ == '__main__':
-    sys.exit(main(sys.argv[1]))
+    main(sys.argv[1])

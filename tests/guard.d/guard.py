@@ -1233,14 +1233,20 @@ def passed_to_guard(passed, *words):
     return child
 
 
+def listening_at(path, backlog):
+    """A socket that anybody may connect to."""
+    listening = socket.socket(socket.AF_UNIX)
+    listening.bind(path)
+    os.chmod(path, 0o666)
+    listening.listen(backlog)
+    return listening
+
+
 def try_passed_socket():
     who, uid, gid = identity()
     run = Running()
     path = f'{TMP}/passed'
-    listening = socket.socket(socket.AF_UNIX)
-    listening.bind(path)
-    os.chmod(path, 0o666)
-    listening.listen(8)
+    listening = listening_at(path, 8)
     child = passed_to_guard(listening, '--daemon', run.private)
     check('a passed socket', connect_as(path, *who)[0].status(hello(uid, gid)), 0)
     check('a passed socket: another uid', connect_as(path, *who)[0].status(hello(uid + 1, gid)), EPERM)
@@ -1255,10 +1261,7 @@ def try_killed():
     who, uid, gid = identity()
     run = Running()
     path = f'{TMP}/killed'
-    listening = socket.socket(socket.AF_UNIX)
-    listening.bind(path)
-    os.chmod(path, 0o666)
-    listening.listen(64)
+    listening = listening_at(path, 64)
     for _ in range(3):
         child = passed_to_guard(listening, '--daemon', run.private, '--per-uid', '4')
         made = connect_as(path, *who, count=6)

@@ -8,17 +8,11 @@ import select
 import subprocess
 import sys
 
+sys.path.insert(0, os.path.join(os.path.dirname(os.path.abspath(__file__)), "../clients.d"))
+from compare import compare, conclude
+
 public, readme, folders = sys.argv[1:]
 PATIENCE = 20
-compared, different = 0, 0
-
-
-def compare(what, wanted, got):
-    global compared, different
-    compared += 1
-    if wanted != got:
-        different += 1
-        print(f"differs: {what}: wanted {wanted!r}, got {got!r}")
 
 
 class Shell:
@@ -69,5 +63,4 @@ for line in walk.splitlines():
         compare(f"{who[0]}, {line}", line, shells[who[0]].line())
 for name, shell in shells.items():
     compare(f"what else {name} is told", "", shell.end())
-print(f"{compared} compared, {different} different")
-sys.exit(different != 0)
+conclude()
