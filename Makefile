@@ -73,7 +73,9 @@ check-man:
 
 # Runs the tests of keyutils, whose unpacked source is in SUITE, with the system's keyctl(1) on keyretaind; with
 # SYSCALLS=1 under keyretain-session --syscalls.
-check-keyutils: build
+check-keyutils:
+	@[ -n "$(SUITE)" ] || { echo 'make check-keyutils SUITE=DIR: a folder with the source of keyutils' >&2; exit 2; }
+	$(MAKE) build
 	tests/keyutils-suite $(SUITE)
 
 # Puts what `make build` made, the man pages, the systemd units, the bash completion, the Python client, and what `make
@@ -124,6 +126,7 @@ dist:
 	  git -C .. archive --format=tar --prefix="$$name/" HEAD | gzip -n -9 >"$$name.tar.gz" && \
 	  sha256sum "$$name.tar.gz" | tee "$$name.tar.gz.sha256"
 
+# Takes away what `make install` has put there.
 uninstall:
 	$(MAKE) -C clients/c uninstall PREFIX="$(PREFIX)" DESTDIR="$(DESTDIR)"
 	$(MAKE) -C guard uninstall PREFIX="$(PREFIX)" DESTDIR="$(DESTDIR)"
