@@ -142,15 +142,6 @@ static void fit_descriptors(void) {
     if (places < options.connections) options.connections = (unsigned)places;
 }
 
-/* Where one of the three is closed a client's socket would get its number, and what is told there. */
-static void fill_standard_descriptors(void) {
-    int opened;
-    do opened = open("/dev/null", O_RDWR | O_CLOEXEC);
-    while (opened >= 0 && opened <= STDERR_FILENO);
-    if (opened < 0) exit(NO_SOCKET);
-    close(opened);
-}
-
 static void begin(void) {
     prctl(PR_SET_DUMPABLE, 0); /* no core files, and nobody of its uid looks into it */
     find_unknown_ids();
@@ -166,7 +157,7 @@ static void begin(void) {
 int main(int count, char **words) {
     static char line[256]; /* or stdio would ask for a terminal, when that is no longer allowed */
     setvbuf(stdout, line, _IOLBF, sizeof line);
-    fill_standard_descriptors();
+    if (!fill_standard_descriptors()) exit(NO_SOCKET);
     read_options(count, words);
     if (!options.listen_path && !getenv("LISTEN_FDS")) fail_usage();
     begin();

@@ -12,6 +12,13 @@
 
 enum { FIRST_PASSED_DESCRIPTOR = 3 };
 
+bool fill_standard_descriptors(void) {
+    int opened;
+    do opened = open("/dev/null", O_RDWR | O_CLOEXEC);
+    while (opened >= 0 && opened <= STDERR_FILENO);
+    return opened >= 0 && close(opened) == 0;
+}
+
 bool put_address(struct sockaddr_un *address, const char *path) {
     memset(address, 0, sizeof *address);
     address->sun_family = AF_UNIX;

@@ -5,6 +5,10 @@
 #include <stdbool.h>
 #include <sys/un.h>
 
+/* Opens those of the three standard descriptors that are closed: a socket would get their number, and what is told there.
+ * False where that can't be done. */
+bool fill_standard_descriptors(void);
+
 /* False where the path is too long, or empty. */
 bool put_address(struct sockaddr_un *address, const char *path);
 

@@ -5,7 +5,6 @@
  * This process only takes states and starts the others. It is one thread, with one poll(2) at which it waits. */
 #define _GNU_SOURCE
 #include <errno.h>
-#include <fcntl.h>
 #include <getopt.h>
 #include <poll.h>
 #include <signal.h>
@@ -195,15 +194,6 @@ static void run(void) {
 
 /* ---- The start ---- */
 
-/* Where one of the three is closed a listener would get its number, and what is told there. */
-static void fill_standard_descriptors(void) {
-    int opened;
-    do opened = open("/dev/null", O_RDWR | O_CLOEXEC);
-    while (opened >= 0 && opened <= STDERR_FILENO);
-    if (opened < 0) exit(NO_SOCKET);
-    close(opened);
-}
-
 static void watch_signals(void) {
     sigset_t set;
     sigemptyset(&set);
@@ -240,7 +230,7 @@ static void listen_for_runtimes(void) {
 }
 
 int main(int count, char **words) {
-    fill_standard_descriptors();
+    if (!fill_standard_descriptors()) exit(NO_SOCKET);
     read_options(count, words);
     umask(0077);
     if (serve_protect() < 0) fail("protection");
