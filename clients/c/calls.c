@@ -39,25 +39,20 @@ int calls_begin(void) {
 /* ---- Which arguments are pointers ---- */
 
 struct pointers {
-    unsigned types, texts; /* bit 0 for the first argument */
-    int payload, room;     /* the argument that is a buffer to read from or to write to, its length behind it; or -1 */
-    unsigned long most;    /* of the payload: a longer one is refused unread */
+    int call;
+    int payload, room;  /* the argument that is one, or -1 */
+    unsigned long most; /* of the payload: a longer one is refused unread */
 };
 
+static int argument_of(int call, enum key_argument kind) {
+    for (unsigned i = 0; i < ARGUMENTS; i++)
+        if (key_call_argument(call, i) == kind) return (int)i;
+    return -1;
+}
+
 static struct pointers pointers_of(int call) {
-    switch (call) {
-    case CALL_ADD_KEY: return (struct pointers){ 0x1, 0x2, 2, -1, ADD_MAX };
-    case CALL_REQUEST_KEY: return (struct pointers){ 0x1, 0xa, -1, -1, 0 };
-    case KEYCTL_JOIN_SESSION_KEYRING: return (struct pointers){ 0, 0x1, -1, -1, 0 };
-    case KEYCTL_UPDATE: return (struct pointers){ 0, 0, 1, -1, (unsigned long)sysconf(_SC_PAGESIZE) };
-    case KEYCTL_SEARCH:
-    case KEYCTL_RESTRICT_KEYRING: return (struct pointers){ 0x2, 0x4, -1, -1, 0 };
-    case KEYCTL_DESCRIBE:
-    case KEYCTL_READ:
-    case KEYCTL_GET_SECURITY: return (struct pointers){ 0, 0, -1, 1, 0 };
-    case KEYCTL_CAPABILITIES: return (struct pointers){ 0, 0, -1, 0, 0 };
-    default: return (struct pointers){ 0, 0, -1, -1, 0 };
-    }
+    return (struct pointers){ call, argument_of(call, KEY_PAYLOAD), argument_of(call, KEY_ROOM),
+                              call == CALL_ADD_KEY ? ADD_MAX : (unsigned long)sysconf(_SC_PAGESIZE) };
 }
 
 bool call_may_name_thread(int call, const unsigned long given[5]) {
@@ -73,11 +68,11 @@ bool call_may_name_keyring(int call, const unsigned long given[5]) {
 
 static bool copy_texts(const struct pointers *pointers, unsigned long *at) {
     int count = 0;
-    for (int i = 0; i < ARGUMENTS; i++) {
-        bool is_type = pointers->types >> i & 1;
-        if ((!is_type && !(pointers->texts >> i & 1)) || !at[i]) continue;
+    for (unsigned i = 0; i < ARGUMENTS; i++) {
+        enum key_argument kind = key_call_argument(pointers->call, i);
+        if ((kind != KEY_TYPE && kind != KEY_TEXT) || !at[i]) continue;
         char *text = copies->texts[count++];
-        if (!memory_read_text(tracees_memory(), text, at[i], is_type ? TYPE_MAX : TEXT_MAX)) return false;
+        if (!memory_read_text(tracees_memory(), text, at[i], kind == KEY_TYPE ? TYPE_MAX : TEXT_MAX)) return false;
         at[i] = (unsigned long)text;
     }
     return true;

@@ -25,26 +25,37 @@ static int32_t id_of(unsigned long value) { return (int32_t)(uint32_t)value; }
 
 static const char *text_of(unsigned long value) { return (const char *)value; }
 
-/* ---- The ids among the arguments ---- */
+/* ---- The arguments ---- */
 
-/* Which arguments of a call are ids: bit 0 for the first. */
-static unsigned id_arguments(int call) {
-    switch (call) {
-    case KEYCTL_LINK:
-    case KEYCTL_UNLINK: return 0x3;
-    case KEYCTL_SEARCH: return 0x9;
-    case KEYCTL_MOVE: return 0x7;
-    case CALL_ADD_KEY: return 0x10;
-    case CALL_REQUEST_KEY: return 0x4;
-    case KEYCTL_JOIN_SESSION_KEYRING:
-    case KEYCTL_SET_REQKEY_KEYRING:
-    case KEYCTL_SESSION_TO_PARENT:
-    case KEYCTL_CAPABILITIES: return 0;
-    default: return 0x1;
-    }
+/* Of the calls that don't begin with an id, or have more than that and numbers. */
+static const struct {
+    int call;
+    enum key_argument at[ARGUMENTS];
+} forms[] = {
+    { CALL_ADD_KEY, { KEY_TYPE, KEY_TEXT, KEY_PAYLOAD, KEY_NUMBER, KEY_ID } },
+    { CALL_REQUEST_KEY, { KEY_TYPE, KEY_TEXT, KEY_ID, KEY_TEXT } },
+    { KEYCTL_JOIN_SESSION_KEYRING, { KEY_TEXT } },
+    { KEYCTL_UPDATE, { KEY_ID, KEY_PAYLOAD } },
+    { KEYCTL_DESCRIBE, { KEY_ID, KEY_ROOM } },
+    { KEYCTL_LINK, { KEY_ID, KEY_ID } },
+    { KEYCTL_UNLINK, { KEY_ID, KEY_ID } },
+    { KEYCTL_SEARCH, { KEY_ID, KEY_TYPE, KEY_TEXT, KEY_ID } },
+    { KEYCTL_READ, { KEY_ID, KEY_ROOM } },
+    { KEYCTL_SET_REQKEY_KEYRING, { KEY_NUMBER } },
+    { KEYCTL_GET_SECURITY, { KEY_ID, KEY_ROOM } },
+    { KEYCTL_SESSION_TO_PARENT, { KEY_NUMBER } },
+    { KEYCTL_RESTRICT_KEYRING, { KEY_ID, KEY_TYPE, KEY_TEXT } },
+    { KEYCTL_MOVE, { KEY_ID, KEY_ID, KEY_ID } },
+    { KEYCTL_CAPABILITIES, { KEY_ROOM } },
+};
+
+enum key_argument key_call_argument(int call, unsigned argument) {
+    for (size_t i = 0; i < sizeof forms / sizeof *forms; i++)
+        if (forms[i].call == call) return forms[i].at[argument];
+    return argument == 0 ? KEY_ID : KEY_NUMBER;
 }
 
-static bool is_id(int call, unsigned argument) { return id_arguments(call) >> argument & 1; }
+static bool is_id(int call, unsigned argument) { return key_call_argument(call, argument) == KEY_ID; }
 
 bool key_call_names(int call, const unsigned long at[ARGUMENTS], int32_t id) {
     for (unsigned i = 0; i < ARGUMENTS; i++)

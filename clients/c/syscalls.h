@@ -13,6 +13,10 @@ struct arguments {
     unsigned long at[5];
 };
 
+/* What an argument of a call is. A payload is read and a room is written to; the next argument is its length. */
+enum key_argument { KEY_NUMBER, KEY_ID, KEY_TYPE, KEY_TEXT, KEY_PAYLOAD, KEY_ROOM };
+enum key_argument key_call_argument(int call, unsigned argument);
+
 /* Whether an argument that is an id is this one. */
 bool key_call_names(int call, const unsigned long at[5], int32_t id);
 
