@@ -342,6 +342,7 @@ fn forget(keys: &PlacedKeys, linkers: &mut Linkers, ring: u32, serial: &Option<S
 }
 
 /// The key at a serial has come with its links.
+#[inline(always)]
 fn note_links(keys: &PlacedKeys, linkers: &mut Linkers, ring: u32) {
     let Some(key) = keys.get(ring) else {
         return;
@@ -362,31 +363,31 @@ fn forget_key(keys: &PlacedKeys, linkers: &mut Linkers, serial: u32) {
     }
 }
 
-/// What a change is about to take out of the key at a serial is linked no more. Where no key has more than two links, the
-/// hints stay until another keyring wants their room.
+/// What a change is about to take out of the key at a serial is linked no more.
+#[inline(always)]
 fn forget_taken(keys: &PlacedKeys, linkers: &mut Linkers, ring: u32, change: &Change) {
-    if !linkers.has_far() {
-        return;
-    }
-    match (change, keys.get(ring)) {
-        (Change::Revoked | Change::Cleared, Some(key)) => {
-            forget_each(keys, linkers, ring, &key.content);
-        }
+    match change {
+        Change::Revoked | Change::Cleared => forget_links(keys, linkers, ring),
         _ => {}
     }
 }
 
-/// A key has gone, and what it linked is linked no more.
-fn forget_gone(keys: &PlacedKeys, linkers: &mut Linkers, ring: u32, key: &Key) {
-    linkers.cut(keys.capacity());
+/// What the key at a serial links is about to go out of it. Where no key has more than two links, the hints stay: each
+/// of them costs one look.
+#[inline(always)]
+fn forget_links(keys: &PlacedKeys, linkers: &mut Linkers, ring: u32) {
     if linkers.has_far() {
-        forget_each(keys, linkers, ring, &key.content);
+        forget_each(keys, linkers, ring);
     }
 }
 
-/// What a keyring links it links no more.
-fn forget_each(keys: &PlacedKeys, linkers: &mut Linkers, ring: u32, content: &Content) {
-    if let Content::Links(links) = content {
+/// What the key at a serial links it links no more.
+#[inline(never)]
+fn forget_each(keys: &PlacedKeys, linkers: &mut Linkers, ring: u32) {
+    let Some(key) = keys.get(ring) else {
+        return;
+    };
+    if let Content::Links(links) = &key.content {
         for place in 0..links.len() {
             forget(keys, linkers, ring, &links.serial_at(place));
         }
@@ -469,8 +470,9 @@ fn take_out(
     ensures keys { by_place keys.new ≡ without (by_place keys.old) serial }
     ensures gone { at (by_place keys.new) serial ≡ None }
 {
+    forget_links(keys, linkers, serial);
     let key = keys.remove(serial)?;
     sessions.unlist(serial, &key);
-    forget_gone(keys, linkers, serial, &key);
+    linkers.cut(keys.capacity());
     Some(key)
 }

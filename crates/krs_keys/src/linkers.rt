@@ -90,25 +90,39 @@ impl Linkers {
     }
 
     /// A keyring links the key of a serial, at a place.
+    #[inline(always)]
     pub(crate) fn add(&mut self, place: usize, serial: u32, ring: u32) {
         let is_near = match self.near.get_mut(place) {
             Some(near) => near.take_in(ring),
             None => false,
         };
         if !is_near {
-            let _ = self.far.insert((serial, ring));
+            self.add_far(serial, ring);
         }
     }
 
+    /// The same of a further keyring, whose hint is left out where it finds no memory.
+    #[inline(never)]
+    fn add_far(&mut self, serial: u32, ring: u32) {
+        let _ = self.far.insert((serial, ring));
+    }
+
     /// A keyring links the key of a serial, at a place, no more.
+    #[inline(always)]
     pub(crate) fn remove(&mut self, place: usize, serial: u32, ring: u32) {
         let was_near = match self.near.get_mut(place) {
             Some(near) => near.leave_out(ring),
             None => false,
         };
         if !was_near && self.has_far() {
-            let _ = self.far.remove(&(serial, ring));
+            self.remove_far(serial, ring);
         }
+    }
+
+    /// The same of a further keyring.
+    #[inline(never)]
+    fn remove_far(&mut self, serial: u32, ring: u32) {
+        let _ = self.far.remove(&(serial, ring));
     }
 
     /// No keyring links the key of a serial, at a place, any more.
