@@ -15,6 +15,9 @@ pub(crate) struct Bells {
     // How many threads sleep, or are about to, and weren't rung. It is raised before a bell says so and lowered after, so
     // it is never too low.
     sleepers: AtomicU64,
+
+    // How many threads have posted a call, and wait until it is answered.
+    waiting: AtomicU64,
     bells: Vec<AtomicU64>,
 }
 
@@ -27,6 +30,7 @@ impl Bells {
         }
         Ok(Bells {
             sleepers: AtomicU64::new(0),
+            waiting: AtomicU64::new(0),
             bells,
         })
     }
@@ -37,7 +41,23 @@ impl Bells {
         self.sleepers.load(Ordering::SeqCst) > 0
     }
 
-    /// Whether the lane's thread is one.
+    /// Whether any thread waits, asleep or not.
+    #[inline]
+    pub(crate) fn is_any_waiting(&self) -> bool {
+        self.waiting.load(Ordering::SeqCst) > 0
+    }
+
+    /// From here on one thread more waits.
+    pub(crate) fn begin_to_wait(&self) {
+        self.waiting.fetch_add(1, Ordering::SeqCst);
+    }
+
+    /// It waits no more.
+    pub(crate) fn stop_waiting(&self) {
+        self.waiting.fetch_sub(1, Ordering::SeqCst);
+    }
+
+    /// Whether the lane's thread is to be rung.
     pub(crate) fn is_asleep(&self, lane: u32) -> bool {
         match self.bells.get(lane as usize) {
             Some(bell) => bell.load(Ordering::SeqCst) == ASLEEP,
@@ -45,7 +65,7 @@ impl Bells {
         }
     }
 
-    /// From here on the lane's thread is one.
+    /// From here on the lane's thread is to be rung.
     pub(crate) fn lie_down(&self, lane: u32) {
         if let Some(bell) = self.bells.get(lane as usize) {
             self.sleepers.fetch_add(1, Ordering::SeqCst);
@@ -60,7 +80,7 @@ impl Bells {
         }
     }
 
-    /// From here on the lane's thread is none, if it still was. Tells whether it was.
+    /// From here on it isn't, if it still was. Tells whether it was.
     pub(crate) fn get_up(&self, lane: u32) -> bool {
         match self.bells.get(lane as usize) {
             Some(bell) => self.rouse(bell),

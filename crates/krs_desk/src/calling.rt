@@ -61,6 +61,21 @@ impl Desk {
         unreachable!()
     }
 
+    // The same, and while it waits no turn is kept.
+    fn call_in_line<R: Wait>(&self, rt: &R, seat: &mut Seat, moment: u64, ask: Ask) -> Reply
+        requires table { seat.old.table ≡ self.now }
+        requires idle { seat.old.part.flight ≡ None }
+        ensures table { seat.new.table ≡ seat.old.table }
+        ensures idle { seat.new.part.flight ≡ None }
+        ensures added { Adds seat.old (event_of seat.old.part.lane moment ask result) seat.new }
+        ensures looked { HasLooked self.now seat.old seat.new }
+    {
+        self.bells.begin_to_wait();
+        let reply = self.call_by_post(rt, seat, moment, ask);
+        self.bells.stop_waiting();
+        reply
+    }
+
     // Pauses and tries again to have the turn, and at last posts the call. Apart from `call`, which moves the ask less
     // often so, and clears no room for it.
     #[inline(never)]
@@ -90,7 +105,7 @@ impl Desk {
                 };
             }
         }
-        self.call_by_post(rt, seat, moment, ask)
+        self.call_in_line(rt, seat, moment, ask)
     }
 
     // Asks the store in a turn that is taken for it, and keeps that where more calls follow.

@@ -84,13 +84,13 @@ impl Desk {
         self.give_back(&mut seat.served, &mut seat.token);
     }
 
-    // Whether a turn that has served so many calls of its seat is kept, where more follow. It isn't while somebody sleeps:
-    // who waits for the turn, or whose call was answered in it, is woken as it is given back.
+    // Whether a turn that has served so many calls of its seat is kept, where more follow. It isn't while somebody waits
+    // with a call that was posted: the next turn begins with that, and who sleeps is woken as this one is given back.
     #[inline]
     pub(crate) fn may_keep(&self, more: bool, served: u32) -> bool
         ensures { result ≡ true → served < 63 }
     {
-        more && served < MOST_KEPT && !self.bells.is_any_asleep()
+        more && served < MOST_KEPT && !self.bells.is_any_waiting()
     }
 
     // Asks the store in the turn that the seat has kept. The ask comes back where it has none.
