@@ -77,9 +77,9 @@ HasTurn p = (log : List Event) × (p.holding ≡ Some log)
 
 -- By which step on which word each is made, and what was found there: nothing at a store. The turn is taken by a try
 -- that finds it free, and missed by one that finds it out, at another token; who gives it back, has a call of its own
--- served, finds, takes up or answers a call, or looks at a cell, has the turn. A call is posted in the lane's own cell, and taken up where one is
--- posted; a reply is collected where the cell was answered, by who hasn't the turn, and there alone a step may find
--- something and tell nothing of it. What was seen begins what is seen then.
+-- served, finds, takes up or answers a call, or looks at a cell, has the turn. A call is posted in the lane's own cell,
+-- and taken up where one is posted; a reply is collected where the cell was answered, by who hasn't the turn, and there
+-- alone a step may find something and tell nothing of it. What was seen begins what is seen then.
 abbrev pub IsMadeAt : Step Place → Option ℕ → Part → Move → Type 0
 IsMadeAt made found p stays =
     (made.word ≡ cell_of p.lane) × ((n : ℕ) × (found ≡ Some n) × (n ≢ ANSWERED)) × (p.holding ≡ None)

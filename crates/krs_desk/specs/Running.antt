@@ -137,8 +137,8 @@ IsNamed opening s new now later id p (looks lane finished) =
     IsOutAt opening s now id × IsUnposted (now.cell lane)
 
 -- Each step of a lane's token is the machine's step of its name (krs_world): so it finds the turn and the cells, and so
--- it leaves them; and the history has a call more that is put, served or answered, and else is what it was. Who takes the turn
--- holds it whole.
+-- it leaves them; and the history has a call more that is put, served or answered, and else is what it was. Who takes
+-- the turn holds it whole.
 abbrev pub StepsAsNamed : State → Type 0
 StepsAsNamed opening =
     (s new : Board) (p : Part) (m : Move) → (now : InOneOrder opening s) → (later : InOneOrder opening new)

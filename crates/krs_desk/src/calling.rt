@@ -134,8 +134,9 @@ impl Desk {
         }
     }
 
-    /// As `call`. Where more calls of this seat follow at once, it may keep the turn for them, until a call with no more,
-    /// `rest`, or another function of the seat. Nobody else is served while it has the turn.
+    /// As `call`. Where more calls of this seat follow at once, it may keep the turn for them, until a call with no
+    /// more, `rest`, or another function of the seat. Nobody else is served while it has the turn, so the seat must not
+    /// be left with it.
     pub fn call_on<R: Wait>(
         &self,
         rt: &R,

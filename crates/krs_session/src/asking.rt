@@ -68,9 +68,13 @@ fn is_long(op: &Op) -> bool {
             | Op::Move { .. }
             | Op::Search { .. }
             | Op::Request { .. }
+            | Op::Revoke { .. }
             | Op::Invalidate { .. }
             | Op::Clear { .. }
             | Op::Join { .. }
+            | Op::CloseQueue { .. }
+            | Op::Exec
+            | Op::Exit
             | Op::Leave
     )
 }

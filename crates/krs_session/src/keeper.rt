@@ -26,8 +26,8 @@ pub trait Keeper<S, R> {
         ensures lane { lane_of seat.new ≡ lane_of seat.old }
         ensures led { leads seat.old (event_of (lane_of seat.old) moment ask result ∷ []) seat.new };
 
-    /// As `call`. Where more calls of the seat follow at once, all others may have to wait for them, until a call with no
-    /// more, or `rest`.
+    /// As `call`. Where more calls of the seat follow at once, all others may have to wait for them, until a call with
+    /// no more, or `rest`.
     fn call_on(&self, rt: &R, seat: &mut S, moment: u64, ask: Ask, more: bool) -> Reply
         requires { ready self.now seat.old }
         ensures ready { ready self.now seat.new }

@@ -64,9 +64,9 @@ impl World {
     }
 
     /// One step: true where it was made, false where it isn't possible. A put serves its ask by the store, and so do a
-    /// serve and an answer; the reply is what the store answers, ENOMEM too. ENOSPC where the step would raise a number that is
-    /// the greatest already; ENOMEM where there is no memory for the event of a call, or to keep that a lane's cell was
-    /// looked at.
+    /// serve and an answer; the reply is what the store answers, ENOMEM too. ENOSPC where the step would raise a number
+    /// that is the greatest already; ENOMEM where there is no memory for the event of a call, or to keep that a lane's
+    /// cell was looked at.
     pub fn step(&mut self, step: WorldStep) -> Result<bool, Errno>
         ensures moved { IfOk result (λ done. MovesBy self.old step.lane step.kind done self.new) }
         ensures refused { IfErr result (λ error. RefusedBy self.old step.lane step.kind error self.new) }
