@@ -13,6 +13,7 @@
 #include <stdio.h>
 #include <stdlib.h>
 #include <string.h>
+#include <sys/prctl.h>
 #include <sys/stat.h>
 #include <sys/syscall.h>
 #include <sys/wait.h>
@@ -151,6 +152,10 @@ static bool take_ids(const struct launch *launch) {
            syscall(SYS_setresgid, gid, gid, gid) == 0 && syscall(SYS_setresuid, uid, uid, uid) == 0;
 }
 
+/* As its ids have changed nobody but root looks at it. But where fs.suid_dumpable is 2, as collectors of crashes set it, a
+ * signal of the user's would have all of it written to a file. */
+static bool keep_no_core(void) { return prctl(PR_SET_DUMPABLE, 0, 0, 0, 0) == 0; }
+
 /* All as at first, and none held back. */
 static void reset_signals(void) {
     const struct sigaction standard = { .sa_handler = SIG_DFL };
@@ -165,7 +170,7 @@ _Noreturn static void become_keeper(const struct launch *launch) {
     const struct descriptors *all = &launch->all;
     bool is_ready = dup2(all->life[READING], STDIN_FILENO) >= 0 && dup2(all->answers[WRITING], STDOUT_FILENO) >= 0 &&
                     dup2(all->nothing, STDERR_FILENO) >= 0 && close_range(FIRST_FREE, ~0U, 0) == 0 &&
-                    chdir("/") == 0 && take_ids(launch);
+                    chdir("/") == 0 && take_ids(launch) && keep_no_core();
     reset_signals();
     if (is_ready) execve(KEYRETAIN_KEEPER, launch->words, environment);
     _exit(1);

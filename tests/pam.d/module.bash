@@ -325,6 +325,21 @@ try_given() {
   is 'what a keeper is given' "$(given "$(id -u "$user")" "$(id -g "$user")" "$groups")" "$(report)"
 }
 
+# As long as the application's memory runs as the user nobody's signal reaches it, and none has it written to a file.
+try_no_core() {
+  local log_in=(strace -f -qq -e trace=setresuid,prctl,rt_sigprocmask,execve -o "$dir/trace" "$dir/login") pid
+  if ! strace -f -qq -o /dev/null true 2>/dev/null; then
+    skipped 'what is called before a keeper is executed: no strace(1)'
+    return
+  fi
+  ASAN_OPTIONS=detect_leaks=0 logs_in one open close >/dev/null
+  pid=$(sed -n 's/^\([0-9]*\) .*execve("[^"]*keyretain-keeper".*/\1/p' "$dir/trace")
+  is 'what is called before a keeper is executed' \
+    'setresuid prctl(PR_SET_DUMPABLE, SUID_DUMP_DISABLE rt_sigprocmask(SIG_SETMASK, [] execve' \
+    "$(sed -n "s/^$pid  *//p" "$dir/trace" | sed -n -e 's/^\(setresuid\).*/\1/p' -e 's/^\(prctl([^)]*\)).*/\1/p' \
+      -e 's/^\(rt_sigprocmask([^]]*]\).*/\1/p' -e 's/^\(execve\).*/\1/p' -e '/^execve/q' | paste -sd' ')"
+}
+
 # ---- Applications of all kinds
 
 try_applications() {
@@ -413,6 +428,7 @@ try_module() {
   try_revoke
   try_environment
   try_given
+  try_no_core
   try_applications
   try_killed
   try_answers
