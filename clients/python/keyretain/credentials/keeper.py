@@ -14,7 +14,7 @@ from contextlib import contextmanager
 from ..places import environment
 
 KEEPER = "/usr/local/libexec/keyretain/keyretain-keeper"  # `make install` writes its folder here
-PATIENCE = 10.0
+PATIENCE, PAUSE = 10.0, 0.001
 LONGEST_ANSWER = 8192
 
 
@@ -82,10 +82,12 @@ def _check(line: bytes) -> None:
         raise OSError(errno.ECHILD, "it ended without a word", KEEPER)
 
 
-def _reap(child: int, options: int = 0) -> None:
-    """The process that was started goes to the background at once: what stays is another's child."""
+def _reap(child: int, end: float) -> None:
+    """The process that was started goes to the background at once: what stays is another's child. Its user, whose effective
+    uid a program of root's may have taken, may have stopped it: then it is left at this moment."""
     try:
-        os.waitpid(child, options)
+        while os.waitpid(child, os.WNOHANG)[0] == 0 and time.monotonic() < end:
+            time.sleep(PAUSE)
     except ChildProcessError:
         pass  # a program may reap all of its children by itself
 
@@ -94,14 +96,15 @@ def _reap(child: int, options: int = 0) -> None:
 def holding(ring: str, socket: str) -> Iterator[None]:
     """Within this block a keeper holds the keyring, and behind it as long as it has keys. OSError where none can."""
     life, answer = _Pipe(), _Pipe()
+    end = time.monotonic() + PATIENCE
     try:
         child = _spawn([os.path.basename(KEEPER), "--hold", ring, "--socket", socket], life, answer)
         try:
-            line = _read_line(answer.reading, time.monotonic() + PATIENCE)
+            line = _read_line(answer.reading, end)
         except BaseException:
-            _reap(child, os.WNOHANG)  # it ends by itself, as nobody waits any more
+            _reap(child, 0.0)  # it ends by itself, as nobody waits any more
             raise
-        _reap(child)
+        _reap(child, end)
         _check(line)
         yield
     finally:
