@@ -541,8 +541,9 @@ static int join_for_thread(struct caller *caller, struct kr_session *session) {
 int32_t caller_join(struct caller *caller, const char *name) {
     struct kr_session *session = calloc(1, sizeof *session);
     if (!session) return -1;
-    bool is_joined = kr_name_session(session, name) == 0 &&
-                     (is_first_thread() ? become_session(caller, session) : join_for_thread(caller, session)) == 0;
+    bool is_first = is_first_thread(), is_named = (is_first && !name) || kr_name_session(session, name) == 0;
+    bool is_joined =
+        is_named && (is_first ? become_session(caller, session) : join_for_thread(caller, session)) == 0;
     if (is_joined) return session->serial;
     free(session);
     return -1;

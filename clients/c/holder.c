@@ -126,16 +126,22 @@ static int read_line(int from, char *text, size_t room, int64_t deadline) {
     }
 }
 
+/* Takes SERIAL:NAME, which a line of the answer says. */
+static bool take_session(struct kr_session *session, char *text) {
+    struct kr_session said;
+    text[strcspn(text, "\n")] = '\0';
+    bool is_one = kr_parse_session(&said, text) && said.serial > 0;
+    if (is_one) *session = said;
+    return is_one;
+}
+
 /* `SERIAL:NAME`, or `refused ERROR WHAT`, or `failed ERROR WHAT`. */
 static int read_answer(int from, struct kr_session *session, int64_t deadline, enum kr_refusal *why) {
     char text[KR_SESSION_NAME_ROOM + KR_PATH_ROOM + 64];
-    int error, serial;
+    int error;
     *why = KR_NO_KEEPER;
     if (read_line(from, text, sizeof text, deadline) < 0) return -1;
-    if (sscanf(text, "%d:", &serial) == 1 && serial > 0) {
-        session->serial = serial;
-        return 0;
-    }
+    if (take_session(session, text)) return 0;
     *why = strncmp(text, "refused ", 8) == 0 ? KR_REFUSED : KR_NO_DAEMON;
     errno = sscanf(text, "%*s %d", &error) == 1 && error > 0 ? error : EPROTO;
     return -1;
@@ -175,8 +181,10 @@ static int start(struct pipes *pipes, char *const words[], struct kr_session *se
 int kr_start_keeper(struct kr_holder *holder, struct kr_session *session, const char *socket, bool links_user,
                     int64_t deadline, enum kr_refusal *why) {
     struct pipes pipes = { { -1, -1 }, { -1, -1 } };
-    char *words[] = { "keyretain-keeper", "--deaf", "--name", session->name, "--socket", (char *)socket,
-                      links_user ? NULL : "--no-link", NULL };
+    char *words[8] = { "keyretain-keeper", "--deaf", "--socket", (char *)socket };
+    int count = 4;
+    if (!links_user) words[count++] = "--no-link";
+    if (*session->name) words[count++] = "--name", words[count++] = session->name;
     int result = start(&pipes, words, session, deadline, why);
     if (result == 0) result = keep(holder, pipes.life[WRITING]);
     close_pipes(&pipes);

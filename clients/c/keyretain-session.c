@@ -137,9 +137,9 @@ static void hide_library(void) {
 static void begin(const char *name, const char *path, struct kr_session *session) {
     struct kr_holder holder;
     enum kr_refusal why;
-    if (kr_name_session(session, name) < 0) fail(REFUSED, name ? "the name" : "no random name");
+    if (name && kr_name_session(session, name) < 0) fail(REFUSED, "the name");
     if (kr_start_keeper(&holder, session, path, true, kr_now() + PATIENCE_MILLISECONDS, &why) == 0) return;
-    if (why == KR_REFUSED) fail(REFUSED, session->name);
+    if (why == KR_REFUSED) fail(REFUSED, name ? name : "the session");
     fail(NO_CONNECTION, why == KR_NO_KEEPER && errno != ETIMEDOUT ? "keyretain-keeper" : path);
 }
 

@@ -199,6 +199,8 @@ try_inherited() {
   is 'a session is entered by its variable' yes "$(in_session -- sh -c '
     a=$('"$dir"'/acts session); b=$("$0" --join -- '"$dir"'/acts session); [ "$a" = "$b" ] && echo yes' \
     "$dir/c/keyretain-session")"
+  is "what everybody can read of the keeper of a session without a name" "keyretain-keeper --deaf --socket $path " \
+    "$(in_session -- sh -c 'tr "\0" " " </proc/"$(pgrep -n -f "^keyretain-keeper .*$1")"/cmdline' sh "$path")"
   is 'a session that nobody holds is not entered' 1 \
     "$(KEYRETAIN_SESSION=5:nobody in_session --join -- true 2>/dev/null; echo $?)"
   is 'nor is one that no variable names' 1 "$(in_session --join -- true 2>/dev/null; echo $?)"
