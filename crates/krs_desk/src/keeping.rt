@@ -88,7 +88,7 @@ impl Desk {
     // with a call that was posted: the next turn begins with that, and who sleeps is woken as this one is given back.
     #[inline]
     pub(crate) fn may_keep(&self, more: bool, served: u32) -> bool
-        ensures { result ≡ true → served < 63 }
+        ensures { result ≡ true → (more ≡ true) × (served < 63) }
     {
         more && served < MOST_KEPT && !self.bells.is_any_waiting()
     }
