@@ -327,7 +327,7 @@ try_given() {
 
 # As long as the application's memory runs as the user nobody's signal reaches it, and none has it written to a file.
 try_no_core() {
-  local log_in=(strace -f -qq -e trace=setresuid,prctl,rt_sigprocmask,execve -o "$dir/trace" "$dir/login") pid
+  local log_in=(strace -f -qq -e 'trace=setresuid,prctl,rt_sigprocmask,execve' -o "$dir/trace" "$dir/login") pid
   if ! strace -f -qq -o /dev/null true 2>/dev/null; then
     skipped 'what is called before a keeper is executed: no strace(1)'
     return
