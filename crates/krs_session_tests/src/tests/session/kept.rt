@@ -97,11 +97,14 @@ struct Way<'a> {
 /// How a session ended, and how often its neighbours found the turn out: at reads, and at writes and behind its end.
 fn look_on<R: Wait>(rt: &R, alloc: Global, way: &Way<'_>) -> Result<(Ended, u32, u32), Fail> {
     let (desk, mut seat, second, third) = three_seats(alloc, Store::new(alloc)).ok_or("no desk")?;
+    let mut stream = Vec::new(alloc);
+    stream.extend_from_slice(way.stream)?;
+    let shared = &desk;
     let (most, then) = way.reads;
     let mut reader = Beside {
-        end: reader_of(way.stream, most, most, then),
+        end: reader_of(&stream, most, most, then),
         neighbour: Neighbour {
-            desk: &desk,
+            desk: shared,
             seat: second,
             misses: 0,
         },
@@ -110,7 +113,7 @@ fn look_on<R: Wait>(rt: &R, alloc: Global, way: &Way<'_>) -> Result<(Ended, u32,
     let mut writer = Beside {
         end: writer_of(alloc, 1_000_000, room, then),
         neighbour: Neighbour {
-            desk: &desk,
+            desk: shared,
             seat: third,
             misses: 0,
         },
@@ -120,7 +123,7 @@ fn look_on<R: Wait>(rt: &R, alloc: Global, way: &Way<'_>) -> Result<(Ended, u32,
         alloc,
         &mut reader,
         &mut writer,
-        &desk,
+        shared,
         &mut seat,
         &mut Still,
         &OpenGate,
