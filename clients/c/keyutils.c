@@ -1,4 +1,5 @@
 /* keyutils.c: the functions of libkeyutils 1.6.3. */
+#define _GNU_SOURCE
 #include "keyutils.h"
 
 #include <errno.h>
@@ -165,6 +166,7 @@ int keyctl_dh_compute_alloc(key_serial_t private_key, key_serial_t prime, key_se
     if (!bytes) return -1;
     const long length = keyctl_dh_compute(private_key, prime, base, bytes, (size_t)room);
     if (length < 0 || length > room) {
+        explicit_bzero(bytes, (size_t)room);
         free(bytes);
         return length < 0 ? -1 : (int)fail(EOVERFLOW);
     }
