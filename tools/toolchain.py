@@ -25,8 +25,10 @@ sys.dont_write_bytecode = True
 
 # A check reads all checked modules of the libraries below it, also their proofs. It reads none of what is below these, whose
 # libraries hold statements alone: what stands above krs_store is checked in half the time, and in half the memory. The
-# wrong bodies of such a crate are tried over no proof of it, and so take as long as that proof.
+# wrong bodies of such a crate are tried over no proof of it, and so take as long as that proof. It has one job: each job
+# reads all that is below, and four took three times as much of a processor, and longer by the clock.
 CUT = ("krs_store",)
+ONE_JOB = ["--jobs", "1"]
 
 
 class Unknown(Exception):
@@ -86,7 +88,7 @@ def keep_proofs(rt):
 
     def build_with_proofs(crate, flags, anew):
         crate.cuts_libraries = is_cut(crate)
-        return build(crate, flags, anew)
+        return build(crate, ONE_JOB if is_cut(crate) else flags, anew)
 
     rt.Crate.build_rlib = build_with_proofs
 
@@ -99,7 +101,7 @@ def build_library(rt, crate, flags):
     if hasattr(rt, "take_rlib") and rt.take_rlib(crate):
         return 0
     stamp = crate.stamp()
-    status = build_statements(rt, crate, flags)
+    status = build_statements(rt, crate)
     if not status and stamp == crate.stamp():
         with open(f"{crate.folder}/out/rlib/stamp", "w", encoding="utf-8") as file:
             file.write(stamp)
@@ -108,12 +110,12 @@ def build_library(rt, crate, flags):
     return status
 
 
-def build_statements(rt, crate, flags):
+def build_statements(rt, crate):
     """Proves a crate from nothing, over libraries that may rest on work that was kept, and builds a library of its
     statements. Returns the status."""
     shutil.rmtree(f"{crate.folder}/out/rlib", ignore_errors=True)
     os.makedirs(f"{crate.folder}/out/rlib")
-    words = [*crate.words(flags, keeps=False), "--statements", "-o", crate.rlib]
+    words = [*crate.words(ONE_JOB, keeps=False), "--statements", "-o", crate.rlib]
     return crate.call(rt.rtlib.RATTLE, "build", *words)
 
 
