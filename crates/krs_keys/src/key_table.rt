@@ -14,10 +14,11 @@ ghost use Rattle.krs_keys.specs.Keys.{joinable_in};
 ghost use Rattle.krs_keys.specs.Places.{by_place, keyrings_in, ArePlaced};
 ghost use Rattle.krs_keys.specs.Sessions.{AreSessions};
 
+use crate::hints::{forget, forget_key, forget_links, forget_taken, note, note_links};
 use crate::linkers::Linkers;
 use crate::placed::PlacedKeys;
 use crate::sessions::Sessions;
-use crate::{Change, Content, Key};
+use crate::{Change, Key};
 use krs_links::{HashedName, Seed};
 use krs_types::{Caller, Errno, Serial};
 use std::alloc::Global;
@@ -29,10 +30,10 @@ pub const LAST_SERIAL: u32 = 2_147_483_647;
 /// The keys by serial. Serials rise by one, and none is given twice.
 #[derive(Drop)]
 pub struct KeyTable {
-    keys: PlacedKeys,
+    pub(crate) keys: PlacedKeys,
     sessions: Sessions,
     /// Where to look for the links of a key. No contract speaks of it.
-    linkers: Linkers,
+    pub(crate) linkers: Linkers,
     next: u32,
 }
 
@@ -263,25 +264,6 @@ impl KeyTable {
         linked
     }
 
-    /// Two keyrings that may link a key. They are hints: no clause speaks of them, and the links may be gone.
-    pub fn near_linkers(&self, serial: Serial) -> (Option<Serial>, Option<Serial>) {
-        match self.keys.place_of(serial.number()) {
-            Some(place) => {
-                let (first, second) = self.linkers.near(place);
-                (ring_at(first), ring_at(second))
-            }
-            None => (None, None),
-        }
-    }
-
-    /// A further keyring that links a key, by another such hint.
-    pub fn far_linker(&self, serial: Serial) -> Option<Serial> {
-        match self.linkers.far(serial.number()) {
-            Some(ring) => ring_at(ring),
-            None => None,
-        }
-    }
-
     /// Takes a key out of all keyrings, from each by the key's own name. It takes no memory. keyctl(2),
     /// KEYCTL_INVALIDATE.
     pub fn unlink_all(&mut self, serial: Serial)
@@ -312,85 +294,6 @@ impl KeyTable {
             &mut self.linkers,
             serial.number(),
         )
-    }
-}
-
-/// The keyring of a serial, which 0 is of none.
-fn ring_at(ring: u32) -> Option<Serial> {
-    if ring == 0 {
-        return None;
-    }
-    Some(Serial::new(ring))
-}
-
-/// A keyring links a key from now on.
-#[inline(always)]
-fn note(keys: &PlacedKeys, linkers: &mut Linkers, ring: u32, serial: Serial) {
-    if let Some(place) = keys.place_of(serial.number()) {
-        linkers.add(place, serial.number(), ring);
-    }
-}
-
-/// A keyring links a key no more, if that is one.
-#[inline(always)]
-fn forget(keys: &PlacedKeys, linkers: &mut Linkers, ring: u32, serial: &Option<Serial>) {
-    if let Some(gone) = serial {
-        if let Some(place) = keys.place_of(gone.number()) {
-            linkers.remove(place, gone.number(), ring);
-        }
-    }
-}
-
-/// The key at a serial has come with its links.
-#[inline(always)]
-fn note_links(keys: &PlacedKeys, linkers: &mut Linkers, ring: u32) {
-    let Some(key) = keys.get(ring) else {
-        return;
-    };
-    if let Content::Links(links) = &key.content {
-        for place in 0..links.len() {
-            if let Some(serial) = links.serial_at(place) {
-                note(keys, linkers, ring, serial);
-            }
-        }
-    }
-}
-
-/// No keyring links the key at a serial any more.
-fn forget_key(keys: &PlacedKeys, linkers: &mut Linkers, serial: u32) {
-    if let Some(place) = keys.place_of(serial) {
-        linkers.remove_all(place, serial);
-    }
-}
-
-/// What a change is about to take out of the key at a serial is linked no more.
-#[inline(always)]
-fn forget_taken(keys: &PlacedKeys, linkers: &mut Linkers, ring: u32, change: &Change) {
-    match change {
-        Change::Revoked | Change::Cleared => forget_links(keys, linkers, ring),
-        _ => {}
-    }
-}
-
-/// What the key at a serial links is about to go out of it. Where no key has more than two links, the hints stay: each
-/// of them costs one look.
-#[inline(always)]
-fn forget_links(keys: &PlacedKeys, linkers: &mut Linkers, ring: u32) {
-    if linkers.has_far() {
-        forget_each(keys, linkers, ring);
-    }
-}
-
-/// What the key at a serial links it links no more.
-#[inline(never)]
-fn forget_each(keys: &PlacedKeys, linkers: &mut Linkers, ring: u32) {
-    let Some(key) = keys.get(ring) else {
-        return;
-    };
-    if let Content::Links(links) = &key.content {
-        for place in 0..links.len() {
-            forget(keys, linkers, ring, &links.serial_at(place));
-        }
     }
 }
 

@@ -1,6 +1,7 @@
 //! Keys by serial. A contract sees a `KeyTable` as a finite map from serials to keys, and the serial that comes next.
 #![tactic(auto)]
 
+mod hints;
 mod key;
 mod key_set;
 mod key_table;
