@@ -10,12 +10,8 @@ use Rattle.krs_types.specs.declared.fault.Fault.{Fault}
 use Rattle.krs_types.specs.declared.ask.Answer.{Answer}
 use Rattle.krs_types.specs.declared.ask.Answer.TheVariants.{Nothing, Number, Bytes}
 use Rattle.krs_types.specs.declared.ask.Op.{Op}
-use Rattle.krs_types.specs.declared.ask.Op.TheVariants.{Hello, Thread, Fork, Exec, GetId, Join, Search, Request, Add}
-use Rattle.krs_types.specs.declared.ask.Op.TheVariants.{Update, Revoke, Invalidate, Chown, SetPerm, SetTimeout, Link}
-use Rattle.krs_types.specs.declared.ask.Op.TheVariants.{Unlink}
-use Rattle.krs_types.specs.declared.ask.Op.TheVariants.{Clear, Read, Describe, Watch, OpenQueue, SetFilter, ReadQueue}
-use Rattle.krs_types.specs.declared.ask.Op.TheVariants.{CloseQueue, Exit, Leave}
-use Rattle.krs_types.specs.declared.ask.Op.TheVariants.{Move, RestrictKeyring}
+use Rattle.krs_types.specs.declared.ask.Op.TheVariants.{Search, Request, Add, Update, Revoke, Invalidate, Chown, SetPerm}
+use Rattle.krs_types.specs.declared.ask.Op.TheVariants.{SetTimeout, Link, Unlink, Move, Clear, Watch}
 use Rattle.krs_types.specs.declared.note.KeyEvent.TheVariants.{Updated, Linked}
 use Rattle.krs_model.specs.Table.{Table, at}
 use Rattle.krs_model.specs.State.{State, Key, Queue}
@@ -52,35 +48,8 @@ ran_as :
     (s : State) (client context : ℕ) (op : Op) (r : Result Answer Fault) (new : State)
     → Runs s client context op r new
     → EndsNone s client context op r new ⊎ TellsNone s client context op r new
-ran_as s client context (Hello caller) r new ran = inl (record { none_ended = refl; leads = ran })
-ran_as s client context Thread r new ran = inl (record { none_ended = refl; leads = ran })
-ran_as s client context Fork r new ran = inl (record { none_ended = refl; leads = ran })
-ran_as s client context Exec r new ran = inl (record { none_ended = refl; leads = ran })
-ran_as s client context (GetId id create) r new ran = inl (record { none_ended = refl; leads = ran })
-ran_as s client context (Join name) r new ran = inl (record { none_ended = refl; leads = ran })
-ran_as s client context (Search head type_name desc dest) r new ran = inl (record { none_ended = refl; leads = ran })
-ran_as s client context (Request type_name desc dest) r new ran = inl (record { none_ended = refl; leads = ran })
-ran_as s client context (Add type_name desc payload ring) r new ran = inl (record { none_ended = refl; leads = ran })
-ran_as s client context (Update id payload) r new ran = inl (record { none_ended = refl; leads = ran })
-ran_as s client context (Revoke id) r new ran = inl (record { none_ended = refl; leads = ran })
-ran_as s client context (Invalidate id) r new ran = inl (record { none_ended = refl; leads = ran })
-ran_as s client context (Chown id uid gid) r new ran = inl (record { none_ended = refl; leads = ran })
-ran_as s client context (SetPerm id mask) r new ran = inl (record { none_ended = refl; leads = ran })
-ran_as s client context (SetTimeout id seconds) r new ran = inl (record { none_ended = refl; leads = ran })
-ran_as s client context (Link key ring) r new ran = inl (record { none_ended = refl; leads = ran })
-ran_as s client context (Unlink key ring) r new ran = inl (record { none_ended = refl; leads = ran })
-ran_as s client context (Move key from to flags) r new ran = inl (record { none_ended = refl; leads = ran })
-ran_as s client context (Clear id) r new ran = inl (record { none_ended = refl; leads = ran })
-ran_as s client context (RestrictKeyring ring type_name) r new ran = inl (record { none_ended = refl; leads = ran })
-ran_as s client context (Read id) r new ran = inl (record { none_ended = refl; leads = ran })
-ran_as s client context (Describe id) r new ran = inl (record { none_ended = refl; leads = ran })
 ran_as s client context (Watch id queue watch_id) r new ran = inr (record { quiet = λ answer. refl; told = ran })
-ran_as s client context (OpenQueue capacity) r new ran = inl (record { none_ended = refl; leads = ran })
-ran_as s client context (SetFilter queue entries) r new ran = inl (record { none_ended = refl; leads = ran })
-ran_as s client context (ReadQueue queue room) r new ran = inl (record { none_ended = refl; leads = ran })
-ran_as s client context (CloseQueue queue) r new ran = inl (record { none_ended = refl; leads = ran })
-ran_as s client context Exit r new ran = inl (record { none_ended = refl; leads = ran })
-ran_as s client context Leave r new ran = inl (record { none_ended = refl; leads = ran })
+ran_as s client context op r new ran = inl (record { none_ended = refl; leads = ran })
 
 -- what an id was found to stand for is what it stands for
 pub same_named : (r meant : Result ℕ Errno) → Is (λ (n : ℕ). n) r meant → r ≡ meant
@@ -200,22 +169,7 @@ tells_none s client context (Search head type_name desc dest) answer h =
     ap (λ b. about_found b (named s client context dest) answer) h
 tells_none s client context (Request type_name desc dest) answer h =
     ap (λ b. about_found b (named s client context dest) answer) h
-tells_none s client context (Hello caller) answer h = refl
-tells_none s client context Thread answer h = refl
-tells_none s client context Fork answer h = refl
-tells_none s client context Exec answer h = refl
-tells_none s client context (GetId id create) answer h = refl
-tells_none s client context (Join name) answer h = refl
-tells_none s client context (Read id) answer h = refl
-tells_none s client context (Describe id) answer h = refl
-tells_none s client context (Watch id queue watch_id) answer h = refl
-tells_none s client context (OpenQueue capacity) answer h = refl
-tells_none s client context (SetFilter queue entries) answer h = refl
-tells_none s client context (ReadQueue queue room) answer h = refl
-tells_none s client context (CloseQueue queue) answer h = refl
-tells_none s client context (RestrictKeyring ring type_name) answer h = refl
-tells_none s client context Exit answer h = refl
-tells_none s client context Leave answer h = refl
+tells_none s client context op answer h = refl
 
 led_quiet :
     (s new : State) (client context : ℕ) (op : Op) (r : Result Answer Fault) → may_tell op ≡ false

@@ -132,10 +132,7 @@ pub(crate) fn may_tell(op: &Op) -> bool
         Op::Chown { .. } | Op::SetPerm { .. } | Op::SetTimeout { .. } => true,
         Op::Link { .. } | Op::Unlink { .. } | Op::Move { .. } | Op::Add { .. } => true,
         Op::Search { dest, .. } | Op::Request { dest, .. } => *dest != 0,
-        Op::Hello(_) | Op::Thread | Op::Fork | Op::Exec | Op::GetId { .. } => false,
-        Op::Join { .. } | Op::Read { .. } | Op::Describe { .. } | Op::Watch { .. } => false,
-        Op::OpenQueue { .. } | Op::SetFilter { .. } | Op::ReadQueue { .. } => false,
-        Op::CloseQueue { .. } | Op::RestrictKeyring { .. } | Op::Exit | Op::Leave => false,
+        _ => false,
     }
 }
 
@@ -167,11 +164,7 @@ pub(crate) fn foretell(tables: &Tables, client: u32, context: u32, op: &Op) -> T
         Op::Search { dest, .. } => about_found(tables, client, context, *dest),
         Op::Request { dest, .. } => about_found(tables, client, context, *dest),
         Op::Add { ring, .. } => about_added(tables, client, context, *ring),
-        Op::Hello(_) | Op::Thread | Op::Fork | Op::Exec | Op::GetId { .. } => Tellings::none(),
-        Op::Join { .. } | Op::Read { .. } | Op::Describe { .. } => Tellings::none(),
-        Op::Watch { .. } | Op::OpenQueue { .. } | Op::SetFilter { .. } => Tellings::none(),
-        Op::ReadQueue { .. } | Op::CloseQueue { .. } => Tellings::none(),
-        Op::RestrictKeyring { .. } | Op::Exit | Op::Leave => Tellings::none(),
+        _ => Tellings::none(),
     }
 }
 

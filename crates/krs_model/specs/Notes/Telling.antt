@@ -6,11 +6,8 @@ use Rattle.krs_types.specs.declared.errno.Errno.{Errno}
 use Rattle.krs_types.specs.declared.ask.Answer.{Answer}
 use Rattle.krs_types.specs.declared.ask.Answer.TheVariants.{Nothing, Number, Bytes}
 use Rattle.krs_types.specs.declared.ask.Op.{Op}
-use Rattle.krs_types.specs.declared.ask.Op.TheVariants.{Hello, Thread, Fork, Exec, Exit, GetId, Join, Search, Request}
-use Rattle.krs_types.specs.declared.ask.Op.TheVariants.{Invalidate, Add, Update, Revoke, Chown, SetPerm, SetTimeout}
-use Rattle.krs_types.specs.declared.ask.Op.TheVariants.{Link, Unlink, Clear, Read, Describe, Watch, OpenQueue}
-use Rattle.krs_types.specs.declared.ask.Op.TheVariants.{SetFilter, ReadQueue, CloseQueue, Leave}
-use Rattle.krs_types.specs.declared.ask.Op.TheVariants.{Move, RestrictKeyring}
+use Rattle.krs_types.specs.declared.ask.Op.TheVariants.{Search, Request, Add, Update, Revoke, Invalidate, Chown, SetPerm}
+use Rattle.krs_types.specs.declared.ask.Op.TheVariants.{SetTimeout, Link, Unlink, Move, Clear, Watch}
 use Rattle.krs_types.specs.declared.note.KeyEvent.{KeyEvent}
 use Rattle.krs_types.specs.declared.note.KeyEvent.TheVariants.{Updated, Linked, Unlinked, Cleared, Revoked}
 use Rattle.krs_types.specs.declared.note.KeyEvent.TheVariants.{Invalidated, Setattr}
@@ -68,15 +65,8 @@ about_found true ring (Number serial) = about_link Linked ring (Ok serial)
 -- what an accepted ask tells of, in order, by the state before it and its answer; never that a key was instantiated:
 -- profile, no note of instantiation
 abbrev pub notes_of : State → ℕ → ℕ → Op → Answer → List Note
-notes_of s client context (Hello caller) answer = []
 notes_of s client context (Add type_name desc payload ring) answer =
     about_added s.keys (named s client context ring) answer
-notes_of s client context Thread answer = []
-notes_of s client context Fork answer = []
-notes_of s client context Exec answer = []
-notes_of s client context Exit answer = []
-notes_of s client context (GetId id create) answer = []
-notes_of s client context (Join name) answer = []
 notes_of s client context (Search head type_name desc dest) answer =
     about_found (has_destination dest) (named s client context dest) answer
 notes_of s client context (Request type_name desc dest) answer =
@@ -94,15 +84,7 @@ notes_of s client context (Unlink key ring) answer =
 notes_of s client context (Move key from to flags) answer =
     about_moved (named s client context from) (named s client context to) (named s client context key)
 notes_of s client context (Clear id) answer = about Cleared (named s client context id)
-notes_of s client context (RestrictKeyring ring type_name) answer = []
-notes_of s client context (Read id) answer = []
-notes_of s client context (Describe id) answer = []
-notes_of s client context (Watch id queue watch) answer = []
-notes_of s client context (OpenQueue capacity) answer = []
-notes_of s client context (SetFilter queue entries) answer = []
-notes_of s client context (ReadQueue queue room) answer = []
-notes_of s client context (CloseQueue queue) answer = []
-notes_of s client context Leave answer = []
+notes_of s client context op answer = []
 
 -- the watch that WATCH with -1 ends
 abbrev pub ended_where : List queues.Watch → Result ℕ Errno → ℕ → Result (Option ℕ) Errno → List queues.Watch
