@@ -5,7 +5,7 @@
 mod carries;
 mod ending;
 mod listed;
-mod place;
+mod reading;
 mod running;
 mod telling;
 mod waiting;
@@ -13,7 +13,7 @@ mod waiting;
 pub use carries::Carries;
 pub use ending::{NO_CONNECTION, OUT_OF_MEMORY, USAGE, finish, say};
 pub use listed::{listing, records};
-pub use place::Place;
+pub use reading::Place;
 pub use running::run_by;
 pub use telling::{no_command, push_quoted, tell};
 pub use waiting::READ_AHEAD;

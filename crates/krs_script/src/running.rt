@@ -4,7 +4,7 @@ ghost use Rattle.krs_script.specs.Running.{Ends, ObeysLine, Runs};
 
 use crate::carries::Carries;
 use crate::ending::finish;
-use crate::place::Place;
+use crate::reading::Place;
 use crate::waiting::{MOST_LINES, READ_AHEAD, write_before_waiting};
 use krs_commands::parse;
 use krs_words::{Stop, is_comment, print_output, words};

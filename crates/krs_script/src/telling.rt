@@ -7,7 +7,7 @@ ghost use Rattle.krs_words.specs.Words.{words_of};
 ghost use Rattle.krs_words.specs.Saying.{heard, Says};
 ghost use Rattle.krs_script.specs.Telling.{cause_text, no_command_text, quoted, refusal_text, stop_text};
 
-use crate::place::Place;
+use crate::reading::Place;
 use krs_commands::is_command;
 use krs_words::{Stop, Voice, words};
 use std::alloc::{AllocError, Global};
