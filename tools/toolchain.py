@@ -5,6 +5,8 @@
 - `Crate.build_rlib`, for `rt ci` alone: a library keeps its checked modules, so that the wrong bodies of the crate may be
   tried over its proof.
 
+`rt ci` is also told, by its RT_JOBS, to run each check in one job.
+
 Needed of the toolchain: rt is a file of Python with `main` and `Crate`; a crate has `stamp`, `build_rlib`, `folder`,
 `rlib` and `cuts_libraries`; an rlib has `format`, `toolchain/checked.json` and `toolchain/checked.a`. Where one of these
 isn't there, `load` raises Unknown, or a check begins at nothing: plain rt then does the same, and the tools say so in one
@@ -23,16 +25,28 @@ import threading
 
 sys.dont_write_bytecode = True
 
-# A check reads all checked modules of the libraries below it, also their proofs. It reads none of what is below these, whose
-# libraries hold statements alone: what stands above krs_store is checked in half the time, and in half the memory. The
-# wrong bodies of such a crate are tried over no proof of it, and so take as long as that proof. It has one job: each job
-# reads all that is below, and four took three times as much of a processor, and longer by the clock.
+# A check reads the checked modules that it needs of the libraries below it, also their proofs. The libraries of these
+# crates hold statements alone: what stands above krs_store reads no proof of it, and nothing of the crates of asks. The
+# wrong bodies of such a crate are tried over no proof of it, and so take longer.
 CUT = ("krs_store",)
+# These read much for the little that they prove. Each job of a check reads it again: four jobs took three times as much of
+# a processor as one, and no less time by the clock.
+READ_MUCH = ("krs_store", "krs_serve", "krs_bench")
 ONE_JOB = ["--jobs", "1"]
+# The memory, in KiB, that the largest check takes.
+LARGEST = 3_000_000
 
 
 class Unknown(Exception):
     """The toolchain has another shape than these tools know."""
+
+
+def checks_at_once():
+    """As many as there are processors to use, fewer where there is little memory."""
+    processors = len(os.sched_getaffinity(0))
+    with open("/proc/meminfo", encoding="utf-8") as text:
+        free = next((int(line.split()[1]) for line in text if line.startswith("MemAvailable:")), LARGEST)
+    return max(1, min(processors, free // LARGEST))
 
 
 def remember_sums(crate):
@@ -81,6 +95,17 @@ def is_cut(crate):
     return crate.name in CUT
 
 
+def has_one_job(crate):
+    """Whether the crate is checked in one job, however many processors are idle."""
+    return crate.name in READ_MUCH
+
+
+def give_one_job():
+    """Has each check of `rt ci` run in one job, and as many checks at once as there are processors and memory for: each job
+    of a check reads all libraries below it once more. RT_JOBS may give another number of checks."""
+    os.environ.setdefault("RT_JOBS", str(checks_at_once()))
+
+
 def keep_proofs(rt):
     """Has the libraries that `rt ci` builds keep their checked modules, as they do outside the gate, so that the wrong bodies
     of a crate may be tried over its proof; but for those that are cut."""
@@ -88,7 +113,7 @@ def keep_proofs(rt):
 
     def build_with_proofs(crate, flags, anew):
         crate.cuts_libraries = is_cut(crate)
-        return build(crate, ONE_JOB if is_cut(crate) else flags, anew)
+        return build(crate, flags, anew)
 
     rt.Crate.build_rlib = build_with_proofs
 
