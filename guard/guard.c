@@ -148,8 +148,10 @@ static void begin(void) {
     open_events();
     fit_descriptors();
     if (!make_links(links, options.connections)) fail("error: threads", NO_SOCKET);
-    listener = options.listen_path ? open_listener(options.listen_path, options.mode) : take_passed_listener();
+    listener = options.listen_path ? open_listener(options.listen_path, options.mode, DESCRIPTORS_REFUSED)
+                                   : take_passed_listener();
     if (listener < 0) fail("error: socket", NO_SOCKET);
+    if (!options.listen_path) refuse_descriptors(listener);
     if (options.has_filter && !filter_system_calls()) fail("error: seccomp", NO_SOCKET);
     printf("listening %s\n", options.listen_path ? options.listen_path : "(passed)");
 }

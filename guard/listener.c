@@ -12,6 +12,10 @@
 
 enum { FIRST_PASSED_DESCRIPTOR = 3 };
 
+#ifndef SO_PASSRIGHTS
+#define SO_PASSRIGHTS 83
+#endif
+
 bool fill_standard_descriptors(void) {
     int opened;
     do opened = open("/dev/null", O_RDWR | O_CLOEXEC);
@@ -60,11 +64,17 @@ static bool bind_at(int listener, const struct sockaddr_un *address) {
     return bind(listener, there, sizeof *address) == 0;
 }
 
-int open_listener(const char *path, unsigned mode) {
+void refuse_descriptors(int listener) {
+    const int are_passed = 0;
+    setsockopt(listener, SOL_SOCKET, SO_PASSRIGHTS, &are_passed, sizeof are_passed);
+}
+
+int open_listener(const char *path, unsigned mode, enum descriptors descriptors) {
     struct sockaddr_un address;
     if (!put_address(&address, path)) return -1;
     int listener = socket(AF_UNIX, SOCK_STREAM | SOCK_NONBLOCK | SOCK_CLOEXEC, 0);
     if (listener < 0) return -1;
+    if (descriptors == DESCRIPTORS_REFUSED) refuse_descriptors(listener);
     umask(~mode & 0777);
     bool is_bound = bind_at(listener, &address);
     umask(0077);

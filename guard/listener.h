@@ -15,7 +15,15 @@ bool put_address(struct sockaddr_un *address, const char *path);
 /* The socket that systemd has passed (sd_listen_fds(3)), or -1. */
 int take_passed_listener(void);
 
+/* Whether clients may send descriptors (SCM_RIGHTS). Those that nobody takes are closed by whoever reads or closes their
+ * socket, which may wait for as long as their sender likes: for what a socket has still to send (SO_LINGER), or for a file
+ * system that the sender serves. */
+enum descriptors { DESCRIPTORS_REFUSED, DESCRIPTORS_TAKEN };
+
+/* From now on clients that connect can send none: EPERM. Linux before 6.16 can't do that. */
+void refuse_descriptors(int listener);
+
 /* A socket that listens at a path. A socket that nobody listens to is removed there first. -1 where there is none. */
-int open_listener(const char *path, unsigned mode);
+int open_listener(const char *path, unsigned mode, enum descriptors descriptors);
 
 #endif

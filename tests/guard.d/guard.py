@@ -3,6 +3,7 @@
 other uids are made with a child that changes its uid, connects and hands the socket back: the kernel remembers who
 connected. Without root those are skipped. A sanitized guard runs without its filter of system calls."""
 
+import contextlib
 import ctypes
 import fcntl
 import os
@@ -29,6 +30,7 @@ ROOT = os.geteuid() == 0
 USER_A, USER_B = 4001, 4002
 GROUP_A = 4101  # of user A
 NOBODY = 2**32 - 1
+SO_PASSRIGHTS = 83
 NO_FILTER = ["--no-filter"] if IS_SANITIZED else []
 TMP = tempfile.mkdtemp(prefix="keyretain.", dir="/tmp")
 os.chmod(TMP, 0o755)
@@ -296,7 +298,7 @@ def try_own():
 def try_root():
     if not ROOT:
         return skipped('other uids: not root')
-    run = Running('--trust', str(USER_B))
+    run = Running('--trust', '4009', '--trust', str(USER_B))
     client = run.one()
     check('root may not name others', client.status(hello(1234, 77, [5, 6])), EPERM)
     check('but itself', client.status(hello(0, 0)), 0)
@@ -465,12 +467,19 @@ def try_many_refused():
     while not isinstance(reply := client.reply(), str):
         replies.append(reply[0])
     check('1000 refused at once', set(replies), {EPERM})
+    def told():
+        return open(run.errors.name).read().count('refused:')
+
+    before = told()
+    time.sleep(1.1)  # another second
     client = run.one(*who)
+    check('one more, a second later', client.status(hello(uid + 1, gid)), EPERM)
+    check_soon('it is told', lambda: told() > before, True)
     check('1000 refused, one by one', {client.status(hello(uid + 1, gid)) for _ in range(1000)}, {EPERM})
     check('and then an own one', client.status(hello(uid, gid)), 0)
     run.end()
-    told, seconds = open(run.errors.name).read().count('refused:'), int(time.monotonic() - began) + 2
-    check('ten a second are told, and no more', 0 < told <= 10 * seconds, True)
+    seconds = int(time.monotonic() - began) + 2
+    check('ten a second are told, and no more', 0 < told() <= 10 * seconds, True)
 
 
 def try_bad_frames():
@@ -552,13 +561,105 @@ def try_odd_clients():
     reply = client.reply()
     check('a byte out of band is nothing or the end', reply == 'end' or reply[0] == EPERM, True)
     client = run.one(*who)
-    for _ in range(100):
-        socket.send_fds(client.sock, [hello(uid, gid)[:10]], [0, 1, 2])
-        client.send(hello(uid, gid)[10:])
-        if client.reply()[0] not in (0, EINVAL):
-            check('descriptors that are sent along', 'refused', 0)
+    if refuses_descriptors():
+        try:
+            socket.send_fds(client.sock, [hello(uid, gid)], [0])
+            check('descriptors that are sent along', 'taken', 'refused')
+        except PermissionError:
+            check('and then none', client.status(hello(uid, gid)), 0)
+    else:
+        for _ in range(100):
+            socket.send_fds(client.sock, [hello(uid, gid)[:10]], [0, 1, 2])
+            client.send(hello(uid, gid)[10:])
+            if client.reply()[0] not in (0, EINVAL):
+                check('descriptors that are sent along', 'refused', 0)
     check('descriptors that are sent along are not kept', descriptors(run) < 40, True)
     run.end()
+
+
+def refuses_descriptors():
+    """Whether a socket can have descriptors refused here, which Linux can since 6.16."""
+    try:
+        return socket.socket(socket.AF_UNIX).getsockopt(socket.SOL_SOCKET, SO_PASSRIGHTS) >= 0
+    except OSError:
+        return False
+
+
+def lingering():
+    """A socket with something to send that nobody takes: whoever closes its last descriptor waits for hours. And the other
+    end, with which that ends."""
+    with socket.socket() as listening:
+        listening.setsockopt(socket.SOL_SOCKET, socket.SO_RCVBUF, 4096)
+        listening.bind(('127.0.0.1', 0))
+        listening.listen(1)
+        sock = socket.socket()
+        sock.setsockopt(socket.SOL_SOCKET, socket.SO_SNDBUF, 4096)
+        sock.setsockopt(socket.SOL_SOCKET, socket.SO_LINGER, struct.pack('ii', 1, 30000))
+        sock.connect(listening.getsockname())
+        other = listening.accept()[0]
+    sock.setblocking(False)
+    try:
+        while True:
+            sock.send(b'x' * 65536)
+    except BlockingIOError:
+        return sock, other
+
+
+def send_lingering(path, tell):
+    """In a child, until it is killed: connects, sends such a socket, and says whether it could, once it is disconnected."""
+    sock, other = lingering()
+    client = socket.socket(socket.AF_UNIX)
+    client.settimeout(PATIENCE)
+    client.connect(path)
+    try:
+        socket.send_fds(client, [b'x'], [sock.fileno()])
+        could = b'1'
+        sock.close()
+    except OSError:
+        could = b'0'
+    with contextlib.suppress(OSError):
+        client.recv(1)
+    os.write(tell, could)
+    signal.pause()
+    other.close()
+
+
+def try_lingering():
+    """Clients above the limit of their uid have sent such a socket before they are disconnected. The guard is there for the
+    others."""
+    if not refuses_descriptors():
+        return skipped('what is sent to hold up the guard: no descriptors can be refused here')
+    who, uid, gid = identity()
+    run = Running('--per-uid', '1')
+    first = run.one()
+    first.context(os.geteuid(), os.getegid())
+    told, tell = os.pipe()
+    children = []
+    for _ in range(20):
+        children.append(os.fork())
+        if children[-1] == 0:
+            first.sock.close()  # what is forked has it too
+            send_lingering(run.public, tell)
+    check('sockets that are sent to hold up the guard', [os.read(told, 1) for _ in children].count(b'1'), 0)
+    first.close()
+    check_soon('others are served', lambda: is_served(run, who, uid, gid), True)
+    for child in children:
+        os.kill(child, signal.SIGKILL)
+        os.waitpid(child, 0)
+    os.close(told)
+    os.close(tell)
+    run.end()
+
+
+def is_served(run, who, uid, gid):
+    client = run.one(*who)
+    client.sock.settimeout(2)
+    try:
+        return client.status(hello(uid, gid)) == 0
+    except TimeoutError:
+        return False
+    finally:
+        client.close()
 
 
 def spends_nothing(name, run):
@@ -699,6 +800,7 @@ def try_strangers():
         skipped('a guard in a user namespace: not allowed here')
     else:
         check('a stranger', run.one(USER_A, GROUP_A, []).status(hello(65534, 65534)), 'end')
+        check('a strange group', run.one(0, GROUP_A, []).status(hello(0, 65534)), EPERM)
         check('one that it knows', run.one().status(hello(0, 0)), 0)
     run.end()
 
@@ -741,6 +843,9 @@ def try_limit_of_one():
         check('another uid gets in', run.one(USER_B, 4002).status(hello(USER_B, 4002)), 0)
     made[0].close()
     check_soon('a place is free again', lambda: run.one(*who).status(hello(uid, gid)), 0)
+    run.end()
+    run = Running('--per-uid', '2', '--trust', str(uid))
+    check('a trusted uid has no limit', [client.status(hello(uid, gid)) for client in run.many(6, *who)], [0] * 6)
     run.end()
 
 
@@ -859,6 +964,40 @@ def try_silence():
     run.end()
 
 
+def try_one_place():
+    """Nothing of a client stays in its place: that it has greeted, that it was ended, or that the rest of a frame is to
+    come, as which a HELLO of the next one would pass."""
+    who, uid, gid = identity()
+    run = Running('--hello-seconds', '2', '--connections', '1')
+    for _ in range(2):
+        greeted = run.one(*who)
+        check('one that greets', greeted.status(hello(uid, gid)), 0)
+        greeted.close()
+        check('a silent one in its place', run.one(*who).reply(), 'end')
+    broken = run.one(*who)
+    check('one that greets after a silent one', broken.status(hello(uid, gid)), 0)
+    broken.send(hello(uid + 1, gid), add(1, b'k', b'x' * 1000)[:40])
+    check('one that ends in the midst of a frame', broken.reply()[0], EPERM)
+    broken.close()
+    following = run.one(*who)
+    check('the next one, who names another', following.status(hello(uid + 1, gid)), EPERM)
+    check('and itself', following.status(hello(uid, gid)), 0)
+    run.end()
+    if not ROOT:
+        return skipped('users of one place: not root')
+    run = Running('--connections', '1', '--trust', str(USER_B))
+    for _ in range(2):
+        trusted = run.one(USER_B, USER_B, [])
+        check('a trusted uid names another', trusted.status(hello(1234, 77)), 0)
+        trusted.close()
+        following = run.one(USER_A, GROUP_A, [])
+        check('who follows it names another', following.status(hello(1234, 77)), EPERM)
+        check('and the trusted one', following.status(hello(USER_B, USER_B)), EPERM)
+        check('and itself', following.status(hello(USER_A, GROUP_A)), 0)
+        following.close()
+    run.end()
+
+
 def flood(client):
     """Asks on, without a HELLO that passes, and takes no replies. Whether it was ended."""
     client.sock.setblocking(False)
@@ -905,6 +1044,7 @@ def try_busy_daemon():
     cpu = ticks(run)
     time.sleep(1)
     check('waiting costs little', ticks(run) - cpu <= 5, True)
+    check('and keeps nothing open', descriptors(run) < 20, True)
     for _ in clients:
         end, _ = listener.accept()
         end.settimeout(PATIENCE)
@@ -1166,6 +1306,10 @@ def try_paths():
     check('one listens there and is busy', begun('--listen', f'{TMP}/busy', '--daemon', run.private), no_socket)
     check('SIGTERM', run.end(), 0)
     check('the path is gone', os.path.exists(run.public), False)
+    run.start_guard()
+    run.guard.send_signal(signal.SIGINT)
+    check('SIGINT', run.guard.wait(PATIENCE), 0)
+    check('the path is gone, too', os.path.exists(run.public), False)
     open(run.public, 'w').close()
     check('a file is no stale socket', begun('--listen', run.public, '--daemon', run.private), no_socket)
     check('it is left there', os.path.exists(run.public), True)
@@ -1186,9 +1330,12 @@ def try_usage():
     both = ('--daemon', 'x', '--listen', 'y')
     for words in ((), ('--listen', 'x'), ('--daemon', 'x'), (*both, '--connections', '257'), (*both, 'z'),
                   (*both, '--per-uid', '-1'), ('--daemon', 'x' * 200, '--listen', 'y'), (*both, '--mode', '8'),
-                  (*both, '--trust', '4294967295'), (*both, '--unknown')):
+                  (*both, '--trust', '4294967295'), (*both, '--unknown'), (*both, '--connections', '0'),
+                  (*both, '--per-uid', '0'), (*both, '--per-uid', ' 5'), (*both, *('--trust', '1') * 17),
+                  ('--daemon', 'x' * 108, '--listen', 'y')):
         check(f'usage: {words}', begun(*words), (2, b''))
     check('a path that is too long', begun('--listen', 'x' * 200, '--daemon', 'y')[0], 3)
+    check('a path that is too long by one', begun('--listen', 'x' * 108, '--daemon', 'y')[0], 3)
     check('version', begun('--version')[1][:15], b'keyretain-guard')
     check('help', begun('--help')[1][:23], b'usage: keyretain-guard ')
 
@@ -1220,15 +1367,16 @@ def try_outputs():
         check(f'output {name}: end', run.end(), 0)
 
 
-def passed_to_guard(passed, *words):
-    """A guard that has got this socket, as systemd passes it: its pid."""
+def passed_to_guard(passed, *words, count='1', others=0):
+    """A guard that has got this socket, as systemd passes it: its pid. It is told of so many, and of a process whose
+    number is greater than its own by `others`."""
     child = os.fork()
     if child == 0:
         for output in (1, 2):
             os.dup2(os.open('/dev/null', os.O_WRONLY), output)
         os.dup2(passed.fileno(), 3)
         os.set_inheritable(3, True)
-        os.environ.update(LISTEN_PID=str(os.getpid()), LISTEN_FDS='1')
+        os.environ.update(LISTEN_PID=str(os.getpid() + others), LISTEN_FDS=count)
         os.execv(GUARD, [GUARD, *words, *NO_FILTER])
     return child
 
@@ -1273,17 +1421,28 @@ def try_killed():
     run.end()
 
 
+def refuses_passed(name, passed, **told):
+    child, end = passed_to_guard(passed, '--daemon', f'{TMP}/none', **told), time.monotonic() + PATIENCE
+    while not (ended := os.waitpid(child, os.WNOHANG))[0] and time.monotonic() < end:
+        time.sleep(0.02)
+    if not ended[0]:
+        os.kill(child, signal.SIGKILL)
+        ended = os.waitpid(child, 0)
+    check(f'passed: {name}', os.waitstatus_to_exitcode(ended[1]), 3)
+
+
 def try_passed_nonsense():
-    """What is passed is a socket of another kind, or doesn't listen."""
-    of_network = socket.create_server(('127.0.0.1', 0))
-    for passed in (of_network, socket.socket(socket.AF_UNIX), socket.socket(socket.AF_UNIX, socket.SOCK_SEQPACKET)):
-        child, end = passed_to_guard(passed, '--daemon', f'{TMP}/none'), time.monotonic() + PATIENCE
-        while not (ended := os.waitpid(child, os.WNOHANG))[0] and time.monotonic() < end:
-            time.sleep(0.02)
-        if not ended[0]:
-            os.kill(child, signal.SIGKILL)
-            ended = os.waitpid(child, 0)
-        check(f'passed: {passed}', os.waitstatus_to_exitcode(ended[1]), 3)
+    """What is passed is a socket of another kind, or doesn't listen, or is another process's, or not the only one."""
+    of_packets = socket.socket(socket.AF_UNIX, socket.SOCK_SEQPACKET)
+    of_packets.bind(f'{TMP}/packets')
+    of_packets.listen(8)
+    refuses_passed('one of the network', socket.create_server(('127.0.0.1', 0)))
+    refuses_passed('one that does not listen', socket.socket(socket.AF_UNIX))
+    refuses_passed('one of packets', of_packets)
+    good = listening_at(f'{TMP}/good', 8)
+    refuses_passed("another process's", good, others=1)
+    refuses_passed('one of two', good, count='2')
+    refuses_passed('none', good, count='0')
 
 
 def count_in_memory(pid, text):
@@ -1329,6 +1488,9 @@ def try_secrets():
         for _ in range(50):
             assert secret in client.reply()[1]
         clients.append(client)
+    broken = run.one(4003, 4003, [])  # what it sends ends it: more than the guard reads at once
+    broken.send(b'\0\0\0\0', secret * 400)
+    check('a broken frame', broken.reply(), 'end')
     for _ in range(50): # it may just have been about to wipe the last
         time.sleep(0.1)
         found = count_in_memory(run.guard.pid, secret[:30])
@@ -1358,6 +1520,14 @@ def try_few_files():
         served += reply != 'end' and reply[0] == 0
         client.close()
     check('few descriptors: all are served in the end', served, 40)
+    run.end()
+
+
+def try_more_files():
+    """Fewer descriptors than it wants, and more are to be had: then no place is lost."""
+    who, uid, gid = identity()
+    run = Running('--per-uid', '40', limit=lambda: resource.setrlimit(resource.RLIMIT_NOFILE, (24, 1024)))
+    check('more descriptors', [client.status(hello(uid, gid)) for client in run.many(40, *who)], [0] * 40)
     run.end()
 
 

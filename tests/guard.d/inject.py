@@ -26,8 +26,8 @@ passed = failed = 0
 folder = tempfile.mkdtemp(prefix="keyretain.", dir="/tmp")
 
 
-def hello(uid):
-    return struct.pack("<IHHIIII", 20, 1, 256, 0, uid, os.getegid(), 0)
+def hello(uid, gid=os.getegid()):
+    return struct.pack("<IHHIIII", 20, 1, 256, 0, uid, gid, 0)
 
 
 def status(client):
@@ -56,14 +56,29 @@ def ask_often(path):
         return statuses
 
 
-def statuses(fault):
+def ask_for_groups(path):
+    """The statuses of the replies to two HELLOs that name the group 0, of a client that isn't in it."""
+    child = os.fork()
+    if child == 0:
+        if os.geteuid() == 0:
+            os.setgroups([])
+            os.setgid(4242)
+        with socket.socket(socket.AF_UNIX) as client:
+            client.settimeout(60)
+            client.connect(path)
+            client.sendall(hello(os.geteuid(), 0) * 2)
+            os._exit(10 * status(client) + status(client))
+    return os.waitstatus_to_exitcode(os.waitpid(child, 0)[1])
+
+
+def statuses(fault, ask=ask_often):
     path = f"{folder}/public"
     words = ["strace", "-f", "-qq", "-o", f"{folder}/trace", "-e", f"trace={fault.split(':')[0]}", "-e", f"inject={fault}",
              GUARD, "--no-filter", "--listen", path, "--daemon", f"{folder}/private"]
     with subprocess.Popen(words, stdout=subprocess.PIPE, stderr=subprocess.DEVNULL) as traced:
         traced.stdout.readline()
         try:
-            got = ask_often(path)
+            got = ask(path)
             return got if "(INJECTED)" in open(f"{folder}/trace", encoding="utf-8").read() else "no call failed"
         except OSError as error:
             return repr(error)
@@ -73,6 +88,24 @@ def statuses(fault):
                 os.kill(int(guard), signal.SIGTERM)
             if not guards:
                 traced.kill()
+
+
+def wait_awhile(path):
+    """How often the guard tries to accept a client, for which there are no descriptors, in half a second."""
+    with socket.socket(socket.AF_UNIX) as client:
+        client.connect(path)
+        time.sleep(0.5)
+    tries = open(f"{folder}/trace", encoding="utf-8").read().count("accept4(")
+    return "often" if tries > 100 else "now and then"
+
+
+def fails_to_listen():
+    """How a guard ends that can't listen at the path that it has bound: its status, what it prints, and what it leaves."""
+    path = f"{folder}/unheard"
+    words = ["strace", "-f", "-qq", "-o", "/dev/null", "-e", "trace=listen", "-e", "inject=listen:error=ENOBUFS",
+             GUARD, "--no-filter", "--listen", path, "--daemon", f"{folder}/private"]
+    ended = subprocess.run(words, capture_output=True, timeout=60, check=False)
+    return ended.returncode, ended.stdout, os.path.exists(path)
 
 
 with subprocess.Popen([DAEMON, "--socket", f"{folder}/private", "--lanes", "16"], stdout=subprocess.PIPE,
@@ -85,7 +118,22 @@ with subprocess.Popen([DAEMON, "--socket", f"{folder}/private", "--lanes", "16"]
         else:
             failed += 1
             print(f"fails: {one}: {got}", flush=True)
+    if (got := statuses("getsockopt:error=ENOPROTOOPT:when=2", ask_for_groups)) == 11:
+        passed += 1
+    else:
+        failed += 1
+        print(f"fails: groups that aren't told: {got}", flush=True)
+    if (got := statuses("accept4:error=EMFILE", wait_awhile)) == "now and then":
+        passed += 1
+    else:
+        failed += 1
+        print(f"fails: no descriptors at all: {got}", flush=True)
     daemon.kill()
+if (got := fails_to_listen()) == (3, b"error: socket\n", False):
+    passed += 1
+else:
+    failed += 1
+    print(f"fails: listen: {got}", flush=True)
 shutil.rmtree(folder)
 print(f"inject: {passed} passed, {failed} failed")
 sys.exit(failed != 0)
