@@ -33,7 +33,7 @@ struct container {
 
 static struct {
     struct containers_settings settings;
-    int folder;
+    int folder, copy; /* of the daemon's program, or -1 */
     struct container *containers;
 } all;
 
@@ -66,6 +66,7 @@ bool containers_begin(const struct containers_settings *settings) {
     all.settings = *settings;
     all.containers = calloc(settings->most, sizeof *all.containers);
     if (!all.containers || !open_folder(settings->folder)) return false;
+    all.copy = copy_program(settings->daemon);
     remove_left_sockets();
     return true;
 }
@@ -128,7 +129,7 @@ static bool start_server(struct container *container) {
     unlink(path);
     container->server = fork();
     if (container->server == 0) {
-        const struct server server = { agent, container->id, all.settings.daemon, path, all.settings.memory,
+        const struct server server = { agent, container->id, all.settings.daemon, all.copy, path, all.settings.memory,
                                        container->out };
         serve_container(&server);
     }

@@ -10,8 +10,11 @@
 #include <stdio.h>
 #include <stdlib.h>
 #include <string.h>
+#include <sys/mman.h>
 #include <sys/prctl.h>
 #include <sys/resource.h>
+#include <sys/sendfile.h>
+#include <sys/stat.h>
 #include <sys/syscall.h>
 #include <unistd.h>
 
@@ -19,7 +22,12 @@
 #include "keyretain-agent-state.h"
 #include "serve.h"
 
-enum { FAILED = 3, DAEMON_PATIENCE = 10000, LISTENERS = 3, STACK_BYTES = 256 * 1024 };
+enum { FAILED = 3, DAEMON_PATIENCE = 10000, STACK_BYTES = 256 * 1024, COPIED_AT_ONCE = 1024 * 1024 };
+enum { LISTENERS = 3, COPY = 4, KEPT = 5 }; /* descriptors of a server */
+
+#ifndef MFD_EXEC
+#define MFD_EXEC 0x10u
+#endif
 
 static _Noreturn void fail(const struct server *server, const char *what) {
     fprintf(stderr, "keyretain-agent: container %s: %s: %s\n", server->id, what, strerror(errno));
@@ -28,6 +36,28 @@ static _Noreturn void fail(const struct server *server, const char *what) {
 
 /* What `parent` has started ends with it. */
 static bool end_with(pid_t parent) { return prctl(PR_SET_PDEATHSIG, SIGKILL) == 0 && getppid() == parent; }
+
+/* ---- The program ---- */
+
+/* Linux 6.3 wants to be told that it is to be executed; others don't know that. */
+static int make_file(void) {
+    int file = memfd_create("keyretaind", MFD_CLOEXEC | MFD_EXEC);
+    return file < 0 && errno == EINVAL ? memfd_create("keyretaind", MFD_CLOEXEC) : file;
+}
+
+static bool copy_all(int from, int to) {
+    ssize_t copied;
+    while ((copied = sendfile(to, from, NULL, COPIED_AT_ONCE)) > 0) continue;
+    return copied == 0 && fchmod(to, S_IXUSR) == 0;
+}
+
+int copy_program(const char *path) {
+    int program = open(path, O_RDONLY | O_CLOEXEC), copy = program < 0 ? -1 : make_file();
+    bool is_copied = copy >= 0 && copy_all(program, copy);
+    if (program >= 0) close(program);
+    if (copy >= 0 && !is_copied) close(copy);
+    return is_copied ? copy : -1;
+}
 
 /* ---- The daemon ---- */
 
@@ -48,9 +78,11 @@ static bool limit_memory(unsigned long bytes) {
 static _Noreturn void become_daemon(const struct server *server, pid_t parent, int answers) {
     static char one_arena[] = "MALLOC_ARENA_MAX=1";
     char *environment[] = { one_arena, NULL };
-    if (drop_capabilities() && end_with(parent) && limit_memory(server->memory) &&
-        dup2(answers, STDOUT_FILENO) >= 0)
-        execle(server->daemon, "keyretaind", "--socket", server->socket, "--lanes", "2", (char *)NULL, environment);
+    char *words[] = { "keyretaind", "--socket", (char *)server->socket, "--lanes", "2", NULL };
+    if (drop_capabilities() && end_with(parent) && limit_memory(server->memory) && dup2(answers, STDOUT_FILENO) >= 0) {
+        execveat(COPY, "", words, environment, AT_EMPTY_PATH);
+        execve(server->daemon, words, environment); /* no copy may be executed here, or it is no program by itself */
+    }
     fail(server, server->daemon);
 }
 
@@ -68,25 +100,35 @@ static bool is_listening(int answers) {
     return memcmp(said, wanted, sizeof said) == 0;
 }
 
+static _Noreturn void fail_daemon(const struct server *server) {
+    const char *why = errno == ETIMEDOUT ? "does not begin" : "has ended before it listened, or is another program";
+    fprintf(stderr, "keyretain-agent: container %s: its daemon %s\n", server->id, why);
+    _exit(FAILED);
+}
+
 static void start_daemon(const struct server *server) {
     pid_t parent = getpid();
     int ends[2];
     if (pipe2(ends, O_CLOEXEC) < 0) fail(server, "a pipe");
     pid_t daemon = fork();
     if (daemon == 0) become_daemon(server, parent, ends[1]);
+    if (daemon < 0) fail(server, "its daemon");
     close(ends[1]);
-    errno = ECHILD;
-    if (daemon < 0 || !is_listening(ends[0])) fail(server, "its daemon has not begun");
+    errno = 0;
+    if (!is_listening(ends[0])) fail_daemon(server);
     close(ends[0]);
+    close(COPY);
 }
 
 /* ---- The server ---- */
 
-/* Nothing of the agent but the standard descriptors and the listeners. */
-static void keep_listeners(const struct server *server) {
-    int kept = fcntl(server->listeners, F_DUPFD_CLOEXEC, LISTENERS);
-    if (kept < 0 || (kept != LISTENERS && dup3(kept, LISTENERS, O_CLOEXEC) < 0)) fail(server, "its listeners");
-    closefrom(LISTENERS + 1);
+/* Nothing of the agent but the standard descriptors and these. */
+static void keep_descriptors(const struct server *server) {
+    int listeners = fcntl(server->listeners, F_DUPFD_CLOEXEC, KEPT), copy = fcntl(server->copy, F_DUPFD_CLOEXEC, KEPT);
+    if (listeners < 0 || dup3(listeners, LISTENERS, O_CLOEXEC) < 0) fail(server, "its listeners");
+    close(COPY);
+    if (copy >= 0) dup3(copy, COPY, O_CLOEXEC);
+    closefrom(KEPT);
 }
 
 static void reset_signals(void) {
@@ -101,7 +143,7 @@ _Noreturn void serve_container(const struct server *server) {
         .tracees = { .socket = server->socket, .name = name, .is_container = true }, .more = LISTENERS };
     snprintf(name, sizeof name, "_ses.%s", server->id);
     if (!end_with(server->agent)) _exit(FAILED);
-    keep_listeners(server);
+    keep_descriptors(server);
     reset_signals();
     start_daemon(server);
     int listener = serve_receive_listener(LISTENERS);

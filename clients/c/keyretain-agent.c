@@ -221,7 +221,7 @@ static void listen_for_runtimes(void) {
     if (!is_passed && !socket_path) socket_path = AGENT_SOCKET;
     const char *name = is_passed ? "(passed)" : socket_path;
     errno = EINVAL;
-    listening = is_passed ? take_passed_listener() : open_listener(socket_path, 0600);
+    listening = is_passed ? take_passed_listener() : open_listener(socket_path, 0600, DESCRIPTORS_TAKEN);
     if (listening < 0) fail(name);
     errno = EPERM;
     if (is_passed && !is_private(listening)) fail(name);

@@ -143,11 +143,53 @@ try_two() {
   with_container b says 'each has its own of one name' 'of-a ' calls a print kept
 }
 
+# As root of another container may be that has the host's uids and sees the host's processes.
+try_apart() {
+  local others=() daemon
+  [ "$(id -u)" != 0 ] || others=(setpriv --bounding-set=-all --inh-caps=-all)
+  if ! "${others[@]}" true 2>/dev/null; then
+    skipped "what others of its uid may read of a container's daemon: no setpriv"
+    return
+  fi
+  daemon=$(children "$(children "$agent" | tr -d ' ')" | tr -d ' ')
+  is "a container's daemon" keyretaind "$(tr '\0' '\n' <"/proc/$daemon/cmdline" | head -n 1)"
+  is 'what others of its uid may read of it' nothing \
+    "$("${others[@]}" head -c 1 "/proc/$daemon/maps" 2>/dev/null || echo nothing)"
+}
+
 try_exec() {
   says 'what is executed in a container has its session' 'of-a ' calls a print kept
   says 'and one of which no process id is told' 'of-a ' contain a --pid 0 -- "$dir/calls" print kept
   says 'and what adds a key' 'ok more ' calls a add later more @s print later
   says 'which stays when it has ended' 'more ' calls a print later
+}
+
+# What one listener tells is waited for once, or what is executed would wait for the next call of the first process.
+try_twice() {
+  local first
+  rm -f "$dir/told" "$dir/asked" "$dir/end"
+  contain t --often 2 -- "$dir/calls" await "$dir/told" add k v @s put "$dir/asked" await "$dir/end" >/dev/null &
+  first=$!
+  until_true grep -q 'container t: one more' "$dir/$variant.err"
+  sleep 0.2 # the server may still have to take it
+  touch "$dir/told"
+  until_true test -e "$dir/asked"
+  says 'a listener that is told twice' 'v ' timeout 20 "$dir/runtime" "$socket" t -- "$dir/calls" print k
+  touch "$dir/end"
+  finish "$first"
+}
+
+# Whoever else has the listener of what has ended, as a runtime for a moment: its container goes on.
+try_held() {
+  local holder
+  rm -f "$dir/held" "$dir/freed"
+  contain a --held "$dir/held" "$dir/freed" -- "$dir/calls" print kept >"$dir/held.out" &
+  holder=$!
+  until_true [ -e "$dir/held" ]
+  says 'a container where a listener is held for which nobody is left' 'of-a ' calls a print kept
+  : >"$dir/freed"
+  finish "$holder"
+  says 'what had that listener' 'of-a ' cat "$dir/held.out"
 }
 
 # The second ends while the first is there.
@@ -237,6 +279,9 @@ try_containers() {
   try_sending
   with_container a try_two
   with_container a try_exec
+  with_container a try_apart
+  try_twice
+  with_container a try_held
   try_again
   try_ids
   try_other_ids

@@ -7,7 +7,8 @@ state_of() { sed -n 's/^State:\t\(.\).*/\1/p' "/proc/$1/status" 2>/dev/null; }
 
 is_in_state() { [ "$(state_of "$1")" = "$2" ]; }
 
-is_gone() { [ -z "$(state_of "$1")" ] || is_in_state "$1" Z; }
+# A process that is being taken away is X for a moment.
+is_gone() { [[ $(state_of "$1") == ?([XZ]) ]]; }
 
 # find_processes: $server and $keeper are the server and the daemon of the one container
 find_processes() {
@@ -98,6 +99,19 @@ try_stopped_server() {
   says 'the next one, which has begun before it goes on' 'ok v ' cat "$dir/next.out"
 }
 
+# What a server that goes no further isn't given any more, and the agent waits for nothing.
+try_full_server() {
+  begin_container a
+  kill -STOP "$server"
+  until_true is_in_state "$server" T
+  is 'more listeners than a stopped server can be given' '' "$(contain a --often 500 -- true)"
+  one_goes 'another container, beside a server that takes none'
+  is 'the others are refused' 1 "$(grep -q 'container a: there are too many' "$dir/$variant.err" && echo 1)"
+  kill -KILL "$server"
+  until_true has_no_containers
+  end_container 'a container whose server takes none' ''
+}
+
 # The server has ended, and the agent takes the next listener before it learns of that.
 try_ended_server() {
   local next before
@@ -148,6 +162,8 @@ try_no_daemon() {
   says 'a daemon that does not listen' 'ENOSYS ' calls a print k
   until_true has_no_children
   is 'what is left of it' '' "$(children "$agent")"
+  is 'what is told of it' 'its daemon has ended before it listened, or is another program' \
+    "$(sed -n 's/^keyretain-agent: container a: \(its daemon.*\)/\1/p' "$dir/$variant.err" | tail -n 1)"
   end_agent 'a daemon that does not listen'
 }
 
@@ -280,15 +296,15 @@ try_rights() {
   is 'capabilities of a daemon' '0000000000000000 0000000000000000' \
     "$(field "$keeper" CapPrm) $(field "$keeper" CapEff)"
   is 'new privileges of a daemon' 1 "$(field "$keeper" NoNewPrivs)"
-  is 'environment of a daemon' 'MALLOC_ARENA_MAX=1 ' "$(tr '\0' ' ' <"/proc/$keeper/environ" 2>/dev/null)"
   is 'signals that a daemon holds back' 0000000000000000 "$(field "$keeper" SigBlk)"
   is 'core files of a daemon' 0 "$(sed -n 's/^Max core file size *\([^ ]*\).*/\1/p' "/proc/$keeper/limits")"
-  is "descriptors of a daemon that aren't its own" '' "$(foreign_descriptors "$keeper")"
-  if is_root; then
-    is "descriptors of a server that aren't its own" '' "$(foreign_descriptors "$server")"
-  elif [ "$(id -u)" != 0 ]; then
-    is 'who looks into an agent' 'no no' "$(looks_into "$agent") $(looks_into "$server")"
+  if [ "$(id -u)" = 0 ]; then
+    is 'environment of a daemon' 'MALLOC_ARENA_MAX=1 ' "$(tr '\0' ' ' <"/proc/$keeper/environ" 2>/dev/null)"
+    is "descriptors of a daemon that aren't its own" '' "$(foreign_descriptors "$keeper")"
+  else
+    is 'who looks into an agent' 'no no no' "$(looks_into "$agent") $(looks_into "$server") $(looks_into "$keeper")"
   fi
+  ! is_root || is "descriptors of a server that aren't its own" '' "$(foreign_descriptors "$server")"
   end_container 'a container that was looked at' ''
 }
 
@@ -346,6 +362,7 @@ try_ends() {
   try_daemon_killed
   try_server_killed
   try_stopped_server
+  try_full_server
   try_ended_server
   try_places
   try_peers

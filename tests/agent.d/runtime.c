@@ -7,6 +7,8 @@
  *   --pieces         a byte at a time, the descriptors with the last one
  *   --halves A B     a byte, then it makes the file A, awaits B, sends the rest and removes B
  *   --open           the connection is left open until CMD has ended
+ *   --held A B       it keeps the listener where CMD has ended, makes the file A, awaits B and removes it
+ *   --often N        all that so many times, on a connection each
  *   --uids N         in a user namespace whose uids and gids 0 to 999 are N to N + 999 outside; `own`: its 0 is the
  *                    caller's
  *   --pids           in a pid namespace, which the user namespace owns
@@ -28,8 +30,8 @@
 
 enum { DESCRIPTORS = 64, FAILED = 99 };
 
-static const char *half, *rest, *state, *names = "[\"seccompFd\"]", *uids;
-static int count = 1, pid = -1;
+static const char *half, *rest, *held, *freed, *state, *names = "[\"seccompFd\"]", *uids;
+static int count = 1, often = 1, pid = -1;
 static bool is_in_pieces, is_left_open, has_pids;
 
 static _Noreturn void fail(const char *what) {
@@ -42,11 +44,13 @@ static char **read_options(char **words) {
         if (strcmp(*words, "--pieces") == 0) is_in_pieces = true;
         else if (strcmp(*words, "--halves") == 0) half = *++words, rest = *++words;
         else if (strcmp(*words, "--open") == 0) is_left_open = true;
+        else if (strcmp(*words, "--held") == 0) held = *++words, freed = *++words;
         else if (strcmp(*words, "--pids") == 0) has_pids = true;
         else if (strcmp(*words, "--pid") == 0) pid = atoi(*++words);
         else if (strcmp(*words, "--state") == 0) state = *++words;
         else if (strcmp(*words, "--names") == 0) names = *++words;
         else if (strcmp(*words, "--count") == 0) count = atoi(*++words);
+        else if (strcmp(*words, "--often") == 0) often = atoi(*++words);
         else if (strcmp(*words, "--uids") == 0) uids = *++words;
     }
     if (!*words || count > DESCRIPTORS) exit(FAILED);
@@ -95,9 +99,9 @@ static void send_part(int connection, const char *text, size_t length, const int
     if (sendmsg(connection, &message, MSG_NOSIGNAL) < 0) return; /* the agent has had enough */
 }
 
-static void wait_between(void) {
-    close(open(half, O_CREAT | O_WRONLY | O_CLOEXEC, 0600));
-    for (int i = 0; i < 3000 && access(rest, F_OK) < 0; i++) usleep(20000);
+static void make_and_await(const char *made, const char *awaited) {
+    close(open(made, O_CREAT | O_WRONLY | O_CLOEXEC, 0600));
+    for (int i = 0; i < 3000 && access(awaited, F_OK) < 0; i++) usleep(20000);
 }
 
 static void tell(int connection, const char *text, int listener) {
@@ -106,7 +110,7 @@ static void tell(int connection, const char *text, int listener) {
     for (int i = 0; i < count; i++) descriptors[i] = i == count - 1 ? listener : STDERR_FILENO;
     for (int i = 0; length > 1 && (is_in_pieces || (half && i == 0)); i++, length--)
         send_part(connection, text++, 1, NULL, 0);
-    if (half) wait_between();
+    if (half) make_and_await(half, rest);
     send_part(connection, text, length, descriptors, count);
     if (half) unlink(rest);
 }
@@ -126,13 +130,18 @@ static int run_parent(const char *agent, const char *id, pid_t child, int socket
     int status;
     if (uids && read(socket, &byte, 1) == 1) put_maps(child);
     if (uids && write(socket, "m", 1) != 1) return FAILED;
-    int listener = receive_listener(socket), connection = connect_to(agent);
+    int listener = receive_listener(socket);
     snprintf(text, sizeof text, "{\"ociVersion\":\"1.0.2\",\"fds\":%s,\"pid\":%d,\"metadata\":\"\",\"state\":"
              "{\"id\":\"%s\",\"pid\":%d}}", names, pid < 0 ? (int)child : pid, id, (int)child);
-    tell(connection, state ? state : text, listener);
-    close(listener);
-    if (!is_left_open) close(connection);
+    for (int i = 0; i < often; i++) {
+        int connection = connect_to(agent);
+        tell(connection, state ? state : text, listener);
+        if (!is_left_open) close(connection);
+    }
+    if (!held) close(listener);
     if (write(socket, "g", 1) != 1 || waitpid(child, &status, 0) != child) return FAILED;
+    if (held) make_and_await(held, freed);
+    if (held) unlink(freed);
     return WIFEXITED(status) ? WEXITSTATUS(status) : FAILED;
 }
 
