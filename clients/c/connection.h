@@ -33,6 +33,7 @@ struct kr {
     pid_t owner; /* 0 where is_here tells */
     enum kr_place place;
     bool trusts_anybody;
+    uid_t user; /* whose secrets it is told: who listens is trusted by this user, also when it is connected anew */
     uid_t peer_uid;
     gid_t peer_gid;
     pid_t peer_pid;
@@ -60,15 +61,12 @@ struct kr_answer {
 
 /* ---- socket.c ---- */
 
-/* A connection whose socket isn't connected yet: no call waits in here. NULL with errno. */
-struct kr *kr_prepare(const char *path, int version, unsigned flags);
+/* A connection for this user whose socket isn't connected yet: no call waits in here. NULL with errno. */
+struct kr *kr_prepare(const char *path, int version, unsigned flags, uid_t user);
 
 /* Connects it by its deadline, and sees who listens; -1 with errno. Also anew, after kr_let_go. */
 int kr_connect(struct kr *connection);
 void kr_let_go(struct kr *connection);
-
-/* Whether who listens may be told what a user keeps. */
-bool kr_may_be_told(const struct kr *connection, uid_t user);
 
 /* Whether the descriptor is still the socket that was opened here, by this process. */
 bool kr_is_ours(const struct kr *connection);

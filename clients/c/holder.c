@@ -178,11 +178,18 @@ static int start(struct pipes *pipes, char *const words[], struct kr_session *se
     return result;
 }
 
+static bool is_a_line(const char *name) { return !strchr(name, '\n'); }
+
 int kr_start_keeper(struct kr_holder *holder, struct kr_session *session, const char *socket, bool links_user,
                     int64_t deadline, enum kr_refusal *why) {
     struct pipes pipes = { { -1, -1 }, { -1, -1 } };
     char *words[8] = { "keyretain-keeper", "--deaf", "--socket", (char *)socket };
     int count = 4;
+    if (!is_a_line(session->name)) { /* which the keeper answers with */
+        *why = KR_REFUSED;
+        errno = EINVAL;
+        return -1;
+    }
     if (!links_user) words[count++] = "--no-link";
     if (*session->name) words[count++] = "--name", words[count++] = session->name;
     int result = start(&pipes, words, session, deadline, why);

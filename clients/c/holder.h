@@ -19,8 +19,9 @@ struct kr_holder {
 enum kr_refusal { KR_REFUSED, KR_NO_DAEMON, KR_NO_KEEPER };
 
 /* Has a keeper make the session of this name at this socket, and hold it; for an empty name one of its own, which the
- * keeper makes up, as everybody can read its command line. `links_user` links the user keyring to it, as a login does.
- * Sets the session's serial and name. -1 with errno, and why, after `deadline` (of kr_now) at the latest. */
+ * keeper makes up, as everybody can read its command line. One with an end of line is EINVAL. `links_user` links the
+ * user keyring to it, as a login does. Sets the session's serial and name. -1 with errno, and why, after `deadline` (of
+ * kr_now) at the latest. */
 int kr_start_keeper(struct kr_holder *holder, struct kr_session *session, const char *socket, bool links_user,
                     int64_t deadline, enum kr_refusal *why);
 

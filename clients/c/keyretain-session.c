@@ -143,18 +143,23 @@ static void begin(const char *name, const char *path, struct kr_session *session
     fail(NO_CONNECTION, why == KR_NO_KEEPER && errno != ETIMEDOUT ? "keyretain-keeper" : path);
 }
 
+/* A login without a session has the variable too, and empty. */
+static _Noreturn void refuse_to_join(void) {
+    fputs("keyretain-session: there is no session to join: " KR_SESSION_VARIABLE " names none\n", stderr);
+    exit(REFUSED);
+}
+
 /* Sees that the session which the environment names is there. Whoever began it holds it. */
 static void join(const char *path, struct kr_session *session) {
     const char *text = getenv(KR_SESSION_VARIABLE);
     struct kr_identity identity;
-    errno = ENOENT;
-    if (!text || !kr_parse_session(session, text) || session->serial == 0) fail(REFUSED, KR_SESSION_VARIABLE);
+    if (!text || !kr_parse_session(session, text) || session->serial == 0) refuse_to_join();
     struct kr *connection = kr_open_with(path, 0, 0, PATIENCE_MILLISECONDS);
     if (!connection) fail(NO_CONNECTION, path);
     kr_set_deadline(connection, kr_now() + PATIENCE_MILLISECONDS);
     kr_own_identity(&identity);
     int64_t context = kr_hello_as(connection, &identity);
-    int entered = context < 0 ? -1 : kr_enter_session(connection, (uint32_t)context, session);
+    int entered = context < 0 ? -1 : kr_enter_session(connection, (uint32_t)context, session, identity.uid);
     if (entered == 1) errno = EKEYREVOKED;
     if (entered == 1) fail(REFUSED, session->name);
     if (entered < 0) fail_ask(connection, session->name);

@@ -7,6 +7,7 @@
 #include <errno.h>
 #include <fcntl.h>
 #include <limits.h>
+#include <linux/auxvec.h>
 #include <linux/kcmp.h>
 #include <linux/nsfs.h>
 #include <linux/seccomp.h>
@@ -20,6 +21,7 @@
 #include <unistd.h>
 
 enum { DECIMAL = 10, OVERFLOW_ID = 65534, FORKED_AND_NOT_EXECUTED = 0x40 /* PF_FORKNOEXEC of the kernel */ };
+enum { KINDRED = 1024 }; /* so many there is room for at first */
 
 #ifndef PIDFD_THREAD
 #define PIDFD_THREAD O_EXCL
@@ -126,10 +128,44 @@ bool proc_has_only_forked(pid_t process) {
     return read_stat(process, &parent, &flags) && flags & FORKED_AND_NOT_EXECUTED;
 }
 
+/* The 26th field is where the code begins, and the 28th where the stack does. */
+uint64_t proc_image(pid_t process) {
+    char text[1024];
+    unsigned long long code, stack;
+    const char *at = read_of(process, "stat", text, sizeof text) ? strrchr(text, ')') : NULL;
+    for (int field = 2; at && field < 26; field++) at = strchr(at + 1, ' ');
+    if (!at || sscanf(at, " %llu %*u %llu", &code, &stack) != 2 || stack == 0) return 0;
+    return code ^ (stack << 20 | stack >> 44);
+}
+
 /* Only what the kernel says is another's memory is not shared. */
 bool proc_may_share_memory(pid_t process, pid_t parent) {
     long order = syscall(SYS_kcmp, process, parent, KCMP_VM, 0, 0);
     return order <= 0;
+}
+
+/* ---- auxv ---- */
+
+/* The value of a type, in pairs of words of this many bytes. */
+static uint64_t find_auxiliary(const char *bytes, size_t room, size_t width, uint64_t type) {
+    for (size_t at = 0; at + 2 * width <= room; at += 2 * width) {
+        uint64_t found = 0, value = 0;
+        memcpy(&found, bytes + at, width);
+        memcpy(&value, bytes + at + width, width);
+        if (found == type) return value;
+    }
+    return 0;
+}
+
+/* The first is a type, which is a small number, and a value that isn't 0: of a program of 32 bits both are in one word. */
+bool proc_is_secure(pid_t process, uint32_t *uid) {
+    char bytes[1024] = "";
+    uint64_t first;
+    if (!read_of(process, "auxv", bytes, sizeof bytes)) return false;
+    memcpy(&first, bytes, sizeof first);
+    size_t width = first > UINT32_MAX ? sizeof(uint32_t) : sizeof(uint64_t);
+    *uid = (uint32_t)find_auxiliary(bytes, sizeof bytes, width, AT_UID);
+    return find_auxiliary(bytes, sizeof bytes, width, AT_SECURE) != 0;
 }
 
 /* ---- Descriptors ---- */
@@ -155,32 +191,99 @@ bool proc_has_ended(int descriptor) {
 
 /* ---- Lists ---- */
 
-static void visit_children_of_thread(pid_t process, const char *thread, void (*visit)(pid_t, void *), void *data) {
-    char path[320];
-    int child;
-    snprintf(path, sizeof path, "/proc/%d/task/%s/children", (int)process, thread);
-    FILE *children = fopen(path, "re");
-    if (!children) return;
-    while (fscanf(children, "%d", &child) == 1) visit(child, data);
-    fclose(children);
-}
-
-void proc_each_child(pid_t process, void (*visit)(pid_t, void *), void *data) {
-    char path[64];
-    snprintf(path, sizeof path, "/proc/%d/task", (int)process);
-    DIR *threads = opendir(path);
-    if (!threads) return;
-    for (struct dirent *entry; (entry = readdir(threads)) != NULL;)
-        if (isdigit((unsigned char)*entry->d_name)) visit_children_of_thread(process, entry->d_name, visit, data);
-    closedir(threads);
-}
-
-void proc_each(void (*visit)(pid_t, void *), void *data) {
+bool proc_each(void (*visit)(pid_t, void *), void *data) {
     DIR *processes = opendir("/proc");
-    if (!processes) return;
-    for (struct dirent *entry; (entry = readdir(processes)) != NULL;)
+    if (!processes) return false;
+    struct dirent *entry;
+    while (errno = 0, (entry = readdir(processes)) != NULL)
         if (isdigit((unsigned char)*entry->d_name)) visit((pid_t)strtol(entry->d_name, NULL, DECIMAL), data);
+    int error = errno;
     closedir(processes);
+    errno = error;
+    return error == 0;
+}
+
+/* A process, and whether it was found below the one whose descendants are visited. */
+struct kin {
+    pid_t process, parent;
+    bool is_below;
+};
+
+struct kindred {
+    struct kin *all;
+    size_t count, room;
+    int error;
+};
+
+static bool make_room(struct kindred *kindred) {
+    if (kindred->count < kindred->room) return true;
+    size_t room = kindred->room ? 2 * kindred->room : KINDRED;
+    struct kin *all = realloc(kindred->all, room * sizeof *all);
+    if (!all) return false;
+    kindred->all = all;
+    kindred->room = room;
+    return true;
+}
+
+/* What has ended meanwhile is left out. */
+static void add_kin(pid_t process, void *data) {
+    struct kindred *kindred = data;
+    struct kin kin = { .process = process };
+    unsigned flags;
+    errno = EIO; /* where there is something else than the fields */
+    if (!read_stat(process, &kin.parent, &flags)) {
+        if (errno != ENOENT && errno != ESRCH) kindred->error = errno;
+    } else if (make_room(kindred)) {
+        kindred->all[kindred->count++] = kin;
+    } else {
+        kindred->error = ENOMEM;
+    }
+}
+
+static int compare_kin(const void *one, const void *other) {
+    const struct kin *left = one, *right = other;
+    return (left->process > right->process) - (left->process < right->process);
+}
+
+static bool is_below(const struct kindred *kindred, const struct kin *kin, pid_t process) {
+    const struct kin wanted = { .process = kin->parent };
+    if (kin->parent == process) return true;
+    const struct kin *parent = bsearch(&wanted, kindred->all, kindred->count, sizeof wanted, compare_kin);
+    return parent && parent->is_below;
+}
+
+static void visit_below(struct kindred *kindred, pid_t process, void (*visit)(pid_t, void *), void *data) {
+    bool has_more = kindred->count > 0;
+    while (has_more) {
+        has_more = false;
+        for (struct kin *kin = kindred->all; kin < kindred->all + kindred->count; kin++) {
+            if (kin->is_below || !is_below(kindred, kin, process)) continue;
+            kin->is_below = has_more = true;
+            visit(kin->process, data);
+        }
+    }
+}
+
+bool proc_each_descendant(pid_t process, void (*visit)(pid_t, void *), void *data) {
+    struct kindred kindred = { 0 };
+    if (!proc_each(add_kin, &kindred)) kindred.error = errno;
+    if (kindred.count > 0) qsort(kindred.all, kindred.count, sizeof *kindred.all, compare_kin);
+    if (kindred.error == 0) visit_below(&kindred, process, visit, data);
+    free(kindred.all);
+    errno = kindred.error;
+    return kindred.error == 0;
+}
+
+/* The list of a thread's children tells reliably that there are none. */
+bool proc_may_have_children(pid_t process) {
+    struct proc_status status;
+    char path[64], byte;
+    if (!proc_read_status(process, &status) || status.threads != 1) return true;
+    snprintf(path, sizeof path, "/proc/%d/task/%d/children", (int)process, (int)process);
+    int list = open(path, O_RDONLY | O_CLOEXEC);
+    bool has_none = list >= 0 && read(list, &byte, 1) == 0;
+    if (list >= 0) close(list);
+    return !has_none;
 }
 
 /* ---- User namespaces ---- */

@@ -4,19 +4,23 @@
 #include <stdlib.h>
 #include <string.h>
 
+/* How many of these have a bit. */
+static int32_t told_apart(int32_t stale) { return stale < SERIALS_TOLD_APART ? stale : SERIALS_TOLD_APART; }
+
 void serials_add(struct serials *serials, int32_t serial) {
     if (serial <= 0) return;
     if (serial > serials->highest) serials->highest = serial;
-    if (serial <= serials->stale) serials->again[serial / 8] |= (uint8_t)(1 << serial % 8);
+    if (serial <= told_apart(serials->stale)) serials->again[serial / 8] |= (uint8_t)(1 << serial % 8);
 }
 
 bool serials_is_stale(const struct serials *serials, int32_t serial) {
-    return serial > 0 && serial <= serials->stale && !(serials->again[serial / 8] >> serial % 8 & 1);
+    if (serial <= 0 || serial > serials->stale) return false;
+    return serial > told_apart(serials->stale) || !(serials->again[serial / 8] >> serial % 8 & 1);
 }
 
 int serials_begin_anew(struct serials *serials) {
     int32_t stale = serials->highest > serials->stale ? serials->highest : serials->stale;
-    uint8_t *again = calloc((size_t)stale / 8 + 1, 1), *before = serials->again;
+    uint8_t *again = calloc((size_t)told_apart(stale) / 8 + 1, 1), *before = serials->again;
     if (!again) return -1;
     *serials = (struct serials){ .stale = stale, .again = again };
     free(before);

@@ -6,6 +6,10 @@
 #include <stdbool.h>
 #include <stdint.h>
 
+/* Up to this one serials are told apart, which takes 16 MiB at most: a daemon may say any, and so take the memory of
+ * whoever asks it. Of those above it an earlier daemon's stay stale. */
+enum { SERIALS_TOLD_APART = 1 << 27 };
+
 /* All zero at first. */
 struct serials {
     int32_t highest; /* that this daemon told, or was asked about and knew */

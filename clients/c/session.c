@@ -156,11 +156,11 @@ int32_t kr_begin_session(struct kr *connection, uint32_t context, const char *na
 
 /* A daemon that was started anew gives the same serials again. So it isn't enough that the serial is the session's: one
  * that JOIN has just made is known by lacking the right to search, without which JOIN would not have found it. */
-int kr_enter_session(struct kr *connection, uint32_t context, const struct kr_session *session) {
+int kr_enter_session(struct kr *connection, uint32_t context, const struct kr_session *session, uint32_t uid) {
     struct attributes attributes = { 0 };
     int32_t ring = kr_join(connection, context, session->name);
     if (ring < 0) return -1;
-    int other = ring != session->serial ? 1 : check_private(connection, context, ring, geteuid(), &attributes);
+    int other = ring != session->serial ? 1 : check_private(connection, context, ring, uid, &attributes);
     if (other == 0 && !(attributes.mask & USER_MAY_SEARCH)) return 1;
     return other > 0 ? leave_session(connection, context) : other;
 }

@@ -16,15 +16,18 @@
 enum { USER_MAY_SEARCH = 0x00080000, GROUP_MAY_SEARCH = 0x00000800, OTHERS_MAY_SEARCH = 0x00000008 };
 enum { ABSENT_SWEEPS = 2 };
 
-/* A tag is between these two, where no limit stands that a person sets. */
-#define TAG_MARK UINT64_C(0x4000000000000000)
-#define TAG_BITS UINT64_C(0x3fffffffffffffff)
+/* A tag is a number in the first half of these, and a mark in the second, where no limit stands that a person sets. */
+#define TAG_BASE UINT64_C(0x4000000000000000)
+#define TAG_BITS UINT64_C(0x1fffffffffffffff)
+#define MARK_BASE UINT64_C(0x6000000000000000)
+#define MARK_BITS TAG_BITS
 
 static struct {
     struct user *users;
     struct session *sessions, *first;
     bool is_container;
     rlim_t untagged; /* the limit of a process of a container that has joined no session */
+    uint64_t mark;   /* the last one */
 } all;
 
 /* ---- Identities ---- */
@@ -90,17 +93,18 @@ static struct session *find_session(int32_t serial) {
 
 static int make_tag(uint64_t *tag) {
     if (getrandom(tag, sizeof *tag, 0) != (ssize_t)sizeof *tag) return -1;
-    *tag = (*tag & TAG_BITS) | TAG_MARK;
+    *tag = (*tag & TAG_BITS) | TAG_BASE;
     return 0;
 }
 
 /* What this context has joined, with a holder of its own. */
 static struct session *add_session(const struct context *context, struct user *user, const uint32_t uids[PROC_IDS],
-                                   int32_t serial, const char *name) {
+                                   int32_t serial, const char *name, uint32_t starter) {
     struct session *session = calloc(1, sizeof *session);
     if (!session) return NULL;
     session->user = user;
     memcpy(session->uids, uids, sizeof session->uids);
+    session->starter = starter;
     session->serial = serial;
     snprintf(session->name, sizeof session->name, "%s", name);
     if (make_tag(&session->tag) < 0 || context_fork(&session->holder, context) < 0) {
@@ -116,21 +120,21 @@ static struct session *add_session(const struct context *context, struct user *u
 
 /* One without a name gets one that nobody can guess, as others may find it for a moment: session_enter_by_name. */
 struct session *session_join(const struct context *context, struct user *user, const uint32_t uids[PROC_IDS],
-                             const char *name) {
+                             const char *name, uint32_t starter) {
     struct kr_session named;
     struct kr *connection = context_connection(context);
     if (!connection || kr_name_session(&named, name) < 0) return NULL;
     int32_t serial = kr_join(connection, context->number, named.name);
     if (serial < 0) return NULL;
     struct session *session = find_session(serial);
-    return session ? session : add_session(context, user, uids, serial, named.name);
+    return session ? session : add_session(context, user, uids, serial, named.name, starter);
 }
 
 static bool is_all_users(const struct session *session) { return all.is_container && session == all.first; }
 
 bool session_is_of(const struct session *session, uint32_t uid) {
     for (int i = 0; i < PROC_IDS; i++)
-        if (session->uids[i] == uid) return true;
+        if (session->uids[i] == uid && uid != session->starter) return true;
     return is_all_users(session);
 }
 
@@ -240,28 +244,62 @@ static struct session *find_tag(rlim_t tag) {
     return session;
 }
 
-static bool is_untagged(rlim_t tag) { return all.is_container && tag == all.untagged; }
+static bool is_mark(rlim_t limit) { return (limit & ~MARK_BITS) == MARK_BASE; }
+
+/* The limit of what is marked is no higher than the mark. */
+static bool is_untagged(rlim_t tag) {
+    return all.is_container && (tag == all.untagged || (is_mark(tag) && all.untagged > tag));
+}
 
 enum tag session_of_tag(pid_t process, struct session **session) {
     struct rlimit limit;
     if (!read_limit(process, &limit)) return TAG_UNREADABLE;
     *session = is_untagged(limit.rlim_cur) ? all.first : find_tag(limit.rlim_cur);
-    return *session || (limit.rlim_cur & ~TAG_BITS) == TAG_MARK ? TAG_READ : TAG_NONE;
+    return *session || (limit.rlim_cur & ~TAG_BITS) == TAG_BASE ? TAG_READ : TAG_NONE;
 }
 
-bool session_put_tag(pid_t process, const struct session *session) {
+/* The tag of the session before would say what isn't so any more. */
+void session_put_tag(pid_t process, const struct session *session) {
     struct rlimit limit;
     rlim_t tag = all.is_container && session == all.first ? all.untagged : session->tag;
-    if (!read_limit(process, &limit) || limit.rlim_max < tag) return false;
+    if (!read_limit(process, &limit)) return;
+    if (tag > limit.rlim_max) tag = is_mark(limit.rlim_max) ? limit.rlim_max : 0;
     limit.rlim_cur = tag;
+    prlimit(process, RLIMIT_LOCKS, &limit, NULL);
+}
+
+/* ---- Marks ---- */
+
+uint64_t sessions_new_mark(void) {
+    if (all.mark == 0) all.mark = MARK_BASE | MARK_BITS;
+    return --all.mark;
+}
+
+bool session_mark(pid_t process, uint64_t mark) {
+    struct rlimit limit;
+    if (!read_limit(process, &limit) || limit.rlim_max <= mark) return false;
+    limit.rlim_max = mark;
+    if (limit.rlim_cur > mark) limit.rlim_cur = mark;
     return prlimit(process, RLIMIT_LOCKS, &limit, NULL) == 0;
 }
 
+/* What is forked has its parent's hard limit, and could only lower it. */
+bool session_may_be_handed_down(pid_t process, pid_t ancestor, uint64_t mark) {
+    struct rlimit limit, above;
+    return read_limit(process, &limit) && read_limit(ancestor, &above) && limit.rlim_max >= above.rlim_max &&
+           (mark == 0 || above.rlim_max > mark);
+}
+
+/* ---- The ends of sessions ---- */
+
+/* What another user's process bears it could only have come to by an ancestor that has it: then some entry uses it. */
 static void see_tag(pid_t process, void *unused) {
     struct rlimit limit;
+    struct proc_status status;
     (void)unused;
     struct session *session = read_limit(process, &limit) ? find_tag(limit.rlim_cur) : NULL;
-    if (session) session->absent = 0;
+    if (!session || session->uses > 0) return;
+    if (!proc_read_status(process, &status) || session_was_begun_as(session, status.identity.uid)) session->absent = 0;
 }
 
 static unsigned count_unused(void) {
@@ -329,7 +367,8 @@ int sessions_begin(const struct kr_identity *identity, const char *name, bool is
     bool is_linked = is_container || (serial > 0 && kr_link(connection, context.number, KEY_SPEC_USER_KEYRING,
                                                             KEY_SPEC_SESSION_KEYRING) == 0);
     const uint32_t uid = identity->uid, uids[PROC_IDS] = { uid, uid, uid, uid };
-    if (serial > 0 && is_linked) all.first = session_use(add_session(&context, user, uids, serial, named.name));
+    if (serial > 0 && is_linked)
+        all.first = session_use(add_session(&context, user, uids, serial, named.name, UINT32_MAX));
     context_end(&context);
     return all.first ? 0 : -1;
 }

@@ -1,9 +1,12 @@
 /* sessions.h: the sessions and the identities of what a supervisor serves.
  *
  * Which session a new process has is the one thing that fork(2) hands down and nobody tells. So what has joined a
- * session bears its tag: 62 random bits in the soft limit RLIMIT_LOCKS, which no kernel since 2.4.25 heeds. fork(2)
+ * session bears its tag: 61 random bits in the soft limit RLIMIT_LOCKS, which no kernel since 2.4.25 heeds. fork(2)
  * copies it, execve(2) keeps it, and prlimit(2) reads it in processes of one's uid. But limits of proc(5) tell it to
- * everybody, and any process may set it: so a tag says which session is meant, and not that a process may have it. */
+ * everybody, and any process may set it: so a tag says which session is meant, and not that a process may have it.
+ *
+ * Nor does the kernel tell who has forked a process: it may have been left to its parent, or be its by CLONE_PARENT. So
+ * what is below a process that joins a session is marked before, by the hard limit, which nobody can raise again. */
 #ifndef KEYRETAIN_SESSIONS_H
 #define KEYRETAIN_SESSIONS_H
 
@@ -29,6 +32,7 @@ struct session {
     int32_t serial;
     uint64_t tag;
     uint32_t uids[PROC_IDS]; /* of the process that began it, as this one sees them */
+    uint32_t starter;        /* who has executed that, where it runs set-uid; else UINT32_MAX */
     unsigned uses;   /* how many entries of threads have it */
     unsigned absent; /* how many sweeps have found no process with its tag, since none uses it */
     struct session *next;
@@ -52,13 +56,14 @@ bool session_is_lost(const struct session *session);
 struct session *session_use(struct session *session);
 void session_let_go(struct session *session);
 
-/* Joins the session of this name in the context of this identity, or one of its own for NULL: NULL with errno. */
+/* Joins the session of this name in the context of this identity, or one of its own for NULL: NULL with errno. The process
+ * that does so has these uids, and `starter` as in `struct session`. */
 struct session *session_join(const struct context *context, struct user *user, const uint32_t uids[PROC_IDS],
-                             const char *name);
+                             const char *name, uint32_t starter);
 
 /* Whether a session was begun for this uid: by it, or by a process that can be it, as a login does; or it is the first
- * of a container, which is all users'. A program that runs set-uid can be its caller too: so what its caller's processes
- * could say by themselves, as a tag, is believed only where the session was begun as this uid. */
+ * of a container, which is all users'. A program that runs set-uid can be its caller too, but begins none for that. So what
+ * its caller's processes could say by themselves, as a tag, is believed only where the session was begun as this uid. */
 bool session_is_of(const struct session *session, uint32_t uid);
 bool session_was_begun_as(const struct session *session, uint32_t uid);
 
@@ -74,8 +79,18 @@ bool session_enter_by_name(const struct context *context, const struct kr_identi
 enum tag { TAG_READ, TAG_NONE, TAG_UNREADABLE };
 enum tag session_of_tag(pid_t process, struct session **session);
 
-/* Puts the tag of a session: false where the kernel or a hard limit doesn't allow it. */
-bool session_put_tag(pid_t process, const struct session *session);
+/* Puts the tag of a session; where a hard limit doesn't allow it, none. The kernel may allow neither. */
+void session_put_tag(pid_t process, const struct session *session);
+
+/* The number of a mark that no process bears yet. Each is lower than all before it, which it takes the place of. */
+uint64_t sessions_new_mark(void);
+
+/* Whether a process was to be marked, and was. */
+bool session_mark(pid_t process, uint64_t mark);
+
+/* Whether a process may have been forked by this ancestor, or by what that has forked, since others below it were given
+ * this mark; 0 is none. */
+bool session_may_be_handed_down(pid_t process, pid_t ancestor, uint64_t mark);
 
 /* Ends the sessions that no entry uses and no process bears the tag of, in two sweeps one after the other. */
 bool sessions_want_sweep(void);

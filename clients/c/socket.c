@@ -22,8 +22,11 @@ static int fail(int error) {
     return -1;
 }
 
+/* Nothing is sent or decoded any more, so nothing stays of what was to be: whoever has the connection may keep it. */
 int kr_break_off(struct kr *connection, int error) {
     connection->broken = true;
+    explicit_bzero(connection->memory->out, connection->out_end);
+    explicit_bzero(connection->memory->in, connection->in_length);
     return fail(error);
 }
 
@@ -108,9 +111,15 @@ static int set_address(struct kr *connection, const char *path) {
 
 static int have_socket(struct kr *connection) {
     struct stat status;
+    int opened = open_socket();
     connection->waits[IN_SEND] = connection->waits[IN_RECV] = 0;
-    connection->descriptor = open_socket();
-    if (connection->descriptor < 0 || fstat(connection->descriptor, &status) < 0) return -1;
+    if (opened < 0) return -1;
+    if (fstat(opened, &status) < 0) {
+        int error = errno;
+        close(opened);
+        return fail(error);
+    }
+    connection->descriptor = opened;
     connection->inode = status.st_ino;
     connection->device = status.st_dev;
     return 0;
@@ -129,9 +138,11 @@ static int prepare(struct kr *connection, const char *path, int version, unsigne
     return connection->memory ? have_socket(connection) : -1;
 }
 
-struct kr *kr_prepare(const char *path, int version, unsigned flags) {
+struct kr *kr_prepare(const char *path, int version, unsigned flags, uid_t user) {
     struct kr *connection = calloc(1, sizeof *connection);
-    if (!connection || prepare(connection, path, version, flags) == 0) return connection;
+    if (!connection) return NULL;
+    connection->user = user;
+    if (prepare(connection, path, version, flags) == 0) return connection;
     kr_close(connection);
     return NULL;
 }
@@ -151,9 +162,11 @@ static int connect_in_time(struct kr *connection) {
     }
 }
 
-bool kr_may_be_told(const struct kr *connection, uid_t user) {
+/* Whether who listens may be told what the connection's user keeps. Another thread may have taken another identity
+ * since, and would trust its own daemon. */
+static bool may_be_told(const struct kr *connection) {
     if (connection->place == KR_NAMED && connection->trusts_anybody) return true;
-    return kr_is_trusted(connection->place, user, connection->peer_uid);
+    return kr_is_trusted(connection->place, connection->user, connection->peer_uid);
 }
 
 /* Who listens: not who owns a path, which may be turned. */
@@ -164,7 +177,7 @@ static int check_peer(struct kr *connection) {
     connection->peer_uid = peer.uid;
     connection->peer_gid = peer.gid;
     connection->peer_pid = peer.pid;
-    return kr_may_be_told(connection, geteuid()) ? 0 : fail(EACCES);
+    return may_be_told(connection) ? 0 : fail(EACCES);
 }
 
 int kr_connect(struct kr *connection) {
@@ -175,7 +188,7 @@ int kr_connect(struct kr *connection) {
 }
 
 static struct kr *open_now(const char *path, int version, unsigned flags, int milliseconds) {
-    struct kr *connection = kr_prepare(path, version, flags);
+    struct kr *connection = kr_prepare(path, version, flags, geteuid());
     if (!connection) return NULL;
     connection->patience = milliseconds < 0 ? -1 : milliseconds;
     kr_begin_call(connection);
@@ -230,13 +243,23 @@ void kr_close(struct kr *connection) {
     errno = error;
 }
 
-int kr_keep_over_exec(struct kr *connection) {
+static int keep_over_exec(struct kr *connection) {
     if (!kr_is_ours(connection)) return fail(ECONNRESET);
     int kept = fcntl(connection->descriptor, F_DUPFD, KEPT_DESCRIPTOR);
     if (kept < 0) return fcntl(connection->descriptor, F_SETFD, 0); /* fewer descriptors are allowed than that */
     close(connection->descriptor);
     connection->descriptor = kept;
     return 0;
+}
+
+/* Cancelled in its midst it would leave a second descriptor, which nobody knows of and each program inherits. */
+int kr_keep_over_exec(struct kr *connection) {
+    int cancelling;
+    pthread_setcancelstate(PTHREAD_CANCEL_DISABLE, &cancelling);
+    int result = keep_over_exec(connection), error = errno;
+    pthread_setcancelstate(cancelling, NULL);
+    errno = error;
+    return result;
 }
 
 /* ---- What is set and told ---- */

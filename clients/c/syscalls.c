@@ -92,7 +92,9 @@ static size_t page_size(void) { return (size_t)sysconf(_SC_PAGESIZE); }
 static long set_reqkey_keyring(int choice) {
     static __thread int chosen;
     int before = chosen;
-    if (choice < KEY_REQKEY_DEFL_NO_CHANGE || choice > KEY_REQKEY_DEFL_USER_SESSION_KEYRING) return fail(EINVAL);
+    if (choice < KEY_REQKEY_DEFL_NO_CHANGE || choice > KEY_REQKEY_DEFL_REQUESTOR_KEYRING ||
+        choice == KEY_REQKEY_DEFL_GROUP_KEYRING)
+        return fail(EINVAL);
     if (choice != KEY_REQKEY_DEFL_NO_CHANGE) chosen = choice;
     return before;
 }

@@ -18,7 +18,7 @@
 #include "serials.h"
 #include "sessions.h"
 
-enum { SEATS = 4, BUCKETS = 1024, SPARE_DESCRIPTORS = 32, LOOKED_AT = 64 };
+enum { SEATS = 4, BUCKETS = 1024, SPARE_DESCRIPTORS = 32, LOOKED_AT = 64, ROUNDS = 16 };
 
 #define NO_UID ((uid_t)-1)
 
@@ -50,10 +50,12 @@ struct process {
     int descriptor;
     int memory;         /* what it had when it last asked, by which it is seen that it executes something else; or -1 */
     bool shares_memory; /* its parent's, after vfork(2): then that doesn't tell */
+    uint64_t image;     /* what it executed when some call first named such a keyring: others may have its memory too */
     bool has_threads;   /* some call has named a thread keyring: each thread has a context of its own */
     bool may_have_keyrings; /* some call has named a thread or process keyring */
     unsigned long turn; /* when it asked last */
     uid_t uid;          /* that all its four were, when it was last looked at; else NO_UID */
+    uint64_t mark;      /* of what was below it when it last changed its session; 0 if it never did */
     struct task *tasks;
     struct task *first; /* thread: the last of them */
     struct process *next;
@@ -119,8 +121,10 @@ static void end_seats(struct task *task) {
 
 /* A process that may have keyrings which end with what it executes, and a thread whose end nothing else tells. */
 static void sweep_from_now_on(struct process *process) {
-    if (!process->may_have_keyrings) all.swept++;
+    if (process->may_have_keyrings) return;
+    all.swept++;
     process->may_have_keyrings = true;
+    process->image = proc_image(process->id);
 }
 
 static void sweep_no_more(struct process *process) {
@@ -197,13 +201,12 @@ static struct process *add_process(pid_t id, int descriptor, struct session *ses
     return process;
 }
 
-/* The entry of a living process; one whose number another may have is ended. */
+/* The entry of a living process. One whose number another may have is behind that one's; epoll(7) tells its end, and not
+ * before the call that is served, as this may be its own. */
 static struct process *find_process(pid_t id) {
     struct process *process = *bucket_of(id);
     while (process && process->id != id) process = process->next;
-    if (!process || !proc_has_ended(process->descriptor)) return process;
-    end_process(process);
-    return NULL;
+    return process && !proc_has_ended(process->descriptor) ? process : NULL;
 }
 
 static struct task *find_task(const struct process *process, pid_t thread) {
@@ -326,62 +329,92 @@ static struct process *find_ancestor(pid_t parent) {
     return ancestor;
 }
 
+/* Whether a process that isn't of its ancestor's uid may have that one's session: not where it was there before, as its mark
+ * tells. Where that can't be read the session must have been begun for the process's uid, as without a tag. */
+static bool is_handed_down(pid_t id, const struct process *ancestor, enum tag tag, uid_t uid) {
+    bool is_of = session_is_of(ancestor->first->session, uid);
+    if (tag == TAG_UNREADABLE) return is_of;
+    return (tag == TAG_READ || is_of) && session_may_be_handed_down(id, ancestor->id, ancestor->mark);
+}
+
 /* The session of the tag, or without one of the nearest ancestor that is known; of what has neither the first, as long as
  * there was no other. It must not be another user's, whose tag anybody could copy: unless there was never another
- * session, it was begun for the process's uid, or as it where the tag says so, or an ancestor of that uid has it. Also
- * where an ancestor of another uid has it and the tag says the same, as when a program becomes another user. Else it is
+ * session, it was begun as the process's uid, or the ancestor has it too and is of that uid or hands it down. Else it is
  * lost. */
 static struct session *inherited(pid_t id, pid_t parent, uid_t uid) {
     struct session *session;
-    bool is_tagged = session_of_tag(id, &session) == TAG_READ;
+    enum tag tag = session_of_tag(id, &session);
     struct process *ancestor = find_ancestor(parent);
-    if (!is_tagged && !ancestor) return all.has_had_others ? NULL : sessions_first();
-    if (!is_tagged) session = ancestor->first->session;
-    if (!session || !all.has_had_others) return session;
-    if (is_tagged ? session_was_begun_as(session, uid) : session_is_of(session, uid)) return session;
-    bool is_confirmed = ancestor && ancestor->first->session == session && (is_tagged || ancestor->uid == uid);
-    return is_confirmed ? session : NULL;
+    if (tag != TAG_READ && !ancestor) return all.has_had_others ? NULL : sessions_first();
+    if (tag != TAG_READ) session = ancestor->first->session;
+    if (!session || !all.has_had_others || session_was_begun_as(session, uid)) return session;
+    if (!ancestor || ancestor->first->session != session) return NULL;
+    return ancestor->uid == uid || is_handed_down(id, ancestor, tag, uid) ? session : NULL;
 }
 
-/* Processes whose children are still to be looked at. */
-struct unsettled {
-    pid_t *ids;
-    size_t count, room;
+/* ---- Before a process changes its session ---- */
+
+/* What is done with each process below one, until nothing is left to be done. */
+struct round {
+    const struct process *above;
+    uint64_t mark;
+    unsigned done;
+    bool has_failed;
 };
 
-static bool add_unsettled(struct unsettled *unsettled, pid_t id) {
-    if (unsettled->count == unsettled->room) {
-        size_t room = unsettled->room ? 2 * unsettled->room : BUCKETS;
-        pid_t *ids = realloc(unsettled->ids, room * sizeof *ids);
-        if (!ids) return false;
-        unsettled->ids = ids;
-        unsettled->room = room;
-    }
-    unsettled->ids[unsettled->count++] = id;
-    return true;
+/* Whether a process that has no entry wants one, and the session it has then; its tag may tell that. */
+static bool wants_entry(pid_t id, int descriptor, struct round *round, struct proc_status *status,
+                        struct session **session) {
+    bool is_read = proc_read_status(id, status), is_known = is_read && own_session(id, status->identity.uid);
+    *session = is_read && !is_known ? inherited(id, status->parent, status->identity.uid) : NULL;
+    if (proc_has_ended(descriptor)) return false;
+    round->has_failed |= !is_read;
+    return is_read && !is_known;
 }
 
-/* A child that has no entry gets one, unless its tag will tell which session it has. */
-static void settle(pid_t child, void *data) {
+/* Gives it an entry. That was left to do where nothing stands between it and the process above. */
+static void settle(pid_t id, struct round *round) {
     struct proc_status status;
-    if (find_process(child) || !add_unsettled(data, child)) return;
-    int descriptor = proc_open(child);
-    if (descriptor < 0) return;
-    bool is_known = !proc_read_status(child, &status) || own_session(child, status.identity.uid);
-    struct session *session = is_known ? NULL : inherited(child, status.parent, status.identity.uid);
-    if (is_known || proc_has_ended(descriptor))
+    struct session *session;
+    int descriptor = proc_open(id);
+    if (descriptor < 0) {
+        round->has_failed |= errno != ESRCH;
+    } else if (wants_entry(id, descriptor, round, &status, &session)) {
+        round->done += find_ancestor(status.parent) == round->above;
+        round->has_failed |= !add_process(id, descriptor, session, only_uid(&status));
+    } else {
         close_one(&descriptor);
-    else
-        add_process(child, descriptor, session, only_uid(&status));
+    }
 }
 
-/* Before a process changes its session, its descendants that are not known are given what they have: those that have no
- * tag, and those of other users, who could take that of the new one. */
-static void settle_descendants(pid_t process) {
-    struct unsettled unsettled = { 0 };
-    proc_each_child(process, settle, &unsettled);
-    while (unsettled.count > 0) proc_each_child(unsettled.ids[--unsettled.count], settle, &unsettled);
-    free(unsettled.ids);
+static void settle_unknown(pid_t id, void *data) {
+    if (!find_process(id)) settle(id, data);
+}
+
+static void mark(pid_t id, void *data) {
+    struct round *round = data;
+    settle_unknown(id, round);
+    round->done += session_mark(id, round->mark);
+}
+
+static bool visit_below(struct round *round, void (*visit)(pid_t, void *)) {
+    round->done = 0;
+    if (!proc_each_descendant(round->above->id, visit, round)) round->has_failed = true;
+    return !round->has_failed;
+}
+
+/* Before a process changes its session, all below it is marked, for none of it has the new one. Those that are not known
+ * are given what they have: those that have no tag, and those of other users. What they fork meanwhile is as they are; but
+ * it may be left to the process above, or be made its child, and then wants the same. False with errno where that can't be
+ * done: then the session must not be changed. */
+static bool settle_descendants(struct process *process) {
+    struct round round = { .above = process, .mark = sessions_new_mark() };
+    bool has_none = !proc_may_have_children(process->id), goes_on = has_none || visit_below(&round, settle_unknown);
+    round.done = !has_none;
+    for (int i = 0; i < ROUNDS && goes_on && round.done > 0; i++) goes_on = visit_below(&round, mark);
+    process->mark = round.mark;
+    errno = ENOMEM;
+    return goes_on && round.done == 0;
 }
 
 /* ---- Who asks ---- */
@@ -397,9 +430,15 @@ static void note_executed(struct process *process) {
     process->shares_memory = false;
 }
 
+static bool is_another_image(const struct process *process) {
+    uint64_t image = process->may_have_keyrings && process->image != 0 ? proc_image(process->id) : 0;
+    return image != 0 && image != process->image;
+}
+
 static bool has_executed(const struct process *process) {
     if (process->memory < 0) return false;
-    return memory_is_gone(process->memory) || (process->shares_memory && !proc_has_only_forked(process->id));
+    return memory_is_gone(process->memory) || (process->shares_memory && !proc_has_only_forked(process->id)) ||
+           is_another_image(process);
 }
 
 static void to_inside(struct kr_identity *identity) {
@@ -620,18 +659,22 @@ static void bring_seats(struct task *task, const struct seat *joined, const stru
 static void set_session(struct task *task, struct session *session) {
     struct session *before = task->session;
     struct process *process = task->process;
-    if (task == process->first) {
-        settle_descendants(process->id);
-        session_put_tag(process->id, session);
-    }
+    if (task == process->first) session_put_tag(process->id, session);
     if (session != sessions_first()) all.has_had_others = true;
     task->session = session_use(session);
     session_let_go(before);
 }
 
+static uint32_t starter_of(pid_t process) {
+    uint32_t uid;
+    return proc_is_secure(process, &uid) ? uid : UINT32_MAX;
+}
+
 int32_t caller_join(struct caller *caller, const char *name) {
     struct seat *seat = caller->seat, joined = { .user = seat->user };
-    struct session *session = session_join(&seat->context, seat->user, all.own_uids, name);
+    struct process *process = all.task->process;
+    if (all.task == process->first && !settle_descendants(process)) return -1;
+    struct session *session = session_join(&seat->context, seat->user, all.own_uids, name, starter_of(process->id));
     if (!session) return -1;
     seat->is_lost = false;
     bring_seats(all.task, &joined, session);
@@ -682,6 +725,7 @@ long tracees_session_to_parent(void) {
     struct process *process = have_parent();
     if (!process) return fail(EPERM);
     if (session_is_lost(session)) return fail(EKEYREVOKED);
+    if (!settle_descendants(process)) return -1;
     bring_seats(process->first, &none, session);
     set_session(process->first, session);
     return 0;

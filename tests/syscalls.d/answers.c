@@ -62,9 +62,9 @@ static void make_memory(void) {
 static void try_reading(long key) {
     number("read", read_key(key, buffer, sizeof buffer));
     holds("what was read is the payload", memcmp(buffer, "payload", 7) == 0);
-    memset(buffer, 0, sizeof buffer);
+    memset(buffer, '#', sizeof buffer);
     number("read with too little room", read_key(key, buffer, 3));
-    holds("then nothing is put there", buffer[0] == 0 && buffer[3] == 0);
+    holds("then nothing is put there", memcmp(buffer, "########", 8) == 0);
     number("read without a buffer", read_key(key, NULL, 0));
     number("read to an address that isn't there", read_key(key, (void *)16, 100));
     number("read to a page that can't be written", read_key(key, read_only, 100));
@@ -119,6 +119,7 @@ static void try_lengths(void) {
 }
 
 static void try_update(long key) {
+    number("update with a page", keyctl(KEYCTL_UPDATE, (unsigned long)key, (unsigned long)page, PAGE, 0));
     number("update", keyctl(KEYCTL_UPDATE, (unsigned long)key, (unsigned long)"payload", 7, 0));
     number("update with what isn't there", keyctl(KEYCTL_UPDATE, (unsigned long)key, 1, 7, 0));
     number("update at no address", keyctl(KEYCTL_UPDATE, (unsigned long)key, 0, 7, 0));

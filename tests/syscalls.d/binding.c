@@ -2,6 +2,7 @@
  * which call an answer is kept for; and which ids a container's are. It calls the supervisor's parts as the loop does,
  * as process 1 of a PID namespace in which it may choose numbers. */
 #define _GNU_SOURCE
+#include <fcntl.h>
 #include <linux/sched.h>
 #include <linux/seccomp.h>
 #include <pthread.h>
@@ -14,11 +15,12 @@
 
 #include "../clients.d/check.h"
 #include "calls.h"
+#include "connection.h"
 #include "proc.h"
 #include "syscalls.h"
 #include "tracees.h"
 
-enum { NUMBER = 100, THREAD = 200 };
+enum { NUMBER = 100, THREAD = 200, MOST_DESCRIPTORS = 256 };
 
 static const struct tracees_wish wish = { .thread = true, .keyring = true };
 static char *shared_byte; /* at one address in all processes, and each has its own */
@@ -68,17 +70,29 @@ static long ring(int id, int create) {
     return ask(KEYCTL_GET_KEYRING_ID, (unsigned long)(long)id, (unsigned long)create);
 }
 
+static int count_descriptors(void) {
+    int count = 0;
+    for (int i = 0; i < MOST_DESCRIPTORS; i++) count += fcntl(i, F_GETFD) >= 0;
+    return count;
+}
+
 /* ---- What is checked ---- */
 
 static void try_validity(void) {
     pid_t child = begin_child();
+    int descriptors = count_descriptors();
     check("a notification that waits no more is not answered", !tracees_enter(child, wish, never));
+    check("and nothing of its thread stays open", count_descriptors() == descriptors);
     check("one that waits is", tracees_enter(child, wish, always));
     check("nothing is written for one that waits no more",
           !memory_write(tracees_memory(), (unsigned long)shared_byte, "x", 1, never) && byte_of(child) == 'a');
     check("something is for one that waits",
           memory_write(tracees_memory(), (unsigned long)shared_byte, "x", 1, always) && byte_of(child) == 'x');
     tracees_leave();
+    descriptors = count_descriptors();
+    check("one that has asked before is", tracees_enter(child, wish, always));
+    tracees_leave();
+    check("and nothing more stays open", count_descriptors() == descriptors);
     end_child(child);
 }
 
@@ -207,6 +221,9 @@ static void try_replay(void) {
     replay_keep(&replay, &call, 7, 9, 0);
     check("not for another payload", !replay_take(&replay, &call, 8, &result));
     check("and not at all after that", !replay_take(&replay, &call, 7, &result));
+    replay_keep(&replay, &call, 7, 9, 0);
+    replay.until = kr_now() - 1;
+    check("not after its time", !replay_take(&replay, &call, 7, &result));
     replay_keep(&replay, &call, 7, 9, 0);
     check("not from another place", !replay_take(&replay, &elsewhere, 7, &result));
     replay_keep(&replay, &call, 7, 9, 0);

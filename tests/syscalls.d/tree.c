@@ -3,8 +3,10 @@
 #include <pthread.h>
 #include <grp.h>
 #include <linux/capability.h>
+#include <sched.h>
 #include <signal.h>
 #include <sys/fsuid.h>
+#include <sys/mman.h>
 #include <sys/prctl.h>
 #include <sys/resource.h>
 #include <sys/syscall.h>
@@ -13,6 +15,7 @@
 #include "calls.h"
 
 enum { MOST = 1000, SECONDS = 60, LOOK_MICROSECONDS = 20000 };
+enum { PAGE = 4096, LONG_PAYLOAD = 32000, FIRST_OTHER = 1000 };
 enum { POSSESSOR_ALL = 0x3f000000, EVERYBODY_ALL = 0x3f3f3f3f, GROUP_READ = 0x00000200, NOBODY = 65534 };
 
 struct answer {
@@ -130,6 +133,29 @@ static int name_in_threads(int count) {
     return 0;
 }
 
+static void *join_in_thread(void *data) {
+    struct answer *answer = data;
+    answer->value = join(NULL);
+    answer->error = ring_of(KEY_SPEC_SESSION_KEYRING, 0) != answer->value;
+    return NULL;
+}
+
+/* A thread joins a session: the first one, and what it forks, are in the old one still. */
+static int join_in_thread_alone(void) {
+    long before = ring_of(KEY_SPEC_SESSION_KEYRING, 0);
+    struct answer joined;
+    pthread_t thread;
+    if (pthread_create(&thread, NULL, join_in_thread, &joined) != 0 || pthread_join(thread, NULL) != 0) return 2;
+    bool is_alone = ring_of(KEY_SPEC_SESSION_KEYRING, 0) == before;
+    pid_t child = fork();
+    if (child == 0) _exit(ring_of(KEY_SPEC_SESSION_KEYRING, 0) == before ? 0 : 1);
+    bool is_inherited = status_of(child) == 0;
+    printf("%s, the first thread %s, its child %s\n",
+           joined.value > 0 && joined.value != before && !joined.error ? "joined" : "not joined",
+           is_alone ? "as before" : "elsewhere", is_inherited ? "as before" : "elsewhere");
+    return 0;
+}
+
 /* ---- One after the other ---- */
 
 static int ask_in_sequence(int count) {
@@ -188,6 +214,21 @@ static int fork_deep(int count) {
     return 0;
 }
 
+/* A process whose hard limit is its tag joins one session after another. Not each has a tag that it may bear. */
+static int join_with_low_limit(int count) {
+    struct rlimit limit;
+    int wrong = getrlimit(RLIMIT_LOCKS, &limit) < 0;
+    limit.rlim_max = limit.rlim_cur;
+    wrong += setrlimit(RLIMIT_LOCKS, &limit) < 0;
+    for (int i = 0; i < count; i++) {
+        long joined = join(NULL);
+        pid_t child = fork();
+        if (child == 0) _exit(ring_of(KEY_SPEC_SESSION_KEYRING, 0) == joined ? 0 : 1);
+        wrong += joined < 0 || status_of(child) != 0;
+    }
+    return printf("%d wrong\n", wrong) < 0;
+}
+
 /* ---- What is killed in the midst of a call ---- */
 
 static bool is_served(void) { return ring_of(KEY_SPEC_THREAD_KEYRING, 1) > 0; }
@@ -208,6 +249,26 @@ static int kill_in_calls(int count) {
         wrong += kill(child, SIGKILL) < 0 || waitpid(child, NULL, 0) != child;
     }
     puts(wrong == 0 && ring_of(KEY_SPEC_SESSION_KEYRING, 0) > 0 && is_served_in_child() ? "served" : "not served");
+    return 0;
+}
+
+/* Processes with children that are killed while they join a session, each a little later. */
+static int kill_in_joins(int count) {
+    int wrong = 0;
+    for (int i = 0; i < count; i++) {
+        pid_t parent = fork();
+        if (parent == 0) {
+            const struct rlimit none = { 0, 0 };
+            if (setrlimit(RLIMIT_LOCKS, &none) < 0) _exit(2);
+            const pid_t self = getpid();
+            for (int children = 0; children < 3; children++)
+                if (fork() == 0) _exit(prctl(PR_SET_PDEATHSIG, SIGKILL) == 0 && getppid() == self ? pause() : 2);
+            _exit(join(NULL) > 0 ? 0 : 1);
+        }
+        usleep((useconds_t)i * 1000 * 4);
+        wrong += kill(parent, SIGKILL) < 0 || waitpid(parent, NULL, 0) != parent;
+    }
+    puts(wrong == 0 && ring_of(KEY_SPEC_SESSION_KEYRING, 0) > 0 ? "served" : "not served");
     return 0;
 }
 
@@ -242,6 +303,27 @@ static int execute_in_processes(int count) {
     return 0;
 }
 
+/* What executes something while another process has its memory, which therefore stays. */
+static char stack[65536];
+
+static int stay(void *parent) {
+    return prctl(PR_SET_PDEATHSIG, SIGKILL) == 0 && getppid() == *(const pid_t *)parent ? pause() : 2;
+}
+
+static int execute_beside(void) {
+    static pid_t self;
+    self = getpid();
+    bool are_there = ring_of(KEY_SPEC_PROCESS_KEYRING, 1) > 0 && ring_of(KEY_SPEC_THREAD_KEYRING, 1) > 0;
+    if (!are_there || clone(stay, stack + sizeof stack, CLONE_VM | SIGCHLD, &self) < 0) return 2;
+    execl("/proc/self/exe", "tree", "executed-beside", (char *)NULL);
+    return 2;
+}
+
+static int tell_keyrings(void) {
+    bool has_process = ring_of(KEY_SPEC_PROCESS_KEYRING, 0) > 0, has_thread = ring_of(KEY_SPEC_THREAD_KEYRING, 0) > 0;
+    return printf("process %s, thread %s\n", has_process ? "kept" : "gone", has_thread ? "kept" : "gone") < 0;
+}
+
 /* ---- Sessions that nobody asks in ---- */
 
 static long key;
@@ -271,6 +353,37 @@ static int leave_session(void) {
     answer = take();
     key = answer.value;
     printf("%s, then %s\n", answer.value > 0 ? "kept" : "lost", holds_in_time(is_gone) ? "gone" : "still there");
+    return 0;
+}
+
+/* Another user's process has taken the tag of a session, whose last process then ends. */
+static void become_nobody(void);
+static void copy_tag(pid_t process);
+
+static int keep_by_tag(void) {
+    begin();
+    pid_t owner = fork();
+    if (owner == 0) {
+        long joined = join(NULL);
+        give(joined < 0 ? joined : add_key("user", "left", "x", 1, KEY_SPEC_SESSION_KEYRING));
+        wait_at_gate();
+        _exit(0);
+    }
+    key = take().value;
+    pid_t other = fork();
+    if (other == 0) {
+        close(gates[1]);
+        become_nobody();
+        copy_tag(owner);
+        give(0);
+        return pause();
+    }
+    take();
+    bool was_there = !is_gone();
+    close(gates[1]);
+    status_of(owner);
+    printf("%s, then %s\n", was_there ? "there" : "not there", holds_in_time(is_gone) ? "gone" : "kept");
+    kill(other, SIGKILL);
     return 0;
 }
 
@@ -305,6 +418,14 @@ static int ask_often(int count) {
     return 0;
 }
 
+/* Payloads that take the daemon some reads each; then it waits until it is killed. */
+static int ask_at_length(int count) {
+    static char payload[LONG_PAYLOAD];
+    for (int i = 0; i < count; i++)
+        if (add_key("user", "long", payload, sizeof payload, KEY_SPEC_SESSION_KEYRING) < 0) return 1;
+    return pause();
+}
+
 /* ---- One that can't be looked into ---- */
 
 static int hide(void) {
@@ -337,6 +458,20 @@ static int ask_beside(const char *file) {
     return request_key("user", bytes, NULL, 0) < 0 && errno == ENOKEY ? 0 : 1;
 }
 
+/* The payload of a key is read to where nothing can be written. */
+static int read_unwritten(const char *name) {
+    long found = request_key("user", name, NULL, 0);
+    void *page = mmap(NULL, PAGE, PROT_READ, MAP_PRIVATE | MAP_ANONYMOUS, -1, 0);
+    if (found < 0 || page == MAP_FAILED) return 2;
+    return read_key(found, page, PAGE) < 0 && errno == EFAULT ? 0 : 1;
+}
+
+/* What is said of a serial. */
+static int ask_serial(long serial) {
+    long length = keyctl(KEYCTL_DESCRIBE, (unsigned long)serial, 0, 0, 0);
+    return puts(length > 0 ? "a key" : strerror(errno)) < 0;
+}
+
 static void describe(int id, unsigned *owner, unsigned *mask) {
     char text[4200] = "";
     keyctl(KEYCTL_DESCRIBE, (unsigned long)(long)id, (unsigned long)text, sizeof text - 1, 0);
@@ -349,6 +484,22 @@ static int print_owner(uid_t uid) {
     setfsuid(uid);
     describe(KEY_SPEC_USER_KEYRING, &owner, &mask);
     return printf("%u\n", owner) < 0;
+}
+
+/* A process that has a process keyring asks as so many others too, each of whom has a user keyring, and comes back. */
+static int be_many(int count) {
+    long ring = ring_of(KEY_SPEC_PROCESS_KEYRING, 1);
+    int served = 0;
+    for (int i = 0; i < count; i++) {
+        const uid_t uid = FIRST_OTHER + (uid_t)i;
+        unsigned owner, mask;
+        setfsuid(uid);
+        describe(KEY_SPEC_USER_KEYRING, &owner, &mask);
+        served += owner == uid && ring_of(KEY_SPEC_SESSION_KEYRING, 0) > 0;
+    }
+    setfsuid(geteuid());
+    bool is_kept = ring > 0 && ring_of(KEY_SPEC_PROCESS_KEYRING, 0) == ring;
+    return printf("%d served, the process keyring %s\n", served, is_kept ? "kept" : "lost") < 0;
 }
 
 /* So many groups that what the kernel tells of a process is long. */
@@ -512,6 +663,13 @@ static int become_other(void) {
     return tell_session(take(), joined);
 }
 
+static bool set_soft_limit(rlim_t soft) {
+    struct rlimit limit;
+    if (getrlimit(RLIMIT_LOCKS, &limit) < 0) return false;
+    limit.rlim_cur = soft;
+    return setrlimit(RLIMIT_LOCKS, &limit) == 0;
+}
+
 /* Takes the tag that another process has, of which everybody is told. */
 static void copy_tag(pid_t process) {
     char path[64], line[256];
@@ -519,8 +677,8 @@ static void copy_tag(pid_t process) {
     snprintf(path, sizeof path, "/proc/%d/limits", (int)process);
     FILE *limits = fopen(path, "r");
     while (limits && fgets(line, sizeof line, limits) && sscanf(line, "Max file locks %llu", &soft) != 1) continue;
-    const struct rlimit copied = { soft, RLIM_INFINITY };
-    if (soft == 0 || setrlimit(RLIMIT_LOCKS, &copied) < 0) _exit(2);
+    if (limits) fclose(limits);
+    if (soft == 0 || !set_soft_limit(soft)) _exit(2);
 }
 
 /* Another user's process takes the tag of one that has joined a session of its own, for a child; or of a program that runs
@@ -547,12 +705,110 @@ static int take_others_tag(bool is_set_uid) {
     return puts(take().value == joined ? "let in" : "kept out") < 0;
 }
 
-/* As a login does: root joins a session as the user, is root again, and starts the user's program. */
-static int log_in(void) {
+/* ---- What a process finds below it that it hasn't forked since ---- */
+
+static void give_session(void) {
+    give(ring_of(KEY_SPEC_SESSION_KEYRING, 0));
+    _exit(0);
+}
+
+/* Another user's child makes one more child of its own parent, or leaves one to it. */
+static void leave_to_parent(pid_t parent, bool is_orphan) {
+    const unsigned long flags = is_orphan ? SIGCHLD : CLONE_PARENT | SIGCHLD;
+    if (syscall(SYS_clone, flags, 0, 0, 0, 0) != 0) _exit(0);
+    while (getppid() != parent) usleep(LOOK_MICROSECONDS);
+}
+
+/* That takes the tag of the parent, or of nobody, and says which session it has. */
+static void follow(pid_t parent, bool is_orphan, bool copies) {
+    if (fork() != 0) return;
+    if (geteuid() == 0) become_nobody();
+    wait_at_gate();
+    leave_to_parent(parent, is_orphan);
+    if (copies)
+        copy_tag(parent);
+    else if (!set_soft_limit(0))
+        _exit(2);
+    give_session();
+}
+
+static int tell_followers(long joined) {
+    int in = 0;
+    close(gates[1]);
+    for (int i = 0; i < 2; i++) in += take().value == joined;
+    return puts(in == 0 ? "kept out" : "let in") < 0;
+}
+
+/* Below root, which then joins a session of its own. */
+static int follow_root(bool is_orphan) {
+    pid_t parent = getpid();
+    begin();
+    if (prctl(PR_SET_CHILD_SUBREAPER, is_orphan, 0, 0, 0) < 0) return 2;
+    for (int copies = 0; copies < 2; copies++) follow(parent, is_orphan, copies);
+    return tell_followers(join(NULL));
+}
+
+/* Below a program that runs set-uid, which the same process has executed then. */
+static int follow_set_uid(const char *file, bool is_orphan) {
+    char number[16];
+    begin();
+    pid_t child = fork();
+    if (child == 0) {
+        become_nobody();
+        if (prctl(PR_SET_CHILD_SUBREAPER, is_orphan, 0, 0, 0) < 0) _exit(2);
+        for (int copies = 0; copies < 2; copies++) follow(getpid(), is_orphan, copies);
+        close(gates[1]);
+        snprintf(number, sizeof number, "%d", answers[1]);
+        execl(file, "tree", "joins", number, (char *)NULL);
+        _exit(2);
+    }
+    long joined = take().value;
+    int status = joined > 0 ? tell_followers(joined) : 2;
+    kill(child, SIGKILL);
+    return status;
+}
+
+static int join_and_give(int to) {
+    answers[1] = to;
+    give(geteuid() == 0 ? join(NULL) : -1);
+    return pause();
+}
+
+/* Many children of another user, of which every other one ends while their parent joins a session: lists of children leave
+ * some out then. */
+static int join_among(int count) {
+    pid_t parent = getpid();
+    int in = 0;
+    begin();
+    signal(SIGCHLD, SIG_IGN);
+    for (int i = 0; i < count; i++) {
+        if (fork() != 0) continue;
+        become_nobody();
+        if (i % 2 == 0) {
+            usleep((useconds_t)(500 + i) * 1000);
+            _exit(0);
+        }
+        wait_at_gate();
+        copy_tag(parent);
+        give_session();
+    }
+    usleep(550000);
+    long joined = join(NULL);
+    close(gates[1]);
+    for (int i = 0; i < count / 2; i++) in += take().value == joined && joined > 0;
+    return printf("%s, %d let in\n", joined > 0 ? "joined" : "refused", in) < 0;
+}
+
+/* As a login does: root joins a session as the user, or with that one's uid as its real one, is root again, and starts the
+ * user's program. */
+static int log_in(bool is_real) {
     begin();
     if (fork() == 0) {
-        long joined = seteuid(NOBODY) == 0 ? join(NULL) : -1;
-        if (joined < 0 || seteuid(0) < 0 || ring_of(KEY_SPEC_SESSION_KEYRING, 0) != joined) _exit(2);
+        uid_t same = (uid_t)-1;
+        long joined = (is_real ? setreuid(NOBODY, same) : seteuid(NOBODY)) == 0 ? join(NULL) : -1;
+        if (joined < 0 || (is_real ? setreuid(0, same) : seteuid(0)) < 0 ||
+            ring_of(KEY_SPEC_SESSION_KEYRING, 0) != joined)
+            _exit(2);
         if (fork() == 0) {
             become_nobody();
             give(joined);
@@ -600,10 +856,12 @@ static int ignore_children(char **words) {
     return 2;
 }
 
-/* Executes words as a caller for whom SIGINT and SIGQUIT are as at first, which they aren't in the background. */
+/* Executes words as a caller for whom these signals are as at first, which they aren't in the background, or under
+ * nohup(1). */
 static int reset_signals(char **words) {
     signal(SIGINT, SIG_DFL);
     signal(SIGQUIT, SIG_DFL);
+    signal(SIGHUP, SIG_DFL);
     execvp(*words, words);
     return 2;
 }
@@ -611,6 +869,7 @@ static int reset_signals(char **words) {
 int main(int count, char **words) {
     const char *mode = count > 1 ? words[1] : "";
     int many = count > 2 ? atoi(words[2]) : 0;
+    if (strcmp(mode, "serial") == 0) return ask_serial(many);
     if (many > MOST && strcmp(mode, "owner") != 0 && strcmp(mode, "often") != 0) return 2;
     if (strcmp(mode, "sleep") == 0) return pause();
     if (strcmp(mode, "session") == 0) return printf("%ld\n", ring_of(KEY_SPEC_SESSION_KEYRING, 0)) < 0;
@@ -621,15 +880,24 @@ int main(int count, char **words) {
     if (strcmp(mode, "sequence") == 0) return ask_in_sequence(many);
     if (strcmp(mode, "naming") == 0) return name_in_threads(many);
     if (strcmp(mode, "sessions") == 0) return join_in_sequence(many);
+    if (strcmp(mode, "thread-joins") == 0) return join_in_thread_alone();
     if (strcmp(mode, "deep") == 0) return fork_deep(many);
     if (strcmp(mode, "killed") == 0) return kill_in_calls(many);
+    if (strcmp(mode, "low-limit") == 0) return join_with_low_limit(many);
+    if (strcmp(mode, "killed-joining") == 0) return kill_in_joins(many);
     if (strcmp(mode, "executed") == 0) return execute_in_processes(many);
+    if (strcmp(mode, "executes-beside") == 0) return execute_beside();
+    if (strcmp(mode, "executed-beside") == 0) return tell_keyrings();
     if (strcmp(mode, "left") == 0) return leave_session();
+    if (strcmp(mode, "kept-by-tag") == 0) return keep_by_tag();
     if (strcmp(mode, "often") == 0) return ask_often(many);
     if (strcmp(mode, "hidden") == 0) return hide();
     if (strcmp(mode, "put") == 0 && count == 4) return put(words[2], words[3]);
     if (strcmp(mode, "get") == 0 && count == 3) return get(words[2]);
     if (strcmp(mode, "beside") == 0 && count == 3) return ask_beside(words[2]);
+    if (strcmp(mode, "unwritten") == 0 && count == 3) return read_unwritten(words[2]);
+    if (strcmp(mode, "identities") == 0) return be_many(many);
+    if (strcmp(mode, "long") == 0) return ask_at_length(many);
     if (strcmp(mode, "owner") == 0) return print_owner((uid_t)many);
     if (strcmp(mode, "ignoring") == 0 && count > 2) return ignore_children(words + 2);
     if (strcmp(mode, "interrupted") == 0 && count > 2) return reset_signals(words + 2);
@@ -639,10 +907,14 @@ int main(int count, char **words) {
     if (strcmp(mode, "untagged") == 0) return take_tag_away();
     if (strcmp(mode, "late") == 0) return join_late();
     if (strcmp(mode, "left-to-other") == 0) return leave_to_other();
-    if (strcmp(mode, "login") == 0) return log_in();
+    if (strcmp(mode, "login") == 0) return log_in(count == 3 && strcmp(words[2], "real") == 0);
     if (strcmp(mode, "becomes-other") == 0) return become_other();
     if (strcmp(mode, "copied") == 0) return take_others_tag(false);
     if (strcmp(mode, "copied-set-uid") == 0) return take_others_tag(true);
+    if (strcmp(mode, "follows") == 0 && count == 3) return follow_root(strcmp(words[2], "orphan") == 0);
+    if (strcmp(mode, "follows") == 0 && count == 4) return follow_set_uid(words[3], strcmp(words[2], "orphan") == 0);
+    if (strcmp(mode, "joins") == 0) return join_and_give(many);
+    if (strcmp(mode, "among") == 0) return join_among(many);
     if (strcmp(mode, "taken") == 0 && count > 4) return take_name(words[2], (uid_t)atol(words[3]), words + 4);
     if (strcmp(mode, "mask") == 0) return print_mask();
     if (strcmp(mode, "closed") == 0) return close_all(ring_of(KEY_SPEC_SESSION_KEYRING, 0));
