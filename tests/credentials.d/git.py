@@ -173,6 +173,9 @@ def try_words():
     status, out, err = run(helper("git", "get"), lines("protocol=https host=a"))
     compare("no daemon", (1, b"", True), (status, out, is_one_line(err, PROGRAM)))
     compare("no daemon is needed for other operations", 0, run(helper("git", "frobnicate"))[0])
+    for words, given, wanted in ((["get"], "protocol=https host=a", 1), (["--none"], "", 2)):
+        status, out, _ = run(["sh", "-c", 'exec "$0" "$@" 2>&-', *helper("git", *words)], lines(given))
+        compare(f"standard error is closed: {words}", (wanted, b""), (status, out))
 
 
 def try_silent_daemon():
@@ -188,6 +191,14 @@ def try_silent_daemon():
             wanted = "0" if resource.getrlimit(resource.RLIMIT_CORE)[1] == 0 else "1"
             compare("a helper leaves no core file", True, until(lambda: soft_core_limit(waits.pid) == wanted))
             waits.kill()
+
+
+def try_no_core():
+    """Where no core file is allowed at all, a program that core_pattern names isn't handed one either."""
+    words = ("import ctypes, resource, sys; sys.path.insert(0, sys.argv[1])\n"
+             "from keyretain.credentials.helper import keep_no_core\n"
+             "resource.setrlimit(resource.RLIMIT_CORE, (0, 0)); keep_no_core(); print(ctypes.CDLL(None).prctl(3))")
+    compare("PR_GET_DUMPABLE", (0, b"0\n", b""), run(["python3", "-I", "-B", "-c", words, os.environ["PACKAGE"]]))
 
 
 def allow_core():
@@ -327,7 +338,7 @@ def try_no_keeper():
         compare("nothing is kept", set(), git("get", "protocol=https host=a"))
 
 
-for case in (try_steps, try_bytes, try_others, try_expiry, try_words, try_silent_daemon, try_elsewhere, try_crowd,
-             try_keeper, try_other_user, try_session, try_no_keeper):
+for case in (try_steps, try_bytes, try_others, try_expiry, try_words, try_silent_daemon, try_no_core, try_elsewhere,
+             try_crowd, try_keeper, try_other_user, try_session, try_no_keeper):
     case()
 conclude()

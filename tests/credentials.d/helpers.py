@@ -32,11 +32,11 @@ def daemon(lanes=32):
     """A daemon that nobody has used, named by the environment. Answers the process."""
     with tempfile.TemporaryDirectory(prefix="keyretain.") as folder:
         path = folder + "/sock"
-        with subprocess.Popen([KEYRETAIND, "--socket", path, "--lanes", str(lanes)], stdout=subprocess.DEVNULL,
+        with subprocess.Popen([KEYRETAIND, "--socket", path, "--lanes", str(lanes)], stdout=subprocess.PIPE,
                               stderr=subprocess.DEVNULL) as process:
             os.environ["KEYRETAIN_SOCKET"] = path
             try:
-                until(lambda: os.path.exists(path) or process.poll() is not None)
+                process.stdout.readline()  # it says that it listens; the path is there before
                 yield process
             finally:
                 process.kill()

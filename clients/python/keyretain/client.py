@@ -33,7 +33,8 @@ class Client:
     A call that an exception ends leaves the connection as it was where no frame was half sent or half taken: whether
     the ask was carried out isn't known then, and a reply that comes late is dropped. In the midst of a frame it ends
     the connection. A child of fork(2) has no part in it: each call raises Lost there, and its copy of the socket is
-    closed."""
+    closed. So does each call after the program has closed the socket's descriptor itself: what has that number since is
+    neither written to nor closed."""
 
     def __init__(self, path: Optional[Path] = None, version: Optional[int] = None, timeout: Optional[float] = PATIENCE,
                  trust: Optional[str] = None) -> None:

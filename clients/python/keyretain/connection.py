@@ -25,10 +25,12 @@ from .places import Peer, Place, check
 AHEAD = 256  # asks that may await receive(): each may be answered with some 256 KiB
 PIECE = 1 << 16
 LONGEST_PAUSE = 0.05  # seconds between two attempts to connect
+LONGEST_WAIT = 2**31 - 1  # milliseconds, of poll(2)
 CREDENTIALS = struct.Struct("=iII")
 
 CUT = "a call ended in the midst of a frame"
 PARENTS = "the connection is the parent's"
+CLOSED = "the program closed the connection's descriptor"
 
 
 class Deadline:
@@ -52,6 +54,11 @@ class Deadline:
     def sleep(self, seconds: float) -> None:
         left = self.left()
         time.sleep(seconds if left is None else min(seconds, left))
+
+
+def _milliseconds(left: Optional[float]) -> Optional[float]:
+    """As poll(2) takes them: of more than it does only so many."""
+    return None if left is None else min(1000 * left, LONGEST_WAIT)
 
 
 def out_of_time() -> TimeoutError:
@@ -94,6 +101,15 @@ def _connect(end: socket.socket, place: Place, deadline: Deadline) -> None:
             raise
 
 
+def _identity_of(end: socket.socket) -> Optional[tuple[int, int]]:
+    """What tells a socket from whatever else may have its number later; None where that is closed."""
+    try:
+        status = os.fstat(end.fileno())
+    except OSError:
+        return None
+    return status.st_dev, status.st_ino
+
+
 def peer_of(end: socket.socket) -> Peer:
     """Who listened when this socket was connected."""
     return Peer(*CREDENTIALS.unpack(end.getsockopt(socket.SOL_SOCKET, socket.SO_PEERCRED, CREDENTIALS.size)))
@@ -132,6 +148,7 @@ class Connection:
         self._awaited = 0  # the tag of the ask for which a call waits
         self._has_come, self._was_ended = False, False  # whether bytes have come, and whether the daemon ended it
         self._socket = _open_socket()
+        self._identity = _identity_of(self._socket)
         _open.add(self)
         try:
             _connect(self._socket, place, deadline)
@@ -148,16 +165,25 @@ class Connection:
         """From here on each call raises Lost, and says why; but first receive() gives the answers that have come, unless
         they are to be forgotten."""
         self._lost = self._lost or why
-        self._socket.close()
+        self._close()
         self._received.clear()
         self._answer = None
         if forget:
             self._come.clear()
 
+    def _close(self) -> None:
+        """Closes the socket. A program may have closed its descriptor, and have something else under the number."""
+        if self._identity == _identity_of(self._socket):
+            self._socket.close()
+        else:
+            self._socket.detach()
+
     def check(self) -> None:
         """Lost where the connection can't be used."""
         if self._owner != (os.getpid(), _forks):
             self.end(PARENTS, forget=True)
+        if not self._lost and self._identity != _identity_of(self._socket):
+            self.end(CLOSED, forget=True)
         if self._cut:
             self.end(CUT)
         if self._lost:
@@ -221,9 +247,11 @@ class Connection:
     # Replies
 
     def _wait(self, poll: select.poll, deadline: Deadline) -> None:
-        left = deadline.left()
-        if not poll.poll(None if left is None else 1000 * left):
-            raise out_of_time()
+        milliseconds = _milliseconds(deadline.left())
+        while not poll.poll(milliseconds):
+            if milliseconds != LONGEST_WAIT:
+                raise out_of_time()
+            milliseconds = _milliseconds(deadline.left())
 
     def _pull(self) -> None:
         """Takes the bytes that have come, if any, and the replies that are whole with them."""

@@ -1,8 +1,10 @@
-"""What a call raises. All of them are OSErrors, and each has the number of its error in `errno`."""
+"""What a call raises. All of them are OSErrors, and each has the number of its error in `errno`. They can be pickled: a
+worker of multiprocessing whose error can't be has its parent wait for ever."""
 from __future__ import annotations
 
 import errno
 import os
+from typing import Any
 
 STATUSES = {
     1: "EPERM", 2: "ENOENT", 3: "ESRCH", 9: "EBADF", 11: "EAGAIN", 12: "ENOMEM", 13: "EACCES", 16: "EBUSY",
@@ -18,6 +20,9 @@ class Refused(OSError):
         super().__init__(status, os.strerror(status))
         self.ask, self.name = ask, STATUSES[status]
 
+    def __reduce__(self) -> tuple[Any, ...]:
+        return type(self), (self.ask, self.errno)
+
     def __str__(self) -> str:
         return f"{self.ask}: {self.name}: {self.strerror}"
 
@@ -28,6 +33,9 @@ class Lost(ConnectionError):
     def __init__(self, why: str) -> None:
         super().__init__(errno.ECONNRESET, why)
 
+    def __reduce__(self) -> tuple[Any, ...]:
+        return type(self), (self.strerror,)
+
 
 class Malformed(OSError):
     """What came is no reply, or what was read no listing."""
@@ -35,9 +43,16 @@ class Malformed(OSError):
     def __init__(self, what: str) -> None:
         super().__init__(errno.EPROTO, what)
 
+    def __reduce__(self) -> tuple[Any, ...]:
+        return type(self), (self.strerror,)
+
 
 class TooFarAhead(BlockingIOError):
     """As many asks are ahead of their replies as may be: receive() takes one."""
 
     def __init__(self, count: int) -> None:
         super().__init__(errno.EAGAIN, f"{count} asks have been sent ahead, and their answers not received")
+        self.count = count
+
+    def __reduce__(self) -> tuple[Any, ...]:
+        return type(self), (self.count,)

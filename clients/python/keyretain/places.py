@@ -32,10 +32,12 @@ class Trust(enum.Enum):
 
 
 class Place(NamedTuple):
-    """A path, and who may listen there."""
+    """A path, who may listen there, and for whom, also where it is connected to anew: the process may have become
+    another user by then, who would trust a daemon of its own."""
 
     path: Path
     trust: Trust
+    user: int
 
 
 def environment(name: str) -> str:
@@ -43,13 +45,35 @@ def environment(name: str) -> str:
     return "" if runs_set_uid() else os.environ.get(name, "")
 
 
-def runs_set_uid() -> bool:
-    """Whether the kernel gave this program rights that whoever started it hadn't, as secure_getenv(3) asks."""
+def _is_secure_by_library() -> bool:
+    """The same by getauxval(3). Where Python can't ask it, the answer is the safe one."""
+    try:
+        import ctypes  # pylint: disable=import-outside-toplevel # few programs want it
+        getauxval = ctypes.CDLL(None).getauxval
+    except (ImportError, OSError, AttributeError):
+        return True
+    getauxval.argtypes, getauxval.restype = [ctypes.c_ulong], ctypes.c_ulong
+    return bool(getauxval(AT_SECURE))
+
+
+def _is_secure() -> bool:
+    """What the kernel says of this program. The file is root's alone where the program was given capabilities, or has
+    changed its ids."""
     try:
         with open("/proc/self/auxv", "rb") as vector:
             return any(key == AT_SECURE and value for key, value in struct.iter_unpack("@2L", vector.read()))
+    except PermissionError:
+        return _is_secure_by_library()
     except (OSError, struct.error):
         return os.getuid() != os.geteuid() or os.getgid() != os.getegid()
+
+
+_SECURE = _is_secure()  # as long as the program runs
+
+
+def runs_set_uid() -> bool:
+    """Whether the kernel gave this program rights that whoever started it hadn't, as secure_getenv(3) asks."""
+    return _SECURE
 
 
 def _runtime_directory() -> str:
@@ -78,11 +102,11 @@ def find() -> Place:
     """$KEYRETAIN_SOCKET; else the socket in the user's runtime directory, if that has a folder for it; else the
     system's. A daemon of one's own that is down isn't replaced by the system's, which others may ask."""
     if named := environment("KEYRETAIN_SOCKET"):
-        return Place(named, Trust.NAMED)
+        return Place(named, Trust.NAMED, os.geteuid())
     folder = _runtime_directory() + "/keyretain"
     if not runs_set_uid() and _is_set_up(folder):
-        return Place(folder + "/keyretain.sock", Trust.OWN)
-    return Place(SYSTEM_PATH, Trust.SYSTEM)
+        return Place(folder + "/keyretain.sock", Trust.OWN, os.geteuid())
+    return Place(SYSTEM_PATH, Trust.SYSTEM, os.geteuid())
 
 
 def default_path() -> Path:
@@ -95,14 +119,14 @@ def place_of(path: Optional[Path], trust: Optional[str]) -> Place:
     is named."""
     if trust not in (None, "any"):
         raise ValueError(f'trust is None or "any", not {trust!r}')
-    place = find() if path is None else Place(path, Trust.NAMED)
+    place = find() if path is None else Place(path, Trust.NAMED, os.geteuid())
     spelled = os.fsencode(place.path)
     if not spelled:
         raise FileNotFoundError(errno.ENOENT, os.strerror(errno.ENOENT), place.path)
     if b"\0" in spelled:
         raise ValueError("a path with a null byte: an abstract name is anybody's to take")
     is_any = place.trust is Trust.NAMED and "any" in (trust, environment("KEYRETAIN_TRUST"))
-    return Place(place.path, Trust.ANY) if is_any else place
+    return place._replace(trust=Trust.ANY) if is_any else place
 
 
 def is_system_daemon(uid: int) -> bool:
@@ -116,7 +140,7 @@ def is_system_daemon(uid: int) -> bool:
 
 def check(peer: Peer, place: Place) -> None:
     """PermissionError where somebody listens who mustn't be told what this user keeps."""
-    is_own, trust = peer.uid == os.geteuid(), place.trust
+    is_own, trust = peer.uid == place.user, place.trust
     if trust is Trust.ANY or is_own and trust is not Trust.SYSTEM:
         return
     if trust is Trust.OWN or not is_system_daemon(peer.uid):

@@ -83,12 +83,13 @@ def store() -> None:
     values = parse(read_all(), ("ServerURL", "Username", "Secret"))
     if values is None:
         raise Unusable(NO_CREDENTIALS)
-    server, username, secret = values
+    named, username, secret = values
+    server = named.encode(errors="surrogatepass").strip()  # as it is read from a line
     if not server or not username:
         raise Unusable(NO_USERNAME if server else NO_SERVER)
     with Locker(KEYRING) as locker:
         payload = json.dumps(Credentials(username, secret)._asdict()).encode()
-        locker.put(describe(server.encode(errors="surrogatepass")), payload)
+        locker.put(describe(server), payload)
 
 
 def get() -> None:

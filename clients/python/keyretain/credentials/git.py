@@ -7,7 +7,7 @@ import time
 from typing import NamedTuple, Optional, Sequence
 from urllib.parse import quote_from_bytes, unquote_to_bytes
 
-from .helper import Unusable, keep_no_core, print_bytes, read_line, version_of, words_of
+from .helper import Unusable, complain, keep_no_core, print_bytes, read_line, version_of, words_of
 from .locker import Entry, Locker
 
 PROGRAM = "git-credential-keyretain"
@@ -164,13 +164,13 @@ def main(words: Optional[Sequence[str]] = None) -> int:
         return 0
     asked = read_words(words)
     if asked is None:
-        print(USAGE, file=sys.stderr)
+        complain(USAGE)
         return WRONG_WORDS
     keep_no_core()
     try:
         carry_out(asked)
     except (OSError, Unusable) as error:
-        print(f"{PROGRAM}: {words_of(error)}", file=sys.stderr)
+        complain(f"{PROGRAM}: {words_of(error)}")
         return FAILED
     except KeyboardInterrupt:
         return FAILED

@@ -3,6 +3,7 @@ from __future__ import annotations
 
 import resource
 import sys
+from contextlib import suppress
 from typing import BinaryIO, Optional, TextIO
 
 from .. import Refused, __version__
@@ -14,11 +15,19 @@ class Unusable(Exception):
     """What was given can't be kept or answered. The text has nothing of it, as that may be secret."""
 
 
+PR_SET_DUMPABLE = 4  # prctl(2)
+
+
 def keep_no_core() -> None:
     """A program that crashes leaves no file of its memory, which may have secrets. With a limit of 0 a program that
-    core_pattern names is handed it all the same, core(5); with 1, which is less than any core, it isn't either."""
+    core_pattern names is handed it all the same, core(5); with 1, which is less than any core, it isn't either. Where no
+    more than 0 is allowed the kernel is told that nobody may have it."""
     hard = resource.getrlimit(resource.RLIMIT_CORE)[1]
     resource.setrlimit(resource.RLIMIT_CORE, (0 if hard == 0 else 1, hard))
+    if hard == 0:
+        with suppress(ImportError, OSError, AttributeError):
+            import ctypes  # pylint: disable=import-outside-toplevel # it takes long, and is seldom wanted
+            ctypes.CDLL(None).prctl(PR_SET_DUMPABLE, 0, 0, 0, 0)
 
 
 def standard(stream: Optional[TextIO]) -> BinaryIO:
@@ -48,6 +57,12 @@ def print_bytes(text: bytes) -> None:
     output = standard(sys.stdout)
     output.write(text)
     output.flush()
+
+
+def complain(text: str) -> None:
+    """A line on standard error. Where that is closed, print would say it on standard output, as an answer."""
+    if sys.stderr is not None:
+        print(text, file=sys.stderr)
 
 
 def version_of(program: str) -> str:
