@@ -8,10 +8,12 @@
 #include <signal.h>
 #include <stdlib.h>
 #include <sys/prctl.h>
+#include <sys/socket.h>
 #include <sys/stat.h>
 #include <sys/syscall.h>
 #include <sys/time.h>
 #include <sys/wait.h>
+#include <time.h>
 #include <unistd.h>
 
 #include "check.h"
@@ -47,23 +49,92 @@ static void take_identities(char **words) {
     add_key("user", "ticket", "ticket", 6, KEY_SPEC_USER_KEYRING);
 }
 
-/* meanwhile: as if another thread took another identity in the midst of root's first call: where the library looks
- * whether it runs set-uid, before it looks for a daemon. */
-static bool is_taken_meanwhile;
+/* As if another thread took another identity in the midst of root's first call: where the library looks whether it runs
+ * set-uid, before it looks for a daemon; where it connects to one, or does so anew; or where it receives an answer. */
+static enum { NEVER, LOOKING, CONNECTING, CONNECTING_ANEW, RECEIVING } taken;
+
+static void take_identity(bool is_now) {
+    if (is_now) (void)!seteuid(OTHER);
+}
 
 unsigned long getauxval(unsigned long type) {
     unsigned long (*ours)(unsigned long) = (unsigned long (*)(unsigned long))dlsym(RTLD_NEXT, "getauxval");
-    if (is_taken_meanwhile) (void)!seteuid(OTHER);
+    take_identity(taken == LOOKING);
     return ours(type);
 }
 
+int connect(int end, __CONST_SOCKADDR_ARG address, socklen_t length) {
+    int (*ours)(int, __CONST_SOCKADDR_ARG, socklen_t) =
+        (int (*)(int, __CONST_SOCKADDR_ARG, socklen_t))dlsym(RTLD_NEXT, "connect");
+    static int count;
+    take_identity(taken == CONNECTING || (taken == CONNECTING_ANEW && ++count > 1));
+    return ours(end, address, length);
+}
+
+ssize_t recv(int end, void *room, size_t length, int flags) {
+    ssize_t (*ours)(int, void *, size_t, int) = (ssize_t(*)(int, void *, size_t, int))dlsym(RTLD_NEXT, "recv");
+    take_identity(taken == RECEIVING);
+    return ours(end, room, length, flags);
+}
+
+/* meanwhile: a first call in which that is so, and another one. */
 static void take_identity_meanwhile(char **words) {
     (void)words;
-    is_taken_meanwhile = true;
+    taken = LOOKING;
     add_key("user", "root-secret", "hunter2", 7, KEY_SPEC_USER_KEYRING);
-    is_taken_meanwhile = false;
+    taken = NEVER;
     (void)!seteuid(0);
     add_key("user", "root-secret", "hunter2", 7, KEY_SPEC_USER_KEYRING);
+}
+
+/* turned: the same where it connects anew. */
+static void take_identity_turned(char **words) {
+    (void)words;
+    taken = CONNECTING_ANEW;
+    puts(word_of(add_key("user", "root-secret", "hunter2", 7, KEY_SPEC_USER_KEYRING) > 0));
+}
+
+/* tried SOCKET PATH: the same where the library finds out what a daemon of the first version carries, on a connection
+ * of its own. By then the other user has its socket there. */
+static void take_identity_trying(char **words) {
+    bool fine = keyctl_get_keyring_ID(KEY_SPEC_USER_KEYRING, 0) > 0 && rename(words[0], words[1]) == 0;
+    taken = CONNECTING;
+    puts(word_of(fine && keyctl_move(5, 6, 7, 0) == 0));
+}
+
+/* entered: the same where it receives what the daemon says of the session that its environment names. What is answered
+ * then, and what later. */
+static void take_identity_entering(char **words) {
+    (void)words;
+    taken = RECEIVING;
+    printf("%s ", word_of(keyctl_get_keyring_ID(KEY_SPEC_SESSION_KEYRING, 0) > 0));
+    taken = NEVER;
+    (void)!seteuid(0);
+    puts(word_of(keyctl_get_keyring_ID(KEY_SPEC_SESSION_KEYRING, 0) > 0));
+}
+
+/* held-up: a thread is another user, whose daemon doesn't answer. Meanwhile this one is others, one after the other, as
+ * in a server each of whose threads is a client of its own: more than a process remembers. */
+static void *ask_as_other(void *unused) {
+    (void)!syscall(SYS_setresuid, -1, OTHER, -1);
+    keyctl_get_keyring_ID(KEY_SPEC_USER_KEYRING, 0);
+    return unused;
+}
+
+static void hold_up(char **words) {
+    pthread_t thread;
+    time_t begun = time(NULL);
+    (void)words;
+    bool fine = keyctl_get_keyring_ID(KEY_SPEC_USER_KEYRING, 0) > 0;
+    pthread_create(&thread, NULL, ask_as_other, NULL);
+    usleep(300000);
+    for (int i = 1; i <= 8; i++) {
+        fine = fine && syscall(SYS_setresuid, -1, 0, -1) == 0 && syscall(SYS_setresuid, -1, OTHER - 1 - i % 4, -1) == 0;
+        fine = fine && keyctl_get_keyring_ID(KEY_SPEC_USER_KEYRING, 0) > 0;
+    }
+    puts(fine && time(NULL) - begun < 5 ? "all are answered" : "held up");
+    fflush(stdout);
+    _exit(0);
 }
 
 /* drop: asks as root, is another user for good, and asks again, which no daemon answers. How many sockets are open. */
@@ -199,6 +270,44 @@ static void join_interrupted(char **words) {
     printf("%s, %s\n", word_of(is_joined), waitpid(-1, NULL, WNOHANG) < 0 ? "no child" : "a child is left");
 }
 
+/* no-memory: joins a session while there is no memory for the environment. Whether the one before is still joined. */
+static bool is_environment_full;
+
+int setenv(const char *name, const char *value, int overwrite) {
+    int (*ours)(const char *, const char *, int) = (int (*)(const char *, const char *, int))dlsym(RTLD_NEXT, "setenv");
+    if (!is_environment_full) return ours(name, value, overwrite);
+    errno = ENOMEM;
+    return -1;
+}
+
+static void join_without_memory(char **words) {
+    (void)words;
+    key_serial_t before = keyctl_join_session_keyring("before");
+    is_environment_full = true;
+    bool is_joined = keyctl_join_session_keyring("after") > 0;
+    printf("%s, ", word_of(is_joined));
+    puts(keyctl_get_keyring_ID(KEY_SPEC_SESSION_KEYRING, 0) == before ? "the same session" : "another session");
+}
+
+/* blind: asks while the kernel tells nothing of descriptors. How many sockets are open then. */
+static bool is_blind;
+
+int fstat(int descriptor, struct stat *status) {
+    int (*ours)(int, struct stat *) = (int (*)(int, struct stat *))dlsym(RTLD_NEXT, "fstat");
+    if (!is_blind) return ours(descriptor, status);
+    errno = EACCES;
+    return -1;
+}
+
+static void ask_blindly(char **words) {
+    (void)words;
+    is_blind = true;
+    bool is_answered = keyctl_get_keyring_ID(KEY_SPEC_USER_KEYRING, 0) > 0;
+    printf("%s ", word_of(is_answered));
+    is_blind = false;
+    printf("%d\n", count_sockets());
+}
+
 /* again: joins a session, closes all descriptors and has files under their numbers, and joins another one. */
 static void join_again(char **words) {
     struct stat status, each;
@@ -309,10 +418,13 @@ int main(int count, char **words) {
         void (*run)(char **);
     } modes[] = { { "sockets", see_sockets },     { "identities", take_identities },
                   { "drop", drop_identity },      { "drop-groups", drop_groups },
-                  { "meanwhile", take_identity_meanwhile },
+                  { "held-up", hold_up },         { "entered", take_identity_entering },
+                  { "meanwhile", take_identity_meanwhile }, { "turned", take_identity_turned },
+                  { "tried", take_identity_trying },
                   { "group", read_by_group },     { "back", go_and_come_back },
                   { "process-one", be_process_one }, { "open", open_session },
                   { "join", join },               { "interrupted", join_interrupted },
+                  { "no-memory", join_without_memory }, { "blind", ask_blindly },
                   { "again", join_again },        { "twice", ask_twice },
                   { "as-other", join_as_other },  { "execute", execute },
                   { "put", put_key },             { "hide", hide_key },

@@ -6,6 +6,7 @@
 #include <stdatomic.h>
 #include <stdlib.h>
 #include <sys/wait.h>
+#include <time.h>
 #include <unistd.h>
 
 #include "check.h"
@@ -124,6 +125,60 @@ static const char *try_cancel(void) {
     return keyctl_get_keyring_ID(KEY_SPEC_USER_KEYRING, 0) > 0 ? "answers" : "refuses";
 }
 
+/* Another thread cancels one that has asked and is about to return: its end tells the daemon, which must not be where
+ * it is cancelled. */
+static void *ask_and_return(void *unused) {
+    ask(unused);
+    pthread_setcancelstate(PTHREAD_CANCEL_DISABLE, NULL);
+    pthread_barrier_wait(&both_have_asked);
+    pthread_barrier_wait(&may_end);
+    pthread_setcancelstate(PTHREAD_CANCEL_ENABLE, NULL);
+    return &may_end;
+}
+
+static const char *try_cancel_at_end(void) {
+    pthread_t ending;
+    void *result;
+    pthread_barrier_init(&both_have_asked, NULL, 2);
+    pthread_barrier_init(&may_end, NULL, 2);
+    pthread_create(&ending, NULL, ask_and_return, NULL);
+    pthread_barrier_wait(&both_have_asked);
+    pthread_cancel(ending);
+    pthread_barrier_wait(&may_end);
+    pthread_join(ending, &result);
+    if (keyctl_get_keyring_ID(KEY_SPEC_USER_KEYRING, 0) < 0) return "refuses";
+    return result == &may_end ? "returns" : "cancelled";
+}
+
+/* ---- A handler of a signal that forks, wherever the program is ---- */
+
+enum { HANDLED = 3000 };
+
+static volatile sig_atomic_t handled;
+
+static void fork_now(int unused) {
+    (void)unused;
+    pid_t child = fork();
+    if (child == 0) _exit(0);
+    waitpid(child, NULL, 0);
+    handled++;
+}
+
+static const char *try_handler(void) {
+    struct sigevent event = { .sigev_notify = SIGEV_SIGNAL, .sigev_signo = SIGUSR1 };
+    const struct itimerspec often = { .it_value.tv_nsec = 700000, .it_interval.tv_nsec = 700000 };
+    timer_t timer;
+    ask(NULL);
+    signal(SIGUSR1, fork_now);
+    if (timer_create(CLOCK_MONOTONIC, &event, &timer) < 0 || timer_settime(timer, 0, &often, NULL) < 0) exit(2);
+    while (handled < HANDLED) {
+        ask(NULL);
+        atomic_fetch_add(&ended, 1);
+    }
+    timer_delete(timer);
+    return "goes on";
+}
+
 /* ---- The environment of a program with threads ---- */
 
 static void *wait_for_end(void *unused) {
@@ -204,7 +259,8 @@ int main(int count, char **words) {
         const char *name;
         const char *(*run)(void);
     } modes[] = { { "fork", try_fork },   { "end", try_end },       { "cancel", try_cancel },   { "crowd", try_crowd },
-                  { "child", try_child }, { "halves", try_halves }, { "environment", try_environment } };
+                  { "child", try_child }, { "halves", try_halves }, { "environment", try_environment },
+                  { "cancel-at-end", try_cancel_at_end }, { "handler", try_handler } };
     if (count != 3) return 2;
     daemon_process = atoi(words[1]);
     signal(SIGALRM, on_alarm);

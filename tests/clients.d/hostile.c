@@ -12,13 +12,14 @@
 #include <stdlib.h>
 #include <string.h>
 #include <sys/socket.h>
+#include <sys/stat.h>
 #include <sys/un.h>
 #include <time.h>
 #include <unistd.h>
 
 #include "keyretain.h"
 
-enum { LONGEST = 8, SECRET = 16, FRAME = 64, LONGEST_BODY = 262140 };
+enum { LONGEST = 8, SECRET = 16, FRAME = 64, LONGEST_BODY = 262140, FILES = 300 };
 
 static const char *path;
 static int listener;
@@ -52,7 +53,10 @@ static void *drip(void *unused) {
     return unused;
 }
 
-/* Answers the first ask, and half of what the second one reads. The frames are of version 2. */
+static bool then_closes;
+
+/* Answers the first ask, and half of what the second one reads; then it ends the connection where `then_closes` says
+ * so. The frames are of version 2. */
 static void *answer_half(void *unused) {
     uint8_t ask[FRAME], number[] = { 16, 0, 0, 0, 0, 0, 0, 0, 1, 0, 0, 0, 0, 0, 0, 0, 1, 0, 0, 0 };
     uint8_t half[16 + SECRET] = { 12 + 100, 0, 0, 0, 0, 0, 0, 0, 2 };
@@ -62,6 +66,7 @@ static void *answer_half(void *unused) {
         (void)!write(end, half, sizeof half);
         explicit_bzero(half, sizeof half);
     }
+    if (then_closes) close(end);
     pause();
     return unused;
 }
@@ -69,7 +74,7 @@ static void *answer_half(void *unused) {
 /* Answers so many asks with the number or serial 1; the last one instead as READ, with the secret. Then it ends the
  * connection where `then_closes` says so. */
 static int answers;
-static bool reads_last, then_closes;
+static bool reads_last;
 
 static void *answer_some(void *unused) {
     static uint8_t ask[4096];
@@ -172,6 +177,17 @@ static const char *try_half(void) {
     return look_for_secret();
 }
 
+/* The same, where the server ends the connection, which its client keeps. */
+static const char *try_lost(void) {
+    char buffer[SECRET];
+    mallopt(M_MMAP_THRESHOLD, 1 << 30);
+    then_closes = true;
+    struct kr *connection = connect_to(answer_half, 2000);
+    int64_t context = kr_hello(connection, 0, 0, 0, NULL);
+    if (context < 0 || kr_read(connection, (uint32_t)context, 5, buffer, sizeof buffer) >= 0) return "answered";
+    return errno == ECONNRESET ? look_for_secret() : strerrorname_np(errno);
+}
+
 /* An ask that fits no frame, whose payload had been put there. */
 static const char *try_no_frame(void) {
     static uint8_t payload[65503]; /* all but the last field has room */
@@ -270,6 +286,26 @@ static const char *try_dump(void) {
     return is_left_out ? "left out" : "dumped";
 }
 
+/* A thread that is to be cancelled: how many descriptors of the connection it leaves for what is executed. */
+static void *keep(void *connection) {
+    pthread_cancel(pthread_self());
+    kr_keep_over_exec(connection);
+    return NULL;
+}
+
+static const char *try_kept(void) {
+    struct kr *connection = connect_to(NULL, 700);
+    pthread_t thread;
+    struct stat status;
+    int left = 0;
+    pthread_create(&thread, NULL, keep, connection);
+    pthread_join(thread, NULL);
+    kr_close(connection);
+    for (int i = STDERR_FILENO + 1; i < FILES; i++)
+        left += i != listener && fstat(i, &status) == 0 && S_ISSOCK(status.st_mode);
+    return left == 0 ? "none" : "left";
+}
+
 static const char *try_empty(void) { return kr_open("") ? "connected" : strerrorname_np(errno); }
 
 /* As many bytes as sun_path of unix(7) has, which leaves none for the null byte. */
@@ -299,7 +335,7 @@ int main(int count, char **words) {
                   { "dump", try_dump }, { "no frame", try_no_frame }, { "empty", try_empty },
                   { "sent", try_sent }, { "read", try_read },       { "full", try_full },     { "closed", try_closed },
                   { "long", try_long }, { "longest", try_longest },
-                  { "note", try_note } };
+                  { "note", try_note }, { "kept", try_kept }, { "lost", try_lost } };
     if (count != 3) return 2;
     path = words[1];
     signal(SIGALRM, on_alarm);

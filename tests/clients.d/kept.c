@@ -1,5 +1,7 @@
 /* kept: what a child of fork(2) finds of the serials of daemons that are gone, which another thread changes at that moment.
  * It has free(3) look at them: what is freed there mustn't be what they have. */
+#include <malloc.h>
+
 #include "serials.h"
 
 #include "check.h"
@@ -24,8 +26,15 @@ int main(void) {
         serials_add(&serials, 7);
         check("one that this one has told", !serials_is_stale(&serials, 7));
     }
+    serials_add(&serials, INT32_MAX);
+    check("a daemon that says the highest serial", serials_begin_anew(&serials) == 0);
+    check("the memory that this takes", malloc_usable_size(serials.again) < 17 * 1024 * 1024);
+    for (int32_t told = 1; told > 0; told = told < INT32_MAX / 2 ? told * 2 : 0) serials_add(&serials, told);
+    check("what is told apart", !serials_is_stale(&serials, SERIALS_TOLD_APART) && serials_is_stale(&serials, 3));
+    serials_add(&serials, INT32_MAX);
+    check("what isn't stays stale", serials_is_stale(&serials, INT32_MAX) && serials_is_stale(&serials, 1 << 28));
     serials_clear(&serials);
-    check("what was freed", freed == 5);
+    check("what was freed", freed == 6);
     check("what was freed is had no more", still_had == 0);
     return conclude("kept");
 }

@@ -29,6 +29,9 @@ class Server:
         self.dice, self.out, self.sent = dice, bytearray(), collections.defaultdict(list)
         self.sends_frames = True
 
+    def fileno(self):
+        return -1
+
     def close(self):
         pass
 

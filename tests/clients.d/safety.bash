@@ -10,13 +10,16 @@ try_hangs() {
     [ -x "$dir/$name" ] || continue
     while read -r mode wanted; do
       # one has a thread of its own, and starts none in a child of a program with threads
-      case $name:$mode in hangs-thread:environment | hangs-thread:child) continue ;; esac
+      # nor is their fork for handlers of signals
+      case $name:$mode in hangs-thread:environment | hangs-thread:child | hangs-*:handler) continue ;; esac
       is "a program with threads, $name: $mode" "$wanted" "$("$dir/$name" "$daemon" "$mode")"
     done <<'END'
 fork forks
 end ends
 cancel answers
+cancel-at-end returns
 crowd all end
+handler goes on
 child answers
 halves cut
 environment changed alone
@@ -32,7 +35,7 @@ try_hostile() {
     while IFS=: read -r mode wanted; do
       # a sanitizer has memory of its own, which its allocator doesn't give back
       case $name:$mode in
-        hostile-*:half | hostile-*:no\ frame | hostile-*:dump) continue ;;
+        hostile-*:half | hostile-*:lost | hostile-*:no\ frame | hostile-*:dump) continue ;;
         hostile-*:sent | hostile-*:read | hostile-*:full) continue ;;
       esac
       is "$name: $mode" "$wanted" "$("$dir/$name" "$dir/hostile.sock" "$mode")"
@@ -41,6 +44,7 @@ zero:ETIMEDOUT
 signals:ETIMEDOUT
 drip:ETIMEDOUT
 half:gone
+lost:gone
 no frame:gone
 sent:gone
 read:gone
@@ -48,6 +52,7 @@ full:gone
 closed:ECONNRESET
 longest:262140
 note:EPROTO
+kept:none
 dump:left out
 empty:ENOENT
 long:ENAMETOOLONG
@@ -204,10 +209,17 @@ try_inherited() {
   is 'a session that nobody holds is not entered' 1 \
     "$(KEYRETAIN_SESSION=5:nobody in_session --join -- true 2>/dev/null; echo $?)"
   is 'nor is one that no variable names' 1 "$(in_session --join -- true 2>/dev/null; echo $?)"
+  is 'what is said of that, as in a login without a session' \
+    'keyretain-session: there is no session to join: KEYRETAIN_SESSION names none' \
+    "$(KEYRETAIN_SESSION='' in_session --join -- true 2>&1)"
   is 'a name to join' 2 "$(in_session --join name 2>/dev/null; echo $?)"
   is 'a folder of the library that is not absolute' "$dir/keyretain" "$(cd "$dir" &&
     KEYRETAIN_LIBRARY_FOLDER=keyretain "$dir/c/keyretain-session" -- sh -c 'echo ${LD_LIBRARY_PATH%%:*}')"
+  is 'a name with an end of line' EINVAL "$("$dir/acts" join $'a\nb')"
+  is 'the same for a command' 1 "$(in_session $'a\nb' -- true 2>/dev/null; echo $?)"
   is 'a session that is joined while signals come' 'ok, no child' "$("$dir/acts" interrupted signals)"
+  is 'no memory for the environment' 'ENOMEM, the same session' "$("$dir/acts" no-memory)"
+  is 'a kernel that tells nothing of descriptors' 'EACCES 0' "$("$dir/acts" blind)"
   is 'files under the number of what held a session' 'ok, 297 of 297 files left' \
     "$("$dir/acts" again <"$top/README.md")"
   is 'no keeper is there' 3 "$("$dir/no-keeper/keyretain-session" -- true 2>/dev/null; echo $?)"

@@ -3,6 +3,7 @@ Prints a line for each difference, and last how many were compared."""
 import ctypes
 import importlib
 import os
+import pickle
 import signal
 import socket
 import stat
@@ -293,6 +294,9 @@ def try_deadlines():
                 compare(f"a server that {what}, and signals", late, seconds_of(client.read, 1, 5))
             client.timeout = 0
             compare(f"a server that {what}, at once", late, seconds_of(client.read, 1, 5))
+    for seconds in (3e6, float("inf")):  # more than poll(2) takes
+        with client_of(timeout=seconds) as client:
+            compare(f"a patience of {seconds} seconds", b"5", outcome(client.read, 1, 5))
 
 
 def try_backlog():
@@ -382,6 +386,15 @@ def sockets():
     return found
 
 
+def try_pickled():
+    """What a worker of multiprocessing raises comes to its parent."""
+    for error in (keyretain.Refused("READ", 13), keyretain.Lost("gone"), keyretain.Malformed("noise"),
+                  keyretain.TooFarAhead(256)):
+        copied = outcome(lambda: pickle.loads(pickle.dumps(error)))  # pylint: disable=cell-var-from-loop
+        compare(f"a copy of {error!r}", (type(error), str(error), vars(error), error.args),
+                (type(copied), str(copied), getattr(copied, "__dict__", None), getattr(copied, "args", None)))
+
+
 def try_standard():
     """What is written to a standard output that was closed must not go to the daemon; nor is a connection for programs
     that are executed."""
@@ -396,6 +409,24 @@ def try_standard():
                     return [(end > 2, os.get_inheritable(end)) for end in sockets() - before]
 
             compare(f"a connection where {first} to 2 are closed", "[(True, False)]", in_child(ask))
+
+
+def try_reused():
+    """A program that closes all its descriptors, and has something else under the number: that isn't told anything, and
+    isn't closed."""
+    def ask():
+        with keyretain.Client(path, 2, 2) as client:
+            client.read(1, 5)
+            number, = sockets() - before
+            ours, theirs = socket.socketpair()
+            os.dup2(ours.fileno(), number)
+            theirs.setblocking(False)
+            asked = outcome(client.add, 1, "user", "token", b"secret", -4)
+        return asked, outcome(theirs.recv, 64), os.path.sameopenfile(number, ours.fileno())
+
+    with served() as path:
+        before = sockets()
+        compare("a number that is another socket's", "('Lost', 'BlockingIOError', True)", in_child(ask))
 
 
 def try_pipe_signal():
@@ -432,7 +463,7 @@ def try_words():
 if __name__ == "__main__":
     for case in (try_children, try_held, try_cut_frames, try_late_replies, try_ahead, try_large_ahead, try_too_far,
                  try_answered_then_gone, try_deadlines, try_backlog, try_nonsense, try_listings, try_values,
-                 try_standard, try_pipe_signal, try_words):
+                 try_pickled, try_standard, try_reused, try_pipe_signal, try_words):
         case()
     try_every_step("an ask", lambda client: client.read(1, 5))
     try_every_step("asks sent ahead", ahead)

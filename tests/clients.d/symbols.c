@@ -131,7 +131,9 @@ static void call_authority(void) {
     check("keyctl_assume_authority", keyctl_assume_authority(0) == 0 && refused(keyctl_assume_authority(key), ENOKEY));
     check("an authority's key", refused(keyctl_read(KEY_SPEC_REQKEY_AUTH_KEY, NULL, 0), ENOKEY));
     check("keyctl_set_reqkey_keyring", keyctl_set_reqkey_keyring(KEY_REQKEY_DEFL_USER_KEYRING) == 0 &&
-          keyctl_set_reqkey_keyring(KEY_REQKEY_DEFL_NO_CHANGE) == KEY_REQKEY_DEFL_USER_KEYRING);
+          keyctl_set_reqkey_keyring(KEY_REQKEY_DEFL_NO_CHANGE) == KEY_REQKEY_DEFL_USER_KEYRING &&
+          keyctl_set_reqkey_keyring(KEY_REQKEY_DEFL_REQUESTOR_KEYRING) == KEY_REQKEY_DEFL_USER_KEYRING &&
+          refused(keyctl_set_reqkey_keyring(KEY_REQKEY_DEFL_GROUP_KEYRING), EINVAL));
 }
 
 static void call_left_out(void) {

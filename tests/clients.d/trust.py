@@ -2,8 +2,10 @@
 or root of a user namespace that has other uids; `trust.py one` makes the checks that one user can. Prints a line for
 each difference, and last how many were compared."""
 import os
+import shutil
 import signal
 import socket
+import struct
 import subprocess
 import sys
 import tempfile
@@ -204,17 +206,27 @@ def try_turned():
         with keyretain.Client(path) as client:
             return client.hello(0, 0)
 
+    def greet_as_other():
+        with keyretain.Client(path) as client:
+            os.seteuid(OTHER)  # as another thread may
+            try:
+                return client.hello(0, 0)
+            finally:
+                os.seteuid(OWN)
+
     words = [sys.executable, "-B", os.path.join(os.path.dirname(os.path.abspath(__file__)), "turn.py")]
     with folders() as (_, system):
         path, other = os.path.dirname(system) + "/turned.sock", os.path.dirname(system) + "/others.sock"
         os.chmod(os.path.dirname(system), 0o777)
-        with listening(other, OTHER) as told, \
-                subprocess.Popen([*words, path, other], stdout=subprocess.PIPE) as turns:
-            turns.stdout.readline()
-            compare("a path that is turned to another after the first connection", "PermissionError", outcome(greet))
-            compare("what the other was told", 0, told())
-            compare("the first connection was made", 0, turns.wait(20))
-            os.rename(path, other)
+        for what, ask in (("a path that is turned to another after the first connection", greet),
+                          ("the same, where the process has become that user", greet_as_other)):
+            with listening(other, OTHER) as told, \
+                    subprocess.Popen([*words, path, other], stdout=subprocess.PIPE) as turns:
+                turns.stdout.readline()
+                compare(what, "PermissionError", outcome(ask))
+                compare(f"{what}: what the other was told", 0, told())
+                compare(f"{what}: the first connection was made", 0, turns.wait(20))
+                os.rename(path, other)
 
 
 def tells_path(uid, environment):
@@ -297,13 +309,54 @@ print(client.enter_session(1))"""
         os.waitpid(child, 0)
 
 
+def python_for(uid):
+    """A Python that this user may execute, or None."""
+    for python in (sys.executable, "/usr/bin/python3"):
+        try:
+            subprocess.run([python, "-c", "1"], user=uid, group=uid, extra_groups=[], stdout=subprocess.DEVNULL,
+                           stderr=subprocess.DEVNULL, check=True)
+            return os.path.realpath(python)
+        except (OSError, subprocess.CalledProcessError):
+            pass
+    return None
+
+
+def with_capability(python, folder):
+    """A copy of it that is given a capability, CAP_NET_BIND_SERVICE, as setcap(8) does; None where files can't be."""
+    copy = shutil.copy(python, folder + "/python")
+    try:
+        os.setxattr(copy, "security.capability", struct.pack("<5I", 0x02000001, 1 << 10, 0, 0, 0))
+    except OSError:
+        return None
+    return copy
+
+
+def try_capabilities():
+    """A program that is given capabilities is told nothing by the environment; one that has given up its rights is."""
+    words = "import sys; sys.path.insert(0, sys.argv[1]); import keyretain; print(keyretain.default_path())"
+    compare("the path in a program that has become another user", "/another",
+            tells_path(OTHER, {"KEYRETAIN_SOCKET": "/another"}))
+    with tempfile.TemporaryDirectory(prefix="keyretain.") as folder:
+        os.chmod(folder, 0o755)
+        python = python_for(OTHER)
+        copy = with_capability(python, folder) if python else None
+        if not copy:
+            print("skipped: a program with capabilities: no Python that another user may execute, or no such files")
+            return
+        package = shutil.copytree(os.path.dirname(keyretain.__file__), folder + "/package/keyretain")
+        environment = {"KEYRETAIN_SOCKET": "/another", "PYTHONHOME": os.path.dirname(os.path.dirname(python))}
+        told = subprocess.run([copy, "-B", "-c", words, os.path.dirname(package)], user=OTHER, group=OTHER,
+                              extra_groups=[], env=environment, text=True, stdout=subprocess.PIPE, check=False)
+        compare("the path in a program with capabilities", "/run/keyretain/keyretain.sock", told.stdout.strip())
+
+
 if __name__ == "__main__":
     for variable in ("KEYRETAIN_SOCKET", "KEYRETAIN_TRUST"):
         os.environ.pop(variable, None)
     cases = [try_places, try_names, try_peer]
     if sys.argv[1:] != ["one"]:
         cases += [try_found, try_found_root, try_another_runtime_directory, try_closed,
-                  try_turned, try_named, try_system, try_set_uid]
+                  try_turned, try_named, try_system, try_set_uid, try_capabilities]
     for case in cases:
         case()
     servers.conclude()
