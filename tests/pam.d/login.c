@@ -6,7 +6,9 @@
 #include <pthread.h>
 #include <pwd.h>
 #include <security/pam_appl.h>
+#include <security/pam_ext.h>
 #include <signal.h>
+#include <stdarg.h>
 #include <stdbool.h>
 #include <stdio.h>
 #include <stdlib.h>
@@ -20,6 +22,17 @@ enum { OUT = 100, THREADS = 3, VICTIMS = 32, FIRST_FREE = 3 };
 
 static pam_handle_t *handle;
 static volatile sig_atomic_t children_seen;
+
+/* In the place of libpam's: what the module tells the log stands on standard error. */
+void pam_syslog(const pam_handle_t *of, int priority, const char *format, ...) {
+    va_list words;
+    (void)of;
+    va_start(words, format);
+    dprintf(STDERR_FILENO, "log %d ", priority);
+    vdprintf(STDERR_FILENO, format, words);
+    dprintf(STDERR_FILENO, "\n");
+    va_end(words);
+}
 
 static int converse(int count, const struct pam_message **messages, struct pam_response **answers, void *unused) {
     (void)count, (void)messages, (void)answers, (void)unused;

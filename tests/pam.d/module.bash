@@ -236,9 +236,14 @@ try_answers() {
   says '5:name\\n/path\\n'
   gives 'two lines' 'open success KEYRETAIN_SESSION=5:name KEYRETAIN_SOCKET=/path close success' \
     one open "${show[@]}" close
+  printf '#!/bin/sh\nprintf "5:name\\n"\nsleep 0.2\nprintf "/path\\n"\n' >"$keeper"
+  gives 'two lines, one after the other' 'open success KEYRETAIN_SESSION=5:name KEYRETAIN_SOCKET=/path' \
+    one open "${show[@]}"
   while IFS='|' read -r name text; do
     says "${text/LONG/$long}"
     gives "a keeper that says $name" "open success $none" one open "${show[@]}"
+    is "a keeper that says $name: lines of the log that say so" 1 "$(grep -c '^log 5 no session: .' "$dir/said")"
+    is "a keeper that says $name: bytes of the log that are not printed" '' "$(tr -d '\n -~' <"$dir/said")"
   done <<'END_OF_TABLE'
 nothing|
 one line|5:name\\n
@@ -340,6 +345,21 @@ try_no_core() {
       -e 's/^\(rt_sigprocmask([^]]*]\).*/\1/p' -e 's/^\(execve\).*/\1/p' -e '/^execve/q' | paste -sd' ')"
 }
 
+# A keeper that can't be given the user's ids isn't executed: it would be root's. It makes such calls itself, later.
+try_refused_ids() {
+  local call log_in
+  if [ "$(id -u)" != 0 ] || ! strace -f -qq -o /dev/null true 2>/dev/null; then
+    skipped 'calls that fail before a keeper is executed: not root, or no strace(1)'
+    return
+  fi
+  for call in setgroups setresgid setresuid; do
+    log_in=(strace -f -qq -o /dev/null -e "trace=$call" -e "inject=$call:error=EAGAIN:when=1" "$dir/login")
+    is "$call fails before a keeper is executed" "open success $none close success" \
+      "$(ASAN_OPTIONS=detect_leaks=0 logs_in one open "${show[@]}" close)"
+  done
+  gone 'calls that fail before a keeper is executed'
+}
+
 # ---- Applications of all kinds
 
 try_applications() {
@@ -429,6 +449,7 @@ try_module() {
   try_environment
   try_given
   try_no_core
+  try_refused_ids
   try_applications
   try_killed
   try_answers
