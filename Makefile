@@ -96,11 +96,13 @@ install:
 	install -m 644 contrib/systemd/keyretain.conf "$(DESTDIR)$(SYSUSERSDIR)/"
 	install -m 644 contrib/bash-completion/keyretain contrib/bash-completion/keyretaind "$(DESTDIR)$(COMPLETIONDIR)/"
 	install -d "$(DESTDIR)$(USERUNITDIR)"
-	sed '/^ExecStart=/s|@sbindir@|$(SBINDIR)|' contrib/systemd/user/keyretaind.service \
+	sed -e '/^ExecStart=/s|@sbindir@|$(SBINDIR)|' -e '/^ExecCondition=/s|@bindir@|$(BINDIR)|' \
+	  contrib/systemd/user/keyretaind.service \
 	  >"$(DESTDIR)$(USERUNITDIR)/keyretaind.service"
 	chmod 644 "$(DESTDIR)$(USERUNITDIR)/keyretaind.service"
 	install -d "$(DESTDIR)$(DATADIR)"
-	sed '/^ExecStart=/s|@sbindir@|$(SBINDIR)|' contrib/systemd/keyretaind@.service \
+	sed -e '/^ExecStart=/s|@sbindir@|$(SBINDIR)|' -e '/^ExecCondition=/s|@bindir@|$(BINDIR)|' \
+	  contrib/systemd/keyretaind@.service \
 	  >"$(DESTDIR)$(UNITDIR)/keyretaind@.service"
 	chmod 644 "$(DESTDIR)$(UNITDIR)/keyretaind@.service"
 	install -m 644 contrib/systemd/user-quota.conf "$(DESTDIR)$(DATADIR)/"
