@@ -1,10 +1,13 @@
-/* load PATH ASK CONNECTIONS DEPTH SECONDS [VERSION]: prints how many asks a second a server on a Unix socket answers,
- * and how many microseconds the replies took that half of all, and 99 of a hundred, came within. ASK is echo, read,
- * update or add (ADD and UNLINK in turn); or redis-read, redis-update, memcached-read or memcached-update, for those
- * servers. Each connection has a thread, which sends DEPTH asks with one write, reads their replies, and goes on so for
- * SECONDS. VERSION is that of the frames, 1 or 2; 1 without it. In version 2 the tags of a connection are 1, 2, 3 and so
- * on. */
+/* load PATH ASK CONNECTIONS DEPTH SECONDS [VERSION [BESIDE]]: prints how many asks a second a server on a Unix socket
+ * answers, how many microseconds the replies took that half of all, and 99 of a hundred, came within, and how many asks a
+ * second it answers those beside. ASK is echo, read, update or add (ADD and UNLINK in turn); or redis-read, redis-update,
+ * memcached-read or memcached-update, for those servers. Each connection has a thread, which sends DEPTH asks with one
+ * write, reads their replies, and goes on so for SECONDS. VERSION is that of the frames, 1 or 2; 1 without it. In version
+ * 2 the tags of a connection are 1, 2, 3 and so on. BESIDE further connections, none without it, ask the same with 64
+ * asks a write, for as long as the others do; the first three figures are of the others alone. */
 #include <pthread.h>
+#include <stdatomic.h>
+#include <stdbool.h>
 #include <stdint.h>
 #include <stdio.h>
 #include <stdlib.h>
@@ -15,11 +18,13 @@
 #include <unistd.h>
 
 enum { UPDATE = 2, UNLINK = 9, READ = 11, HELLO = 256, ADD = 262 };
-enum { KEYS = 64, PAYLOAD = 32, USER_KEYRING = -4, MOST_TIMES = 1 << 18 };
+enum { KEYS = 64, PAYLOAD = 32, USER_KEYRING = -4, MOST_TIMES = 1 << 18, DEPTH_BESIDE = 64 };
 
 struct client {
     pthread_t thread;
     int number, socket;
+    bool is_beside;
+    unsigned depth;
     uint32_t context, keys[KEYS], added[1024];
     unsigned sent;
     uint64_t asked, answered; /* the last tags */
@@ -31,9 +36,10 @@ struct client {
 };
 
 static const char *path, *ask;
-static unsigned depth, version = 1;
+static unsigned version = 1;
 static double seconds;
 static pthread_barrier_t all_are_ready;
+static atomic_bool is_over;
 
 static void fail(const char *why) {
     fprintf(stderr, "load: %s\n", why);
@@ -179,12 +185,12 @@ static void receive_gets(struct client *client, unsigned replies) {
 
 static void ask_words_once(struct client *client) {
     int updates = strstr(ask, "update") != NULL;
-    for (unsigned i = 0; i < depth; i++) {
+    for (unsigned i = 0; i < client->depth; i++) {
         (updates ? put_set : put_get)(client, (client->sent + i) % KEYS);
     }
     send_all(client);
-    (updates ? receive_sets : receive_gets)(client, depth);
-    client->sent += depth;
+    (updates ? receive_sets : receive_gets)(client, client->depth);
+    client->sent += client->depth;
 }
 
 /* A context of a uid of its own, with keys in its user keyring; or keys of its own names. */
@@ -211,6 +217,7 @@ static void set_up(struct client *client) {
 
 /* Sends as many asks as the depth says, and takes their replies. */
 static void ask_once(struct client *client) {
+    unsigned depth = client->depth;
     int adds = !strcmp(ask, "add") && client->sent / depth % 2 == 0;
     int unlinks = !strcmp(ask, "add") && !adds;
     for (unsigned i = 0; i < depth; i++) {
@@ -250,7 +257,7 @@ static void *run(void *given) {
     if (strcmp(ask, "echo") != 0) set_up(client);
     pthread_barrier_wait(&all_are_ready);
     double start = now(), spent = 0;
-    while (spent < seconds) {
+    while (client->is_beside ? !is_over : spent < seconds) {
         double before = spent;
         (is_redis || is_memcached ? ask_words_once : ask_once)(client);
         spent = now() - start;
@@ -280,31 +287,36 @@ static float *all_times(struct client *clients, unsigned connections, size_t *co
 }
 
 int main(int count, char **words) {
-    if (count != 6 && count != 7) fail("usage: load PATH echo|read|update|add CONNECTIONS DEPTH SECONDS [1|2]");
+    if (count < 6 || count > 8) fail("usage: load PATH echo|read|update|add CONNECTIONS DEPTH SECONDS [1|2 [BESIDE]]");
     path = words[1];
     ask = words[2];
     unsigned connections = (unsigned)atoi(words[3]);
-    depth = (unsigned)atoi(words[4]);
+    unsigned depth = (unsigned)atoi(words[4]);
     seconds = atof(words[5]);
-    if (count == 7) version = (unsigned)atoi(words[6]);
+    if (count > 6) version = (unsigned)atoi(words[6]);
+    unsigned all = connections + (count > 7 ? (unsigned)atoi(words[7]) : 0);
     if (version != 1 && version != 2) fail("frames have version 1 or 2");
     is_redis = !strncmp(ask, "redis-", 6);
     is_memcached = !strncmp(ask, "memcached-", 10);
     if (connections < 1 || depth < 1 || depth > 1024) fail("1 connection or more, and a depth of 1 to 1024");
-    pthread_barrier_init(&all_are_ready, NULL, connections);
-    struct client *clients = calloc(connections, sizeof *clients);
-    for (unsigned i = 0; i < connections; i++) {
+    pthread_barrier_init(&all_are_ready, NULL, all);
+    struct client *clients = calloc(all, sizeof *clients);
+    for (unsigned i = 0; i < all; i++) {
         clients[i].number = (int)i;
+        clients[i].is_beside = i >= connections;
+        clients[i].depth = i < connections ? depth : DEPTH_BESIDE;
         clients[i].times = malloc(sizeof(float) * MOST_TIMES);
         if (pthread_create(&clients[i].thread, NULL, run, &clients[i]) != 0) fail("no thread");
     }
-    double asks_a_second = 0;
-    for (unsigned i = 0; i < connections; i++) {
+    double asks_a_second = 0, beside = 0;
+    for (unsigned i = 0; i < all; i++) {
+        if (i == connections) is_over = true;
         pthread_join(clients[i].thread, NULL);
-        asks_a_second += clients[i].asks_a_second;
+        if (i < connections) asks_a_second += clients[i].asks_a_second;
+        else beside += clients[i].asks_a_second;
     }
     size_t timed;
     float *times = all_times(clients, connections, &timed);
-    printf("%.0f %.1f %.1f\n", asks_a_second, (double)times[timed / 2], (double)times[timed * 99 / 100]);
+    printf("%.0f %.1f %.1f %.0f\n", asks_a_second, (double)times[timed / 2], (double)times[timed * 99 / 100], beside);
     return 0;
 }
