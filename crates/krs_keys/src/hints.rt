@@ -1,20 +1,31 @@
 //! Which keyrings link a key, as far as it is noted: hints, of which no clause speaks.
 
 use crate::key_table::KeyTable;
-use crate::linkers::Linkers;
+use crate::linkers::{LinkHint, Linkers};
 use crate::placed::PlacedKeys;
 use crate::{Change, Content};
 use krs_types::Serial;
 
 impl KeyTable {
-    /// Two keyrings that may link a key. They are hints: no clause speaks of them, and the links may be gone.
-    pub fn near_linkers(&self, serial: Serial) -> (Option<Serial>, Option<Serial>) {
+    /// Two keyrings that may link a key, and where. They are hints: no clause speaks of them, and the links may be gone.
+    #[inline(always)]
+    pub fn link_hints(&self, serial: Serial) -> (LinkHint, LinkHint) {
         match self.keys.place_of(serial.number()) {
-            Some(place) => {
-                let (first, second) = self.linkers.near(place);
-                (ring_at(first), ring_at(second))
-            }
-            None => (None, None),
+            Some(place) => self.linkers.near(place),
+            None => (LinkHint::NONE, LinkHint::NONE),
+        }
+    }
+
+    /// The two keyrings alone.
+    pub fn near_linkers(&self, serial: Serial) -> (Option<Serial>, Option<Serial>) {
+        let (first, second) = self.link_hints(serial);
+        (first.ring(), second.ring())
+    }
+
+    /// Takes down the place where a keyring links a key, as such a hint.
+    pub fn note_link(&self, ring: Serial, serial: Serial, link: usize) {
+        if let Some(place) = self.keys.place_of(serial.number()) {
+            self.linkers.note(place, ring.number(), link);
         }
     }
 

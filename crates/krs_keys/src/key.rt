@@ -1,4 +1,4 @@
-ghost use Rattle.std.specs.Prelude.{◌≡◌, ◌≢◌, Some, false, slice_get, IfSome, IfNone, IfOk, IfErr, OnOk, OnErr, IsOk, IsSome};
+ghost use Rattle.std.specs.Prelude.{◌≡◌, ◌≢◌, Some, false, true, slice_get, IfSome, IfNone, IfOk, IfErr, OnOk, OnErr, IsOk, IsSome};
 ghost use Rattle.krs_links.specs.Links.{serial_named, serials, is_refused, link_error};
 ghost use Rattle.krs_keys.specs.Keys.{with_entry, without_link_at, named_links_of_content, seen};
 ghost use Rattle.krs_keys.specs.Changes.{changed};
@@ -99,6 +99,20 @@ impl Key {
         match &self.content {
             Content::Payload(_) => None,
             Content::Links(links) => links.place_linked(name, serial),
+        }
+    }
+
+    /// Whether it links the key of this serial at a place.
+    #[inline(always)]
+    pub fn links_at(&self, place: usize, serial: Serial) -> bool
+        ensures { result ≡ true → slice_get (serials (named_links_of_content self.now.content)) place ≡ Some serial }
+    {
+        match &self.content {
+            Content::Payload(_) => false,
+            Content::Links(links) => match links.serial_at(place) {
+                Some(linked) => linked == serial,
+                None => false,
+            },
         }
     }
 

@@ -14,3 +14,4 @@ mod slots;
 pub use key::{Change, Content, Key};
 pub use key_set::KeySet;
 pub use key_table::{KeyTable, LAST_SERIAL};
+pub use linkers::LinkHint;

@@ -1,29 +1,64 @@
 //! Which keyrings link a key, found without looking at the others.
+use krs_types::Serial;
 use std::alloc::{AllocError, Global};
+use std::cell::Cell;
 use std::collections::BTreeSet;
 use std::collections::btree_set::Range;
 
-/// Up to two keyrings that link the key at a place, or did; 0 is none.
+/// A keyring that links a key, or did, and a place of its link order where it may do so. Whoever follows such a hint checks
+/// it.
+#[derive(Clone, Copy)]
+pub struct LinkHint {
+    /// 0 is none.
+    ring: u32,
+    place: u32,
+}
+
+impl LinkHint {
+    pub(crate) const NONE: LinkHint = LinkHint { ring: 0, place: 0 };
+
+    /// A keyring that links the key at a place which isn't known yet.
+    fn of(ring: u32) -> LinkHint {
+        LinkHint { ring, place: 0 }
+    }
+
+    /// The keyring, if there is one.
+    #[inline(always)]
+    pub fn ring(self) -> Option<Serial> {
+        if self.ring == 0 {
+            return None;
+        }
+        Some(Serial::new(self.ring))
+    }
+
+    /// The place.
+    #[inline(always)]
+    pub fn place(self) -> usize {
+        self.place as usize
+    }
+}
+
+/// Up to two keyrings that link the key at a place, or did.
 #[derive(Clone, Copy)]
 struct Near {
-    first: u32,
-    second: u32,
+    first: LinkHint,
+    second: LinkHint,
 }
 
 impl Near {
     const NONE: Near = Near {
-        first: 0,
-        second: 0,
+        first: LinkHint::NONE,
+        second: LinkHint::NONE,
     };
 
     /// Takes in a keyring, where there is room, and answers whether it stands here.
     fn take_in(&mut self, ring: u32) -> bool {
-        if self.first == 0 || self.first == ring {
-            self.first = ring;
+        if self.first.ring == 0 || self.first.ring == ring {
+            self.first = LinkHint::of(ring);
             return true;
         }
-        if self.second == 0 || self.second == ring {
-            self.second = ring;
+        if self.second.ring == 0 || self.second.ring == ring {
+            self.second = LinkHint::of(ring);
             return true;
         }
         false
@@ -31,15 +66,24 @@ impl Near {
 
     /// Leaves out a keyring, and answers whether it stood here.
     fn leave_out(&mut self, ring: u32) -> bool {
-        if self.first == ring {
-            self.first = 0;
+        if self.first.ring == ring {
+            self.first = LinkHint::NONE;
             return true;
         }
-        if self.second == ring {
-            self.second = 0;
+        if self.second.ring == ring {
+            self.second = LinkHint::NONE;
             return true;
         }
         false
+    }
+
+    /// Takes down where a keyring links the key, if it stands here.
+    fn note(&mut self, ring: u32, place: u32) {
+        if self.first.ring == ring {
+            self.first.place = place;
+        } else if self.second.ring == ring {
+            self.second.place = place;
+        }
     }
 }
 
@@ -49,7 +93,7 @@ impl Near {
 /// at all keyrings later, and refuses nothing.
 #[derive(Drop)]
 pub(crate) struct Linkers {
-    near: Vec<Near>,
+    near: Vec<Cell<Near>>,
     /// The key, and the keyring.
     far: BTreeSet<(u32, u32)>,
 }
@@ -66,7 +110,7 @@ impl Linkers {
     /// Makes room for the keys at so many places.
     pub(crate) fn reserve(&mut self, places: usize) -> Result<(), AllocError> {
         if self.near.len() < places {
-            self.near.resize(places, Near::NONE)?;
+            self.near.resize(places, Cell::new(Near::NONE))?;
         }
         Ok(())
     }
@@ -81,11 +125,11 @@ impl Linkers {
 
     /// Another key stands at a place, which one keyring links, or none: 0.
     pub(crate) fn begin(&mut self, place: usize, ring: u32) {
-        if let Some(near) = self.near.get_mut(place) {
-            *near = Near {
-                first: ring,
-                second: 0,
-            };
+        if let Some(near) = self.near.get(place) {
+            near.set(Near {
+                first: LinkHint::of(ring),
+                second: LinkHint::NONE,
+            });
         }
     }
 
@@ -93,7 +137,7 @@ impl Linkers {
     #[inline(always)]
     pub(crate) fn add(&mut self, place: usize, serial: u32, ring: u32) {
         let is_near = match self.near.get_mut(place) {
-            Some(near) => near.take_in(ring),
+            Some(near) => near.get_mut().take_in(ring),
             None => false,
         };
         if !is_near {
@@ -111,7 +155,7 @@ impl Linkers {
     #[inline(always)]
     pub(crate) fn remove(&mut self, place: usize, serial: u32, ring: u32) {
         let was_near = match self.near.get_mut(place) {
-            Some(near) => near.leave_out(ring),
+            Some(near) => near.get_mut().leave_out(ring),
             None => false,
         };
         if !was_near && self.has_far() {
@@ -137,11 +181,27 @@ impl Linkers {
         }
     }
 
-    /// Two keyrings that may link the key at a place; 0 is none.
-    pub(crate) fn near(&self, place: usize) -> (u32, u32) {
+    /// Two keyrings that may link the key at a place.
+    #[inline(always)]
+    pub(crate) fn near(&self, place: usize) -> (LinkHint, LinkHint) {
         match self.near.get(place) {
-            Some(near) => (near.first, near.second),
-            None => (0, 0),
+            Some(near) => {
+                let near = near.get();
+                (near.first, near.second)
+            }
+            None => (LinkHint::NONE, LinkHint::NONE),
+        }
+    }
+
+    /// Takes down where a keyring links the key at a place.
+    pub(crate) fn note(&self, place: usize, ring: u32, link: usize) {
+        let Some(near) = self.near.get(place) else {
+            return;
+        };
+        if let Ok(link) = u32::try_from(link) {
+            let mut noted = near.get();
+            noted.note(ring, link);
+            near.set(noted);
         }
     }
 
