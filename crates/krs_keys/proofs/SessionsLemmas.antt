@@ -3,8 +3,11 @@ use Rattle.std.proofs.Common.{◌≡◌, ℕ, zero, suc, ◌+◌, List, [], ◌�
 use Rattle.std.proofs.Common.{Bool, true, false, cond, ◌&&◌, ◌||◌, nat_eq, refl, ap, ◌∙◌, sym, subst, arith}
 use Rattle.std.proofs.Common.{true≢false}
 use Rattle.std.proofs.lemmas.Bool.{eqb-true}
+use Rattle.std.proofs.lemmas.Cmp.{ranked}
+use Rattle.std.proofs.lemmas.List.Elements.{filter_passes}
+use Rattle.std.specs.Prelude.{◌<◌, not, slice_index_or}
 use Rattle.std.specs.Cmp.{unsigned_tied, nat_cmp_is}
-use Rattle.std.specs.List.{list_any}
+use Rattle.std.specs.List.{list_any, All}
 use Rattle.std.specs.Ordering.{nat_cmp, ordering_then, is_eq, is_le}
 use Rattle.std.specs.declared.cmp.Ordering.{Ordering}
 use Rattle.std.specs.declared.cmp.Ordering.TheVariants.{Less, Equal, Greater}
@@ -211,3 +214,40 @@ up_to_end g k rings =
     (λ e t. subst (λ (x : ℕ). range_contains place_cmp (Included (g, 0)) Unbounded (x, e.1) ≡ true)
     (bears g k e.0 e.1 t).0 (rw (starts g e.1) refl))
     (λ e t. (bears g k e.0 e.1 t).1)
+
+-- ---- and no others
+below : (g a b : ℕ) → a < g → is_le (ordering_then (nat_cmp g a) (nat_cmp 0 b)) ≡ false
+below g a b l = let more : nat_cmp g a ≡ Greater = sym (nat_cmp_is g a Greater l) in rw more refl
+
+behind : (g a b : ℕ) → g + 1 < a → is_le (ordering_then (nat_cmp (g + 1) a) (nat_cmp 0 b)) ≡ true
+behind g a b l = let less : nat_cmp (g + 1) a ≡ Less = sym (nat_cmp_is (g + 1) a Less l) in rw less refl
+
+-- what is of a greater digest stands at the next one's first place, or behind it
+next_on : (g a b : ℕ) → g < a → is_le (ordering_then (nat_cmp (g + 1) a) (nat_cmp 0 b)) ≡ true
+next_on g a b l = elim (nat_cmp (g + 1) a) as (λ o. o ≡ nat_cmp (g + 1) a
+    → is_le (ordering_then (nat_cmp (g + 1) a) (nat_cmp 0 b)) ≡ true) [
+      | Less ↦ λ t. behind g a b (ranked (g + 1) a Less t)
+      | Equal ↦ λ t. subst (λ (n : ℕ). is_le (ordering_then (nat_cmp (g + 1) n) (nat_cmp 0 b)) ≡ true)
+          (ranked (g + 1) a Equal t) (starts (g + 1) b)
+      | Greater ↦ λ t. let more : a < g + 1 = ranked (g + 1) a Greater t in absurd (omega (arith, l, more))
+    ] refl
+
+of_digest :
+    (g : ℕ) (e : ℕ × ℕ) → range_contains place_cmp (Included (g, 0)) (Excluded (g + 1, 0)) e ≡ true → e.0 ≡ g
+of_digest g e h =
+    let from = is_le (ordering_then (nat_cmp g e.0) (nat_cmp 0 e.1)) in
+    let past = is_le (ordering_then (nat_cmp (g + 1) e.0) (nat_cmp 0 e.1)) in
+    elim (nat_cmp e.0 g) as (λ o. o ≡ nat_cmp e.0 g → e.0 ≡ g) [
+      | Less ↦ λ t. absurd (true≢false (sym (first_of_both from (not past) h) ∙ below g e.0 e.1 (ranked e.0 g Less t)))
+      | Equal ↦ λ t. ranked e.0 g Equal t
+      | Greater ↦ λ t. absurd (true≢false (sym (second_of_both from (not past) h)
+          ∙ ap (λ b. not b) (next_on g e.0 e.1 (ranked e.0 g Greater t))))
+    ] refl
+
+-- from the first place of a digest to that of the next there are none but its own
+pub alone :
+    (g : ℕ) (rings : List (ℕ × ℕ))
+    → All (λ e. e.0 ≡ g) (filter (range_contains place_cmp (Included (g, 0)) (Excluded (g + 1, 0))) rings)
+alone g rings k d b =
+    let kept = range_contains place_cmp (Included (g, 0)) (Excluded (g + 1, 0)) in
+    of_digest g (slice_index_or (filter kept rings) k d) (filter_passes kept rings k d b)

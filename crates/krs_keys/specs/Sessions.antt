@@ -1,6 +1,6 @@
 -- The keyrings that JOIN made, by what their descriptions hash to.
-use Rattle.std.specs.Prelude.{◌≡◌, ℕ, List, Bool, true, false, nat_eq, cond, ◌&&◌, Option, None, Some}
-use Rattle.std.specs.List.{list_any}
+use Rattle.std.specs.Prelude.{◌≡◌, ℕ, ◌+◌, ◌<◌, ◌^◌, List, Bool, true, false, nat_eq, cond, ◌&&◌, Option, None, Some}
+use Rattle.std.specs.List.{list_any, All}
 use Rattle.std.specs.BTreeMap.{is_at}
 use Rattle.krs_types.specs.declared.kind.Kind.TheVariants.{Keyring}
 use Rattle.krs_types.specs.Kind.{same_kind}
@@ -46,3 +46,7 @@ UnlistsKey serial key old new =
 abbrev pub HoldsSerials : Sessions → ℕ → List (ℕ × ℕ) → Type 0
 HoldsSerials sessions d rings =
     (serial : ℕ) → lists sessions d serial ≡ true → list_any (λ e. nat_eq serial e.1) rings ≡ true
+
+-- these are listed under the digest alone. Of the greatest one, which no other comes behind, nothing is said
+abbrev pub AreOfDigest : ℕ → List (ℕ × ℕ) → Type 0
+AreOfDigest d rings = d + 1 < 2 ^ 64 → All (λ e. e.0 ≡ d) rings

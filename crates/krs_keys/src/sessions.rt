@@ -1,7 +1,7 @@
 //! The keyrings that JOIN made, by their descriptions.
 ghost use Rattle.std.specs.Prelude.{◌≡◌, [], Some, OnOk, OnErr};
 ghost use Rattle.krs_links.specs.Seeded.{digest};
-ghost use Rattle.krs_keys.specs.Sessions.{session_digest, AreSessions, ListsKey, UnlistsKey, HoldsSerials};
+ghost use Rattle.krs_keys.specs.Sessions.{session_digest, AreSessions, ListsKey, UnlistsKey, HoldsSerials, AreOfDigest};
 
 use crate::Key;
 use krs_links::Seed;
@@ -63,7 +63,8 @@ impl Sessions {
 
     /// Those whose description hashes as this one.
     pub(crate) fn named(&self, desc: &[u8]) -> Range<'_, (u64, u32)>
-        ensures { HoldsSerials self.now (digest self.now.seed desc.now) result }
+        ensures all { HoldsSerials self.now (digest self.now.seed desc.now) result }
+        ensures alone { AreOfDigest (digest self.now.seed desc.now) result }
     {
         let digest = self.seed.digest(desc);
         match digest.checked_add(1) {
