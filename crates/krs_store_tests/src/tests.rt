@@ -7,6 +7,7 @@ mod adding;
 mod clients;
 mod filters;
 mod full;
+mod hints;
 mod joining;
 mod links;
 mod nested;
