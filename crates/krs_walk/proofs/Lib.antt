@@ -7,6 +7,8 @@ pub mod CycleLemmas
 pub mod HeightLemmas
 pub mod KeyringsLemmas
 pub mod PossessionLemmas
+pub mod EndsLemmas
+pub mod HintLemmas
 pub mod RoundsLemmas
 pub mod HeldLemmas
 pub mod SoughtLemmas

@@ -39,6 +39,12 @@ abbrev pub is_linked_within : Table Key → ℕ → Caller → ℕ → ℕ → �
 is_linked_within keys clock caller serial depth k =
     list_any (follows_link_to keys clock caller serial) (levels (followed_rings keys clock caller) (k ∷ []) depth)
 
+-- what is linked within so many levels of a keyring is linked within so many more of one of these, below which it hangs
+abbrev pub HangsBelow : Table Key → ℕ → Caller → ℕ → ℕ → ℕ → List ℕ → Type 0
+HangsBelow keys clock caller serial ring more heads = (depth : ℕ)
+    → is_linked_within keys clock caller serial depth ring ≡ true
+    → list_any (is_linked_within keys clock caller serial (depth + more)) heads ≡ true
+
 -- what a walk has come to, with the keyrings that are followed from those from a place on
 abbrev pub with_next : Table Key → ℕ → Caller → ℕ → List ℕ → List ℕ
 with_next keys clock caller start seen = join seen (flat_map (followed_rings keys clock caller) (drop start seen))

@@ -6,8 +6,10 @@
 
 mod cycle;
 mod descent;
+mod ends;
 mod height;
 mod held;
+mod hints;
 mod judging;
 mod keyrings;
 mod possession;

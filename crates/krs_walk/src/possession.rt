@@ -20,7 +20,7 @@ use krs_types::{Caller, Context, Rights, SEARCH_DEPTH, Serial};
 
 /// So many levels of keyrings are asked first, by `is_linked_near`: a key is mostly linked by an attached keyring, or by
 /// one that it links, as the session keyring links the user keyring.
-const NEAR_LEVELS: u8 = 2;
+pub(crate) const NEAR_LEVELS: u8 = 2;
 
 impl Walker {
     /// Whether a context, whose process has this keyring, possesses a key. keyrings(7), "Possession"; profile, search
@@ -105,24 +105,48 @@ impl Walker {
 
 /// A key that is looked for: among which keys, by which context, its process's keyring, when, and its name and serial.
 #[derive(Clone, Copy)]
-struct Sought<'a> {
-    keys: &'a KeyTable,
-    context: &'a Context,
-    process_ring: Option<Serial>,
-    clock: u64,
-    name: &'a HashedName,
-    serial: Serial,
+pub(crate) struct Sought<'a> {
+    pub(crate) keys: &'a KeyTable,
+    pub(crate) context: &'a Context,
+    pub(crate) process_ring: Option<Serial>,
+    pub(crate) clock: u64,
+    pub(crate) name: &'a HashedName,
+    pub(crate) serial: Serial,
 }
 
 impl Sought<'_> {
-    /// Whether a followed keyring of the first `SEARCH_DEPTH` levels links it.
+    /// Whether a followed keyring of the first `SEARCH_DEPTH` levels links it. Hints are followed first: they mostly lead
+    /// to the link at once, however many keyrings there are.
     fn is_linked(&self, walker: &Walker) -> bool
         requires fit { AreFit self.now.keys.now.keys }
         requires name { name_at self.now.keys.now.keys self.now.serial ≡ Some self.now.name.now }
         ensures { result ≡
             is_linked (shown self.now.keys.now.keys) self.now.clock self.now.context.now self.now.process_ring self.now.serial }
     {
+        if self.is_hinted() {
+            return true;
+        }
         if self.is_linked_near() {
+            return true;
+        }
+        self.is_linked_far(walker)
+    }
+
+    /// The same, where none of the near levels does.
+    #[inline(never)]
+    fn is_linked_far(&self, walker: &Walker) -> bool
+        requires fit { AreFit self.now.keys.now.keys }
+        requires name { name_at self.now.keys.now.keys self.now.serial ≡ Some self.now.name.now }
+        requires near { list_any
+            (is_linked_within (shown self.now.keys.now.keys) self.now.clock self.now.context.now.caller self.now.serial 2)
+            (attached_with self.now.context.now self.now.process_ring) ≡ false }
+        ensures { result ≡
+            is_linked (shown self.now.keys.now.keys) self.now.clock self.now.context.now self.now.process_ring self.now.serial }
+    {
+        if self.ends_near() {
+            return false;
+        }
+        if self.is_hinted_far() {
             return true;
         }
         let mut seen = walker.take(&walker.followed);
@@ -134,8 +158,7 @@ impl Sought<'_> {
         }
     }
 
-    /// Whether one does, where none of the near levels does, which are not asked again. It has an empty list for the
-    /// keyrings.
+    /// The same again, where the near levels are not asked again. It has an empty list for the keyrings.
     fn is_linked_below(&self, seen: &mut Visits) -> Result<bool, NoRoom>
         requires fit { AreFit self.now.keys.now.keys }
         requires name { name_at self.now.keys.now.keys self.now.serial ≡ Some self.now.name.now }
@@ -362,14 +385,15 @@ pub(crate) fn next_level(
 }
 
 /// Whether the possessor of a key follows its links.
-fn is_followed(key: &Key, caller: &Caller, clock: u64) -> bool
+pub(crate) fn is_followed(key: &Key, caller: &Caller, clock: u64) -> bool
     ensures { result ≡ is_followed clock caller.now (seen key.now) }
 {
     key.is_alive(clock) && key.grants(caller, true).contains(Rights::SEARCH)
 }
 
 /// The nested keyrings that the possessor of a keyring follows.
-fn followed_rings<'a>(
+#[inline(always)]
+pub(crate) fn followed_rings<'a>(
     keys: &'a KeyTable,
     caller: &Caller,
     clock: u64,
