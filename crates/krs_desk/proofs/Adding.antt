@@ -28,7 +28,7 @@ use Rattle.krs_world.specs.History.{Known, Fits, HasSeen, StandsFor}
 use Rattle.krs_world.specs.History as history
 use Rattle.krs_world.specs.World.{IsUnposted}
 use Rattle.krs_world.proofs.Keeping as law
-use Rattle.krs_desk.specs.declared.place.Place.{Place}
+use Rattle.krs_desk.specs.declared.slot.SlotValue.{SlotValue}
 use Rattle.krs_desk.specs.Parts.{views_of}
 use Rattle.krs_desk.specs.Rule.{CellIs, InOneOrder}
 use Rattle.krs_desk.specs.Moves as move
@@ -98,7 +98,7 @@ sits_of lane (Two p q) is =
 sits_of lane (Opening n) is = absurd is
 
 abbrev Slot : Type 0
-Slot = maybe.Option (maybe.Option Place)
+Slot = maybe.Option (maybe.Option SlotValue)
 
 -- those that it knows of, and one more where its cell is answered
 count_more :

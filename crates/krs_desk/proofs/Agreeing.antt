@@ -19,8 +19,8 @@ use Rattle.krs_world.specs.Knowing.{flight}
 use Rattle.krs_world.specs.History.{Shared, Known, Stands, Fits, HasSeen}
 use Rattle.krs_world.specs.World.{Turn, Free, Out, World, IsHistory, IsHistoryBy}
 use Rattle.krs_world.proofs.Keeping as law
-use Rattle.krs_desk.specs.declared.place.Place.{Place}
-use Rattle.krs_desk.specs.declared.place.Place.TheVariants.{Home, Asked, Replied}
+use Rattle.krs_desk.specs.declared.slot.SlotValue.{SlotValue}
+use Rattle.krs_desk.specs.declared.slot.SlotValue.TheVariants.{Home, Asked, Replied}
 use Rattle.krs_desk.specs.Parts.{views_of}
 use Rattle.krs_desk.specs.Rule.{IsAtHome, CellIs, InOneOrder}
 use Rattle.krs_desk.specs.Moves.{HasTurn}
@@ -34,7 +34,7 @@ use Rattle.krs_desk.proofs.Running.{same_view, known_of, within, seen_sits, turn
 use Rattle.krs_desk.proofs.Adding.{sits_of, empty_of, serving_of}
 
 abbrev pub Slot : Type 0
-Slot = maybe.Option (maybe.Option Place)
+Slot = maybe.Option (maybe.Option SlotValue)
 
 -- Seats.
 
@@ -127,9 +127,9 @@ home_is :
 home_is None slot last store is e at = absurd cc
 home_is (Some x) slot last store is e at =
     let slots : ◌≡◌ {A = Slot} (some (some (Home x))) (some (some (Home store))) = sym is ∙ at in
-    let places : ◌≡◌ {A = maybe.Option Place} (some (Home x)) (some (Home store)) =
+    let values : ◌≡◌ {A = maybe.Option SlotValue} (some (Home x)) (some (Home store)) =
     some-injective (some (Home x)) (some (Home store)) slots in
-    let homes : Home x ≡ Home store = some-injective (Home x) (Home store) places in
+    let homes : Home x ≡ Home store = some-injective (Home x) (Home store) values in
     let here : x ≡ store = cc in
     let last_is : x ≡ last = cc in
     sym here ∙ last_is
@@ -151,9 +151,9 @@ pinned x slot c cells.Empty is was call = empty_of x slot c is was
 pinned x slot c (cells.Posted m ask) is was call =
     let t = posted_of x slot c is was.0 in
     let slots : ◌≡◌ {A = Slot} (some (some (Asked t.0 t.1))) (some (some (Asked m ask))) = sym t.3 ∙ was.1 in
-    let places : ◌≡◌ {A = maybe.Option Place} (some (Asked t.0 t.1)) (some (Asked m ask)) =
+    let values : ◌≡◌ {A = maybe.Option SlotValue} (some (Asked t.0 t.1)) (some (Asked m ask)) =
     some-injective (some (Asked t.0 t.1)) (some (Asked m ask)) slots in
-    let place : Asked t.0 t.1 ≡ Asked m ask = some-injective (Asked t.0 t.1) (Asked m ask) places in
+    let value : Asked t.0 t.1 ≡ Asked m ask = some-injective (Asked t.0 t.1) (Asked m ask) values in
     let em : t.0 ≡ m = cc in
     let ea : t.1 ≡ ask = cc in
     t.2 ∙ (λ i. cells.Posted (em i) (ea i))
@@ -167,9 +167,9 @@ pinned x slot c (cells.Serving m ask) is was call =
 pinned x slot c (cells.Answered m ask reply) is was call =
     let t = answered_of x slot c is was.0 in
     let slots : ◌≡◌ {A = Slot} (some (some (Replied t.2))) (some (some (Replied reply))) = sym t.4 ∙ was.1 in
-    let places : ◌≡◌ {A = maybe.Option Place} (some (Replied t.2)) (some (Replied reply)) =
+    let values : ◌≡◌ {A = maybe.Option SlotValue} (some (Replied t.2)) (some (Replied reply)) =
     some-injective (some (Replied t.2)) (some (Replied reply)) slots in
-    let place : Replied t.2 ≡ Replied reply = some-injective (Replied t.2) (Replied reply) places in
+    let value : Replied t.2 ≡ Replied reply = some-injective (Replied t.2) (Replied reply) values in
     let er : t.2 ≡ reply = cc in
     let k = call (λ e. absurd cc) in
     let f = subst (IsCallOf k.0) t.3 k.1 in

@@ -14,7 +14,7 @@ use Rattle.krs_world.specs.declared.view.Part.{Part}
 use Rattle.krs_world.specs.Knowing.{one}
 use Rattle.krs_world.specs.World.{IsUnanswered}
 use Rattle.krs_world.proofs.Between.{real_time_between, posted_between, collected_between}
-use Rattle.krs_desk.specs.declared.place.Place.{Place}
+use Rattle.krs_desk.specs.declared.slot.SlotValue.{SlotValue}
 use Rattle.krs_desk.specs.declared.word.TheConstants.{TURN, ANSWERED}
 use Rattle.krs_desk.specs.Parts.{cell_of, sight, views_of}
 use Rattle.krs_desk.specs.Rule.{CellIs}
@@ -28,7 +28,7 @@ use Rattle.krs_desk.proofs.Seen.{legal_cut, not_read_revoked}
 
 -- the cell of a lane that has no call in flight isn't answered
 pub idle_word :
-    (word : ℕ) (slot : maybe.Option (maybe.Option Place)) (c : Cell) → c ≡ cells.Empty → CellIs word slot c
+    (word : ℕ) (slot : maybe.Option (maybe.Option SlotValue)) (c : Cell) → c ≡ cells.Empty → CellIs word slot c
     → word ≢ ANSWERED
 idle_word word slot c empty is three =
     let zero_is : word ≡ 0 = subst (CellIs word slot) empty is in
@@ -36,7 +36,8 @@ idle_word word slot c empty is three =
     omega arith
 
 -- a cell whose word isn't ANSWERED isn't answered
-pub unanswered : (word : ℕ) (slot : maybe.Option (maybe.Option Place)) (c : Cell) → word ≢ ANSWERED → CellIs word slot c
+pub unanswered :
+    (word : ℕ) (slot : maybe.Option (maybe.Option SlotValue)) (c : Cell) → word ≢ ANSWERED → CellIs word slot c
     → IsUnanswered c
 unanswered word slot cells.Empty not is = tt
 unanswered word slot (cells.Posted moment ask) not is = tt
@@ -87,7 +88,7 @@ refuses_revoked a unread s s' front serial q q' e more r later shown revoked at 
 
 -- what a lane had seen begins what it has seen after a step
 pub seen_by :
-    (made : Step Place) (found : Option ℕ) (p : Part) (m : Move)
+    (made : Step SlotValue) (found : Option ℕ) (p : Part) (m : Move)
     → ((log : List Event) → p.holding ≡ Some log → Begins p.seen log) → IsMadeAt made found p m
     → Begins p.seen (after p m).seen
 seen_by made found p move.stays held is = prefix_self p.seen

@@ -16,7 +16,7 @@ use Rattle.krs_world.specs.declared.view.Standing.TheVariants.{Spent, One, Two, 
 use Rattle.krs_world.specs.Knowing.{one, celled}
 use Rattle.krs_world.specs.History.{Shared, Known, Stands, OneHistory}
 use Rattle.krs_world.proofs.Keeping as law
-use Rattle.krs_desk.specs.declared.sight.Sight.{Sight}
+use Rattle.krs_desk.specs.declared.token.Sight.{Sight}
 use Rattle.krs_desk.specs.Parts.{sat, views_of, IsLaid, IsLaidBy}
 use Rattle.krs_desk.specs.Rule.{IsAtHome, CellIs, IsVacant, InOneOrder}
 use Rattle.krs_desk.proofs.Steps.{Table, Slot, turn, views_set, view_at, laid_set, still_housed, sat_lies}

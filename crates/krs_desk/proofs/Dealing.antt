@@ -19,12 +19,12 @@ use Rattle.krs_world.specs.Knowing.{view, one, fresh, celled}
 use Rattle.krs_world.specs.History.{OneHistory}
 use Rattle.krs_world.proofs.Keeping as law
 use Rattle.krs_world.proofs.Seating as seating
-use Rattle.krs_desk.specs.declared.place.Place.{Place}
-use Rattle.krs_desk.specs.declared.place.Place.TheVariants.{Empty, Home}
-use Rattle.krs_desk.specs.declared.sight.Sight.{Sight}
+use Rattle.krs_desk.specs.declared.slot.SlotValue.{SlotValue}
+use Rattle.krs_desk.specs.declared.slot.SlotValue.TheVariants.{Empty, Home}
+use Rattle.krs_desk.specs.declared.token.Sight.{Sight}
 use Rattle.krs_desk.specs.Parts.{sight, sat, dealt, spent, views_of, hand_of, AreHoused}
 use Rattle.krs_desk.specs.Rule.{CellIs, InOneOrder, first_sight, AreZero}
-use Rattle.krs_desk.specs.Told.{picks_told, opens_told}
+use Rattle.krs_desk.specs.Steps.{picks_told, opens_told}
 use Rattle.krs_desk.specs.Sitting.{Sitting, IsIdleAt, fresh_seat, fresh_seats}
 use Rattle.krs_desk.specs.Moves as move
 use Rattle.krs_desk.specs.Moves.{moved_told, stored_told}
@@ -75,10 +75,11 @@ begins a lanes ws wide two zeros = let count = homes_count lanes in record {
 }
 
 pub begins_at :
-    (a : State) (lanes : ℕ) (ws vs : List ℕ) (slots : List Place) → vs ≡ ws → slots ≡ Home a ∷ replicate lanes Empty
+    (a : State) (lanes : ℕ) (ws vs : List ℕ) (slots : List SlotValue) → vs ≡ ws → slots ≡ Home a ∷ replicate lanes Empty
     → length ws ≡ lanes + 1 → get_or ws 0 0 ≡ 2 → AreZero ws → InOneOrder a (opening vs slots (first_sight a))
 begins_at a lanes ws vs slots same is wide two zeros =
-    subst (λ (z : List ℕ × List Place). InOneOrder a (opening z.0 z.1 (first_sight a))) (λ i. (sym same i, sym is i))
+    subst (λ (z : List ℕ × List SlotValue). InOneOrder a (opening z.0 z.1 (first_sight a)))
+    (λ i. (sym same i, sym is i))
     (begins a lanes ws wide two zeros)
 
 -- the turn is freed

@@ -8,7 +8,7 @@ use Rattle.atomic_table.specs.Table.{step}
 use Rattle.krs_model.specs.State.{State}
 use Rattle.krs_world.proofs.Keeping as law
 use Rattle.krs_desk.specs.Parts.{AreOnes, IsSpentFor, both_sights, settled_sight}
-use Rattle.krs_desk.specs.Told.{Known}
+use Rattle.krs_desk.specs.Steps.{Known}
 use Rattle.krs_desk.specs.Running.{Board}
 use Rattle.krs_desk.specs.Happening.{IsAt, LoadsHappen, StoresHappen, ExchangesHappen, SplitsHappen, JoinsHappen}
 use Rattle.krs_desk.specs.Happening.{StepsHappen}

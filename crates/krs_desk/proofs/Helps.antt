@@ -19,10 +19,10 @@ use Rattle.krs_model.proofs.History.Legal.{legal_more}
 use Rattle.krs_world.specs.declared.view.Flight.{Flight}
 use Rattle.krs_world.specs.declared.view.Part.{Part}
 use Rattle.krs_world.specs.Knowing.{events_of, taken, grabbed, answered, looked_at, put_none}
-use Rattle.krs_desk.specs.declared.place.Place.{Place}
-use Rattle.krs_desk.specs.declared.place.Place.TheVariants.{Empty, Home, Asked, Replied}
+use Rattle.krs_desk.specs.declared.slot.SlotValue.{SlotValue}
+use Rattle.krs_desk.specs.declared.slot.SlotValue.TheVariants.{Empty, Home, Asked, Replied}
 use Rattle.krs_desk.specs.Parts.{sat, hand_of}
-use Rattle.krs_desk.specs.Told.{answers_told, brings_told}
+use Rattle.krs_desk.specs.Steps.{answers_told, brings_told}
 use Rattle.krs_desk.specs.Sitting.{Sitting}
 use Rattle.krs_desk.specs.Seated.{Me, opening, part, sitting_of, is_free, HasSlot, IsSeated, Holds, Serves}
 use Rattle.krs_model.specs.Sound.{IsSound}
@@ -34,12 +34,12 @@ use Rattle.krs_desk.proofs.Seats.{same_store}
 
 -- the store that was read is that of the history that was found
 pub had_store :
-    (m n w : Me) (x : Place) (store : State) → (h : Holds m n) → n.1 ≡ (0, x) ∷ rest n.1 → x ≡ Home store
+    (m n w : Me) (x : SlotValue) (store : State) → (h : Holds m n) → n.1 ≡ (0, x) ∷ rest n.1 → x ≡ Home store
     → w ≡ (n.0, (0, Empty) ∷ rest n.1) → Had m w store
 had_store m n w x store h slot read left =
     let both : (0, Home h.last) ∷ m.1 ≡ (0, x) ∷ rest n.1 = sym (ap (λ (k : Me). k.1) h.has) ∙ slot in
-    let head : ◌≡◌ {A = ℕ × Place} (0, Home h.last) (0, x) = cc in
-    let same : h.last ≡ store = same_store h.last store (ap (λ (q : ℕ × Place). q.1) head ∙ read) in
+    let head : ◌≡◌ {A = ℕ × SlotValue} (0, Home h.last) (0, x) = cc in
+    let same : h.last ≡ store = same_store h.last store (ap (λ (q : ℕ × SlotValue). q.1) head ∙ read) in
     record {
       log = h.log;
       has = left ∙ ap (λ (k : Me). (k.0, (0, Empty) ∷ rest k.1)) h.has;
@@ -76,12 +76,12 @@ had_hand lane idle m n seated had = seated.tells ∙ ap (λ (k : Me). is_free (p
 
 -- what a turn of the slots in hand leaves in front
 pub behind :
-    (m n : Me) (x : ℕ × Place) (store : State) → HasBehind m x store → n ≡ (m.0, turned m.1)
+    (m n : Me) (x : ℕ × SlotValue) (store : State) → HasBehind m x store → n ≡ (m.0, turned m.1)
     → n ≡ (m.0, (0, Home store) ∷ (hand_of (part m).flight (part m).lane ++ x ∷ []))
 behind m n x store has is = is ∙ ap (λ c. (m.0, turned c)) has
 
 in_front :
-    (idle : Bool) (f : Option Flight) (lane : ℕ) (x y : ℕ × Place) → idle ≡ is_free f
+    (idle : Bool) (f : Option Flight) (lane : ℕ) (x y : ℕ × SlotValue) → idle ≡ is_free f
     → turned_back idle (y ∷ (hand_of f lane ++ x ∷ [])) ≡ x ∷ y ∷ hand_of f lane
 in_front idle None lane x y e = ap (λ b. turned_back b (y ∷ (hand_of None lane ++ x ∷ []))) e
 in_front idle (Some call) lane x y e = ap (λ b. turned_back b (y ∷ (hand_of (Some call) lane ++ x ∷ []))) e
@@ -95,8 +95,8 @@ served_behind idle m n k w event hand e s is x store has =
     let n_is = behind m n x store has e in
     let both : (0, Home s.before) ∷ rest n.1 ≡ (0, Home store) ∷ (hand_of f lane ++ x ∷ []) =
     sym s.had ∙ ap (λ (z : Me). z.1) n_is in
-    let head : ◌≡◌ {A = ℕ × Place} (0, Home s.before) (0, Home store) = cc in
-    let same : s.before ≡ store = same_store s.before store (ap (λ (q : ℕ × Place). q.1) head) in
+    let head : ◌≡◌ {A = ℕ × SlotValue} (0, Home s.before) (0, Home store) = cc in
+    let same : s.before ≡ store = same_store s.before store (ap (λ (q : ℕ × SlotValue). q.1) head) in
     let k_is : k ≡ (m.0, (0, Home s.after) ∷ (hand_of f lane ++ x ∷ [])) =
     s.has ∙ ap (λ (z : Me). (z.0, (0, Home s.after) ∷ rest z.1)) n_is in (
       s.after,
@@ -109,19 +109,20 @@ served_behind idle m n k w event hand e s is x store has =
 
 -- the value of a slot in hand that was told is the one that was read
 pub slot_is :
-    (n : Me) (v : Place) (i : ℕ) (x : Place) (c : List (ℕ × Place)) → n.1 ≡ (i, v) ∷ c → n.1 ≡ (i, x) ∷ rest n.1
+    (n : Me) (v : SlotValue) (i : ℕ) (x : SlotValue) (c : List (ℕ × SlotValue)) → n.1 ≡ (i, v) ∷ c
+    → n.1 ≡ (i, x) ∷ rest n.1
     → x ≡ v
 slot_is n v i x c told read =
     let both : (i, v) ∷ c ≡ (i, x) ∷ rest n.1 = sym told ∙ read in
-    let head : ◌≡◌ {A = ℕ × Place} (i, v) (i, x) = cc in
-    sym (ap (λ (q : ℕ × Place). q.1) head)
+    let head : ◌≡◌ {A = ℕ × SlotValue} (i, v) (i, x) = cc in
+    sym (ap (λ (q : ℕ × SlotValue). q.1) head)
 
 same_ask : (m m' : ℕ) (ask ask' : Ask) → Asked m ask ≡ Asked m' ask' → (m ≡ m') × (ask ≡ ask')
 same_ask m m' ask ask' e = (cc, cc)
 
 -- what a grab has told, with the ask that was read
 pub read_is :
-    (a : State) (p : Part) (lane i : ℕ) (n : Me) (x : Place) (m m' : ℕ) (ask ask' : Ask) (c : List (ℕ × Place))
+    (a : State) (p : Part) (lane i : ℕ) (n : Me) (x : SlotValue) (m m' : ℕ) (ask ask' : Ask) (c : List (ℕ × SlotValue))
     → n ≡ (sat a (grabbed p lane m ask), (i, Asked m ask) ∷ c) → n.1 ≡ (i, x) ∷ rest n.1 → x ≡ Asked m' ask'
     → n ≡ (sat a (grabbed p lane m' ask'), (i, Asked m' ask') ∷ c)
 read_is a p lane i n x m m' ask ask' c is slot read =
@@ -169,11 +170,11 @@ replied m w k v lane moment ask reply after h e e' is =
     is ∙ (ap (λ (z : Me). (z.0, (lane + 1, Replied reply) ∷ rest z.1)) e'
     ∙ (ap
     (λ (z : Me). (z.0, (lane + 1, Replied reply) ∷ (0, Home after) ∷ hand_of (part z).flight (part z).lane)) e
-    ∙ ap (λ (c : List (ℕ × Place)). (sat (opening m) q, (lane + 1, Replied reply) ∷ (0, Home after) ∷ c))
+    ∙ ap (λ (c : List (ℕ × SlotValue)). (sat (opening m) q, (lane + 1, Replied reply) ∷ (0, Home after) ∷ c))
     (sym (ap (λ (z : Me). rest z.1) h.has))))
 
 pub answered_is :
-    (a : State) (slots lane m : ℕ) (ask : Ask) (reply : Result Answer Errno) (p : Part) (c : List (ℕ × Place))
+    (a : State) (slots lane m : ℕ) (ask : Ask) (reply : Result Answer Errno) (p : Part) (c : List (ℕ × SlotValue))
     (log : List Event) (n w : Me) → n ≡ (sat a (grabbed p lane m ask), (lane + 1, Replied reply) ∷ c)
     → p.holding ≡ Some log → answers_told (step slots (lane + 1) 3 0 none) n 3 w
     → w ≡ (sat a (answered (grabbed p lane m ask) log (event_of lane m ask reply)), c)
@@ -369,7 +370,7 @@ brought_mine m w slots h told quiet =
 helped_part :
     (table desk : TableId) (m : Me) (log : List Event) (q : Part) (count : ℕ) (next : State) → (part m).lane < lanes_of desk
     → Begins (part m).seen log → Progress (opening m) (taken (part m) log) count (lanes_of desk) q next
-    → (q.flight ≡ None → events_of q.lane (held_of q.holding) ≡ q.mine) → (c : List (ℕ × Place))
+    → (q.flight ≡ None → events_of q.lane (held_of q.holding) ≡ q.mine) → (c : List (ℕ × SlotValue))
     → Helps desk (sitting_of table m) count (sitting_of table (sat (opening m) (put_none q (held_of q.holding)), c))
 helped_part table desk m log q count next within seen g own c =
     let all : held_of q.holding ≡ log ++ g.events = ap held_of g.holds in record {

@@ -17,13 +17,13 @@ use Rattle.krs_world.proofs.Keeping as law
 use Rattle.krs_world.proofs.Joining as joining
 use Rattle.krs_world.proofs.Seating as seating
 use Rattle.krs_world.proofs.Lifting as lifting
-use Rattle.krs_desk.specs.declared.place.Place.{Place}
-use Rattle.krs_desk.specs.declared.sight.Sight.{Sight}
+use Rattle.krs_desk.specs.declared.slot.SlotValue.{SlotValue}
+use Rattle.krs_desk.specs.declared.token.Sight.{Sight}
 use Rattle.krs_desk.specs.Parts.{AreHoused, AreHousedBy}
 use Rattle.krs_desk.specs.Parts.{hand_of, sight, sat, spent, views_of, IsLaid, IsLaidBy, kept_of, given_of, given_laid}
 use Rattle.krs_desk.specs.Parts.{kept_sight, given_sight, both_sights, settled_sight}
 use Rattle.krs_desk.specs.Rule.{IsVacant, InOneOrder}
-use Rattle.krs_desk.specs.Told.{Found, looks_told, checks_told}
+use Rattle.krs_desk.specs.Steps.{Found, looks_told, checks_told}
 use Rattle.krs_desk.specs.Moves as move
 use Rattle.krs_desk.specs.Moves.{moved_told}
 use Rattle.krs_desk.specs.Seated.{Me, part}
@@ -213,7 +213,7 @@ glues key a b p q id other p_holds q_holds s r at apart at' =
     (set (set views id (view a (Two p q))) other (view (starting_at 3) Spent))) e h)
 
 pub glues_at :
-    (key a b : State) (p q : Part) (c : List (ℕ × Place)) (id other : ℕ) (m n : Me) → m ≡ (sat a p, c)
+    (key a b : State) (p q : Part) (c : List (ℕ × SlotValue)) (id other : ℕ) (m n : Me) → m ≡ (sat a p, c)
     → n ≡ (sat b q, []) → p.holding ≡ None → q.holding ≡ None
     → Joins (InOneOrder key) id m.0 other n.0 (both_sights m.0 n.0) (spent (starting_at 3))
 glues_at key a b p q c id other m n is is' p_holds q_holds =
@@ -241,7 +241,7 @@ settles key a b q id other empty s r at apart at' =
     (set (set views id (one k q)) other (view (starting_at 3) Spent))) (sym f) h)
 
 pub settles_at :
-    (key a b : State) (q : Part) (c : List (ℕ × Place)) (id other : ℕ) (m n : Me) → m ≡ (spent a, c)
+    (key a b : State) (q : Part) (c : List (ℕ × SlotValue)) (id other : ℕ) (m n : Me) → m ≡ (spent a, c)
     → n ≡ (sat b q, []) → q.holding ≡ None
     → Joins (InOneOrder key) id m.0 other n.0 (settled_sight m.0 n.0) (spent (starting_at 3))
 settles_at key a b q c id other m n is is' empty =
@@ -259,7 +259,7 @@ pub checks_at :
 checks_at key slots id m is =
     let a : State = opening m in
     let p : Part = part m in
-    let c : List (ℕ × Place) = hand_of p.flight p.lane in
+    let c : List (ℕ × SlotValue) = hand_of p.flight p.lane in
     subst (λ (z : Me). Allows (InOneOrder key) slots id z 0 (λ n. n) (moved_told (checks_told key) (step slots 0 0 0 none) z))
     (sym is)
     (λ s r len at small.
@@ -283,7 +283,7 @@ abbrev pub pair : State → Part → Part → Sight
 pair a p q = sight (view a (Two p q)) false
 
 pub looks_at :
-    (key a : State) (p q : Part) (c : List (ℕ × Place)) (slots id : ℕ) (m : Me) → m ≡ (pair a p q, c)
+    (key a : State) (p q : Part) (c : List (ℕ × SlotValue)) (slots id : ℕ) (m : Me) → m ≡ (pair a p q, c)
     → Allows (InOneOrder key) slots id m 0 (λ n. n) (moved_told looks_told (step slots 0 0 0 none) m)
 looks_at key a p q c slots id m is =
     subst (λ (z : Me). Allows (InOneOrder key) slots id z 0 (λ n. n) (moved_told looks_told (step slots 0 0 0 none) z)) (sym is)
@@ -324,26 +324,26 @@ looks_at key a p q c slots id m is =
 -- Tokens after a split, a join and a look.
 
 pub kept_is :
-    (v : Sight) (c : List (ℕ × Place)) (m n : Me) → m ≡ (v, c) → n ≡ (kept_sight m.0, m.1) → n ≡ (kept_sight v, c)
+    (v : Sight) (c : List (ℕ × SlotValue)) (m n : Me) → m ≡ (v, c) → n ≡ (kept_sight m.0, m.1) → n ≡ (kept_sight v, c)
 kept_is v c m n is e = e ∙ ap (λ (k : Me). (kept_sight k.0, k.1)) is
 
 pub given_is :
-    (v : Sight) (c : List (ℕ × Place)) (m n : Me) → m ≡ (v, c) → n ≡ (given_sight m.0, []) → n ≡ (given_sight v, [])
+    (v : Sight) (c : List (ℕ × SlotValue)) (m n : Me) → m ≡ (v, c) → n ≡ (given_sight m.0, []) → n ≡ (given_sight v, [])
 given_is v c m n is e = e ∙ ap (λ (k : Me). (given_sight k.0, [])) is
 
 pub both_is :
-    (v u : Sight) (c d : List (ℕ × Place)) (m n w : Me) → m ≡ (v, c) → n ≡ (u, d)
+    (v u : Sight) (c d : List (ℕ × SlotValue)) (m n w : Me) → m ≡ (v, c) → n ≡ (u, d)
     → w ≡ (both_sights m.0 n.0, m.1) → w ≡ (both_sights v u, c)
 both_is v u c d m n w is is' e = e ∙ (λ i. (both_sights (is i).0 (is' i).0, (is i).1))
 
 pub settled_is :
-    (v u : Sight) (c d : List (ℕ × Place)) (m n w : Me) → m ≡ (v, c) → n ≡ (u, d)
+    (v u : Sight) (c d : List (ℕ × SlotValue)) (m n w : Me) → m ≡ (v, c) → n ≡ (u, d)
     → w ≡ (settled_sight m.0 n.0, m.1) → w ≡ (settled_sight v u, c)
 settled_is v u c d m n w is is' e = e ∙ (λ i. (settled_sight (is i).0 (is' i).0, (is i).1))
 
 -- what a look tells, of a token of these two lanes
 pub looked_is :
-    (a : State) (p q : Part) (c : List (ℕ × Place)) (slots : ℕ) (m w : Me) → m ≡ (pair a p q, c)
+    (a : State) (p q : Part) (c : List (ℕ × SlotValue)) (slots : ℕ) (m w : Me) → m ≡ (pair a p q, c)
     → looks_told (step slots 0 0 0 none) m 0 w
     → (log : List Event) × (last : State) × (w ≡ (pair a (loaded p log) (loaded q log), c))
     × Found a p log last × Found a q log last

@@ -15,8 +15,8 @@ use Rattle.krs_world.specs.declared.view.Flight.{Flight}
 use Rattle.krs_world.specs.declared.view.Part.{Part}
 use Rattle.krs_world.specs.Knowing.{events_of, put_own, put_none, kept}
 use Rattle.krs_world.proofs.Keeping.{own_event}
-use Rattle.krs_desk.specs.declared.place.Place.{Place}
-use Rattle.krs_desk.specs.declared.place.Place.TheVariants.{Home}
+use Rattle.krs_desk.specs.declared.slot.SlotValue.{SlotValue}
+use Rattle.krs_desk.specs.declared.slot.SlotValue.TheVariants.{Home}
 use Rattle.krs_desk.specs.Parts.{sat, hand_of}
 use Rattle.krs_desk.specs.Sitting.{Sitting, Adds}
 use Rattle.krs_desk.specs.Seated.{Me, part, opening, sitting_of, is_free, IsSeated, Serves}
@@ -145,7 +145,7 @@ goes_on m w n said e says h s keep mine =
             sat (opening m) (kept (part m) h.log (says i)),
             (0, Home s.after) ∷ hand_of (part m).flight (part m).lane,
           ))
-          ∙ ap (λ (c : List (ℕ × Place)). (sat (opening m) (kept (part m) h.log e), (0, Home s.after) ∷ c))
+          ∙ ap (λ (c : List (ℕ × SlotValue)). (sat (opening m) (kept (part m) h.log e), (0, Home s.after) ∷ c))
           (sym (ap (λ (k : Me). rest k.1) h.has))));
       legal = h.legal;
       step = serves_last m w e h s;
@@ -176,7 +176,7 @@ goes_kept m n e h quiet g =
       holds = record {
         log = g.log ++ e ∷ [];
         last = g.after;
-        has = ap (λ (c : List (ℕ × Place)). (sat (opening m) (kept (part m) g.log e), (0, Home g.after) ∷ c)) hand;
+        has = ap (λ (c : List (ℕ × SlotValue)). (sat (opening m) (kept (part m) g.log e), (0, Home g.after) ∷ c)) hand;
         held = refl;
         legal = legal_more (opening m) g.last g.after g.log e g.legal g.step;
         unserving = h.unserving;
@@ -195,7 +195,7 @@ kept_seated lane idle served m w e not placed f =
     let hand : rest m.1 ≡ hand_of (part m).flight (part m).lane = ap (λ (k : Me). rest k.1) kept.holds.has in
     subst (λ (z : Me). IsSeated lane idle z) (sym f.has)
     record {
-      rests = (ap (λ (c : List (ℕ × Place)). (sat (opening m) (put_own (part m) f.log e), c)) hand, refl);
+      rests = (ap (λ (c : List (ℕ × SlotValue)). (sat (opening m) (put_own (part m) f.log e), c)) hand, refl);
       unserving = kept.holds.unserving;
       tells = seated.tells;
       numbered = seated.numbered;

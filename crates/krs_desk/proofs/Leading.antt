@@ -27,7 +27,7 @@ use Rattle.krs_world.specs.World.{Turn, Free, Out, World, IsHistoryBy, Runs, beg
 use Rattle.krs_world.specs.World.{reseated}
 use Rattle.krs_world.proofs.Keeping as law
 use Rattle.krs_world.proofs.Beginning.{fresh_here, fresh_there}
-use Rattle.krs_desk.specs.declared.sight.Sight.{Sight}
+use Rattle.krs_desk.specs.declared.token.Sight.{Sight}
 use Rattle.krs_desk.specs.Parts.{views_of, kept_sight, given_sight, kept_of, given_of, both_sights, settled_sight, spent}
 use Rattle.krs_desk.specs.Parts.{part_of}
 use Rattle.krs_desk.specs.Rule.{InOneOrder}

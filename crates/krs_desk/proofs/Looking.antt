@@ -6,7 +6,7 @@ use Rattle.krs_types.specs.declared.event.Event.{Event}
 use Rattle.krs_world.specs.declared.view.Part.{Part}
 use Rattle.krs_world.specs.declared.view.Standing.{Standing}
 use Rattle.krs_world.specs.Knowing.{taken, missed, looked_at}
-use Rattle.krs_desk.specs.declared.place.Place.{Place}
+use Rattle.krs_desk.specs.declared.slot.SlotValue.{SlotValue}
 use Rattle.krs_desk.specs.Parts.{part_of}
 use Rattle.krs_desk.specs.Moves as move
 use Rattle.krs_desk.specs.Moves.{Move, after, IsMadeAt, IsTry, HasTurn, LooksInTurn, CountsLooks, CountsMisses}
@@ -37,7 +37,7 @@ no_cell : (word lane : ℕ) → word ≡ 0 → word ≡ lane + 1 → ⊥
 no_cell word lane e f = omega arith
 
 by_move :
-    (made : Step Place) (found : Option ℕ) (p : Part) (lane : ℕ) (m : Move) → IsMadeAt made found p m
+    (made : Step SlotValue) (found : Option ℕ) (p : Part) (lane : ℕ) (m : Move) → IsMadeAt made found p m
     → (after p m).checked ≡ p.checked ++ lane ∷ [] → HasTurn p
 by_move made found p lane move.stays is e = absurd (no_longer p.checked lane e)
 by_move made found p lane (move.takes log) is e = absurd (not_empty p.checked lane e)
@@ -59,7 +59,7 @@ looks_in_turn made found p q lane moved e =
     by_move made found p lane moved.0 moved.1 (sym (ap (λ (r : Part). r.checked) same) ∙ e)
 
 missed_by :
-    (made : Step Place) (n : ℕ) (p : Part) (m : Move) → IsMadeAt made (Some n) p m → IsTry made → n ≢ 0
+    (made : Step SlotValue) (n : ℕ) (p : Part) (m : Move) → IsMadeAt made (Some n) p m → IsTry made → n ≢ 0
     → after p m ≡ missed p
 missed_by made n p move.stays is try not = absurd (no_cell made.word p.lane try.0 is.0)
 missed_by made n p (move.takes log) is try not = absurd (not (one_number n 0 is.1))
@@ -85,7 +85,7 @@ counts_misses made n p q moved try not =
     same ∙ missed_by made n p moved.0 moved.1 try not
 
 taken_by :
-    (made : Step Place) (p : Part) (m : Move) → IsMadeAt made (Some 0) p m → IsTry made
+    (made : Step SlotValue) (p : Part) (m : Move) → IsMadeAt made (Some 0) p m → IsTry made
     → (log : List Event) × (after p m ≡ taken p log)
 taken_by made p move.stays is try = absurd (no_cell made.word p.lane try.0 is.0)
 taken_by made p (move.takes log) is try = (log, refl)
@@ -111,7 +111,7 @@ counts_turns made p q moved try =
     let t = taken_by made p moved.0 moved.1 try in (t.0, same ∙ t.1)
 
 looked_by :
-    (made : Step Place) (n : ℕ) (p : Part) (lane : ℕ) (m : Move) → IsMadeAt made (Some n) p m → made.word ≡ lane + 1
+    (made : Step SlotValue) (n : ℕ) (p : Part) (lane : ℕ) (m : Move) → IsMadeAt made (Some n) p m → made.word ≡ lane + 1
     → n ≢ 1 → HasTurn p → after p m ≡ looked_at p lane ((eqb n 3) && (eqb lane p.lane))
 looked_by made n p lane move.stays is at not held = absurd (not_both p is.2 held)
 looked_by made n p lane (move.takes log) is at not held = absurd (not_both p is.2 held)

@@ -24,12 +24,12 @@ use Rattle.krs_world.specs.Knowing.{one, posted, collected}
 use Rattle.krs_world.specs.History.{Fits}
 use Rattle.krs_world.proofs.Keeping as law
 use Rattle.krs_world.proofs.Posting as posting
-use Rattle.krs_desk.specs.declared.place.Place.{Place}
-use Rattle.krs_desk.specs.declared.place.Place.TheVariants.{Empty, Asked, Replied}
-use Rattle.krs_desk.specs.declared.sight.Sight.{Sight}
+use Rattle.krs_desk.specs.declared.slot.SlotValue.{SlotValue}
+use Rattle.krs_desk.specs.declared.slot.SlotValue.TheVariants.{Empty, Asked, Replied}
+use Rattle.krs_desk.specs.declared.token.Sight.{Sight}
 use Rattle.krs_desk.specs.Parts.{sat, views_of, hand_of}
 use Rattle.krs_desk.specs.Rule.{CellIs, IsVacant, InOneOrder}
-use Rattle.krs_desk.specs.Told.{posts_told, collects_told, Gathers}
+use Rattle.krs_desk.specs.Steps.{posts_told, collects_told, Gathers}
 use Rattle.krs_desk.specs.Sitting.{Sitting, posted_by, Collects}
 use Rattle.krs_desk.specs.Moves as move
 use Rattle.krs_desk.specs.Moves.{moved_told, stored_told}
@@ -55,8 +55,8 @@ posts_allowed a slots id p m ask idle room s r len at small =
           (posting.posts a views id p is (turn s) r.home r.cell r.history m ask idle),
       (
         (λ m' ask' same.
-            let head : ◌≡◌ {A = ℕ × Place} (p.lane + 1, Asked m ask) (p.lane + 1, Asked m' ask') = cc in
-            let said : Asked m ask ≡ Asked m' ask' = ap (λ (q : ℕ × Place). q.1) head in
+            let head : ◌≡◌ {A = ℕ × SlotValue} (p.lane + 1, Asked m ask) (p.lane + 1, Asked m' ask') = cc in
+            let said : Asked m ask ≡ Asked m' ask' = ap (λ (q : ℕ × SlotValue). q.1) head in
             let em : m ≡ m' = cc in
             let ea : ask ≡ ask' = cc in
             λ i. (sat a (posted p (em i) (ea i)), [])),
@@ -90,7 +90,7 @@ pub posted_is :
 posted_is slots lane idle m n w moment ask seated quiet e told =
     let slot : m.1 ≡ (lane + 1, Empty) ∷ [] = own_slot lane idle m seated quiet in
     told moment ask
-    (ap (λ (k : Me). k.1) e ∙ ap (λ (c : List (ℕ × Place)). (lane + 1, Asked moment ask) ∷ rest c) slot)
+    (ap (λ (k : Me). k.1) e ∙ ap (λ (c : List (ℕ × SlotValue)). (lane + 1, Asked moment ask) ∷ rest c) slot)
     ∙ ap (λ (k : Me). (sat (opening k) (posted (part k) moment ask), [])) e
 
 pub posted_seated :
@@ -135,7 +135,7 @@ done_of x slot (cells.Serving m ask) log p is f d = absurd (let no : true ≡ fa
 done_of x slot (cells.Answered m ask r) log p is f d = is.0
 
 collects_allowed :
-    (a : State) (slots id : ℕ) (p : Part) (c : List (ℕ × Place)) → p.holding ≡ None → p.lane + 1 < slots
+    (a : State) (slots id : ℕ) (p : Part) (c : List (ℕ × SlotValue)) → p.holding ≡ None → p.lane + 1 < slots
     → Allows (InOneOrder a) slots id (sat a p, c) (p.lane + 1) (λ n. either (eqb n 3) 0 n)
     (moved_told collects_told (step slots (p.lane + 1) 3 0 none) (sat a p, c))
 collects_allowed a slots id p c empty room s r len at small =
@@ -213,7 +213,7 @@ collects_at key slots id lane idle m seated room =
     let a : State = opening m in
     let p : Part = part m in
     let is : lane ≡ p.lane = seated.numbered in
-    let c : List (ℕ × Place) = hand_of p.flight p.lane in
+    let c : List (ℕ × SlotValue) = hand_of p.flight p.lane in
     subst
     (λ (z : ℕ × Me). Allows (InOneOrder key) slots id z.1 (z.0 + 1) (λ n. either (eqb n 3) 0 n)
     (moved_told collects_told (step slots (z.0 + 1) 3 0 none) z.1)) (λ i. (sym is i, sym seated.rests.0 i))
@@ -222,16 +222,17 @@ collects_at key slots id lane idle m seated room =
     (collects_allowed a slots id p c seated.rests.1 (subst (λ (l : ℕ). l + 1 < slots) is room)))
 
 -- the reply that was told is the one that was read
-same_reply : (i : ℕ) (told : Result Answer Errno) (x : Place) (reply : Result Answer Errno) (c d : List (ℕ × Place))
+same_reply :
+    (i : ℕ) (told : Result Answer Errno) (x : SlotValue) (reply : Result Answer Errno) (c d : List (ℕ × SlotValue))
     → (i, Replied told) ∷ c ≡ (i, x) ∷ d → x ≡ Replied reply → told ≡ reply
 same_reply i told x reply c d both read =
-    let head : ◌≡◌ {A = ℕ × Place} (i, Replied told) (i, x) = cc in
-    let one_place : Replied told ≡ Replied reply = ap (λ (q : ℕ × Place). q.1) head ∙ read in
+    let head : ◌≡◌ {A = ℕ × SlotValue} (i, Replied told) (i, x) = cc in
+    let one_value : Replied told ≡ Replied reply = ap (λ (q : ℕ × SlotValue). q.1) head ∙ read in
     cc
 
 -- the token of a seat after its reply was taken out of its slot
 pub collected_is :
-    (m n w : Me) (x : Place) (i : ℕ) (log : List Event) (moment : ℕ) (ask : Ask) (told reply : Result Answer Errno)
+    (m n w : Me) (x : SlotValue) (i : ℕ) (log : List Event) (moment : ℕ) (ask : Ask) (told reply : Result Answer Errno)
     → n ≡ (sat (opening m) (collected (part m) log (event_of (part m).lane moment ask told)), (i, Replied told) ∷ m.1)
     → n.1 ≡ (i, x) ∷ rest n.1 → x ≡ Replied reply → w ≡ (n.0, (i, Empty) ∷ rest n.1)
     → w ≡ (sat (opening m) (collected (part m) log (event_of (part m).lane moment ask reply)), (i, Empty) ∷ m.1)
@@ -246,7 +247,7 @@ collected_is m n w x i log moment ask told reply is slot read left =
 
 -- and what was gathered, with the reply that was read
 pub gathered :
-    (m n : Me) (x : Place) (i : ℕ) (log : List Event) (moment : ℕ) (ask : Ask) (told reply : Result Answer Errno)
+    (m n : Me) (x : SlotValue) (i : ℕ) (log : List Event) (moment : ℕ) (ask : Ask) (told reply : Result Answer Errno)
     → n ≡ (sat (opening m) (collected (part m) log (event_of (part m).lane moment ask told)), (i, Replied told) ∷ m.1)
     → n.1 ≡ (i, x) ∷ rest n.1 → x ≡ Replied reply
     → Gathers (opening m) (part m) (event_of (part m).lane moment ask told) log
@@ -275,7 +276,7 @@ collected_seated lane idle m w log e seated g is =
 
 collects :
     (k : TableId) (m : Me) (log : List Event) (moment : ℕ) (ask : Ask) (reply : Result Answer Errno)
-    (c : List (ℕ × Place)) → Gathers (opening m) (part m) (event_of (part m).lane moment ask reply) log
+    (c : List (ℕ × SlotValue)) → Gathers (opening m) (part m) (event_of (part m).lane moment ask reply) log
     → Collects (sitting_of k m) reply
     (sitting_of k (sat (opening m) (collected (part m) log (event_of (part m).lane moment ask reply)), c))
 collects k m log moment ask reply c g = record {
@@ -300,7 +301,7 @@ collects k m log moment ask reply c g = record {
 
 pub collects_is :
     (k l : TableId) (m w : Me) (s : Sitting) (log : List Event) (moment : ℕ) (ask : Ask) (reply : Result Answer Errno)
-    (c : List (ℕ × Place)) → sitting_of k m ≡ s → l ≡ k
+    (c : List (ℕ × SlotValue)) → sitting_of k m ≡ s → l ≡ k
     → w ≡ (sat (opening m) (collected (part m) log (event_of (part m).lane moment ask reply)), c)
     → Gathers (opening m) (part m) (event_of (part m).lane moment ask reply) log → Collects s reply (sitting_of l w)
 collects_is k l m w s log moment ask reply c view same is g =

@@ -21,8 +21,8 @@ use Rattle.krs_world.specs.Between.{IsSeenBy}
 use Rattle.krs_world.proofs.Keeping as law
 use Rattle.krs_world.proofs.Between.{seen_begins_log}
 use Rattle.krs_world.proofs.Orders.{either_begins}
-use Rattle.krs_desk.specs.declared.place.Place.{Place}
-use Rattle.krs_desk.specs.declared.sight.Sight.{Sight}
+use Rattle.krs_desk.specs.declared.slot.SlotValue.{SlotValue}
+use Rattle.krs_desk.specs.declared.token.Sight.{Sight}
 use Rattle.krs_desk.specs.Parts.{views_of, part_of, kept_of, given_of, kept_sight, given_sight, both_sights}
 use Rattle.krs_desk.specs.Parts.{settled_sight}
 use Rattle.krs_desk.specs.Parts.{spent, cell_of, sight}
@@ -44,10 +44,10 @@ use Rattle.krs_desk.proofs.Between.{seen_by, idle_word, real_time, collected, re
 abbrev pub Goes : Part → Part → Type 0
 Goes p p' =
     (p' ≡ p)
-    ⊎ ((made : Step Place) × (found : Option ℕ) × (m : Move) × IsMadeAt made found p m × (p' ≡ after p m))
+    ⊎ ((made : Step SlotValue) × (found : Option ℕ) × (m : Move) × IsMadeAt made found p m × (p' ≡ after p m))
 
 moved_lane :
-    (made : Step Place) (found : Option ℕ) (st st' : Standing) (p : Part) → IsMoved made found st st' → Sits p st
+    (made : Step SlotValue) (found : Option ℕ) (st st' : Standing) (p : Part) → IsMoved made found st st' → Sits p st
     → (p' : Part) × Sits p' st' × Goes p p'
 moved_lane made found Spent st' p moved sits = absurd sits
 moved_lane made found (One q) st' p moved sits = (
@@ -266,7 +266,7 @@ seen_goes :
     (a : State) (s : Board) (r : InOneOrder a s) (p p' : Part) → Within a s r p → Goes p p' → Begins p.seen p'.seen
 seen_goes a s r p p' k goes =
     ⊎_elim (λ (e : p' ≡ p). subst (λ (x : Part). Begins p.seen x.seen) (sym e) (law.prefix_self p.seen))
-    (λ (t : (made : Step Place) × (found : Option ℕ) × (m : Move) × IsMadeAt made found p m × (p' ≡ after p m)).
+    (λ (t : (made : Step SlotValue) × (found : Option ℕ) × (m : Move) × IsMadeAt made found p m × (p' ≡ after p m)).
     subst (λ (x : Part). Begins p.seen x.seen) (sym t.4)
     (seen_by t.0 t.1 p t.2 (λ l is. subst (Begins p.seen) (sym (k.held l is)) k.seen) t.3)) goes
 
@@ -278,7 +278,7 @@ begins_log l log e = subst (Begins l) e (law.prefix_self l)
 
 -- a list that is held begins the history after a step
 held_moves :
-    (a : State) (s : Board) (r : InOneOrder a s) (made : Step Place) (found : Option ℕ) (p : Part) (m : Move)
+    (a : State) (s : Board) (r : InOneOrder a s) (made : Step SlotValue) (found : Option ℕ) (p : Part) (m : Move)
     (l : List Event) → IsMadeAt made found p m → p.holding ≡ Some l → Within a s r (after p m)
     → Begins l r.history.log
 held_moves a s r made found p move.stays l is held k = absurd (not_both p is.2 (l, held))
@@ -312,7 +312,7 @@ held_goes :
 held_goes a s r p p' l held goes k =
     ⊎_elim
     (λ (e : p' ≡ p). begins_log l r.history.log (k.held l (ap (λ (x : Part). x.holding) e ∙ held)))
-    (λ (t : (made : Step Place) × (found : Option ℕ) × (m : Move) × IsMadeAt made found p m × (p' ≡ after p m)).
+    (λ (t : (made : Step SlotValue) × (found : Option ℕ) × (m : Move) × IsMadeAt made found p m × (p' ≡ after p m)).
     held_moves a s r t.0 t.1 p t.2 l t.3 held (subst (Within a s r) t.4 k)) goes
 
 -- What was seen.

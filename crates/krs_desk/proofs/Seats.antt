@@ -8,16 +8,16 @@ use Rattle.krs_model.specs.Sound.{IsSound}
 use Rattle.krs_model.specs.History.{IsLegal}
 use Rattle.krs_model.proofs.History.Legal.{legal_none}
 use Rattle.krs_world.specs.Knowing.{fresh, missed, loaded}
-use Rattle.krs_desk.specs.declared.place.Place.{Place}
-use Rattle.krs_desk.specs.declared.place.Place.TheVariants.{Empty, Home}
+use Rattle.krs_desk.specs.declared.slot.SlotValue.{SlotValue}
+use Rattle.krs_desk.specs.declared.slot.SlotValue.TheVariants.{Empty, Home}
 use Rattle.krs_desk.specs.Parts.{sat, hand_of}
-use Rattle.krs_desk.specs.Told.{Found}
+use Rattle.krs_desk.specs.Steps.{Found}
 use Rattle.krs_desk.specs.Sitting.{Sitting, missed_by, Meets}
 use Rattle.krs_desk.specs.Seated.{Me, part, opening, sitting_of, IsSeated}
 use Rattle.krs_desk.specs.Seated.{SeeOneList}
 
 -- the slots in hand, of which this one comes first
-pub front : (c : List (ℕ × Place)) (x : ℕ × Place) (xs : List (ℕ × Place)) → c ≡ x ∷ xs → c ≡ x ∷ rest c
+pub front : (c : List (ℕ × SlotValue)) (x : ℕ × SlotValue) (xs : List (ℕ × SlotValue)) → c ≡ x ∷ xs → c ≡ x ∷ rest c
 front c x xs e = e ∙ ap (λ l. x ∷ rest l) (sym e)
 
 -- the slot of a seat that has no call in flight
@@ -27,7 +27,7 @@ own_slot lane idle m seated quiet =
     ap (λ (k : Me). k.1) seated.rests.0
     ∙ (λ i. hand_of (quiet i) (sym seated.numbered i))
 
--- a place that has one store has no other
+-- a slot that has one store has no other
 pub same_store : (a b : State) → Home a ≡ Home b → a ≡ b
 same_store a b e = cc
 

@@ -23,12 +23,12 @@ use Rattle.krs_world.specs.declared.view.View.{View}
 use Rattle.krs_world.specs.Knowing.{events_of, one, service, grabbed, answered, looked_at, put_none}
 use Rattle.krs_world.proofs.Keeping as law
 use Rattle.krs_world.proofs.Serving as serving
-use Rattle.krs_desk.specs.declared.place.Place.{Place}
-use Rattle.krs_desk.specs.declared.place.Place.TheVariants.{Asked, Home, Replied}
-use Rattle.krs_desk.specs.declared.sight.Sight.{Sight}
+use Rattle.krs_desk.specs.declared.slot.SlotValue.{SlotValue}
+use Rattle.krs_desk.specs.declared.slot.SlotValue.TheVariants.{Asked, Home, Replied}
+use Rattle.krs_desk.specs.declared.token.Sight.{Sight}
 use Rattle.krs_desk.specs.Parts.{sat, views_of, hand_of}
 use Rattle.krs_desk.specs.Rule.{CellIs, IsVacant, InOneOrder}
-use Rattle.krs_desk.specs.Told.{glances_told, grabs_told, answers_told, brings_told}
+use Rattle.krs_desk.specs.Steps.{glances_told, grabs_told, answers_told, brings_told}
 use Rattle.krs_desk.specs.Moves as move
 use Rattle.krs_desk.specs.Moves.{moved_told, stored_told}
 use Rattle.krs_desk.specs.Seated.{Me, opening, part}
@@ -60,7 +60,7 @@ finished x lane own = (eqb x 3) && (eqb lane own)
 
 -- the cell was looked at, and is not posted
 looked :
-    (a : State) (s : Table) (r : InOneOrder a s) (id : ℕ) (p : Part) (c : List (ℕ × Place)) (lane : ℕ)
+    (a : State) (s : Table) (r : InOneOrder a s) (id : ℕ) (p : Part) (c : List (ℕ × SlotValue)) (lane : ℕ)
     → get_elem? (views_of s.views) id ≡ some (one a p) → p.lane + 1 < length s.words
     → InOneOrder a (stepped s (lane + 1) (get_or s.words (lane + 1) 0) id c
     (sat a (looked_at p lane (finished (get_or s.words (lane + 1) 0) lane p.lane))) keeps)
@@ -92,8 +92,8 @@ own_answered a s r id p lane log is held idle miss here has =
     refl)
 
 glances_allowed :
-    (a : State) (slots id : ℕ) (p : Part) (c : List (ℕ × Place)) (lane : ℕ) (log : List Event) → p.holding ≡ Some log
-    → p.serving ≡ None
+    (a : State) (slots id : ℕ) (p : Part) (c : List (ℕ × SlotValue)) (lane : ℕ) (log : List Event)
+    → p.holding ≡ Some log → p.serving ≡ None
     → Allows (InOneOrder a) slots id (sat a p, c) (lane + 1) (λ n. n)
     (moved_told glances_told (step slots (lane + 1) 0 0 none) (sat a p, c))
 glances_allowed a slots id p c lane log held idle s r len at small =
@@ -133,8 +133,8 @@ glances_allowed a slots id p c lane log held idle s r len at small =
     ))
 
 grabs_allowed :
-    (a : State) (slots id : ℕ) (p : Part) (c : List (ℕ × Place)) (lane : ℕ) (log : List Event) → p.holding ≡ Some log
-    → p.serving ≡ None → lane + 1 < slots
+    (a : State) (slots id : ℕ) (p : Part) (c : List (ℕ × SlotValue)) (lane : ℕ) (log : List Event)
+    → p.holding ≡ Some log → p.serving ≡ None → lane + 1 < slots
     → Allows (InOneOrder a) slots id (sat a p, c) (lane + 1) (λ n. either (eqb n 1) 2 n)
     (moved_told grabs_told (step slots (lane + 1) 1 2 none) (sat a p, c))
 grabs_allowed a slots id p c lane log held idle room s r len at small =
@@ -185,7 +185,7 @@ grabs_allowed a slots id p c lane log held idle room s r len at small =
     ))
 
 answers_allowed :
-    (a : State) (slots id : ℕ) (p : Part) (c : List (ℕ × Place)) (lane m : ℕ) (ask : Ask)
+    (a : State) (slots id : ℕ) (p : Part) (c : List (ℕ × SlotValue)) (lane m : ℕ) (ask : Ask)
     (reply : Result Answer Errno) (log : List Event) (last next : State) → p.holding ≡ Some log
     → p.serving ≡ Some (service lane m ask) → IsLegal a log last → Step last (event_of lane m ask reply) next
     → lane + 1 < slots
@@ -211,8 +211,8 @@ answers_allowed a slots id p c lane m ask reply log last next held serves legal 
         (λ log' lane' m' ask' reply' held' serves' slot.
             let el : log ≡ log' = cc in
             let es : service lane m ask ≡ service lane' m' ask' = cc in
-            let head : ◌≡◌ {A = ℕ × Place} (lane + 1, Replied reply) (lane + 1, Replied reply') = cc in
-            let said : Replied reply ≡ Replied reply' = ap (λ (q : ℕ × Place). q.1) head in
+            let head : ◌≡◌ {A = ℕ × SlotValue} (lane + 1, Replied reply) (lane + 1, Replied reply') = cc in
+            let said : Replied reply ≡ Replied reply' = ap (λ (q : ℕ × SlotValue). q.1) head in
             let er : reply ≡ reply' = cc in
             λ i. (sat a (answered p (el i) (event_of (es i).lane (es i).moment (es i).ask (er i))), c)),
         (refl, (move.answers log (event_of lane m ask reply), (refl, refl, held, serves, refl), refl)),
@@ -220,7 +220,7 @@ answers_allowed a slots id p c lane m ask reply log last next held serves legal 
     )
 
 brings_allowed :
-    (a : State) (slots id : ℕ) (p : Part) (c : List (ℕ × Place)) (store : State) (log : List Event)
+    (a : State) (slots id : ℕ) (p : Part) (c : List (ℕ × SlotValue)) (store : State) (log : List Event)
     → p.holding ≡ Some log → p.serving ≡ None → IsLegal a log store
     → Allows (InOneOrder a) slots id (sat a p, (0, Home store) ∷ c) 0 (λ n. either (eqb n 1) 0 n)
     (moved_told brings_told (step slots 0 1 0 none) (sat a p, (0, Home store) ∷ c))
@@ -279,15 +279,15 @@ grabs_at key slots id lane m h room =
     (grabs_allowed a slots id p m.1 lane h.log h.held h.unserving room))
 
 pub answers_at :
-    (key a : State) (slots id lane m : ℕ) (ask : Ask) (reply : Result Answer Errno) (p : Part) (c : List (ℕ × Place))
-    (log : List Event) (last next : State) (n : Me)
+    (key a : State) (slots id lane m : ℕ) (ask : Ask) (reply : Result Answer Errno) (p : Part)
+    (c : List (ℕ × SlotValue)) (log : List Event) (last next : State) (n : Me)
     → n ≡ (sat a (grabbed p lane m ask), (lane + 1, Replied reply) ∷ c) → p.holding ≡ Some log → IsLegal a log last
     → Step last (event_of lane m ask reply) next → lane + 1 < slots
     → Allows (InOneOrder key) slots id n (lane + 1) (λ _. 3)
     (λ _. stored_told answers_told (step slots (lane + 1) 3 0 none) n 3)
 answers_at key a slots id lane m ask reply p c log last next n is held legal does room =
     let q : Part = grabbed p lane m ask in
-    let d : List (ℕ × Place) = (lane + 1, Replied reply) ∷ c in
+    let d : List (ℕ × SlotValue) = (lane + 1, Replied reply) ∷ c in
     subst
     (λ (z : Me). Allows (InOneOrder key) slots id z (lane + 1) (λ _. 3)
     (λ _. stored_told answers_told (step slots (lane + 1) 3 0 none) z 3)) (sym is)
@@ -300,7 +300,7 @@ pub brings_at :
 brings_at key slots id m h =
     let a : State = opening m in
     let p : Part = part m in
-    let c : List (ℕ × Place) = hand_of p.flight p.lane in
+    let c : List (ℕ × SlotValue) = hand_of p.flight p.lane in
     subst
     (λ (z : Me). Allows (InOneOrder key) slots id z 0 (λ k. either (eqb k 1) 0 k) (moved_told brings_told (step slots 0 1 0 none) z))
     (sym h.has)

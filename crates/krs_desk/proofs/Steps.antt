@@ -24,24 +24,24 @@ use Rattle.krs_world.specs.declared.view.Standing.TheVariants.{Spent}
 use Rattle.krs_world.specs.Knowing.{events_of, one, taken, missed, put_own, kept}
 use Rattle.krs_world.specs.History.{OneHistory}
 use Rattle.krs_world.proofs.Keeping as law
-use Rattle.krs_desk.specs.declared.place.Place.{Place}
-use Rattle.krs_desk.specs.declared.place.Place.TheVariants.{Home}
-use Rattle.krs_desk.specs.declared.sight.Sight.{Sight}
+use Rattle.krs_desk.specs.declared.slot.SlotValue.{SlotValue}
+use Rattle.krs_desk.specs.declared.slot.SlotValue.TheVariants.{Home}
+use Rattle.krs_desk.specs.declared.token.Sight.{Sight}
 use Rattle.krs_desk.specs.Parts.{sat, views_of, IsLaid, AreHoused, hand_of}
 use Rattle.krs_desk.specs.Rule.{IsAtHome, CellIs, IsVacant, InOneOrder}
-use Rattle.krs_desk.specs.Told.{takes_told, puts_told, keeps_told}
+use Rattle.krs_desk.specs.Steps.{takes_told, puts_told, keeps_told}
 use Rattle.krs_desk.specs.Moves as move
 use Rattle.krs_desk.specs.Moves.{moved_told}
 use Rattle.krs_desk.specs.Seated.{Me, opening, part, HoldsBefore}
 
 abbrev pub Table : Type 0
-Table = table.State Place Sight
+Table = table.State SlotValue Sight
 
 abbrev pub turn : Table → ℕ
 turn s = get_or s.words 0 0
 
 abbrev pub Slot : Type 0
-Slot = maybe.Option Place
+Slot = maybe.Option SlotValue
 
 -- Views.
 
@@ -81,7 +81,7 @@ housed_set n views id w mine others j v e =
 
 -- a step that changes no word and no slot
 pub unmoved :
-    (a : State) (s : Table) (r : InOneOrder a s) (i id : ℕ) (w : Sight) (c : List (ℕ × Place))
+    (a : State) (s : Table) (r : InOneOrder a s) (i id : ℕ) (w : Sight) (c : List (ℕ × SlotValue))
     → ((lane : ℕ) → IsLaid lane w → IsVacant s.homes r.cell lane) → AreHoused (length s.words) w
     → OneHistory a (turn s) r.home r.cell (set (views_of s.views) id w.view)
     → InOneOrder a (stepped s i (get_or s.words i 0) id c w keeps)
@@ -176,7 +176,7 @@ moved_home a s r n x home id b q fits at h = let wide = r.wide in let any = r.an
 
 -- the turn was free, and is had; or it was out
 takes_allowed :
-    (a : State) (slots id : ℕ) (p : Part) (c : List (ℕ × Place)) → p.holding ≡ None
+    (a : State) (slots id : ℕ) (p : Part) (c : List (ℕ × SlotValue)) → p.holding ≡ None
     → Allows (InOneOrder a) slots id (sat a p, c) 0 (λ n. either (eqb n 0) 1 n)
     (moved_told takes_told (step slots 0 0 1 none) (sat a p, c))
 takes_allowed a slots id p c empty s r len at small =
@@ -229,7 +229,7 @@ takes_allowed a slots id p c empty s r len at small =
 
 -- the turn is given back, with the list that was held and one event more
 puts_allowed :
-    (a : State) (slots id : ℕ) (p : Part) (store : State) (c : List (ℕ × Place)) (e : Event) (log : List Event)
+    (a : State) (slots id : ℕ) (p : Part) (store : State) (c : List (ℕ × SlotValue)) (e : Event) (log : List Event)
     (last : State) → p.holding ≡ Some log → IsLegal a log last → p.serving ≡ None → p.flight ≡ None
     → Step last e store → e.lane ≡ p.lane
     → Allows (InOneOrder a) slots id (sat a p, (0, Home store) ∷ c) 0 (λ n. either (eqb n 1) 0 n)
@@ -263,7 +263,7 @@ puts_allowed a slots id p store c e log last held legal unserving idle does lane
 
 -- the turn is kept, and the list that is held has one event more
 keeps_allowed :
-    (a : State) (slots id : ℕ) (p : Part) (store : State) (c : List (ℕ × Place)) (e : Event) (log : List Event)
+    (a : State) (slots id : ℕ) (p : Part) (store : State) (c : List (ℕ × SlotValue)) (e : Event) (log : List Event)
     (last : State) → p.holding ≡ Some log → IsLegal a log last → p.serving ≡ None → p.flight ≡ None
     → Step last e store → e.lane ≡ p.lane
     → Allows (InOneOrder a) slots id (sat a p, c) 0 (λ n. n)
@@ -296,7 +296,7 @@ keeps_allowed a slots id p store c e log last held legal unserving idle does lan
 
 -- the key is what every view has for the opening state
 pub any_key :
-    (key a : State) (slots id word : ℕ) (p : Part) (c : List (ℕ × Place)) (f : ℕ → ℕ) (then : ℕ → Me → Type 0)
+    (key a : State) (slots id word : ℕ) (p : Part) (c : List (ℕ × SlotValue)) (f : ℕ → ℕ) (then : ℕ → Me → Type 0)
     → Allows (InOneOrder a) slots id (sat a p, c) word f then
     → Allows (InOneOrder key) slots id (sat a p, c) word f then
 any_key key a slots id word p c f then allowed s r len at small =
@@ -318,7 +318,7 @@ pub takes_at :
 takes_at key slots id m is empty =
     let a : State = opening m in
     let p : Part = part m in
-    let c : List (ℕ × Place) = hand_of p.flight p.lane in
+    let c : List (ℕ × SlotValue) = hand_of p.flight p.lane in
     subst
     (λ (z : Me).
     Allows (InOneOrder key) slots id z 0 (λ n. either (eqb n 0) 1 n) (moved_told takes_told (step slots 0 0 1 none) z))
@@ -333,7 +333,7 @@ pub puts_at :
 puts_at key slots id m e log h lane =
     let a : State = opening m in
     let p : Part = part m in
-    let c : List (ℕ × Place) = (0, Home h.after) ∷ rest m.1 in
+    let c : List (ℕ × SlotValue) = (0, Home h.after) ∷ rest m.1 in
     subst
     (λ (z : Me).
     Allows (InOneOrder key) slots id z 0 (λ k. either (eqb k 1) 0 k) (moved_told (puts_told (e ∷ [])) (step slots 0 1 0 none) z))
@@ -348,7 +348,7 @@ pub keeps_at :
 keeps_at key slots id m e log h lane =
     let a : State = opening m in
     let p : Part = part m in
-    let c : List (ℕ × Place) = (0, Home h.after) ∷ rest m.1 in
+    let c : List (ℕ × SlotValue) = (0, Home h.after) ∷ rest m.1 in
     subst
     (λ (z : Me). Allows (InOneOrder key) slots id z 0 (λ k. k) (moved_told (keeps_told (e ∷ [])) (step slots 0 0 0 none) z))
     (sym h.has)

@@ -15,8 +15,8 @@ use Rattle.krs_model.proofs.History.Legal.{legal_more}
 use Rattle.krs_world.specs.declared.view.Part.{Part}
 use Rattle.krs_world.specs.Knowing.{events_of, put_own}
 use Rattle.krs_world.proofs.Keeping.{own_event}
-use Rattle.krs_desk.specs.declared.place.Place.{Place}
-use Rattle.krs_desk.specs.declared.place.Place.TheVariants.{Home}
+use Rattle.krs_desk.specs.declared.slot.SlotValue.{SlotValue}
+use Rattle.krs_desk.specs.declared.slot.SlotValue.TheVariants.{Home}
 use Rattle.krs_desk.specs.Parts.{sat, hand_of}
 use Rattle.krs_desk.specs.Sitting.{Sitting, Adds}
 use Rattle.krs_desk.specs.Seated.{Me, part, opening, sitting_of, is_free, IsSeated, Holds, Serves, HoldsBefore}
@@ -33,10 +33,10 @@ serves_is m w e h s = s.has ∙ ap (λ (k : Me). (k.0, (0, Home s.after) ∷ res
 -- the step was made on the store that ends the list
 pub serves_last : (m w : Me) (e : Event) (h : HoldsAll m) (s : Serves m e w) → Step h.last e s.after
 serves_last m w e h s =
-    let c : List (ℕ × Place) = hand_of (part m).flight (part m).lane in
+    let c : List (ℕ × SlotValue) = hand_of (part m).flight (part m).lane in
     let both : (0, Home s.before) ∷ rest m.1 ≡ (0, Home h.last) ∷ c = sym s.had ∙ ap (λ (k : Me). k.1) h.has in
-    let head : ◌≡◌ {A = ℕ × Place} (0, Home s.before) (0, Home h.last) = cc in
-    let same : s.before ≡ h.last = same_store s.before h.last (ap (λ (z : ℕ × Place). z.1) head) in
+    let head : ◌≡◌ {A = ℕ × SlotValue} (0, Home s.before) (0, Home h.last) = cc in
+    let same : s.before ≡ h.last = same_store s.before h.last (ap (λ (z : ℕ × SlotValue). z.1) head) in
     subst (λ (z : State). Step z e s.after) same s.step
 
 pub holds_before :
@@ -70,7 +70,7 @@ finished m w n said e says h s put mine =
           put h.log held
           ∙ (ap (λ (k : Me). (sat (opening k) (put_own (part k) h.log said), rest k.1)) w_is
           ∙ ((λ i. (sat (opening m) (put_own (part m) h.log (says i)), hand_of (part m).flight (part m).lane))
-          ∙ ap (λ (c : List (ℕ × Place)). (sat (opening m) (put_own (part m) h.log e), c))
+          ∙ ap (λ (c : List (ℕ × SlotValue)). (sat (opening m) (put_own (part m) h.log e), c))
           (sym (ap (λ (k : Me). rest k.1) h.has))));
       legal = h.legal;
       step = serves_last m w e h s;
@@ -126,7 +126,7 @@ turn_seated lane idle m n k w count lanes e seated h g f =
 
 adds :
     (table : TableId) (m : Me) (q : Part) (log : List Event) (events : List Event) (e : Event) (next : State)
-    (c : List (ℕ × Place)) → Begins (part m).seen log → q.lane ≡ (part m).lane → q.mine ≡ (part m).mine
+    (c : List (ℕ × SlotValue)) → Begins (part m).seen log → q.lane ≡ (part m).lane → q.mine ≡ (part m).mine
     → IsLegal (opening m) ((log ++ events) ++ e ∷ []) next → events_of q.lane (log ++ events) ≡ q.mine
     → e.lane ≡ q.lane
     → Adds (sitting_of table m) e (sitting_of table (sat (opening m) (put_own q (log ++ events) e), c))

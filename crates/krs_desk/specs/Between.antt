@@ -15,25 +15,25 @@ use Rattle.krs_world.specs.declared.view.Cell.TheVariants as cells
 use Rattle.krs_world.specs.declared.view.Part.{Part}
 use Rattle.krs_world.specs.Knowing.{one, events_of}
 use Rattle.krs_world.specs.Between.{StandsNext, IsSeenBy}
-use Rattle.krs_desk.specs.declared.place.Place.{Place}
-use Rattle.krs_desk.specs.declared.sight.Sight.{Sight}
+use Rattle.krs_desk.specs.declared.slot.SlotValue.{SlotValue}
+use Rattle.krs_desk.specs.declared.token.Sight.{Sight}
 use Rattle.krs_desk.specs.declared.word.TheConstants.{ANSWERED}
 use Rattle.krs_desk.specs.Parts.{cell_of, sight, views_of}
 use Rattle.krs_desk.specs.Rule.{InOneOrder}
 
 -- a token stands for this lane, which knows p
-abbrev pub IsSat : State → Part → table.State Place Sight → Type 0
+abbrev pub IsSat : State → Part → table.State SlotValue Sight → Type 0
 IsSat opening p s = (j : ℕ) × (laid : Bool) × (get_elem? s.views j ≡ some (sight (one opening p) laid))
 
 -- some token has seen this list, at both moments
-abbrev pub StaysSeen : List Event → table.State Place Sight → table.State Place Sight → Type 0
+abbrev pub StaysSeen : List Event → table.State SlotValue Sight → table.State SlotValue Sight → Type 0
 StaysSeen front s s' = IsSeenBy front (views_of s.views) × IsSeenBy front (views_of s'.views)
 
 -- Of two moments of one desk: a call of a lane that had none in flight at the first, and has had its reply at the
 -- second, stands behind all that any token had seen at the first, in the history and in what its own token has seen.
 abbrev pub KeepsRealTimeBetween : State → Type 0
 KeepsRealTimeBetween opening =
-    (s s' : table.State Place Sight) (front : List Event) (q q' : Part) (e : Event) (more : List Event)
+    (s s' : table.State SlotValue Sight) (front : List Event) (q q' : Part) (e : Event) (more : List Event)
     → InOneOrder opening s → (later : InOneOrder opening s') → StaysSeen front s s'
     → IsSat opening q s → q.flight ≡ None
     → IsSat opening q' s' → q'.lane ≡ q.lane → q'.mine ≡ q.mine ++ e ∷ more
@@ -42,7 +42,7 @@ KeepsRealTimeBetween opening =
 -- So does a call that was in flight and not answered at the first moment, as that at which it was posted,
 abbrev pub KeepsCollectedBetween : State → Type 0
 KeepsCollectedBetween opening =
-    (s s' : table.State Place Sight) (front : List Event) (q q' : Part) (e : Event) (more : List Event)
+    (s s' : table.State SlotValue Sight) (front : List Event) (q q' : Part) (e : Event) (more : List Event)
     → InOneOrder opening s → (later : InOneOrder opening s') → StaysSeen front s s'
     → IsSat opening q s → slice_index s.words (cell_of q.lane) ≢ ANSWERED
     → IsSat opening q' s' → q'.lane ≡ q.lane → q'.mine ≡ q.mine ++ e ∷ more
@@ -51,7 +51,7 @@ KeepsCollectedBetween opening =
 -- and one that is answered at the second, though its reply isn't collected.
 abbrev pub KeepsPostedBetween : State → Type 0
 KeepsPostedBetween opening =
-    (s s' : table.State Place Sight) (front : List Event) (q q' : Part) (moment : ℕ) (ask : Ask)
+    (s s' : table.State SlotValue Sight) (front : List Event) (q q' : Part) (moment : ℕ) (ask : Ask)
     (reply : Result Answer Errno)
     → InOneOrder opening s → (later : InOneOrder opening s') → StaysSeen front s s'
     → IsSat opening q s → slice_index s.words (cell_of q.lane) ≢ ANSWERED
@@ -70,7 +70,7 @@ HasRevoked opening list serial =
 -- the second, stands somewhere in what its token has seen, and is no accepted READ of that key there.
 abbrev pub RefusesRevoked : State → Type 0
 RefusesRevoked opening =
-    (s s' : table.State Place Sight) (front : List Event) (serial : ℕ) (q q' : Part) (e : Event) (more : List Event)
+    (s s' : table.State SlotValue Sight) (front : List Event) (serial : ℕ) (q q' : Part) (e : Event) (more : List Event)
     → InOneOrder opening s → InOneOrder opening s' → StaysSeen front s s' → HasRevoked opening front serial
     → IsSat opening q s → slice_index s.words (cell_of q.lane) ≢ ANSWERED
     → IsSat opening q' s' → q'.lane ≡ q.lane → q'.mine ≡ q.mine ++ e ∷ more

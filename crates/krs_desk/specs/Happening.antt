@@ -8,11 +8,11 @@ use lib.ListN.{get_elem?}
 use prog.Atomic.{either}
 use Rattle.atomic_table.specs.Table.{Act, step, stepped, carried_after}
 use Rattle.krs_model.specs.State.{State, starting_at}
-use Rattle.krs_desk.specs.declared.place.Place.{Place}
-use Rattle.krs_desk.specs.declared.sight.Sight.{Sight}
+use Rattle.krs_desk.specs.declared.slot.SlotValue.{SlotValue}
+use Rattle.krs_desk.specs.declared.token.Sight.{Sight}
 use Rattle.krs_desk.specs.Parts.{kept_sight, given_sight, both_sights, settled_sight, spent, AreOnes, IsSpentFor}
 use Rattle.krs_desk.specs.Rule.{InOneOrder}
-use Rattle.krs_desk.specs.Told.{Known}
+use Rattle.krs_desk.specs.Steps.{Known}
 use Rattle.krs_desk.specs.Moves.{Moves}
 use Rattle.krs_desk.specs.Running.{Board, IsStepped, IsCut, IsJoined}
 
@@ -24,7 +24,7 @@ IsAt opening s slots id m word =
 -- `Board::load`
 abbrev pub LoadsHappen : State → Type 0
 LoadsHappen opening =
-    (s : Board) (slots id word : ℕ) (m : Known) (w : Sight) (act : Act Place)
+    (s : Board) (slots id word : ℕ) (m : Known) (w : Sight) (act : Act SlotValue)
     → IsAt opening s slots id m word
     → Moves (step slots word 0 0 none) (Some (slice_index s.words word)) m (w, carried_after m.1 act)
     → IsStepped s (stepped s word (slice_index s.words word) id m.1 w act)
@@ -32,7 +32,7 @@ LoadsHappen opening =
 -- `Board::store`
 abbrev pub StoresHappen : State → Type 0
 StoresHappen opening =
-    (s : Board) (slots id word new : ℕ) (m : Known) (w : Sight) (act : Act Place)
+    (s : Board) (slots id word new : ℕ) (m : Known) (w : Sight) (act : Act SlotValue)
     → IsAt opening s slots id m word
     → Moves (step slots word new 0 none) None m (w, carried_after m.1 act)
     → IsStepped s (stepped s word new id m.1 w act)
@@ -40,7 +40,7 @@ StoresHappen opening =
 -- `Board::compare_exchange`
 abbrev pub ExchangesHappen : State → Type 0
 ExchangesHappen opening =
-    (s : Board) (slots id word old new : ℕ) (m : Known) (w : Sight) (act : Act Place)
+    (s : Board) (slots id word old new : ℕ) (m : Known) (w : Sight) (act : Act SlotValue)
     → IsAt opening s slots id m word
     → Moves (step slots word old new none) (Some (slice_index s.words word)) m (w, carried_after m.1 act)
     → IsStepped s

@@ -13,10 +13,10 @@ use Rattle.krs_world.specs.declared.view.Part.{Part}
 use Rattle.krs_world.specs.Knowing.{events_of, flight, taken, put_own}
 use Rattle.krs_desk.specs.declared.helping.Helped.{Helped}
 use Rattle.krs_desk.specs.declared.helping.Helped.TheVariants.{Took, Busy}
-use Rattle.krs_desk.specs.declared.place.Place.{Place}
-use Rattle.krs_desk.specs.declared.place.Place.TheVariants.{Empty, Home}
+use Rattle.krs_desk.specs.declared.slot.SlotValue.{SlotValue}
+use Rattle.krs_desk.specs.declared.slot.SlotValue.TheVariants.{Empty, Home}
 use Rattle.krs_desk.specs.Parts.{sat, hand_of}
-use Rattle.krs_desk.specs.Told.{Found}
+use Rattle.krs_desk.specs.Steps.{Found}
 use Rattle.krs_desk.specs.Seated.{Me, part, opening}
 use Rattle.krs_desk.specs.Sitting.{Sitting, missed_by, HasItsCalls}
 
@@ -95,22 +95,22 @@ pub record HoldsAll (m : Me) : Type 0 where
   pub unserving : (part m).serving ≡ None
 
 -- the token took this slot last, and has the store behind it, before its own slots
-abbrev pub HasBehind : Me → ℕ × Place → State → Type 0
+abbrev pub HasBehind : Me → ℕ × SlotValue → State → Type 0
 HasBehind m x store = m.1 ≡ x ∷ (0, Home store) ∷ hand_of (part m).flight (part m).lane
 
 -- the slots in hand, turned once, or twice where one of them is the seat's own
-abbrev pub turned_back : Bool → List (ℕ × Place) → List (ℕ × Place)
+abbrev pub turned_back : Bool → List (ℕ × SlotValue) → List (ℕ × SlotValue)
 turned_back true slots = turned (turned slots)
 turned_back false slots = turned slots
 
 -- it took some slot last, and has the store behind it
 abbrev pub IsBehind : Me → Type 0
-IsBehind m = (x : ℕ × Place) × (store : State) × HasBehind m x store
+IsBehind m = (x : ℕ × SlotValue) × (store : State) × HasBehind m x store
 
 -- a step was made on that store
 abbrev pub ServesBehind : Me → Event → Me → Type 0
 ServesBehind m event n =
-    (x : ℕ × Place) (store : State) → HasBehind m x store
+    (x : ℕ × SlotValue) (store : State) → HasBehind m x store
     → (after : State) × (n ≡ (m.0, x ∷ (0, Home after) ∷ hand_of (part m).flight (part m).lane))
     × Step store event after
 

@@ -6,7 +6,7 @@ use Rattle.krs_model.specs.State.{State}
 use Rattle.krs_model.specs.Step.{Step}
 use Rattle.krs_model.specs.History.{IsLegal}
 use Rattle.krs_world.specs.Knowing.{events_of, kept}
-use Rattle.krs_desk.specs.declared.place.Place.TheVariants.{Home}
+use Rattle.krs_desk.specs.declared.slot.SlotValue.TheVariants.{Home}
 use Rattle.krs_desk.specs.Parts.{sat}
 use Rattle.krs_desk.specs.Seated.{Me, part, opening, untold, IsSeated}
 use Rattle.krs_desk.specs.Helping.{HoldsAll}

@@ -1,6 +1,6 @@
 pub mod Parts
 pub mod Rule
-pub mod Told
+pub mod Steps
 pub mod Moves
 pub mod Sitting
 pub mod Seated

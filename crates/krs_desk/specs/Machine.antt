@@ -18,7 +18,7 @@ use Rattle.krs_world.specs.declared.view.Standing.TheVariants.{Spent, One, Two, 
 use Rattle.krs_world.specs.declared.view.View.{View}
 use Rattle.krs_world.specs.Knowing.{fresh, flight}
 use Rattle.krs_world.specs.World.{Turn, Free, Out, World, begun, Runs, IsHistory}
-use Rattle.krs_desk.specs.declared.place.Place.TheVariants.{Home}
+use Rattle.krs_desk.specs.declared.slot.SlotValue.TheVariants.{Home}
 use Rattle.krs_desk.specs.declared.word.TheConstants.{TURN, FREE, OUT, DEALING}
 use Rattle.krs_desk.specs.Parts.{cell_of, views_of}
 use Rattle.krs_desk.specs.Rule.{CellIs, InOneOrder}

@@ -14,10 +14,10 @@ use Rattle.krs_world.specs.declared.view.Standing.{Standing}
 use Rattle.krs_world.specs.declared.view.Standing.TheVariants.{Spent, One, Two, Opening}
 use Rattle.krs_world.specs.Knowing.{service, taken, missed, put_own, put_none, loaded, kept}
 use Rattle.krs_world.specs.Knowing.{posted, grabbed, answered, collected, looked_at}
-use Rattle.krs_desk.specs.declared.place.Place.{Place}
+use Rattle.krs_desk.specs.declared.slot.SlotValue.{SlotValue}
 use Rattle.krs_desk.specs.declared.word.TheConstants.{TURN, FREE, OUT, EMPTY, POSTED, SERVING, ANSWERED}
 use Rattle.krs_desk.specs.Parts.{cell_of}
-use Rattle.krs_desk.specs.Told.{Known}
+use Rattle.krs_desk.specs.Steps.{Known}
 
 -- what contracts see of a table: which it is, and the state of the store as it was made
 pub record Tabled : Type 0 where
@@ -59,15 +59,15 @@ after p (collects log e) = collected p log e
 after p (looks lane finished) = looked_at p lane finished
 
 -- the step tries to have the turn
-abbrev pub IsTry : Step Place → Type 0
+abbrev pub IsTry : Step SlotValue → Type 0
 IsTry made = (made.word ≡ TURN) × (made.first ≡ FREE) × (made.second ≡ OUT)
 
 -- it gives the turn back, where it is out
-abbrev pub IsReturn : Step Place → Type 0
+abbrev pub IsReturn : Step SlotValue → Type 0
 IsReturn made = (made.word ≡ TURN) × (made.first ≡ OUT) × (made.second ≡ FREE)
 
 -- it reads the turn's word, and leaves it as it is
-abbrev pub IsReading : Step Place → Option ℕ → Type 0
+abbrev pub IsReading : Step SlotValue → Option ℕ → Type 0
 IsReading made found =
     (made.word ≡ TURN) × (made.first ≡ 0) × (made.second ≡ 0) × ((n : ℕ) × (found ≡ Some n))
 
@@ -80,7 +80,7 @@ HasTurn p = (log : List Event) × (p.holding ≡ Some log)
 -- served, finds, takes up or answers a call, or looks at a cell, has the turn. A call is posted in the lane's own cell,
 -- and taken up where one is posted; a reply is collected where the cell was answered, by who hasn't the turn, and there
 -- alone a step may find something and tell nothing of it. What was seen begins what is seen then.
-abbrev pub IsMadeAt : Step Place → Option ℕ → Part → Move → Type 0
+abbrev pub IsMadeAt : Step SlotValue → Option ℕ → Part → Move → Type 0
 IsMadeAt made found p stays =
     (made.word ≡ cell_of p.lane) × ((n : ℕ) × (found ≡ Some n) × (n ≢ ANSWERED)) × (p.holding ≡ None)
 IsMadeAt made found p (takes log) = IsTry made × (found ≡ Some FREE) × (p.holding ≡ None)
@@ -111,7 +111,7 @@ IsMadeAt made found p (looks lane finished) =
 
 -- One lane's token makes one of these steps. A token of two lanes looks at the history for both. One that deals the
 -- others may end, and one that stands for no lane stays.
-abbrev pub IsMoved : Step Place → Option ℕ → Standing → Standing → Type 0
+abbrev pub IsMoved : Step SlotValue → Option ℕ → Standing → Standing → Type 0
 IsMoved made found Spent t = t ≡ Spent
 IsMoved made found (One p) t = (move : Move) × IsMadeAt made found p move × (t ≡ One (after p move))
 IsMoved made found (Two p q) t =
@@ -122,39 +122,39 @@ IsMoved made found (Opening n) t = t ≡ Spent
 -- Whatever a step tells: where it adds a lane to those whose cells were looked at, its token has the turn
 abbrev pub LooksInTurn : Type 0
 LooksInTurn =
-    (made : Step Place) (found : Option ℕ) (p q : Part) (lane : ℕ) → IsMoved made found (One p) (One q)
+    (made : Step SlotValue) (found : Option ℕ) (p q : Part) (lane : ℕ) → IsMoved made found (One p) (One q)
     → q.checked ≡ p.checked ++ lane ∷ [] → HasTurn p
 
 -- and where a token that has the turn finds anything but a posted call in a lane's cell, that lane is added to those,
 -- and its own cell is known to be answered where it is: no look is forgotten.
 abbrev pub CountsLooks : Type 0
 CountsLooks =
-    (made : Step Place) (n : ℕ) (p q : Part) (lane : ℕ) → IsMoved made (Some n) (One p) (One q)
+    (made : Step SlotValue) (n : ℕ) (p q : Part) (lane : ℕ) → IsMoved made (Some n) (One p) (One q)
     → made.word ≡ cell_of lane → n ≢ POSTED → HasTurn p
     → q ≡ looked_at p lane ((n == ANSWERED) && (lane == p.lane))
 
 -- Whatever a step tells: a try that finds the turn taken is counted as that, and tells nothing else.
 abbrev pub CountsMisses : Type 0
 CountsMisses =
-    (made : Step Place) (n : ℕ) (p q : Part) → IsMoved made (Some n) (One p) (One q) → IsTry made → n ≢ FREE
+    (made : Step SlotValue) (n : ℕ) (p q : Part) → IsMoved made (Some n) (One p) (One q) → IsTry made → n ≢ FREE
     → q ≡ missed p
 
 -- and one that finds it free is counted as a turn that was had, with the history of that moment
 abbrev pub CountsTurns : Type 0
 CountsTurns =
-    (made : Step Place) (p q : Part) → IsMoved made (Some FREE) (One p) (One q) → IsTry made
+    (made : Step SlotValue) (p q : Part) → IsMoved made (Some FREE) (One p) (One q) → IsTry made
     → (log : List Event) × (q ≡ taken p log)
 
 -- it has the same state of the store at the opening after the step
-abbrev pub Moves : Step Place → Option ℕ → Known → Known → Type 0
+abbrev pub Moves : Step SlotValue → Option ℕ → Known → Known → Type 0
 Moves made found m n =
     (n.0.view.opening ≡ m.0.view.opening) × IsMoved made found m.0.view.stands n.0.view.stands
 
 -- what a step tells that found a number, and one that only stored one: it is one of these steps, and this is so
 abbrev pub moved_told :
-    (Step Place → Known → ℕ → Known → Type 0) → Step Place → Known → ℕ → Known → Type 0
+    (Step SlotValue → Known → ℕ → Known → Type 0) → Step SlotValue → Known → ℕ → Known → Type 0
 moved_told told step m found n = told step m found n × Moves step (Some found) m n
 
 abbrev pub stored_told :
-    (Step Place → Known → ℕ → Known → Type 0) → Step Place → Known → ℕ → Known → Type 0
+    (Step SlotValue → Known → ℕ → Known → Type 0) → Step SlotValue → Known → ℕ → Known → Type 0
 stored_told told step m found n = told step m found n × Moves step None m n

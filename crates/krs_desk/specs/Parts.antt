@@ -7,9 +7,9 @@ use Rattle.krs_world.specs.declared.view.Standing.{Standing}
 use Rattle.krs_world.specs.declared.view.Standing.TheVariants.{Spent, One, Two, Opening}
 use Rattle.krs_world.specs.declared.view.View.{View}
 use Rattle.krs_world.specs.Knowing.{fresh, view, one}
-use Rattle.krs_desk.specs.declared.place.Place.{Place}
-use Rattle.krs_desk.specs.declared.place.Place.TheVariants.{Empty}
-use Rattle.krs_desk.specs.declared.sight.Sight.{Sight}
+use Rattle.krs_desk.specs.declared.slot.SlotValue.{SlotValue}
+use Rattle.krs_desk.specs.declared.slot.SlotValue.TheVariants.{Empty}
+use Rattle.krs_desk.specs.declared.token.Sight.{Sight}
 
 abbrev pub sight : View → Bool → Sight
 sight v laid = record { view = v; laid = laid }
@@ -61,7 +61,7 @@ abbrev pub AreHoused : ℕ → Sight → Type 0
 AreHoused words s = AreHousedBy words s.laid s.view.stands
 
 -- the slots that a seat has: its lane's, unless a call of its own is in flight
-abbrev pub hand_of : Option Flight → ℕ → List (ℕ × Place)
+abbrev pub hand_of : Option Flight → ℕ → List (ℕ × SlotValue)
 hand_of None lane = (cell_of lane, Empty) ∷ []
 hand_of (Some call) lane = []
 

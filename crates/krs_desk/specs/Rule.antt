@@ -10,33 +10,33 @@ use Rattle.krs_world.specs.declared.view.Cell.TheVariants as cells
 use Rattle.krs_world.specs.declared.view.Standing.TheVariants.{Opening}
 use Rattle.krs_world.specs.Knowing.{view}
 use Rattle.krs_world.specs.History.{OneHistory}
-use Rattle.krs_desk.specs.declared.place.Place.{Place}
-use Rattle.krs_desk.specs.declared.place.Place.TheVariants.{Empty, Home, Asked, Replied}
-use Rattle.krs_desk.specs.declared.sight.Sight.{Sight}
+use Rattle.krs_desk.specs.declared.slot.SlotValue.{SlotValue}
+use Rattle.krs_desk.specs.declared.slot.SlotValue.TheVariants.{Empty, Home, Asked, Replied}
+use Rattle.krs_desk.specs.declared.token.Sight.{Sight}
 use Rattle.krs_desk.specs.declared.word.TheConstants.{TURN, EMPTY, POSTED, SERVING, ANSWERED}
 use Rattle.krs_desk.specs.Parts.{cell_of, sight, views_of, IsLaid, AreHoused}
 
 -- the first slot has the store that is at home, and is empty where none is
-abbrev pub IsAtHome : Option State → maybe.Option (maybe.Option Place) → Type 0
+abbrev pub IsAtHome : Option State → maybe.Option (maybe.Option SlotValue) → Type 0
 IsAtHome None slot = slot ≡ some none
 IsAtHome (Some store) slot = slot ≡ some (some (Home store))
 
 -- The word of a lane, and what lies in its slot, by its cell. The slot of an empty cell is its seat's, and that of a
 -- cell that is served is the holder's.
-abbrev pub CellIs : ℕ → maybe.Option (maybe.Option Place) → Cell → Type 0
+abbrev pub CellIs : ℕ → maybe.Option (maybe.Option SlotValue) → Cell → Type 0
 CellIs word slot cells.Empty = word ≡ EMPTY
 CellIs word slot (cells.Posted moment ask) = (word ≡ POSTED) × (slot ≡ some (some (Asked moment ask)))
 CellIs word slot (cells.Serving moment ask) = word ≡ SERVING
 CellIs word slot (cells.Answered moment ask reply) = (word ≡ ANSWERED) × (slot ≡ some (some (Replied reply)))
 
 -- the lane's cell is empty, and its slot, where there is one, lies on the table, empty too
-abbrev pub IsVacant : List (maybe.Option Place) → (ℕ → Cell) → ℕ → Type 0
+abbrev pub IsVacant : List (maybe.Option SlotValue) → (ℕ → Cell) → ℕ → Type 0
 IsVacant homes cell lane =
     (cell lane ≡ cells.Empty) × (cell_of lane < length homes → get_elem? homes (cell_of lane) ≡ some (some Empty))
 
 -- The first word is the turn, which `OneHistory` reads: FREE, OUT, or DEALING while the seats are dealt. Each lane has a
 -- word for its cell, and a slot. `src/word.rt` has the numbers.
-pub record InOneOrder (opening : State) (s : table.State Place Sight) : Type 0 where
+pub record InOneOrder (opening : State) (s : table.State SlotValue Sight) : Type 0 where
   pub wide : length s.words ≡ length s.homes
   pub any : 0 < length s.words
   pub home : Option State

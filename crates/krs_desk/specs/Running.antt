@@ -18,8 +18,8 @@ use Rattle.krs_world.specs.declared.view.Standing.TheVariants.{Spent, One}
 use Rattle.krs_world.specs.Knowing.{events_of}
 use Rattle.krs_world.specs.World.{IsUnanswered, IsUnposted}
 use Rattle.krs_world.specs.Between.{StandsNext, IsSeenBy}
-use Rattle.krs_desk.specs.declared.place.Place.{Place}
-use Rattle.krs_desk.specs.declared.sight.Sight.{Sight}
+use Rattle.krs_desk.specs.declared.slot.SlotValue.{SlotValue}
+use Rattle.krs_desk.specs.declared.token.Sight.{Sight}
 use Rattle.krs_desk.specs.declared.word.TheConstants.{TURN, FREE, OUT, ANSWERED}
 use Rattle.krs_desk.specs.Parts.{cell_of, views_of, spent, kept_sight, given_sight, both_sights, settled_sight}
 use Rattle.krs_desk.specs.Rule.{InOneOrder}
@@ -29,18 +29,18 @@ use Rattle.krs_desk.specs.Between.{IsSat, HasRevoked}
 
 -- the words, the slots, and what each token knows
 abbrev pub Board : Type 0
-Board = table.State Place Sight
+Board = table.State SlotValue Sight
 
 -- what a word becomes: at a store the number that is stored; else the second of two where the first was found, as at a
 -- load, which has 0 for both, and else what it was
-abbrev pub IsLeft : table.Step Place → Option ℕ → ℕ → Type 0
+abbrev pub IsLeft : table.Step SlotValue → Option ℕ → ℕ → Type 0
 IsLeft made None n = n ≡ made.first
 IsLeft made (Some found) n = (found ≡ made.first → n ≡ made.second) × (found ≢ made.first → n ≡ found)
 
 -- A token makes one of the steps of `Moves`, on a word of the table. What the others know stays as it is.
 pub record IsStepped (s new : Board) : Type 0 where
   pub id : ℕ
-  pub made : table.Step Place
+  pub made : table.Step SlotValue
   pub there : made.word < length s.words
   pub found : Option ℕ
   pub becomes : ℕ

@@ -10,10 +10,10 @@ use Rattle.krs_model.specs.History.{IsLegal}
 use Rattle.krs_world.specs.declared.view.Flight.{Flight}
 use Rattle.krs_world.specs.declared.view.Part.{Part}
 use Rattle.krs_world.specs.Knowing.{taken, loaded}
-use Rattle.krs_desk.specs.declared.place.Place.TheVariants.{Home}
+use Rattle.krs_desk.specs.declared.slot.SlotValue.TheVariants.{Home}
 use Rattle.krs_desk.specs.Parts.{cell_of, sat, hand_of}
-use Rattle.krs_desk.specs.Told.{Known, Found}
-pub use Rattle.krs_desk.specs.Told.{part, opening}
+use Rattle.krs_desk.specs.Steps.{Known, Found}
+pub use Rattle.krs_desk.specs.Steps.{part, opening}
 use Rattle.krs_desk.specs.Sitting.{Sitting}
 
 -- what a token knows, and the slots that it has

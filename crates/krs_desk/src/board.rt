@@ -11,9 +11,9 @@ ghost use Rattle.krs_desk.specs.Rule.{InOneOrder, first_sight};
 ghost use Rattle.krs_desk.specs.Moves.{moved_told, stored_told};
 ghost use Rattle.krs_desk.specs.Seated.{Has, Serves};
 
-use crate::place::Place;
-use crate::plays::{Cut, Glue, OneOrder, Settle, Token};
-use crate::sight::Sight;
+use crate::slot::SlotValue;
+use crate::steps::{Cut, Glue, OneOrder, Settle};
+use crate::token::{Sight, Token};
 use atomic_table::{Play, Refused, Table};
 use krs_store::Store;
 use krs_types::{Ask, Reply};
@@ -25,10 +25,10 @@ use std::snapshot::Snapshot;
 pub(crate) trait Tells {
     ghost use Rattle.std.specs.Prelude.{ℕ};
     ghost use Rattle.atomic_table.specs.Table.{Step};
-    ghost use Rattle.krs_desk.specs.Told.{Known};
-    ghost use Rattle.krs_desk.specs.declared.place.Place.{Place};
+    ghost use Rattle.krs_desk.specs.Steps.{Known};
+    ghost use Rattle.krs_desk.specs.declared.slot.SlotValue.{SlotValue};
 
-    ghost told: { Step Place → Known → ℕ → Known → Type 0 };
+    ghost told: { Step SlotValue → Known → ℕ → Known → Type 0 };
 }
 
 // A step that finds a number.
@@ -36,7 +36,7 @@ struct Moved<T> {
     told: PhantomData<T>,
 }
 
-impl<T: Tells> Play<Place, Sight> for Moved<T> {
+impl<T: Tells> Play<SlotValue, Sight> for Moved<T> {
     ghost then = { moved_told T.told };
 }
 
@@ -45,14 +45,14 @@ struct Stored<T> {
     told: PhantomData<T>,
 }
 
-impl<T: Tells> Play<Place, Sight> for Stored<T> {
+impl<T: Tells> Play<SlotValue, Sight> for Stored<T> {
     ghost then = { stored_told T.told };
 }
 
 /// The words, the store in the first slot, and a slot for each lane.
 #[derive(Drop)]
 pub(crate) struct Board {
-    table: Table<Place, Sight, Snapshot<Store>, OneOrder, Global>,
+    table: Table<SlotValue, Sight, Snapshot<Store>, OneOrder, Global>,
 }
 
 impl Model for Board {
@@ -68,9 +68,9 @@ impl Board {
     pub(crate) fn new(
         alloc: Global,
         words: &[u64],
-        slots: Vec<Place>,
+        slots: Vec<SlotValue>,
         about: &Snapshot<Store>,
-    ) -> Result<(Board, Token), Refused<Place, Global>>
+    ) -> Result<(Board, Token), Refused<SlotValue, Global>>
         requires { InOneOrder about.now.value (opened words.now slots.items (first_sight about.now.value)) }
         ensures ok { IfOk result (λ t. (t.0.id.words ≡ length words.now) × (t.0.id.slots ≡ length slots.items)
             × (t.1.table_id ≡ t.0.id) × (t.1.me ≡ (first_sight about.now.value, []))) }
@@ -141,9 +141,9 @@ impl Board {
 
     /// What the slot has that the token took last; it has the new value then.
     #[inline]
-    pub(crate) fn exchange(&self, seat: &mut Token, slot: usize, new: Place) -> Place
+    pub(crate) fn exchange(&self, seat: &mut Token, slot: usize, new: SlotValue) -> SlotValue
         requires { (seat.old.table_id ≡ self.now.id)
-            × ((old : Place) × (seat.old.me.1 ≡ (slot, old) ∷ rest seat.old.me.1)) }
+            × ((old : SlotValue) × (seat.old.me.1 ≡ (slot, old) ∷ rest seat.old.me.1)) }
         ensures { (seat.new.table_id ≡ seat.old.table_id) × (seat.new.id ≡ seat.old.id)
             × (seat.old.me.1 ≡ (slot, result) ∷ rest seat.old.me.1)
             × (seat.new.me ≡ (seat.old.me.0, (slot, new) ∷ rest seat.old.me.1)) }
@@ -166,7 +166,7 @@ impl Board {
         ensures table { seat.new.table_id ≡ seat.old.table_id }
         ensures served { Serves seat.old.me (event_of lane moment ask result) seat.new.me }
     {
-        let Place::Home(home) = seat.slot_mut(&self.table.shared, 0) else {
+        let SlotValue::Home(home) = seat.slot_mut(&self.table.shared, 0) else {
             unreachable!()
         };
         home.mind_memory(wanted);

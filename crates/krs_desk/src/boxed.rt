@@ -8,7 +8,7 @@ use krs_types::{Ask, Reply};
 use std::alloc::Global;
 use std::marker::Model;
 
-/// A store on the heap, which contracts see as the store. A place of the table that has one is then no larger than one
+/// A store on the heap, which contracts see as the store. A slot of the table that has one is then no larger than one
 /// that has an ask.
 #[derive(Drop)]
 pub struct BoxedStore {

@@ -6,16 +6,17 @@ ghost use Rattle.krs_model.specs.State.{State};
 ghost use Rattle.krs_model.specs.History.{event_of};
 ghost use Rattle.krs_world.specs.Knowing.{events_of, missed, put_own};
 ghost use Rattle.krs_desk.specs.Parts.{sat};
-ghost use Rattle.krs_desk.specs.Told.{event_in};
+ghost use Rattle.krs_desk.specs.Steps.{event_in};
 ghost use Rattle.krs_desk.specs.Sitting.{Adds, missed_by};
 ghost use Rattle.krs_desk.specs.Helping.{HoldsAll, Finishes};
 ghost use Rattle.krs_desk.specs.Seated.{IsResting, Holds, Has, Serves, HoldsBefore, part, opening};
 
 use crate::bells::Bells;
 use crate::board::Board;
-use crate::note::{Added, Note};
-use crate::plays::{Takes, Token};
 use crate::seat::Seat;
+use crate::served_call::{Added, ServedCall};
+use crate::steps::Takes;
+use crate::token::Token;
 use crate::word::{FREE, OUT, TURN};
 use krs_types::{Ask, Reply};
 use std::marker::{Brand, Model};
@@ -102,18 +103,18 @@ impl Desk {
     }
 
     // Gives the turn back, with one event more in the list, and wakes whom it may concern.
-    fn put<E: Added>(&self, token: &mut Token, note: Note)
+    fn put<E: Added>(&self, token: &mut Token, call: ServedCall)
         requires table { token.old.table_id ≡ self.now }
-        requires held { (log : List Event) × HoldsBefore token.old.me log (event_in note) }
-        requires event { (E.events ≡ event_in note ∷ []) × (note.lane ≡ (part token.old.me).lane) }
+        requires held { (log : List Event) × HoldsBefore token.old.me log (event_in call) }
+        requires event { (E.events ≡ event_in call ∷ []) × (call.lane ≡ (part token.old.me).lane) }
         ensures table { token.new.table_id ≡ token.old.table_id }
         ensures put { (log : List Event) → (part token.old.me).holding ≡ Some log
             → token.new.me
-            ≡ (sat (opening token.old.me) (put_own (part token.old.me) log (event_in note)), rest token.old.me.1) }
+            ≡ (sat (opening token.old.me) (put_own (part token.old.me) log (event_in call)), rest token.old.me.1) }
         ensures mine { (log : List Event) → (part token.old.me).holding ≡ Some log
             → events_of (part token.old.me).lane log ≡ (part token.old.me).mine }
     {
-        let freed = self.put_back::<E>(token, note);
+        let freed = self.put_back::<E>(token, call);
         self.wake(freed);
     }
 
@@ -128,13 +129,13 @@ impl Desk {
     {
         let asked = Snapshot::of(&ask);
         let reply = self.serve(token, lane, moment, ask);
-        let note = Note {
+        let call = ServedCall {
             lane,
             moment,
             ask: asked,
             reply: Snapshot::of(&reply),
         };
-        self.put::<Brand>(token, note);
+        self.put::<Brand>(token, call);
         reply
     }
 

@@ -4,13 +4,14 @@ ghost use Rattle.atomic_table.specs.Table.{rest};
 ghost use Rattle.krs_types.specs.declared.event.Event.{Event};
 ghost use Rattle.krs_world.specs.Knowing.{events_of, put_none, put_own};
 ghost use Rattle.krs_desk.specs.Parts.{sat};
-ghost use Rattle.krs_desk.specs.Told.{event_in};
+ghost use Rattle.krs_desk.specs.Steps.{event_in};
 ghost use Rattle.krs_desk.specs.Seated.{HoldsBefore, part, opening};
 ghost use Rattle.krs_desk.specs.Helping.{HoldsAll, held_of};
 
 use crate::desk::Desk;
-use crate::note::{Added, Note};
-use crate::plays::{Brings, Puts, Token};
+use crate::served_call::{Added, ServedCall};
+use crate::steps::{Brings, Puts};
+use crate::token::Token;
 use crate::word::{FREE, OUT, TURN};
 
 // That a turn was given back. Only the exchange that gives it back makes one, and it isn't `Drop`: only `wake` takes it.
@@ -20,14 +21,14 @@ pub(crate) struct Freed {
 
 impl Desk {
     // Gives the turn back, with one event more in the list.
-    pub(crate) fn put_back<E: Added>(&self, token: &mut Token, note: Note) -> Freed
+    pub(crate) fn put_back<E: Added>(&self, token: &mut Token, call: ServedCall) -> Freed
         requires table { token.old.table_id ≡ self.now }
-        requires held { (log : List Event) × HoldsBefore token.old.me log (event_in note) }
-        requires event { (E.events ≡ event_in note ∷ []) × (note.lane ≡ (part token.old.me).lane) }
+        requires held { (log : List Event) × HoldsBefore token.old.me log (event_in call) }
+        requires event { (E.events ≡ event_in call ∷ []) × (call.lane ≡ (part token.old.me).lane) }
         ensures table { token.new.table_id ≡ token.old.table_id }
         ensures put { (log : List Event) → (part token.old.me).holding ≡ Some log
             → token.new.me
-            ≡ (sat (opening token.old.me) (put_own (part token.old.me) log (event_in note)), rest token.old.me.1) }
+            ≡ (sat (opening token.old.me) (put_own (part token.old.me) log (event_in call)), rest token.old.me.1) }
         ensures mine { (log : List Event) → (part token.old.me).holding ≡ Some log
             → events_of (part token.old.me).lane log ≡ (part token.old.me).mine }
     {

@@ -9,9 +9,10 @@ ghost use Rattle.krs_desk.specs.Helping.{HasHelped, Had, HoldsAll, IsBehind, Ser
 ghost use Rattle.krs_desk.specs.Helping.{held_of, lanes_of, turned_back};
 
 use crate::desk::Desk;
-use crate::place::Place;
-use crate::plays::{Answers, Glances, Grabs, Token};
 use crate::seat::Seat;
+use crate::slot::SlotValue;
+use crate::steps::{Answers, Glances, Grabs};
+use crate::token::Token;
 use crate::word::{ANSWERED, FREE, POSTED, SERVING, TURN, cell_of};
 use krs_store::Store;
 use krs_types::{Ask, Reply};
@@ -50,7 +51,7 @@ impl Desk {
         if turn != FREE {
             return Err(turn);
         }
-        let Place::Home(home) = self.table.exchange(token, TURN, Place::Empty) else {
+        let SlotValue::Home(home) = self.table.exchange(token, TURN, SlotValue::Empty) else {
             unreachable!()
         };
         Ok(home.into_inner())
@@ -87,11 +88,11 @@ impl Desk {
         if table.compare_exchange::<Grabs>(token, cell, POSTED, SERVING) != POSTED {
             return 0;
         }
-        let Place::Asked(moment, ask) = table.exchange(token, cell, Place::Empty) else {
+        let SlotValue::Asked(moment, ask) = table.exchange(token, cell, SlotValue::Empty) else {
             unreachable!()
         };
         let reply = self.serve_behind(token, idle, lane, moment, ask);
-        drop(table.exchange(token, cell, Place::Replied(reply)));
+        drop(table.exchange(token, cell, SlotValue::Replied(reply)));
         table.store::<Answers>(token, cell, ANSWERED);
         1
     }

@@ -4,16 +4,17 @@ ghost use Rattle.krs_types.specs.declared.event.Event.{Event};
 ghost use Rattle.krs_model.specs.History.{event_of};
 ghost use Rattle.krs_world.specs.Knowing.{events_of, kept};
 ghost use Rattle.krs_desk.specs.Parts.{sat};
-ghost use Rattle.krs_desk.specs.Told.{event_in};
+ghost use Rattle.krs_desk.specs.Steps.{event_in};
 ghost use Rattle.krs_desk.specs.Sitting.{Adds};
 ghost use Rattle.krs_desk.specs.Seated.{HoldsBefore, part, opening};
 ghost use Rattle.krs_desk.specs.Helping.{HoldsAll, HasLooked};
 ghost use Rattle.krs_desk.specs.Keeping.{HasKept, GoesOn, at_rest};
 
 use crate::desk::Desk;
-use crate::note::{Added, Note};
-use crate::plays::{Keeps, Token};
 use crate::seat::Seat;
+use crate::served_call::{Added, ServedCall};
+use crate::steps::Keeps;
+use crate::token::Token;
 use crate::word::TURN;
 use krs_types::{Ask, Reply};
 use std::marker::Brand;
@@ -24,14 +25,14 @@ const MOST_KEPT: u32 = 63;
 
 impl Desk {
     // The history has one event more, and the token holds it still.
-    fn keep<E: Added>(&self, token: &mut Token, note: Note)
+    fn keep<E: Added>(&self, token: &mut Token, call: ServedCall)
         requires table { token.old.table_id ≡ self.now }
-        requires held { (log : List Event) × HoldsBefore token.old.me log (event_in note) }
-        requires event { (E.events ≡ event_in note ∷ []) × (note.lane ≡ (part token.old.me).lane) }
+        requires held { (log : List Event) × HoldsBefore token.old.me log (event_in call) }
+        requires event { (E.events ≡ event_in call ∷ []) × (call.lane ≡ (part token.old.me).lane) }
         ensures table { token.new.table_id ≡ token.old.table_id }
         ensures kept { (log : List Event) → (part token.old.me).holding ≡ Some log
             → token.new.me
-            ≡ (sat (opening token.old.me) (kept (part token.old.me) log (event_in note)), token.old.me.1) }
+            ≡ (sat (opening token.old.me) (kept (part token.old.me) log (event_in call)), token.old.me.1) }
         ensures mine { (log : List Event) → (part token.old.me).holding ≡ Some log
             → events_of (part token.old.me).lane log ≡ (part token.old.me).mine }
     {
@@ -49,13 +50,13 @@ impl Desk {
     {
         let asked = Snapshot::of(&ask);
         let reply = self.serve(token, lane, moment, ask);
-        let note = Note {
+        let call = ServedCall {
             lane,
             moment,
             ask: asked,
             reply: Snapshot::of(&reply),
         };
-        self.keep::<Brand>(token, note);
+        self.keep::<Brand>(token, call);
         reply
     }
 

@@ -15,13 +15,13 @@ mod helping;
 mod keeping;
 mod laws;
 mod meeting;
-mod note;
 mod opening;
-mod place;
-mod plays;
 mod posting;
 mod seat;
-mod sight;
+mod served_call;
+mod slot;
+mod steps;
+mod token;
 mod waiting;
 mod word;
 

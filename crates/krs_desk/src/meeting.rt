@@ -5,9 +5,10 @@ ghost use Rattle.krs_desk.specs.Seated.{IsResting, SeeOneList, opening};
 
 use crate::board::Board;
 use crate::desk::Desk;
-use crate::note::Opened;
-use crate::plays::{Checks, Looks, Token};
 use crate::seat::Seat;
+use crate::served_call::Opened;
+use crate::steps::{Checks, Looks};
+use crate::token::Token;
 use crate::word::TURN;
 use std::marker::Brand;
 

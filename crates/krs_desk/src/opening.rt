@@ -3,7 +3,7 @@ ghost use Rattle.std.specs.Prelude.{◌≡◌, ◌<◌, ◌≤◌, ◌↔◌, �
 ghost use Rattle.std.specs.Prelude.{IfOk, IfErr, replicate, vec_capacity, slice_index};
 ghost use Rattle.krs_model.specs.Sound.{IsSound};
 ghost use Rattle.krs_desk.specs.declared.opening.Why.TheVariants.{Lanes, Memory};
-ghost use Rattle.krs_desk.specs.declared.place.Place.TheVariants.{Empty, Home};
+ghost use Rattle.krs_desk.specs.declared.slot.SlotValue.TheVariants.{Empty, Home};
 ghost use Rattle.krs_desk.specs.Rule.{AreZero, first_sight};
 ghost use Rattle.krs_desk.specs.Sitting.{IsIdleAt, fresh_seats};
 
@@ -11,9 +11,10 @@ use crate::bells::Bells;
 use crate::board::Board;
 use crate::boxed::BoxedStore;
 use crate::desk::Desk;
-use crate::place::Place;
-use crate::plays::{Opens, Picks, Token};
 use crate::seat::Seat;
+use crate::slot::SlotValue;
+use crate::steps::{Opens, Picks};
+use crate::token::Token;
 use crate::word::{DEALING, FREE, TURN, cell_of};
 use krs_store::Store;
 use std::alloc::Global;
@@ -107,9 +108,9 @@ impl Desk {
         store.is_sound();
         let about = Snapshot::of(&store);
         let home = BoxedStore::new(alloc, store)?;
-        slots.push_reserved(Place::Home(home));
+        slots.push_reserved(SlotValue::Home(home));
         for _ in 0..count {
-            slots.push_reserved(Place::Empty);
+            slots.push_reserved(SlotValue::Empty);
         }
         let (desk, opener) = Desk::lay(alloc, lanes, words, slots, bells, &about)?;
         desk.deal(opener, lanes, &mut seats, about);
@@ -121,7 +122,7 @@ impl Desk {
         alloc: Global,
         lanes: u32,
         words: Vec<u64>,
-        slots: Vec<Place>,
+        slots: Vec<SlotValue>,
         bells: Bells,
         about: &Snapshot<Store>,
     ) -> Result<(Desk, Token), Store>
@@ -144,7 +145,7 @@ impl Desk {
             )),
             Err(refused) => {
                 let mut back = refused.slots;
-                let Place::Home(home) = mem::replace(&mut back[0], Place::Empty) else {
+                let SlotValue::Home(home) = mem::replace(&mut back[0], SlotValue::Empty) else {
                     unreachable!()
                 };
                 Err(home.into_inner())

@@ -3,9 +3,9 @@ ghost use Rattle.std.specs.Prelude.{◌≡◌, ◌≢◌, true, None, IfSome, If
 ghost use Rattle.krs_desk.specs.Sitting.{posted_by, Collects};
 
 use crate::desk::Desk;
-use crate::place::Place;
-use crate::plays::{self, Posts};
 use crate::seat::Seat;
+use crate::slot::SlotValue;
+use crate::steps::{self, Posts};
 use crate::word::{ANSWERED, EMPTY, POSTED, cell_of};
 use krs_types::{Ask, Reply};
 
@@ -19,7 +19,7 @@ impl Desk {
         self.give_back(&mut seat.served, &mut seat.token);
         let table = &self.table;
         let cell = cell_of!(seat.lane);
-        drop(table.exchange(&mut seat.token, cell, Place::Asked(moment, ask)));
+        drop(table.exchange(&mut seat.token, cell, SlotValue::Asked(moment, ask)));
         table.store::<Posts>(&mut seat.token, cell, POSTED);
         seat.idle = false;
     }
@@ -34,12 +34,13 @@ impl Desk {
         self.give_back(&mut seat.served, &mut seat.token);
         let table = &self.table;
         let cell = cell_of!(seat.lane);
-        if table.compare_exchange::<plays::Collects>(&mut seat.token, cell, ANSWERED, EMPTY)
+        if table.compare_exchange::<steps::Collects>(&mut seat.token, cell, ANSWERED, EMPTY)
             != ANSWERED
         {
             return None;
         }
-        let Place::Replied(reply) = table.exchange(&mut seat.token, cell, Place::Empty) else {
+        let SlotValue::Replied(reply) = table.exchange(&mut seat.token, cell, SlotValue::Empty)
+        else {
             unreachable!()
         };
         seat.idle = true;

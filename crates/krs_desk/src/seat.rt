@@ -3,7 +3,7 @@ ghost use Rattle.std.specs.Prelude.{◌≡◌, true, None};
 ghost use Rattle.krs_desk.specs.Seated.{HasSlot, sitting_of};
 ghost use Rattle.krs_desk.specs.Keeping.{IsPlaced};
 
-use crate::plays::Token;
+use crate::token::Token;
 use std::marker::Model;
 
 /// A client's place at the desk that made it. It may be sent to another thread. A contract sees which desk it is of,

@@ -1,6 +1,6 @@
 use Rattle.std.proofs.Common.{rules, refl, sym, ap, ◌∙◌, ◌+◌, ◌∷◌}
 use Rattle.atomic_table.specs.Table.{rest}
-use Rattle.krs_desk.specs.declared.place.Place.TheVariants.{Empty, Home, Asked}
+use Rattle.krs_desk.specs.declared.slot.SlotValue.TheVariants.{Empty, Home, Asked}
 use Rattle.krs_desk.specs.Seated.{Me, part, opening, is_free}
 use Rattle.krs_desk.proofs.Seats.{front}
 use Rattle.krs_desk.proofs.Serves.{grabs_at, answers_at}

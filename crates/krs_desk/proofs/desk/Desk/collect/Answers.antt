@@ -1,5 +1,5 @@
 use Rattle.std.proofs.Common.{rules, ap}
-use Rattle.krs_desk.specs.declared.place.Place.TheVariants.{Replied}
+use Rattle.krs_desk.specs.declared.slot.SlotValue.TheVariants.{Replied}
 use Rattle.krs_desk.proofs.Seats.{front}
 use Rattle.krs_desk.proofs.Posts.{collects_at, collects_is, collected_is, gathered}
 use Rattle.krs_desk.proofs.KeptTurns.{given_seated, given_view}

@@ -1,5 +1,5 @@
 use Rattle.std.proofs.Common.{rules, ap}
-use Rattle.krs_desk.specs.declared.place.Place.TheVariants.{Home}
+use Rattle.krs_desk.specs.declared.slot.SlotValue.TheVariants.{Home}
 use Rattle.krs_desk.proofs.Seats.{front}
 use Rattle.krs_desk.proofs.desk.Desk.fetch.Goals as goal
 

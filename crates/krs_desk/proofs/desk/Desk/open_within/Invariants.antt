@@ -1,6 +1,6 @@
 use Rattle.std.proofs.Common.{◌≡◌, ◌∷◌}
 use Rattle.std.specs.Prelude.{vec_capacity, replicate}
-use Rattle.krs_desk.specs.declared.place.Place.TheVariants.{Empty, Home}
+use Rattle.krs_desk.specs.declared.slot.SlotValue.TheVariants.{Empty, Home}
 use Rattle.krs_desk.proofs.desk.Desk.open_within.Given as goal
 
 abbrev pub invariant-loop : goal.invariant-loop

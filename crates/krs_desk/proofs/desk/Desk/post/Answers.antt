@@ -1,5 +1,5 @@
 use Rattle.std.proofs.Common.{rules, ap, ◌∙◌, false}
-use Rattle.krs_desk.specs.declared.place.Place.TheVariants.{Empty}
+use Rattle.krs_desk.specs.declared.slot.SlotValue.TheVariants.{Empty}
 use Rattle.krs_desk.specs.Sitting.{Sitting}
 use Rattle.krs_desk.proofs.Seats.{front, own_slot}
 use Rattle.krs_desk.proofs.Posts.{posts_at, posted_is, posted_seated, posts_is}

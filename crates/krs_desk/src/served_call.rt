@@ -5,7 +5,7 @@ use std::snapshot::Snapshot;
 
 /// A call as clauses see it. It holds neither the ask nor the reply.
 #[derive(Drop)]
-pub(crate) struct Note {
+pub(crate) struct ServedCall {
     pub lane: u32,
     pub moment: u64,
     pub ask: Snapshot<Ask>,

@@ -1,13 +1,13 @@
 //! The rule of the table, and what each step on it tells.
-ghost use Rattle.krs_desk.specs.Told.{takes_told, puts_told, looks_told, opens_told, picks_told};
-ghost use Rattle.krs_desk.specs.Told.{posts_told, collects_told, glances_told, grabs_told, answers_told, brings_told};
-ghost use Rattle.krs_desk.specs.Told.{checks_told, keeps_told};
+ghost use Rattle.krs_desk.specs.Steps.{takes_told, puts_told, looks_told, opens_told, picks_told};
+ghost use Rattle.krs_desk.specs.Steps.{posts_told, collects_told, glances_told, grabs_told, answers_told, brings_told};
+ghost use Rattle.krs_desk.specs.Steps.{checks_told, keeps_told};
 ghost use Rattle.krs_desk.specs.Parts.{kept_sight, given_sight};
 
 use crate::board::Tells;
-use crate::note::{Added, Opened};
-use crate::place::Place;
-use crate::sight::Sight;
+use crate::served_call::{Added, Opened};
+use crate::slot::SlotValue;
+use crate::token::Sight;
 use atomic_table::{Join, Split, TableRule};
 use krs_store::Store;
 use std::marker::PhantomData;
@@ -16,15 +16,13 @@ use std::snapshot::Snapshot;
 /// There is one history of all calls, from the state of the store that the desk was opened with.
 pub struct OneOrder;
 
-impl TableRule<Place, Sight, Snapshot<Store>> for OneOrder {
+impl TableRule<SlotValue, Sight, Snapshot<Store>> for OneOrder {
     ghost use Rattle.krs_desk.specs.Rule.{InOneOrder, first_sight};
 
     ghost holds = { λ key. InOneOrder key.value };
 
     ghost first = { λ key. first_sight key.value };
 }
-
-pub type Token = atomic_table::Seat<Place, Sight>;
 
 // The turn is had, or found taken.
 pub(crate) struct Takes;
