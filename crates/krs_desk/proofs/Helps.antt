@@ -27,7 +27,7 @@ use Rattle.krs_desk.specs.Sitting.{Sitting}
 use Rattle.krs_desk.specs.Seated.{Me, opening, part, sitting_of, is_free, HasSlot, IsSeated, Holds, Serves}
 use Rattle.krs_model.specs.Sound.{IsSound}
 use Rattle.krs_desk.specs.Helping.{below, lanes_of, Helps, held_of, Had, HoldsAll, HasBehind, turned_back}
-use Rattle.krs_desk.specs.Helping.{ServesBehind, Progress, Goes, Served, ServesLane}
+use Rattle.krs_desk.specs.Helping.{ServesBehind, Stays, Progress, Goes, Served, ServesLane}
 use Rattle.krs_desk.proofs.Seats.{same_store}
 
 -- The turn is had.
@@ -209,13 +209,15 @@ serves_one m lane moment ask reply next w h is does =
         holds = refl;
         legal = legal_more (opening m) h.last next h.log e h.legal does;
         answers = refl;
-        same_lane = refl;
-        seen = refl;
-        mine = refl;
-        base = refl;
-        flight = refl;
-        taken = refl;
-        found = refl;
+        stays = record {
+          same_lane = refl;
+          seen = refl;
+          mine = refl;
+          base = refl;
+          flight = refl;
+          taken = refl;
+          found = refl;
+        };
         unserving = refl;
         checked = refl;
         own = λ same has. ap (λ b. cond b true p.done) (eq-eqb lane p.lane same);
@@ -247,13 +249,15 @@ serves_none m lane x w h is three =
         holds = h.held ∙ ap (λ l. Some l) (sym (append-nil h.log));
         legal = subst (λ l. IsLegal (opening m) l h.last) (sym (append-nil h.log)) h.legal;
         answers = refl;
-        same_lane = refl;
-        seen = refl;
-        mine = refl;
-        base = refl;
-        flight = refl;
-        taken = refl;
-        found = refl;
+        stays = record {
+          same_lane = refl;
+          seen = refl;
+          mine = refl;
+          base = refl;
+          flight = refl;
+          taken = refl;
+          found = refl;
+        };
         unserving = h.unserving;
         checked = refl;
         own = λ same has.
@@ -277,13 +281,15 @@ starts m h unlooked =
         legal =
             subst (λ l. IsLegal (opening m) l h.last) (sym all ∙ sym (append-nil (held_of (part m).holding))) h.legal;
         answers = refl;
-        same_lane = refl;
-        seen = refl;
-        mine = refl;
-        base = refl;
-        flight = refl;
-        taken = refl;
-        found = refl;
+        stays = record {
+          same_lane = refl;
+          seen = refl;
+          mine = refl;
+          base = refl;
+          flight = refl;
+          taken = refl;
+          found = refl;
+        };
         unserving = h.unserving;
         checked = unlooked;
         done = λ lt. absurd (omega arith);
@@ -292,6 +298,18 @@ starts m h unlooked =
 
 below_more : (lane : ℕ) → below (lane + 1) ≡ below lane ++ lane ∷ []
 below_more lane = ap below (add-one lane)
+
+-- what stays over each of two stretches of a turn stays over both
+stays_on : (p q r : Part) → Stays p q → Stays q r → Stays p r
+stays_on p q r first second = record {
+  same_lane = second.same_lane ∙ first.same_lane;
+  seen = second.seen ∙ first.seen;
+  mine = second.mine ∙ first.mine;
+  base = second.base ∙ first.base;
+  flight = second.flight ∙ first.flight;
+  taken = second.taken ∙ first.taken;
+  found = second.found ∙ first.found;
+}
 
 goes_on :
     (a : State) (p q r : Part) (j k lane : ℕ) (store next : State) → Progress a p j lane q store
@@ -307,17 +325,11 @@ goes_on a p q r j k lane store next g s =
       holds = s.holds ∙ ap (λ l. Some l) all;
       legal = subst (λ l. IsLegal a l next) all s.legal;
       answers = length-append g.events s.events ∙ (λ i. g.answers i + s.answers i);
-      same_lane = s.same_lane ∙ g.same_lane;
-      seen = s.seen ∙ g.seen;
-      mine = s.mine ∙ g.mine;
-      base = s.base ∙ g.base;
-      flight = s.flight ∙ g.flight;
-      taken = s.taken ∙ g.taken;
-      found = s.found ∙ g.found;
+      stays = stays_on p q r g.stays s.stays;
       unserving = s.unserving;
       checked = s.checked ∙ (ap (λ l. l ++ lane ∷ []) g.checked ∙ sym (below_more lane));
       done = λ lt has. dite (ℕ_discrete lane p.lane)
-          (λ (e : lane ≡ p.lane). s.own (e ∙ sym g.same_lane) (λ no. has (sym g.flight ∙ no)))
+          (λ (e : lane ≡ p.lane). s.own (e ∙ sym g.stays.same_lane) (λ no. has (sym g.stays.flight ∙ no)))
           (λ ne. s.done (g.done (omega arith) has));
     }
 
@@ -336,7 +348,7 @@ pub held_at : (m n : Me) (j lane : ℕ) → HoldsAll m → Goes m j lane n → H
 held_at m n j lane h g =
     let same : opening n ≡ opening m = ap opening g.1 in
     let hand : rest m.1 ≡ hand_of (part n).flight (part n).lane =
-    ap (λ (z : Me). rest z.1) h.has ∙ (λ i. hand_of (sym g.2.flight i) (sym g.2.same_lane i)) in
+    ap (λ (z : Me). rest z.1) h.has ∙ (λ i. hand_of (sym g.2.stays.flight i) (sym g.2.stays.same_lane i)) in
     record {
       log = held_of (part m).holding ++ g.2.events;
       last = g.0;
@@ -349,7 +361,7 @@ held_at m n j lane h g =
 pub hand_at :
     (m n : Me) (idle : Bool) (j lane : ℕ) → idle ≡ is_free (part m).flight → Goes m j lane n
     → idle ≡ is_free (part n).flight
-hand_at m n idle j lane hand g = hand ∙ ap (λ f. is_free f) (sym g.2.flight)
+hand_at m n idle j lane hand g = hand ∙ ap (λ f. is_free f) (sym g.2.stays.flight)
 
 -- The turn is given back.
 
@@ -376,19 +388,19 @@ helped_part table desk m log q count next within seen g own c =
     let all : held_of q.holding ≡ log ++ g.events = ap held_of g.holds in record {
       same_table = refl;
       opening = refl;
-      lane = g.same_lane;
-      taken = g.taken;
-      found = g.found;
-      before = subst (Begins (part m).seen) (sym g.base) seen;
+      lane = g.stays.same_lane;
+      taken = g.stays.taken;
+      found = g.stays.found;
+      before = subst (Begins (part m).seen) (sym g.stays.base) seen;
       answered = g.events;
-      seen = all ∙ ap (λ l. l ++ g.events) (sym g.base);
+      seen = all ∙ ap (λ l. l ++ g.events) (sym g.stays.base);
       answers = g.answers;
       last = next;
       legal = subst (λ l. IsLegal (opening m) l next) (sym all) g.legal;
       checked = g.checked;
       done = λ has. g.done within has;
-      flight = g.flight;
-      mine = g.mine;
+      flight = g.stays.flight;
+      mine = g.stays.mine;
       own = own;
     }
 
@@ -417,8 +429,8 @@ helped_seated lane idle m n k w count lanes seated h g is =
     let slots : rest k.1 ≡ hand_of (part m).flight (part m).lane =
     ap (λ (z : Me). rest z.1) g.1 ∙ (ap (λ (z : Me). rest z.1) h.has ∙ ap (λ (z : Me). z.1) seated.rests.0) in
     let open_k : opening k ≡ opening m = ap opening g.1 ∙ ap opening h.has in
-    let flight_is : (part k).flight ≡ (part m).flight = g.2.flight ∙ ap (λ (z : Me). (part z).flight) h.has in
-    let lane_is : (part k).lane ≡ (part m).lane = g.2.same_lane ∙ ap (λ (z : Me). (part z).lane) h.has in
+    let flight_is : (part k).flight ≡ (part m).flight = g.2.stays.flight ∙ ap (λ (z : Me). (part z).flight) h.has in
+    let lane_is : (part k).lane ≡ (part m).lane = g.2.stays.same_lane ∙ ap (λ (z : Me). (part z).lane) h.has in
     let held : held_of (part k).holding ≡ held_of (part n).holding ++ g.2.events = ap held_of g.2.holds in
     subst (λ (z : Me). IsSeated lane idle z) (sym is)
     record {

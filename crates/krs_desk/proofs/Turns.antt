@@ -109,8 +109,8 @@ pub turn_seated :
     → Goes n count lanes k → Finishes k e w → IsSeated lane idle w
 turn_seated lane idle m n k w count lanes e seated h g f =
     let left = has_left m n k w count lanes e h g f in
-    let flight_is : (part k).flight ≡ (part m).flight = g.2.flight ∙ ap (λ (z : Me). (part z).flight) h.has in
-    let lane_is : (part k).lane ≡ (part m).lane = g.2.same_lane ∙ ap (λ (z : Me). (part z).lane) h.has in
+    let flight_is : (part k).flight ≡ (part m).flight = g.2.stays.flight ∙ ap (λ (z : Me). (part z).flight) h.has in
+    let lane_is : (part k).lane ≡ (part m).lane = g.2.stays.same_lane ∙ ap (λ (z : Me). (part z).lane) h.has in
     let hand : m.1 ≡ hand_of (part k).flight (part k).lane =
     ap (λ (z : Me). z.1) seated.rests.0 ∙ (λ i. hand_of (sym flight_is i) (sym lane_is i)) in
     subst (λ (z : Me). IsSeated lane idle z) (sym left.1)
@@ -154,8 +154,8 @@ pub turn_adds :
 turn_adds table same_table m n k w s lane idle count lanes moment ask reply view same seated h g f =
     let e : Event = event_of lane moment ask reply in
     let left = has_left m n k w count lanes e h g f in
-    let lane_is : (part k).lane ≡ (part m).lane = g.2.same_lane ∙ ap (λ (z : Me). (part z).lane) h.has in
-    let mine_is : (part k).mine ≡ (part m).mine = g.2.mine ∙ ap (λ (z : Me). (part z).mine) h.has in
+    let lane_is : (part k).lane ≡ (part m).lane = g.2.stays.same_lane ∙ ap (λ (z : Me). (part z).lane) h.has in
+    let mine_is : (part k).mine ≡ (part m).mine = g.2.stays.mine ∙ ap (λ (z : Me). (part z).mine) h.has in
     let own : events_of (part k).lane (h.log ++ g.2.events) ≡ (part k).mine =
     ap (events_of (part k).lane) (sym left.0) ∙ f.mine in
     let v : Me = (sat (opening m) (put_own (part k) (h.log ++ g.2.events) e), m.1) in
@@ -173,7 +173,7 @@ pub turn_idle :
     → Finishes k e w → (part w).flight ≡ None
 turn_idle m n k w count lanes e quiet h g f =
     ap (λ (z : Me). (part z).flight) f.has
-    ∙ (g.2.flight ∙ (ap (λ (z : Me). (part z).flight) h.has ∙ quiet))
+    ∙ (g.2.stays.flight ∙ (ap (λ (z : Me). (part z).flight) h.has ∙ quiet))
 
 -- each lane's cell was looked at
 pub turn_looked :

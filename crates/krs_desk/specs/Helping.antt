@@ -114,12 +114,8 @@ ServesBehind m event n =
     → (after : State) × (n ≡ (m.0, x ∷ (0, Home after) ∷ hand_of (part m).flight (part m).lane))
     × Step store event after
 
--- the cells of the lanes below `lane` were looked at, and so many calls answered, since the lane p had the turn
-pub record Progress (a : State) (p : Part) (count lane : ℕ) (q : Part) (store : State) : Type 0 where
-  pub events : List Event
-  pub holds : q.holding ≡ Some (held_of p.holding ++ events)
-  pub legal : IsLegal a (held_of p.holding ++ events) store
-  pub answers : length events ≡ count
+-- what a lane knows of itself, and of what it has seen, is the same
+pub record Stays (p q : Part) : Type 0 where
   pub same_lane : q.lane ≡ p.lane
   pub seen : q.seen ≡ p.seen
   pub mine : q.mine ≡ p.mine
@@ -127,6 +123,14 @@ pub record Progress (a : State) (p : Part) (count lane : ℕ) (q : Part) (store 
   pub flight : q.flight ≡ p.flight
   pub taken : q.taken ≡ p.taken
   pub found : q.found ≡ p.found
+
+-- the cells of the lanes below `lane` were looked at, and so many calls answered, since the lane p had the turn
+pub record Progress (a : State) (p : Part) (count lane : ℕ) (q : Part) (store : State) : Type 0 where
+  pub events : List Event
+  pub holds : q.holding ≡ Some (held_of p.holding ++ events)
+  pub legal : IsLegal a (held_of p.holding ++ events) store
+  pub answers : length events ≡ count
+  pub stays : Stays p q
   pub unserving : q.serving ≡ None
   pub checked : q.checked ≡ below lane
   pub done : p.lane < lane → p.flight ≢ None → q.done ≡ true
@@ -145,13 +149,7 @@ pub record Served (a : State) (p : Part) (at count : ℕ) (q : Part) (store : St
   pub holds : q.holding ≡ Some (log ++ events)
   pub legal : IsLegal a (log ++ events) store
   pub answers : length events ≡ count
-  pub same_lane : q.lane ≡ p.lane
-  pub seen : q.seen ≡ p.seen
-  pub mine : q.mine ≡ p.mine
-  pub base : q.base ≡ p.base
-  pub flight : q.flight ≡ p.flight
-  pub taken : q.taken ≡ p.taken
-  pub found : q.found ≡ p.found
+  pub stays : Stays p q
   pub unserving : q.serving ≡ None
   pub checked : q.checked ≡ p.checked ++ at ∷ []
   pub own : at ≡ p.lane → p.flight ≢ None → q.done ≡ true

@@ -75,7 +75,7 @@ go_on-reply-requires-clause-idle c =
     let view =
     given_view seat.token.table_id c.give_back.new.token.table_id seat.served seat.token.me m c.args.seat.now
     c.seat.view_is c.give_back.ensures.table c.give_back.ensures.given in
-    c.serve_all-answered.ensures.gone.2.flight
+    c.serve_all-answered.ensures.gone.2.stays.flight
     ∙ (ap (λ (k : Me). (part k).flight) (c.take.ensures.had c.if-take-ne-FREE.false).has
     ∙ (ap (λ (s : Sitting). s.part.flight) view ∙ c.requires.idle))
 
@@ -86,7 +86,7 @@ go_on-reply-requires-clause-lane c =
     let seated =
     given_seated seat.lane seat.idle seat.served seat.token.me m c.seat.invariant.0 c.give_back.ensures.given in
     seated.numbered
-    ∙ sym (c.serve_all-answered.ensures.gone.2.same_lane
+    ∙ sym (c.serve_all-answered.ensures.gone.2.stays.same_lane
     ∙ ap (λ (k : Me). (part k).lane) (c.take.ensures.had c.if-take-ne-FREE.false).has)
 
 pub finish-requires-clause-held : goal.finish-requires-clause-held
@@ -106,7 +106,7 @@ finish-requires-clause-idle c =
     let view =
     given_view seat.token.table_id c.give_back.new.token.table_id seat.served seat.token.me m c.args.seat.now
     c.seat.view_is c.give_back.ensures.table c.give_back.ensures.given in
-    c.serve_all-answered.ensures.gone.2.flight
+    c.serve_all-answered.ensures.gone.2.stays.flight
     ∙ (ap (λ (k : Me). (part k).flight) (c.take.ensures.had c.if-take-ne-FREE.false).has
     ∙ (ap (λ (s : Sitting). s.part.flight) view ∙ c.requires.idle))
 
@@ -117,7 +117,7 @@ finish-requires-clause-lane c =
     let seated =
     given_seated seat.lane seat.idle seat.served seat.token.me m c.seat.invariant.0 c.give_back.ensures.given in
     seated.numbered
-    ∙ sym (c.serve_all-answered.ensures.gone.2.same_lane
+    ∙ sym (c.serve_all-answered.ensures.gone.2.stays.same_lane
     ∙ ap (λ (k : Me). (part k).lane) (c.take.ensures.had c.if-take-ne-FREE.false).has)
 
 pub invariant_of-seat-then-may_keep : goal.invariant_of-seat-then-may_keep
@@ -134,7 +134,7 @@ invariant_of-seat-then-may_keep c =
     held_at c.take.new.token.me c.serve_all-answered.new.token.me _ _ (had_held seat.lane seat.idle m _ seated had).0
     c.serve_all-answered.ensures.gone in
     let quiet =
-    c.serve_all-answered.ensures.gone.2.flight
+    c.serve_all-answered.ensures.gone.2.stays.flight
     ∙ (ap (λ (k : Me). (part k).flight) had.has ∙ (ap (λ (s : Sitting). s.part.flight) view ∙ c.requires.idle)) in
     let w = c.go_on-reply.new.token.me in (
       placed_kept seat.lane seat.idle 1 w (λ no. absurd (omega arith))
