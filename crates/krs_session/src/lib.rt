@@ -7,18 +7,17 @@ mod asking;
 mod clock;
 mod desk;
 mod ended;
-mod ends;
 mod gate;
 mod keeper;
 mod lack;
 mod laws;
 mod over;
 mod session;
+mod source_and_sink;
 mod writing;
 
 pub use clock::Clock;
 pub use ended::Ended;
-pub use ends::{Failed, Sink, Source};
 pub use gate::{Gate, Point};
 pub use keeper::Keeper;
 pub use laws::{
@@ -26,3 +25,4 @@ pub use laws::{
 };
 pub use over::Over;
 pub use session::run;
+pub use source_and_sink::{Failed, Sink, Source};

@@ -1,3 +1,4 @@
+//! The two ends of a connection, as a session meets them.
 ghost use Rattle.std.specs.Prelude.{◌≡◌, ◌<◌, ◌≤◌, ◌+◌, ℕ, List, [], ◌++◌, length, take, IfOk, OnOk, OnErr};
 
 /// An end of a connection failed.
