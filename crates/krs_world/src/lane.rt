@@ -30,21 +30,35 @@ impl Slot {
     }
 }
 
-/// What a seat knows, by lengths of the history.
+/// What a seat knows, by lengths of the history: `Part` says what of.
 #[derive(Drop)]
 pub(crate) struct Lane {
+    /// Its number.
     pub lane: u32,
+
+    /// How much of the history it has seen.
     pub seen: usize,
+
+    /// How long the history was as it last took the turn.
     pub base: usize,
+
+    /// It has the turn.
     pub holding: bool,
+
+    /// How often it took the turn, and how often it found the turn taken.
     pub taken: u64,
     pub found: u64,
 
     /// What it had seen as it posted its call.
     pub after: usize,
 
+    /// Its cell.
     pub slot: Slot,
+
+    /// The lanes whose cells it answered, or found not posted, since it took the turn.
     pub checked: Vec<u32>,
+
+    /// It answered its own cell, or found it answered.
     pub done: bool,
 }
 
