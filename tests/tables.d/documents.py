@@ -139,26 +139,12 @@ def completion_places(program, words):
 
 
 def bench_operations():
-    """Of krs_bench: the word of each operation, and its lines."""
-    rows = re.findall(r'^ +Operation\("(\w+)", \d+, \d+, "(.*?)", "(.*?)"\),$',
+    """Of krs_bench: each operation, with the lines of its two asks and what they are counted as; None where that is
+    elsewhere."""
+    rows = re.findall(r'^ +Operation\("(\w+)", \d+, \d+, \("(.*?)", "(.*?)"\),\s+(?:NONE|\("(.*?)", "(.*?)"\))\),$',
                       text_of("crates/krs_bench/src/operation.rt"), re.M)
-    return {word: (first, second) for word, first, second in rows}
-
-
-def bench_usage():
-    """The operations that its usage names."""
-    text = text_of("crates/krs_bench/stdout").split("OPERATION is one of these:\n")[1].split("COUNT is")[0]
-    return [word for line in text.splitlines() for word in re.split(r"  +", line.strip())[0].split(", ")]
-
-
-def counted_rows():
-    """Of bench/instructions: the operations with the names of their asks, in order; None for one that isn't counted."""
-    rows = re.search(r"^rows=\(\n(.*?)^\)", text_of("bench/instructions"), re.M | re.S)[1]
-    found = {}
-    for row in re.findall(r"'(.*?)'", rows):
-        word, *names = row.split("|")
-        found[word] = tuple(None if name in ("-", "") else name for name in (*names, "")[:2])
-    return found
+    return {word: [(line, None if name in ("-", "") else name) for line, name in (asks[:2], asks[2:])]
+            for word, *asks in rows}
 
 
 def costs_tables():

@@ -155,18 +155,15 @@ def try_c():
 
 
 def try_bench():
-    operations, counted = documents.bench_operations(), documents.counted_rows()
+    operations = documents.bench_operations()
     named, timed = documents.costs_tables()
-    compare("bench/instructions, operations", sorted(operations), sorted(counted))
-    compare("the usage of krs_bench", sorted(operations), sorted(documents.bench_usage()))
     compare("COSTS, operations", sorted(operations), sorted(timed))
-    compare("COSTS, names of asks", [name for pair in counted.values() for name in pair if name], named)
+    counted = [(line, name) for lines in operations.values() for line, name in lines if name]
+    compare("COSTS, names of asks", [name for _, name in counted], named)
     asks = {command.word: command.ask for command in COMMANDS}
-    for word, lines in operations.items():
-        for line, name in zip(lines, counted.get(word, ())):
-            if name:
-                compare(f"what `{word}` counts as {name}", asks.get(line.split(" ")[0]),
-                        word_of(name.split(",")[0].split(" ")[0]))
+    for line, name in counted:
+        compare(f"what `{line}` counts as {name}", asks.get(line.split(" ")[0]),
+                word_of(name.split(",")[0].split(" ")[0]))
     compare("asks that are counted", sorted(ask.word for ask in ASKS),
             sorted({word_of(name.split(",")[0].split(" ")[0]) for name in named}))
 

@@ -29,30 +29,13 @@ const COUNTS: [u32; 3] = [10, 1_000, 10_000];
 const ROUNDS: u32 = 1_000;
 
 const USAGE: &str = "\
-usage: krs_bench all | OPERATION [COUNT] | fill [COUNT] | growth [COUNT] | desk | count OPERATION COUNT
-OPERATION is one of these:
-  read, describe, id, update, chown, setperm, timeout        READ, .. of a key
-  list                   READ of the user keyring
-  match                  ADD of a key that is there
-  add                    ADD of a new key, and UNLINK of it
-  search, request        SEARCH of a key in the user keyring; REQUEST of it
-  link                   LINK and UNLINK of one key
-  apart                  LINK and UNLINK of one key in a small keyring, where another uid has the links
-  move                   MOVE of a key from the user keyring into a small one, and back
-  restrict               ADD of a new keyring in a small keyring, and RESTRICT_KEYRING of it
-  clear, revoke, invalidate      ADD of a new key in a small keyring, and CLEAR of that, or REVOKE or INVALIDATE of it
-  watch                  WATCH of a key, and the end of that
-  watched                UPDATE of a watched key, and READ_QUEUE of its record
-  filter, queue          SET_FILTER; OPEN_QUEUE and CLOSE_QUEUE
-  hello, thread, fork    HELLO of a new uid, .. and EXIT of the context
-  exec                   THREAD, and EXEC, which ends the context
-  join, session          JOIN of a keyring by its name; JOIN without a name
-  leave                  HELLO of another client, and its LEAVE
+usage: krs_bench all | OPERATION [COUNT] | fill [COUNT] | growth [COUNT] | desk | rows | count OPERATION COUNT
 COUNT is how many keys the user keyring links: 10, 1000 and 10000 in turn if it is left out. Prints the nanoseconds
 of an ask, or of two, in the store, and through a session over memory: the median of ten runs. Payloads have 32 bytes.
   fill      ADD of keys one after the other, and LEAVE with all of them
   growth    a table of all operations in stores with little and with much; or where the keyring has COUNT links
   desk      READ at a desk: one thread by try_call, and 1, 2, 4, 8 and 16 threads that call for a second
+  rows      the operations, a line each: the word, what its two asks are counted as (- is elsewhere), and the asks
   count     makes an operation a hundred times, for bench/instructions
   all       all operations, fill and growth
 ";
@@ -76,8 +59,21 @@ fn main(rt: HostRuntime) -> Result<()> {
     if name == "desk" {
         print_desk(&rt)?;
     }
-    if !is_operation && name != "fill" && name != "growth" && name != "desk" {
+    if name == "rows" {
+        print_operation_rows(&rt)?;
+    }
+    if !is_operation && name != "fill" && name != "growth" && name != "desk" && name != "rows" {
         rt.print(USAGE)?;
+    }
+    Ok(())
+}
+
+/// The operations: what their asks are counted as, for bench/instructions, and the asks.
+fn print_operation_rows<R: AllocGlobal + Print>(rt: &R) -> Result<()> {
+    for operation in operations() {
+        let (word, (first, second)) = (operation.word(), operation.counted());
+        let (ask, other) = (operation.first(), operation.second());
+        print!(rt; "{word}|{first}|{second}|{ask}|{other}\n")?;
     }
     Ok(())
 }
