@@ -1,6 +1,6 @@
-/* calls SECONDS: calls a second of libkeyutils.so.1 and libkeyretain.so.0 on the daemon that KEYRETAIN_SOCKET names, and
- * what a call takes of this process's processor time. A line for each figure: its name, calls a second, microseconds a
- * call, microseconds of processor time a call. Calls that a library doesn't have are left out. */
+/* calls SECONDS: calls a second of libkeyutils.so.1 and libkeyretain.so.0 on the daemon that KEYRETAIN_SOCKET names,
+ * and what a call takes of this process's processor time. A line for each figure: its name, calls a second,
+ * microseconds a call, microseconds of processor time a call. Calls that a library doesn't have are left out. */
 #include <pthread.h>
 #include <stdint.h>
 #include <stdio.h>

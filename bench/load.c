@@ -1,10 +1,10 @@
 /* load PATH ASK CONNECTIONS DEPTH SECONDS [VERSION [BESIDE]]: prints how many asks a second a server on a Unix socket
- * answers, how many microseconds the replies took that half of all, and 99 of a hundred, came within, and how many asks a
- * second it answers those beside. ASK is echo, read, update or add (ADD and UNLINK in turn); or redis-read, redis-update,
- * memcached-read or memcached-update, for those servers. Each connection has a thread, which sends DEPTH asks with one
- * write, reads their replies, and goes on so for SECONDS. VERSION is that of the frames, 1 or 2; 1 without it. In version
- * 2 the tags of a connection are 1, 2, 3 and so on. BESIDE further connections, none without it, ask the same with 64
- * asks a write, for as long as the others do; the first three figures are of the others alone. */
+ * answers, how many microseconds the replies took that half of all, and 99 of a hundred, came within, and how many asks
+ * a second it answers those beside. ASK is echo, read, update or add (ADD and UNLINK in turn); or redis-read,
+ * redis-update, memcached-read or memcached-update, for those servers. Each connection has a thread, which sends DEPTH
+ * asks with one write, reads their replies, and goes on so for SECONDS. VERSION is that of the frames, 1 or 2; 1
+ * without it. In version 2 the tags of a connection are 1, 2, 3 and so on. BESIDE further connections, none without it,
+ * ask the same with 64 asks a write, for as long as the others do; the first three figures are of the others alone. */
 #include <pthread.h>
 #include <stdatomic.h>
 #include <stdbool.h>

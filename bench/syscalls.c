@@ -1,5 +1,5 @@
-/* syscalls COUNT ASK [LIBRARY]: makes a call so many times, and prints how many nanoseconds each took, a line each: by the
- * system call itself, or by the functions of a libkeyutils. For bench/syscalls. */
+/* syscalls COUNT ASK [LIBRARY]: makes a call so many times, and prints how many nanoseconds each took, a line each: by
+ * the system call itself, or by the functions of a libkeyutils. For bench/syscalls. */
 #define _GNU_SOURCE
 #include <dlfcn.h>
 #include <linux/keyctl.h>

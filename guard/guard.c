@@ -1,6 +1,6 @@
-/* guard.c: keyretain-guard stands before a keyretaind that believes its clients, asks the kernel who each of them is, and
- * lets through only what they may say of themselves. This thread accepts clients, counts them, and ends those that stay
- * silent; each place for one has a thread of its own, which begins before the first client comes. */
+/* guard.c: keyretain-guard stands before a keyretaind that believes its clients, asks the kernel who each of them is,
+ * and lets through only what they may say of themselves. This thread accepts clients, counts them, and ends those that
+ * stay silent; each place for one has a thread of its own, which begins before the first client comes. */
 #define _GNU_SOURCE
 #include <errno.h>
 #include <fcntl.h>
@@ -128,8 +128,8 @@ static void open_events(void) {
     if (signals < 0 || freed < 0) fail("error: socket", NO_SOCKET);
 }
 
-/* Two for each place, and some more. Where so many aren't to be had there are fewer places: else clients could take all,
- * and none would be left to reach the daemon. */
+/* Two for each place, and some more. Where so many aren't to be had there are fewer places: else clients could take
+ * all, and none would be left to reach the daemon. */
 static void fit_descriptors(void) {
     struct rlimit limit;
     rlim_t wanted = 2 * options.connections + 32, taken = SPARE;

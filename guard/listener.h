@@ -5,8 +5,8 @@
 #include <stdbool.h>
 #include <sys/un.h>
 
-/* Opens those of the three standard descriptors that are closed: a socket would get their number, and what is told there.
- * False where that can't be done. */
+/* Opens those of the three standard descriptors that are closed: a socket would get their number, and what is told
+ * there. False where that can't be done. */
 bool fill_standard_descriptors(void);
 
 /* False where the path is too long, or empty. */
@@ -15,9 +15,9 @@ bool put_address(struct sockaddr_un *address, const char *path);
 /* The socket that systemd has passed (sd_listen_fds(3)), or -1. */
 int take_passed_listener(void);
 
-/* Whether clients may send descriptors (SCM_RIGHTS). Those that nobody takes are closed by whoever reads or closes their
- * socket, which may wait for as long as their sender likes: for what a socket has still to send (SO_LINGER), or for a file
- * system that the sender serves. */
+/* Whether clients may send descriptors (SCM_RIGHTS). Those that nobody takes are closed by whoever reads or closes
+ * their socket, which may wait for as long as their sender likes: for what a socket has still to send (SO_LINGER), or
+ * for a file system that the sender serves. */
 enum descriptors { DESCRIPTORS_REFUSED, DESCRIPTORS_TAKEN };
 
 /* From now on clients that connect can send none: EPERM. Linux before 6.16 can't do that. */

@@ -152,8 +152,8 @@ static bool take_ids(const struct launch *launch) {
            syscall(SYS_setresgid, gid, gid, gid) == 0 && syscall(SYS_setresuid, uid, uid, uid) == 0;
 }
 
-/* As its ids have changed nobody but root looks at it. But where fs.suid_dumpable is 2, as collectors of crashes set it, a
- * signal of the user's would have all of it written to a file. */
+/* As its ids have changed nobody but root looks at it. But where fs.suid_dumpable is 2, as collectors of crashes set
+ * it, a signal of the user's would have all of it written to a file. */
 static bool keep_no_core(void) { return prctl(PR_SET_DUMPABLE, 0, 0, 0, 0) == 0; }
 
 /* All as at first, and none held back. */

@@ -29,8 +29,8 @@ sys.dont_write_bytecode = True
 # crates hold statements alone: what stands above krs_store reads no proof of it, and nothing of the crates of asks. The
 # wrong bodies of such a crate are tried over no proof of it, and so take longer.
 CUT = ("krs_store",)
-# These read much for the little that they prove. Each job of a check reads it again: four jobs took three times as much of
-# a processor as one, and no less time by the clock.
+# These read much for the little that they prove. Each job of a check reads it again: four jobs took three times as much
+# of a processor as one, and no less time by the clock.
 READ_MUCH = ("krs_store", "krs_serve", "krs_bench")
 ONE_JOB = ["--jobs", "1"]
 # The memory, in KiB, that the largest check takes.

@@ -95,8 +95,8 @@ static int spawn(const struct pipes *pipes, char *const words[], pid_t *started)
 }
 
 /* Mostly it has ended before its answer came. Who runs as the user may have stopped it, and could so stop a program of
- * root's that has taken the user's effective uid: it is left then. A program that ignores SIGCHLD, or waits for any child
- * in its handler, may have reaped it before. */
+ * root's that has taken the user's effective uid: it is left then. A program that ignores SIGCHLD, or waits for any
+ * child in its handler, may have reaped it before. */
 static void reap(pid_t started, int64_t deadline) {
     pid_t ended;
     while ((ended = waitpid(started, NULL, WNOHANG)) == 0 || (ended < 0 && errno == EINTR)) {

@@ -215,8 +215,8 @@ static bool read_attributes(long id, struct attributes *attributes) {
            sscanf(text, "keyring;%u;%*u;%x;", &attributes->owner, &attributes->mask) == 2;
 }
 
-/* Whether the session that was joined by its name is this user's alone: see kr_begin_session. Which uid this process has
- * to the daemon, its user keyring tells. */
+/* Whether the session that was joined by its name is this user's alone: see kr_begin_session. Which uid this process
+ * has to the daemon, its user keyring tells. */
 static bool is_session_private(void) {
     struct attributes session, user;
     bool are_known = read_attributes(KEY_SPEC_SESSION_KEYRING, &session) && read_attributes(KEY_SPEC_USER_KEYRING, &user);

@@ -95,8 +95,8 @@ bool proc_read_status(pid_t thread, struct proc_status *status) {
     return true;
 }
 
-/* NStgid has the numbers of a process in the namespace of /proc and in those within it, down to its own. A kernel without
- * PID namespaces doesn't say it. */
+/* NStgid has the numbers of a process in the namespace of /proc and in those within it, down to its own. A kernel
+ * without PID namespaces doesn't say it. */
 bool proc_is_ours(void) {
     char text[4096];
     int number, within;
@@ -157,7 +157,8 @@ static uint64_t find_auxiliary(const char *bytes, size_t room, size_t width, uin
     return 0;
 }
 
-/* The first is a type, which is a small number, and a value that isn't 0: of a program of 32 bits both are in one word. */
+/* The first is a type, which is a small number, and a value that isn't 0: of a program of 32 bits both are in one
+ * word. */
 bool proc_is_secure(pid_t process, uint32_t *uid) {
     char bytes[1024] = "";
     uint64_t first;
@@ -318,7 +319,8 @@ static pid_t find_in_namespace(int namespace, pid_t process) {
     return process;
 }
 
-/* The same in our pid namespace. What runs in a container may make user namespaces too: they are another user's there. */
+/* The same in our pid namespace. What runs in a container may make user namespaces too: they are another user's
+ * there. */
 static pid_t find_in_our_pids(pid_t thread) {
     uid_t maker;
     int outermost = open_outermost(thread, "user");

@@ -24,8 +24,8 @@ struct proc_status {
     struct kr_identity identity;
 };
 
-/* Whether the numbers in /proc are those that this process gives and is told. They are another PID namespace's where one
- * was made, and no /proc mounted for it: then each would mean some other process. False with errno. */
+/* Whether the numbers in /proc are those that this process gives and is told. They are another PID namespace's where
+ * one was made, and no /proc mounted for it: then each would mean some other process. False with errno. */
 bool proc_is_ours(void);
 
 /* False where there is no such thread, or it may not be looked at. */
@@ -37,15 +37,16 @@ pid_t proc_parent(pid_t process);
 /* Whether a process was forked and has executed nothing since. */
 bool proc_has_only_forked(pid_t process);
 
-/* A number of what a process executes, by where that was put in memory; 0 where it isn't known. Another execve(2) has another
- * one, unless the process has seen to it that nothing is put at random, which it can't for what gains rights. */
+/* A number of what a process executes, by where that was put in memory; 0 where it isn't known. Another execve(2) has
+ * another one, unless the process has seen to it that nothing is put at random, which it can't for what gains
+ * rights. */
 uint64_t proc_image(pid_t process);
 
 /* Whether a process may have its parent's memory, as after vfork(2). */
 bool proc_may_share_memory(pid_t process, pid_t parent);
 
-/* Whether a process executes something that runs with more rights than its caller's (AT_SECURE of getauxval(3)), as what is
- * set-uid does; and the real uid that it was executed with, which may be another one now. */
+/* Whether a process executes something that runs with more rights than its caller's (AT_SECURE of getauxval(3)), as
+ * what is set-uid does; and the real uid that it was executed with, which may be another one now. */
 bool proc_is_secure(pid_t process, uint32_t *uid);
 
 /* A descriptor, which stays bound to the process or thread whoever gets the number later; -1 with errno. epoll(7)
@@ -54,8 +55,8 @@ int proc_open(pid_t process);
 int proc_open_thread(pid_t thread);
 bool proc_has_ended(int descriptor);
 
-/* Calls `visit` for each process that there is. False with errno where that isn't known of all. One that lives all the time
- * isn't left out, as the lists of children in proc(5) leave some out when others end. */
+/* Calls `visit` for each process that there is. False with errno where that isn't known of all. One that lives all the
+ * time isn't left out, as the lists of children in proc(5) leave some out when others end. */
 bool proc_each(void (*visit)(pid_t process, void *data), void *data);
 
 /* The same for those below a process, each after its parent. */

@@ -159,8 +159,8 @@ static int add_listener(int descriptor) {
     return 0;
 }
 
-/* A runtime, or the agent, may have it for a moment longer: then epoll(7) doesn't forget it by itself, and would go on to
- * tell of an entry that is freed. */
+/* A runtime, or the agent, may have it for a moment longer: then epoll(7) doesn't forget it by itself, and would go on
+ * to tell of an entry that is freed. */
 static void end_listener(struct listener *listener) {
     struct listener **at = &all.listeners;
     while (*at != listener) at = &(*at)->next;

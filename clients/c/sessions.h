@@ -56,14 +56,15 @@ bool session_is_lost(const struct session *session);
 struct session *session_use(struct session *session);
 void session_let_go(struct session *session);
 
-/* Joins the session of this name in the context of this identity, or one of its own for NULL: NULL with errno. The process
- * that does so has these uids, and `starter` as in `struct session`. */
+/* Joins the session of this name in the context of this identity, or one of its own for NULL: NULL with errno. The
+ * process that does so has these uids, and `starter` as in `struct session`. */
 struct session *session_join(const struct context *context, struct user *user, const uint32_t uids[PROC_IDS],
                              const char *name, uint32_t starter);
 
 /* Whether a session was begun for this uid: by it, or by a process that can be it, as a login does; or it is the first
- * of a container, which is all users'. A program that runs set-uid can be its caller too, but begins none for that. So what
- * its caller's processes could say by themselves, as a tag, is believed only where the session was begun as this uid. */
+ * of a container, which is all users'. A program that runs set-uid can be its caller too, but begins none for that. So
+ * what its caller's processes could say by themselves, as a tag, is believed only where the session was begun as this
+ * uid. */
 bool session_is_of(const struct session *session, uint32_t uid);
 bool session_was_begun_as(const struct session *session, uint32_t uid);
 

@@ -201,8 +201,8 @@ static struct process *add_process(pid_t id, int descriptor, struct session *ses
     return process;
 }
 
-/* The entry of a living process. One whose number another may have is behind that one's; epoll(7) tells its end, and not
- * before the call that is served, as this may be its own. */
+/* The entry of a living process. One whose number another may have is behind that one's; epoll(7) tells its end, and
+ * not before the call that is served, as this may be its own. */
 static struct process *find_process(pid_t id) {
     struct process *process = *bucket_of(id);
     while (process && process->id != id) process = process->next;
@@ -329,18 +329,18 @@ static struct process *find_ancestor(pid_t parent) {
     return ancestor;
 }
 
-/* Whether a process that isn't of its ancestor's uid may have that one's session: not where it was there before, as its mark
- * tells. Where that can't be read the session must have been begun for the process's uid, as without a tag. */
+/* Whether a process that isn't of its ancestor's uid may have that one's session: not where it was there before, as its
+ * mark tells. Where that can't be read the session must have been begun for the process's uid, as without a tag. */
 static bool is_handed_down(pid_t id, const struct process *ancestor, enum tag tag, uid_t uid) {
     bool is_of = session_is_of(ancestor->first->session, uid);
     if (tag == TAG_UNREADABLE) return is_of;
     return (tag == TAG_READ || is_of) && session_may_be_handed_down(id, ancestor->id, ancestor->mark);
 }
 
-/* The session of the tag, or without one of the nearest ancestor that is known; of what has neither the first, as long as
- * there was no other. It must not be another user's, whose tag anybody could copy: unless there was never another
- * session, it was begun as the process's uid, or the ancestor has it too and is of that uid or hands it down. Else it is
- * lost. */
+/* The session of the tag, or without one of the nearest ancestor that is known; of what has neither the first, as long
+ * as there was no other. It must not be another user's, whose tag anybody could copy: unless there was never another
+ * session, it was begun as the process's uid, or the ancestor has it too and is of that uid or hands it down. Else it
+ * is lost. */
 static struct session *inherited(pid_t id, pid_t parent, uid_t uid) {
     struct session *session;
     enum tag tag = session_of_tag(id, &session);
@@ -403,10 +403,10 @@ static bool visit_below(struct round *round, void (*visit)(pid_t, void *)) {
     return !round->has_failed;
 }
 
-/* Before a process changes its session, all below it is marked, for none of it has the new one. Those that are not known
- * are given what they have: those that have no tag, and those of other users. What they fork meanwhile is as they are; but
- * it may be left to the process above, or be made its child, and then wants the same. False with errno where that can't be
- * done: then the session must not be changed. */
+/* Before a process changes its session, all below it is marked, for none of it has the new one. Those that are not
+ * known are given what they have: those that have no tag, and those of other users. What they fork meanwhile is as they
+ * are; but it may be left to the process above, or be made its child, and then wants the same. False with errno where
+ * that can't be done: then the session must not be changed. */
 static bool settle_descendants(struct process *process) {
     struct round round = { .above = process, .mark = sessions_new_mark() };
     bool has_none = !proc_may_have_children(process->id), goes_on = has_none || visit_below(&round, settle_unknown);
@@ -702,8 +702,8 @@ static bool may_be_given(const struct proc_status *status) {
            are_all(status->gids, all.own_gids[PROC_IDS - 1]);
 }
 
-/* The caller's parent, if it may be given a session, and is no init. It is bound before it is read by its number, and is
- * the caller's parent still afterwards. */
+/* The caller's parent, if it may be given a session, and is no init. It is bound before it is read by its number, and
+ * is the caller's parent still afterwards. */
 static struct process *have_parent(void) {
     struct proc_status status;
     pid_t child = all.task->process->id, parent = proc_parent(child);

@@ -58,8 +58,8 @@ def entries(words):
 
 # ---- The commands
 
-# Of each: how often it is drawn, whether keyctl(2) and its kin can ask it, how its words are drawn (draw.py), and its ask
-# with what reads each value, or the value itself.
+# Of each: how often it is drawn, whether keyctl(2) and its kin can ask it, how its words are drawn (draw.py), and its
+# ask with what reads each value, or the value itself.
 COMMANDS = {
     "add": (16, True, lambda it: f"{it.type()} {it.name()} {it.data()} {it.ring()}", "ADD", text, text, data, key),
     "newring": (8, True, lambda it: f"{it.one('ring', 'r2', 'r3', '.dot')} {it.ring()}",

@@ -1,5 +1,5 @@
-/* kept: what a child of fork(2) finds of the serials of daemons that are gone, which another thread changes at that moment.
- * It has free(3) look at them: what is freed there mustn't be what they have. */
+/* kept: what a child of fork(2) finds of the serials of daemons that are gone, which another thread changes at that
+ * moment. It has free(3) look at them: what is freed there mustn't be what they have. */
 #include <malloc.h>
 
 #include "serials.h"

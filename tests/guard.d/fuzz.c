@@ -1,7 +1,8 @@
-/* fuzz SECONDS SEED: random streams of asks and replies through the guard's rule, whole and in pieces. Both must pass the
- * same, and what passes is read by a plain reader of frames that was written apart from the rule, after docs/FORMAT.md:
- * each HELLO in it is the peer's or one that the daemon refuses, and each frame is the client's but for a void HELLO's
- * uid. Replies are made up for what passed and screened in pieces too. With -DFUZZER it is a target of libFuzzer. */
+/* fuzz SECONDS SEED: random streams of asks and replies through the guard's rule, whole and in pieces. Both must pass
+ * the same, and what passes is read by a plain reader of frames that was written apart from the rule, after
+ * docs/FORMAT.md: each HELLO in it is the peer's or one that the daemon refuses, and each frame is the client's but for
+ * a void HELLO's uid. Replies are made up for what passed and screened in pieces too. With -DFUZZER it is a target of
+ * libFuzzer. */
 #include <assert.h>
 #include <stdio.h>
 #include <stdlib.h>

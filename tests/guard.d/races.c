@@ -1,5 +1,5 @@
-/* races.c: for the thread sanitizer, which the proved rule has not been built with: shows it that each step changes what
- * is known of a connection. Linked with --wrap for both. */
+/* races.c: for the thread sanitizer, which the proved rule has not been built with: shows it that each step changes
+ * what is known of a connection. Linked with --wrap for both. */
 #include "krs_screen.h"
 
 size_t __real_krs_screen_c_ask(struct screen *screen, const struct screen_peer *peer, const uint32_t *groups, size_t count,

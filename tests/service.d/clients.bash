@@ -111,8 +111,8 @@ are_woken() {
   kill_daemon KILL
 }
 
-# keeps_all SIZE CLIENTS [ASK]: so many clients fill the memory of a daemon with payloads of so many bytes, and then with
-# what the ask that is named takes. What is too much is refused with ENOMEM, no connection ends and no key is lost.
+# keeps_all SIZE CLIENTS [ASK]: so many clients fill the memory of a daemon with payloads of so many bytes, and then
+# with what the ask that is named takes. What is too much is refused with ENOMEM, no connection ends and no key is lost.
 keeps_all() {
   start
   is "little memory, $2 clients with payloads of $1 bytes, ${3:-ADD of new keys alone}" kept \
@@ -175,8 +175,8 @@ try_passing_causes() {
   is_served 'accepts that failed while nobody was served' 1
 }
 
-# A cause that passes, and lasts: accepts are tried for ten seconds where no connection is served, and for as long as one
-# is.
+# A cause that passes, and lasts: accepts are tried for ten seconds where no connection is served, and for as long as
+# one is.
 try_lasting_causes() {
   injecting with-all-failing EMFILE 1+
   injecting with-many-failing EMFILE 2..120

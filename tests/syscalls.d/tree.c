@@ -681,8 +681,8 @@ static void copy_tag(pid_t process) {
     if (soft == 0 || !set_soft_limit(soft)) _exit(2);
 }
 
-/* Another user's process takes the tag of one that has joined a session of its own, for a child; or of a program that runs
- * set-uid, which that user has started. */
+/* Another user's process takes the tag of one that has joined a session of its own, for a child; or of a program that
+ * runs set-uid, which that user has started. */
 static int take_others_tag(bool is_set_uid) {
     pid_t other = getpid();
     begin();
@@ -774,8 +774,8 @@ static int join_and_give(int to) {
     return pause();
 }
 
-/* Many children of another user, of which every other one ends while their parent joins a session: lists of children leave
- * some out then. */
+/* Many children of another user, of which every other one ends while their parent joins a session: lists of children
+ * leave some out then. */
 static int join_among(int count) {
     pid_t parent = getpid();
     int in = 0;
@@ -799,8 +799,8 @@ static int join_among(int count) {
     return printf("%s, %d let in\n", joined > 0 ? "joined" : "refused", in) < 0;
 }
 
-/* As a login does: root joins a session as the user, or with that one's uid as its real one, is root again, and starts the
- * user's program. */
+/* As a login does: root joins a session as the user, or with that one's uid as its real one, is root again, and starts
+ * the user's program. */
 static int log_in(bool is_real) {
     begin();
     if (fork() == 0) {
