@@ -34,7 +34,7 @@ use Rattle.krs_desk.specs.Rule.{CellIs, InOneOrder}
 use Rattle.krs_desk.specs.Moves as move
 use Rattle.krs_desk.specs.Moves.{Move, after, IsMadeAt}
 use Rattle.krs_desk.specs.Running.{Board, IsStepped, IsLeft, IsOutAt, StepsAsNamed}
-use Rattle.krs_desk.proofs.Steps.{turn, view_at, views_set}
+use Rattle.krs_desk.proofs.TurnSteps.{turn, view_at, views_set}
 use Rattle.krs_desk.proofs.Posts.{answered_of}
 use Rattle.krs_desk.proofs.Serves.{posted_of}
 use Rattle.krs_desk.proofs.Seen.{last_step}

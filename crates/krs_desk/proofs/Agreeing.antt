@@ -26,7 +26,7 @@ use Rattle.krs_desk.specs.Rule.{IsAtHome, CellIs, InOneOrder}
 use Rattle.krs_desk.specs.Moves.{HasTurn}
 use Rattle.krs_desk.specs.Running.{Board}
 use Rattle.krs_desk.specs.Machine.{Sits, IsSeatedIn, IsOutIn, IsTurn, IsCallOf, IsWorld, IsSomeWorld, IsOneWorld}
-use Rattle.krs_desk.proofs.Steps.{turn}
+use Rattle.krs_desk.proofs.TurnSteps.{turn}
 use Rattle.krs_desk.proofs.Posts.{answered_of}
 use Rattle.krs_desk.proofs.Serves.{posted_of}
 use Rattle.krs_desk.proofs.Looking.{not_both}

@@ -23,7 +23,7 @@ use Rattle.krs_desk.specs.Moves as move
 use Rattle.krs_desk.specs.Moves.{Move, after, IsMadeAt}
 use Rattle.krs_model.specs.Lists.{Begins}
 use Rattle.krs_world.proofs.Keeping.{prefix_self, prefix_more}
-use Rattle.krs_desk.proofs.Steps.{view_at}
+use Rattle.krs_desk.proofs.TurnSteps.{view_at}
 use Rattle.krs_desk.proofs.Seen.{legal_cut, not_read_revoked}
 
 -- the cell of a lane that has no call in flight isn't answered

@@ -19,7 +19,7 @@ use Rattle.krs_world.proofs.Keeping as law
 use Rattle.krs_desk.specs.declared.token.Sight.{Sight}
 use Rattle.krs_desk.specs.Parts.{sat, views_of, IsLaid, IsLaidBy}
 use Rattle.krs_desk.specs.Rule.{IsAtHome, CellIs, IsVacant, InOneOrder}
-use Rattle.krs_desk.proofs.Steps.{Table, Slot, turn, views_set, view_at, laid_set, still_housed, sat_lies}
+use Rattle.krs_desk.proofs.TurnSteps.{Table, Slot, turn, views_set, view_at, laid_set, still_housed, sat_lies}
 
 -- a lane that is laid for another token is another lane
 apart_of :

@@ -29,7 +29,7 @@ use Rattle.krs_desk.specs.Sitting.{Sitting, IsIdleAt, fresh_seat, fresh_seats}
 use Rattle.krs_desk.specs.Moves as move
 use Rattle.krs_desk.specs.Moves.{moved_told, stored_told}
 use Rattle.krs_desk.specs.Seated.{Me}
-use Rattle.krs_desk.proofs.Steps.{Slot, turn, moved, view_at}
+use Rattle.krs_desk.proofs.TurnSteps.{Slot, turn, moved, view_at}
 use Rattle.krs_desk.proofs.Cells.{lies_apart, moved_cell}
 use Rattle.krs_desk.proofs.Joining.{opening_is}
 

@@ -25,7 +25,7 @@ use Rattle.krs_desk.specs.Moves as move
 use Rattle.krs_desk.specs.Moves.{Move, after}
 use Rattle.krs_desk.specs.Running.{Board}
 use Rattle.krs_desk.specs.Machine.{IsSeatedIn}
-use Rattle.krs_desk.proofs.Steps.{turn}
+use Rattle.krs_desk.proofs.TurnSteps.{turn}
 use Rattle.krs_desk.proofs.Running.{within, seen_sits, sits_seen, begins_log, log_grows}
 use Rattle.krs_desk.proofs.Adding.{counts, last_same, no_shorter}
 use Rattle.krs_desk.proofs.Agreeing.{Slot, Agrees, known_at, seat_there, holder_there}

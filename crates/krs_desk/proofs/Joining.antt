@@ -28,7 +28,7 @@ use Rattle.krs_desk.specs.Moves as move
 use Rattle.krs_desk.specs.Moves.{moved_told}
 use Rattle.krs_desk.specs.Seated.{Me, part}
 use Rattle.krs_desk.specs.Seated.{opening}
-use Rattle.krs_desk.proofs.Steps.{Table, turn, unmoved, views_set, view_at, laid_set, housed_set, sat_lies}
+use Rattle.krs_desk.proofs.TurnSteps.{Table, turn, unmoved, views_set, view_at, laid_set, housed_set, sat_lies}
 
 -- what a view that isn't spent has for the opening state is the key
 pub opening_is :

@@ -34,7 +34,7 @@ use Rattle.krs_desk.specs.Rule.{InOneOrder}
 use Rattle.krs_desk.specs.Moves.{IsMoved, IsReading, HasTurn}
 use Rattle.krs_desk.specs.Running.{Board, IsStepped, IsCut, IsJoined, Happens}
 use Rattle.krs_desk.specs.Machine.{Sits, IsSeatedIn, IsWorld, RunsAs, BeginsAs, FollowsSteps, steps_by, step_by}
-use Rattle.krs_desk.proofs.Steps.{turn, view_at}
+use Rattle.krs_desk.proofs.TurnSteps.{turn, view_at}
 use Rattle.krs_desk.proofs.Joining.{views_cut, views_twice}
 use Rattle.krs_desk.proofs.Looking.{not_both}
 use Rattle.krs_desk.proofs.Running.{same_view, within, seen_sits, by_cut, by_join, step_grows}

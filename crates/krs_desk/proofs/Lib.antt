@@ -1,4 +1,4 @@
-pub mod Steps
+pub mod TurnSteps
 pub mod Cells
 pub mod Joining
 pub mod Dealing

@@ -36,7 +36,7 @@ use Rattle.krs_desk.specs.Moves.{Move, after, IsMadeAt, HasTurn}
 use Rattle.krs_desk.specs.Running.{Board, IsStepped, IsLeft}
 use Rattle.krs_desk.specs.Machine as machine
 use Rattle.krs_desk.specs.Machine.{Sits, IsSeatedIn, IsOutIn, IsWorld, steps_by, step_by}
-use Rattle.krs_desk.proofs.Steps.{turn, view_at}
+use Rattle.krs_desk.proofs.TurnSteps.{turn, view_at}
 use Rattle.krs_desk.proofs.Looking.{not_both}
 use Rattle.krs_desk.proofs.Running.{same_view, within}
 use Rattle.krs_desk.proofs.Adding.{was_there, now_views, before, afterwards, last_same, steps_as_named, word_found, turn_becomes}

@@ -34,7 +34,7 @@ use Rattle.krs_desk.specs.Sitting.{Sitting, posted_by, Collects}
 use Rattle.krs_desk.specs.Moves as move
 use Rattle.krs_desk.specs.Moves.{moved_told, stored_told}
 use Rattle.krs_desk.specs.Seated.{Me, opening, part, sitting_of, IsSeated}
-use Rattle.krs_desk.proofs.Steps.{Slot, turn, unmoved, view_at, sat_lies, any_key}
+use Rattle.krs_desk.proofs.TurnSteps.{Slot, turn, unmoved, view_at, sat_lies, any_key}
 use Rattle.krs_desk.proofs.Cells.{lies_apart, moved_cell}
 use Rattle.krs_desk.proofs.Seats.{own_slot}
 

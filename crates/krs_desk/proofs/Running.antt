@@ -33,7 +33,7 @@ use Rattle.krs_desk.specs.Between.{StaysSeen}
 use Rattle.krs_desk.specs.Machine.{Sits, IsSeatedIn}
 use Rattle.krs_desk.specs.Running.{Board, IsStepped, IsCut, IsJoined, Happens}
 use Rattle.krs_desk.specs.Running.{KeepsSeenLists, OnlyGrows, SeesOneOrder, KeepsRealTime, StaysRefused}
-use Rattle.krs_desk.proofs.Steps.{turn, view_at, views_set}
+use Rattle.krs_desk.proofs.TurnSteps.{turn, view_at, views_set}
 use Rattle.krs_desk.proofs.Joining.{views_cut, views_twice}
 use Rattle.krs_desk.proofs.Looking.{not_both}
 use Rattle.krs_desk.proofs.Between.{seen_by, idle_word, real_time, collected, refuses_revoked}

@@ -33,7 +33,7 @@ use Rattle.krs_desk.specs.Moves as move
 use Rattle.krs_desk.specs.Moves.{moved_told, stored_told}
 use Rattle.krs_desk.specs.Seated.{Me, opening, part}
 use Rattle.krs_desk.specs.Helping.{HoldsAll}
-use Rattle.krs_desk.proofs.Steps.{Table, Slot, turn, unmoved, moved_home, view_at, sat_lies, any_key}
+use Rattle.krs_desk.proofs.TurnSteps.{Table, Slot, turn, unmoved, moved_home, view_at, sat_lies, any_key}
 use Rattle.krs_desk.proofs.Cells.{moved_cell}
 use Rattle.krs_desk.proofs.Posts.{answered_of}
 

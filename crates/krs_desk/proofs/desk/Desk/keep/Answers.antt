@@ -1,6 +1,6 @@
 use Rattle.std.proofs.Common.{rules}
 use Rattle.krs_desk.specs.Steps.{event_in}
-use Rattle.krs_desk.proofs.Steps.{keeps_at}
+use Rattle.krs_desk.proofs.TurnSteps.{keeps_at}
 use Rattle.krs_desk.proofs.desk.Desk.keep.Goals as goal
 
 pub load-requires : goal.load-requires

@@ -1,6 +1,6 @@
 use Rattle.std.proofs.Common.{rules}
 use Rattle.krs_desk.specs.Steps.{event_in}
-use Rattle.krs_desk.proofs.Steps.{puts_at}
+use Rattle.krs_desk.proofs.TurnSteps.{puts_at}
 use Rattle.krs_desk.proofs.desk.Desk.put_back.Goals as goal
 
 pub compare_exchange-requires : goal.compare_exchange-requires

@@ -1,5 +1,5 @@
 use Rattle.std.proofs.Common.{rules}
-use Rattle.krs_desk.proofs.Steps.{takes_at}
+use Rattle.krs_desk.proofs.TurnSteps.{takes_at}
 use Rattle.krs_desk.proofs.desk.Desk.take.Goals as goal
 
 pub compare_exchange-requires : goal.compare_exchange-requires
