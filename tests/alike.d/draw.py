@@ -1,6 +1,7 @@
 """Lines at random. What is drawn next depends on what the lines before were answered: so keys are named that are there."""
 from lines import COMMANDS, RINGS
 
+# The first 14 are of types that the kernel has as well.
 TYPES = ["user"] * 8 + ["logon"] * 3 + ["keyring"] * 3 + ["trusted", ".user", "u" * 32]
 NAMES = ["a", "b", "c", "k:1", "k:2", "ring", ":x", ".dot", "_tid", "d" * 4095, "d" * 4096]
 MASKS = ["3f3f3f3f", "3f3f3f3f", "3f010000", "3f000000", "3f1b0000", "3f0b0b0b", "01010101", "8", "0", "40", "3f3f3f40"]
