@@ -9,7 +9,7 @@ import keyretain
 from keyretain import SESSION
 
 OWN, OTHER = os.geteuid(), os.geteuid() + 1
-USER_MAY_SEARCH, GROUP_MAY_VIEW = 0x00080000, 0x00000100
+USER_MAY_SEARCH, GROUP_MAY_VIEW, OTHERS_MAY_VIEW = 0x00080000, 0x00000100, 0x00000001
 
 LONGEST = "n" * 4095
 PARSED = (
@@ -55,6 +55,8 @@ def try_sessions(path):
         compare("one that another user has opened to all", False, client.enter_session(context, text))
         _, text = make(holder, own, "group", USER_MAY_SEARCH | GROUP_MAY_VIEW)
         compare("one of which the group may see anything", False, client.enter_session(context, text))
+        _, text = make(holder, own, "others", USER_MAY_SEARCH | OTHERS_MAY_VIEW)
+        compare("one of which others may see anything", False, client.enter_session(context, text))
         serial, text = make(holder, own, "lost")
         holder.revoke(own, serial)
         compare("one that was revoked", False, client.enter_session(context, text))
@@ -63,6 +65,19 @@ def try_sessions(path):
         compare("one of that serial that is made just now", False, client.enter_session(context, f"{last + 1}:new"))
         compare("it had that serial", last + 2, client.get_id(context, SESSION))
         compare("has no name that others find", b"_ses", client.describe(context, SESSION).split(b";")[4])
+
+
+def try_effective(path):
+    """A program of root's that is another user for now enters that user's sessions."""
+    if OWN != 0:
+        print("skipped: a session of another user's, whom root is for now: not root")
+        return
+    with keyretain.Client(path, timeout=20) as holder, keyretain.Client(path, timeout=20) as client:
+        _, text = make(holder, holder.hello(OTHER, OTHER), "effective")
+        os.seteuid(OTHER)
+        entered = client.enter_session(client.hello(OTHER, OTHER), text)
+        os.seteuid(OWN)
+        compare("a session of who root is for now", True, entered)
 
 
 def try_groups(path):
@@ -79,5 +94,6 @@ def try_groups(path):
 
 try_texts()
 try_sessions(sys.argv[1])
+try_effective(sys.argv[1])
 try_groups(sys.argv[1])
 conclude()

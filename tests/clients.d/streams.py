@@ -4,6 +4,7 @@ import ctypes
 import importlib
 import os
 import pickle
+import select
 import signal
 import socket
 import stat
@@ -88,6 +89,16 @@ def try_children():
             os.getpid = getpid
             compare(f"the parent's answer afterwards, version {version}", b"9", client.read(1, 9))
     compare("asks in children", ["Lost"] * 10, answers)
+
+
+def try_children_ahead():
+    """An answer that has come for the parent isn't the child's, also where Python isn't told of the fork."""
+    with client_of() as client:
+        client.send("READ", 1, 5)
+        client.read(1, 6)  # with its answer comes the one before
+        compare("an answer that has come, in a child", ["Lost"] * 2,
+                [in_child(client.receive, fork) for fork in (os.fork, bare_fork)])
+        compare("the parent has it afterwards", b"5", client.receive())
 
 
 def try_held():
@@ -246,6 +257,11 @@ def try_too_far():
         compare("an ask between", b"7", client.read(1, 7))
         compare("the last of them", b"6", [client.receive() for _ in range(256)][-1])
         compare("none is left", "IndexError", outcome(client.receive))
+        for _ in range(200):
+            client.send("READ", 1, 5)
+        client.read(1, 7)  # with its answer come all before it
+        compare("those whose answers have come count too", [*[int] * 56, str],
+                [type(outcome(client.send, "READ", 1, 5)) for _ in range(57)])
 
 
 def try_answered_then_gone():
@@ -261,6 +277,57 @@ def try_answered_then_gone():
             client.send("READ", 1, key)
         compare("what came before the end", [b"1", b"2", "IndexError", "Lost"],
                 [client.receive(), client.receive(), outcome(client.receive), outcome(client.read, 1, 3)])
+
+
+def answer_two_at_once(second):
+    """A server that sends its answers to two asks as one piece, and goes. The second is made of an ask's version and
+    tag."""
+    def serve(end):
+        (version, tag, name, values), (_, other, *_) = (ask for _, ask in zip(range(2), end.asks()))
+        end.socket.sendall(reply(version, tag, plain(name, values)) + second(version, other))
+
+    return serve
+
+
+def try_two_at_once():
+    """What has come is answered after the daemon has gone; but nothing is after bytes that are no reply."""
+    def outcomes(second):
+        with client_of(answer_two_at_once(second)) as client:
+            for key in (1, 2):
+                client.send("READ", 1, key)
+            return [outcome(client.receive), outcome(client.read, 1, 3), outcome(client.receive), outcome(client.receive)]
+
+    compare("an answer that came before the end", [b"1", "Lost", b"2", "Lost"],
+            outcomes(lambda version, tag: reply(version, tag, b"2")))
+    compare("one that came before noise", ["Malformed", "Lost", "Lost", "Lost"],
+            outcomes(lambda version, tag: reply(version, tag + 1, b"2")))
+
+
+def try_first_ask():
+    """The first ask is made anew, in the oldest version, where the daemon ended the connection and has said nothing at
+    all. Else it may have been carried out, and what was sent ahead would be lost unseen."""
+    asked = []
+
+    def serve(said, count):
+        def run(end):
+            for number, (version, tag, name, values) in enumerate(end.asks(), 1):
+                asked.append(version)
+                if version == 1:
+                    end.socket.sendall(reply(version, tag, plain(name, values)))
+                elif number == count:
+                    end.socket.sendall(said)
+                    return
+
+        return run
+
+    for what, said, ahead_of_it, wanted in (
+            ("nothing", b"", 0, (b"5", [2, 1])), ("a part of a reply", b"\x0d\0\0", 0, ("Lost", [2])),
+            ("nothing, and an ask was sent ahead", b"", 1, ("Lost", [2, 2]))):
+        asked.clear()
+        with client_of(serve(said, 1 + ahead_of_it), None) as client:
+            for _ in range(ahead_of_it):
+                client.send("READ", 1, 6)
+            compare(f"the first ask of a daemon that says {what}", wanted, (outcome(client.read, 1, 5), asked))
 
 
 # ---- Time
@@ -297,6 +364,15 @@ def try_deadlines():
     for seconds in (3e6, float("inf")):  # more than poll(2) takes
         with client_of(timeout=seconds) as client:
             compare(f"a patience of {seconds} seconds", b"5", outcome(client.read, 1, 5))
+
+
+def try_one_look():
+    """Without time one look is made: what has come is answered."""
+    with client_of() as client:
+        client.send("READ", 1, 5)
+        select.select([client._connection._socket], [], [], 20)
+        client.timeout = 0
+        compare("an answer that has come, at once", b"5", outcome(client.receive))
 
 
 def try_backlog():
@@ -354,6 +430,13 @@ def try_listings():
     for number in (0, 1 << 31, (1 << 32) - 1):
         with client_of(answer(struct.pack("<I", number))) as client:
             compare(f"the serial {number}", "Malformed", outcome(client.get_id, 1, keyretain.USER))
+    with client_of(answer(struct.pack("<I", (1 << 31) - 1))) as client:
+        compare("the highest serial", (1 << 31) - 1, outcome(client.get_id, 1, keyretain.USER))
+    with client_of(answer(struct.pack("<IIII", 0x01000001, 16, (1 << 31) - 1, 0))) as client:
+        compare("a note of it", [keyretain.Note(0, "updated", (1 << 31) - 1, 0)], outcome(client.read_queue, 1))
+    for version in keyretain.VERSIONS:  # docs/FORMAT.md, of both the same
+        with client_of(answer(bytes(262140)), version) as client:
+            compare(f"the length of the longest answer, version {version}", 262140, len(outcome(client.read, 1, 5)))
     for body in (b"\x01\0\0\1", b"\x05\0\0\0\x10\0\0\0" + bytes(8), b"\1\0\0\1\x10\0\0\0" + bytes(4),
                  struct.pack("<IIII", 0x01000001, 16, 1 << 31, 0), struct.pack("<IIII", 0x01000001, 16, 5, 1 << 31),
                  struct.pack("<IIQ", 0, 16, 1 << 31)):
@@ -461,9 +544,10 @@ def try_words():
 
 
 if __name__ == "__main__":
-    for case in (try_children, try_held, try_cut_frames, try_late_replies, try_ahead, try_large_ahead, try_too_far,
-                 try_answered_then_gone, try_deadlines, try_backlog, try_nonsense, try_listings, try_values,
-                 try_pickled, try_standard, try_reused, try_pipe_signal, try_words):
+    for case in (try_children, try_children_ahead, try_held, try_cut_frames, try_late_replies, try_ahead, try_large_ahead,
+                 try_too_far, try_answered_then_gone, try_two_at_once, try_first_ask, try_deadlines, try_one_look,
+                 try_backlog, try_nonsense, try_listings, try_values, try_pickled, try_standard, try_reused,
+                 try_pipe_signal, try_words):
         case()
     try_every_step("an ask", lambda client: client.read(1, 5))
     try_every_step("asks sent ahead", ahead)

@@ -124,6 +124,8 @@ def try_places():
                 compare("what it was told", True, told() > 0)
             compare("a named one that is down", "FileNotFoundError", tells(environment={"KEYRETAIN_SOCKET": own}))
             compare("an empty name is none", own, keyretain.default_path())
+            os.environ["XDG_RUNTIME_DIR"] = __file__
+            compare("a file as the runtime directory", system + "/keyretain.sock", keyretain.default_path())
 
 
 def try_names():
@@ -174,6 +176,30 @@ def try_found_root():
             compare("root listens at one's own path", "PermissionError", tells(uid=OTHER))
         with listening(runtime + "/keyretain/keyretain.sock", OTHER):
             compare("oneself there", "told", tells(uid=OTHER))
+
+
+def try_effective():
+    """A program of root's that is another user for now is that user, whose daemon it finds and trusts."""
+    def ask(write):
+        os.setegid(OTHER)
+        os.seteuid(OTHER)
+        answers = [keyretain.default_path(), outcome(hello, (), {}), outcome(hello, (own,), {}),
+                   outcome(hello, (others,), {})]
+        os.environ["KEYRETAIN_SOCKET"] = own
+        os.write(write, str([*answers, outcome(hello, (), {})]).encode())
+
+    with folders() as (runtime, _):
+        own, others = runtime + "/keyretain/keyretain.sock", os.path.dirname(runtime) + "/others.sock"
+        os.mkdir(runtime + "/keyretain")
+        os.chmod(os.path.dirname(runtime), 0o777)
+        for folder in (runtime, runtime + "/keyretain"):
+            os.chown(folder, OTHER, OTHER)
+        with listening(own, OTHER), listening(others, DAEMON):
+            child, read = in_child(ask)
+            with os.fdopen(read) as answered:
+                compare("root that is another user for now: its path, found and named, a third one's, by the environment",
+                        str([own, "told", "told", "PermissionError", "told"]), answered.read())
+            os.waitpid(child, 0)
 
 
 def try_another_runtime_directory():
@@ -278,6 +304,13 @@ def try_system():
             with listening(path, who) as told:
                 compare(f"uid {uid} and the system's daemon of uid {who}", wanted, tells(uid=uid))
                 compare("what it was told", True, told() > 0)
+        os.rename(system, system + ".moved")
+        os.symlink(system + ".moved", system)
+        os.lchown(system, DAEMON, DAEMON)
+        with listening(path, DAEMON):
+            compare("a link in place of the folder", "PermissionError", tells(uid=OTHER))
+        os.unlink(system)
+        os.rename(system + ".moved", system)
         os.chmod(system, 0o777)
         with listening(path, OTHER):
             compare("root and another's daemon there", "PermissionError", tells())
@@ -289,6 +322,7 @@ def try_system():
 def try_set_uid():
     """What a program that was started with rights of its own finds: what the environment says isn't for it."""
     words = """import sys; sys.path[0] = sys.argv[1]; import keyretain; print(keyretain.default_path())
+print(keyretain.places.place_of("/named", None).trust.name)
 client = object.__new__(keyretain.Client)
 client.join = lambda *_: print("joined")
 print(client.enter_session(1))"""
@@ -298,14 +332,15 @@ print(client.enter_session(1))"""
         os.setresuid(OTHER, OWN, OWN)
         os.dup2(write, 1)
         os.execve(sys.executable, [sys.executable, "-B", "-c", words, sys.path[0]],
-                  {"KEYRETAIN_SOCKET": "/another", "XDG_RUNTIME_DIR": runtime, "KEYRETAIN_SESSION": "5:named"})
+                  {"KEYRETAIN_SOCKET": "/another", "XDG_RUNTIME_DIR": runtime, "KEYRETAIN_SESSION": "5:named",
+                   "KEYRETAIN_TRUST": "any"})
 
     with folders() as (runtime, _):
         os.mkdir(runtime + "/keyretain")
         child, read = in_child(run)
         with os.fdopen(read) as answered:
-            compare("the path in a program that runs set-uid, and whether it is in a session",
-                    "/run/keyretain/keyretain.sock\nFalse\n", answered.read())
+            compare("the path in a program that runs set-uid, whom it trusts at one that is named, and whether it is in a "
+                    "session", "/run/keyretain/keyretain.sock\nNAMED\nFalse\n", answered.read())
         os.waitpid(child, 0)
 
 
@@ -355,7 +390,7 @@ if __name__ == "__main__":
         os.environ.pop(variable, None)
     cases = [try_places, try_names, try_peer]
     if sys.argv[1:] != ["one"]:
-        cases += [try_found, try_found_root, try_another_runtime_directory, try_closed,
+        cases += [try_found, try_found_root, try_effective, try_another_runtime_directory, try_closed,
                   try_turned, try_named, try_system, try_set_uid, try_capabilities]
     for case in cases:
         case()
