@@ -18,7 +18,22 @@ void __wrap_free(void *at) {
     __real_free(at);
 }
 
+/* One that tells fewer serials than the daemon before it leaves those of that one stale, which have no place beside the
+ * memory that they take. */
+static void see_fewer(void) {
+    struct serials fewer = { 0 };
+    serials_add(&fewer, 192);
+    check("a daemon after one of 192 serials", serials_begin_anew(&fewer) == 0);
+    check("the memory that 192 take", malloc_usable_size(fewer.again) > 192 / 8);
+    serials_add(&fewer, 100);
+    check("one that told fewer is gone too", serials_begin_anew(&fewer) == 0);
+    check("serials of both before", serials_is_stale(&fewer, 100) && serials_is_stale(&fewer, 192));
+    serials_clear(&fewer);
+    check("what is cleared knows none", !serials_is_stale(&fewer, 100));
+}
+
 int main(void) {
+    mallopt(M_PERTURB, 0x55); /* memory that is had anew isn't zero by chance */
     for (int32_t highest = 10; highest < 1000000; highest *= 10) {
         serials_add(&serials, highest);
         check("another daemon", serials_begin_anew(&serials) == 0);
@@ -36,5 +51,6 @@ int main(void) {
     serials_clear(&serials);
     check("what was freed", freed == 6);
     check("what was freed is had no more", still_had == 0);
+    see_fewer();
     return conclude("kept");
 }

@@ -9,13 +9,16 @@ from servers import compare, conclude, plain, reply, served
 library = sys.argv[1]
 EINVAL = 22
 CALLS = """
-import ctypes, errno, sys
+import ctypes, errno, os, stat, sys
 library, known = ctypes.CDLL(sys.argv[1], use_errno=True), ctypes.create_string_buffer(1)
 answers = [library.keyctl_capabilities(known, 1)]
 for name, words in (("restrict_keyring", (5, None, None)), ("move", (6, 5, 7, 0)), ("clear", (5,))):
     answer = getattr(library, f"keyctl_{name}")(*words)
     answers.append(answer if answer >= 0 else errno.errorcode[ctypes.get_errno()])
-print(known.raw[0] >> 6, *answers)
+def is_socket(number):
+    try: return stat.S_ISSOCK(os.fstat(number).st_mode)
+    except OSError: return False
+print(known.raw[0] >> 6, *answers, sum(map(is_socket, range(3, 64))))
 """
 
 
@@ -34,14 +37,14 @@ def older(lacking, connections):
 
 
 for lacking, wanted in (
-        ((), "3 2 0 0 0"), (("MOVE",), "1 2 0 ENOTSUP 0"), (("RESTRICT_KEYRING",), "2 2 ENOTSUP 0 0"),
-        (("RESTRICT_KEYRING", "MOVE"), "0 2 ENOTSUP ENOTSUP 0")):
+        ((), "3 2 0 0 0 1"), (("MOVE",), "1 2 0 ENOTSUP 0 1"), (("RESTRICT_KEYRING",), "2 2 ENOTSUP 0 0 1"),
+        (("RESTRICT_KEYRING", "MOVE"), "0 2 ENOTSUP ENOTSUP 0 1")):
     asked = []
     with served(older(lacking, asked)) as path:
         env = {**os.environ, "KEYRETAIN_SOCKET": path}
         told = subprocess.run([sys.executable, "-c", CALLS, library], env=env, stdout=subprocess.PIPE, timeout=30, text=True)
     what = f"a daemon of version 1 without {', '.join(lacking) or 'nothing'}:"
-    compare(f"{what} which it carries, and what the calls answer", wanted, told.stdout.strip())
+    compare(f"{what} which it carries, what the calls answer, and how many sockets are open", wanted, told.stdout.strip())
     compare(f"{what} each that it lacks is asked once, on a connection of its own", sorted(lacking),
             sorted(names[-1] for names in asked if names[-1] in lacking))
     compare(f"{what} the connection stays", "CLEAR", next(names[-1] for names in asked if "CLEAR" in names))

@@ -58,6 +58,30 @@ static void call_makers(void) {
     check("find_key_by_type_and_desc, nothing there", refused(find_key_by_type_and_desc("user", "beta", 0), ENOKEY));
 }
 
+/* A key of a user's keyring alone, whose user may link it. */
+static key_serial_t put_apart(const char *description, key_serial_t keyring) {
+    key_serial_t put = add_key("user", description, "s3", 2, session);
+    bool is_put = put > 0 && keyctl_setperm(put, 0x3f3f0000) == 0 && keyctl_link(put, keyring) == 0;
+    return is_put && keyctl_unlink(put, session) == 0 ? put : -1;
+}
+
+/* What request_key(2) doesn't find is looked for in the user's keyrings too: of the whole type, with the whole
+ * description. What is found is linked, where that is asked. */
+static void call_finders(void) {
+    key_serial_t own = put_apart("of;user", KEY_SPEC_USER_KEYRING);
+    key_serial_t other = put_apart("of user session", KEY_SPEC_USER_SESSION_KEYRING);
+    check("keys that no request finds", own > 0 && other > 0 && refused(request_key("user", "of;user", NULL, 0), ENOKEY));
+    check("one of the user keyring", find_key_by_type_and_desc("user", "of;user", 0) == own);
+    check("one of the user session keyring", find_key_by_type_and_desc("user", "of user session", 0) == other);
+    check("another type", refused(find_key_by_type_and_desc("use", "of;user", 0), ENOKEY));
+    check("not linked yet", refused(keyctl_search(ring, "user", "of;user", 0), ENOKEY));
+    check("the same, linked", find_key_by_type_and_desc("user", "of;user", ring) == own &&
+          keyctl_search(ring, "user", "of;user", 0) == own && keyctl_unlink(own, ring) == 0);
+    check("a request, linked", request_key("user", "alpha", NULL, session) == key && keyctl_unlink(key, session) == 0);
+    check("they go", keyctl_unlink(own, KEY_SPEC_USER_KEYRING) == 0 &&
+          keyctl_unlink(other, KEY_SPEC_USER_SESSION_KEYRING) == 0);
+}
+
 static void call_readers(void) {
     char buffer[64] = "untouched", *text = NULL;
     void *payload = NULL;
@@ -156,6 +180,7 @@ static void call_left_out(void) {
 int main(void) {
     see_symbols();
     call_makers();
+    call_finders();
     call_readers();
     call_changes();
     call_newer();
