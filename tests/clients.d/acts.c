@@ -95,11 +95,12 @@ static void take_identity_turned(char **words) {
 }
 
 /* tried SOCKET PATH: the same where the library finds out what a daemon of the first version carries, on a connection
- * of its own. By then the other user has its socket there. */
+ * of its own. By then the other user has its socket there. How many sockets are open afterwards. */
 static void take_identity_trying(char **words) {
     bool fine = keyctl_get_keyring_ID(KEY_SPEC_USER_KEYRING, 0) > 0 && rename(words[0], words[1]) == 0;
     taken = CONNECTING;
-    puts(word_of(fine && keyctl_move(5, 6, 7, 0) == 0));
+    printf("%s ", word_of(fine && keyctl_move(5, 6, 7, 0) == 0));
+    printf("%d\n", count_sockets());
 }
 
 /* entered: the same where it receives what the daemon says of the session that its environment names. What is answered
@@ -289,6 +290,37 @@ static void join_without_memory(char **words) {
     puts(keyctl_get_keyring_ID(KEY_SPEC_SESSION_KEYRING, 0) == before ? "the same session" : "another session");
 }
 
+/* left: joins a session, then another one, which fails, and a third, and waits for the end of its input. */
+static void leave_sessions(char **words) {
+    char byte;
+    (void)words;
+    bool fine = keyctl_join_session_keyring("first") > 0;
+    is_environment_full = true;
+    fine = fine && keyctl_join_session_keyring("second") < 0;
+    is_environment_full = false;
+    puts(word_of(fine && keyctl_join_session_keyring("third") > 0));
+    fflush(stdout);
+    while (read(STDIN_FILENO, &byte, 1) > 0) continue;
+}
+
+/* later: asks, and again when an hour has passed. */
+static time_t passed;
+
+int clock_gettime(clockid_t clock, struct timespec *moment) {
+    int (*ours)(clockid_t, struct timespec *) =
+        (int (*)(clockid_t, struct timespec *))dlsym(RTLD_NEXT, "clock_gettime");
+    int told = ours(clock, moment);
+    moment->tv_sec += passed;
+    return told;
+}
+
+static void ask_later(char **words) {
+    (void)words;
+    printf("%s ", word_of(keyctl_get_keyring_ID(KEY_SPEC_USER_KEYRING, 0) > 0));
+    passed = 3600;
+    puts(word_of(keyctl_get_keyring_ID(KEY_SPEC_USER_KEYRING, 0) > 0));
+}
+
 /* blind: asks while the kernel tells nothing of descriptors. How many sockets are open then. */
 static bool is_blind;
 
@@ -425,6 +457,7 @@ int main(int count, char **words) {
                   { "process-one", be_process_one }, { "open", open_session },
                   { "join", join },               { "interrupted", join_interrupted },
                   { "no-memory", join_without_memory }, { "blind", ask_blindly },
+                  { "left", leave_sessions },     { "later", ask_later },
                   { "again", join_again },        { "twice", ask_twice },
                   { "as-other", join_as_other },  { "execute", execute },
                   { "put", put_key },             { "hide", hide_key },

@@ -12,6 +12,18 @@
 
 static pid_t daemon_process;
 
+/* A second thread, which has asked the old daemon, and asks the new one. */
+static pthread_barrier_t may_ask;
+
+static void *ask_both(void *unused) {
+    check("a second thread", add_key("user", "own", "x", 1, KEY_SPEC_THREAD_KEYRING) > 0);
+    pthread_barrier_wait(&may_ask);
+    pthread_barrier_wait(&may_ask);
+    check("which has the new daemon too", add_key("user", "own", "x", 1, KEY_SPEC_THREAD_KEYRING) > 0);
+    check("and no session either", refused(add_key("user", "a", "x", 1, KEY_SPEC_SESSION_KEYRING), EKEYREVOKED));
+    return unused;
+}
+
 /* Until then the daemon is stopped, so that it has the ask and can't answer it. */
 static void *kill_soon(void *unused) {
     (void)unused;
@@ -75,7 +87,7 @@ static void see_serials(key_serial_t key) {
     check("the other process ends", kill(child, SIGKILL) == 0 && waitpid(child, NULL, 0) == child);
 }
 
-static void go_on(key_serial_t key) {
+static void go_on(key_serial_t key, pthread_t thread) {
     char buffer[8];
     check("a new daemon: a serial of the last one is refused",
           refused(keyctl_read(key, buffer, sizeof buffer), EKEYREVOKED));
@@ -83,6 +95,8 @@ static void go_on(key_serial_t key) {
     check("the session is lost, and not made anew",
           refused(add_key("user", "a", "x", 1, KEY_SPEC_SESSION_KEYRING), EKEYREVOKED));
     check("nor is it searched", refused(request_key("user", "a", NULL, 0), EKEYREVOKED));
+    pthread_barrier_wait(&may_ask);
+    pthread_join(thread, NULL);
     check("the user keyring is there", add_key("user", "a", "x", 1, KEY_SPEC_USER_KEYRING) > 0);
     check("another session can be joined", keyctl_join_session_keyring(NULL) > 0);
     check("and has keys", add_key("user", "a", "x", 1, KEY_SPEC_SESSION_KEYRING) > 0);
@@ -90,6 +104,7 @@ static void go_on(key_serial_t key) {
 
 int main(int count, char **words) {
     char line[16];
+    pthread_t thread;
     if (count != 2) return 2;
     daemon_process = atoi(words[1]);
     check("a session", keyctl_join_session_keyring("killed") > 0);
@@ -99,9 +114,12 @@ int main(int count, char **words) {
         key = add_key("user", "a", "x", 1, KEY_SPEC_SESSION_KEYRING);
     }
     check("a key", key > 0);
+    pthread_barrier_init(&may_ask, NULL, 2);
+    pthread_create(&thread, NULL, ask_both, NULL);
+    pthread_barrier_wait(&may_ask);
     be_killed(key);
     puts("killed");
     fflush(stdout);
-    if (fgets(line, sizeof line, stdin)) go_on(key);
+    if (fgets(line, sizeof line, stdin)) go_on(key, thread);
     return conclude("killed");
 }

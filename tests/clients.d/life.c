@@ -72,6 +72,24 @@ static void try_many_threads(void) {
     pthread_barrier_destroy(&all_have_asked);
 }
 
+/* Sessions of a thread's own, one after the other: more than contexts. */
+static void *join_often(void *unused) {
+    char name[32];
+    int joined = 0;
+    for (int i = 0; i < CONTEXTS + 6; i++) {
+        snprintf(name, sizeof name, "of a thread, %d", i);
+        joined += keyctl_join_session_keyring(name) > 0;
+    }
+    check("a thread joins 70 sessions", joined == CONTEXTS + 6);
+    return unused;
+}
+
+static void try_sessions(void) {
+    pthread_t thread;
+    pthread_create(&thread, NULL, join_often, NULL);
+    pthread_join(thread, NULL);
+}
+
 /* ---- Forks ---- */
 
 static int is_stopped;
@@ -139,6 +157,14 @@ static bool leaves_files_alone(void) {
     return asks && lseek(file, 0, SEEK_END) == 0;
 }
 
+static int descriptors_of_parent;
+
+/* The parent's connection would else stay as long as its child. */
+static bool has_no_connection(key_serial_t session, key_serial_t key) {
+    (void)session, (void)key;
+    return open_descriptors() == descriptors_of_parent - 1;
+}
+
 static bool closes_all(key_serial_t session, key_serial_t key) {
     (void)session, (void)key;
     return leaves_files_alone();
@@ -179,6 +205,8 @@ static bool closes_error(key_serial_t session, key_serial_t key) {
 }
 
 static void try_descriptors(key_serial_t session, key_serial_t key) {
+    descriptors_of_parent = open_descriptors();
+    check("a child hasn't its parent's connection open", in_child(has_no_connection, session, key) == 0);
     check("numbers that are used for something else: the files are untouched", in_child(closes_all, session, key) == 0);
     check("closed standard descriptors are not used", in_child(closes_standard, session, key) == 0);
     check("nor is one of them alone", in_child(closes_error, session, key) == 0);
@@ -252,6 +280,7 @@ int main(int count, char **words) {
     try_keyrings();
     check("a process has one descriptor", open_descriptors() == before + 1);
     try_many_threads();
+    try_sessions();
     key_serial_t session = keyctl_join_session_keyring("life");
     key_serial_t key = add_key("user", "of session", "abc", 3, KEY_SPEC_SESSION_KEYRING);
     check("a session", session > 0 && key > 0);

@@ -218,6 +218,10 @@ try_inherited() {
   is 'a name with an end of line' EINVAL "$("$dir/acts" join $'a\nb')"
   is 'the same for a command' 1 "$(in_session $'a\nb' -- true 2>/dev/null; echo $?)"
   is 'a session that is joined while signals come' 'ok, no child' "$("$dir/acts" interrupted signals)"
+  is 'a session where few descriptors are allowed' ok "$(ulimit -n 100; "$dir/acts" join few)"
+  is 'a session of a program whose standard input is closed' ok "$("$dir/acts" join closed <&-)"
+  is 'a call an hour later' 'ok ok' "$("$dir/acts" later)"
+  try_left
   is 'no memory for the environment' 'ENOMEM, the same session' "$("$dir/acts" no-memory)"
   is 'a kernel that tells nothing of descriptors' 'EACCES 0' "$("$dir/acts" blind)"
   is 'files under the number of what held a session' 'ok, 297 of 297 files left' \
@@ -233,6 +237,23 @@ try_inherited() {
   kill_daemon TERM
   until_true has_no_keeper
   is 'no keeper is left' gone "$(has_no_keeper && echo gone)"
+}
+
+# A process holds the session that it has joined last, and none that it has left, or failed to join.
+try_left() {
+  local input left
+  rm -f "$dir/leaves" "$dir/left"
+  mkfifo "$dir/leaves"
+  until_true has_no_keeper
+  "$dir/acts" left <"$dir/leaves" >"$dir/left" &
+  left=$!
+  exec {input}>"$dir/leaves"
+  until_true grep -q . "$dir/left"
+  until_true has_one_keeper
+  is 'sessions that a process has left, or not entered, are held by nobody' 'ok, 1 keeper' \
+    "$(<"$dir/left"), $(keepers | wc -l) keeper"
+  exec {input}>&-
+  finish "$left"
 }
 
 # ---- Places
