@@ -193,6 +193,27 @@ static void read_by_group(char **words) {
     waitpid(child, NULL, 0);
 }
 
+/* effective-group: the same by the effective gid alone, while the real one is root's. */
+static void read_by_effective_group(char **words) {
+    char byte;
+    (void)words;
+    key_serial_t key = add_key("user", "of a group", "x", 1, KEY_SPEC_USER_KEYRING);
+    bool fine = keyctl_chown(key, (uid_t)-1, OTHER - 3) == 0 && keyctl_setperm(key, GROUP_MAY_READ) == 0;
+    fine = fine && setgroups(0, NULL) == 0 && setegid(OTHER - 3) == 0 && seteuid(OTHER) == 0;
+    puts(fine ? word_of(keyctl_read(key, &byte, 1) == 1) : "failed");
+}
+
+/* each: one user after the other, of whom the first has a daemon of its own. More than a process remembers. */
+static void ask_as_each(char **words) {
+    bool fine = true;
+    (void)words;
+    for (int i = 0; i < 6; i++) {
+        fine = fine && seteuid(0) == 0 && seteuid((uid_t)(OTHER - i)) == 0;
+        fine = fine && keyctl_get_keyring_ID(KEY_SPEC_USER_KEYRING, 0) > 0;
+    }
+    puts(word_of(fine));
+}
+
 /* back: as another user and back: the thread keyring of a second thread is the same. */
 static void *see_thread_ring(void *unused) {
     key_serial_t ring = keyctl_get_keyring_ID(KEY_SPEC_THREAD_KEYRING, 1);
@@ -454,6 +475,7 @@ int main(int count, char **words) {
                   { "meanwhile", take_identity_meanwhile }, { "turned", take_identity_turned },
                   { "tried", take_identity_trying },
                   { "group", read_by_group },     { "back", go_and_come_back },
+                  { "effective-group", read_by_effective_group }, { "each", ask_as_each },
                   { "process-one", be_process_one }, { "open", open_session },
                   { "join", join },               { "interrupted", join_interrupted },
                   { "no-memory", join_without_memory }, { "blind", ask_blindly },

@@ -1,5 +1,7 @@
 """older.py LIBRARY: what the libkeyutils LIBRARY answers for commands that a daemon of the first version of the frames
-carries, or ends the connection for. Prints a line for each difference, and last how many were compared."""
+carries, or ends the connection for; and where a daemon doesn't know a context any more. Prints a line for each
+difference, and last how many were compared."""
+import errno
 import os
 import subprocess
 import sys
@@ -7,7 +9,6 @@ import sys
 from servers import compare, conclude, plain, reply, served
 
 library = sys.argv[1]
-EINVAL = 22
 CALLS = """
 import ctypes, errno, os, stat, sys
 library, known = ctypes.CDLL(sys.argv[1], use_errno=True), ctypes.create_string_buffer(1)
@@ -32,7 +33,7 @@ def older(lacking, connections):
             if version != 1 or name in lacking:
                 return
             is_refused = name in ("RESTRICT_KEYRING", "MOVE") and values[0] == 0
-            end.socket.sendall(reply(version, tag, b"", EINVAL) if is_refused else reply(version, tag, plain(name, values)))
+            end.socket.sendall(reply(version, tag, b"", errno.EINVAL) if is_refused else reply(version, tag, plain(name, values)))
     return serve
 
 
@@ -48,4 +49,29 @@ for lacking, wanted in (
     compare(f"{what} each that it lacks is asked once, on a connection of its own", sorted(lacking),
             sorted(names[-1] for names in asked if names[-1] in lacking))
     compare(f"{what} the connection stays", "CLEAR", next(names[-1] for names in asked if "CLEAR" in names))
+
+
+AGAIN = """
+import ctypes, errno, sys
+library = ctypes.CDLL(sys.argv[1], use_errno=True)
+answers = [library.keyctl_get_keyring_ID(-4, 0) for _ in range(2)]
+print(*(answer if answer >= 0 else errno.errorcode[ctypes.get_errno()] for answer in answers))
+"""
+
+
+def forgetful(connections):
+    """As a daemon that doesn't know the first connection's context any more."""
+    def serve(end):
+        connections.append(end)
+        is_first = len(connections) == 1
+        for version, tag, name, values in end.asks():
+            is_lost = is_first and name != "HELLO"
+            end.socket.sendall(reply(version, tag, b"", errno.ESRCH) if is_lost else reply(version, tag, plain(name, values)))
+    return serve
+
+
+with served(forgetful([])) as path:
+    told = subprocess.run([sys.executable, "-c", AGAIN, library], env={**os.environ, "KEYRETAIN_SOCKET": path},
+                          stdout=subprocess.PIPE, timeout=30, text=True)
+    compare("a context that the daemon doesn't know: the next call has another one", "ESRCH 77", told.stdout.strip())
 conclude()

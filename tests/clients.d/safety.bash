@@ -219,7 +219,6 @@ try_inherited() {
   is 'the same for a command' 1 "$(in_session $'a\nb' -- true 2>/dev/null; echo $?)"
   is 'a session that is joined while signals come' 'ok, no child' "$("$dir/acts" interrupted signals)"
   is 'a session where few descriptors are allowed' ok "$(ulimit -n 100; "$dir/acts" join few)"
-  is 'a session of a program whose standard input is closed' ok "$("$dir/acts" join closed <&-)"
   is 'a call an hour later' 'ok ok' "$("$dir/acts" later)"
   try_left
   is 'no memory for the environment' 'ENOMEM, the same session' "$("$dir/acts" no-memory)"

@@ -439,7 +439,7 @@ def try_listings():
             compare(f"the length of the longest answer, version {version}", 262140, len(outcome(client.read, 1, 5)))
     for body in (b"\x01\0\0\1", b"\x05\0\0\0\x10\0\0\0" + bytes(8), b"\1\0\0\1\x10\0\0\0" + bytes(4),
                  struct.pack("<IIII", 0x01000001, 16, 1 << 31, 0), struct.pack("<IIII", 0x01000001, 16, 5, 1 << 31),
-                 struct.pack("<IIQ", 0, 16, 1 << 31)):
+                 struct.pack("<IIQ", 0, 16, 1 << 31), struct.pack("<IIQQ", 0, 24, 5, 0)):
         with client_of(answer(body)) as client:
             compare(f"notes of {len(body)} bytes", "Malformed", outcome(client.read_queue, 1))
 

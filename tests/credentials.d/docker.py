@@ -2,8 +2,9 @@
 of its README and of its package `credentials`, without docker. Prints a line for each difference, and last how many
 were compared."""
 import json
+import os
 
-from helpers import compare, conclude, daemon, helper, keepers, looking, run, until
+from helpers import compare, conclude, daemon, helper, keepers, keyretain, looking, run, until
 
 NOT_FOUND = b"credentials not found in native keychain\n"
 NO_SERVER = b"no credentials server URL\n"
@@ -79,6 +80,20 @@ def try_steps():
             compare(f"step {number}, {word} {given!r}", wanted, docker(word, given))
 
 
+def try_others():
+    """Keys in that keyring that no helper has put there, or that are none of a helper's payloads."""
+    with daemon(), keyretain.Client() as client:
+        context = client.hello(os.geteuid(), os.getegid())
+        docker("store", document(A, "alice", "one"))
+        ring = client.search(context, keyretain.USER, "keyring", "docker-credentials")
+        for description, payload in (("svn server=b", document(B, "bob", "two").encode()),
+                                     ("docker server=c", b"no document"), ("docker server=d", b"[7]")):
+            client.add(context, "user", description, payload, ring)
+        compare("list", {A: "alice"}, docker("list"))
+        for server in ("c", "d"):
+            compare(f"get {server}", (1, NOT_FOUND), docker("get", server))
+
+
 def try_unusable():
     with daemon(), looking("docker-credentials") as look:
         for given in UNUSABLE:
@@ -105,6 +120,6 @@ def try_words():
         compare("which isn't said to be no credentials", False, out in (NOT_FOUND, NO_SERVER, NO_USERNAME))
 
 
-for case in (try_steps, try_unusable, try_words):
+for case in (try_steps, try_others, try_unusable, try_words):
     case()
 conclude()

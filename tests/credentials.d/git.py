@@ -109,6 +109,10 @@ def try_bytes():
             status, _, err = run(helper("git", "store"), lines(f"protocol=https host={'x' * count} username=u password=s3c"))
             compare(f"a host of {count} bytes", (1, True, False), (status, is_one_line(err, PROGRAM), b"s3c" in err))
         compare("nothing was kept of all that", 1, len(look()))
+        longest = b"x" * (32767 - len(b"password=\n"))
+        given = b"protocol=https\nhost=longest\nusername=u\npassword=" + longest
+        compare("the longest password", (0, b"", b""), run(helper("git", "store"), given))
+        compare("is kept", True, longest in run(helper("git", "get"), b"protocol=https\nhost=longest\n")[1])
 
 
 def try_others():
@@ -159,6 +163,9 @@ def try_expiry():
         git("store", f"{place} username=u password=p password_expiry_utc=never", "--timeout=1000")
         compare("an expiry that is no number", {"username=u", "password=p", "password_expiry_utc=never"},
                 git("get", place))
+        compare("one that is longer than any moment", set(),
+                git("store", f"{place} username=u password=long password_expiry_utc={'9' * 5000}"))
+        compare("is kept", True, "password=long" in git("get", place))
 
 
 def try_words():
@@ -280,6 +287,16 @@ def try_keeper():
         compare("it ends when the last key was erased", True, until(lambda: not keepers()))
 
 
+def try_groups():
+    """A user in more groups than the daemon takes."""
+    if os.geteuid() != 0:
+        print("skipped: a user in many groups: not root")
+        return
+    with daemon():
+        compare("40 groups", (0, b"", b""),
+                run(helper("git", "get"), lines("protocol=https host=a"), extra_groups=range(5000, 5040)))
+
+
 def try_other_user():
     """Another user of the daemon has a session by whose name a keeper would know another one."""
     if os.geteuid() != 0:
@@ -339,6 +356,6 @@ def try_no_keeper():
 
 
 for case in (try_steps, try_bytes, try_others, try_expiry, try_words, try_silent_daemon, try_no_core, try_elsewhere,
-             try_crowd, try_keeper, try_other_user, try_session, try_no_keeper):
+             try_crowd, try_keeper, try_groups, try_other_user, try_session, try_no_keeper):
     case()
 conclude()

@@ -1,12 +1,16 @@
-"""Whether a keeper whose user stops it, before it is in the background, keeps who has started it waiting. Prints a line for
-each difference, and last how many were compared."""
+"""Whether a keeper whose user stops it, before it is in the background, keeps who has started it waiting; what is left of
+one that isn't stopped; and in which order an entry is made. Prints a line for each difference, and last how many were
+compared."""
+import errno
 import os
 import signal
 import tempfile
 import time
+from contextlib import nullcontext
 
 from helpers import compare, conclude
-from keyretain.credentials import keeper
+from servers import plain, reply, served
+from keyretain.credentials import keeper, locker
 
 ANSWER = '#!/bin/sh\necho $$ >"$0.pid"\n%s\nkill -STOP $$\n'
 
@@ -32,12 +36,55 @@ def held(folder, word):
             os.kill(int(pid.read()), signal.SIGKILL)
 
 
+def left_by(folder):
+    """How many descriptors and children are left where a keeper answers and ends."""
+    with open(keeper.KEEPER, "w", encoding="ascii") as program:
+        program.write("#!/bin/sh\necho 5:ring\n")
+    os.chmod(keeper.KEEPER, 0o755)
+    before = len(os.listdir("/proc/self/fd"))
+    with keeper.holding("ring", folder + "/sock"):
+        pass
+    try:
+        children = os.waitpid(-1, os.WNOHANG)
+    except ChildProcessError:
+        children = 0
+    return len(os.listdir("/proc/self/fd")) - before, children
+
+
+def asks_of_put():
+    """What a locker asks to keep an entry where there is no keyring yet, but of contexts and sessions."""
+    asked = []
+
+    def serve(end):
+        for version, tag, name, values in end.asks():
+            asked.append((name, *(value for value in values if isinstance(value, (int, bytes)))))
+            is_refused = name == "SEARCH"
+            end.socket.sendall(reply(version, tag, b"", errno.ENOKEY) if is_refused else reply(version, tag, plain(name, [])))
+
+    with served(serve) as path:
+        os.environ["KEYRETAIN_SOCKET"] = path
+        with locker.Locker("lock") as opened:
+            opened.put("one", b"s3", 900)
+    return [ask for ask in asked if ask[0] not in ("HELLO", "THREAD", "EXIT", "SEARCH")]
+
+
+def try_order():
+    """A keyring goes where there is none of its name alone, and an entry is whole, with its
+    timeout, before a link puts it there. All keys have the serial 77 here."""
+    keeper.holding = lambda *_: nullcontext()
+    compare("the asks that keep an entry", [
+        ("ADD", b"keyring", b"lock", b"", -1), ("MOVE", 77, -1, -4, 1), ("ADD", b"user", b"one", b"s3", -1),
+        ("SET_TIMEOUT", 77, 900), ("LINK", 77, 77)], asks_of_put())
+
+
 signal.signal(signal.SIGALRM, hangs)
-keeper.PATIENCE = 1
 with tempfile.TemporaryDirectory(prefix="keyretain.") as folder:
     keeper.KEEPER = folder + "/keyretain-keeper"
+    compare("what is left of one that ends: descriptors and children", (0, 0), left_by(folder))
+    keeper.PATIENCE = 1
     begun = time.monotonic()
     compare("a keeper that has answered, and is stopped", "held", held(folder, "echo 5:ring"))
     compare("one that is stopped without a word", "TimeoutError", held(folder, ":"))
     compare("neither takes long", True, time.monotonic() - begun < 10)
+try_order()
 conclude()
