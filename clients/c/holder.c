@@ -154,7 +154,11 @@ static int keep(struct kr_holder *holder, int life) {
     struct stat status;
     int kept = fcntl(life, F_DUPFD, KEPT_DESCRIPTOR);
     if (kept < 0) kept = fcntl(life, F_DUPFD, STDERR_FILENO + 1); /* fewer descriptors are allowed than that */
-    if (kept < 0 || fstat(kept, &status) < 0) return -1;
+    if (kept < 0) return -1;
+    if (fstat(kept, &status) < 0) { /* it couldn't be told from what has its number later, and so not be closed */
+        close_one(&kept);
+        return -1;
+    }
     *holder = (struct kr_holder){ kept, status.st_dev, status.st_ino };
     return 0;
 }

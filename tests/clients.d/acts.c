@@ -1,7 +1,9 @@
 /* acts MODE [WORD ..]: what programs do whose descriptors, identity or session the tests look at. */
 #define _GNU_SOURCE
 #include <dlfcn.h>
+#include <fcntl.h>
 #include <grp.h>
+#include <limits.h>
 #include <linux/capability.h>
 #include <pthread.h>
 #include <sched.h>
@@ -21,6 +23,7 @@
 #include "keyutils.h"
 
 enum { OTHER = 65533, GROUP_MAY_READ = 0x3f3f0200, POSSESSOR_MAY_READ = 0x02000000, FILES = 300 };
+enum { HANDED_ON = 200 };
 
 static const char *word_of(bool holds) { return holds ? "ok" : strerrorname_np(errno); }
 
@@ -203,10 +206,10 @@ static void read_by_effective_group(char **words) {
     puts(fine ? word_of(keyctl_read(key, &byte, 1) == 1) : "failed");
 }
 
-/* each: one user after the other, of whom the first has a daemon of its own. More than a process remembers. */
+/* each: root, and one user after the other, of whom the first has a daemon of its own. More than a process remembers. */
 static void ask_as_each(char **words) {
-    bool fine = true;
     (void)words;
+    bool fine = keyctl_get_keyring_ID(KEY_SPEC_USER_KEYRING, 0) > 0;
     for (int i = 0; i < 6; i++) {
         fine = fine && seteuid(0) == 0 && seteuid((uid_t)(OTHER - i)) == 0;
         fine = fine && keyctl_get_keyring_ID(KEY_SPEC_USER_KEYRING, 0) > 0;
@@ -343,22 +346,38 @@ static void ask_later(char **words) {
 }
 
 /* blind: asks while the kernel tells nothing of descriptors. How many sockets are open then. */
-static bool is_blind;
+static int blind_from = INT_MAX;
 
 int fstat(int descriptor, struct stat *status) {
     int (*ours)(int, struct stat *) = (int (*)(int, struct stat *))dlsym(RTLD_NEXT, "fstat");
-    if (!is_blind) return ours(descriptor, status);
+    if (descriptor < blind_from) return ours(descriptor, status);
     errno = EACCES;
     return -1;
 }
 
 static void ask_blindly(char **words) {
     (void)words;
-    is_blind = true;
+    blind_from = 0;
     bool is_answered = keyctl_get_keyring_ID(KEY_SPEC_USER_KEYRING, 0) > 0;
     printf("%s ", word_of(is_answered));
-    is_blind = false;
+    blind_from = INT_MAX;
     printf("%d\n", count_sockets());
+}
+
+static int count_handed_on(void) {
+    int count = 0;
+    for (int i = HANDED_ON; i < FILES; i++) count += fcntl(i, F_GETFD) >= 0;
+    return count;
+}
+
+/* blind-join: joins a session while it tells nothing of those that are handed on. How many more of these are open
+ * then. */
+static void join_blindly(char **words) {
+    int before = count_handed_on();
+    (void)words;
+    blind_from = HANDED_ON;
+    printf("%s ", word_of(keyctl_join_session_keyring("blind") > 0));
+    printf("%d\n", count_handed_on() - before);
 }
 
 /* again: joins a session, closes all descriptors and has files under their numbers, and joins another one. */
@@ -479,6 +498,7 @@ int main(int count, char **words) {
                   { "process-one", be_process_one }, { "open", open_session },
                   { "join", join },               { "interrupted", join_interrupted },
                   { "no-memory", join_without_memory }, { "blind", ask_blindly },
+                  { "blind-join", join_blindly },
                   { "left", leave_sessions },     { "later", ask_later },
                   { "again", join_again },        { "twice", ask_twice },
                   { "as-other", join_as_other },  { "execute", execute },

@@ -33,7 +33,8 @@ def older(lacking, connections):
             if version != 1 or name in lacking:
                 return
             is_refused = name in ("RESTRICT_KEYRING", "MOVE") and values[0] == 0
-            end.socket.sendall(reply(version, tag, b"", errno.EINVAL) if is_refused else reply(version, tag, plain(name, values)))
+            refused = reply(version, tag, b"", errno.EINVAL)
+            end.socket.sendall(refused if is_refused else reply(version, tag, plain(name, values)))
     return serve
 
 
@@ -45,7 +46,8 @@ for lacking, wanted in (
         env = {**os.environ, "KEYRETAIN_SOCKET": path}
         told = subprocess.run([sys.executable, "-c", CALLS, library], env=env, stdout=subprocess.PIPE, timeout=30, text=True)
     what = f"a daemon of version 1 without {', '.join(lacking) or 'nothing'}:"
-    compare(f"{what} which it carries, what the calls answer, and how many sockets are open", wanted, told.stdout.strip())
+    compare(f"{what} which it carries, what the calls answer, and how many sockets are open", wanted,
+            told.stdout.strip())
     compare(f"{what} each that it lacks is asked once, on a connection of its own", sorted(lacking),
             sorted(names[-1] for names in asked if names[-1] in lacking))
     compare(f"{what} the connection stays", "CLEAR", next(names[-1] for names in asked if "CLEAR" in names))
@@ -66,7 +68,8 @@ def forgetful(connections):
         is_first = len(connections) == 1
         for version, tag, name, values in end.asks():
             is_lost = is_first and name != "HELLO"
-            end.socket.sendall(reply(version, tag, b"", errno.ESRCH) if is_lost else reply(version, tag, plain(name, values)))
+            lost = reply(version, tag, b"", errno.ESRCH)
+            end.socket.sendall(lost if is_lost else reply(version, tag, plain(name, values)))
     return serve
 
 

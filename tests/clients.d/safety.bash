@@ -223,6 +223,7 @@ try_inherited() {
   try_left
   is 'no memory for the environment' 'ENOMEM, the same session' "$("$dir/acts" no-memory)"
   is 'a kernel that tells nothing of descriptors' 'EACCES 0' "$("$dir/acts" blind)"
+  is 'nor of those that are handed on: no session is held' 'EACCES 0' "$("$dir/acts" blind-join)"
   is 'files under the number of what held a session' 'ok, 297 of 297 files left' \
     "$("$dir/acts" again <"$top/README.md")"
   is 'no keeper is there' 3 "$("$dir/no-keeper/keyretain-session" -- true 2>/dev/null; echo $?)"

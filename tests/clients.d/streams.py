@@ -295,7 +295,7 @@ def try_two_at_once():
         with client_of(answer_two_at_once(second)) as client:
             for key in (1, 2):
                 client.send("READ", 1, key)
-            return [outcome(client.receive), outcome(client.read, 1, 3), outcome(client.receive), outcome(client.receive)]
+            return [outcome(client.receive), outcome(client.read, 1, 3), *[outcome(client.receive) for _ in range(2)]]
 
     compare("an answer that came before the end", [b"1", "Lost", b"2", "Lost"],
             outcomes(lambda version, tag: reply(version, tag, b"2")))
@@ -544,8 +544,8 @@ def try_words():
 
 
 if __name__ == "__main__":
-    for case in (try_children, try_children_ahead, try_held, try_cut_frames, try_late_replies, try_ahead, try_large_ahead,
-                 try_too_far, try_answered_then_gone, try_two_at_once, try_first_ask, try_deadlines, try_one_look,
+    for case in (try_children, try_children_ahead, try_held, try_cut_frames, try_late_replies, try_ahead,
+                 try_large_ahead, try_too_far, try_answered_then_gone, try_two_at_once, try_first_ask, try_deadlines, try_one_look,
                  try_backlog, try_nonsense, try_listings, try_values, try_pickled, try_standard, try_reused,
                  try_pipe_signal, try_words):
         case()

@@ -70,7 +70,8 @@ static key_serial_t put_apart(const char *description, key_serial_t keyring) {
 static void call_finders(void) {
     key_serial_t own = put_apart("of;user", KEY_SPEC_USER_KEYRING);
     key_serial_t other = put_apart("of user session", KEY_SPEC_USER_SESSION_KEYRING);
-    check("keys that no request finds", own > 0 && other > 0 && refused(request_key("user", "of;user", NULL, 0), ENOKEY));
+    check("keys in keyrings of the user", own > 0 && other > 0);
+    check("which no request finds", refused(request_key("user", "of;user", NULL, 0), ENOKEY));
     check("one of the user keyring", find_key_by_type_and_desc("user", "of;user", 0) == own);
     check("one of the user session keyring", find_key_by_type_and_desc("user", "of user session", 0) == other);
     check("another type", refused(find_key_by_type_and_desc("use", "of;user", 0), ENOKEY));

@@ -197,7 +197,7 @@ def try_effective():
         with listening(own, OTHER), listening(others, DAEMON):
             child, read = in_child(ask)
             with os.fdopen(read) as answered:
-                compare("root that is another user for now: its path, found and named, a third one's, by the environment",
+                compare("root, another user for now: its path, found and named, a third one's, by the environment",
                         str([own, "told", "told", "PermissionError", "told"]), answered.read())
             os.waitpid(child, 0)
 
@@ -339,8 +339,8 @@ print(client.enter_session(1))"""
         os.mkdir(runtime + "/keyretain")
         child, read = in_child(run)
         with os.fdopen(read) as answered:
-            compare("the path in a program that runs set-uid, whom it trusts at one that is named, and whether it is in a "
-                    "session", "/run/keyretain/keyretain.sock\nNAMED\nFalse\n", answered.read())
+            compare("in a program that runs set-uid: the path, whom it trusts at one it names, whether it is in a session",
+                    "/run/keyretain/keyretain.sock\nNAMED\nFalse\n", answered.read())
         os.waitpid(child, 0)
 
 

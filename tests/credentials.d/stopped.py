@@ -1,6 +1,6 @@
-"""Whether a keeper whose user stops it, before it is in the background, keeps who has started it waiting; what is left of
-one that isn't stopped; and in which order an entry is made. Prints a line for each difference, and last how many were
-compared."""
+"""Whether a keeper whose user stops it, before it is in the background, keeps who has started it waiting; what is left
+of one that isn't stopped; and in which order an entry is made. Prints a line for each difference, and last how many
+were compared."""
 import errno
 import os
 import signal
@@ -59,7 +59,8 @@ def asks_of_put():
         for version, tag, name, values in end.asks():
             asked.append((name, *(value for value in values if isinstance(value, (int, bytes)))))
             is_refused = name == "SEARCH"
-            end.socket.sendall(reply(version, tag, b"", errno.ENOKEY) if is_refused else reply(version, tag, plain(name, [])))
+            refused = reply(version, tag, b"", errno.ENOKEY)
+            end.socket.sendall(refused if is_refused else reply(version, tag, plain(name, [])))
 
     with served(serve) as path:
         os.environ["KEYRETAIN_SOCKET"] = path
