@@ -259,6 +259,21 @@ static void open_session(char **words) {
     while (read(STDIN_FILENO, &byte, 1) > 0) continue;
 }
 
+/* hold NAME: joins a session, tells its serial and that of a key in it, and waits for the end of its input. */
+static void hold_session(char **words) {
+    char byte;
+    key_serial_t session = keyctl_join_session_keyring(words[0]);
+    printf("%d %d\n", session, add_key("user", "held", "s3", 2, KEY_SPEC_SESSION_KEYRING));
+    fflush(stdout);
+    while (read(STDIN_FILENO, &byte, 1) > 0) continue;
+}
+
+/* read KEY: reads a key, which only who possesses it may. */
+static void read_possessed(char **words) {
+    char buffer[8];
+    puts(word_of(keyctl_read(atoi(words[0]), buffer, sizeof buffer) == 2));
+}
+
 /* join NAME: joins a session, from a second thread where there is another word. Before that it has one of its own. */
 static void *join_now(void *name) {
     key_serial_t before = keyctl_get_keyring_ID(KEY_SPEC_SESSION_KEYRING, 0);
@@ -496,6 +511,7 @@ int main(int count, char **words) {
                   { "group", read_by_group },     { "back", go_and_come_back },
                   { "effective-group", read_by_effective_group }, { "each", ask_as_each },
                   { "process-one", be_process_one }, { "open", open_session },
+                  { "hold", hold_session },       { "read", read_possessed },
                   { "join", join },               { "interrupted", join_interrupted },
                   { "no-memory", join_without_memory }, { "blind", ask_blindly },
                   { "blind-join", join_blindly },

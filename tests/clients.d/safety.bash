@@ -221,6 +221,7 @@ try_inherited() {
   is 'a session where few descriptors are allowed' ok "$(ulimit -n 100; "$dir/acts" join few)"
   is 'a call an hour later' 'ok ok' "$("$dir/acts" later)"
   try_left
+  try_entered
   is 'no memory for the environment' 'ENOMEM, the same session' "$("$dir/acts" no-memory)"
   is 'a kernel that tells nothing of descriptors' 'EACCES 0' "$("$dir/acts" blind)"
   is 'nor of those that are handed on: no session is held' 'EACCES 0' "$("$dir/acts" blind-join)"
@@ -254,6 +255,23 @@ try_left() {
     "$(<"$dir/left"), $(keepers | wc -l) keeper"
   exec {input}>&-
   finish "$left"
+}
+
+# Where the environment names a session by another serial, its keys aren't possessed, nor is it the session.
+try_entered() {
+  local input holder ring key
+  rm -f "$dir/holds" "$dir/held"
+  mkfifo "$dir/holds"
+  "$dir/acts" hold entered <"$dir/holds" >"$dir/held" &
+  holder=$!
+  exec {input}>"$dir/holds"
+  until_true grep -q . "$dir/held"
+  read -r ring key <"$dir/held"
+  is 'a key of the session that the environment names' ok "$(KEYRETAIN_SESSION=$ring:entered "$dir/acts" read "$key")"
+  is 'the same by another serial' EACCES "$(KEYRETAIN_SESSION=$((ring + 1)):entered "$dir/acts" read "$key")"
+  is 'nor is that the session' EKEYREVOKED "$(KEYRETAIN_SESSION=$((ring + 1)):entered "$dir/acts" session)"
+  exec {input}>&-
+  finish "$holder"
 }
 
 # ---- Places

@@ -78,6 +78,8 @@ static void call_finders(void) {
     check("not linked yet", refused(keyctl_search(ring, "user", "of;user", 0), ENOKEY));
     check("the same, linked", find_key_by_type_and_desc("user", "of;user", ring) == own &&
           keyctl_search(ring, "user", "of;user", 0) == own && keyctl_unlink(own, ring) == 0);
+    check("a search by the number of its call, linked", keyctl(KEYCTL_SEARCH, ring, "user", "alpha", session) == key &&
+          keyctl_unlink(key, session) == 0);
     check("a request, linked", request_key("user", "alpha", NULL, session) == key && keyctl_unlink(key, session) == 0);
     check("they go", keyctl_unlink(own, KEY_SPEC_USER_KEYRING) == 0 &&
           keyctl_unlink(other, KEY_SPEC_USER_SESSION_KEYRING) == 0);
