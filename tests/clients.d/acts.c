@@ -206,7 +206,7 @@ static void read_by_effective_group(char **words) {
     puts(fine ? word_of(keyctl_read(key, &byte, 1) == 1) : "failed");
 }
 
-/* each: root, and one user after the other, of whom the first has a daemon of its own. More than a process remembers. */
+/* each: root, and one user after the other, more than a process remembers. The first has a daemon of its own. */
 static void ask_as_each(char **words) {
     (void)words;
     bool fine = keyctl_get_keyring_ID(KEY_SPEC_USER_KEYRING, 0) > 0;

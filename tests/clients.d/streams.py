@@ -545,9 +545,9 @@ def try_words():
 
 if __name__ == "__main__":
     for case in (try_children, try_children_ahead, try_held, try_cut_frames, try_late_replies, try_ahead,
-                 try_large_ahead, try_too_far, try_answered_then_gone, try_two_at_once, try_first_ask, try_deadlines, try_one_look,
-                 try_backlog, try_nonsense, try_listings, try_values, try_pickled, try_standard, try_reused,
-                 try_pipe_signal, try_words):
+                 try_large_ahead, try_too_far, try_answered_then_gone, try_two_at_once, try_first_ask, try_deadlines,
+                 try_one_look, try_backlog, try_nonsense, try_listings, try_values, try_pickled, try_standard,
+                 try_reused, try_pipe_signal, try_words):
         case()
     try_every_step("an ask", lambda client: client.read(1, 5))
     try_every_step("asks sent ahead", ahead)

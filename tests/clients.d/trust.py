@@ -339,7 +339,7 @@ print(client.enter_session(1))"""
         os.mkdir(runtime + "/keyretain")
         child, read = in_child(run)
         with os.fdopen(read) as answered:
-            compare("in a program that runs set-uid: the path, whom it trusts at one it names, whether it is in a session",
+            compare("in a program that runs set-uid: the path, whom it trusts at one it names, whether in a session",
                     "/run/keyretain/keyretain.sock\nNAMED\nFalse\n", answered.read())
         os.waitpid(child, 0)
 
