@@ -206,6 +206,16 @@ static void read_by_effective_group(char **words) {
     puts(fine ? word_of(keyctl_read(key, &byte, 1) == 1) : "failed");
 }
 
+/* saved: one user with a process keyring, then another, for whom root's uid is but saved, and the first one again. */
+static void come_back_by_saved(char **words) {
+    (void)words;
+    bool fine = seteuid(OTHER - 1) == 0;
+    key_serial_t ring = keyctl_get_keyring_ID(KEY_SPEC_PROCESS_KEYRING, 1);
+    fine = fine && ring > 0 && seteuid(0) == 0 && setresuid(OTHER, OTHER, 0) == 0;
+    fine = fine && keyctl_get_keyring_ID(KEY_SPEC_USER_KEYRING, 0) > 0 && seteuid(0) == 0 && seteuid(OTHER - 1) == 0;
+    puts(fine && keyctl_get_keyring_ID(KEY_SPEC_PROCESS_KEYRING, 0) == ring ? "the same" : "another");
+}
+
 /* each: root, and one user after the other, more than a process remembers. The first has a daemon of its own. */
 static void ask_as_each(char **words) {
     (void)words;
@@ -510,6 +520,7 @@ int main(int count, char **words) {
                   { "tried", take_identity_trying },
                   { "group", read_by_group },     { "back", go_and_come_back },
                   { "effective-group", read_by_effective_group }, { "each", ask_as_each },
+                  { "saved", come_back_by_saved },
                   { "process-one", be_process_one }, { "open", open_session },
                   { "hold", hold_session },       { "read", read_possessed },
                   { "join", join },               { "interrupted", join_interrupted },
