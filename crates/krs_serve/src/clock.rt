@@ -129,13 +129,15 @@ impl<'r, R: time::Clock> SystemClock<'r, R> {
             (begun self.old.timeline r.wall r.steady) r.wall r.steady (min (result * 1000) (2 ^ 64 - 1)))) }
         ensures failed { readings ≡ None → (result ≡ self.old.last) × (self.new.timeline ≡ self.old.timeline) }
         ensures kept { self.new.last ≡ result }
+        ensures rises { self.old.last ≤ result }
     {
         if let Some(Readings { wall, steady }) = readings {
             let timeline = match self.timeline {
                 Some(timeline) => timeline,
                 None => Timeline::starting(wall, steady),
             };
-            self.last = self.latest.meet(timeline.time_at(wall, steady) / 1000);
+            let seconds = self.latest.meet(timeline.time_at(wall, steady) / 1000);
+            self.last = self.last.max(seconds);
             let least = self.last.saturating_mul(1000);
             self.timeline = Some(timeline.after(wall, steady, least));
         }
@@ -151,7 +153,8 @@ fn millis(duration: Duration) -> u64
 }
 
 impl<'r, R: time::Clock> Clock for SystemClock<'r, R> {
-    // What is answered is kept. No contract tells what the system's clocks read.
+    // What is answered is kept, and no answer falls behind the one before it. No contract tells what the system's clocks
+    // read, nor that they are read.
     ghost ticked = { λ a moments b. IsKept a.last moments b.last };
 
     fn now(&mut self) -> u64 {
