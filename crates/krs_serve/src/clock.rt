@@ -10,11 +10,14 @@ use std::sync::atomic::{AtomicU64, Ordering};
 use std::time;
 use std::time::Duration;
 
-/// The latest answer of the clocks of one daemon, in seconds: what one connection's clock has come to, no other's stays
-/// behind.
+/// What the clocks of one daemon have come to, so that no connection's stays behind another's.
 #[derive(Drop)]
 pub struct Latest {
+    /// The latest answer.
     seconds: AtomicU64,
+    /// By how many milliseconds the time was ahead of the steady clock where a connection began, at most. By this the time
+    /// goes on after the wall clock was set back, also where no connection lasts.
+    lead: AtomicU64,
 }
 
 impl Latest {
@@ -22,7 +25,21 @@ impl Latest {
     pub fn new() -> Latest {
         Latest {
             seconds: AtomicU64::new(0),
+            lead: AtomicU64::new(0),
         }
+    }
+
+    /// The first answer of a clock, whose time is so many milliseconds as the steady clock reads so many.
+    fn begin(&self, time: u64, steady: u64) -> u64
+        ensures { time / 1000 ≤ result }
+    {
+        let lead = self.lead.load(Ordering::Relaxed);
+        let time = time.max(steady.saturating_add(lead));
+        let seconds = self.meet(time / 1000);
+        let known = time.max(seconds.saturating_mul(1000));
+        self.lead
+            .fetch_max(known.saturating_sub(steady), Ordering::Relaxed);
+        seconds
     }
 
     /// The answer of a clock that has come to so many seconds, which is made known.
@@ -132,11 +149,17 @@ impl<'r, R: time::Clock> SystemClock<'r, R> {
         ensures rises { self.old.last ≤ result }
     {
         if let Some(Readings { wall, steady }) = readings {
-            let timeline = match self.timeline {
-                Some(timeline) => timeline,
-                None => Timeline::starting(wall, steady),
+            let (timeline, seconds) = match self.timeline {
+                Some(timeline) => {
+                    let seconds = timeline.time_at(wall, steady) / 1000;
+                    (timeline, self.latest.meet(seconds))
+                }
+                None => {
+                    let timeline = Timeline::starting(wall, steady);
+                    let time = timeline.time_at(wall, steady);
+                    (timeline, self.latest.begin(time, steady))
+                }
             };
-            let seconds = self.latest.meet(timeline.time_at(wall, steady) / 1000);
             self.last = self.last.max(seconds);
             let least = self.last.saturating_mul(1000);
             self.timeline = Some(timeline.after(wall, steady, least));

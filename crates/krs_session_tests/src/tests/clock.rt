@@ -63,6 +63,16 @@ const SECOND: [Row; 2] = [
     (Some(1_000_010_500), Some(15_500), 316_363_610),
 ];
 
+/// Those of connections of one answer each, one after the other.
+#[rattlefmt::skip]
+const SHORT: [Row; 4] = [
+    (Some(1_000_000_000), Some(5_000), 1_000_000),
+    (Some(1_000_010_000), Some(15_000), 1_000_010),
+    // Set back by an hour.
+    (Some(996_420_000), Some(25_000), 1_000_020),
+    (Some(996_430_500), Some(35_500), 1_000_030),
+];
+
 fn check_rows(rt: &impl Abort, latest: &Latest, rows: &[Row]) {
     let set = Set {
         wall: Cell::new(None),
@@ -76,9 +86,25 @@ fn check_rows(rt: &impl Abort, latest: &Latest, rows: &[Row]) {
     }
 }
 
+/// A connection for each row.
+fn check_each(rt: &impl Abort, latest: &Latest, rows: &[Row]) {
+    for row in rows {
+        check_rows(rt, latest, &[*row]);
+    }
+}
+
 #[test]
 fn a_step_of_the_wall_clock_heals(rt: HostRuntime) {
     let latest = Latest::new();
     check_rows(&rt, &latest, &FIRST);
     check_rows(&rt, &latest, &SECOND);
+}
+
+#[test]
+fn the_time_goes_on_where_no_connection_lasts(rt: HostRuntime) {
+    let latest = Latest::new();
+    check_each(&rt, &latest, &SHORT);
+    let latest = Latest::new();
+    check_rows(&rt, &latest, &FIRST);
+    check_each(&rt, &latest, &SECOND);
 }
