@@ -249,7 +249,7 @@ try_left() {
   "$dir/acts" left <"$dir/leaves" >"$dir/left" &
   left=$!
   exec {input}>"$dir/leaves"
-  until_true grep -q . "$dir/left"
+  until_true test -s "$dir/left"
   until_true has_one_keeper
   is 'sessions that a process has left, or not entered, are held by nobody' 'ok, 1 keeper' \
     "$(<"$dir/left"), $(keepers | wc -l) keeper"
