@@ -12,6 +12,7 @@ mod confidentiality;
 mod desk;
 mod giving;
 mod helping;
+mod integrity;
 mod keeping;
 mod laws;
 mod meeting;

@@ -4,3 +4,4 @@ pub mod Legal
 pub mod Determined
 pub mod Revocations
 pub mod Streams
+pub mod Belongings

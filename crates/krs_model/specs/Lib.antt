@@ -33,4 +33,5 @@ pub mod Hiding
 pub mod Secrecy
 pub mod Confidentiality
 pub mod Joined
+pub mod Belonging
 pub mod Laws

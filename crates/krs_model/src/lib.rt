@@ -2,10 +2,14 @@
 //! The functions here have no body to speak of: their contracts are laws of the definitions, in the subject's words.
 #![tactic(auto)]
 
+mod belonging;
 mod confidentiality;
 mod laws;
 mod secrets;
 
+pub use belonging::{
+    contexts_are_their_clients, nothing_is_left_of_a_client, readers_have_named_themselves,
+};
 pub use confidentiality::{
     a_uid_begins_without_keys, keys_made_within_are_not_given_away, new_keys_are_its_users_alone,
     no_user_reads_anothers_keys, nothing_flows_between_users, only_its_user_gives_a_key_away,

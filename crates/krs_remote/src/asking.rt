@@ -11,7 +11,7 @@ ghost use Rattle.krs_wire.specs.Encoding.{ask_frame, ask_text};
 ghost use Rattle.krs_wire.specs.Reply.{is_bad_reply_length, reply_frame, reply_front, shape_of, HasShape, IsFound};
 ghost use Rattle.krs_remote.specs.Talking.{Exchanges, GivesReply, GivesUp, IsReply, NotSent, cause_of};
 
-use krs_types::{Ask, Op, Reply};
+use krs_types::{Ask, Blob, Op, Reply};
 use krs_wire::{WireFault, decode_reply2, encode_ask2};
 use krs_words::{Stop, write_text};
 use std::alloc::Global;
@@ -41,7 +41,7 @@ pub fn send<T: Write>(alloc: Global, to: &mut T, ask: &Ask, tag: u64) -> Result<
     ensures ok { OnOk result (Appends (T.contents to.old) (T.contents to.new) (ask_frame (Some tag) ask.now)) }
     ensures err { IfErr result (NotSent (T.contents to.old) tag ask.now (T.contents to.new)) }
 {
-    let frame = frame_of(alloc, ask, tag)?;
+    let frame = Blob::new(frame_of(alloc, ask, tag)?);
     match write_text(to, frame.as_slice()) {
         Ok(()) => Ok(()),
         Err(_) => Err(Stop::Connection),

@@ -1,5 +1,3 @@
 mod SessionsLemmas
 mod DaemonLemmas
-mod CommandLineLemmas
-mod EndLemmas
 mod OneDeskLemmas

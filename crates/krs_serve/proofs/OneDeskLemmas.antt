@@ -15,11 +15,14 @@ use Rattle.krs_world.specs.Knowing.{events_of}
 use Rattle.krs_world.proofs.Keeping.{prefix_self, prefix_trans, prefix_both, events_prefix}
 use Rattle.krs_desk.specs.Sitting.{Sitting, Meets, IsIdleAt}
 use Rattle.krs_desk.specs.Seen.{IsOneHistory}
+use Rattle.krs_session.specs.declared.clock.Clock as clocks
 use Rattle.krs_session.specs.declared.ended.Ended.{Ended}
-use Rattle.krs_session.specs.Leads.{Leads, Gains}
+use Rattle.krs_session.specs.declared.source_and_sink.Sink as sinks
+use Rattle.krs_session.specs.declared.source_and_sink.Source as sources
+use Rattle.krs_session.specs.Leads.{Gains}
 use Rattle.krs_session.proofs.LeadLemmas.{gains_by}
 use Rattle.krs_serve.specs.declared.entry.Entry.{Entry}
-use Rattle.krs_serve.specs.Sessions.{ServesEntry}
+use Rattle.krs_serve.specs.Sessions.{ServesAtDesk}
 use Rattle.krs_serve.specs.OneDesk.{ServesInHistory, ServeInOneHistory}
 use Rattle.krs_serve.specs.OneDesk.{SeesMore, HasJustItsCalls, HasMet, MeetsEach, StandsIn, HaveOneHistory}
 
@@ -273,12 +276,10 @@ not_none : (xs : List Event) (x : Event) → xs ++ x ∷ [] ≢ []
 not_none [] x = λ e. absurd (cc)
 not_none (y ∷ ys) x = λ e. absurd (cc)
 
-module _ {R C W : Type 0} (gave : R → List ℕ → R → Type 0) (ticked : C → List ℕ → C → Type 0)
-    (took : W → List ℕ → W → Type 0) (reads empties failed_reads : R → ℕ) (failed_writes : W → ℕ) (turns : ℕ) where
+module _ {R C W : Type 0} (source : sources.Ghosts R) (timer : clocks.Ghosts C) (sink : sinks.Ghosts W) (turns : ℕ) where
   -- a session on a seat, by a pair of its entry and the seat
   abbrev Serves : Entry R W C × Sitting → Sitting × Ended → Type 0
-  Serves job done = ServesEntry gave Leads ticked took (λ s. s.part.lane) reads empties failed_reads failed_writes turns
-      job.0.reader job.1 job.0.clock job.0.writer done.0 done.1
+  Serves job done = ServesAtDesk source timer sink turns job.0 job.1 done.0 done.1
 
   gained : (job : Entry R W C × Sitting) (done : Sitting × Ended) → (h : Serves job done)
       → Gains job.1 (h.session.events ++ h.session.last ∷ []) done.0
@@ -296,8 +297,7 @@ module _ {R C W : Type 0} (gave : R → List ℕ → R → Type 0) (ticked : C �
 
   stands_one : (start : State) (log : List Event) (job : Entry R W C × Sitting) (done : Sitting × Ended)
       (last : Sitting) → Serves job done → StandsIn start log done.0 last
-      → ServesInHistory gave ticked took reads empties failed_reads failed_writes turns start log job.0.reader job.1
-      job.0.clock job.0.writer last done.1
+      → ServesInHistory source timer sink turns start log job.0 job.1 last done.1
   stands_one start log job done last h stands =
       let gains = gained job done h in
       record {
@@ -313,22 +313,21 @@ module _ {R C W : Type 0} (gave : R → List ℕ → R → Type 0) (ticked : C �
   stand_all : (start : State) (log : List Event) (jobs : List (Entry R W C × Sitting))
       (served later : List (Sitting × Ended)) → AllZip Serves jobs served
       → AllZip (λ s t. StandsIn start log s.0 t.0 × (t.1 ≡ s.1)) served later
-      → AllZip (λ job done. ServesInHistory gave ticked took reads empties failed_reads failed_writes turns start log
-      job.0.reader job.1 job.0.clock job.0.writer done.0 done.1) jobs later
+      → AllZip (λ job done. ServesInHistory source timer sink turns start log job.0 job.1 done.0 done.1) jobs later
   stand_all start log [] [] [] h s = tt
   stand_all start log [] [] (t ∷ later) h s = absurd s
   stand_all start log [] (d ∷ served) later h s = absurd h
   stand_all start log (j ∷ jobs) [] later h s = absurd h
   stand_all start log (j ∷ jobs) (d ∷ served) [] h s = absurd s
   stand_all start log (j ∷ jobs) (d ∷ served) (t ∷ later) h s = (
-    subst (λ (e : Ended). ServesInHistory gave ticked took reads empties failed_reads failed_writes turns start log
-        j.0.reader j.1 j.0.clock j.0.writer t.0 e) (sym s.0.1) (stands_one start log j d t.0 h.0 s.0.0),
+    subst (λ (e : Ended). ServesInHistory source timer sink turns start log j.0 j.1 t.0 e) (sym s.0.1)
+        (stands_one start log j d t.0 h.0 s.0.0),
     stand_all start log jobs served later h.1 s.1,
   )
 
   pub serve_in_one_history : (jobs : List (Entry R W C × Sitting)) (served later : List (Sitting × Ended))
       → AllZip Serves jobs served → HaveOneHistory served later
-      → ServeInOneHistory gave ticked took reads empties failed_reads failed_writes turns jobs later
+      → ServeInOneHistory source timer sink turns jobs later
   serve_in_one_history jobs served later h one = record {
     opening = one.opening;
     log = one.log;

@@ -1,10 +1,3 @@
-pub mod Accepting
-pub mod Clock
-pub mod CommandLine
-pub mod Choice
-pub mod Daemon
-pub mod Saying
-pub mod Timeline
 pub mod Sessions
 pub mod OneDesk
 pub mod AtDesk

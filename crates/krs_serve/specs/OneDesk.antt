@@ -8,10 +8,12 @@ use Rattle.krs_model.specs.History.{IsLegal}
 use Rattle.krs_world.specs.Knowing.{events_of}
 use Rattle.krs_desk.specs.Sitting.{Sitting}
 use Rattle.krs_desk.specs.Seen.{IsOneHistory}
+use Rattle.krs_session.specs.declared.clock.Clock as clocks
 use Rattle.krs_session.specs.declared.ended.Ended.{Ended}
-use Rattle.krs_session.specs.Leads.{Leads}
+use Rattle.krs_session.specs.declared.source_and_sink.Sink as sinks
+use Rattle.krs_session.specs.declared.source_and_sink.Source as sources
 use Rattle.krs_serve.specs.declared.entry.Entry.{Entry}
-use Rattle.krs_serve.specs.Sessions.{ServesEntry}
+use Rattle.krs_serve.specs.Sessions.{ServesAtDesk}
 
 -- from one seat to another more was seen, and nothing else has changed: no call was made
 pub record SeesMore (s t : Sitting) : Type 0 where
@@ -62,13 +64,11 @@ pub record HaveOneHistory {E : Type 0} (seats later : List (Sitting × E)) : Typ
 -- A session on a seat of a desk, from bytes to bytes (`session` of `ServesEntry`), and where it stands in a history.
 -- The history begins with all that the seat had seen, and its events of the seat's lane are those from before, and then
 -- those of the session: what its frames ask, in order, and one LEAVE.
-pub record ServesInHistory {R C W : Type 0} (gave : R → List ℕ → R → Type 0) (ticked : C → List ℕ → C → Type 0)
-    (took : W → List ℕ → W → Type 0) (reads empties failed_reads : R → ℕ) (failed_writes : W → ℕ) (turns : ℕ)
-    (start : State) (log : List Event) (reader : R) (seat : Sitting) (clock : C) (writer : W) (last_seat : Sitting)
+pub record ServesInHistory {R C W : Type 0} (source : sources.Ghosts R) (timer : clocks.Ghosts C) (sink : sinks.Ghosts W)
+    (turns : ℕ) (start : State) (log : List Event) (connection : Entry R W C) (seat last_seat : Sitting)
     (ended : Ended) : Type 0 where
   pub left : Sitting
-  pub served : ServesEntry gave Leads ticked took (λ s. s.part.lane) reads empties failed_reads failed_writes turns
-      reader seat clock writer left ended
+  pub served : ServesAtDesk source timer sink turns connection seat left ended
   pub opening : seat.opening ≡ start
   pub seen : Begins left.part.seen log
   pub calls : events_of seat.part.lane log
@@ -76,12 +76,12 @@ pub record ServesInHistory {R C W : Type 0} (gave : R → List ℕ → R → Typ
   pub more : SeesMore left last_seat
 
 -- many sessions at once: there is one legal history, in which each of them stands so
-pub record ServeInOneHistory {R C W : Type 0} (gave : R → List ℕ → R → Type 0) (ticked : C → List ℕ → C → Type 0)
-    (took : W → List ℕ → W → Type 0) (reads empties failed_reads : R → ℕ) (failed_writes : W → ℕ) (turns : ℕ)
-    (jobs : List (Entry R W C × Sitting)) (served : List (Sitting × Ended)) : Type 0 where
+pub record ServeInOneHistory {R C W : Type 0} (source : sources.Ghosts R) (timer : clocks.Ghosts C)
+    (sink : sinks.Ghosts W) (turns : ℕ) (jobs : List (Entry R W C × Sitting)) (served : List (Sitting × Ended))
+    : Type 0 where
   pub opening : State
   pub log : List Event
   pub last : State
   pub legal : IsLegal opening log last
-  pub each : AllZip (λ job done. ServesInHistory gave ticked took reads empties failed_reads failed_writes turns
-      opening log job.0.reader job.1 job.0.clock job.0.writer done.0 done.1) jobs served
+  pub each : AllZip (λ job done. ServesInHistory source timer sink turns opening log job.0 job.1 done.0 done.1) jobs
+      served

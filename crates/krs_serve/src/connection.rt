@@ -1,67 +1,140 @@
-ghost use Rattle.std.specs.Prelude.{◌≡◌, List};
+//! A seat of the daemon's desk, a guest who is served there, and its session. Nothing else in this crate reaches a seat
+//! that was dealt, or a guest's ends.
+ghost use Rattle.std.specs.Prelude.{◌≡◌, [], List, All, IfOk, vec_len};
 ghost use Rattle.krs_types.specs.declared.event.Event.{Event};
+ghost use Rattle.krs_model.specs.State.{starting_at};
+ghost use Rattle.krs_desk.specs.Sitting.{IsIdleAt};
 ghost use Rattle.krs_wire.specs.declared.framed.Framed.{Framed};
+ghost use Rattle.krs_session.specs.declared.ended.Ended.{Ended};
 ghost use Rattle.krs_session.specs.Leads.{GainsSession};
-ghost use Rattle.krs_session.specs.Over.{over_end, over_reads, over_empties, over_failures};
+ghost use Rattle.krs_session.specs.Session.{HaveRoom, counts_of};
+ghost use Rattle.krs_serve.specs.Sessions.{ServesAtDesk, entry};
 
-use crate::sitting::serve_sitting;
-use crate::{AtDesk, Entry, Latest, Sitting, SystemClock};
-use krs_session::Over;
-use std::alloc::Global;
-use std::marker::PhantomData;
-use std::os::unix::net::UnixStream;
+use crate::{Entry, OpenGate, serve_entry};
+use krs_desk::{Desk, Seat};
+use krs_session::{Clock, Sink, Source, a_session_is_its_asks_and_leave};
+use std::alloc::{AllocError, Global};
+use std::marker::{Brand, PhantomData};
 use std::sync::Wait;
-use std::time;
 
-/// A connection that was accepted for a daemon's desk: it is served there, or nowhere.
-#[derive(Drop)]
-pub struct Guest<N: AtDesk> {
-    stream: UnixStream,
-    at: PhantomData<N>,
+/// How many reads a connection may make.
+const TURNS: u64 = 16_777_216;
+
+/// At which desk the connections of a daemon sit: it is one for all of them. Each daemon picks its own.
+pub trait AtDesk {
+    ghost use Rattle.atomic_table.specs.Seated.{TableId};
+
+    ghost desk: { TableId };
 }
 
-impl<N: AtDesk> Guest<N> {
-    pub fn new(stream: UnixStream) -> Guest<N> {
+impl AtDesk for Brand {
+    ghost use Rattle.krs_serve.specs.AtDesk.{any_desk};
+
+    ghost desk = { any_desk };
+}
+
+/// A seat beside its desk, as it goes from one thread to another. The desk was opened with an empty store. The seat is as
+/// it was dealt, or as its last session left it.
+#[derive(Drop)]
+pub struct Sitting<'d, N: AtDesk> {
+    desk: &'d Desk,
+    seat: Seat,
+    at: PhantomData<N>,
+    pub ghost here: { desk.now ≡ N.desk },
+    pub ghost own: { IsIdleAt N.desk seat },
+    pub ghost empty: { seat.opening ≡ starting_at 3 },
+}
+
+/// A seat that was dealt, or left by a session, beside its desk.
+fn sitting_of<'d, N: AtDesk>(desk: &'d Desk, seat: Seat) -> Sitting<'d, N>
+    requires here { desk.now ≡ N.desk }
+    requires own { IsIdleAt N.desk seat }
+    requires empty { seat.opening ≡ starting_at 3 }
+    ensures desk { result.desk ≡ desk.entry }
+    ensures seat { result.seat ≡ seat }
+{
+    Sitting {
+        desk,
+        seat,
+        at: PhantomData,
+    }
+}
+
+/// Each seat beside its desk. Nothing was asked on any of them.
+pub fn seated<'d, N: AtDesk>(
+    alloc: Global,
+    desk: &'d Desk,
+    seats: Vec<Seat>,
+) -> Result<Vec<Sitting<'d, N>>, AllocError>
+    requires here { desk.now ≡ N.desk }
+    requires own { All (IsIdleAt N.desk) seats.items }
+    requires empty { All (λ seat. seat.opening ≡ starting_at 3) seats.items }
+    requires unasked { All (λ seat. seat.part.mine ≡ []) seats.items }
+    ensures count { IfOk result (λ sittings. vec_len sittings ≡ vec_len seats) }
+    ensures unasked { IfOk result (λ sittings. All (λ s. s.seat.part.mine ≡ []) sittings.items) }
+{
+    let mut left = seats;
+    let count = left.len();
+    let mut sittings = Vec::with_capacity(alloc, count)?;
+    'seats: for _turn in 0..count {
+        if let Some(seat) = left.pop() {
+            sittings.push_reserved(sitting_of(desk, seat));
+        }
+    }
+    Ok(sittings)
+}
+
+/// A connection that was accepted, at the seat that was free for it. Whoever lets it go unserved lets its seat go.
+#[derive(Drop)]
+pub struct Guest<'d, N: AtDesk, R: Source + Drop, W: Sink + Drop> {
+    sitting: Sitting<'d, N>,
+    reader: R,
+    writer: W,
+    pub ghost room: { HaveRoom 16777216 (counts_of R.reads R.empties R.failures W.failures reader writer) },
+}
+
+impl<'d, N: AtDesk, R: Source + Drop, W: Sink + Drop> Guest<'d, N, R, W> {
+    pub(crate) fn new(sitting: Sitting<'d, N>, reader: R, writer: W) -> Guest<'d, N, R, W>
+        requires room { HaveRoom 16777216 (counts_of R.reads R.empties R.failures W.failures reader writer) }
+        ensures sitting { result.sitting ≡ sitting.entry }
+        ensures reader { result.reader ≡ reader }
+        ensures writer { result.writer ≡ writer }
+    {
         Guest {
-            stream,
-            at: PhantomData,
+            sitting,
+            reader,
+            writer,
         }
     }
 }
 
-/// A stream as a connection: it is both ends, and the asks take the system's clock.
-fn entry_of<'s, 'r, R: time::Clock>(
-    rt: &'r R,
-    latest: &'r Latest,
-    stream: &'s UnixStream,
-) -> Entry<Over<&'s UnixStream>, Over<&'s UnixStream>, SystemClock<'r, R>>
-    ensures reader { over_end result.reader ≡ stream.entry }
-    ensures writer { over_end result.writer ≡ stream.entry }
-    ensures reads { over_reads result.reader ≡ 0 }
-    ensures empties { over_empties result.reader ≡ 0 }
-    ensures read_failures { over_failures result.reader ≡ 0 }
-    ensures failures { over_failures result.writer ≡ 0 }
-{
-    Entry {
-        reader: Over::new(stream),
-        writer: Over::new(stream),
-        clock: SystemClock::new(rt, latest),
-    }
-}
-
-/// Serves a connection to its end, which closes it. The seat has then gained the calls that the frames of the
-/// connection ask, and one LEAVE: docs/FORMAT.md, "A connection".
-pub fn serve_connection<'d, N: AtDesk, R: Wait + time::Clock>(
-    rt: &R,
+/// Serves a connection to its end, which closes it: docs/FORMAT.md, "A connection". Its asks are those of the bytes that
+/// it sent, and what was written to it is the text of their replies. The seat has gained these calls, and one LEAVE. A
+/// connection makes 16777216 reads at most.
+pub fn serve_connection<'d, N: AtDesk, H: Wait, R: Source + Drop, W: Sink + Drop, C: Clock + Drop>(
+    rt: &H,
     alloc: Global,
-    latest: &Latest,
-    guest: Guest<N>,
-    sitting: Sitting<'d, N>,
+    guest: Guest<'d, N, R, W>,
+    clock: C,
 ) -> Sitting<'d, N>
-    ensures desk { result.desk ≡ sitting.entry.desk }
-    ensures session { (frames : List Framed) × (calls : List Event)
-        × GainsSession sitting.entry.seat frames calls result.seat }
+    ensures desk { result.desk ≡ guest.entry.sitting.desk }
+    ensures session { (ended : Ended) × ServesAtDesk R.Source C.Clock W.Sink 16777216
+        (entry guest.entry.reader guest.entry.writer clock) guest.entry.sitting.seat result.seat ended }
+    ensures gains { (frames : List Framed) × (calls : List Event)
+        × GainsSession guest.entry.sitting.seat frames calls result.seat }
 {
-    let (sitting, _ended) = serve_sitting(rt, alloc, entry_of(rt, latest, &guest.stream), sitting);
-    sitting
+    let Guest {
+        sitting,
+        reader,
+        writer,
+    } = guest;
+    let Sitting { desk, seat, at: _ } = sitting;
+    a_session_is_its_asks_and_leave::<R, W, C>();
+    let connection = Entry {
+        reader,
+        writer,
+        clock,
+    };
+    let (seat, _ended) = serve_entry(rt, alloc, connection, desk, seat, &OpenGate, TURNS);
+    sitting_of(desk, seat)
 }

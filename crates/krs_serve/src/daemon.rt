@@ -4,16 +4,18 @@ ghost use Rattle.std.specs.Vec.Iter.{into_iter_items};
 ghost use Rattle.krs_model.specs.State.{starting_at};
 ghost use Rattle.krs_links.specs.Seeded.{random_seed};
 ghost use Rattle.krs_desk.specs.Sitting.{IsIdleAt, fresh_seats};
-ghost use Rattle.krs_serve.specs.declared.choice.Choice.{Choice as ChoiceIs};
-ghost use Rattle.krs_serve.specs.Choice.{IsUnread, LeadsTo};
-ghost use Rattle.krs_serve.specs.Daemon.{Answers, EndsAs, Serves, connections_of, served_line};
-ghost use Rattle.krs_serve.specs.Saying.{heard};
+ghost use Rattle.krs_listen.specs.declared.choice.Choice.{Choice as ChoiceIs};
+ghost use Rattle.krs_listen.specs.Choice.{IsUnread, LeadsTo};
+ghost use Rattle.krs_listen.specs.Daemon.{Answers, EndsAs, Serves, connections_of, served_line};
+ghost use Rattle.krs_listen.specs.Saying.{heard};
 
-use crate::choice::{Choice, choose};
-use crate::listening::{Accepted, accept_all};
-use crate::saying::{Lines, NOT_BOUND, OUT_OF_MEMORY, USAGE, Voice};
-use crate::{Accepts, AtDesk, FreeSeats, Latest, Options, seated};
+use crate::listening::{Hosting, accept_all};
+use crate::{AtDesk, seated};
 use krs_desk::{Desk, Refused, Seat};
+use krs_listen::{
+    Accepted, Accepts, Choice, FreeSeats, Latest, Lines, NOT_BOUND, OUT_OF_MEMORY, Options, USAGE,
+    Voice, choose,
+};
 use krs_store::{Seed, Store};
 use std::alloc::Global;
 use std::env::Args;
@@ -119,11 +121,9 @@ fn bound(rt: &(impl Files + Net), path: &str) -> Option<UnixListener>
 }
 
 /// Accepts and serves so many connections, takes the path away, and tells how that ended. It gives their counts.
-fn serve_all<'d, N: AtDesk + Send + Sync, R: Clock + Files + Threads + Wait + Sync, W: Write>(
-    rt: &R,
-    alloc: Global,
+fn serve_all<'s, 'd, N: AtDesk + Send + Sync, R: Clock + Files + Threads + Wait + Sync, W: Write>(
+    hosting: &'s Hosting<'s, 'd, N, R>,
     listener: UnixListener,
-    free: &FreeSeats<'d, N>,
     connections: u64,
     path: &str,
     lines: &Lines,
@@ -133,9 +133,8 @@ fn serve_all<'d, N: AtDesk + Send + Sync, R: Clock + Files + Threads + Wait + Sy
     ensures { EndsAs connections result.1.accepted result.1.failures
         (heard W.contents output.old) (heard W.contents output.new) result.0 }
 {
-    let latest = Latest::new();
-    let (accepted, counts) = accept_all(rt, alloc, listener, free, &latest, connections, output);
-    let _ = fs::remove_file(rt, path);
+    let (accepted, counts) = accept_all(hosting, listener, connections, output);
+    let _ = fs::remove_file(hosting.rt, path);
     match accepted {
         Accepted::All => {
             output.say(lines.served.as_str());
@@ -188,18 +187,15 @@ fn listen_at<N: AtDesk + Send + Sync, R: Clock + Files + Net + Threads + Wait + 
         output.say(NOT_BOUND);
         return 3;
     };
-    let free = FreeSeats::new(sittings);
+    let (free, latest) = (FreeSeats::new(sittings), Latest::new());
     output.say(lines.listening.as_str());
-    let (status, _counts) = serve_all(
+    let hosting = Hosting {
         rt,
         alloc,
-        listener,
-        &free,
-        connections,
-        path,
-        &lines,
-        output,
-    );
+        free: &free,
+        latest: &latest,
+    };
+    let (status, _counts) = serve_all(&hosting, listener, connections, path, &lines, output);
     status
 }
 

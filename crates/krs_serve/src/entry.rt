@@ -35,9 +35,7 @@ pub fn serve_entry<
     requires ready { D.ready desk.now seat }
     requires room { HaveRoom turns
         (counts_of R.reads R.empties R.failures W.failures connection.reader connection.writer) }
-    ensures session { ServesEntry R.gave D.leads C.ticked W.took D.lane_of
-        R.reads R.empties R.failures W.failures turns
-        connection.reader seat connection.clock connection.writer result.0 result.1 }
+    ensures session { ServesEntry R.Source C.Clock W.Sink D.leads D.lane_of turns connection seat result.0 result.1 }
     ensures ready { D.ready desk.now result.0 }
     ensures lane { D.lane_of result.0 ≡ D.lane_of seat }
 {

@@ -1,11 +1,10 @@
 ghost use Rattle.std.specs.Prelude.{◌≡◌, ◌<◌, ◌+◌, ◌^◌};
-ghost use Rattle.krs_serve.specs.Daemon.{AcceptsBy, TellsAccepted};
-ghost use Rattle.krs_serve.specs.Saying.{heard};
+ghost use Rattle.krs_listen.specs.Daemon.{AcceptsBy, TellsAccepted};
+ghost use Rattle.krs_listen.specs.Saying.{heard};
 
-use crate::saying::{NOT_ACCEPTED, Voice};
-use crate::{
-    Acceptor, Accepts, AtDesk, FreeSeats, Guest, Latest, Sitting, SocketAcceptor, serve_connection,
-};
+use crate::{Acceptor, AtDesk, Guest, Sitting, SocketGuest, SystemClock, serve_connection};
+use krs_listen::{Accepted, Accepts, FreeSeats, Latest, NOT_ACCEPTED, SocketAcceptor, Voice};
+use krs_session::{Sink, Source};
 use std::alloc::Global;
 use std::io::Write;
 use std::os::unix::net::UnixListener;
@@ -14,38 +13,33 @@ use std::thread;
 use std::thread::{Scope, Threads};
 use std::time::Clock;
 
-/// How the accepting of connections ended.
-#[derive(Clone, Copy, Debug, PartialEq, Eq)]
-pub enum Accepted {
-    /// As many as were asked for were accepted.
-    All,
-    /// An accept failed.
-    Failed,
+/// What each connection is given.
+#[derive(Drop)]
+pub struct Hosting<'s, 'd, N: AtDesk, R> {
+    pub rt: &'s R,
+    pub alloc: Global,
+    /// The seats, and where its own goes when it has ended.
+    pub free: &'s FreeSeats<Sitting<'d, N>>,
+    pub latest: &'s Latest,
 }
 
-/// Serves a connection on a seat of its desk, and gives the seat back.
-fn serve_guest<'d, N: AtDesk, R: Wait + Clock>(
-    rt: &R,
-    alloc: Global,
-    free: &FreeSeats<'d, N>,
-    latest: &Latest,
-    guest: Guest<N>,
-    sitting: Sitting<'d, N>,
+/// Serves a connection on its seat, by a clock of its own, and gives the seat back.
+fn serve_guest<'s, 'd, N: AtDesk, R: Wait + Clock, I: Source + Drop, O: Sink + Drop>(
+    hosting: &Hosting<'s, 'd, N, R>,
+    guest: Guest<'d, N, I, O>,
 ) {
-    free.give(rt, serve_connection(rt, alloc, latest, guest, sitting));
+    let clock = SystemClock::new(hosting.rt, hosting.latest);
+    let sitting = serve_connection(hosting.rt, hosting.alloc, guest, clock);
+    hosting.free.give(hosting.rt, sitting);
 }
 
 /// Has a connection served in a thread of its own. Where no thread can be started it is served at once.
 fn serve_apart<'s, 'd, E, N: AtDesk + Send + Sync, R: Threads + Wait + Clock + Sync>(
-    rt: &'s R,
-    alloc: Global,
-    free: &'s FreeSeats<'d, N>,
-    latest: &'s Latest,
-    guest: Guest<N>,
-    sitting: Sitting<'d, N>,
+    hosting: &'s Hosting<'s, 'd, N, R>,
+    guest: SocketGuest<'d, N>,
     scope: &'s Scope<'s, E>,
 ) {
-    let serving = move || serve_guest(rt, alloc, free, latest, guest, sitting);
+    let serving = move || serve_guest(hosting, guest);
     if let Err(refused) = scope.spawn(serving) {
         (refused.value)();
     }
@@ -59,14 +53,11 @@ fn accept_each<
     E,
     N: AtDesk + Send + Sync,
     R: Threads + Wait + Clock + Sync,
-    A: Acceptor<Guest<N>, Sitting<'d, N>>,
+    A: Acceptor<SocketGuest<'d, N>, Sitting<'d, N>>,
     W: Write,
 >(
-    rt: &'s R,
-    alloc: Global,
+    hosting: &'s Hosting<'s, 'd, N, R>,
     acceptor: &mut A,
-    free: &'s FreeSeats<'d, N>,
-    latest: &'s Latest,
     connections: u64,
     output: &mut Voice<W>,
     scope: &'s Scope<'s, E>,
@@ -78,12 +69,11 @@ fn accept_each<
     ensures told { TellsAccepted result (heard W.contents output.old) (heard W.contents output.new) }
 {
     'accepts: for made in 0..connections {
-        let sitting = free.take(rt);
-        match acceptor.accept(&sitting) {
-            Ok(guest) => serve_apart(rt, alloc, free, latest, guest, sitting, scope),
-            Err(_) => {
+        match acceptor.accept(hosting.free.take(hosting.rt)) {
+            Ok(guest) => serve_apart(hosting, guest, scope),
+            Err(sitting) => {
                 output.say(NOT_ACCEPTED);
-                free.give(rt, sitting);
+                hosting.free.give(hosting.rt, sitting);
                 return Accepted::Failed;
             }
         }
@@ -93,11 +83,8 @@ fn accept_each<
 
 /// The same over a socket, which is closed then, so that whoever connects is refused. It gives the counts.
 fn accept_over<'s, 'd, E, N: AtDesk + Send + Sync, R: Threads + Wait + Clock + Sync, W: Write>(
-    rt: &'s R,
-    alloc: Global,
+    hosting: &'s Hosting<'s, 'd, N, R>,
     listener: UnixListener,
-    free: &'s FreeSeats<'d, N>,
-    latest: &'s Latest,
     connections: u64,
     output: &mut Voice<W>,
     scope: &'s Scope<'s, E>,
@@ -105,46 +92,29 @@ fn accept_over<'s, 'd, E, N: AtDesk + Send + Sync, R: Threads + Wait + Clock + S
     ensures count { AcceptsBy connections 0 result.1.accepted 0 result.1.failures result.0 }
     ensures told { TellsAccepted result.0 (heard W.contents output.old) (heard W.contents output.new) }
 {
-    let mut acceptor = SocketAcceptor::new(rt, listener, free);
-    let accepted = accept_each(
-        rt,
-        alloc,
-        &mut acceptor,
-        free,
-        latest,
-        connections,
-        output,
-        scope,
-    );
+    let mut acceptor = SocketAcceptor::new(hosting.rt, hosting.alloc, listener, hosting.free);
+    let accepted = accept_each(hosting, &mut acceptor, connections, output, scope);
     (accepted, acceptor.close())
 }
 
 /// Accepts so many connections, and gives their counts. A failed accept is told at once. Then the socket is closed, and
 /// what was accepted is served to its end.
-pub fn accept_all<'d, N: AtDesk + Send + Sync, R: Threads + Wait + Clock + Sync, W: Write>(
-    rt: &R,
-    alloc: Global,
+pub fn accept_all<'s, 'd, N: AtDesk + Send + Sync, R: Threads + Wait + Clock + Sync, W: Write>(
+    hosting: &'s Hosting<'s, 'd, N, R>,
     listener: UnixListener,
-    free: &FreeSeats<'d, N>,
-    latest: &Latest,
     connections: u64,
     output: &mut Voice<W>,
 ) -> (Accepted, Accepts)
     ensures count { AcceptsBy connections 0 result.1.accepted 0 result.1.failures result.0 }
     ensures told { TellsAccepted result.0 (heard W.contents output.old) (heard W.contents output.new) }
 {
-    let (accepted, counts, _output) = thread::scope(thread::scope_env(), rt, move |scope| {
-        let (accepted, counts) = accept_over(
-            rt,
-            alloc,
-            listener,
-            free,
-            latest,
-            connections,
-            output,
-            scope,
-        );
-        (accepted, counts, output)
-    });
+    let (accepted, counts, _output) = thread::scope(
+        thread::scope_env(),
+        hosting.rt,
+        move |scope| {
+            let (accepted, counts) = accept_over(hosting, listener, connections, output, scope);
+            (accepted, counts, output)
+        },
+    );
     (accepted, counts)
 }

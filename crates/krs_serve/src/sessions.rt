@@ -42,9 +42,7 @@ pub fn run_sessions<
         (counts_of R.reads R.empties R.failures W.failures entry.reader entry.writer)) list.items }
     ensures one_each { IfOk result (λ ends. vec_len ends ≡ vec_len list) }
     ensures in_order { IfOk result (λ ends. AllZip
-        (λ job ended. EndsSession R.gave D.leads C.ticked W.took D.lane_of
-        R.reads R.empties R.failures W.failures turns
-        job.0.reader job.1 job.0.clock job.0.writer ended)
+        (λ job ended. EndsSession R.Source C.Clock W.Sink D.leads D.lane_of turns job.0 job.1 ended)
         (zip list.items seats.items) ends.items) }
     ensures memory { IfErr result (λ error. error ≡ ENOMEM) }
 {
@@ -86,9 +84,7 @@ pub fn serve_sessions<
         (counts_of R.reads R.empties R.failures W.failures entry.reader entry.writer)) list.items }
     ensures one_each { IfOk result (λ served. vec_len served ≡ vec_len list) }
     ensures in_order { IfOk result (λ served. AllZip
-        (λ job done. ServesEntry R.gave D.leads C.ticked W.took D.lane_of
-        R.reads R.empties R.failures W.failures turns
-        job.0.reader job.1 job.0.clock job.0.writer done.0 done.1)
+        (λ job done. ServesEntry R.Source C.Clock W.Sink D.leads D.lane_of turns job.0 job.1 done.0 done.1)
         (zip list.items seats.items) served.items) }
     ensures ready { IfOk result (λ served. All (λ done. D.ready desk.now done.0) served.items) }
     ensures memory { IfErr result (λ error. error ≡ ENOMEM) }
@@ -124,8 +120,8 @@ pub fn serve_at_one_desk<
     requires ready { All (IsIdleAt desk.now) seats.items }
     requires room { All (λ entry. HaveRoom turns
         (counts_of R.reads R.empties R.failures W.failures entry.reader entry.writer)) list.items }
-    ensures one_history { IfOk result (λ served. ServeInOneHistory R.gave C.ticked W.took
-        R.reads R.empties R.failures W.failures turns (zip list.items seats.items) served.items) }
+    ensures one_history { IfOk result (λ served. ServeInOneHistory R.Source C.Clock W.Sink turns
+        (zip list.items seats.items) served.items) }
     ensures ready { IfOk result (λ served. All (λ done. IsIdleAt desk.now done.0) served.items) }
     ensures memory { IfErr result (λ error. error ≡ ENOMEM) }
 {
@@ -176,15 +172,18 @@ fn serve_jobs<
         (counts_of R.reads R.empties R.failures W.failures job.0.reader job.0.writer)) jobs.items }
     ensures len { IfOk result (λ served. vec_len served ≡ vec_len jobs) }
     ensures each { IfOk result (λ served. (i : ℕ) (d : _) (e : _) → i < vec_len jobs
-        → ServesEntry R.gave D.leads C.ticked W.took D.lane_of
-        R.reads R.empties R.failures W.failures turns
-        (slice_index_or jobs.items i d).0.reader (slice_index_or jobs.items i d).1
-        (slice_index_or jobs.items i d).0.clock (slice_index_or jobs.items i d).0.writer
+        → ServesEntry R.Source C.Clock W.Sink D.leads D.lane_of turns
+        (slice_index_or jobs.items i d).0 (slice_index_or jobs.items i d).1
         (slice_index_or served.items i e).0 (slice_index_or served.items i e).1) }
     ensures ready { IfOk result (λ served. (i : ℕ) (e : _) → i < vec_len jobs
         → D.ready desk.now (slice_index_or served.items i e).0) }
 {
-    let work = |job: (Entry<R, W, C>, S)| serve_one(rt, alloc, job, desk, gate, turns);
+    let work = |job: (Entry<R, W, C>, S)| -> (S, Ended)
+        requires { D.ready desk.now job.1 × HaveRoom turns
+            (counts_of R.reads R.empties R.failures W.failures job.0.reader job.0.writer) }
+        ensures session { ServesEntry R.Source C.Clock W.Sink D.leads D.lane_of turns job.0 job.1 result.0 result.1 }
+        ensures ready { D.ready desk.entry.now result.0 }
+    { serve_one(rt, alloc, job, desk, gate, turns) };
     thread::map_vec(rt, jobs, &work)
 }
 
@@ -201,9 +200,7 @@ fn serve_one<
     requires ready { D.ready desk.now job.1 }
     requires room { HaveRoom turns
         (counts_of R.reads R.empties R.failures W.failures job.0.reader job.0.writer) }
-    ensures session { ServesEntry R.gave D.leads C.ticked W.took D.lane_of
-        R.reads R.empties R.failures W.failures turns
-        job.0.reader job.1 job.0.clock job.0.writer result.0 result.1 }
+    ensures session { ServesEntry R.Source C.Clock W.Sink D.leads D.lane_of turns job.0 job.1 result.0 result.1 }
     ensures ready { D.ready desk.now result.0 }
 {
     let (connection, seat) = job;

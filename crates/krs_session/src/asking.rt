@@ -5,7 +5,7 @@ ghost use Rattle.krs_model.specs.History.{event_of};
 ghost use Rattle.krs_wire.specs.Reply.{reply_frame};
 ghost use Rattle.krs_session.specs.Serving.{Asked, Answers, Holds, PendingNext, StopsBy, StopsNext};
 
-use crate::writing::{can_hold, flush, send_reply};
+use crate::writing::{can_hold, flush, forget, send_reply};
 use crate::{Clock, Ended, Gate, Keeper, Point, Sink};
 use krs_types::{Ask, Op, Reply};
 use krs_wire::Framed;
@@ -188,6 +188,9 @@ pub(crate) fn answer_all<H, W: Sink, S, D: Keeper<S, H>, C: Clock, G: Gate>(
     out.clear();
     match ask_all(setting, writer, out, seat, clock, frames) {
         None => flush(writer, out),
-        Some(stop) => Some(stop),
+        Some(stop) => {
+            forget(out);
+            Some(stop)
+        }
     }
 }

@@ -1,5 +1,5 @@
 // A session: turns of one read each, and LEAVE.
-ghost use Rattle.std.specs.Prelude.{◌≡◌, ◌≢◌, ◌<◌, ◌≤◌, ◌+◌, ◌-◌, ℕ, List, [], length, IfOk, IfErr, IsSome};
+ghost use Rattle.std.specs.Prelude.{◌≡◌, ◌≢◌, ◌<◌, ◌≤◌, ◌+◌, ◌-◌, ℕ, List, [], length, All, IfOk, IfErr, IsSome};
 ghost use Rattle.krs_wire.specs.Frame.{Frames, rest, bad};
 ghost use Rattle.krs_wire.specs.Feeding.{Feeds, Refuses, fault_of};
 ghost use Rattle.krs_session.specs.Session.{Session, EndsBy, HaveRoom, counts_of};
@@ -143,15 +143,17 @@ impl<S, H, D: Keeper<S, H>> Warned for Lacking<'_, S, H, D> {
     }
 }
 
-/// Cuts a piece of the stream. Where there is memory by the reserve alone, the store keeps nothing from then on.
+/// Cuts a piece of the stream, which is wiped then. Where there is memory by the reserve alone, the store keeps nothing
+/// from then on.
 fn cut<H, S, D: Keeper<S, H>>(
     desk: &D,
     feed: &mut Feed,
     lack: &mut Lack,
-    piece: &[u8],
+    piece: &mut [u8],
 ) -> Result<Vec<Framed>, WireFault>
-    ensures frames { IfOk result (λ frames. Feeds feed.old piece.now frames.items feed.new) }
-    ensures refused { IfErr result (Refuses feed.old piece.now) }
+    ensures frames { IfOk result (λ frames. Feeds feed.old piece.old frames.items feed.new) }
+    ensures refused { IfErr result (Refuses feed.old piece.old) }
+    ensures wiped { All (λ b. b ≡ 0) piece.new }
     ensures failed { IfErr result (λ fault. feed.new ≡ bad fault) }
     ensures no_memory { IfOk result (λ frames. fault_of feed.new ≢ Some WireFault.Memory) }
     ensures at_once { IfOk result (λ frames. IsSome (fault_of feed.new) → frames.items ≢ []) }
@@ -162,14 +164,17 @@ fn cut<H, S, D: Keeper<S, H>>(
         seat: PhantomData::<S>,
         runtime: PhantomData::<H>,
     };
-    feed.feed_warning(piece, &mut lacking)
+    let frames = feed.feed_warning(piece, &mut lacking);
+    piece.fill(0);
+    frames
 }
 
-/// Cuts a piece of the stream, asks what its frames ask, and writes the replies. What ends the session is the answer.
+/// Cuts a piece of the stream, wipes it, asks what its frames ask, and writes the replies. What ends the session is the
+/// answer.
 fn serve_piece<H, W: Sink, S, D: Keeper<S, H>, C: Clock, G: Gate>(
     setting: &Setting<'_, H, D, G>,
     held: &mut Held,
-    piece: &[u8],
+    piece: &mut [u8],
     writer: &mut W,
     seat: &mut S,
     clock: &mut C,
@@ -178,7 +183,8 @@ fn serve_piece<H, W: Sink, S, D: Keeper<S, H>, C: Clock, G: Gate>(
     requires ready { D.ready setting.now.desk.now seat.old }
     requires failures { W.failures writer.old < u64.MAX }
     ensures served { Served D.leads C.ticked W.took (D.lane_of seat.old)
-        seat.old seat.new clock.old clock.new writer.old writer.new held.old.feed held.new.feed piece.now result }
+        seat.old seat.new clock.old clock.new writer.old writer.new held.old.feed held.new.feed piece.old result }
+    ensures wiped { All (λ b. b ≡ 0) piece.new }
     ensures count { PieceEndsBy (W.failures writer.old) (W.failures writer.new) result }
     ensures not_wire { result ≢ Some (Ended.Wire WireFault.Memory) }
     ensures told { result ≡ None → held.new.lack ≤ 2097152 }
@@ -206,7 +212,7 @@ fn serve_piece<H, W: Sink, S, D: Keeper<S, H>, C: Clock, G: Gate>(
 fn serve_read<H, W: Sink, S, D: Keeper<S, H>, C: Clock, G: Gate>(
     setting: &Setting<'_, H, D, G>,
     held: &mut Held,
-    piece: &[u8],
+    piece: &mut [u8],
     writer: &mut W,
     seat: &mut S,
     clock: &mut C,
@@ -215,7 +221,8 @@ fn serve_read<H, W: Sink, S, D: Keeper<S, H>, C: Clock, G: Gate>(
     requires ready { D.ready setting.now.desk.now seat.old }
     requires failures { W.failures writer.old < u64.MAX }
     ensures served { Served D.leads C.ticked W.took (D.lane_of seat.old)
-        seat.old seat.new clock.old clock.new writer.old writer.new held.old.feed held.new.feed piece.now result }
+        seat.old seat.new clock.old clock.new writer.old writer.new held.old.feed held.new.feed piece.old result }
+    ensures wiped { All (λ b. b ≡ 0) piece.new }
     ensures count { PieceEndsBy (W.failures writer.old) (W.failures writer.new) result }
     ensures not_wire { result ≢ Some (Ended.Wire WireFault.Memory) }
     ensures told { result ≡ None → held.new.lack ≤ 2097152 }
@@ -262,10 +269,11 @@ fn turn<H, R: Source, W: Sink, S, D: Keeper<S, H>, C: Clock, G: Gate>(
             if n == 0 {
                 return Some(Ended::Closed);
             }
+            let room = &mut reading.room[..];
             serve_read(
                 setting,
                 &mut reading.held,
-                &reading.room[..n],
+                &mut room[..n],
                 writer,
                 seat,
                 clock,

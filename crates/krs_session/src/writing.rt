@@ -1,5 +1,5 @@
 // The writing end of a session.
-ghost use Rattle.std.specs.Prelude.{◌≡◌, ◌≢◌, ◌<◌, ◌+◌, ◌++◌, [], vec_len, Some, OnOk, OnErr};
+ghost use Rattle.std.specs.Prelude.{◌≡◌, ◌≢◌, ◌<◌, ◌+◌, ◌++◌, [], All, vec_len, Some, OnOk, OnErr};
 ghost use Rattle.krs_wire.specs.Reply.{reply_frame};
 ghost use Rattle.krs_session.specs.Session.{TookFront};
 ghost use Rattle.krs_session.specs.Serving.{Wrote, Pending, StopsBy};
@@ -48,7 +48,24 @@ fn write_all<W: Sink>(writer: &mut W, bytes: &[u8]) -> Result<(), Failed>
     Ok(())
 }
 
-/// Writes the replies that are held, after which none is. What stops the writing is the answer.
+/// Takes bytes out that are all zeros.
+fn take_out(out: &mut Vec<u8>)
+    requires { All (λ b. b ≡ 0) out.old.items }
+    ensures { out.new.items ≡ [] }
+{
+    out.clear();
+}
+
+/// Wipes the replies that are held, after which none is.
+#[inline]
+pub(crate) fn forget(out: &mut Vec<u8>)
+    ensures { out.new.items ≡ [] }
+{
+    out.fill(0);
+    take_out(out);
+}
+
+/// Writes the replies that are held, and wipes them. What stops the writing is the answer.
 pub(crate) fn flush<W: Sink>(writer: &mut W, out: &mut Vec<u8>) -> Option<Ended>
     requires { W.failures writer.old < u64.MAX }
     ensures wrote { Wrote W.took writer.old writer.new out.old.items result }
@@ -57,7 +74,7 @@ pub(crate) fn flush<W: Sink>(writer: &mut W, out: &mut Vec<u8>) -> Option<Ended>
     ensures empty { out.new.items ≡ [] }
 {
     let written = write_all(writer, out);
-    out.clear();
+    forget(out);
     match written {
         Ok(()) => None,
         Err(_) => Some(Ended::Write),

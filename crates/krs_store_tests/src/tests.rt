@@ -3,12 +3,10 @@ use krs_store_asks::{Want, is_wanted};
 use krs_types::{Ask, Reply};
 use std::process::Abort;
 
-mod adding;
 mod clients;
 mod filters;
 mod full;
 mod hints;
-mod joining;
 mod links;
 mod nested;
 mod records;

@@ -1,10 +1,10 @@
 ghost use Rattle.std.specs.Prelude.{◌≡◌, IfOk};
 
+use crate::wipe;
 use std::alloc::{AllocError, Global};
 use std::marker::Model;
 
-/// Bytes as a client gave them, of any length.
-#[derive(Drop)]
+/// Bytes as a client gave them, of any length. They are wiped where they are let go.
 pub struct Blob {
     bytes: Vec<u8>,
 }
@@ -15,6 +15,13 @@ impl Model for Blob {
     ghost Value = { List ℕ };
 
     ghost view = { λ b. b.bytes.items };
+}
+
+impl Drop for Blob {
+    fn drop(self) {
+        let Blob { bytes } = self;
+        wipe(bytes);
+    }
 }
 
 impl Blob {
@@ -41,7 +48,8 @@ impl Blob {
     pub fn into_vec(self) -> Vec<u8>
         ensures { result.items ≡ self }
     {
-        self.bytes
+        let Blob { bytes } = self;
+        bytes
     }
 
     /// An equal value.

@@ -1,10 +1,12 @@
 ghost use Rattle.std.specs.Prelude.{◌≡◌, ◌≤◌, [], length, vec_len, IfOk};
 
+use crate::wipe;
 use std::alloc::{AllocError, Global};
 use std::marker::Model;
+use std::mem;
 
-/// The bytes of a payload that a key keeps, or of an answer: 262140 at most. Profile, limits.
-#[derive(Drop)]
+/// The bytes of a payload that a key keeps, or of an answer: 262140 at most. Profile, limits. They are wiped where they
+/// are let go.
 pub struct Body {
     bytes: Vec<u8>,
 }
@@ -17,6 +19,13 @@ impl Model for Body {
     ghost view = { λ b. b.bytes.items };
 
     ghost invariant = { λ b. length b.bytes.items ≤ 262140 };
+}
+
+impl Drop for Body {
+    fn drop(self) {
+        let Body { bytes } = self;
+        wipe(bytes);
+    }
 }
 
 impl Body {
@@ -34,11 +43,12 @@ impl Body {
         self.bytes.as_slice()
     }
 
-    /// Takes all bytes out.
+    /// Takes all bytes out, wiped, and gives their memory back.
     pub fn clear(&mut self)
         ensures { self.new ≡ [] }
     {
-        self.bytes.clear();
+        let empty = Vec::new(*self.bytes.allocator());
+        wipe(mem::replace(&mut self.bytes, empty));
     }
 
     /// An equal value.

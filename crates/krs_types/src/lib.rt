@@ -19,6 +19,7 @@ mod perm;
 mod rights;
 mod shape;
 mod type_name;
+mod wiping;
 
 pub use ask::{Answer, Ask, MOVE_EXCL, Op, Reply, is_same_reply};
 pub use blob::Blob;
@@ -37,3 +38,4 @@ pub use perm::Perm;
 pub use rights::{Rights, Want};
 pub use shape::Shape;
 pub use type_name::TypeName;
+pub use wiping::{move_wiped, wipe};

@@ -50,7 +50,8 @@ fn encode(alloc: Global, ask: &Ask, tag: Option<u64>) -> Result<Vec<u8>, WireFau
     if length > MAX_LENGTH {
         return Err(WireFault::BadLength);
     }
-    let mut out = Vec::new(alloc);
+    // room for all of it: a vector that grows leaves its old block as it was
+    let mut out = Vec::with_capacity(alloc, length + 4)?;
     put_u32(&mut out, length as u32)?;
     put_ask(&mut out, tag, ask)?;
     Ok(out)

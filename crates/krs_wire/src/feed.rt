@@ -4,8 +4,10 @@ ghost use Rattle.krs_wire.specs.Feeding.{end_of, Feeds, Refuses, fault_of};
 
 use crate::asks::front_at;
 use crate::reserve::Reserve;
+use crate::room::make_room;
 use crate::warned::{Nobody, Warned, warning_of};
 use crate::{Framed, WireFault};
+use krs_types::{move_wiped, wipe};
 use std::alloc::Global;
 use std::marker::Model;
 use std::{mem, thread};
@@ -24,8 +26,8 @@ const TRIES_A_QUARTER: u32 = 64;
 const MOST_KEPT: usize = 128;
 
 /// The reading end of a connection: pieces of a stream in, whole frames out. A contract sees how the stream ends so
-/// far: in the beginning of a frame, or in a fault. It has a reserve of memory, which no contract sees.
-#[derive(Drop)]
+/// far: in the beginning of a frame, or in a fault. It has a reserve of memory, which no contract sees. The beginning of a
+/// frame is wiped where it is let go.
 pub struct Feed {
     alloc: Global,
     left: Vec<u8>,
@@ -47,6 +49,19 @@ impl Model for Feed {
 
     // No ask stays behind in the room for the next.
     ghost invariant = { λ f. f.room.items ≡ [] };
+}
+
+impl Drop for Feed {
+    fn drop(self) {
+        let Feed {
+            alloc: _,
+            left,
+            fault: _,
+            reserve: _,
+            room: _,
+        } = self;
+        wipe(left);
+    }
 }
 
 /// How many bytes the frames at the front of some bytes take, and the fault behind them.
@@ -107,6 +122,18 @@ fn drop_front(bytes: &mut Vec<u8>, count: usize, piece: &[u8])
     bytes.copy_from_slice(&piece[piece.len() - left..]);
 }
 
+/// Overwrites what stood behind the bytes with zeros, up to a length that they had.
+#[tactic(auto, using(std::proofs::lemmas::List::take_all, std::proofs::lemmas::List::take_at))]
+fn wipe_behind(bytes: &mut Vec<u8>, whole: usize)
+    requires { vec_len bytes.old ≤ whole }
+    ensures { bytes.new.items ≡ bytes.old.items }
+{
+    let left = bytes.len();
+    if bytes.resize(whole, 0).is_ok() {
+        bytes.truncate(left);
+    }
+}
+
 /// Cuts a piece that nothing was left before, and keeps what is left of it.
 fn take_alone(
     alloc: Global,
@@ -142,14 +169,18 @@ fn take_once(
         return take_alone(alloc, left, piece, frames);
     }
     let before = left.len();
+    make_room(left, piece.len())?;
     left.extend_from_slice(piece)?;
+    let whole = left.len();
     match cut_stream(alloc, left, frames) {
         Ok(cut) => {
             drop_front(left, cut.taken, piece);
+            wipe_behind(left, whole);
             Ok(cut.fault)
         }
         Err(fault) => {
             left.truncate(before);
+            wipe_behind(left, whole);
             Err(fault)
         }
     }
@@ -210,8 +241,7 @@ impl Feed {
         ensures { self.new ≡ self.old }
     {
         if self.left.capacity() != ROOM {
-            let _ = self.left.reserve(ROOM.saturating_sub(self.left.len()));
-            self.left.shrink_to(ROOM);
+            move_wiped(self.alloc, &mut self.left, ROOM);
         }
         if self.reserve.lacking() > 0 {
             self.reserve.take_back();

@@ -15,6 +15,7 @@ mod lengths;
 mod put;
 mod replies;
 mod reserve;
+mod room;
 mod warned;
 
 pub use encode::{encode_ask, encode_ask2};

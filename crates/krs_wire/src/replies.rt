@@ -8,6 +8,7 @@ ghost use Rattle.krs_wire.specs.Reply.{status_fields, tagged, untagged, Finds, I
 
 use crate::WireFault;
 use crate::fields::{ended, tag_at, u32_at};
+use crate::room::make_room;
 use byteorder::{ByteOrder, LittleEndian};
 use krs_types::{Answer, Body, Errno, Op, Reply, Shape};
 use std::alloc::{AllocError, Global};
@@ -58,7 +59,7 @@ fn put_frame(
     ensures err { OnErr result (out.new.items ≡ out.old.items) }
 {
     let (head, size) = head_of(tag, status, body.len() as u32);
-    out.reserve(size + body.len())?;
+    make_room(out, size + body.len())?;
     out.extend_from_slice(&head[..size])?;
     out.extend_from_slice(body)?;
     Ok(())

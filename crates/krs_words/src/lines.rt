@@ -9,14 +9,15 @@ ghost use Rattle.krs_words.specs.Lines.{ReadsLines};
 use crate::stop::Stop;
 use std::io::{BufRead, BufReader, Error, ErrorKind, Read};
 
-/// Reads the next line, of any length and any bytes, in place of what `line` held, without its newline; whether there
-/// was one. An error of the reader that means out of memory counts as the client's own.
+/// Reads the next line, of any length and any bytes, in place of what `line` held, which is wiped, without its newline;
+/// whether there was one. An error of the reader that means out of memory counts as the client's own.
 pub fn read_line<R: Read>(reader: &mut BufReader<R>, line: &mut Vec<u8>) -> Result<bool, Stop>
     ensures found { result ≡ Ok true → ReadsLines (reader_remaining R.remaining reader.old)
         (reader_remaining R.remaining reader.new) (line.new.items ∷ []) }
     ensures end { result ≡ Ok false → IsAtEnd (reader_remaining R.remaining reader.old) }
     ensures causes { IfErr result (λ stop. (stop ≡ Stop.Memory) ⊎ (stop ≡ Stop.Reading)) }
 {
+    line.fill(0);
     line.clear();
     match reader.read_until(b'\n', line) {
         Ok(0) => Ok(false),

@@ -3,7 +3,7 @@ ghost use Rattle.krs_words.specs.Printing.{is_printable, serials_in, shown, show
 ghost use Rattle.krs_words.specs.Printing.{shown_serials, with_serial};
 
 use crate::output::Output;
-use krs_types::{Answer, Errno, Reply};
+use krs_types::{Answer, Blob, Errno, Reply};
 use std::alloc::{AllocError, Global};
 use std::fmt::Write;
 
@@ -61,14 +61,21 @@ fn push_serial(text: &mut String, serial: u32) -> Result<(), AllocError>
     write!(text, "{serial}")
 }
 
+/// With room for what ends the line: text that moves leaves a copy behind.
 fn bytes_text(alloc: Global, bytes: &[u8]) -> Result<Vec<u8>, AllocError>
     ensures { IfOk result (λ text. text.items ≡ shown_bytes bytes.now) }
 {
     if is_printable(bytes) {
-        return Vec::from_slice(alloc, bytes);
+        let mut text = Vec::with_capacity(alloc, bytes.len().saturating_add(1))?;
+        text.extend_from_slice(bytes)?;
+        return Ok(text);
     }
-    let digits = hex::encode(alloc, bytes)?;
-    Ok(format!(in alloc; ":hex:{digits}")?.into_bytes())
+    let digits = Blob::new(hex::encode(alloc, bytes)?.into_bytes());
+    let size = digits.as_slice().len().saturating_add(6);
+    let mut text = Vec::with_capacity(alloc, size)?;
+    text.extend_from_slice(b":hex:")?;
+    text.extend_from_slice(digits.as_slice())?;
+    Ok(text)
 }
 
 fn is_printable(bytes: &[u8]) -> bool

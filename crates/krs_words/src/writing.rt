@@ -6,6 +6,7 @@ ghost use Rattle.krs_words.specs.Writing.{Prints, WritesFront, WritesSome};
 use crate::output::Output;
 use crate::printing::output_line;
 use crate::stop::Stop;
+use krs_types::{Blob, move_wiped};
 use std::alloc::Global;
 use std::io::{ErrorKind, Write};
 
@@ -27,7 +28,11 @@ pub fn print_output<W: Write>(
         (W.contents writer.new) (pending.old.items ++ (shown output.now ++ 10 ∷ [])) }
     ensures causes { IfErr result (λ stop. (stop ≡ Stop.Memory) ⊎ (stop ≡ Stop.Printing)) }
 {
-    let line = output_line(alloc, output)?;
+    let line = Blob::new(output_line(alloc, output)?);
+    let whole = pending.len().saturating_add(line.as_slice().len());
+    if whole > pending.capacity() {
+        move_wiped(alloc, pending, whole.max(MOST_PENDING));
+    }
     pending.extend_from_slice(line.as_slice())?;
     if pending.len() < MOST_PENDING {
         return Ok(());
@@ -35,7 +40,7 @@ pub fn print_output<W: Write>(
     write_out(writer, pending)
 }
 
-/// Writes all that waits to be written. Where that fails, what is left of it is lost.
+/// Writes all that waits to be written, and wipes it. Where that fails, what is left of it is lost.
 pub fn write_out<W: Write>(writer: &mut W, pending: &mut Vec<u8>) -> Result<(), Stop>
     ensures ok { OnOk result (Appends (W.contents writer.old) (W.contents writer.new)
         pending.old.items) }
@@ -45,6 +50,7 @@ pub fn write_out<W: Write>(writer: &mut W, pending: &mut Vec<u8>) -> Result<(), 
     ensures causes { IfErr result (λ stop. stop ≡ Stop.Printing) }
 {
     let written = write_text(writer, pending.as_slice());
+    pending.fill(0);
     pending.clear();
     written
 }

@@ -3,7 +3,7 @@
 ghost use Rattle.krs_desk.specs.Sitting.{IsIdleAt};
 
 use crate::two_seats;
-use krs_desk::{Desk, Seat, Why};
+use krs_desk::{Desk, Seat};
 use krs_store::Store;
 use krs_store_asks::{Want, hello, is_wanted, number_of, read};
 use krs_types::{Answer, Ask, Reply};
@@ -144,19 +144,5 @@ fn a_desk_goes_on_with_its_store(rt: HostRuntime) -> Result<(), Fail> {
     assert!(rt; reply.is_ok_and(|reply| is_wanted(&reply, Want::Bytes(&[5, 0, 0, 0]))));
     let mut store = desk.close(first).map_err(|_| "the turn is out")?;
     assert!(rt; is_wanted(&store.apply(0, 0, read(1, 5)), Want::Bytes(b"s3")));
-    Ok(())
-}
-
-#[test]
-fn too_few_or_many_lanes_hand_the_store_back(rt: HostRuntime) -> Result<(), Fail> {
-    let alloc = rt.alloc();
-    for lanes in [0, 257] {
-        let Err(refused) = Desk::open(alloc, lanes, used_store(alloc)?) else {
-            panic!(rt; "a desk of {lanes} lanes")
-        };
-        assert!(rt; refused.why == Why::Lanes);
-        let mut store = refused.store;
-        assert!(rt; is_wanted(&store.apply(0, 0, read(1, 5)), Want::Bytes(b"s3")));
-    }
     Ok(())
 }

@@ -30,8 +30,9 @@ abbrev pub entering : State → ℕ → Caller → Option ℕ → Context
 entering s client c session =
     record { client = client; process = s.next_context; caller = c; thread = None; session = session }
 
--- another context in the place of one, of the same process and caller
+-- another context in the place of one, of the same client, process and caller
 pub record StaysWhose (f : Context → Context) : Type 0 where
+  pub client : (v : Context) → (f v).client ≡ v.client
   pub process : (v : Context) → (f v).process ≡ v.process
   pub caller : (v : Context) → (f v).caller ≡ v.caller
 
@@ -88,7 +89,7 @@ is_made_houses :
     → context_of s client number ≡ Ok c → IsMade s number c id made → HousesIn s client number op made.0
 is_made_houses s client number op c id _ own NoneMade = Same
 is_made_houses s client number op c id _ own (ThreadMade is none) =
-    Alters c (thread_to s.next_serial) own (record { process = λ v. refl; caller = λ v. refl })
+    Alters c (thread_to s.next_serial) own (record { client = λ v. refl; process = λ v. refl; caller = λ v. refl })
 is_made_houses s client number op c id _ own (ProcessMade is none) = Rings c s.next_serial own
 
 pub made_houses :

@@ -150,7 +150,7 @@ joined_fares :
 joined_fares s client context c name (Some found) own is = meets_ok (λ within. record {
   comes = λ other. same_comes s (joined_to s context found.0) refl refl refl;
   counts = λ placed. within;
-  houses = Alters c (session_to found.0) own (record { process = λ v. refl; caller = λ v. refl });
+  houses = Alters c (session_to found.0) own (record { client = λ v. refl; process = λ v. refl; caller = λ v. refl });
   stands = λ stands. joined_stands s context found.0 (joinable_there s c.caller name found is) stands;
   guards = λ uid private stands alone. record {
     made = alone.made;
@@ -167,7 +167,7 @@ joined_fares s client context c name None own is =
       comes = λ other. comes_trans s one (joined_to one context s.next_serial) (with_new_comes s ring)
           (same_comes one (joined_to one context s.next_serial) refl refl refl);
       counts = λ placed. within;
-      houses = Alters c (session_to s.next_serial) own (record { process = λ v. refl; caller = λ v. refl });
+      houses = Alters c (session_to s.next_serial) own (record { client = λ v. refl; process = λ v. refl; caller = λ v. refl });
       stands = λ stands. new_joined_stands s context name c.caller stands;
       guards = λ uid private stands alone. record {
         made = later_made uid private s alone;

@@ -268,7 +268,7 @@ execed_from s number c stands = λ m d there.
     let one = alter s.contexts number without_thread in
     let distinct = alter_distinct s.contexts number without_thread
     (rises_distinct s.contexts stands.housed.contexts_rise) in
-    alter_from s.contexts number without_thread (record { process = λ v. refl; caller = λ v. refl }) m d
+    alter_from s.contexts number without_thread (record { client = λ v. refl; process = λ v. refl; caller = λ v. refl }) m d
     (at_filter_some _ one m d distinct there)
 
 -- whatever an accepted ask does to them
@@ -345,7 +345,7 @@ houses_in_use s client context op _ _ _ stands used (Detaches c id gone by own i
           (was_mapped (rings_without gone.0) (at s.uids uid)
           (subst IsSome (at_map (rings_without gone.0) s.uids uid) there)));
       alike = alike_from s.contexts (map_values f s.contexts)
-          (map_from s.contexts f (record { process = λ v. refl; caller = λ v. refl })) used.alike;
+          (map_from s.contexts f (record { client = λ v. refl; process = λ v. refl; caller = λ v. refl })) used.alike;
     }
 houses_in_use s client context op _ _ _ stands used (Exits c by own) =
     exited_in_use s context c stands used (own_there s client context c own)

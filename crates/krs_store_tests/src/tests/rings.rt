@@ -2,7 +2,7 @@ ghost use Rattle.std.specs.Prelude.{◌≡◌, false};
 ghost use Rattle.krs_model.specs.Notes.Bytes.{is_loss};
 
 use krs_ring::NoteRing;
-use krs_types::{Errno, KeyEvent, Record};
+use krs_types::{KeyEvent, Record};
 use std::process::Abort;
 use std::test::Fail;
 
@@ -67,43 +67,4 @@ fn a_loss_keeps_its_place(rt: HostRuntime) -> Result<(), Fail> {
         check_rows(&rt, &mut ring, rows);
     }
     Ok(())
-}
-
-/// One note more than a ring keeps comes to it.
-fn check_full(rt: &impl Abort, ring: &mut NoteRing, capacity: u32) {
-    for key in 0..capacity {
-        post(ring, key);
-    }
-    post(ring, capacity);
-    for key in 0..capacity {
-        assert!(rt; take(ring) == Some(key), "{key} of {capacity}");
-    }
-    assert!(rt;
-        take(ring) == Some(LOSS) && take(ring).is_none(),
-        "{capacity}"
-    );
-}
-
-/// At its edge a ring keeps exactly as many records as were asked for, and those are 1 to 4096.
-#[test]
-fn a_ring_keeps_1_to_4096_records(rt: HostRuntime) {
-    for (capacity, good) in &[
-        (0, false),
-        (1, true),
-        (2, true),
-        (512, true),
-        (513, true),
-        (4095, true),
-        (4096, true),
-        (4097, false),
-        (u32::MAX, false),
-    ] {
-        match NoteRing::new(rt.alloc(), *capacity) {
-            Ok(mut ring) => {
-                assert!(rt; *good, "{capacity}");
-                check_full(&rt, &mut ring, *capacity);
-            }
-            Err(error) => assert!(rt; error == Errno::EINVAL && !*good, "{capacity}"),
-        }
-    }
 }

@@ -1,10 +1,7 @@
 //! The machine of many seats, and the check that a list of events may have happened to a new store.
-mod small;
-
 use krs_store_asks::{add, describe, hello, leave, read};
 use krs_types::{Answer, Ask, Body, Event, Reply};
 use krs_world::{Kind, World, WorldStep, replay_check};
-use small::{LANES, Small, Stage};
 use std::alloc::{AllocError, Global};
 use std::process::Abort;
 use std::test::Fail;
@@ -101,7 +98,7 @@ fn expect_step(rt: &impl Abort, world: &mut World, step: WorldStep, possible: bo
     assert!(rt; is_so, "{row}");
 }
 
-/// A step of the tests of one turn and of a posted call, by its lane and number.
+/// A step of the tests of a kept turn and of a posted call, by its lane and number.
 fn step(alloc: Global, lane: u32, number: u8) -> WorldStep {
     let kind = match number {
         0 => Kind::Take,
@@ -130,28 +127,15 @@ fn check_steps(rt: &impl Abort, alloc: Global, world: &mut World, rows: &[Row<'_
     }
 }
 
-#[rattlefmt::skip]
-const ONE_TURN: [Row<'static>; 3] = [
-    (0, 0, true, "the turn is free"),
-    (1, 0, false, "the turn is out"),
-    (1, 1, true, "the turn is found out"),
-];
-
-#[test]
-fn one_seat_has_the_turn(rt: HostRuntime) -> Result<(), Fail> {
-    let mut world = World::new(rt.alloc(), 2)?;
-    check_steps(&rt, rt.alloc(), &mut world, &ONE_TURN);
-    Ok(())
-}
-
 /// Seat 0 takes the turn, has two calls served in it, and gives it back: each step in turn, and between them those that
 /// aren't possible.
 #[rattlefmt::skip]
-const KEPT: [Row<'static>; 10] = [
+const KEPT: [Row<'static>; 11] = [
     (0, 11, false, "no turn"),
     (0, 0, true, "the turn is free"),
     (0, 11, true, "a call is served"),
     (1, 0, false, "the turn is kept"),
+    (1, 1, true, "the turn is found out"),
     (1, 11, false, "another's"),
     (0, 11, true, "a second call"),
     (0, 4, true, "a post"),
@@ -194,139 +178,5 @@ const POSTED: [Row<'static>; 17] = [
 fn a_posted_call_is_answered(rt: HostRuntime) -> Result<(), Fail> {
     let mut world = World::new(rt.alloc(), 2)?;
     check_steps(&rt, rt.alloc(), &mut world, &POSTED);
-    Ok(())
-}
-
-/// The number after this one: a linear congruential generator with Knuth's constants (MMIX).
-fn further(number: u64) -> u64 {
-    number
-        .wrapping_mul(6_364_136_223_846_793_005)
-        .wrapping_add(1_442_695_040_888_963_407)
-}
-
-/// One of three asks, by a number.
-fn ask_of(alloc: Global, other: u64) -> Ask {
-    match other % 3 {
-        0 => hello(alloc, 1000),
-        1 => read(1, -4),
-        _ => leave(),
-    }
-}
-
-/// The kind of a step, by its number and another, where there were so many calls.
-fn kind_of(alloc: Global, index: usize, other: u64, calls: usize) -> Kind {
-    let lane = (other % 4) as u32;
-    let some = calls.saturating_add(lane as usize).saturating_sub(2);
-    match index {
-        0 => Kind::TakeFound,
-        1 => Kind::Put(None),
-        2 => Kind::Post(other % 7, ask_of(alloc, other)),
-        3 => Kind::CollectFound,
-        4 => Kind::Take,
-        5 => Kind::Put(Some((other % 7, ask_of(alloc, other)))),
-        6 => Kind::Serve(other % 7, ask_of(alloc, other)),
-        7 => Kind::Load(some),
-        8 => Kind::Grab(lane),
-        9 => Kind::Answer,
-        10 => Kind::Collect(some),
-        _ => Kind::LookAt(lane),
-    }
-}
-
-/// The number of a kind, by one of 36. Each of the first four comes once, and each other four times: lanes whose calls
-/// wait, and turns that are given back with nothing served, would leave few steps possible.
-fn index_of(number: u64) -> usize {
-    let number = number % 36;
-    if number < 4 {
-        return number as usize;
-    }
-    4 + ((number - 4) % 8) as usize
-}
-
-/// Which kinds of steps were drawn, by their numbers.
-#[derive(Drop)]
-struct Kinds([bool; 12]);
-
-impl Kinds {
-    fn mark(&mut self, index: usize) {
-        if let Some(flag) = self.0.get_mut(index) {
-            *flag = true;
-        }
-    }
-
-    fn are_all(&self) -> bool {
-        self.0.iter().all(|flag| *flag)
-    }
-}
-
-/// A fixed recipe for steps: the number that it drew last, what makes a step possible, and which kinds of steps were
-/// made, and which weren't possible.
-#[derive(Drop)]
-struct Recipe {
-    number: u64,
-    small: Small,
-    made: Kinds,
-    refused: Kinds,
-}
-
-impl Recipe {
-    fn new() -> Recipe {
-        Recipe {
-            number: 1,
-            small: Small {
-                out: None,
-                serving: None,
-                calls: 0,
-                seen: [0; 3],
-                stages: [Stage::Empty; 3],
-            },
-            made: Kinds([false; 12]),
-            refused: Kinds([false; 12]),
-        }
-    }
-
-    /// The next step, and the number of its kind.
-    fn draw(&mut self, alloc: Global) -> (usize, WorldStep) {
-        self.number = further(self.number);
-        let drawn = self.number >> 33;
-        let lane = (drawn % 4) as u32;
-        let index = index_of(drawn / 4);
-        let kind = kind_of(alloc, index, drawn / 144, self.small.calls);
-        (index, WorldStep { lane, kind })
-    }
-
-    /// Makes a step where it is possible, and answers whether it is.
-    fn make(&mut self, index: usize, step: &WorldStep) -> bool {
-        let possible = self.small.is_possible(step.lane, &step.kind);
-        if possible {
-            self.small.make(step.lane, &step.kind);
-            self.made.mark(index);
-        } else {
-            self.refused.mark(index);
-        }
-        possible
-    }
-}
-
-/// Each step is made exactly where it is possible, and of each kind some are and some aren't.
-fn check_recipe(rt: &impl Abort, alloc: Global, world: &mut World, recipe: &mut Recipe) {
-    for _ in 0..1000u32 {
-        let (index, step) = recipe.draw(alloc);
-        let possible = recipe.make(index, &step);
-        expect_step(rt, world, step, possible, "a step of the recipe");
-    }
-    assert!(rt; recipe.made.are_all(), "a kind of step was never made");
-    assert!(rt;
-        recipe.refused.are_all(),
-        "a kind of step was always possible"
-    );
-}
-
-/// A thousand steps by a fixed recipe over a machine of three lanes.
-#[test]
-fn a_thousand_steps(rt: HostRuntime) -> Result<(), Fail> {
-    let mut world = World::new(rt.alloc(), LANES)?;
-    let mut recipe = Recipe::new();
-    check_recipe(&rt, rt.alloc(), &mut world, &mut recipe);
     Ok(())
 }

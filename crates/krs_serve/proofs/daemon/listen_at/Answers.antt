@@ -1,7 +1,7 @@
 -- Which of its ends it came to.
 use Rattle.std.proofs.Common.{rules, refl, inl, inr}
-use Rattle.krs_serve.specs.Saying.{heard}
-use Rattle.krs_serve.proofs.EndLemmas.{ends_as}
+use Rattle.krs_listen.specs.Saying.{heard}
+use Rattle.krs_listen.proofs.EndLemmas.{ends_as}
 use Rattle.krs_serve.proofs.daemon.listen_at.Goals as goal
 
 pub returns-in_default : goal.returns-in_default

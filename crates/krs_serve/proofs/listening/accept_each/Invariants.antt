@@ -1,5 +1,5 @@
 use Rattle.std.proofs.Common.{◌≡◌, ◌+◌}
-use Rattle.krs_serve.specs.Saying.{heard}
+use Rattle.krs_listen.specs.Saying.{heard}
 use Rattle.krs_serve.proofs.listening.accept_each.Given as goal
 
 -- so many were accepted, none failed, and nothing was told

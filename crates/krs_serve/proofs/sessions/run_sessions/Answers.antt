@@ -17,11 +17,9 @@ returns-in-Ok-clause-one_each g c =
 pub returns-in-Ok-clause-in_order : goal.returns-in-Ok-clause-in_order
 returns-in-Ok-clause-in_order g c =
     rw (c.in-Ok.ensures, c.deref.ensures.value) (each_second
-    (λ job done. ServesEntry g.R.Source.gave g.D.Keeper.leads g.C.Clock.ticked g.W.Sink.took g.D.Keeper.lane_of
-    g.R.Source.reads g.R.Source.empties g.R.Source.failures g.W.Sink.failures c.args.turns
-    job.0.reader job.1 job.0.clock job.0.writer done.0 done.1)
-    (λ job ended. EndsSession g.R.Source.gave g.D.Keeper.leads g.C.Clock.ticked g.W.Sink.took g.D.Keeper.lane_of
-    g.R.Source.reads g.R.Source.empties g.R.Source.failures g.W.Sink.failures c.args.turns
-    job.0.reader job.1 job.0.clock job.0.writer ended)
+    (λ job done. ServesEntry g.R.Source g.C.Clock g.W.Sink g.D.Keeper.leads g.D.Keeper.lane_of c.args.turns
+    job.0 job.1 done.0 done.1)
+    (λ job ended. EndsSession g.R.Source g.C.Clock g.W.Sink g.D.Keeper.leads g.D.Keeper.lane_of c.args.turns
+    job.0 job.1 ended)
     (λ job done one. record { last_seat = done.0; served = one }) _ c.in_ok-served.served.items
     c.in_ok-served.ensures.in_order)

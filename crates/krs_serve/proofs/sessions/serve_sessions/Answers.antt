@@ -37,9 +37,8 @@ returns-in-Ok-serve_jobs-clause-in_order g c =
     let each : length served.items ≡ length jobs.items =
     omega (arith, c.in-Ok-serve_jobs.ensures.len, served.ok.0, jobs.ok.0) in
     let all = all_zip_at jobs.items served.items
-    (λ job done. ServesEntry g.R.Source.gave g.D.Keeper.leads g.C.Clock.ticked g.W.Sink.took g.D.Keeper.lane_of
-    g.R.Source.reads g.R.Source.empties g.R.Source.failures g.W.Sink.failures c.args.turns
-    job.0.reader job.1 job.0.clock job.0.writer done.0 done.1) each
+    (λ job done. ServesEntry g.R.Source g.C.Clock g.W.Sink g.D.Keeper.leads g.D.Keeper.lane_of c.args.turns
+    job.0 job.1 done.0 done.1) each
     (λ i d e lt. c.in-Ok-serve_jobs.ensures.each i d e (omega (arith, lt, jobs.ok.0))) in
     rw c.in-Ok.ensures at all
 

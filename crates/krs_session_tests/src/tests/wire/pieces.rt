@@ -49,14 +49,3 @@ fn a_stream_in_any_two_pieces_is_one_stream(rt: HostRuntime) -> Result<(), Fail>
     }
     Ok(())
 }
-
-#[test]
-fn a_stream_byte_by_byte_is_one_stream(rt: HostRuntime) -> Result<(), Fail> {
-    let (mut feed, mut text) = (Feed::new(rt.alloc()), Vec::new(rt.alloc()));
-    let stream = all_frames(rt.alloc())?;
-    for byte in &stream {
-        encode(rt.alloc(), &mut feed, &[*byte], &mut text)?;
-    }
-    assert!(rt; text.as_slice() == stream.as_slice() && feed.fault().is_none());
-    Ok(())
-}

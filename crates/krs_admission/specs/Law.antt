@@ -1,0 +1,45 @@
+-- A process comes into no session but one that was begun as its own real uid; and only while all four of its uids are
+-- that one and its program isn't set-uid to another.
+use Rattle.std.specs.Prelude.{◌≡◌, ◌≢◌, ◌⊎◌, ℕ, true, false}
+use Rattle.krs_admission.specs.declared.facts.Process.{Process}
+use Rattle.krs_admission.specs.declared.facts.Session.{Session}
+use Rattle.krs_admission.specs.declared.facts.Arrival.{Arrival}
+use Rattle.krs_admission.specs.declared.admitting.Place.{Place}
+use Rattle.krs_admission.specs.declared.admitting.Place.TheVariants.{Lost, UserSession, Held, Tagged, Above}
+use Rattle.krs_admission.specs.Rule.{no_uid, number_of}
+
+-- all four of its uids are this one, which is one user's; and its program isn't set-uid to another
+pub record Is (p : Process) (uid : ℕ) : Type 0 where
+  pub real : p.uids.real ≡ uid
+  pub effective : p.uids.effective ≡ uid
+  pub saved : p.uids.saved ≡ uid
+  pub files : p.uids.files ≡ uid
+  pub one : (uid ≢ no_uid) × ((uid ≢ p.unknown) ⊎ (p.mapped ≡ no_uid))
+  pub program : (p.has_auxv ≡ true) × ((p.is_secure ≡ false) ⊎ (p.starter ≡ uid))
+
+-- the law: the session was begun as its own real uid, and hasn't ended
+abbrev pub MayHave : Process → Session → Type 0
+MayHave p s = Is p s.begun.uids.real × (s.is_there ≡ true)
+
+-- this user could trace it by ptrace(2), as far as is told: it is dumpable, and no set-uid program that this user has
+-- executed
+pub record IsOpen (p : Process) (uid : ℕ) : Type 0 where
+  pub dumpable : p.owner ≡ p.uids.effective
+  pub read : p.has_auxv ≡ true
+  pub program : (p.is_secure ≡ false) ⊎ (p.starter ≢ uid)
+
+-- a tag can be copied, so it is believed where the session's user could trace who began it then, and can now
+abbrev pub IsShared : Session → Type 0
+IsShared s =
+    IsOpen s.begun s.begun.uids.real × ((s.has_beginner ≡ false) ⊎ IsOpen s.beginner s.begun.uids.real)
+
+-- it has that which it holds, or its tag says, or the nearest process above has; else its uid's user-session keyring
+abbrev pub IsLawful : Arrival → Place → Type 0
+IsLawful a Lost = Unit {0}
+IsLawful a UserSession = Is a.process a.process.uids.real × (a.has_limit ≡ true)
+IsLawful a Held = (a.has_held ≡ true) × MayHave a.process a.held
+IsLawful a Tagged = (a.tagged.tag ≡ a.soft) × MayHave a.process a.tagged × IsShared a.tagged
+IsLawful a Above = (a.has_above ≡ true) × MayHave a.process a.above × IsShared a.above
+
+abbrev pub ComesLawfully : Arrival → (number : ℕ) → Type 0
+ComesLawfully a number = (p : Place) → number ≡ number_of p → IsLawful a p

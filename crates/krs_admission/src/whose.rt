@@ -1,0 +1,63 @@
+ghost use Rattle.std.specs.Prelude.{◌≡◌, ◌==◌, ◌&&◌, ◌||◌};
+ghost use Rattle.krs_admission.specs.Rule.{is_told, are_all, is_one, is_open, is_shared, is_of, asks_as};
+
+use crate::facts::{Ids, Process, Session};
+
+/// Stands for no uid; and so many uids there are.
+const NO_UID: u32 = 4_294_967_295;
+
+/// Whether this is the number of one user, and not of all who have none in the user namespace.
+fn is_told(process: &Process, uid: u32) -> bool
+    ensures { result ≡ is_told process.now uid }
+{
+    uid != NO_UID && (uid != process.unknown || process.mapped == NO_UID)
+}
+
+pub(crate) fn are_all(ids: &Ids, id: u32) -> bool
+    ensures { result ≡ are_all ids.now id }
+{
+    ids.real == id && ids.effective == id && ids.saved == id && ids.files == id
+}
+
+/// Whether one user alone runs it: no other uid is its own, nor has another user executed it set-uid.
+pub(crate) fn is_one(process: &Process) -> bool
+    ensures { result ≡ is_one process.now }
+{
+    are_all(&process.uids, process.uids.real)
+        && is_told(process, process.uids.real)
+        && process.has_auxv
+        && (!process.is_secure || process.starter == process.uids.real)
+}
+
+/// Whether this user could trace it, as far as is told. A set-uid program that it has executed it can't.
+fn is_open(process: &Process, uid: u32) -> bool
+    ensures { result ≡ is_open process.now uid }
+{
+    process.owner == process.uids.effective
+        && process.has_auxv
+        && (!process.is_secure || (is_told(process, process.starter) && process.starter != uid))
+}
+
+/// Whether a tag of the session gives no more than ptrace(2) gives its user: who began it could be traced then, and can
+/// be now.
+pub(crate) fn is_shared(session: &Session) -> bool
+    ensures { result ≡ is_shared session.now }
+{
+    is_open(&session.begun, session.begun.uids.real)
+        && (!session.has_beginner || is_open(&session.beginner, session.begun.uids.real))
+}
+
+/// Whether the session was begun as the real uid of the process.
+pub(crate) fn is_of(process: &Process, session: &Session) -> bool
+    ensures { result ≡ is_of process.now session.now }
+{
+    session.begun.uids.real == process.uids.real
+}
+
+/// The id as which a call is asked. The real ones own a new session keyring, and are those of the user keyring and of
+/// the user-session keyring; access is judged by those of the file system.
+pub fn asks_as(ids: &Ids, is_of_user: bool) -> u32
+    ensures { result ≡ asks_as ids.now is_of_user }
+{
+    if is_of_user { ids.real } else { ids.files }
+}

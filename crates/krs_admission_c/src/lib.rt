@@ -1,0 +1,59 @@
+//! krs_admission for C: `clients/c/krs_admission.h` declares it. No call requires anything of its arguments.
+#![tactic(auto)]
+
+ghost use Rattle.std.specs.Prelude.{◌≡◌, true};
+ghost use Rattle.krs_admission.specs.Rule.{place_of, number_of, knows_again, may_enter, may_be_given, asks_as};
+ghost use Rattle.krs_admission.specs.Law.{ComesLawfully, MayHave, IsShared};
+
+use krs_admission::{Arrival, Ids, Parent, Process, Session};
+
+/// Which session a process comes into: 0 none, 1 none but the user-session keyring of its uid, 2 that which it holds,
+/// 3 that of its tag, 4 that of the nearest process above. None but one that was begun as its own real uid, and only
+/// while all four of its uids are that one and its program isn't set-uid to another.
+#[unsafe(no_mangle)]
+pub extern "C" fn krs_admission_c_admit(arrival: &Arrival) -> u32
+    ensures exact { result ≡ number_of (place_of arrival.now) }
+    ensures lawful { ComesLawfully arrival.now result }
+{
+    krs_admission::admit(arrival).number()
+}
+
+/// Whether it would come into the session that it holds by its tag, so that it need not be remembered.
+#[unsafe(no_mangle)]
+pub extern "C" fn krs_admission_c_knows_again(arrival: &Arrival) -> bool
+    ensures exact { result ≡ knows_again arrival.now }
+    ensures lawful { result ≡ true → MayHave arrival.now.process arrival.now.held × IsShared arrival.now.held }
+{
+    krs_admission::knows_again(arrival)
+}
+
+/// Whether a process whose limit is the tag of a session keeps that from its end.
+#[unsafe(no_mangle)]
+pub extern "C" fn krs_admission_c_keeps(process: &Process, session: &Session) -> bool
+    ensures exact { result ≡ may_enter process.now session.now }
+    ensures lawful { result ≡ true → MayHave process.now session.now × IsShared session.now }
+{
+    krs_admission::keeps(process, session)
+}
+
+/// Whether a process with these uids and gids may give its parent the session that it has.
+#[unsafe(no_mangle)]
+pub extern "C" fn krs_admission_c_may_be_given(
+    parent: &Parent,
+    uids: &Ids,
+    gids: &Ids,
+    session: &Session,
+) -> bool
+    ensures exact { result ≡ may_be_given parent.now uids.now gids.now session.now }
+    ensures lawful { result ≡ true → MayHave parent.now.process session.now }
+{
+    krs_admission::may_be_given(parent, uids, gids, session)
+}
+
+/// The uid of uids, and the gid of gids, as which a call is asked.
+#[unsafe(no_mangle)]
+pub extern "C" fn krs_admission_c_asks_as(ids: &Ids, is_of_user: bool) -> u32
+    ensures { result ≡ asks_as ids.now is_of_user }
+{
+    krs_admission::asks_as(ids, is_of_user)
+}

@@ -1,0 +1,14 @@
+use Rattle.std.proofs.Common.{subst}
+use Rattle.krs_laws.specs.Noting.{AllWatchesAreByRight}
+use Rattle.krs_laws.proofs.Watchers.{owners_ask, all_set}
+use Rattle.krs_desk.specs.Sitting.{Sitting}
+use Rattle.krs_desk.proofs.KeptTurns.{knows}
+use Rattle.krs_desk.proofs.seat.Seat.notes_are_by_right.Goals as goal
+
+pub returns-clause-owners : goal.returns-clause-owners
+returns-clause-owners c = owners_ask
+
+pub returns-clause-watches : goal.returns-clause-watches
+returns-clause-watches c =
+    subst (λ (s : Sitting). AllWatchesAreByRight s.opening) c.self.view_is
+    (all_set _ (knows _ _ _ _ c.self.invariant.0).sound)

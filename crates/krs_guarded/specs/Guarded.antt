@@ -1,0 +1,70 @@
+-- What holds behind the guard: unix(7), SO_PEERCRED; profile, believed caller. The form is this project's own.
+use Rattle.std.specs.Prelude.{◌≡◌, ◌<◌, ◌⊎◌, ℕ, List, ◌∷◌, ◌++◌, Bool, true, false, Ok, length, slice_index}
+use Rattle.krs_types.specs.declared.ask.Ask.{Ask}
+use Rattle.krs_types.specs.declared.context.Context.{Context}
+use Rattle.krs_types.specs.declared.event.Event.{Event}
+use Rattle.krs_model.specs.State.{State, starting_at}
+use Rattle.krs_model.specs.Lookup.{context_of}
+use Rattle.krs_model.specs.Step.{Step}
+use Rattle.krs_model.specs.History.{IsLegal}
+use Rattle.krs_model.specs.Revocation.{Reads}
+use Rattle.krs_model.specs.Confidentiality.{KeepsPrivate, AreUnchanged}
+use Rattle.krs_model.specs.Belonging.{HasStayed}
+use Rattle.krs_wire.specs.declared.framed.Framed.{Framed}
+use Rattle.krs_wire.specs.Frame.{Frames, End}
+use Rattle.krs_screen.specs.declared.claim.Peer.{Peer}
+use Rattle.krs_screen.specs.Counting.{most}
+use Rattle.krs_screen.specs.Run as screen
+use Rattle.krs_screen.specs.Run.{run, start}
+
+-- all that the guard of a connection with this peer passed on to the daemon, in whatever pieces it came
+abbrev pub passed_on : Peer → List ℕ → List screen.Event → List ℕ
+passed_on peer groups steps = (run peer groups steps start).asks.passed
+
+-- the ask is one of those that a daemon reads from what the guard of this peer passed on
+pub record IsPassedOn (peer : Peer) (ask : Ask) : Type 0 where
+  pub groups : List ℕ
+  pub steps : List screen.Event
+  pub few : length steps < most
+  pub bytes : (i : ℕ) → slice_index (passed_on peer groups steps) i < 256
+  pub framed : Framed
+  pub before : List Framed
+  pub later : List Framed
+  pub end : End
+  pub read : Frames (passed_on peer groups steps) (before ++ framed ∷ later) end
+  pub is : framed.ask ≡ ask
+
+-- The lane has the guard of this peer before it: each ask of it in these events, since its client last left, was passed
+-- on. LEAVE ends a connection, and the next one may have another peer.
+abbrev pub IsBehindGuard : Peer → ℕ → List Event → Type 0
+IsBehindGuard peer lane events =
+    (before : List Event) (event : Event) (later : List Event) → events ≡ before ++ event ∷ later
+    → event.lane ≡ lane → HasStayed lane (event ∷ later) → IsPassedOn peer event.ask
+
+-- the peer is of this uid, or is one that the guard lets name any
+abbrev pub IsPeerOf : Peer → ℕ → Type 0
+IsPeerOf peer uid = (peer.is_trusted ≡ true) ⊎ (peer.uid ≡ uid)
+
+-- each context of a lane behind the guard acts as a caller of the peer's uid
+abbrev pub NoPeerActsAsAnother : Type 0
+NoPeerActsAsAnother =
+    (n : ℕ) (events : List Event) (end : State) → IsLegal (starting_at n) events end
+    → (lane : ℕ) (peer : Peer) → IsBehindGuard peer lane events
+    → (number : ℕ) (c : Context) → context_of end lane number ≡ Ok c → IsPeerOf peer c.caller.uid
+
+-- each accepted READ of a key that a uid has to itself, and has not given away, is of a peer of that uid
+abbrev pub NoPeerReadsAnothers : Type 0
+NoPeerReadsAnothers =
+    (n uid : ℕ) (before : List Event) (old : State) (last : ℕ → Bool)
+    → KeepsPrivate uid (λ k. false) (starting_at n) before old last
+    → (reading : Event) (end : State) (serial : ℕ) → last serial ≡ true → Step old reading end
+    → Reads old reading serial
+    → (peer : Peer) → IsBehindGuard peer reading.lane before → IsPeerOf peer uid
+
+-- an ask of any other peer leaves each key that a uid has to itself, and has not given away, as it was
+abbrev pub NoPeerChangesAnothers : Type 0
+NoPeerChangesAnothers =
+    (n uid : ℕ) (before : List Event) (old : State) (last : ℕ → Bool)
+    → KeepsPrivate uid (λ k. false) (starting_at n) before old last
+    → (event : Event) (new : State) → Step old event new
+    → (peer : Peer) → IsBehindGuard peer event.lane before → (IsPeerOf peer uid → ⊥) → AreUnchanged last old event new

@@ -1,0 +1,781 @@
+-- Each accepted ask changes keys by right, and so does each step.
+use Rattle.std.proofs.Common.{◌≡◌, ℕ, ℤ, ◌+◌, ◌==◌, ◌&&◌, ◌||◌, List, [], ◌∷◌, Option, Some, None, Bool, true, false, cond}
+use Rattle.std.proofs.Common.{Result, Ok, Err, refl, ap, ◌∙◌, sym, subst, ◌⊎◌, inl, inr, ⊎_elim, arith, length, nat_lt, filter}
+use Rattle.std.specs.Prelude.{codes}
+use Rattle.std.specs.Option.{IsSome, option_map}
+use Rattle.std.proofs.lemmas.Bool.{true≢false}
+use Rattle.std.proofs.lemmas.Bool.Decides.{nat_tests}
+use Rattle.std.proofs.lemmas.Option.{none-some, same_Some}
+use Rattle.krs_types.specs.declared.errno.Errno.{Errno}
+use Rattle.krs_types.specs.declared.errno.Errno.TheVariants.{EACCES, EINVAL, ENOKEY, EEXIST}
+use Rattle.krs_types.specs.declared.caller.Caller.{Caller}
+use Rattle.krs_types.specs.declared.context.Context.{Context}
+use Rattle.krs_types.specs.declared.context.UidRings.{UidRings}
+use Rattle.krs_types.specs.declared.ask.Answer.{Answer}
+use Rattle.krs_types.specs.declared.ask.Op.{Op}
+use Rattle.krs_types.specs.declared.ask.Op.TheVariants.{Hello, Thread, Fork, Exec, GetId, Join, Search, Request, Add}
+use Rattle.krs_types.specs.declared.ask.Op.TheVariants.{Update, Revoke, Invalidate, Chown, SetPerm, SetTimeout, Link}
+use Rattle.krs_types.specs.declared.ask.Op.TheVariants.{Unlink, Clear, Read, Describe, Watch, OpenQueue, SetFilter}
+use Rattle.krs_types.specs.declared.ask.Op.TheVariants.{ReadQueue, CloseQueue, Exit, Leave}
+use Rattle.krs_types.specs.declared.ask.Op.TheVariants.{Move, RestrictKeyring}
+use Rattle.krs_types.specs.declared.event.Event.{Event}
+use Rattle.krs_types.specs.declared.note.FilterEntry.{FilterEntry}
+use Rattle.krs_types.specs.declared.rights.Want.TheVariants.{Granted, Either, ToRead}
+use Rattle.krs_types.specs.Caller.{caller_check, is_of_group}
+use Rattle.krs_types.specs.Growth.{has_destination}
+use Rattle.krs_types.specs.Kind.{paid}
+use Rattle.krs_types.specs.Perm.{perm_of}
+use Rattle.krs_types.specs.Refusing.{or_refuse}
+use Rattle.krs_types.specs.Rights.{WRITE, SEARCH, LINK, SETATTR, VIEW}
+use Rattle.krs_model.specs.Table.{Table, at, put, map_values}
+use Rattle.krs_model.specs.State.{State, Key, Content, Payload, Links, raised}
+use Rattle.krs_model.specs.Levels.{is_in}
+use Rattle.krs_model.specs.Possession.{links_of_content}
+use Rattle.krs_model.specs.Lookup.{context_of, look_up, serial_of}
+use Rattle.krs_model.specs.Linking.{ring_links}
+use Rattle.krs_model.specs.Making.{made_for, own_ring}
+use Rattle.krs_model.specs.Queues.{queues_of}
+use Rattle.krs_model.specs.Search.{found, requested}
+use Rattle.krs_model.specs.Sound.{IsSound}
+use Rattle.krs_model.specs.Sweep.{IsHeld, Attached, Linked, PicksHeld, roots}
+use Rattle.krs_model.specs.Step.{Step, Serves, Ends, outcome_of}
+use Rattle.krs_model.specs.Asks.Adding.{add, admitted, place_of}
+use Rattle.krs_model.specs.Asks.Changing.{update, updatable, set_perm, with_perm, if_owner, chown, with_owner, or_left}
+use Rattle.krs_model.specs.Asks.Changing.{if_may_own, may_own, set_timeout, with_expiry, expiry_after, revoke, revoked, emptied}
+use Rattle.krs_model.specs.Asks.Entering.{thread, fork, exec, if_context_number}
+use Rattle.krs_model.specs.Asks.Finding.{get_id, made_where, search_from, sought_name, request}
+use Rattle.krs_model.specs.Asks.Hello.{hello, has_context_left, has_numbers, with_uid, uid_ring}
+use Rattle.krs_model.specs.Asks.Invalidating.{invalidate}
+use Rattle.krs_model.specs.Asks.Joining.{join, joinable, session_joined, session_named, session_ring}
+use Rattle.krs_model.specs.Asks.Leaving.{left, exit}
+use Rattle.krs_model.specs.Asks.Linked.{link, unlink, unless, if_linked, without_link, linked_into, clear}
+use Rattle.krs_model.specs.Asks.Linked.{cleared_content}
+use Rattle.krs_model.specs.Asks.Moving.{move_link, moved}
+use Rattle.krs_model.specs.Asks.Reading.{read, describe}
+use Rattle.krs_model.specs.Asks.Reading as reading
+use Rattle.krs_model.specs.Asks.Restricting.{restrict_keyring, no_type, restricted}
+use Rattle.krs_model.specs.Asks.Watching.{watch, open_queue, set_filter, read_queue, close_queue, with_watching, watch_id_of}
+use Rattle.krs_model.specs.Asks.Watching.{opened, filtered, read_out, closed}
+use Rattle.krs_model.proofs.Asks.Fares.{meets_by}
+use Rattle.krs_model.proofs.Asks.LaterByAsk.{moved_is}
+use Rattle.krs_model.proofs.Asks.Laws.{law_of}
+use Rattle.krs_model.proofs.Asks.Outcomes.{Meets, meets_after, meets_ok, meets_within}
+use Rattle.krs_model.proofs.Lookups.Laws.{look_up_usable}
+use Rattle.krs_model.proofs.Lookups.Serials.{own_there}
+use Rattle.krs_model.proofs.MadeKeyring.State.{HasMadeFor, MadeNone, MadeOne, made_for_has}
+use Rattle.krs_model.proofs.Reach.Levels.{only_in, true_or}
+use Rattle.krs_model.proofs.Sound.Changes.{Stands, LinksTo, not_there}
+use Rattle.krs_model.proofs.Sound.KeyChanges.{unlinked_lessens}
+use Rattle.krs_model.proofs.Sound.NewContexts.{own_process_there}
+use Rattle.krs_model.proofs.Sound.Steps.{sound_stands, raised_sound, legal_sound}
+use Rattle.krs_model.proofs.Tables.Changes.{at_kept, at_map}
+use Rattle.krs_model.proofs.Tables.Counts.{part_in}
+use Rattle.krs_laws.specs.Integrity.{HasRight, Kept, Emptied, Unlinked, IsByRight, AsksAs, IsMadeBy}
+use Rattle.krs_laws.specs.Integrity.{ChangesByRight, AllChangesAreByRight}
+use Rattle.krs_laws.proofs.Rightly.{Rightly, rightly_same, rightly_put, rightly_changed, rightly_written}
+use Rattle.krs_laws.proofs.Rightly.{right_made, right_found, linkable_made, mapped_is}
+use Rattle.krs_laws.proofs.RightlyAsked.{ring_made, made_own, links_nothing, made_rightly, linked_rightly, unlinked_rightly}
+use Rattle.krs_laws.proofs.RightlyAsked.{moved_rightly, found_rightly, updated_then, added_rightly}
+
+-- by right, where the store stands
+abbrev ByRight : State → ℕ → ℕ → Op → State → Type 0
+ByRight s client context op new = Rightly s client context op new.keys
+
+next_none : (s : State) → Stands s → at s.keys s.next_serial ≡ None
+next_none s stands = stands.unused s.next_serial (omega arith)
+
+second_none : (s : State) → Stands s → at s.keys (s.next_serial + 1) ≡ None
+second_none s stands = stands.unused (s.next_serial + 1) (omega arith)
+
+has_made :
+    (s : State) (client context : ℕ) (c : Context) (id : ℤ) → Stands s → context_of s client context ≡ Ok c
+    → HasMadeFor s c id (made_for s context c id)
+has_made s client context c id stands own =
+    made_for_has s context c id (own_process_there s context c (own_there s client context c own) stands.placed)
+
+-- the caller stays where a keyring is made, and no key has the next serial
+made_next :
+    (s : State) (c : Context) (id : ℤ) (made : State × Context) → Stands s → HasMadeFor s c id made
+    → (at s.keys made.0.next_serial ≡ None) × (made.1.caller ≡ c.caller)
+made_next s c id _ stands MadeNone = (next_none s stands, refl)
+made_next s c id _ stands (MadeOne t d desc before after has is) = (
+  subst (λ (z : ℕ). at s.keys z ≡ None) (sym has.next) (second_none s stands),
+  has.caller,
+)
+
+-- ---- one ask a line
+
+session_made :
+    (s : State) (client context : ℕ) (op : Op) (name : List ℕ) (c : Caller) → AsksAs s client context op c
+    → IsMadeBy s client context op (session_ring name c)
+session_made s client context op name c asks =
+    elim (length name == 0) as (λ b. IsMadeBy s client context op (cond b (own_ring (codes "_ses") 1057161216 true c)
+    (own_ring name 1058209792 true c))) [
+      | true ↦ ring_made s client context op (codes "_ses") 1057161216 true c asks refl refl
+      | false ↦ ring_made s client context op name 1058209792 true c asks refl refl
+    ]
+
+session_links : (name : List ℕ) (c : Caller) → links_of_content (session_ring name c).content ≡ []
+session_links name c =
+    elim (length name == 0) as (λ b. links_of_content (cond b (own_ring (codes "_ses") 1057161216 true c)
+    (own_ring name 1058209792 true c)).content ≡ []) [
+      | true ↦ refl
+      | false ↦ refl
+    ]
+
+joined_rightly :
+    (s : State) (client context : ℕ) (op : Op) (c : Context) (name : List ℕ) (answer : Option (ℕ × Key)) → Stands s
+    → AsksAs s client context op c.caller
+    → Meets (ByRight s client context op) (session_joined s context c name answer)
+joined_rightly s client context op c name (Some there) stands asks = meets_ok (rightly_same s client context op)
+joined_rightly s client context op c name None stands asks =
+    meets_ok (rightly_put s client context op s.keys s.next_serial (session_ring name c.caller) (next_none s stands)
+    (session_made s client context op name c.caller asks)
+    (λ k i. links_nothing k _ (session_links name c.caller) i) (rightly_same s client context op))
+
+uid_made :
+    (s : State) (client context : ℕ) (caller : Caller) (prefix links : List ℕ)
+    → IsMadeBy s client context (Hello caller) (uid_ring prefix links caller)
+uid_made s client context caller prefix links = record {
+  caller = caller;
+  asks = refl;
+  own = made_own caller.uid (uid_ring prefix links caller) refl refl refl;
+  gid = refl;
+}
+
+uid_rightly :
+    (s : State) (client context : ℕ) (caller : Caller) (rings : Option UidRings) → Stands s
+    → Rightly s client context (Hello caller) (with_uid s caller rings).keys
+uid_rightly s client context caller (Some rings) stands = rightly_same s client context (Hello caller)
+uid_rightly s client context caller None stands =
+    let n = s.next_serial in
+    let op = Hello caller in
+    let first = uid_ring (codes "_uid.") [] caller in
+    let second = uid_ring (codes "_uid_ses.") (n ∷ []) caller in
+    rightly_put s client context op (put s.keys n first) (n + 1) second (second_none s stands)
+    (uid_made s client context caller (codes "_uid_ses.") (n ∷ []))
+    (λ k i. inl (subst (λ (z : ℕ). at s.keys z ≡ None) (sym (only_in k n i)) (next_none s stands)))
+    (rightly_put s client context op s.keys n first (next_none s stands)
+    (uid_made s client context caller (codes "_uid.") []) (λ k i. links_nothing k [] refl i)
+    (rightly_same s client context op))
+
+equal : (a b : ℕ) → (a == b) ≡ true → a ≡ b
+equal a b h = grind (arith, nat_tests)
+
+emptied_links : (content : Content) (j : ℕ) → is_in j (links_of_content (emptied content)) ≡ true
+    → is_in j (links_of_content content) ≡ true
+emptied_links (Payload bytes) j i = i
+emptied_links (Links links) j i = links_nothing j [] refl i
+
+cleared_links : (content : Content) (j : ℕ) → is_in j (links_of_content (cleared_content content)) ≡ true
+    → is_in j (links_of_content content) ≡ true
+cleared_links (Payload bytes) j i = i
+cleared_links (Links links) j i = links_nothing j [] refl i
+
+owner_is :
+    (caller : Caller) (key x : Key) → if_owner caller key ≡ Ok x
+    → (caller.uid ≡ 0) ⊎ (caller.uid ≡ key.uid)
+owner_is caller key x h =
+    elim (caller.uid == 0) as (λ b. (caller.uid == 0) ≡ b → cond (b || (caller.uid == key.uid)) (Ok key) (Err EACCES) ≡ Ok x
+    → (caller.uid ≡ 0) ⊎ (caller.uid ≡ key.uid)) [
+      | true ↦ λ t e. inl (equal caller.uid 0 t)
+      | false ↦ λ t e. elim (caller.uid == key.uid) as (λ d. (caller.uid == key.uid) ≡ d
+          → cond d (Ok key) (Err EACCES) ≡ Ok x → (caller.uid ≡ 0) ⊎ (caller.uid ≡ key.uid)) [
+            | true ↦ λ u f. inr (equal caller.uid key.uid u)
+            | false ↦ λ u f. cc
+          ] refl e
+    ] refl h
+
+-- uid 0, or a context that leaves the uid, and the gid or gives one of its own
+abbrev OwnsSo : Caller → ℕ → ℕ → Key → Type 0
+OwnsSo caller uid gid key =
+    (caller.uid ≡ 0)
+    ⊎ ((or_left uid key.uid ≡ key.uid) × ((or_left gid key.gid ≡ key.gid) ⊎ (is_of_group caller (or_left gid key.gid) ≡ true)))
+
+left_or_own :
+    (caller : Caller) (gid there : ℕ) → ((or_left gid there == there) || is_of_group caller gid) ≡ true
+    → (or_left gid there ≡ there) ⊎ (is_of_group caller (or_left gid there) ≡ true)
+left_or_own caller gid there h =
+    ⊎_elim (λ (e : (or_left gid there == there) ≡ true). inl (equal (or_left gid there) there e))
+    (λ (member : is_of_group caller gid ≡ true).
+    elim (gid == 4294967295) as (λ b. (cond b there gid ≡ there) ⊎ (is_of_group caller (cond b there gid) ≡ true)) [
+      | true ↦ inl refl
+      | false ↦ inr member
+    ])
+    (true_or (or_left gid there == there) (is_of_group caller gid) h)
+
+both : (a b : Bool) → (a && b) ≡ true → (a ≡ true) × (b ≡ true)
+both true b h = (refl, h)
+both false b h = absurd (true≢false (sym h))
+
+may_own_so :
+    (caller : Caller) (uid gid : ℕ) (key : Key) → may_own caller uid gid key ≡ true → OwnsSo caller uid gid key
+may_own_so caller uid gid key h =
+    ⊎_elim (λ (e : (caller.uid == 0) ≡ true). inl (equal caller.uid 0 e))
+    (λ (rest : ((or_left uid key.uid == key.uid) && ((or_left gid key.gid == key.gid) || is_of_group caller gid)) ≡ true).
+    let r = both (or_left uid key.uid == key.uid) ((or_left gid key.gid == key.gid) || is_of_group caller gid) rest in
+    inr (equal (or_left uid key.uid) key.uid r.0, left_or_own caller gid key.gid r.1))
+    (true_or (caller.uid == 0) _ h)
+
+may_own_is :
+    (caller : Caller) (uid gid : ℕ) (key x : Key) → if_may_own caller uid gid key ≡ Ok x → OwnsSo caller uid gid key
+may_own_is caller uid gid key x h =
+    elim (may_own caller uid gid key) as
+    (λ b. may_own caller uid gid key ≡ b → cond b (Ok key) (Err EACCES) ≡ Ok x → OwnsSo caller uid gid key) [
+      | true ↦ λ t e. may_own_so caller uid gid key t
+      | false ↦ λ t e. cc
+    ] refl h
+
+given_by_right :
+    (s : State) (client context : ℕ) (n uid gid : ℕ) (v : Key) (right : HasRight s client context (Granted SETATTR) n)
+    → OwnsSo right.whose.caller uid gid v → IsByRight s client context n v (with_owner uid gid v)
+given_by_right s client context n uid gid v right (inl root) = record {
+  kind = refl;
+  desc = refl;
+  joined = refl;
+  content = Kept refl;
+  uid = inr (right, root);
+  gid = inr (right, inl root);
+  perm = inl refl;
+  expiry = inl refl;
+  revoked = inl refl;
+  closed = inl refl;
+}
+given_by_right s client context n uid gid v right (inr kept) = record {
+  kind = refl;
+  desc = refl;
+  joined = refl;
+  content = Kept refl;
+  uid = inl kept.0;
+  gid = ⊎_elim (λ (e : or_left gid v.gid ≡ v.gid). inl e)
+      (λ (member : is_of_group right.whose.caller (or_left gid v.gid) ≡ true). inr (right, inr member)) kept.1;
+  perm = inl refl;
+  expiry = inl refl;
+  revoked = inl refl;
+  closed = inl refl;
+}
+
+masked_by_right :
+    (s : State) (client context n perm : ℕ) (v : Key) (right : HasRight s client context (Granted SETATTR) n)
+    → (right.whose.caller.uid ≡ 0) ⊎ (right.whose.caller.uid ≡ v.uid)
+    → IsByRight s client context n v (with_perm perm v)
+masked_by_right s client context n perm v right own = record {
+  kind = refl;
+  desc = refl;
+  joined = refl;
+  content = Kept refl;
+  uid = inl refl;
+  gid = inl refl;
+  perm = inr (right, own);
+  expiry = inl refl;
+  revoked = inl refl;
+  closed = inl refl;
+}
+
+timed_by_right :
+    (s : State) (client context n : ℕ) (expiry : Option ℕ) (v : Key) → HasRight s client context (Granted SETATTR) n
+    → IsByRight s client context n v (with_expiry expiry v)
+timed_by_right s client context n expiry v right = record {
+  kind = refl;
+  desc = refl;
+  joined = refl;
+  content = Kept refl;
+  uid = inl refl;
+  gid = inl refl;
+  perm = inl refl;
+  expiry = inr (inl right);
+  revoked = inl refl;
+  closed = inl refl;
+}
+
+revoked_by_right :
+    (s : State) (client context n : ℕ) (v : Key) → HasRight s client context (Either WRITE SETATTR) n
+    → IsByRight s client context n v (revoked v)
+revoked_by_right s client context n v right = record {
+  kind = refl;
+  desc = refl;
+  joined = refl;
+  content = Emptied right refl;
+  uid = inl refl;
+  gid = inl refl;
+  perm = inl refl;
+  expiry = inl refl;
+  revoked = inr (refl, right);
+  closed = inl refl;
+}
+
+closed_by_right :
+    (s : State) (client context n : ℕ) (v : Key) → HasRight s client context (Granted SETATTR) n
+    → IsByRight s client context n v (restricted v)
+closed_by_right s client context n v right = record {
+  kind = refl;
+  desc = refl;
+  joined = refl;
+  content = Kept refl;
+  uid = inl refl;
+  gid = inl refl;
+  perm = inl refl;
+  expiry = inl refl;
+  revoked = inl refl;
+  closed = inr (refl, right);
+}
+
+unlinked_by_right :
+    (s : State) (client context n gone : ℕ) (v : Key) → HasRight s client context (Granted SEARCH) gone
+    → IsByRight s client context n v (without_link gone v)
+unlinked_by_right s client context n gone v right = record {
+  kind = refl;
+  desc = refl;
+  joined = refl;
+  content = Unlinked gone right refl;
+  uid = inl refl;
+  gid = inl refl;
+  perm = inl refl;
+  expiry = inl refl;
+  revoked = inl refl;
+  closed = inl refl;
+}
+
+mapped_none : (f : Key → Key) (o : Option Key) (key : Key) → o ≡ None → option_map f o ≡ Some key → ⊥
+mapped_none f None key none h = none-some key h
+mapped_none f (Some v) key none h = none-some v (sym none)
+
+mapped_links : (gone : ℕ) (o : Option Key) (j : ℕ) → LinksTo j (option_map (without_link gone) o) → LinksTo j o
+mapped_links gone None j i = i
+mapped_links gone (Some v) j i = part_in _ _ j ((unlinked_lessens gone).links v) i
+
+-- a key goes out of all links
+detached_rightly :
+    (s : State) (client context : ℕ) (op : Op) (gone : ℕ) → HasRight s client context (Granted SEARCH) gone
+    → Rightly s client context op (map_values (without_link gone) s.keys)
+detached_rightly s client context op gone right = record {
+  changed = λ k before after there is.
+      let w = mapped_is (without_link gone) (at s.keys k) after (sym (at_map (without_link gone) s.keys k) ∙ is) in
+      let one : w.0 ≡ before = same_Some w.0 before (sym w.1 ∙ there) in
+      subst (IsByRight s client context k before) (ap (without_link gone) (sym one) ∙ w.2)
+      (unlinked_by_right s client context k gone before right);
+  made = λ k key none is.
+      absurd (mapped_none (without_link gone) (at s.keys k) key none (sym (at_map (without_link gone) s.keys k) ∙ is));
+  linked = λ j k i. inl (mapped_links gone (at s.keys j) k (subst (LinksTo k) (at_map (without_link gone) s.keys j) i));
+}
+
+-- the whole of it, ask by ask: a further ask has a line here
+abbrev Comes : State → ℕ → ℕ → Op → Type 0
+Comes s client context op = Meets (ByRight s client context op) (outcome_of s client context op)
+
+update_rightly : (s : State) (client context : ℕ) (id : ℤ) (payload : List ℕ) → Comes s client context (Update id payload)
+unfolding update
+update_rightly s client context id payload =
+    meets_after (context_of s client context) _ (λ c own.
+    meets_after (look_up s c id (Granted WRITE)) _ (λ there is.
+    meets_after (updatable there.1.kind) _ (λ kind _.
+    meets_after (paid kind payload) _ (λ fit _.
+    meets_ok (updated_then s client context _ s.keys there.0 payload
+    (λ old _. right_found s client context c id (Granted WRITE) there own is) (rightly_same s client context _))))))
+
+revoke_rightly : (s : State) (client context : ℕ) (id : ℤ) → Comes s client context (Revoke id)
+unfolding revoke
+revoke_rightly s client context id =
+    meets_after (context_of s client context) _ (λ c own.
+    meets_after (look_up s c id (Either WRITE SETATTR)) _ (λ there is.
+    meets_ok (rightly_changed s client context _ there.0 revoked
+    (λ v _. revoked_by_right s client context there.0 v
+    (right_found s client context c id (Either WRITE SETATTR) there own is))
+    (λ j v i. emptied_links v.content j i))))
+
+chown_rightly : (s : State) (client context : ℕ) (id : ℤ) (uid gid : ℕ) → Comes s client context (Chown id uid gid)
+unfolding chown
+chown_rightly s client context id uid gid =
+    meets_after (context_of s client context) _ (λ c own.
+    meets_after (look_up s c id (Granted SETATTR)) _ (λ there is.
+    meets_after (if_may_own c.caller uid gid there.1) _ (λ x allowed.
+    meets_ok (rightly_changed s client context _ there.0 (with_owner uid gid)
+    (λ v here. given_by_right s client context there.0 uid gid v
+    (right_found s client context c id (Granted SETATTR) there own is)
+    (subst (OwnsSo c.caller uid gid)
+    (same_Some there.1 v (sym (look_up_usable s c id (Granted SETATTR) there is).there ∙ here))
+    (may_own_is c.caller uid gid there.1 x allowed)))
+    (λ j v i. i)))))
+
+set_perm_rightly : (s : State) (client context : ℕ) (id : ℤ) (mask : ℕ) → Comes s client context (SetPerm id mask)
+unfolding set_perm
+set_perm_rightly s client context id mask =
+    meets_after (context_of s client context) _ (λ c own.
+    meets_after (look_up s c id (Granted SETATTR)) _ (λ there is.
+    meets_after (perm_of mask) _ (λ perm _.
+    meets_after (if_owner c.caller there.1) _ (λ x allowed.
+    meets_ok (rightly_changed s client context _ there.0 (with_perm perm)
+    (λ v here. masked_by_right s client context there.0 perm v
+    (right_found s client context c id (Granted SETATTR) there own is)
+    (subst (λ (z : Key). (c.caller.uid ≡ 0) ⊎ (c.caller.uid ≡ z.uid))
+    (same_Some there.1 v (sym (look_up_usable s c id (Granted SETATTR) there is).there ∙ here))
+    (owner_is c.caller there.1 x allowed)))
+    (λ j v i. i))))))
+
+set_timeout_rightly :
+    (s : State) (client context : ℕ) (id : ℤ) (seconds : ℕ) → Comes s client context (SetTimeout id seconds)
+unfolding set_timeout
+set_timeout_rightly s client context id seconds =
+    meets_after (context_of s client context) _ (λ c own.
+    meets_after (look_up s c id (Granted SETATTR)) _ (λ there is.
+    let expiry = expiry_after s.clock seconds in
+    meets_ok (rightly_changed s client context _ there.0 (with_expiry expiry)
+    (λ v _. timed_by_right s client context there.0 expiry v
+    (right_found s client context c id (Granted SETATTR) there own is))
+    (λ j v i. i))))
+
+restrict_rightly :
+    (s : State) (client context : ℕ) (ring : ℤ) (type_name : List ℕ)
+    → Comes s client context (RestrictKeyring ring type_name)
+unfolding restrict_keyring
+restrict_rightly s client context ring type_name =
+    meets_after (context_of s client context) _ (λ c own.
+    meets_after (no_type type_name) _ (λ untyped _.
+    meets_after (look_up s c ring (Granted SETATTR)) _ (λ there is.
+    meets_after (ring_links there.1.content) _ (λ links _.
+    meets_after (unless there.1.closed EEXIST) _ (λ unclosed _.
+    meets_ok (rightly_changed s client context _ there.0 restricted
+    (λ v _. closed_by_right s client context there.0 v
+    (right_found s client context c ring (Granted SETATTR) there own is))
+    (λ j v i. i)))))))
+
+unlink_rightly : (s : State) (client context : ℕ) (key ring : ℤ) → Comes s client context (Unlink key ring)
+unfolding unlink
+unlink_rightly s client context key ring =
+    meets_after (context_of s client context) _ (λ c own.
+    meets_after (look_up s c ring (Granted WRITE)) _ (λ from is.
+    meets_after (serial_of s c key) _ (λ serial _.
+    meets_after (or_refuse ENOKEY (at s.keys serial)) _ (λ there _.
+    meets_after (ring_links from.1.content) _ (λ links _.
+    meets_after (if_linked serial links) _ (λ linked _.
+    meets_ok (unlinked_rightly s client context _ s.keys from.0 serial
+    (λ old _. right_found s client context c ring (Granted WRITE) from own is) (rightly_same s client context _))))))))
+
+clear_rightly : (s : State) (client context : ℕ) (id : ℤ) → Comes s client context (Clear id)
+unfolding clear
+clear_rightly s client context id =
+    meets_after (context_of s client context) _ (λ c own.
+    meets_after (look_up s c id (Granted WRITE)) _ (λ there is.
+    meets_after (ring_links there.1.content) _ (λ links _.
+    meets_ok (rightly_written s client context _ s.keys there.0 cleared_content
+    (λ old _. right_found s client context c id (Granted WRITE) there own is)
+    (λ k v i. inl (cleared_links v.content k i)) (rightly_same s client context _)))))
+
+invalidate_rightly : (s : State) (client context : ℕ) (id : ℤ) → Comes s client context (Invalidate id)
+unfolding invalidate
+invalidate_rightly s client context id =
+    meets_after (context_of s client context) _ (λ c own.
+    meets_after (look_up s c id (Granted SEARCH)) _ (λ gone is.
+    meets_ok (detached_rightly s client context _ gone.0
+    (right_found s client context c id (Granted SEARCH) gone own is))))
+
+link_rightly : (s : State) (client context : ℕ) (key ring : ℤ) → Stands s → Comes s client context (Link key ring)
+unfolding link
+link_rightly s client context key ring stands =
+    meets_after (context_of s client context) _ (λ c own.
+    let made = made_for s context c ring in
+    let has = has_made s client context c ring stands own in
+    let none = next_none s stands in
+    meets_within s _ (
+    meets_after (look_up made.0 made.1 ring (Granted WRITE)) _ (λ into goes.
+    meets_after (look_up made.0 made.1 key (Granted LINK)) _ (λ there is.
+    meets_after (linked_into made.0 into there) _ (λ new linked.
+    let usable = look_up_usable made.0 made.1 key (Granted LINK) there is in
+    meets_ok (linked_rightly s made.0 new client context _ into there
+    (λ old before. right_made s client context c ring made (Granted WRITE) into old own has none before
+    (look_up_usable made.0 made.1 ring (Granted WRITE) into goes))
+    (linkable_made s client context c ring made there.0 there.1 own has none usable.there usable.granted) linked
+    (made_rightly s client context _ c ring none (c, own, refl))))))))
+
+move_rightly :
+    (s : State) (client context : ℕ) (key from to : ℤ) (flags : ℕ) → Stands s
+    → Comes s client context (Move key from to flags)
+unfolding move_link
+move_rightly s client context key from to flags stands =
+    meets_after (context_of s client context) _ (λ c own.
+    meets_after (unless (nat_lt 1 flags) EINVAL) _ (λ known _.
+    meets_after (look_up s c key (Granted LINK)) _ (λ there is.
+    meets_after (look_up s c from (Granted WRITE)) _ (λ first out.
+    let made = made_for s context c to in
+    let has = has_made s client context c to stands own in
+    let none = next_none s stands in
+    let usable = look_up_usable s c key (Granted LINK) there is in
+    meets_within s _ (
+    meets_after (look_up made.0 made.1 to (Granted WRITE)) _ (λ into goes.
+    meets_after (moved made.0 (flags == 1) there first into) _ (λ new moves.
+    meets_ok (moved_rightly s made.0 client context _ there first into new
+    (λ old before. right_made s client context c to made (Granted WRITE) into old own has none before
+    (look_up_usable made.0 made.1 to (Granted WRITE) into goes))
+    (λ old before. right_found s client context c from (Granted WRITE) first own out)
+    (inr (record { whose = c; own = own; key = there.1; there = usable.there; grants = usable.granted }))
+    (moved_is made.0 (flags == 1) there first into new moves)
+    (made_rightly s client context _ c to none (c, own, refl))))))))))
+
+add_rightly :
+    (s : State) (client context : ℕ) (type_name desc payload : List ℕ) (ring : ℤ) → Stands s
+    → Comes s client context (Add type_name desc payload ring)
+unfolding add
+add_rightly s client context type_name desc payload ring stands =
+    meets_after (context_of s client context) _ (λ c own.
+    meets_after (admitted type_name desc payload) _ (λ name _.
+    let made = made_for s context c ring in
+    let has = has_made s client context c ring stands own in
+    let none = next_none s stands in
+    let next = made_next s c ring made stands has in
+    meets_after (place_of made.0 made.1 name ring) _ (λ place is.
+    meets_ok (added_rightly s client context _ c ring made name payload place own (c, own, sym next.1) none next.0 has is
+    (made_rightly s client context _ c ring none (c, own, refl))))))
+
+where_rightly :
+    (create : Bool) (s : State) (client context : ℕ) (op : Op) (c : Context) (id : ℤ) → at s.keys s.next_serial ≡ None
+    → AsksAs s client context op c.caller → Rightly s client context op (made_where create s context c id).0.keys
+where_rightly true s client context op c id none asks = made_rightly s client context op c id none asks
+where_rightly false s client context op c id none asks = rightly_same s client context op
+
+get_id_rightly :
+    (s : State) (client context : ℕ) (id : ℤ) (create : Bool) → Stands s → Comes s client context (GetId id create)
+unfolding get_id
+get_id_rightly s client context id create stands =
+    meets_after (context_of s client context) _ (λ c own.
+    let made = made_where create s context c id in
+    meets_within s _ (meets_after (look_up made.0 made.1 id (Granted SEARCH)) _ (λ key _.
+    meets_ok (where_rightly create s client context _ c id (next_none s stands) (c, own, refl)))))
+
+search_rightly :
+    (s : State) (client context : ℕ) (head : ℤ) (type_name desc : List ℕ) (dest : ℤ) → Stands s
+    → Comes s client context (Search head type_name desc dest)
+unfolding search_from
+search_rightly s client context head type_name desc dest stands =
+    meets_after (context_of s client context) _ (λ c own.
+    meets_after (sought_name type_name desc) _ (λ name _.
+    meets_after (look_up s c head (Granted SEARCH)) _ (λ from _.
+    let made = made_for s context c dest in
+    let has = has_made s client context c dest stands own in
+    let none = next_none s stands in
+    meets_within s _ (meets_by (has_destination dest) _ _ (λ gives.
+    meets_after (look_up made.0 made.1 dest (Granted WRITE)) _ (λ into goes.
+    meets_after (ring_links from.1.content) _ (λ links _.
+    meets_after (ring_links into.1.content) _ (λ room _.
+    found_rightly s client context _ c dest made into (found made.0 made.1 from.0 name) own none has goes
+    (made_rightly s client context _ c dest none (c, own, refl))))))
+    (meets_after (ring_links from.1.content) _ (λ links _.
+    meets_after (found s c from.0 name) _ (λ serial _. meets_ok (rightly_same s client context _))))))))
+
+request_rightly :
+    (s : State) (client context : ℕ) (type_name desc : List ℕ) (dest : ℤ) → Stands s
+    → Comes s client context (Request type_name desc dest)
+unfolding request
+request_rightly s client context type_name desc dest stands =
+    meets_after (context_of s client context) _ (λ c own.
+    meets_after (sought_name type_name desc) _ (λ name _.
+    let made = made_for s context c dest in
+    let has = has_made s client context c dest stands own in
+    let none = next_none s stands in
+    meets_within s _ (meets_by (has_destination dest) _ _ (λ gives.
+    meets_after (look_up made.0 made.1 dest (Granted WRITE)) _ (λ into goes.
+    meets_after (ring_links into.1.content) _ (λ room _.
+    found_rightly s client context _ c dest made into (requested made.0 made.1 name) own none has goes
+    (made_rightly s client context _ c dest none (c, own, refl)))))
+    (meets_after (requested s c name) _ (λ serial _. meets_ok (rightly_same s client context _))))))
+
+join_rightly : (s : State) (client context : ℕ) (name : List ℕ) → Stands s → Comes s client context (Join name)
+unfolding join
+join_rightly s client context name stands =
+    meets_after (context_of s client context) _ (λ c own.
+    meets_after (session_named name) _ (λ fit _.
+    meets_within s _ (joined_rightly s client context _ c name (joinable s c.caller name) stands (c, own, refl))))
+
+hello_rightly : (s : State) (client context : ℕ) (caller : Caller) → Stands s → Comes s client context (Hello caller)
+unfolding hello
+hello_rightly s client context caller stands =
+    meets_after (caller_check caller) _ (λ known _.
+    meets_after (has_context_left s client) _ (λ room _.
+    meets_after (has_numbers s (at s.uids caller.uid)) _ (λ numbers _.
+    meets_ok (uid_rightly s client context caller (at s.uids caller.uid) stands))))
+
+thread_rightly : (s : State) (client context : ℕ) → Comes s client context Thread
+unfolding thread
+thread_rightly s client context =
+    meets_after (context_of s client context) _ (λ c _.
+    meets_after (has_context_left s client) _ (λ room _.
+    meets_after (if_context_number s) _ (λ left _. meets_ok (rightly_same s client context _))))
+
+fork_rightly : (s : State) (client context : ℕ) → Comes s client context Fork
+unfolding fork
+fork_rightly s client context =
+    meets_after (context_of s client context) _ (λ c _.
+    meets_after (has_context_left s client) _ (λ room _.
+    meets_after (if_context_number s) _ (λ left _. meets_ok (rightly_same s client context _))))
+
+exec_rightly : (s : State) (client context : ℕ) → Comes s client context Exec
+unfolding exec
+exec_rightly s client context =
+    meets_after (context_of s client context) _ (λ c _. meets_ok (rightly_same s client context _))
+
+exit_rightly : (s : State) (client context : ℕ) → Comes s client context Exit
+unfolding exit
+exit_rightly s client context =
+    meets_after (context_of s client context) _ (λ c _. meets_ok (rightly_same s client context _))
+
+leave_rightly : (s : State) (client context : ℕ) → Comes s client context Leave
+unfolding left
+leave_rightly s client context = meets_ok (rightly_same s client context _)
+
+read_rightly : (s : State) (client context : ℕ) (id : ℤ) → Comes s client context (Read id)
+unfolding read
+read_rightly s client context id =
+    meets_after (context_of s client context) _ (λ c _.
+    meets_after (look_up s c id ToRead) _ (λ there _.
+    meets_after (reading.readable there.1.kind there.1.content) _ (λ bytes _. meets_ok (rightly_same s client context _))))
+
+describe_rightly : (s : State) (client context : ℕ) (id : ℤ) → Comes s client context (Describe id)
+unfolding describe
+describe_rightly s client context id =
+    meets_after (context_of s client context) _ (λ c _.
+    meets_after (look_up s c id (Granted VIEW)) _ (λ there _. meets_ok (rightly_same s client context _)))
+
+watch_rightly :
+    (s : State) (client context : ℕ) (id : ℤ) (queue : ℕ) (watch_id : ℤ) → Comes s client context (Watch id queue watch_id)
+unfolding watch
+watch_rightly s client context id queue watch_id =
+    meets_after (context_of s client context) _ (λ c _.
+    meets_after (watch_id_of watch_id) _ (λ asked _.
+    meets_after (look_up s c id (Granted VIEW)) _ (λ there _.
+    meets_after (with_watching (queues_of s) client queue there.0 asked) _ (λ queues _.
+    meets_ok (rightly_same s client context _)))))
+
+open_rightly : (s : State) (client context capacity : ℕ) → Comes s client context (OpenQueue capacity)
+unfolding open_queue
+open_rightly s client context capacity =
+    meets_after (opened (queues_of s) client capacity) _ (λ made _. meets_ok (rightly_same s client context _))
+
+filter_rightly :
+    (s : State) (client context queue : ℕ) (entries : List FilterEntry) → Comes s client context (SetFilter queue entries)
+unfolding set_filter
+filter_rightly s client context queue entries =
+    meets_after (filtered (queues_of s) client queue entries) _ (λ set _. meets_ok (rightly_same s client context _))
+
+read_queue_rightly : (s : State) (client context queue room : ℕ) → Comes s client context (ReadQueue queue room)
+unfolding read_queue
+read_queue_rightly s client context queue room =
+    meets_after (read_out (queues_of s) client queue room) _ (λ taken _. meets_ok (rightly_same s client context _))
+
+close_rightly : (s : State) (client context queue : ℕ) → Comes s client context (CloseQueue queue)
+unfolding close_queue
+close_rightly s client context queue =
+    meets_after (closed (queues_of s) client queue) _ (λ left _. meets_ok (rightly_same s client context _))
+
+all_rightly : (s : State) (client context : ℕ) (op : Op) → Stands s → Comes s client context op
+all_rightly s client context (Hello caller) stands = hello_rightly s client context caller stands
+all_rightly s client context Thread stands = thread_rightly s client context
+all_rightly s client context Fork stands = fork_rightly s client context
+all_rightly s client context Exec stands = exec_rightly s client context
+all_rightly s client context (GetId id create) stands = get_id_rightly s client context id create stands
+all_rightly s client context (Join name) stands = join_rightly s client context name stands
+all_rightly s client context (Search head type_name desc dest) stands =
+    search_rightly s client context head type_name desc dest stands
+all_rightly s client context (Request type_name desc dest) stands =
+    request_rightly s client context type_name desc dest stands
+all_rightly s client context (Add type_name desc payload ring) stands =
+    add_rightly s client context type_name desc payload ring stands
+all_rightly s client context (Update id payload) stands = update_rightly s client context id payload
+all_rightly s client context (Revoke id) stands = revoke_rightly s client context id
+all_rightly s client context (Invalidate id) stands = invalidate_rightly s client context id
+all_rightly s client context (Chown id uid gid) stands = chown_rightly s client context id uid gid
+all_rightly s client context (SetPerm id mask) stands = set_perm_rightly s client context id mask
+all_rightly s client context (SetTimeout id seconds) stands = set_timeout_rightly s client context id seconds
+all_rightly s client context (Link key ring) stands = link_rightly s client context key ring stands
+all_rightly s client context (Unlink key ring) stands = unlink_rightly s client context key ring
+all_rightly s client context (Move key from to flags) stands = move_rightly s client context key from to flags stands
+all_rightly s client context (Clear id) stands = clear_rightly s client context id
+all_rightly s client context (RestrictKeyring ring type_name) stands = restrict_rightly s client context ring type_name
+all_rightly s client context (Read id) stands = read_rightly s client context id
+all_rightly s client context (Describe id) stands = describe_rightly s client context id
+all_rightly s client context (Watch id queue watch_id) stands = watch_rightly s client context id queue watch_id
+all_rightly s client context (OpenQueue capacity) stands = open_rightly s client context capacity
+all_rightly s client context (SetFilter queue entries) stands = filter_rightly s client context queue entries
+all_rightly s client context (ReadQueue queue room) stands = read_queue_rightly s client context queue room
+all_rightly s client context (CloseQueue queue) stands = close_rightly s client context queue
+all_rightly s client context Exit stands = exit_rightly s client context
+all_rightly s client context Leave stands = leave_rightly s client context
+
+-- ---- a step
+
+kept_is : (b : Bool) (o : Option Key) (key : Key) → cond b o None ≡ Some key → o ≡ Some key
+kept_is true o key h = h
+kept_is false o key h = absurd (none-some key h)
+
+kept_links : (b : Bool) (o : Option Key) (k : ℕ) → LinksTo k (cond b o None) → LinksTo k o
+kept_links true o k i = i
+kept_links false o k i = absurd (true≢false (sym i))
+
+none_kept : (b : Bool) (o : Option Key) (key : Key) → o ≡ Some key → cond b o None ≡ None → b ≡ false
+none_kept true o key is h = absurd (none-some key (sym h ∙ is))
+none_kept false o key is h = refl
+
+held_there : (s : State) (k : ℕ) → Stands s → IsHeld s.keys (roots s) k → IsSome (at s.keys k)
+held_there s _ stands (Attached k i) = stands.attached k i
+held_there s _ stands (Linked j k held i) = stands.linked j k i
+
+gone_unheld :
+    (mid : State) (kept : ℕ → Bool) (k : ℕ) (o : Option Key) → at mid.keys k ≡ o → PicksHeld mid.keys (roots mid) kept
+    → Stands mid → cond (kept k) o None ≡ None → IsHeld mid.keys (roots mid) k → ⊥
+gone_unheld mid kept k None is picks stands gone held =
+    not_there (at mid.keys k) (held_there mid k stands held) is
+gone_unheld mid kept k (Some key) is picks stands gone held =
+    true≢false (sym (picks.each k held (held_there mid k stands held)) ∙ none_kept (kept k) (Some key) key refl gone)
+
+served_by_right :
+    (s new : State) (event : Event) (answer : Answer) → Stands s
+    → Serves s event.lane event.ask.context event.ask.op answer new → ChangesByRight s event new
+served_by_right s new event answer stands serves =
+    let client = event.lane in
+    let context = event.ask.context in
+    let op = event.ask.op in
+    let mid = serves.mid in
+    let law = (law_of s client context op).fares.meets mid answer serves.meant in
+    let right = (all_rightly s client context op stands).meets mid answer serves.meant in
+    let kept = serves.sweep.kept in
+    let keys : new.keys ≡ filter (λ e. kept e.0) mid.keys =
+    ap (λ (t : State). t.keys) serves.posted ∙ serves.sweep.keys in
+    let is : (k : ℕ) → at new.keys k ≡ cond (kept k) (at mid.keys k) None = λ k.
+    ap (λ (es : Table Key). at es k) keys ∙ at_kept kept mid.keys k in
+    record {
+      changed = λ k before after there here.
+          right.changed k before after there (kept_is (kept k) (at mid.keys k) after (sym (is k) ∙ here));
+      made = λ k key none here. right.made k key none (kept_is (kept k) (at mid.keys k) key (sym (is k) ∙ here));
+      linked = λ j k i. right.linked j k (kept_links (kept j) (at mid.keys j) k (subst (LinksTo k) (is j) i));
+      gone = λ k before there none.
+          record {
+            left = mid;
+            answer = answer;
+            meant = serves.meant;
+            unheld = gone_unheld mid kept k (at mid.keys k) refl serves.sweep.picks (law.stands stands) (sym (is k) ∙ none);
+          };
+    }
+
+ended_by_right :
+    (s new : State) (event : Event) (reply : Result Answer Errno) → Stands s
+    → Ends s event.lane event.ask.context event.ask.op reply new → ChangesByRight s event new
+ended_by_right s new event (Ok answer) stands serves = served_by_right s new event answer stands serves
+ended_by_right s new event (Err e) stands ends =
+    let same = rightly_same s event.lane event.ask.context event.ask.op in
+    subst (ChangesByRight s event) (sym ends.1) (record {
+      changed = same.changed;
+      made = same.made;
+      linked = same.linked;
+      gone = λ k before there none. absurd (none-some before (sym none ∙ there));
+    })
+
+pub step_by_right :
+    (old new : State) (event : Event) → IsSound old → Step old event new
+    → ChangesByRight (raised old event.moment) event new
+unfolding Step
+step_by_right old new event sound step =
+    let up = raised old event.moment in
+    let stands = sound_stands up (raised_sound old event.moment sound) in
+    ended_by_right up new event event.reply stands step
+
+pub all_by_right : (start : State) → IsSound start → AllChangesAreByRight start
+all_by_right start sound before old legal event new step =
+    step_by_right old new event (legal_sound start before old sound legal) step

@@ -1,0 +1,174 @@
+-- A client has at most 64 contexts.
+use Rattle.std.proofs.Common.{◌≡◌, ℕ, ◌+◌, ◌≤◌, ◌<◌, ◌==◌, ◌||◌, not, [], ◌∷◌, Option, Bool, true, false, cond}
+use Rattle.std.proofs.Common.{filter, nat_le, Ok, Err, refl, ap, ◌∙◌, sym, subst, arith}
+use Rattle.std.specs.Map.{values_of}
+use Rattle.std.specs.Ordering.{nat_cmp, match_ordering}
+use Rattle.std.specs.declared.cmp.Ordering.TheVariants.{Less, Equal, Greater}
+use Rattle.std.specs.BTreeMap.{is_at}
+use Rattle.std.proofs.lemmas.List.Sums.{sum_by-cons}
+use Rattle.std.proofs.lemmas.Bool.Decides.{nat_tests}
+use Rattle.krs_types.specs.declared.errno.Errno.TheVariants.{EINVAL}
+use Rattle.krs_types.specs.declared.caller.Caller.{Caller}
+use Rattle.krs_types.specs.declared.context.Context.{Context}
+use Rattle.krs_types.specs.declared.context.UidRings.{UidRings}
+use Rattle.krs_types.specs.declared.ask.Answer.{Answer}
+use Rattle.krs_types.specs.declared.ask.Op.{Op}
+use Rattle.krs_types.specs.Caller.{caller_check}
+use Rattle.krs_model.specs.Table.{Table, put, alter, without, map_values}
+use Rattle.krs_model.specs.State.{State}
+use Rattle.krs_model.specs.Lookup.{context_of}
+use Rattle.krs_model.specs.Step.{outcome_of}
+use Rattle.krs_model.specs.Asks.Entering.{thread, fork, without_thread}
+use Rattle.krs_model.specs.Asks.Hello.{hello, context_count, has_context_left}
+use Rattle.krs_model.specs.Asks.Invalidating.{context_without}
+use Rattle.krs_model.specs.Asks.Leaving.{left}
+use Rattle.krs_model.proofs.Asks.Houses.{Houses, Same, Begins, Enters, Threads, Alters, Rings, Execs, Detaches, Exits, Departs}
+use Rattle.krs_model.proofs.Asks.Houses.{entering, EntersAs, Named, Forked}
+use Rattle.krs_model.proofs.Asks.Later.{bind_ok}
+use Rattle.krs_laws.proofs.Owners.{own_client}
+
+-- 1 where the context is the client's
+abbrev one_of : ℕ → Context → ℕ
+one_of client c = cond (c.client == client) 1 0
+
+counted : (client : ℕ) (e : ℕ × Context) (es : Table Context)
+    → context_count client (e ∷ es) ≡ one_of client e.1 + context_count client es
+counted client e es = sum_by-cons (λ c. cond (c.client == client) 1 0) e.1 (values_of es)
+
+put_count : (client : ℕ) (es : Table Context) (n : ℕ) (c : Context)
+    → context_count client (put es n c) ≤ context_count client es + one_of client c
+put_count client [] n c = omega (arith, counted client (n, c) [])
+put_count client (e ∷ es) n c =
+    elim (nat_cmp n e.0) as (λ r. context_count client (match_ordering r ((n, c) ∷ e ∷ es) ((e.0, c) ∷ es) (e ∷ put es n c))
+    ≤ context_count client (e ∷ es) + one_of client c) [
+      | Less ↦ omega (arith, counted client (n, c) (e ∷ es))
+      | Equal ↦ omega (arith, counted client (e.0, c) es, counted client e es)
+      | Greater ↦ omega (arith, counted client e (put es n c), counted client e es, put_count client es n c)
+    ]
+
+alter_count : (client : ℕ) (es : Table Context) (n : ℕ) (f : Context → Context) → ((c : Context) → (f c).client ≡ c.client)
+    → context_count client (alter es n f) ≡ context_count client es
+alter_count client [] n f same = refl
+alter_count client (e ∷ es) n f same =
+    let one : one_of client (f e.1) ≡ one_of client e.1 = ap (λ (k : ℕ). cond (k == client) 1 0) (same e.1) in
+    elim (is_at (nat_cmp n) e.0) as
+    (λ b. context_count client (cond b ((e.0, f e.1) ∷ es) (e ∷ alter es n f)) ≡ context_count client (e ∷ es)) [
+      | true ↦ omega (arith, counted client (e.0, f e.1) es, counted client e es)
+      | false ↦ omega (arith, counted client e (alter es n f), counted client e es, alter_count client es n f same)
+    ]
+
+map_count : (client : ℕ) (es : Table Context) (f : Context → Context) → ((c : Context) → (f c).client ≡ c.client)
+    → context_count client (map_values f es) ≡ context_count client es
+map_count client [] f same = refl
+map_count client (e ∷ es) f same =
+    let one : one_of client (f e.1) ≡ one_of client e.1 = ap (λ (k : ℕ). cond (k == client) 1 0) (same e.1) in
+    omega (arith, counted client (e.0, f e.1) (map_values f es), counted client e es, map_count client es f same)
+
+filter_count : (client : ℕ) (p : ℕ × Context → Bool) (es : Table Context)
+    → context_count client (filter p es) ≤ context_count client es
+filter_count client p [] = omega arith
+filter_count client p (e ∷ es) =
+    elim (p e) as (λ b. context_count client (cond b (e ∷ filter p es) (filter p es)) ≤ context_count client (e ∷ es)) [
+      | true ↦ omega (arith, counted client e (filter p es), counted client e es, filter_count client p es)
+      | false ↦ omega (arith, counted client e es, filter_count client p es)
+    ]
+
+without_count : (client : ℕ) (es : Table Context) (n : ℕ)
+    → context_count client (without es n) ≤ context_count client es
+without_count client [] n = omega arith
+without_count client (e ∷ es) n =
+    elim (is_at (nat_cmp n) e.0) as
+    (λ b. context_count client (cond b es (e ∷ without es n)) ≤ context_count client (e ∷ es)) [
+      | true ↦ omega (arith, counted client e es)
+      | false ↦ omega (arith, counted client e (without es n), counted client e es, without_count client es n)
+    ]
+
+-- an ask that makes a context finds room for it
+few_left : (s : State) (client : ℕ) (x : Unit {0}) → has_context_left s client ≡ Ok x
+    → context_count client s.contexts < 64
+few_left s client x h =
+    elim (nat_le 64 (context_count client s.contexts)) as
+    (λ b. nat_le 64 (context_count client s.contexts) ≡ b → cond b (Err EINVAL) (Ok tt) ≡ Ok x
+    → context_count client s.contexts < 64) [
+      | true ↦ λ t no. cc
+      | false ↦ λ t yes. grind (arith, nat_tests)
+    ] refl h
+
+hello_left : (s : State) (client : ℕ) (caller : Caller) (end : State × Answer) → hello s client caller ≡ Ok end
+    → context_count client s.contexts < 64
+unfolding hello
+hello_left s client caller end h =
+    let a = bind_ok (caller_check caller) _ end h in
+    let b = bind_ok (has_context_left s client) _ end a.2 in
+    few_left s client b.0 b.1
+
+thread_left : (s : State) (client context : ℕ) (end : State × Answer) → thread s client context ≡ Ok end
+    → context_count client s.contexts < 64
+unfolding thread
+thread_left s client context end h =
+    let a = bind_ok (context_of s client context) _ end h in
+    let b = bind_ok (has_context_left s client) _ end a.2 in
+    few_left s client b.0 b.1
+
+fork_left : (s : State) (client context : ℕ) (end : State × Answer) → fork s client context ≡ Ok end
+    → context_count client s.contexts < 64
+unfolding fork
+fork_left s client context end h =
+    let a = bind_ok (context_of s client context) _ end h in
+    let b = bind_ok (has_context_left s client) _ end a.2 in
+    few_left s client b.0 b.1
+
+-- a further context of the client
+put_few : (s : State) (client other n : ℕ) (c : Context) → c.client ≡ client → context_count client s.contexts < 64
+    → context_count other s.contexts ≤ 64 → context_count other (put s.contexts n c) ≤ 64
+put_few s client other n c mine left few =
+    let more = put_count other s.contexts n c in
+    elim (c.client == other) as (λ b. (c.client == other) ≡ b
+    → context_count other (put s.contexts n c) ≤ context_count other s.contexts + cond b 1 0
+    → context_count other (put s.contexts n c) ≤ 64) [
+      | true ↦ λ t le.
+          let same : c.client ≡ other = grind (arith, nat_tests) in
+          let room : context_count other s.contexts < 64 =
+          subst (λ (z : ℕ). context_count z s.contexts < 64) (sym mine ∙ same) left in
+          omega arith
+      | false ↦ λ t le. omega arith
+    ] refl more
+
+enters_left : (s : State) (client context : ℕ) (op : Op) (caller : Caller) (session : Option ℕ) (end : State × Answer)
+    → EntersAs s client context op caller session → outcome_of s client context op ≡ Ok end
+    → context_count client s.contexts < 64
+enters_left s client context op _ _ end (Named caller rings is known) h =
+    hello_left s client caller end (subst (λ (o : Op). outcome_of s client context o ≡ Ok end) is h)
+enters_left s client context op _ _ end (Forked d is own) h =
+    fork_left s client context end (subst (λ (o : Op). outcome_of s client context o ≡ Ok end) is h)
+
+pub houses_few :
+    (s : State) (client context : ℕ) (op : Op) (contexts : Table Context) (processes : Table (Option ℕ))
+    (uids : Table UidRings) (end : State × Answer) → outcome_of s client context op ≡ Ok end
+    → Houses s client context op contexts processes uids → (other : ℕ) → context_count other s.contexts ≤ 64
+    → context_count other contexts ≤ 64
+unfolding left
+houses_few s client context op _ _ _ end h Same other few = few
+houses_few s client context op _ _ _ end h (Begins caller session rings is none) other few =
+    put_few s client other s.next_context (entering s client caller session) refl
+    (hello_left s client caller end (subst (λ (o : Op). outcome_of s client context o ≡ Ok end) is h)) few
+houses_few s client context op _ _ _ end h (Enters caller session who) other few =
+    put_few s client other s.next_context (entering s client caller session) refl
+    (enters_left s client context op caller session end who h) few
+houses_few s client context op _ _ _ end h (Threads d is own) other few =
+    put_few s client other s.next_context (without_thread d) (own_client s client context d own)
+    (thread_left s client context end (subst (λ (o : Op). outcome_of s client context o ≡ Ok end) is h)) few
+houses_few s client context op _ _ _ end h (Alters d f own stays) other few =
+    omega (arith, alter_count other s.contexts context f stays.client)
+houses_few s client context op _ _ _ end h (Rings d n own) other few = few
+houses_few s client context op _ _ _ end h (Execs d is own) other few =
+    let same = alter_count other s.contexts context without_thread (λ c. refl) in
+    let less = filter_count other (λ e. not (e.1.process == d.process) || (e.0 == context))
+    (alter s.contexts context without_thread) in
+    omega arith
+houses_few s client context op _ _ _ end h (Detaches d id gone is own found) other few =
+    omega (arith, map_count other s.contexts (context_without gone.0) (λ c. refl))
+houses_few s client context op _ _ _ end h (Exits d is own) other few =
+    omega (arith, without_count other s.contexts context)
+houses_few s client context op _ _ _ end h (Departs is) other few =
+    omega (arith, filter_count other (λ e. not (e.1.client == client)) s.contexts)

@@ -1,0 +1,335 @@
+-- Payloads and links stay within their limits.
+use Rattle.std.proofs.Common.{◌≡◌, ℕ, ℤ, ◌+◌, ◌≤◌, ◌<◌, ◌==◌, ◌&&◌, not, List, [], ◌∷◌, Option, Some, None, Bool, true, false}
+use Rattle.std.proofs.Common.{cond, filter, length, nat_le, Result, Ok, Err, refl, ap, ◌∙◌, sym, subst}
+use Rattle.std.proofs.Common.{⊎_elim, arith}
+use Rattle.std.specs.Prelude.{codes, find}
+use Rattle.std.proofs.lemmas.Bool.{true≢false}
+use Rattle.std.proofs.lemmas.Bool.Decides.{nat_tests}
+use Rattle.std.proofs.lemmas.Option.{none-some, same_Some}
+use Rattle.krs_types.specs.declared.errno.Errno.{Errno}
+use Rattle.krs_types.specs.declared.errno.Errno.TheVariants.{EACCES, EINVAL, ENFILE, ENOKEY, EPERM}
+use Rattle.krs_types.specs.declared.context.Context.{Context}
+use Rattle.krs_types.specs.declared.kind.Kind.{Kind}
+use Rattle.krs_types.specs.declared.kind.Kind.TheVariants.{User, Logon, Keyring}
+use Rattle.krs_types.specs.declared.key_id.KeyId.{KeyId}
+use Rattle.krs_types.specs.declared.name.Name.{Name}
+use Rattle.krs_types.specs.Kind.{paid, checked, described, described_as, kind_named}
+use Rattle.krs_types.specs.KeyId.{key_id_of}
+use Rattle.krs_types.specs.Refusing.{◌>>=◌, or_refuse}
+use Rattle.krs_types.specs.declared.rights.Want.TheVariants.{Granted}
+use Rattle.krs_types.specs.Rights.{WRITE, has_all}
+use Rattle.krs_model.specs.Table.{Table, at, put, alter, map_values}
+use Rattle.krs_model.specs.State.{State, Key, Content, Payload, Links}
+use Rattle.krs_model.specs.Access.{is_alive, rights_on}
+use Rattle.krs_model.specs.Possession.{possessed}
+use Rattle.krs_model.specs.Lookup.{look_up}
+use Rattle.krs_model.specs.Linking.{is_named, ring_links, link_named, with_link, linked_content, linking, has_room}
+use Rattle.krs_model.specs.Making.{made_for, special_ring}
+use Rattle.krs_model.specs.Asks.Adding.{Place, Updated, Made, added, admitted, place_of, over_match, by_match, if_room}
+use Rattle.krs_model.specs.Asks.Adding.{new_key, first_content}
+use Rattle.krs_model.specs.Asks.Changing.{changed, updated, paid_with, emptied, is_updatable}
+use Rattle.krs_model.specs.Asks.Finding.{found_into, if_linkable}
+use Rattle.krs_model.specs.Asks.Linked.{linked_into, link_check, nestable, name_of, unless, without_link, unlinked_content}
+use Rattle.krs_model.specs.Asks.Linked.{cleared_content}
+use Rattle.krs_model.proofs.Asks.Later.{bind_ok, same_ok}
+use Rattle.krs_model.proofs.Asks.LaterByAsk.{IsMoved, Moves, Stays}
+use Rattle.krs_model.proofs.Asks.Outcomes.{Meets, meets_after, meets_ok}
+use Rattle.krs_model.proofs.Lookups.Laws.{look_up_usable, in_by_match}
+use Rattle.krs_model.proofs.MadeKeyring.Which.{IsMade, NoneMade, ThreadMade, ProcessMade, made_for_is}
+use Rattle.krs_model.proofs.Sound.Changes.{IsChanged, at_change, IsPut, at_put}
+use Rattle.krs_model.proofs.Tables.Changes.{at_map}
+use Rattle.krs_laws.specs.Limits.{IsShort}
+use Rattle.krs_laws.proofs.Rightly.{mapped_is}
+
+abbrev pub AllShort : Table Key → Type 0
+AllShort keys = (k : ℕ) (key : Key) → at keys k ≡ Some key → IsShort key.content
+
+pub short_put : (keys : Table Key) (n : ℕ) (v : Key) → IsShort v.content → AllShort keys → AllShort (put keys n v)
+short_put keys n v short all k key there =
+    ⊎_elim (λ (r : IsPut keys n v k). subst (λ (z : Key). IsShort z.content) (same_Some v key (sym r.1 ∙ there)) short)
+    (λ e. all k key (sym e ∙ there)) (at_put keys n k v)
+
+pub short_alter :
+    (keys : Table Key) (n : ℕ) (f : Key → Key)
+    → ((v : Key) → at keys n ≡ Some v → IsShort v.content → IsShort (f v).content) → AllShort keys
+    → AllShort (alter keys n f)
+short_alter keys n f stays all k key there =
+    ⊎_elim (λ (r : IsChanged keys n f k).
+    let w = mapped_is f (at keys k) key (sym r.1 ∙ there) in
+    subst (λ (z : Key). IsShort z.content) w.2
+    (stays w.0 (subst (λ (z : ℕ). at keys z ≡ Some w.0) r.0 w.1) (all k w.0 w.1)))
+    (λ e. all k key (sym e ∙ there)) (at_change keys n k f)
+
+pub short_map :
+    (keys : Table Key) (f : Key → Key) → ((v : Key) → IsShort v.content → IsShort (f v).content) → AllShort keys
+    → AllShort (map_values f keys)
+short_map keys f stays all k key there =
+    let w = mapped_is f (at keys k) key (sym (at_map f keys k) ∙ there) in
+    subst (λ (z : Key). IsShort z.content) w.2 (stays w.0 (all k w.0 w.1))
+
+filtered_length : (p : ℕ → Bool) (xs : List ℕ) → length (filter p xs) ≤ length xs
+filtered_length p [] = omega arith
+filtered_length p (x ∷ xs) =
+    let later = filtered_length p xs in
+    elim (p x) as (λ b. length (cond b (x ∷ filter p xs) (filter p xs)) ≤ length (x ∷ xs)) [
+      | true ↦ omega arith
+      | false ↦ omega arith
+    ]
+
+pub unlinked_short : (serial : ℕ) (content : Content) → IsShort content → IsShort (unlinked_content serial content)
+unlinked_short serial (Payload bytes) short = short
+unlinked_short serial (Links links) short =
+    let less = filtered_length (λ k. not (k == serial)) links in omega arith
+
+pub cleared_short : (content : Content) → IsShort content → IsShort (cleared_content content)
+cleared_short (Payload bytes) short = short
+cleared_short (Links links) short = omega arith
+
+pub emptied_short : (content : Content) → IsShort content → IsShort (emptied content)
+emptied_short (Payload bytes) short = omega arith
+emptied_short (Links links) short = omega arith
+
+pub both : (a b : Bool) → (a && b) ≡ true → (a ≡ true) × (b ≡ true)
+both true b h = (refl, h)
+both false b h = absurd (true≢false (sym h))
+
+-- a payload that a type takes
+bounded : (payload : List ℕ) (x : Unit {0}) (b : Bool) → (nat_le 1 (length payload) && nat_le (length payload) 32767) ≡ b
+    → cond b (Ok tt) (Err EINVAL) ≡ Ok x → length payload ≤ 32767
+bounded payload x true is h =
+    let high = (both (nat_le 1 (length payload)) (nat_le (length payload) 32767) is).1 in grind (arith, nat_tests)
+bounded payload x false is h = cc
+
+nothing_paid : (payload : List ℕ) (x : Unit {0}) (b : Bool) → (length payload == 0) ≡ b
+    → cond b (Ok tt) (Err EINVAL) ≡ Ok x → length payload ≤ 32767
+nothing_paid payload x true is h = grind (arith, nat_tests)
+nothing_paid payload x false is h = cc
+
+pub paid_short : (kind : Kind) (payload : List ℕ) (x : Unit {0}) → paid kind payload ≡ Ok x → length payload ≤ 32767
+paid_short User payload x h = bounded payload x _ refl h
+paid_short Logon payload x h = bounded payload x _ refl h
+paid_short Keyring payload x h = nothing_paid payload x _ refl h
+
+pub updated_short : (payload : List ℕ) (content : Content) → length payload ≤ 32767 → IsShort content
+    → IsShort (paid_with payload content)
+updated_short payload (Payload bytes) fits short = fits
+updated_short payload (Links links) fits short = short
+
+-- ---- one link more
+
+room_below : (links : List ℕ) (x : Unit {0}) → has_room links None ≡ Ok x → length links < 65535
+room_below links x h =
+    elim (nat_le 65535 (length links)) as
+    (λ b. nat_le 65535 (length links) ≡ b → cond b (Err ENFILE) (Ok tt) ≡ Ok x → length links < 65535) [
+      | true ↦ λ t no. cc
+      | false ↦ λ t yes. grind (arith, nat_tests)
+    ] refl h
+
+one_more : (p : ℕ → Bool) (links : List ℕ) (serial : ℕ) → length (with_link p links serial) ≤ length links + 1
+one_more p [] serial = omega arith
+one_more p (k ∷ links) serial =
+    let later = one_more p links serial in
+    elim (p k) as (λ b. length (cond b (serial ∷ links) (k ∷ with_link p links serial)) ≤ length (k ∷ links) + 1) [
+      | true ↦ omega arith
+      | false ↦ omega arith
+    ]
+
+displacing : (p : ℕ → Bool) (links : List ℕ) (serial d : ℕ) → find p links ≡ Some d
+    → length (with_link p links serial) ≤ length links
+displacing p [] serial d h = absurd (none-some d h)
+displacing p (k ∷ links) serial d h =
+    elim (p k) as (λ b. cond b (Some k) (find p links) ≡ Some d
+    → length (cond b (serial ∷ links) (k ∷ with_link p links serial)) ≤ length (k ∷ links)) [
+      | true ↦ λ e. omega arith
+      | false ↦ λ e. let later = displacing p links serial d e in omega arith
+    ] h
+
+linked_length :
+    (p : ℕ → Bool) (links : List ℕ) (serial : ℕ) (o : Option ℕ) (x : Unit {0}) → find p links ≡ o
+    → has_room links o ≡ Ok x → length links ≤ 65535 → length (with_link p links serial) ≤ 65535
+linked_length p links serial None x is room short =
+    let below = room_below links x room in
+    let more = one_more p links serial in
+    omega arith
+linked_length p links serial (Some d) x is room short =
+    let same = displacing p links serial d is in omega arith
+
+links_are : (content : Content) (links : List ℕ) → ring_links content ≡ Ok links → content ≡ Links links
+links_are (Payload bytes) links h = cc
+links_are (Links serials) links h = cc
+
+room_short :
+    (keys : Table Key) (name : Name) (serial : ℕ) (content : Content) (links : List ℕ) (x : Unit {0})
+    → content ≡ Links links → has_room links (link_named keys name links) ≡ Ok x → IsShort content
+    → IsShort (linked_content (λ k. is_named name (at keys k)) serial content)
+room_short keys name serial content links x is room short =
+    let p : ℕ → Bool = λ k. is_named name (at keys k) in
+    subst (λ (z : Content). IsShort (linked_content p serial z)) (sym is)
+    (linked_length p links serial (link_named keys name links) x refl room (subst IsShort is short))
+
+-- a link more in a keyring that is there
+pub linked_short :
+    (s new : State) (into found : ℕ × Key) → at s.keys into.0 ≡ Some into.1 → linked_into s into found ≡ Ok new
+    → AllShort s.keys → AllShort new.keys
+linked_short s new into found there linked all =
+    let name = name_of found.1 in
+    let end : State = changed s into.0 (linking s.keys name found.0) in
+    let fits : List ℕ → Result (Unit {0}) Errno = λ links. link_check s.keys into links found in
+    let a = bind_ok (ring_links into.1.content) (λ links. fits links >>= (λ x. Ok end)) new linked in
+    let b = bind_ok (fits a.0) (λ x. Ok end) new a.2 in
+    let room : Result (Unit {0}) Errno = has_room a.0 (link_named s.keys name a.0) in
+    let c = bind_ok (unless into.1.closed EPERM) (λ x. nestable s.keys into.0 found.0 >>= (λ y. room)) b.0 b.1 in
+    let d = bind_ok (nestable s.keys into.0 found.0) (λ y. room) b.0 c.2 in
+    subst (λ (z : State). AllShort z.keys) (same_ok (Ok end) end new refl b.2)
+    (short_alter s.keys into.0 (linking s.keys name found.0) (λ v here short.
+    let same : into.1 ≡ v = same_Some into.1 v (sym there ∙ here) in
+    let links : v.content ≡ Links a.0 =
+    ap (λ (z : Key). z.content) (sym same) ∙ links_are into.1.content a.0 a.1 in
+    room_short s.keys name found.0 v.content a.0 b.0 links d.2 short) all)
+
+pub moved_short :
+    (s : State) (found from into : ℕ × Key) (new : State) → at s.keys into.0 ≡ Some into.1 → IsMoved s found from into new
+    → AllShort s.keys → AllShort new.keys
+moved_short s found from into _ there Stays all = all
+moved_short s found from into _ there (Moves mid linked) all =
+    short_alter mid.keys from.0 (without_link found.0) (λ v _ short. unlinked_short found.0 v.content short)
+    (linked_short s mid into found there linked all)
+
+made_is_short :
+    (s : State) (number : ℕ) (c : Context) (id : Result KeyId Errno) (made : State × Context) → IsMade s number c id made
+    → AllShort s.keys → AllShort made.0.keys
+made_is_short s number c id _ NoneMade all = all
+made_is_short s number c id _ (ThreadMade is yet) all =
+    short_put s.keys s.next_serial (special_ring (codes "_tid") c.caller) (omega arith) all
+made_is_short s number c id _ (ProcessMade is yet) all =
+    short_put s.keys s.next_serial (special_ring (codes "_pid") c.caller) (omega arith) all
+
+pub made_short :
+    (s : State) (number : ℕ) (c : Context) (id : ℤ) → AllShort s.keys → AllShort (made_for s number c id).0.keys
+made_short s number c id all =
+    made_is_short s number c (key_id_of id) (made_for s number c id) (made_for_is s number c id) all
+
+pub found_short :
+    (s : State) (c : Context) (dest : ℤ) (into : ℕ × Key) (answer : Result ℕ Errno)
+    → look_up s c dest (Granted WRITE) ≡ Ok into → AllShort s.keys
+    → Meets (λ (new : State). AllShort new.keys) (found_into s c into answer)
+found_short s c dest into answer goes all =
+    meets_after answer _ (λ serial _.
+    meets_after (or_refuse ENOKEY (at s.keys serial)) _ (λ key _.
+    meets_after (if_linkable s c serial key) _ (λ found _.
+    meets_after (linked_into s into found) _ (λ new linked.
+    meets_ok (linked_short s new into found (look_up_usable s c dest (Granted WRITE) into goes).there linked all)))))
+
+-- ---- ADD
+
+pub admitted_short :
+    (type_name desc payload : List ℕ) (name : Name) → admitted type_name desc payload ≡ Ok name → length payload ≤ 32767
+unfolding admitted
+admitted_short type_name desc payload name h =
+    let a = bind_ok (kind_named type_name) _ name h in
+    let b = bind_ok (checked a.0 desc payload) _ name a.2 in
+    let c = bind_ok (described desc) _ b.0 b.1 in
+    let d = bind_ok (described_as a.0 desc) _ b.0 c.2 in
+    paid_short a.0 payload b.0 d.2
+
+-- a further link fits into the keyring
+abbrev Takes : State → Name → List ℕ → Type 0
+Takes s name links =
+    (serial : ℕ) → length links ≤ 65535 → length (with_link (λ k. is_named name (at s.keys k)) links serial) ≤ 65535
+
+room_takes :
+    (s : State) (name : Name) (links : List ℕ) (o : Option ℕ) (x : Unit {0}) → has_room links o ≡ Ok x
+    → ((d : ℕ) → o ≡ Some d → link_named s.keys name links ≡ Some d) → Takes s name links
+room_takes s name links None x room is serial short =
+    let below = room_below links x room in
+    let more = one_more (λ k. is_named name (at s.keys k)) links serial in
+    omega arith
+room_takes s name links (Some d) x room is serial short =
+    let same = displacing (λ k. is_named name (at s.keys k)) links serial d (is d refl) in omega arith
+
+if_room_takes :
+    (s : State) (name : Name) (ring : ℕ × Key) (links : List ℕ) (o : Option ℕ) (place : Place)
+    → if_room s ring links o ≡ Ok place → ((d : ℕ) → o ≡ Some d → link_named s.keys name links ≡ Some d)
+    → Takes s name links
+if_room_takes s name ring links o place h is =
+    let unclosed = bind_ok (unless ring.1.closed EPERM) _ place h in
+    let room = bind_ok (has_room links o) _ place unclosed.2 in
+    room_takes s name links o room.0 room.1 is
+
+-- a new key's place is one that takes it
+abbrev TakesAt : State → Name → List ℕ → Place → Type 0
+TakesAt s name links (Updated f) = Unit {0}
+TakesAt s name links (Made r) = Takes s name links
+
+takes_at : (s : State) (name : Name) (links : List ℕ) (place : Place) → Takes s name links → TakesAt s name links place
+takes_at s name links (Updated f) takes = tt
+takes_at s name links (Made r) takes = takes
+
+no_link : (d : ℕ) {A : Type 0} (o : Option ℕ) → o ≡ None → o ≡ Some d → A
+no_link d o none some = absurd (none-some d (sym none ∙ some))
+
+match_takes :
+    (s : State) (c : Context) (name : Name) (ring : ℕ × Key) (links : List ℕ) (found : ℕ) (o : Option Key) (place : Place)
+    → link_named s.keys name links ≡ Some found → over_match s c ring links found o ≡ Ok place
+    → TakesAt s name links place
+match_takes s c name ring links found None place is h =
+    takes_at s name links place (if_room_takes s name ring links None place h (λ d e. no_link d None refl e))
+match_takes s c name ring links found (Some key) place is h =
+    let grants = has_all (rights_on key c.caller (possessed s c found)) WRITE in
+    elim (is_alive s.clock key && is_updatable key.kind) as (λ b. cond b
+    (cond grants (Ok (Updated found)) (Err EACCES)) (if_room s ring links (Some found)) ≡ Ok place
+    → TakesAt s name links place) [
+      | true ↦ λ e. elim grants as (λ b. cond b (Ok (Updated found)) (Err EACCES) ≡ Ok place → TakesAt s name links place) [
+        | true ↦ λ d. subst (TakesAt s name links) (same_ok (Ok (Updated found)) (Updated found) place refl d) tt
+        | false ↦ λ d. cc
+      ] e
+      | false ↦ λ e. takes_at s name links place
+          (if_room_takes s name ring links (Some found) place e (λ d same. is ∙ same))
+    ] h
+
+by_match_takes :
+    (s : State) (c : Context) (name : Name) (ring : ℕ × Key) (links : List ℕ) (found : Option ℕ) (place : Place)
+    → link_named s.keys name links ≡ found → by_match s c ring links found ≡ Ok place → TakesAt s name links place
+by_match_takes s c name ring links None place is h =
+    takes_at s name links place (if_room_takes s name ring links None place h (λ d e. no_link d None refl e))
+by_match_takes s c name ring links (Some found) place is h =
+    match_takes s c name ring links found (at s.keys found) place is h
+
+first_short : (kind : Kind) (payload : List ℕ) → length payload ≤ 32767 → IsShort (first_content kind payload)
+first_short User payload fits = fits
+first_short Logon payload fits = fits
+first_short Keyring payload fits = omega arith
+
+links_short :
+    (p : ℕ → Bool) (serial : ℕ) (content : Content) (links : List ℕ) → content ≡ Links links
+    → (length links ≤ 65535 → length (with_link p links serial) ≤ 65535) → IsShort content
+    → IsShort (linked_content p serial content)
+links_short p serial content links is takes short =
+    subst (λ (z : Content). IsShort (linked_content p serial z)) (sym is) (takes (subst IsShort is short))
+
+pub added_short :
+    (s : State) (c : Context) (name : Name) (payload : List ℕ) (id : ℤ) (place : Place) → place_of s c name id ≡ Ok place
+    → at s.keys s.next_serial ≡ None → length payload ≤ 32767 → AllShort s.keys
+    → AllShort (added s c name payload place).keys
+unfolding place_of
+added_short s c name payload id (Updated serial) h none fits all =
+    short_alter s.keys serial (updated payload) (λ v _ short. updated_short payload v.content fits short) all
+added_short s c name payload id (Made r) h none fits all =
+    let n = s.next_serial in
+    let key = new_key name payload c.caller.uid c.caller.gid in
+    let a = bind_ok (look_up s c id (Granted WRITE)) _ (Made r) h in
+    let b = bind_ok (ring_links a.0.1.content) _ (Made r) a.2 in
+    let takes = by_match_takes s c name a.0 b.0 (link_named s.keys name b.0) (Made r) refl b.2 in
+    let here : r ≡ a.0.0 = in_by_match s c a.0 r b.0 (link_named s.keys name b.0) b.2 in
+    let there : at s.keys r ≡ Some a.0.1 =
+    ap (λ (z : ℕ). at s.keys z) here ∙ (look_up_usable s c id (Granted WRITE) a.0 a.1).there in
+    short_alter (put s.keys n key) r (linking s.keys name n)
+    (λ v now short.
+    let was : at s.keys r ≡ Some v =
+    ⊎_elim (λ (p : IsPut s.keys n key r). absurd
+    (none-some a.0.1 (sym (ap (λ (z : ℕ). at s.keys z) p.0 ∙ none) ∙ there)))
+    (λ e. sym e ∙ now) (at_put s.keys n r key) in
+    let same : a.0.1 ≡ v = same_Some a.0.1 v (sym there ∙ was) in
+    links_short (λ k. is_named name (at s.keys k)) n v.content b.0
+    (ap (λ (z : Key). z.content) (sym same) ∙ links_are a.0.1.content b.0 b.1) (takes n) short)
+    (short_put s.keys n key (first_short name.kind payload fits) all)

@@ -1,0 +1,15 @@
+pub mod Owners
+pub mod Belonging
+pub mod Rightly
+pub mod RightlyAsked
+pub mod ByRight
+pub mod Watchers
+pub mod Leftovers
+pub mod KeyLimits
+pub mod KeyLimitsByAsk
+pub mod QueueLimits
+pub mod ContextLimits
+pub mod WithinLimits
+pub mod Overwriting
+pub mod Clock
+pub mod Expiry

@@ -1,0 +1,167 @@
+-- What UPDATE overwrote leaves no trace.
+use Rattle.std.proofs.Common.{◌≡◌, ◌≢◌, ℕ, ℤ, List, [], ◌∷◌, Some, None, true, false, cond, Result, Ok, Err}
+use Rattle.std.proofs.Common.{refl, ap, ◌∙◌, sym, subst}
+use Rattle.std.specs.Prelude.{IsOk}
+use Rattle.std.specs.Ordering.{nat_cmp}
+use Rattle.std.specs.BTreeMap.{is_at}
+use Rattle.std.proofs.lemmas.Bool.{true≢false}
+use Rattle.std.proofs.lemmas.Option.{none-some}
+use Rattle.krs_types.specs.declared.errno.Errno.{Errno}
+use Rattle.krs_types.specs.declared.context.Context.{Context}
+use Rattle.krs_types.specs.declared.ask.Answer.{Answer}
+use Rattle.krs_types.specs.declared.ask.Answer.TheVariants.{Nothing}
+use Rattle.krs_types.specs.declared.ask.Op.{Op}
+use Rattle.krs_types.specs.declared.ask.Op.TheVariants.{Update}
+use Rattle.krs_types.specs.declared.rights.Want.TheVariants.{Granted}
+use Rattle.krs_types.specs.Kind.{paid}
+use Rattle.krs_types.specs.Refusing.{◌>>=◌}
+use Rattle.krs_types.specs.Rights.{WRITE}
+use Rattle.krs_model.specs.Table.{Table, at, alter, IsDistinct}
+use Rattle.krs_model.specs.State.{State, Key, Content, Payload, Links, raised}
+use Rattle.krs_model.specs.Lookup.{context_of, serial_of, look_up}
+use Rattle.krs_model.specs.Outcome.{Outcome}
+use Rattle.krs_model.specs.Queues.{queues_of}
+use Rattle.krs_model.specs.Step.{Step, Serves, Ends, posts_by, watches_left}
+use Rattle.krs_model.specs.Asks.Changing.{update, updated, updatable, paid_with}
+use Rattle.krs_model.specs.Hiding.{Hiding, blind, blind_content, blind_key, blind_keys, over}
+use Rattle.krs_model.specs.Secrecy.{HidesOnly}
+use Rattle.krs_model.specs.Notes.Posting.{Post, posts, dropped_watches, posted_in}
+use Rattle.krs_model.specs.Notes.Telling.{notes_of}
+use Rattle.krs_model.proofs.Asks.Later.{bind_ok, same_ok}
+use Rattle.krs_model.proofs.Hiding.Lookups.{blind_found, look_up_blind}
+use Rattle.krs_model.proofs.Lookups.Serials.{found_serial}
+use Rattle.krs_model.proofs.Tables.Changes.{same_at, is_at_same}
+use Rattle.krs_model.proofs.Tables.Entries.{rises_distinct}
+use Rattle.krs_laws.specs.Overwritten.{UpdatesForget}
+
+shown_content : (h : List ℕ → List ℕ) (content : Content) → ((bytes : List ℕ) → h bytes ≡ bytes)
+    → blind_content h content ≡ content
+shown_content h (Payload bytes) shown = ap Payload (shown bytes)
+shown_content h (Links serials) shown = refl
+
+shown_entry : (hide : Hiding) (n : ℕ) (e : ℕ × Key) → HidesOnly n hide → e.0 ≢ n → (e.0, blind_key (hide e.0) e.1) ≡ e
+shown_entry hide n e only apart =
+    ap (λ (content : Content). (e.0, record e.1 { content = content }))
+    (shown_content (hide e.0) e.1.content (only e.0 apart))
+
+other_number : (n k : ℕ) → is_at (nat_cmp n) k ≡ false → k ≢ n
+other_number n k apart e = true≢false (sym (is_at_same n) ∙ (ap (λ (z : ℕ). is_at (nat_cmp n) z) (sym e) ∙ apart))
+
+-- keys without that one are as they are
+shown_keys : (hide : Hiding) (n : ℕ) (es : Table Key) → HidesOnly n hide → at es n ≡ None → blind_keys hide es ≡ es
+shown_keys hide n [] only none = refl
+shown_keys hide n (e ∷ es) only none =
+    elim (is_at (nat_cmp n) e.0) as (λ b. is_at (nat_cmp n) e.0 ≡ b → cond b (Some e.1) (at es n) ≡ None
+    → blind_keys hide (e ∷ es) ≡ e ∷ es) [
+      | true ↦ λ t h. absurd (none-some e.1 (sym h))
+      | false ↦ λ t h.
+          ap (λ (x : ℕ × Key). x ∷ blind_keys hide es) (shown_entry hide n e only (other_number n e.0 t))
+          ∙ ap (λ (xs : Table Key). e ∷ xs) (shown_keys hide n es only h)
+    ] refl none
+
+paid_over : (h : List ℕ → List ℕ) (payload : List ℕ) (content : Content)
+    → paid_with payload (blind_content h content) ≡ paid_with payload content
+paid_over h payload (Payload bytes) = refl
+paid_over h payload (Links serials) = refl
+
+updated_over : (h : List ℕ → List ℕ) (payload : List ℕ) (v : Key) → updated payload (blind_key h v) ≡ updated payload v
+updated_over h payload v =
+    ap (λ (content : Content). record v { content = content; expiry = None }) (paid_over h payload v.content)
+
+-- the payload that was hidden is overwritten
+updated_keys : (hide : Hiding) (n : ℕ) (payload : List ℕ) (es : Table Key) → IsDistinct es → HidesOnly n hide
+    → alter (blind_keys hide es) n (updated payload) ≡ alter es n (updated payload)
+updated_keys hide n payload [] distinct only = refl
+updated_keys hide n payload (e ∷ es) distinct only =
+    elim (is_at (nat_cmp n) e.0) as (λ b. is_at (nat_cmp n) e.0 ≡ b
+    → cond b ((e.0, updated payload (blind_key (hide e.0) e.1)) ∷ blind_keys hide es)
+    ((e.0, blind_key (hide e.0) e.1) ∷ alter (blind_keys hide es) n (updated payload))
+    ≡ cond b ((e.0, updated payload e.1) ∷ es) (e ∷ alter es n (updated payload))) [
+      | true ↦ λ t.
+          let none : at es n ≡ None = ap (λ (z : ℕ). at es z) (same_at n e.0 t) ∙ distinct.0 in
+          ap (λ (v : Key). (e.0, v) ∷ blind_keys hide es) (updated_over (hide e.0) payload e.1)
+          ∙ ap (λ (xs : Table Key). (e.0, updated payload e.1) ∷ xs) (shown_keys hide n es only none)
+      | false ↦ λ t.
+          ap (λ (x : ℕ × Key). x ∷ alter (blind_keys hide es) n (updated payload))
+          (shown_entry hide n e only (other_number n e.0 t))
+          ∙ ap (λ (xs : Table Key). e ∷ xs) (updated_keys hide n payload es distinct.1 only)
+    ] refl
+
+then_ok : {A B : Type 0} (r : Result A Errno) (f : A → Result B Errno) (x : A) (y : B) → r ≡ Ok x → f x ≡ Ok y
+    → (r >>= f) ≡ Ok y
+then_ok {A} {B} r f x y is h = ap (λ (q : Result A Errno). q >>= f) is ∙ h
+
+update_same :
+    (hide : Hiding) (s : State) (client context : ℕ) (id : ℤ) (payload : List ℕ) (serial : ℕ) (whose : Context)
+    (end : State × Answer) → IsDistinct s.keys → HidesOnly serial hide → context_of s client context ≡ Ok whose
+    → serial_of s whose id ≡ Ok serial → update s client context id payload ≡ Ok end
+    → update (blind hide s) client context id payload ≡ Ok end
+unfolding update context_of
+update_same hide s client context id payload serial whose end distinct only own named h =
+    let a = bind_ok (context_of s client context) _ end h in
+    let b = bind_ok (look_up s a.0 id (Granted WRITE)) _ end a.2 in
+    let c = bind_ok (updatable b.0.1.kind) _ end b.2 in
+    let d = bind_ok (paid c.0 payload) _ end c.2 in
+    let found = b.0 in
+    let here : serial_of s a.0 id ≡ Ok serial = subst (λ (x : Context). serial_of s x id ≡ Ok serial)
+    (same_ok (context_of s client context) whose a.0 own a.1) named in
+    let same : serial ≡ found.0 =
+    same_ok (serial_of s a.0 id) serial found.0 here (found_serial s a.0 id (Granted WRITE) found b.1) in
+    let keys : alter (blind_keys hide s.keys) found.0 (updated payload) ≡ alter s.keys found.0 (updated payload) =
+    updated_keys hide found.0 payload s.keys distinct (subst (λ (z : ℕ). HidesOnly z hide) same only) in
+    let hidden = blind hide s in
+    then_ok (context_of hidden client context) _ a.0 end a.1
+    (then_ok (look_up hidden a.0 id (Granted WRITE)) _ (blind_found hide found) end
+    (look_up_blind hide s a.0 id (Granted WRITE) ∙ ap (over (blind_found hide)) b.1)
+    (then_ok (updatable found.1.kind) _ c.0 end c.1
+    (then_ok (paid c.0 payload) _ d.0 end d.1
+    (ap (λ (es : Table Key). Ok (record s { keys = es }, Nothing)) keys ∙ d.2))))
+
+posts_same :
+    (hide : Hiding) (s : State) (client context : ℕ) (id : ℤ) (payload : List ℕ) (answer : Answer) (keys : Table Key)
+    (end : State × Answer) → update s client context id payload ≡ Ok end
+    → update (blind hide s) client context id payload ≡ Ok end
+    → posts_by (blind hide s) client context (Update id payload) answer keys
+    ≡ posts_by s client context (Update id payload) answer keys
+unfolding context_of serial_of
+posts_same hide s client context id payload answer keys end h k =
+    let notes = notes_of s client context (Update id payload) answer in
+    ap (λ (r : Outcome). posts (queues_of s) notes (dropped_watches keys (watches_left r))) (k ∙ sym h)
+
+served_same :
+    (hide : Hiding) (s new : State) (client context : ℕ) (id : ℤ) (payload : List ℕ) (serial : ℕ) (whose : Context)
+    (answer : Answer) → IsDistinct s.keys → HidesOnly serial hide → context_of s client context ≡ Ok whose
+    → serial_of s whose id ≡ Ok serial → Serves s client context (Update id payload) answer new
+    → Serves (blind hide s) client context (Update id payload) answer new
+served_same hide s new client context id payload serial whose answer distinct only own named serves =
+    let same = update_same hide s client context id payload serial whose (serves.mid, answer) distinct only own named
+    serves.meant in
+    record {
+      mid = serves.mid;
+      swept = serves.swept;
+      meant = same;
+      sweep = serves.sweep;
+      posted = serves.posted
+          ∙ ap (λ (ps : List Post). posted_in ps serves.swept)
+          (sym (posts_same hide s client context id payload answer serves.swept.keys (serves.mid, answer) serves.meant same));
+    }
+
+accepted_same :
+    (s t new : State) (client context : ℕ) (op : Op) (reply : Result Answer Errno) → IsOk reply
+    → ((answer : Answer) → Serves s client context op answer new → Serves t client context op answer new)
+    → Ends s client context op reply new → Ends t client context op reply new
+accepted_same s t new client context op (Ok answer) accepted stays ends = stays answer ends
+accepted_same s t new client context op (Err e) accepted stays ends = absurd (true≢false (sym accepted))
+
+pub updates_forget : UpdatesForget
+unfolding Step
+updates_forget hide old new event payload serial sound only updates step =
+    let up = raised old event.moment in
+    let asked = updates.asked in
+    accepted_same up (blind hide up) new event.lane event.ask.context event.ask.op event.reply updates.accepted
+    (λ answer serves.
+    subst (λ (o : Op). Serves (blind hide up) event.lane event.ask.context o answer new) (sym asked)
+    (served_same hide up new event.lane event.ask.context updates.id payload serial updates.names.whose answer
+    (rises_distinct old.keys sound.rising) only updates.names.own updates.names.named
+    (subst (λ (o : Op). Serves up event.lane event.ask.context o answer new) asked serves)))
+    step

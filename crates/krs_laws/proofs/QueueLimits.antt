@@ -1,0 +1,223 @@
+-- Queues and what waits in them stay within their limits.
+use Rattle.std.proofs.Common.{◌≡◌, ℕ, ◌+◌, ◌≤◌, ◌<◌, ◌-◌, ◌==◌, ◌++◌, not, List, [], ◌∷◌, Option, Some, None, Bool, true}
+use Rattle.std.proofs.Common.{false, cond, filter, length, nat_le, nat_lt, Ok, refl, ap, ◌∙◌, sym, subst}
+use Rattle.std.proofs.Common.{⊎_elim, arith}
+use Rattle.std.specs.Option.{option_map}
+use Rattle.std.specs.Ordering.{nat_cmp, match_ordering}
+use Rattle.std.specs.declared.cmp.Ordering.TheVariants.{Less, Equal, Greater}
+use Rattle.std.specs.BTreeMap.{is_at}
+use Rattle.std.proofs.lemmas.Bool.Decides.{nat_tests}
+use Rattle.std.proofs.lemmas.Option.{none-some, same_Some}
+use Rattle.krs_types.specs.declared.errno.Errno.TheVariants.{EINVAL, ENFILE}
+use Rattle.krs_types.specs.declared.note.Record.{Record}
+use Rattle.krs_types.specs.declared.note.Record.TheVariants.{Loss}
+use Rattle.krs_types.specs.declared.ask.Answer.{Answer}
+use Rattle.krs_types.specs.declared.ask.Op.{Op}
+use Rattle.krs_types.specs.declared.ask.Op.TheVariants.{OpenQueue}
+use Rattle.krs_model.specs.Table.{Table, at, put, alter, without}
+use Rattle.krs_model.specs.State.{State, Queue}
+use Rattle.krs_model.specs.Queues.{Queues, queues_of}
+use Rattle.krs_model.specs.Orderly.{AreOrderly}
+use Rattle.krs_model.specs.Notes.Bytes.{bytes_of, is_loss}
+use Rattle.krs_model.specs.Notes.Front.{behind}
+use Rattle.krs_model.specs.Notes.Posting.{Post, after_note, after_notes, post_all, records_for}
+use Rattle.krs_model.specs.Notes.Stream.{room_of}
+use Rattle.krs_model.specs.Notes.Waiting.{is_capacity, total_room, after_post, with_loss, ends_with_loss}
+use Rattle.krs_model.specs.Step.{Serves, outcome_of, posts_by}
+use Rattle.krs_model.specs.Asks.Leaving.{left}
+use Rattle.krs_model.specs.Asks.Linked.{unless}
+use Rattle.krs_model.specs.Asks.Watching.{opened, open_queue, new_queue, with_filter, after_read}
+use Rattle.krs_model.proofs.Asks.Done.{Effect, OfKeys, Opens, Filters, Reads, Closes, Watches, Unwatches, Leaves}
+use Rattle.krs_model.proofs.Asks.Later.{bind_ok}
+use Rattle.krs_model.proofs.Notes.Called.{served_at}
+use Rattle.krs_model.proofs.Sound.Changes.{IsChanged, at_change, IsPut, at_put}
+use Rattle.krs_model.proofs.Tables.Distinct.{at_filter_some}
+use Rattle.krs_model.proofs.Tables.Entries.{without_was}
+
+-- ---- what waits
+
+abbrev Fits : Queue → Type 0
+Fits queue = total_room queue.waiting ≤ queue.capacity
+
+abbrev pub AllWait : Table Queue → Type 0
+AllWait queues = (number : ℕ) (queue : Queue) → at queues number ≡ Some queue → Fits queue
+
+room_one : (note : Record) → room_of note ≤ 1
+room_one note = elim (is_loss note) as (λ b. cond b 0 1 ≤ 1) [
+  | true ↦ omega arith
+  | false ↦ omega arith
+]
+
+room_appended : (waiting : List Record) (note : Record) → total_room (waiting ++ note ∷ []) ≡ total_room waiting + room_of note
+room_appended [] note = omega arith
+room_appended (w ∷ ws) note = let later = room_appended ws note in omega arith
+
+loss_room : (waiting : List Record) → total_room (with_loss waiting) ≡ total_room waiting
+loss_room waiting =
+    elim (ends_with_loss waiting) as (λ b. total_room (cond b waiting (waiting ++ Loss ∷ [])) ≡ total_room waiting) [
+      | true ↦ refl
+      | false ↦ let more = room_appended waiting Loss in omega arith
+    ]
+
+post_fits : (capacity : ℕ) (note : Record) (waiting : List Record) → total_room waiting ≤ capacity
+    → total_room (after_post capacity note waiting) ≤ capacity
+post_fits capacity note waiting fits =
+    elim (nat_lt (total_room waiting) capacity) as (λ b. nat_lt (total_room waiting) capacity ≡ b
+    → total_room (cond b (waiting ++ note ∷ []) (with_loss waiting)) ≤ capacity) [
+      | true ↦ λ t.
+          let below : total_room waiting < capacity = grind (arith, nat_tests) in
+          let more = room_appended waiting note in
+          let one = room_one note in
+          omega arith
+      | false ↦ λ t. let same = loss_room waiting in omega arith
+    ] refl
+
+notes_fit : (notes : List Record) (queue : Queue) → Fits queue → Fits (after_notes notes queue)
+notes_fit [] queue fits = fits
+notes_fit (note ∷ notes) queue fits =
+    notes_fit notes (after_note note queue) (post_fits queue.capacity note queue.waiting fits)
+
+behind_room : (room : ℕ) (waiting : List Record) → total_room (behind room waiting) ≤ total_room waiting
+behind_room room [] = omega arith
+behind_room room (note ∷ notes) =
+    let later = behind_room (room - length (bytes_of note)) notes in
+    elim (nat_le (length (bytes_of note)) room) as
+    (λ b. total_room (cond b (behind (room - length (bytes_of note)) notes) (note ∷ notes)) ≤ total_room (note ∷ notes)) [
+      | true ↦ omega arith
+      | false ↦ omega arith
+    ]
+
+mapped_fits : (f : Queue → Queue) (o : Option Queue) (queue : Queue) → ((q : Queue) → Fits q → Fits (f q))
+    → ((q : Queue) → o ≡ Some q → Fits q) → option_map f o ≡ Some queue → Fits queue
+mapped_fits f None queue stays fits h = absurd (none-some queue h)
+mapped_fits f (Some q) queue stays fits h = subst Fits (same_Some (f q) queue h) (stays q (fits q refl))
+
+alter_waits : (queues : Table Queue) (n : ℕ) (f : Queue → Queue) → ((q : Queue) → Fits q → Fits (f q)) → AllWait queues
+    → AllWait (alter queues n f)
+alter_waits queues n f stays all number queue there =
+    ⊎_elim (λ (r : IsChanged queues n f number).
+    mapped_fits f (at queues number) queue stays (all number) (sym r.1 ∙ there))
+    (λ e. all number queue (sym e ∙ there)) (at_change queues n number f)
+
+-- ---- how many there are
+
+alter_length : {X : Type 0} (es : Table X) (k : ℕ) (f : X → X) → length (alter es k f) ≡ length es
+alter_length [] k f = refl
+alter_length (e ∷ es) k f =
+    let later = alter_length es k f in
+    elim (is_at (nat_cmp k) e.0) as (λ b. length (cond b ((e.0, f e.1) ∷ es) (e ∷ alter es k f)) ≡ length (e ∷ es)) [
+      | true ↦ refl
+      | false ↦ omega arith
+    ]
+
+put_length : {X : Type 0} (es : Table X) (k : ℕ) (v : X) → length (put es k v) ≤ length es + 1
+put_length [] k v = omega arith
+put_length (e ∷ es) k v =
+    let later = put_length es k v in
+    elim (nat_cmp k e.0) as
+    (λ r. length (match_ordering r ((k, v) ∷ e ∷ es) ((e.0, v) ∷ es) (e ∷ put es k v)) ≤ length (e ∷ es) + 1) [
+      | Less ↦ omega arith
+      | Equal ↦ omega arith
+      | Greater ↦ omega arith
+    ]
+
+without_length : {X : Type 0} (es : Table X) (k : ℕ) → length (without es k) ≤ length es
+without_length [] k = omega arith
+without_length (e ∷ es) k =
+    let later = without_length es k in
+    elim (is_at (nat_cmp k) e.0) as (λ b. length (cond b es (e ∷ without es k)) ≤ length (e ∷ es)) [
+      | true ↦ omega arith
+      | false ↦ omega arith
+    ]
+
+filter_length : {X : Type 0} (p : X → Bool) (es : List X) → length (filter p es) ≤ length es
+filter_length p [] = omega arith
+filter_length p (e ∷ es) =
+    let later = filter_length p es in
+    elim (p e) as (λ b. length (cond b (e ∷ filter p es) (filter p es)) ≤ length (e ∷ es)) [
+      | true ↦ omega arith
+      | false ↦ omega arith
+    ]
+
+posted_length : (ps : List Post) (queues : Table Queue) → length (post_all ps queues) ≡ length queues
+posted_length [] queues = refl
+posted_length (p ∷ ps) queues =
+    posted_length ps (alter queues p.0 (after_note p.1)) ∙ alter_length queues p.0 (after_note p.1)
+
+few_open : (n : ℕ) (x : Unit {0}) → unless (nat_le 256 n) ENFILE ≡ Ok x → n < 256
+few_open n x h =
+    elim (nat_le 256 n) as (λ b. nat_le 256 n ≡ b → unless b ENFILE ≡ Ok x → n < 256) [
+      | true ↦ λ t no. cc
+      | false ↦ λ t yes. grind (arith, nat_tests)
+    ] refl h
+
+opened_few : (s : State) (client context capacity : ℕ) (end : State × Answer)
+    → outcome_of s client context (OpenQueue capacity) ≡ Ok end → length s.queues < 256
+unfolding open_queue opened
+opened_few s client context capacity end h =
+    let made = bind_ok (opened (queues_of s) client capacity) _ end h in
+    let held = bind_ok (unless (not (is_capacity capacity)) EINVAL) _ made.0 made.1 in
+    let free = bind_ok (unless (nat_le 256 (length s.queues)) ENFILE) _ made.0 held.2 in
+    few_open (length s.queues) free.0 free.1
+
+-- what an accepted ask leaves of queues
+pub record QueuesWithin (queues : Table Queue) : Type 0 where
+  pub few : length queues ≤ 256
+  pub wait : AllWait queues
+
+effect_within :
+    (s : State) (client context : ℕ) (op : Op) (mid : State) (answer : Answer)
+    → outcome_of s client context op ≡ Ok (mid, answer) → AreOrderly (queues_of s)
+    → Effect s client context op mid answer → QueuesWithin s.queues → QueuesWithin mid.queues
+unfolding left
+effect_within s client context _ _ _ h orderly (OfKeys op mid answer other comes none) was =
+    subst QueuesWithin (sym (ap (λ (q : Queues). q.queues) comes.queues)) was
+effect_within s client context _ _ _ h orderly (Opens capacity held) was =
+    let few = opened_few s client context capacity _ h in
+    let more = put_length s.queues s.next_queue (new_queue client capacity) in
+    record {
+      few = omega arith;
+      wait = λ number queue there.
+          ⊎_elim (λ (r : IsPut s.queues s.next_queue (new_queue client capacity) number).
+          subst Fits (same_Some (new_queue client capacity) queue (sym r.1 ∙ there)) (omega arith))
+          (λ e. was.wait number queue (sym e ∙ there)) (at_put s.queues s.next_queue number (new_queue client capacity));
+    }
+effect_within s client context _ _ _ h orderly (Filters number entries queue there) was = record {
+  few = let same = alter_length s.queues number (with_filter entries) in let few = was.few in omega arith;
+  wait = alter_waits s.queues number (with_filter entries) (λ q fits. fits) was.wait;
+}
+effect_within s client context _ _ _ h orderly (Reads number room queue there) was = record {
+  few = let same = alter_length s.queues number (after_read room) in let few = was.few in omega arith;
+  wait = alter_waits s.queues number (after_read room)
+      (λ q fits. let less = behind_room room q.waiting in omega arith) was.wait;
+}
+effect_within s client context _ _ _ h orderly (Closes number queue there) was = record {
+  few = let less = without_length s.queues number in let few = was.few in omega arith;
+  wait = λ k q here. was.wait k q (without_was s.queues number k q orderly.distinct here);
+}
+effect_within s client context _ _ _ h orderly (Watches id watch_id number key n queue known there asked fits) was = was
+effect_within s client context _ _ _ h orderly (Unwatches id watch_id number key n queue known named there asked id_was) was =
+    was
+effect_within s client context _ _ _ h orderly Leaves was = record {
+  few = let less = filter_length (λ e. not (e.1.client == client)) s.queues in let few = was.few in omega arith;
+  wait = λ k q here.
+      was.wait k q (at_filter_some (λ e. not (e.1.client == client)) s.queues k q orderly.distinct here);
+}
+
+pub served_within :
+    (s new : State) (client context : ℕ) (op : Op) (answer : Answer) (serves : Serves s client context op answer new)
+    → AreOrderly (queues_of s) → Effect s client context op serves.mid answer → QueuesWithin s.queues
+    → QueuesWithin new.queues
+served_within s new client context op answer serves orderly effect was =
+    let mid = effect_within s client context op serves.mid answer serves.meant orderly effect was in
+    let swept : serves.swept.queues ≡ serves.mid.queues = ap (λ (t : State). t.queues) serves.sweep.rest in
+    let same : length new.queues ≡ length serves.swept.queues =
+    ap (λ (t : State). length t.queues) serves.posted ∙ posted_length
+    (posts_by s client context op answer serves.swept.keys) serves.swept.queues in
+    record {
+      few = let few = mid.few in let e = ap (λ (q : Table Queue). length q) swept in omega arith;
+      wait = λ number queue there.
+          mapped_fits _ (at serves.mid.queues number) queue
+          (λ q fits. notes_fit (records_for number _) q fits) (mid.wait number)
+          (sym (served_at serves number) ∙ there);
+    }

@@ -1,0 +1,280 @@
+-- What is proved of the keys of an accepted ask before the sweep: they change by right. How it comes about: nothing is done,
+-- a key is put, what one holds is written, another part of it is changed.
+use Rattle.std.proofs.Common.{◌≡◌, ◌≢◌, ℕ, ℤ, List, Option, Some, None, Bool, true, false, Ok}
+use Rattle.std.proofs.Common.{refl, ap, ◌∙◌, sym, subst, ◌⊎◌, inl, inr, ⊎_elim}
+use Rattle.std.specs.Option.{option_map}
+use Rattle.std.proofs.lemmas.Option.{none-some, same_Some}
+use Rattle.krs_types.specs.declared.context.Context.{Context}
+use Rattle.krs_types.specs.declared.caller.Caller.{Caller}
+use Rattle.krs_types.specs.declared.ask.Op.{Op}
+use Rattle.krs_types.specs.declared.rights.Want.{Want}
+use Rattle.krs_types.specs.declared.rights.Want.TheVariants.{Granted}
+use Rattle.krs_types.specs.Rights.{WRITE, LINK, allows}
+use Rattle.krs_model.specs.Table.{Table, at, put, alter}
+use Rattle.krs_model.specs.State.{State, Key, Content}
+use Rattle.krs_model.specs.Levels.{is_in}
+use Rattle.krs_model.specs.Access.{is_over, rights_on}
+use Rattle.krs_model.specs.Possession.{possessed, links_of_content}
+use Rattle.krs_model.specs.Lookup.{context_of, look_up}
+use Rattle.krs_model.specs.Reach.{links_of_key_at}
+use Rattle.krs_model.specs.Usable.{IsUsable}
+use Rattle.krs_model.specs.Making.{special_ring}
+use Rattle.krs_model.proofs.Lookups.Laws.{look_up_usable}
+use Rattle.krs_model.proofs.MadeKeyring.State.{HasMade, HasMadeFor, MadeNone, MadeOne, at_other}
+use Rattle.krs_model.proofs.MadeKeyring.Lookups.{possessed_other}
+use Rattle.krs_model.proofs.Sound.Changes.{IsChanged, at_change, IsPut, at_put, LinksTo}
+use Rattle.krs_laws.specs.Integrity.{HasRight, Kept, Written, IsByRight, IsMadeBy, MayLink}
+
+-- a key that may be linked, or that the ask made
+abbrev pub LinkedByRight : State → ℕ → ℕ → ℕ → Type 0
+LinkedByRight s client context k = (at s.keys k ≡ None) ⊎ MayLink s client context k
+
+-- the keys that an ask leaves, before the sweep
+pub record Rightly (s : State) (client context : ℕ) (op : Op) (keys : Table Key) : Type 0 where
+  pub changed : (k : ℕ) (before after : Key) → at s.keys k ≡ Some before → at keys k ≡ Some after
+      → IsByRight s client context k before after
+  pub made : (k : ℕ) (key : Key) → at s.keys k ≡ None → at keys k ≡ Some key → IsMadeBy s client context op key
+  pub linked : (j k : ℕ) → is_in k (links_of_key_at keys j) ≡ true
+      → (is_in k (links_of_key_at s.keys j) ≡ true) ⊎ LinkedByRight s client context k
+
+-- a key as it was
+pub unchanged : (s : State) (client context k : ℕ) (key : Key) → IsByRight s client context k key key
+unchanged s client context k key = record {
+  kind = refl;
+  desc = refl;
+  joined = refl;
+  content = Kept refl;
+  uid = inl refl;
+  gid = inl refl;
+  perm = inl refl;
+  expiry = inl refl;
+  revoked = inl refl;
+  closed = inl refl;
+}
+
+pub rightly_same : (s : State) (client context : ℕ) (op : Op) → Rightly s client context op s.keys
+rightly_same s client context op = record {
+  changed = λ k before after was is.
+      subst (IsByRight s client context k before) (same_Some before after (sym was ∙ is))
+      (unchanged s client context k before);
+  made = λ k key none is. absurd (none-some key (sym none ∙ is));
+  linked = λ j k i. inl i;
+}
+
+-- a further key
+pub rightly_put :
+    (s : State) (client context : ℕ) (op : Op) (keys : Table Key) (n : ℕ) (v : Key) → at s.keys n ≡ None
+    → IsMadeBy s client context op v
+    → ((k : ℕ) → is_in k (links_of_content v.content) ≡ true → LinkedByRight s client context k)
+    → Rightly s client context op keys → Rightly s client context op (put keys n v)
+rightly_put s client context op keys n v none mine links was = record {
+  changed = λ k before after there is.
+      ⊎_elim (λ (r : IsPut keys n v k). absurd
+      (none-some before (sym (ap (λ (z : ℕ). at s.keys z) r.0 ∙ none) ∙ there)))
+      (λ e. was.changed k before after there (sym e ∙ is)) (at_put keys n k v);
+  made = λ k key new is.
+      ⊎_elim (λ (r : IsPut keys n v k).
+      subst (IsMadeBy s client context op) (same_Some v key (sym r.1 ∙ is)) mine)
+      (λ e. was.made k key new (sym e ∙ is)) (at_put keys n k v);
+  linked = λ j k i.
+      ⊎_elim (λ (r : IsPut keys n v j). inr (links k (subst (LinksTo k) r.1 i)))
+      (λ e. was.linked j k (subst (LinksTo k) e i)) (at_put keys n j v);
+}
+
+pub mapped_is :
+    (f : Key → Key) (o : Option Key) (after : Key) → option_map f o ≡ Some after
+    → (was : Key) × (o ≡ Some was) × (f was ≡ after)
+mapped_is f None after h = absurd (none-some after h)
+mapped_is f (Some v) after h = (v, refl, same_Some (f v) after h)
+
+links_mapped :
+    (f : Key → Key) (P : ℕ → Type 0) (o : Option Key) (k : ℕ)
+    → ((v : Key) → is_in k (links_of_content (f v).content) ≡ true → (is_in k (links_of_content v.content) ≡ true) ⊎ P k)
+    → LinksTo k (option_map f o) → (LinksTo k o) ⊎ P k
+links_mapped f P None k more i = inl i
+links_mapped f P (Some v) k more i = more v i
+
+-- a key is changed once more, by right
+pub rightly_then :
+    (s : State) (client context : ℕ) (op : Op) (keys : Table Key) (n : ℕ) (f : Key → Key)
+    → ((before after : Key) → at s.keys n ≡ Some before → IsByRight s client context n before after
+    → IsByRight s client context n before (f after))
+    → ((key : Key) → IsMadeBy s client context op key → IsMadeBy s client context op (f key))
+    → ((k : ℕ) (v : Key) → is_in k (links_of_content (f v).content) ≡ true
+    → (is_in k (links_of_content v.content) ≡ true) ⊎ LinkedByRight s client context k)
+    → Rightly s client context op keys → Rightly s client context op (alter keys n f)
+rightly_then s client context op keys n f right mine links was = record {
+  changed = λ k before after there is.
+      ⊎_elim (λ (r : IsChanged keys n f k).
+      let w = mapped_is f (at keys k) after (sym r.1 ∙ is) in
+      let here = subst (λ (z : ℕ). at s.keys z ≡ Some before) r.0 there in
+      let once = subst (λ (z : ℕ). IsByRight s client context z before w.0) r.0 (was.changed k before w.0 there w.1) in
+      subst (IsByRight s client context k before) w.2
+      (subst (λ (z : ℕ). IsByRight s client context z before (f w.0)) (sym r.0) (right before w.0 here once)))
+      (λ e. was.changed k before after there (sym e ∙ is)) (at_change keys n k f);
+  made = λ k key none is.
+      ⊎_elim (λ (r : IsChanged keys n f k).
+      let w = mapped_is f (at keys k) key (sym r.1 ∙ is) in
+      subst (IsMadeBy s client context op) w.2 (mine w.0 (was.made k w.0 none w.1)))
+      (λ e. was.made k key none (sym e ∙ is)) (at_change keys n k f);
+  linked = λ j k i.
+      ⊎_elim (λ (r : IsChanged keys n f j).
+      ⊎_elim (λ (there : LinksTo k (at keys j)). was.linked j k there) (λ new. inr new)
+      (links_mapped f (LinkedByRight s client context) (at keys j) k (links k) (subst (LinksTo k) r.1 i)))
+      (λ e. was.linked j k (subst (LinksTo k) e i)) (at_change keys n j f);
+}
+
+-- the key holds something else
+abbrev pub holding : (Content → Content) → Key → Key
+holding f key = record key { content = f key.content }
+
+-- what a key holds is written
+pub rightly_written :
+    (s : State) (client context : ℕ) (op : Op) (keys : Table Key) (n : ℕ) (f : Content → Content)
+    → ((before : Key) → at s.keys n ≡ Some before → HasRight s client context (Granted WRITE) n)
+    → ((k : ℕ) (v : Key) → is_in k (links_of_content (f v.content)) ≡ true
+    → (is_in k (links_of_content v.content) ≡ true) ⊎ LinkedByRight s client context k)
+    → Rightly s client context op keys → Rightly s client context op (alter keys n (holding f))
+rightly_written s client context op keys n f right links was =
+    rightly_then s client context op keys n (holding f)
+    (λ before after there once. record {
+      kind = once.kind;
+      desc = once.desc;
+      joined = once.joined;
+      content = Written (right before there);
+      uid = once.uid;
+      gid = once.gid;
+      perm = once.perm;
+      expiry = once.expiry;
+      revoked = once.revoked;
+      closed = once.closed;
+    })
+    (λ key mine. record { caller = mine.caller; asks = mine.asks; own = mine.own; gid = mine.gid }) links was
+
+links_fewer :
+    (f : Key → Key) (o : Option Key) (j : ℕ)
+    → ((v : Key) → o ≡ Some v → is_in j (links_of_content (f v).content) ≡ true
+    → is_in j (links_of_content v.content) ≡ true)
+    → LinksTo j (option_map f o) → LinksTo j o
+links_fewer f None j less i = i
+links_fewer f (Some v) j less i = less v refl i
+
+-- a part of one key is changed
+pub rightly_changed :
+    (s : State) (client context : ℕ) (op : Op) (n : ℕ) (f : Key → Key)
+    → ((v : Key) → at s.keys n ≡ Some v → IsByRight s client context n v (f v))
+    → ((j : ℕ) (v : Key) → is_in j (links_of_content (f v).content) ≡ true → is_in j (links_of_content v.content) ≡ true)
+    → Rightly s client context op (alter s.keys n f)
+rightly_changed s client context op n f right less =
+    let same = rightly_same s client context op in
+    record {
+      changed = λ k before after there is.
+          ⊎_elim (λ (r : IsChanged s.keys n f k).
+          let w = mapped_is f (at s.keys k) after (sym r.1 ∙ is) in
+          let one : w.0 ≡ before = same_Some w.0 before (sym w.1 ∙ there) in
+          let here = right before (subst (λ (z : ℕ). at s.keys z ≡ Some before) r.0 there) in
+          subst (λ (z : ℕ). IsByRight s client context z before after) (sym r.0)
+          (subst (IsByRight s client context n before) (ap f (sym one) ∙ w.2) here))
+          (λ e. same.changed k before after there (sym e ∙ is)) (at_change s.keys n k f);
+      made = λ k key none is.
+          ⊎_elim (λ (r : IsChanged s.keys n f k).
+          let w = mapped_is f (at s.keys k) key (sym r.1 ∙ is) in absurd (none-some w.0 (sym none ∙ w.1)))
+          (λ e. same.made k key none (sym e ∙ is)) (at_change s.keys n k f);
+      linked = λ j k i.
+          ⊎_elim (λ (r : IsChanged s.keys n f j).
+          inl (links_fewer f (at s.keys j) k (λ v is. less k v) (subst (LinksTo k) r.1 i)))
+          (λ e. inl (subst (LinksTo k) e i)) (at_change s.keys n j f);
+    }
+
+-- ---- what is looked up where a keyring counts as made
+
+-- a key that was there grants what it granted
+usable_was :
+    (s t : State) (c d : Context) (desc before after : List ℕ) (want : Want) (found : ℕ × Key) (was : Key)
+    → HasMade s c t d desc before after → at s.keys s.next_serial ≡ None → at s.keys found.0 ≡ Some was
+    → IsUsable t d want found → IsUsable s c want found
+usable_was s t c d desc before after want found was has none there u =
+    let n = s.next_serial in
+    let k = found.0 in
+    let apart : k ≢ n = λ e. none-some was (sym none ∙ (ap (λ (z : ℕ). at s.keys z) (sym e) ∙ there)) in
+    let mine = possessed_other s t c d desc before after k has none apart in
+    let same : at t.keys k ≡ at s.keys k =
+    ap (λ (es : Table Key). at es k) has.keys ∙ at_other s.keys n k (special_ring desc c.caller) apart in
+    record {
+      there = sym same ∙ u.there;
+      live = u.live;
+      running = ap (λ (clock : ℕ). is_over clock found.1.expiry) (sym has.clock) ∙ u.running;
+      granted = subst (λ (b : Bool). allows want (rights_on found.1 c.caller b) b ≡ true) mine
+          (subst (λ (z : Caller). allows want (rights_on found.1 z (possessed t d k)) (possessed t d k) ≡ true)
+          has.caller u.granted);
+    }
+
+made_usable :
+    (s : State) (c : Context) (id : ℤ) (made : State × Context) (want : Want) (found : ℕ × Key) (was : Key)
+    → HasMadeFor s c id made → at s.keys s.next_serial ≡ None → at s.keys found.0 ≡ Some was
+    → IsUsable made.0 made.1 want found → IsUsable s c want found
+made_usable s c id _ want found was MadeNone none there u = u
+made_usable s c id _ want found was (MadeOne t d desc before after has is) none there u =
+    usable_was s t c d desc before after want found was has none there u
+
+-- what is found there, where it was there before, the context had the right to
+pub right_made :
+    (s : State) (client context : ℕ) (c : Context) (id : ℤ) (made : State × Context) (want : Want) (found : ℕ × Key)
+    (was : Key) → context_of s client context ≡ Ok c → HasMadeFor s c id made → at s.keys s.next_serial ≡ None
+    → at s.keys found.0 ≡ Some was → IsUsable made.0 made.1 want found → HasRight s client context want found.0
+right_made s client context c id made want found was own has none there u = record {
+  whose = c;
+  own = own;
+  key = found.1;
+  usable = made_usable s c id made want found was has none there u;
+}
+
+abbrev pub right_found :
+    (s : State) (client context : ℕ) (c : Context) (id : ℤ) (want : Want) (found : ℕ × Key)
+    → context_of s client context ≡ Ok c → look_up s c id want ≡ Ok found → HasRight s client context want found.0
+right_found s client context c id want found own is = record {
+  whose = c;
+  own = own;
+  key = found.1;
+  usable = look_up_usable s c id want found is;
+}
+
+-- and what grants LINK there may be linked, or is the keyring that was made
+link_was :
+    (s t : State) (c d : Context) (desc before after : List ℕ) (k : ℕ) (key was : Key)
+    → HasMade s c t d desc before after → at s.keys s.next_serial ≡ None → at s.keys k ≡ Some was
+    → at t.keys k ≡ Some key → allows (Granted LINK) (rights_on key d.caller (possessed t d k)) false ≡ true
+    → (at s.keys k ≡ Some key) × (allows (Granted LINK) (rights_on key c.caller (possessed s c k)) false ≡ true)
+link_was s t c d desc before after k key was has none there is grants =
+    let n = s.next_serial in
+    let apart : k ≢ n = λ e. none-some was (sym none ∙ (ap (λ (z : ℕ). at s.keys z) (sym e) ∙ there)) in
+    let mine = possessed_other s t c d desc before after k has none apart in
+    let same : at t.keys k ≡ at s.keys k =
+    ap (λ (es : Table Key). at es k) has.keys ∙ at_other s.keys n k (special_ring desc c.caller) apart in (
+      sym same ∙ is,
+      subst (λ (b : Bool). allows (Granted LINK) (rights_on key c.caller b) false ≡ true) mine
+          (subst (λ (z : Caller). allows (Granted LINK) (rights_on key z (possessed t d k)) false ≡ true) has.caller grants),
+    )
+
+made_link :
+    (s : State) (c : Context) (id : ℤ) (made : State × Context) (k : ℕ) (key was : Key) → HasMadeFor s c id made
+    → at s.keys s.next_serial ≡ None → at s.keys k ≡ Some was → at made.0.keys k ≡ Some key
+    → allows (Granted LINK) (rights_on key made.1.caller (possessed made.0 made.1 k)) false ≡ true
+    → (at s.keys k ≡ Some key) × (allows (Granted LINK) (rights_on key c.caller (possessed s c k)) false ≡ true)
+made_link s c id _ k key was MadeNone none there is grants = (is, grants)
+made_link s c id _ k key was (MadeOne t d desc before after has named) none there is grants =
+    link_was s t c d desc before after k key was has none there is grants
+
+pub linkable_made :
+    (s : State) (client context : ℕ) (c : Context) (id : ℤ) (made : State × Context) (k : ℕ) (key : Key)
+    → context_of s client context ≡ Ok c → HasMadeFor s c id made → at s.keys s.next_serial ≡ None
+    → at made.0.keys k ≡ Some key
+    → allows (Granted LINK) (rights_on key made.1.caller (possessed made.0 made.1 k)) false ≡ true
+    → LinkedByRight s client context k
+linkable_made s client context c id made k key own has none is grants =
+    elim (at s.keys k) as (λ o. at s.keys k ≡ o → LinkedByRight s client context k) [
+      | None ↦ λ e. inl e
+      | Some was ↦ λ e.
+          let l = made_link s c id made k key was has none e is grants in
+          inr (record { whose = c; own = own; key = key; there = l.0; grants = l.1 })
+    ] refl

@@ -1,0 +1,241 @@
+-- Queues are their owners', and watches are set by right.
+use Rattle.std.proofs.Common.{◌≡◌, ℕ, ℤ, ◌==◌, not, List, [], ◌∷◌, Option, Some, None, true, false, cond}
+use Rattle.std.proofs.Common.{Result, Ok, Err, refl, ap, ◌∙◌, sym, subst, ◌⊎◌, inl, inr, arith}
+use Rattle.std.specs.Prelude.{IsOk, is_some}
+use Rattle.std.proofs.lemmas.Bool.{true≢false}
+use Rattle.std.proofs.lemmas.Bool.Decides.{nat_tests}
+use Rattle.std.proofs.lemmas.Option.{none-some, same_Some}
+use Rattle.krs_types.specs.declared.errno.Errno.{Errno}
+use Rattle.krs_types.specs.declared.errno.Errno.TheVariants.{EBADF, EBUSY}
+use Rattle.krs_types.specs.declared.note.FilterEntry.{FilterEntry}
+use Rattle.krs_types.specs.declared.ask.Answer.{Answer}
+use Rattle.krs_types.specs.declared.ask.Op.{Op}
+use Rattle.krs_types.specs.declared.ask.Op.TheVariants as asks
+use Rattle.krs_types.specs.declared.ask.Op.TheVariants.{SetFilter, ReadQueue, CloseQueue, Leave}
+use Rattle.krs_types.specs.declared.event.Event.{Event}
+use Rattle.krs_types.specs.declared.rights.Want.TheVariants.{Granted}
+use Rattle.krs_types.specs.Refusing.{or_refuse}
+use Rattle.krs_types.specs.Rights.{VIEW}
+use Rattle.krs_model.specs.Table.{at}
+use Rattle.krs_model.specs.State.{State, Queue, raised}
+use Rattle.krs_model.specs.Lookup.{context_of, look_up}
+use Rattle.krs_model.specs.Queues.{Queues, Watch, queues_of, if_own_queue, queue_of, watch_at, with_watch}
+use Rattle.krs_model.specs.Queues.{without_watch}
+use Rattle.krs_model.specs.Orderly.{Each}
+use Rattle.krs_model.specs.Sound.{IsSound}
+use Rattle.krs_model.specs.Sweep.{live_watches}
+use Rattle.krs_model.specs.Step.{Step, Ends, outcome_of}
+use Rattle.krs_model.specs.Asks.Leaving.{left}
+use Rattle.krs_model.specs.Asks.Linked.{unless}
+use Rattle.krs_model.specs.Asks.Watching.{watch, watched, unwatched, with_watching, watch_id_of, set_filter, filtered}
+use Rattle.krs_model.specs.Asks.Watching.{read_queue, read_out, close_queue, closed}
+use Rattle.krs_model.proofs.Asks.Done.{Effect, OfKeys, Opens, Filters, Reads, Closes, Watches, Unwatches, Leaves, queue_there}
+use Rattle.krs_model.proofs.Asks.Done.{unwatched_is}
+use Rattle.krs_model.proofs.Asks.Effects.{effect_of}
+use Rattle.krs_model.proofs.Asks.Later.{bind_ok, same_ok}
+use Rattle.krs_model.proofs.Asks.Outcomes.{Meets, meets_after, meets_ok}
+use Rattle.krs_model.proofs.Notes.Fitting.{each_filter, each_on}
+use Rattle.krs_model.proofs.Sound.Watches.{each_with, each_without}
+use Rattle.krs_laws.specs.Integrity.{HasRight}
+use Rattle.krs_laws.specs.Noting.{OwnsQueue, queue_asked, QueuesAreTheirOwners, IsWatched, WatchesByRight, AllWatchesAreByRight}
+use Rattle.krs_laws.proofs.Rightly.{right_found}
+
+-- ---- queues are their owners'
+
+own_is : (client : ℕ) (found queue : Queue) → if_own_queue client found ≡ Ok queue → queue.client ≡ client
+own_is client found queue h =
+    elim (found.client == client) as
+    (λ b. (found.client == client) ≡ b → cond b (Ok found) (Err EBADF) ≡ Ok queue → queue.client ≡ client) [
+      | true ↦ λ t i.
+          let same : found ≡ queue = same_ok (Ok found) found queue refl i in
+          let is : found.client ≡ client = grind (arith, nat_tests) in
+          ap (λ (q : Queue). q.client) (sym same) ∙ is
+      | false ↦ λ t i. cc
+    ] refl h
+
+owner_of :
+    (s : State) (client number : ℕ) (queue : Queue) → queue_of s.queues client number ≡ Ok queue → OwnsQueue s client number
+owner_of s client number queue h =
+    let there = bind_ok (or_refuse EBADF (at s.queues number)) (if_own_queue client) queue h in
+    record {
+      queue = queue;
+      there = queue_there s.queues client number queue h;
+      own = own_is client there.0 queue there.2;
+    }
+
+-- watched or not, the queue is the client's
+watching_owner :
+    (s : State) (client number key : ℕ) (asked : Option ℕ) (queues : Queues)
+    → with_watching (queues_of s) client number key asked ≡ Ok queues → OwnsQueue s client number
+unfolding watched unwatched
+watching_owner s client number key (Some id) queues h =
+    let set = bind_ok (watched (queues_of s) client number key id) _ queues h in
+    let own = bind_ok (queue_of s.queues client number) _ set.0 set.1 in
+    owner_of s client number own.0 own.1
+watching_owner s client number key None queues h =
+    let ended = bind_ok (unwatched (queues_of s) client number key) _ queues h in
+    let own = bind_ok (queue_of s.queues client number) _ ended.0 ended.1 in
+    owner_of s client number own.0 own.1
+
+watch_owner :
+    (s : State) (client context number : ℕ) (id watch_id : ℤ) (end : State × Answer)
+    → watch s client context id number watch_id ≡ Ok end → OwnsQueue s client number
+unfolding watch
+watch_owner s client context number id watch_id end h =
+    let a = bind_ok (context_of s client context) _ end h in
+    let b = bind_ok (watch_id_of watch_id) _ end a.2 in
+    let c = bind_ok (look_up s a.0 id (Granted VIEW)) _ end b.2 in
+    let d = bind_ok (with_watching (queues_of s) client number c.0.0 b.0) _ end c.2 in
+    watching_owner s client number c.0.0 b.0 d.0 d.1
+
+filter_owner :
+    (s : State) (client number : ℕ) (entries : List FilterEntry) (end : State × Answer)
+    → set_filter s client number entries ≡ Ok end → OwnsQueue s client number
+unfolding set_filter filtered
+filter_owner s client number entries end h =
+    let a = bind_ok (filtered (queues_of s) client number entries) _ end h in
+    let own = bind_ok (queue_of s.queues client number) _ a.0 a.1 in
+    owner_of s client number own.0 own.1
+
+reader_owner :
+    (s : State) (client number room : ℕ) (end : State × Answer) → read_queue s client number room ≡ Ok end
+    → OwnsQueue s client number
+unfolding read_queue read_out
+reader_owner s client number room end h =
+    let a = bind_ok (read_out (queues_of s) client number room) _ end h in
+    let own = bind_ok (queue_of s.queues client number) _ a.0 a.1 in
+    owner_of s client number own.0 own.1
+
+closer_owner :
+    (s : State) (client number : ℕ) (end : State × Answer) → close_queue s client number ≡ Ok end
+    → OwnsQueue s client number
+unfolding close_queue closed
+closer_owner s client number end h =
+    let a = bind_ok (closed (queues_of s) client number) _ end h in
+    let own = bind_ok (queue_of s.queues client number) _ a.0 a.1 in
+    owner_of s client number own.0 own.1
+
+same_queue : (s : State) (client a b : ℕ) → OwnsQueue s client a → Some a ≡ Some b → OwnsQueue s client b
+same_queue s client a b own e = subst (OwnsQueue s client) (same_Some a b e) own
+
+asked_owner :
+    (s : State) (client context : ℕ) (op : Op) (number : ℕ) (end : State × Answer) → queue_asked op ≡ Some number
+    → outcome_of s client context op ≡ Ok end → OwnsQueue s client number
+asked_owner s client context (asks.Watch id queue watch_id) number end is h =
+    same_queue s client queue number (watch_owner s client context queue id watch_id end h) is
+asked_owner s client context (SetFilter queue entries) number end is h =
+    same_queue s client queue number (filter_owner s client queue entries end h) is
+asked_owner s client context (ReadQueue queue room) number end is h =
+    same_queue s client queue number (reader_owner s client queue room end h) is
+asked_owner s client context (CloseQueue queue) number end is h =
+    same_queue s client queue number (closer_owner s client queue end h) is
+asked_owner s client context op number end is h = absurd (none-some number is)
+
+ended_owner :
+    (s new : State) (client context : ℕ) (op : Op) (reply : Result Answer Errno) (number : ℕ) → IsOk reply
+    → queue_asked op ≡ Some number → Ends s client context op reply new → OwnsQueue s client number
+ended_owner s new client context op (Ok answer) number accepted is ends =
+    asked_owner s client context op number (ends.mid, answer) is ends.meant
+ended_owner s new client context op (Err e) number accepted is ends = absurd (true≢false (sym accepted))
+
+pub owners_ask : QueuesAreTheirOwners
+unfolding Step
+owners_ask old new event number step accepted is =
+    let own = ended_owner (raised old event.moment) new event.lane event.ask.context event.ask.op event.reply number accepted
+    is step in
+    record { queue = own.queue; there = own.there; own = own.own }
+
+-- ---- watches are set by right
+
+abbrev IsSetRightly : State → ℕ → ℕ → Watch → Type 0
+IsSetRightly s client context w =
+    IsWatched w.0 s.watches ⊎ (HasRight s client context (Granted VIEW) w.0.0 × OwnsQueue s client w.0.1)
+
+-- each watch is at its place
+at_place : (ws : List Watch) → Each (λ w. IsWatched w.0 ws) ws
+at_place [] = tt
+at_place (w ∷ ws) =
+    (inl refl, each_on (λ v. IsWatched v.0 ws) (λ v. IsWatched v.0 (w ∷ ws)) ws (λ v there. inr there) (at_place ws))
+
+were_set : (s : State) (client context : ℕ) → Each (IsSetRightly s client context) s.watches
+were_set s client context =
+    each_on (λ w. IsWatched w.0 s.watches) (IsSetRightly s client context) s.watches (λ w there. inl there)
+    (at_place s.watches)
+
+watching_set :
+    (s : State) (client context number key : ℕ) (asked : Option ℕ) (queues : Queues)
+    → HasRight s client context (Granted VIEW) key → with_watching (queues_of s) client number key asked ≡ Ok queues
+    → Each (IsSetRightly s client context) queues.watches
+unfolding watched
+watching_set s client context number key (Some id) queues right h =
+    let set = bind_ok (watched (queues_of s) client number key id) _ queues h in
+    let own = bind_ok (queue_of s.queues client number) _ set.0 set.1 in
+    let free = bind_ok (unless (is_some (watch_at s.watches key number)) EBUSY) _ set.0 own.2 in
+    let more : Queues = record (queues_of s) { watches = with_watch s.watches key number id } in
+    let is : more ≡ queues =
+    ap (λ (x : Queues × Unit {0}). x.0) (same_ok (Ok (more, tt)) (more, tt) set.0 refl free.2)
+    ∙ same_ok (Ok set.0.0) set.0.0 queues refl set.2 in
+    subst (λ (q : Queues). Each (IsSetRightly s client context) q.watches) is
+    (each_with (IsSetRightly s client context) s.watches key number id
+    (inr (right, owner_of s client number own.0 own.1)) (λ w was. was) (were_set s client context))
+watching_set s client context number key None queues right h =
+    let ended = bind_ok (unwatched (queues_of s) client number key) _ queues h in
+    let is = unwatched_is (queues_of s) client number key ended.0 ended.1 in
+    let less : Queues = record (queues_of s) { watches = without_watch s.watches key number } in
+    let same : less ≡ queues = is.3 ∙ same_ok (Ok ended.0.0) ended.0.0 queues refl ended.2 in
+    subst (λ (q : Queues). Each (IsSetRightly s client context) q.watches) same
+    (each_without (IsSetRightly s client context) s.watches key number (were_set s client context))
+
+watch_set :
+    (s : State) (client context number : ℕ) (id watch_id : ℤ)
+    → Meets (λ (new : State). Each (IsSetRightly s client context) new.watches) (watch s client context id number watch_id)
+unfolding watch
+watch_set s client context number id watch_id =
+    meets_after (context_of s client context) _ (λ c own.
+    meets_after (watch_id_of watch_id) _ (λ asked _.
+    meets_after (look_up s c id (Granted VIEW)) _ (λ there is.
+    meets_after (with_watching (queues_of s) client number there.0 asked) _ (λ queues set.
+    meets_ok (watching_set s client context number there.0 asked queues
+    (right_found s client context c id (Granted VIEW) there own is) set)))))
+
+effect_set :
+    (s : State) (client context : ℕ) (op : Op) (mid : State) (answer : Answer) → outcome_of s client context op ≡ Ok (mid, answer)
+    → Effect s client context op mid answer → Each (IsSetRightly s client context) mid.watches
+unfolding left
+effect_set s client context _ _ _ h (OfKeys op mid answer other comes none) =
+    subst (Each (IsSetRightly s client context)) (sym (ap (λ (q : Queues). q.watches) comes.queues)) (were_set s client context)
+effect_set s client context _ _ _ h (Opens capacity held) = were_set s client context
+effect_set s client context _ _ _ h (Filters number entries queue there) = were_set s client context
+effect_set s client context _ _ _ h (Reads number room queue there) = were_set s client context
+effect_set s client context _ _ _ h (Closes number queue there) =
+    each_filter (IsSetRightly s client context) (λ w. not (w.0.1 == number)) s.watches (were_set s client context)
+effect_set s client context _ _ _ h (Watches id watch_id number key n queue known there asked fits) =
+    (watch_set s client context number id watch_id).meets _ _ h
+effect_set s client context _ _ _ h (Unwatches id watch_id number key n queue known named there asked was) =
+    each_without (IsSetRightly s client context) s.watches key number (were_set s client context)
+effect_set s client context _ _ _ h Leaves =
+    each_filter (IsSetRightly s client context) _ s.watches (were_set s client context)
+
+ended_set :
+    (s new : State) (event : Event) (reply : Result Answer Errno)
+    → Ends s event.lane event.ask.context event.ask.op reply new → WatchesByRight s event new
+ended_set s new event (Ok answer) ends =
+    let client = event.lane in
+    let context = event.ask.context in
+    let mid = ends.mid in
+    let set = effect_set s client context event.ask.op mid answer ends.meant
+    (effect_of s client context event.ask.op mid answer ends.meant) in
+    let is : new.watches ≡ live_watches ends.swept.keys mid.watches =
+    ap (λ (t : State). t.watches) ends.posted ∙ ap (λ (t : State). t.watches) ends.sweep.rest in
+    subst (Each (IsSetRightly s client context)) (sym is)
+    (each_filter (IsSetRightly s client context) (λ w. is_some (at ends.swept.keys w.0.0)) mid.watches set)
+ended_set s new event (Err e) ends =
+    subst (λ (t : State). Each (IsSetRightly s event.lane event.ask.context) t.watches) (sym ends.1)
+    (were_set s event.lane event.ask.context)
+
+step_set : (old new : State) (event : Event) → Step old event new → WatchesByRight (raised old event.moment) event new
+unfolding Step
+step_set old new event step = ended_set (raised old event.moment) new event event.reply step
+
+pub all_set : (start : State) → IsSound start → AllWatchesAreByRight start
+all_set start sound before old legal event new step = step_set old new event step

@@ -1,0 +1,101 @@
+-- Each step leaves a store within its limits.
+use Rattle.std.proofs.Common.{◌≡◌, ℕ, ◌≤◌, List, [], ◌∷◌, Option, Some, None, Bool, true, false, cond, filter, nat_le}
+use Rattle.std.proofs.Common.{Result, Ok, Err, ap, ◌∙◌, sym, subst, arith}
+use Rattle.std.proofs.lemmas.Bool.Decides.{nat_tests}
+use Rattle.std.proofs.lemmas.Option.{none-some}
+use Rattle.krs_types.specs.declared.errno.Errno.{Errno}
+use Rattle.krs_types.specs.declared.context.Context.{Context}
+use Rattle.krs_types.specs.declared.ask.Answer.{Answer}
+use Rattle.krs_types.specs.declared.ask.Op.{Op}
+use Rattle.krs_types.specs.declared.event.Event.{Event}
+use Rattle.krs_model.specs.Table.{Table, at}
+use Rattle.krs_model.specs.State.{State, Key, starting_at, raised}
+use Rattle.krs_model.specs.Notes.Waiting.{is_capacity}
+use Rattle.krs_model.specs.Asks.Hello.{context_count}
+use Rattle.krs_model.specs.Sound.{IsSound}
+use Rattle.krs_model.specs.Step.{Step, Ends}
+use Rattle.krs_model.specs.History.{IsLegal}
+use Rattle.krs_model.proofs.Asks.Effects.{effect_of}
+use Rattle.krs_model.proofs.Asks.Laws.{law_of}
+use Rattle.krs_model.proofs.Sound.Steps.{sound_stands, raised_sound, step_sound}
+use Rattle.krs_model.proofs.Tables.Changes.{at_kept}
+use Rattle.krs_laws.specs.Limits.{IsWithinLimits, StaysWithinLimits}
+use Rattle.krs_laws.proofs.ContextLimits.{houses_few}
+use Rattle.krs_laws.proofs.KeyLimits.{AllShort, both}
+use Rattle.krs_laws.proofs.KeyLimitsByAsk.{all_short}
+use Rattle.krs_laws.proofs.QueueLimits.{QueuesWithin, served_within}
+
+-- but for capacities, which IsSound has
+record Within (s : State) : Type 0 where
+  keys : AllShort s.keys
+  contexts : (client : ℕ) → context_count client s.contexts ≤ 64
+  queues : QueuesWithin s.queues
+
+kept_is : (b : Bool) (o : Option Key) (key : Key) → cond b o None ≡ Some key → o ≡ Some key
+kept_is true o key h = h
+kept_is false o key h = absurd (none-some key h)
+
+ended_within :
+    (s new : State) (client context : ℕ) (op : Op) (reply : Result Answer Errno) → IsSound s → Within s
+    → Ends s client context op reply new → Within new
+ended_within s new client context op (Err e) sound was ends = subst Within (sym ends.1) was
+ended_within s new client context op (Ok answer) sound was ends =
+    let mid = ends.mid in
+    let kept = ends.sweep.kept in
+    let houses = ((law_of s client context op).fares.meets mid answer ends.meant).houses in
+    let short = (all_short s client context op (sound_stands s sound) was.keys).meets mid answer ends.meant in
+    let keys : new.keys ≡ filter (λ e. kept e.0) mid.keys =
+    ap (λ (t : State). t.keys) ends.posted ∙ ends.sweep.keys in
+    let contexts : new.contexts ≡ mid.contexts =
+    ap (λ (t : State). t.contexts) ends.posted ∙ ap (λ (t : State). t.contexts) ends.sweep.rest in
+    record {
+      keys = λ k key there. short k key (kept_is (kept k) (at mid.keys k) key
+          (sym (ap (λ (es : Table Key). at es k) keys ∙ at_kept kept mid.keys k) ∙ there));
+      contexts = λ other. subst (λ (es : Table Context). context_count other es ≤ 64) (sym contexts)
+          (houses_few s client context op mid.contexts mid.processes mid.uids (mid, answer) ends.meant houses other
+          (was.contexts other));
+      queues = served_within s new client context op answer ends sound.orderly
+          (effect_of s client context op mid answer ends.meant) was.queues;
+    }
+
+step_within : (old new : State) (event : Event) → IsSound old → Within old → Step old event new → Within new
+unfolding Step
+step_within old new event sound was step =
+    ended_within (raised old event.moment) new event.lane event.ask.context event.ask.op event.reply
+    (raised_sound old event.moment sound) (record { keys = was.keys; contexts = was.contexts; queues = was.queues }) step
+
+capacity_most : (n : ℕ) → is_capacity n ≡ true → n ≤ 4096
+capacity_most n h = let high = (both (nat_le 1 n) (nat_le n 4096) h).1 in grind (arith, nat_tests)
+
+within_limits : (s : State) → IsSound s → Within s → IsWithinLimits s
+within_limits s sound within = record {
+  keys = within.keys;
+  contexts = within.contexts;
+  queues = within.queues.few;
+  waiting = λ number queue there.
+      (within.queues.wait number queue there, capacity_most queue.capacity (sound.orderly.queues number queue there).capacity);
+}
+
+legal_within : (start end : State) (events : List Event) → IsSound start → Within start → IsLegal start events end
+    → IsWithinLimits end
+unfolding IsLegal
+legal_within start end [] sound within legal = subst IsWithinLimits legal (within_limits start sound within)
+legal_within start end (event ∷ events) sound within legal =
+    legal_within legal.0 end events (step_sound start legal.0 event sound legal.1)
+    (step_within start legal.0 event sound within legal.1) legal.2
+
+pub stays_within : (start : State) → IsSound start → IsWithinLimits start → StaysWithinLimits start
+stays_within start sound limits events end legal =
+    legal_within start end events sound (record {
+      keys = limits.keys;
+      contexts = limits.contexts;
+      queues = record { few = limits.queues; wait = λ number queue there. (limits.waiting number queue there).0 };
+    }) legal
+
+pub empty_within : (n : ℕ) → IsWithinLimits (starting_at n)
+empty_within n = record {
+  keys = λ k key there. absurd (none-some key there);
+  contexts = λ client. omega arith;
+  queues = omega arith;
+  waiting = λ number queue there. absurd (none-some queue there);
+}

@@ -1,0 +1,20 @@
+-- What is left in a store when all clients have left: keyrings(7), "Anchoring keys"; profile, leaving.
+use Rattle.std.specs.Prelude.{◌≡◌, ℕ, List, []}
+use Rattle.krs_types.specs.declared.event.Event.{Event}
+use Rattle.krs_model.specs.State.{State}
+use Rattle.krs_model.specs.History.{IsLegal}
+use Rattle.krs_model.specs.Belonging.{HasNothing}
+
+-- nothing is kept: what remains are the numbers that come next, and the clock
+pub record IsEmpty (s : State) : Type 0 where
+  pub keys : s.keys ≡ []
+  pub contexts : s.contexts ≡ []
+  pub processes : s.processes ≡ []
+  pub uids : s.uids ≡ []
+  pub queues : s.queues ≡ []
+  pub watches : s.watches ≡ []
+
+-- in each history from this state on, once no client has a context or a queue, nothing is kept
+abbrev pub AreEmptiedInTheEnd : State → Type 0
+AreEmptiedInTheEnd start =
+    (events : List Event) (end : State) → IsLegal start events end → ((client : ℕ) → HasNothing client end) → IsEmpty end

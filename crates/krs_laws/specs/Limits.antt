@@ -1,0 +1,30 @@
+-- What a store never holds more of: profile, limits. The form is this project's own.
+use Rattle.std.specs.Prelude.{◌≡◌, ◌≤◌, ℕ, List, Some, length}
+use Rattle.krs_types.specs.declared.event.Event.{Event}
+use Rattle.krs_model.specs.Table.{at}
+use Rattle.krs_model.specs.State.{State, Key, Queue, Content, Payload, Links}
+use Rattle.krs_model.specs.Notes.Waiting.{total_room}
+use Rattle.krs_model.specs.Asks.Hello.{context_count}
+use Rattle.krs_model.specs.History.{IsLegal}
+
+-- a payload has at most 32767 bytes, and a keyring links at most 65535 keys: keyrings(7), "Key types"; profile, full
+-- keyrings
+abbrev pub IsShort : Content → Type 0
+IsShort (Payload bytes) = length bytes ≤ 32767
+IsShort (Links serials) = length serials ≤ 65535
+
+-- what a store is within
+pub record IsWithinLimits (s : State) : Type 0 where
+  pub keys : (serial : ℕ) (key : Key) → at s.keys serial ≡ Some key → IsShort key.content
+  -- a client has at most 64 contexts: profile, contexts per client
+  pub contexts : (client : ℕ) → context_count client s.contexts ≤ 64
+  -- 256 queues are open at most: profile, queue numbers
+  pub queues : length s.queues ≤ 256
+  -- and each holds at most as many records as it was asked for with, and none more than 4096; losses take no room:
+  -- profile, exact rings; profile, loss records take no room
+  pub waiting : (number : ℕ) (queue : Queue) → at s.queues number ≡ Some queue
+      → (total_room queue.waiting ≤ queue.capacity) × (queue.capacity ≤ 4096)
+
+-- in each history from this state on the store is within them
+abbrev pub StaysWithinLimits : State → Type 0
+StaysWithinLimits start = (events : List Event) (end : State) → IsLegal start events end → IsWithinLimits end

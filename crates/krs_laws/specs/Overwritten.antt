@@ -1,0 +1,23 @@
+-- What UPDATE overwrote: keyctl(2), KEYCTL_UPDATE. The form is that of krs_model, specs/Secrecy.antt. That law begins
+-- at a state that no longer has the payload of a key that is gone, so there it says no more than that a state and what
+-- is asked determine the replies; this one begins at a state that still has it.
+use Rattle.std.specs.Prelude.{ℕ, List}
+use Rattle.krs_types.specs.declared.ask.Op.TheVariants.{Update}
+use Rattle.krs_types.specs.declared.event.Event.{Event}
+use Rattle.krs_model.specs.State.{State}
+use Rattle.krs_model.specs.Sound.{IsSound}
+use Rattle.krs_model.specs.Step.{Step}
+use Rattle.krs_model.specs.Revocation.{IsServed}
+use Rattle.krs_model.specs.Hiding.{Hiding, blind}
+use Rattle.krs_model.specs.Secrecy.{HidesOnly}
+
+-- an accepted UPDATE of the key at the serial, with this payload
+abbrev pub Updates : State → Event → List ℕ → ℕ → Type 0
+Updates s event payload serial = IsServed s event (λ id. Update id payload) serial
+
+-- An accepted UPDATE leads to one store with one reply, whatever the payload was that it overwrote: so nobody is told
+-- of that one any more, by whatever comes after
+abbrev pub UpdatesForget : Type 0
+UpdatesForget =
+    (hide : Hiding) (old new : State) (event : Event) (payload : List ℕ) (serial : ℕ) → IsSound old
+    → HidesOnly serial hide → Updates old event payload serial → Step old event new → Step (blind hide old) event new

@@ -1,0 +1,17 @@
+//! Laws of histories of a store, in the words of krs_model. The functions here have no body to speak of: their
+//! contracts are the laws.
+#![tactic(auto)]
+
+mod emptied;
+mod expired;
+mod integrity;
+mod limits;
+mod noting;
+mod overwritten;
+
+pub use emptied::nothing_is_left_when_all_have_left;
+pub use expired::expired_keys_stay_unread;
+pub use integrity::each_change_is_by_right;
+pub use limits::limits_hold_in_every_history;
+pub use noting::{queues_are_their_owners, watches_are_set_by_right};
+pub use overwritten::updates_forget_what_they_overwrite;

@@ -1,0 +1,17 @@
+-- What an acceptor over a socket shows: its counts; and which of its failures pass.
+use Rattle.std.specs.Prelude.{ℕ, ℤ, pos, negsuc, Bool, false, Option, None, Some, ◌==◌, ◌||◌}
+use Rattle.krs_listen.specs.declared.acceptor.SocketAcceptor.{SocketAcceptor}
+
+-- how many connections it accepted, and how many accepts failed
+abbrev pub accepted_by : {R F : Type 0} → SocketAcceptor R F → ℕ
+accepted_by a = a.accepted
+
+abbrev pub failed_at : {R F : Type 0} → SocketAcceptor R F → ℕ
+failed_at a = a.failures
+
+-- the cause of a failed accept passes by itself, or with the end of a connection: EAGAIN, ENOMEM, ENFILE, EMFILE,
+-- ECONNABORTED and ENOBUFS. accept(2), "ERRORS"; asm-generic/errno.h
+abbrev pub is_passing : Option ℤ → Bool
+is_passing None = false
+is_passing (Some (negsuc n)) = false
+is_passing (Some (pos n)) = n == 11 || n == 12 || n == 23 || n == 24 || n == 103 || n == 105

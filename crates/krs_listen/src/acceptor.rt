@@ -1,0 +1,162 @@
+ghost use Rattle.std.specs.Prelude.{◌≡◌, ◌<◌, ◌+◌, ◌↔◌, IfSome, IfNone, IsTrue, if◌then◌else◌};
+ghost use Rattle.std.specs.Duration.{as_nanos};
+ghost use Rattle.std.specs.IoError.{raw_os_error};
+ghost use Rattle.krs_listen.specs.Accepting.{accepted_by, failed_at, is_passing};
+
+use crate::ends::{ends_of, shared};
+use crate::{SocketReader, SocketWriter};
+use std::alloc::Global;
+use std::io;
+use std::os::unix::net::{UnixListener, UnixStream};
+use std::sync::Wait;
+use std::time::{Clock, Duration};
+
+/// What connections hold while they are served.
+pub trait AwaitsEnd<R> {
+    /// Waits until a connection has ended, but no longer than that. The answer is whether one is still served.
+    fn await_end(&self, rt: &R, longest: Duration) -> bool;
+}
+
+/// How the accepting of connections ended.
+#[derive(Clone, Copy, Debug, PartialEq, Eq)]
+pub enum Accepted {
+    /// As many as were asked for were accepted.
+    All,
+    /// An accept failed.
+    Failed,
+}
+
+/// What an acceptor counted.
+#[derive(Clone, Copy, Debug, PartialEq, Eq)]
+pub struct Accepts {
+    pub accepted: u64,
+    pub failures: u64,
+}
+
+/// How many milliseconds an accept that failed for a cause that passes waits for the end of a connection.
+const PAUSE: u64 = 100;
+
+/// How often such an accept is tried while no connection is served, whose end could help it: for ten seconds.
+const TRIES: u32 = 100;
+
+/// Whether an accept failed for a cause that passes: a lack of descriptors or of memory, of this process or of the
+/// system's, or a client that is gone. accept(2), "ERRORS".
+fn passes(error: &io::Error) -> bool
+    ensures { result ≡ is_passing (raw_os_error error.now) }
+{
+    matches!(error.raw_os_error(), Some(11 | 12 | 23 | 24 | 103 | 105))
+}
+
+/// Whether an accept that failed so is made again, before which so many in a row failed while no connection was served.
+fn is_tried_again(error: &io::Error, idle: u32) -> bool
+    ensures { IsTrue result ↔ (IsTrue (is_passing (raw_os_error error.now)) × (idle < 100)) }
+{
+    passes(error) && idle < TRIES
+}
+
+/// How many failed in a row while no connection was served, once another has failed.
+fn idle_after(idle: u32, is_serving: bool) -> u32
+    requires { idle < u32.MAX }
+    ensures { result ≡ (if is_serving then 0 else idle + 1) }
+{
+    if is_serving { 0 } else { idle + 1 }
+}
+
+/// How long it waits before it is made again, unless a connection ends.
+fn pause() -> Duration
+    ensures { as_nanos result ≡ 100_000_000 }
+{
+    Duration::from_millis(PAUSE)
+}
+
+/// Over a socket that listens, until it is dropped. An accept that fails for a cause that passes is tried again when a
+/// connection has ended, or after a while, as long as any connection is served and for some seconds more.
+#[derive(Drop)]
+pub struct SocketAcceptor<'a, R, F> {
+    rt: &'a R,
+    alloc: Global,
+    listener: UnixListener,
+    free: &'a F,
+    accepted: u64,
+    failures: u64,
+}
+
+impl<'a, R: Wait + Clock, F: AwaitsEnd<R>> SocketAcceptor<'a, R, F> {
+    pub fn new(
+        rt: &'a R,
+        alloc: Global,
+        listener: UnixListener,
+        free: &'a F,
+    ) -> SocketAcceptor<'a, R, F>
+        ensures accepted { accepted_by result ≡ 0 }
+        ensures failures { failed_at result ≡ 0 }
+    {
+        SocketAcceptor {
+            rt,
+            alloc,
+            listener,
+            free,
+            accepted: 0,
+            failures: 0,
+        }
+    }
+
+    /// The ends of the next connection, or none where an accept failed for good.
+    pub fn accept(&mut self) -> Option<(SocketReader, SocketWriter)>
+        requires accepted { accepted_by self.old < u64.MAX }
+        requires failures { failed_at self.old < u64.MAX }
+        ensures one { IfSome result (λ _. accepted_by self.new ≡ accepted_by self.old + 1) }
+        ensures good { IfSome result (λ _. failed_at self.new ≡ failed_at self.old) }
+        ensures none { IfNone result (accepted_by self.new ≡ accepted_by self.old) }
+        ensures failed { IfNone result (failed_at self.new ≡ failed_at self.old + 1) }
+    {
+        let ends = self.next();
+        if ends.is_some() {
+            self.accepted += 1;
+        } else {
+            self.failures += 1;
+        }
+        ends
+    }
+
+    /// Closes the socket, so that whoever connects is refused, and gives what was counted.
+    pub fn close(self) -> Accepts
+        ensures accepted { result.accepted ≡ accepted_by self.entry }
+        ensures failures { result.failures ≡ failed_at self.entry }
+    {
+        Accepts {
+            accepted: self.accepted,
+            failures: self.failures,
+        }
+    }
+
+    /// The next connection, waited for through failures that pass.
+    fn next(&self) -> Option<(SocketReader, SocketWriter)> {
+        let mut idle = 0;
+        for _ in self.rt.forever() {
+            match self.listener.accept() {
+                Ok((stream, _)) => return self.in_two(stream),
+                Err(error) if is_tried_again(&error, idle) => {
+                    idle = idle_after(idle, self.free.await_end(self.rt, pause()));
+                }
+                Err(_) => return None,
+            }
+        }
+        unreachable!()
+    }
+
+    /// The ends of a stream. Where there is no memory for what they share, it waits until others have given some back.
+    fn in_two(&self, stream: UnixStream) -> Option<(SocketReader, SocketWriter)> {
+        let mut stream = stream;
+        for _ in self.rt.forever() {
+            match shared(self.alloc, stream) {
+                Ok(whole) => return ends_of(whole).ok(),
+                Err(refused) => {
+                    stream = refused;
+                    self.free.await_end(self.rt, pause());
+                }
+            }
+        }
+        unreachable!()
+    }
+}

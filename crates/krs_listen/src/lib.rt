@@ -1,0 +1,22 @@
+//! What a daemon has before it serves: its words, what it says, its clock, the socket on which it listens, and what is
+//! free for connections.
+#![tactic(auto)]
+
+mod acceptor;
+mod choice;
+mod clock;
+mod ends;
+mod free;
+mod free_list;
+mod options;
+mod saying;
+mod timeline;
+
+pub use acceptor::{Accepted, Accepts, AwaitsEnd, SocketAcceptor};
+pub use choice::{Choice, choose};
+pub use clock::{DaemonClock, Latest};
+pub use ends::{SocketReader, SocketWriter};
+pub use free::FreeSeats;
+pub use options::Options;
+pub use saying::{Lines, NOT_ACCEPTED, NOT_BOUND, OUT_OF_MEMORY, USAGE, Voice};
+pub use timeline::Timeline;

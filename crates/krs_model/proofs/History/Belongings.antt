@@ -1,0 +1,363 @@
+-- Whose contexts are, and what is left of a client that has left.
+use Rattle.std.proofs.Common.{◌≡◌, ◌≢◌, ℕ, ◌==◌, ◌++◌, List, [], ◌∷◌, Option, Some, None, Bool, true, false, cond, not}
+use Rattle.std.proofs.Common.{filter, Result, Ok, Err, refl, ap, sym, subst, ◌∙◌, ◌⊎◌, inl, inr, ⊎_elim, arith, append_assoc}
+use Rattle.std.specs.Option.{option_map}
+use Rattle.std.specs.Prelude.{IsOk, is_ok}
+use Rattle.std.specs.Ordering.{nat_cmp}
+use Rattle.std.specs.BTreeMap.{is_at}
+use Rattle.std.proofs.lemmas.Bool.{true≢false}
+use Rattle.std.proofs.lemmas.Bool.Decides.{nat_tests}
+use Rattle.std.proofs.lemmas.List.{append-nil}
+use Rattle.std.proofs.lemmas.Option.{none-some, same_Some}
+use Rattle.krs_types.specs.declared.errno.Errno.{Errno}
+use Rattle.krs_types.specs.declared.errno.Errno.TheVariants.{ESRCH}
+use Rattle.krs_types.specs.declared.caller.Caller.{Caller}
+use Rattle.krs_types.specs.declared.context.Context.{Context}
+use Rattle.krs_types.specs.declared.context.UidRings.{UidRings}
+use Rattle.krs_types.specs.declared.note.Record.{Record}
+use Rattle.krs_types.specs.declared.ask.Answer.{Answer}
+use Rattle.krs_types.specs.declared.ask.Answer.TheVariants.{Nothing}
+use Rattle.krs_types.specs.declared.ask.Op.{Op}
+use Rattle.krs_types.specs.declared.ask.Op.TheVariants.{Hello, Leave}
+use Rattle.krs_types.specs.declared.event.Event.{Event}
+use Rattle.krs_types.specs.Growth.{grows}
+use Rattle.krs_types.specs.Refusing.{or_refuse}
+use Rattle.krs_model.specs.Table.{Table, at, put, alter, without, map_values, IsDistinct}
+use Rattle.krs_model.specs.State.{State, Queue, starting_at, raised}
+use Rattle.krs_model.specs.Sound.{IsSound}
+use Rattle.krs_model.specs.Lookup.{context_of, if_own}
+use Rattle.krs_model.specs.Step.{Step, Serves, Ends, LacksMemory, outcome_of, posts_by}
+use Rattle.krs_model.specs.History.{IsLegal}
+use Rattle.krs_model.specs.Notes.Posting.{after_note, after_notes, records_for}
+use Rattle.krs_model.specs.Asks.Entering.{without_thread, execed}
+use Rattle.krs_model.specs.Asks.Invalidating.{context_without}
+use Rattle.krs_model.specs.Asks.Leaving.{left, exited}
+use Rattle.krs_model.specs.Belonging.{HasNothing, Greets, HasStayed, HasGreeted}
+use Rattle.krs_model.proofs.Tables.Changes.{at_map}
+use Rattle.krs_model.proofs.Tables.Distinct.{alter_distinct, at_filter_some}
+use Rattle.krs_model.proofs.Tables.Entries.{rises_distinct, without_was}
+use Rattle.krs_model.proofs.Lookups.Serials.{own_there}
+use Rattle.krs_model.proofs.Reach.Levels.{same_is}
+use Rattle.krs_model.proofs.Asks.Later.{same_ok, same_state, bind_ok}
+use Rattle.krs_model.proofs.Asks.Houses.{Houses, Same, Begins, Enters, Threads, Alters, Rings, Execs, Detaches}
+use Rattle.krs_model.proofs.Asks.Houses.{Exits, Departs, entering, EntersAs, Named, Forked, StaysWhose}
+use Rattle.krs_model.proofs.Asks.Laws.{law_of}
+use Rattle.krs_model.proofs.Notes.Called.{served_at}
+use Rattle.krs_model.proofs.Sound.Changes.{IsChanged, at_change, IsPut, at_put}
+use Rattle.krs_model.proofs.Sound.Steps.{start_sound, step_sound}
+use Rattle.krs_model.specs.Revocation.{Reads}
+use Rattle.krs_model.specs.Confidentiality.{KeepsPrivate}
+use Rattle.krs_model.proofs.Isolation.Histories.{private_legal, keeps_from_nothing}
+
+-- ---- what is left of a client
+
+-- what a filter leaves at a number passes it, under some number
+passed :
+    {X : Type 0} (p : ℕ × X → Bool) (es : Table X) (n : ℕ) (v : X) → at (filter p es) n ≡ Some v
+    → (k : ℕ) × (p (k, v) ≡ true)
+passed p [] n v there = absurd (none-some v there)
+passed {X} p (e ∷ es) n v there =
+    elim (p e) as (λ b. p e ≡ b → at (cond b (e ∷ filter p es) (filter p es)) n ≡ Some v → (k : ℕ) × (p (k, v) ≡ true)) [
+      | true ↦ λ t h. elim (is_at (nat_cmp n) e.0) as
+          (λ d. cond d (Some e.1) (at (filter p es) n) ≡ Some v → (k : ℕ) × (p (k, v) ≡ true)) [
+            | true ↦ λ i. (e.0, subst (λ (x : X). p (e.0, x) ≡ true) (same_Some e.1 v i) t)
+            | false ↦ λ i. passed p es n v i
+          ] h
+      | false ↦ λ t h. passed p es n v h
+    ] refl there
+
+apart : (k client : ℕ) → not (k == client) ≡ true → k ≢ client
+apart k client h e = true≢false (sym h ∙ ap not (same_is k client e))
+
+left_nothing : (s : State) (client : ℕ) → HasNothing client (left s client)
+unfolding left
+left_nothing s client = record {
+  contexts = λ n c there. apart c.client client (passed (λ e. not (e.1.client == client)) s.contexts n c there).1;
+  queues = λ n q there. apart q.client client (passed (λ e. not (e.1.client == client)) s.queues n q there).1;
+}
+
+notes_client : (notes : List Record) (queue : Queue) → (after_notes notes queue).client ≡ queue.client
+notes_client [] queue = refl
+notes_client (note ∷ notes) queue = notes_client notes (after_note note queue)
+
+noted_client :
+    (client : ℕ) (notes : List Record) (o : Option Queue) (queue : Queue)
+    → option_map (after_notes notes) o ≡ Some queue → ((q : Queue) → o ≡ Some q → q.client ≢ client)
+    → queue.client ≢ client
+noted_client client notes None queue h unlike = absurd (none-some queue h)
+noted_client client notes (Some q) queue h unlike = λ e. unlike q refl
+    (sym (notes_client notes q) ∙ (ap (λ (z : Queue). z.client) (same_Some (after_notes notes q) queue h) ∙ e))
+
+-- an accepted ask leaves the contexts as it made them
+served_contexts :
+    (s new : State) (client context : ℕ) (op : Op) (answer : Answer) (serves : Serves s client context op answer new)
+    → new.contexts ≡ serves.mid.contexts
+served_contexts s new client context op answer serves =
+    ap (λ (t : State). t.contexts) serves.posted ∙ ap (λ (t : State). t.contexts) serves.sweep.rest
+
+served_leaves :
+    (s new : State) (client context : ℕ) (op : Op) (answer : Answer) → op ≡ Leave
+    → Serves s client context op answer new → HasNothing client new
+served_leaves s new client context op answer is serves =
+    let meant : outcome_of s client context Leave ≡ Ok (serves.mid, answer) =
+    subst (λ (o : Op). outcome_of s client context o ≡ Ok (serves.mid, answer)) is serves.meant in
+    let same : left s client ≡ serves.mid =
+    same_state (Ok (left s client, Nothing)) (left s client) serves.mid Nothing answer refl meant in
+    let none = left_nothing s client in
+    let all : new.contexts ≡ (left s client).contexts =
+    served_contexts s new client context op answer serves ∙ ap (λ (t : State). t.contexts) (sym same) in
+    record {
+      contexts = λ n c there. none.contexts n c (sym (ap (λ (es : Table Context). at es n) all) ∙ there);
+      queues = λ n queue there. noted_client client
+          (records_for n (posts_by s client context op answer new.keys)) (at serves.mid.queues n) queue
+          (sym (served_at serves n) ∙ there)
+          (λ q h. none.queues n q (ap (λ (t : State). at t.queues n) same ∙ h));
+    }
+
+refused_leave : (s : State) (client context : ℕ) (e : Errno) → outcome_of s client context Leave ≡ Err e → ⊥
+refused_leave s client context e h = true≢false (ap is_ok h)
+
+-- LEAVE is never refused, and takes no memory
+never_refused :
+    (s : State) (client context : ℕ) (op : Op) (e : Errno) → op ≡ Leave
+    → (outcome_of s client context op ≡ Err e) ⊎ LacksMemory op e (outcome_of s client context op) → ⊥
+never_refused s client context op e is refused =
+    ⊎_elim (λ unlike. refused_leave s client context e (subst (λ (o : Op). outcome_of s client context o ≡ Err e) is unlike))
+    (λ lacks. true≢false (sym lacks.1 ∙ ap grows is)) refused
+
+ended_leaves :
+    (s new : State) (client context : ℕ) (op : Op) (reply : Result Answer Errno) → op ≡ Leave
+    → Ends s client context op reply new → HasNothing client new
+ended_leaves s new client context op (Ok answer) is serves = served_leaves s new client context op answer is serves
+ended_leaves s new client context op (Err e) is ends = absurd (never_refused s client context op e is ends.0)
+
+pub step_leaves :
+    (old new : State) (event : Event) → Step old event new → event.ask.op ≡ Leave → HasNothing event.lane new
+unfolding Step
+step_leaves old new event step is =
+    ended_leaves (raised old event.moment) new event.lane event.ask.context event.ask.op event.reply is step
+
+-- ---- whose contexts are
+
+-- a context of the same client and caller was there
+abbrev WasThere : Table Context → Context → Type 0
+WasThere old c =
+    (k : ℕ) × (was : Context) × (at old k ≡ Some was) × (c.client ≡ was.client) × (c.caller ≡ was.caller)
+
+-- its client has just named its caller, or one of the same client and caller was there
+abbrev Whence : Table Context → ℕ → Op → Context → Type 0
+Whence old client op c = ((c.client ≡ client) × (op ≡ Hello c.caller)) ⊎ WasThere old c
+
+own_is_client : (client : ℕ) (found c : Context) → if_own client found ≡ Ok c → c.client ≡ client
+own_is_client client found c h =
+    elim (found.client == client) as
+    (λ b. (found.client == client) ≡ b → cond b (Ok found) (Err ESRCH) ≡ Ok c → c.client ≡ client) [
+      | true ↦ λ t i.
+          let same : found ≡ c = same_ok (Ok found) found c refl i in
+          let is : found.client ≡ client = grind (arith, nat_tests) in
+          ap (λ (d : Context). d.client) (sym same) ∙ is
+      | false ↦ λ t i. cc
+    ] refl h
+
+own_client :
+    (s : State) (client number : ℕ) (c : Context) → context_of s client number ≡ Ok c → c.client ≡ client
+unfolding context_of
+own_client s client number c h =
+    let there = bind_ok (or_refuse ESRCH (at s.contexts number)) (if_own client) c h in
+    own_is_client client there.0 c there.2
+
+changed_was :
+    (f : Context → Context) (o : Option Context) (c : Context) → StaysWhose f → option_map f o ≡ Some c
+    → (was : Context) × (o ≡ Some was) × (c.client ≡ was.client) × (c.caller ≡ was.caller)
+changed_was f None c stays h = absurd (none-some c h)
+changed_was f (Some v) c stays h =
+    let same : f v ≡ c = same_Some (f v) c h in (
+      v,
+      refl,
+      ap (λ (d : Context). d.client) (sym same) ∙ stays.client v,
+      ap (λ (d : Context). d.caller) (sym same) ∙ stays.caller v,
+    )
+
+alter_was :
+    (es : Table Context) (n : ℕ) (f : Context → Context) → StaysWhose f → (m : ℕ) (c : Context)
+    → at (alter es n f) m ≡ Some c → WasThere es c
+alter_was es n f stays m c there =
+    ⊎_elim
+    (λ (r : IsChanged es n f m).
+    let w = changed_was f (at es m) c stays (sym r.1 ∙ there) in (m, w.0, w.1, w.2, w.3))
+    (λ same. (m, c, sym same ∙ there, refl, refl)) (at_change es n m f)
+
+put_is :
+    (es : Table Context) (n m : ℕ) (new c : Context) → at (put es n new) m ≡ Some c
+    → (new ≡ c) ⊎ (at es m ≡ Some c)
+put_is es n m new c there =
+    ⊎_elim (λ (r : IsPut es n new m). inl (same_Some new c (sym r.1 ∙ there))) (λ same. inr (sym same ∙ there))
+    (at_put es n m new)
+
+named_whence :
+    (s : State) (client : ℕ) (op : Op) (caller : Caller) (session : Option ℕ) (m : ℕ) (c : Context)
+    → op ≡ Hello caller → at (put s.contexts s.next_context (entering s client caller session)) m ≡ Some c
+    → Whence s.contexts client op c
+named_whence s client op caller session m c is there =
+    ⊎_elim
+    (λ (first : entering s client caller session ≡ c). inl (
+      ap (λ (d : Context). d.client) (sym first),
+      is ∙ ap (λ (d : Context). Hello d.caller) first,
+    ))
+    (λ was. inr (m, c, was, refl, refl))
+    (put_is s.contexts s.next_context m (entering s client caller session) c there)
+
+enters_whence :
+    (s : State) (client context : ℕ) (op : Op) (caller : Caller) (session : Option ℕ) (m : ℕ) (c : Context)
+    → EntersAs s client context op caller session
+    → at (put s.contexts s.next_context (entering s client caller session)) m ≡ Some c
+    → Whence s.contexts client op c
+enters_whence s client context op _ _ m c (Named caller rings is known) there =
+    named_whence s client op caller rings.session m c is there
+enters_whence s client context op _ _ m c (Forked d is own) there =
+    ⊎_elim
+    (λ (first : entering s client d.caller d.session ≡ c). inr (
+      context,
+      d,
+      own_there s client context d own,
+      ap (λ (z : Context). z.client) (sym first) ∙ sym (own_client s client context d own),
+      ap (λ (z : Context). z.caller) (sym first),
+    ))
+    (λ was. inr (m, c, was, refl, refl))
+    (put_is s.contexts s.next_context m (entering s client d.caller d.session) c there)
+
+houses_whence :
+    (s : State) (client context : ℕ) (op : Op) (contexts : Table Context) (processes : Table (Option ℕ))
+    (uids : Table UidRings) → IsDistinct s.contexts → Houses s client context op contexts processes uids
+    → (m : ℕ) (c : Context) → at contexts m ≡ Some c → Whence s.contexts client op c
+unfolding left
+houses_whence s client context op _ _ _ distinct Same m c there = inr (m, c, there, refl, refl)
+houses_whence s client context op _ _ _ distinct (Begins caller session rings is none) m c there =
+    named_whence s client op caller session m c is there
+houses_whence s client context op _ _ _ distinct (Enters caller session who) m c there =
+    enters_whence s client context op caller session m c who there
+houses_whence s client context op _ _ _ distinct (Threads d is own) m c there =
+    ⊎_elim
+    (λ (first : without_thread d ≡ c). inr (
+      context,
+      d,
+      own_there s client context d own,
+      ap (λ (z : Context). z.client) (sym first),
+      ap (λ (z : Context). z.caller) (sym first),
+    ))
+    (λ was. inr (m, c, was, refl, refl)) (put_is s.contexts s.next_context m (without_thread d) c there)
+houses_whence s client context op _ _ _ distinct (Alters d f own stays) m c there =
+    inr (alter_was s.contexts context f stays m c there)
+houses_whence s client context op _ _ _ distinct (Rings d n own) m c there = inr (m, c, there, refl, refl)
+houses_whence s client context op _ _ _ distinct (Execs d is own) m c there =
+    let one = alter s.contexts context without_thread in
+    inr (alter_was s.contexts context without_thread
+    (record { client = λ v. refl; process = λ v. refl; caller = λ v. refl }) m c
+    (at_filter_some _ one m c (alter_distinct s.contexts context without_thread distinct) there))
+houses_whence s client context op _ _ _ distinct (Detaches d id gone is own found) m c there =
+    let f = context_without gone.0 in
+    let w = changed_was f (at s.contexts m) c (record { client = λ v. refl; process = λ v. refl; caller = λ v. refl })
+    (sym (at_map f s.contexts m) ∙ there) in
+    inr (m, w.0, w.1, w.2, w.3)
+houses_whence s client context op _ _ _ distinct (Exits d is own) m c there =
+    inr (m, c, without_was s.contexts context m c distinct there, refl, refl)
+houses_whence s client context op _ _ _ distinct (Departs is) m c there =
+    inr (m, c, at_filter_some (λ e. not (e.1.client == client)) s.contexts m c distinct there, refl, refl)
+
+-- the same, where the ask was accepted
+abbrev Comes : State → ℕ → Op → Result Answer Errno → Context → Type 0
+Comes s client op reply c =
+    ((c.client ≡ client) × (op ≡ Hello c.caller) × IsOk reply) ⊎ WasThere s.contexts c
+
+ended_comes :
+    (s new : State) (client context : ℕ) (op : Op) (reply : Result Answer Errno) → IsDistinct s.contexts
+    → Ends s client context op reply new → (m : ℕ) (c : Context) → at new.contexts m ≡ Some c
+    → Comes s client op reply c
+ended_comes s new client context op (Ok answer) distinct serves m c there =
+    let same = served_contexts s new client context op answer serves in
+    let mid : at serves.mid.contexts m ≡ Some c = sym (ap (λ (es : Table Context). at es m) same) ∙ there in
+    let houses = ((law_of s client context op).fares.meets serves.mid answer serves.meant).houses in
+    ⊎_elim (λ named. inl (named.0, named.1, refl)) (λ was. inr was)
+    (houses_whence s client context op serves.mid.contexts serves.mid.processes serves.mid.uids distinct houses m c mid)
+ended_comes s new client context op (Err e) distinct ends m c there =
+    inr (m, c, ap (λ (t : State). at t.contexts m) (sym ends.1) ∙ there, refl, refl)
+
+step_comes :
+    (old new : State) (event : Event) → IsSound old → Step old event new → (m : ℕ) (c : Context)
+    → at new.contexts m ≡ Some c → Comes old event.lane event.ask.op event.reply c
+unfolding Step
+step_comes old new event sound step m c there =
+    ended_comes (raised old event.moment) new event.lane event.ask.context event.ask.op event.reply
+    (rises_distinct old.contexts sound.housed.contexts_rise) step m c there
+
+stayed_more :
+    (client : ℕ) (events : List Event) (event : Event) → HasStayed client events
+    → (event.lane ≡ client → event.ask.op ≡ Leave → ⊥) → HasStayed client (events ++ event ∷ [])
+stayed_more client [] event h unlike = (unlike, tt)
+stayed_more client (e ∷ es) event h unlike = (h.0, stayed_more client es event h.1 unlike)
+
+greeted_more :
+    (client : ℕ) (caller : Caller) (past : List Event) (event : Event) → HasGreeted client caller past
+    → (event.lane ≡ client → event.ask.op ≡ Leave → ⊥) → HasGreeted client caller (past ++ event ∷ [])
+greeted_more client caller past event g unlike = (
+  g.0,
+  g.1,
+  g.2 ++ event ∷ [],
+  ap (λ (l : List Event). l ++ event ∷ []) g.3 ∙ append_assoc g.0 (g.1 ∷ g.2) (event ∷ []),
+  g.4,
+  stayed_more client g.2 event g.5 unlike,
+)
+
+abbrev AreGreeted : State → List Event → Type 0
+AreGreeted s past =
+    (number : ℕ) (c : Context) → at s.contexts number ≡ Some c → HasGreeted c.client c.caller past
+
+greeted_on :
+    (old new : State) (past : List Event) (event : Event) → IsSound old → AreGreeted old past → Step old event new
+    → AreGreeted new (past ++ event ∷ [])
+greeted_on old new past event sound known step number c there =
+    let unlike : event.lane ≡ c.client → event.ask.op ≡ Leave → ⊥ =
+    λ by is. (step_leaves old new event step is).contexts number c there (sym by) in
+    ⊎_elim
+    (λ (named : (c.client ≡ event.lane) × (event.ask.op ≡ Hello c.caller) × IsOk event.reply).
+    (past, event, [], refl, record { by = sym named.0; asked = named.1; accepted = named.2 }, tt))
+    (λ (was : WasThere old.contexts c).
+    greeted_more c.client c.caller past event
+    (subst (λ (z : ℕ). HasGreeted z c.caller past) (sym was.3)
+    (subst (λ (z : Caller). HasGreeted was.1.client z past) (sym was.4) (known was.0 was.1 was.2))) unlike)
+    (step_comes old new event sound step number c there)
+
+legal_greeted :
+    (start end : State) (past events : List Event) → IsSound start → AreGreeted start past → IsLegal start events end
+    → AreGreeted end (past ++ events)
+unfolding IsLegal
+legal_greeted start end past [] sound known legal number c there =
+    subst (HasGreeted c.client c.caller) (sym (append-nil past))
+    (known number c (ap (λ (t : State). at t.contexts number) legal ∙ there))
+legal_greeted start end past (event ∷ events) sound known legal number c there =
+    subst (HasGreeted c.client c.caller) (append_assoc past (event ∷ []) events)
+    (legal_greeted legal.0 end (past ++ event ∷ []) events (step_sound start legal.0 event sound legal.1)
+    (greeted_on start legal.0 past event sound known legal.1) legal.2 number c there)
+
+pub contexts_greeted :
+    (n : ℕ) (events : List Event) (end : State) → IsLegal (starting_at n) events end → AreGreeted end events
+contexts_greeted n events end legal =
+    legal_greeted (starting_at n) end [] events (start_sound n) (λ k d h. absurd (none-some d h)) legal
+
+pub readers_greeted :
+    (n uid : ℕ) (before : List Event) (old : State) (last : ℕ → Bool)
+    → KeepsPrivate uid (λ k. false) (starting_at n) before old last
+    → (reading : Event) (end : State) (serial : ℕ) → last serial ≡ true → Step old reading end
+    → Reads old reading serial → (caller : Caller) × (caller.uid ≡ uid) × HasGreeted reading.lane caller before
+readers_greeted n uid before old last keeps reading end serial m step reads =
+    let who = reads.names.whose in
+    let up = raised old reading.moment in
+    let there : at old.contexts reading.ask.context ≡ Some who =
+    own_there up reading.lane reading.ask.context who reads.names.own in
+    let legal = private_legal uid (λ k. false) (starting_at n) before old last keeps in (
+      who.caller,
+      keeps_from_nothing uid n before old last keeps reading end serial m step reads,
+      subst (λ (z : ℕ). HasGreeted z who.caller before)
+          (own_client up reading.lane reading.ask.context who reads.names.own)
+          (contexts_greeted n before old legal reading.ask.context who there),
+    )

@@ -1,0 +1,48 @@
+use Rattle.std.proofs.Common.{◌≡◌, [], ap, ◌∙◌, rules}
+use Rattle.std.proofs.lemmas.List.Elements.{All-pop, All-push}
+use Rattle.krs_model.specs.State.{starting_at}
+use Rattle.krs_desk.specs.Sitting.{Sitting, IsIdleAt}
+use Rattle.krs_serve.specs.declared.connection.Sitting as beside
+use Rattle.krs_serve.proofs.connection.seated.Goals.{in-Some, in_default}
+use Rattle.krs_serve.proofs.connection.seated.Goals as goal
+
+pub sitting_of-requires-clause-own : goal.sitting_of-requires-clause-own
+sitting_of-requires-clause-own g c =
+    rw c.in-Some.is at (All-pop (IsIdleAt g.N.AtDesk.desk) _ _ c.pop.result c.pop.ensures.items c.seats.invariant.own).1
+
+pub sitting_of-requires-clause-empty : goal.sitting_of-requires-clause-empty
+sitting_of-requires-clause-empty g c =
+    rw c.in-Some.is at
+    (All-pop (λ (s : Sitting). s.opening ≡ starting_at 3) _ _ c.pop.result c.pop.ensures.items c.seats.invariant.empty).1
+
+pub seats-preserved : goal.seats-preserved
+seats-preserved g c =
+    let popped = c.pop.ensures.items in
+    let before = c.seats.invariant in
+    let whole = All-pop (λ (s : Sitting). s.part.mine ≡ []) _ _ c.pop.result popped before.unasked in
+    elim c.match-pop.branch [
+      | in-Some w ↦ record {
+        own = (All-pop (IsIdleAt g.N.AtDesk.desk) _ _ c.pop.result popped before.own).0;
+        empty = (All-pop (λ (s : Sitting). s.opening ≡ starting_at 3) _ _ c.pop.result popped before.empty).0;
+        unasked = whole.0;
+        here = before.here;
+        sat =
+            let fresh = rw w.in-Some.is at whole.1 in
+            rw (w.sittings-is, w.push_reserved.ensures.items)
+            (All-push (λ (s : beside.Sitting g.row.N.Denot g.N.AtDesk). s.seat.part.mine ≡ []) _ w.sitting_of.result before.sat
+            (ap (λ (s : Sitting). s.part.mine) w.sitting_of.ensures.seat ∙ fresh));
+        made = search rules;
+        left = search rules;
+        room = search rules;
+      }
+      | in_default w ↦ record {
+        own = (All-pop (IsIdleAt g.N.AtDesk.desk) _ _ c.pop.result popped before.own).0;
+        empty = (All-pop (λ (s : Sitting). s.opening ≡ starting_at 3) _ _ c.pop.result popped before.empty).0;
+        unasked = whole.0;
+        here = before.here;
+        sat = search rules;
+        made = search rules;
+        left = search rules;
+        room = search rules;
+      }
+    ]

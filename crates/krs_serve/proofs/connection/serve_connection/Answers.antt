@@ -1,0 +1,29 @@
+use Rattle.std.specs.Prelude.{[], ◌∷◌, ◌++◌}
+use Rattle.std.proofs.Common.{◌∙◌}
+use Rattle.krs_serve.proofs.connection.serve_connection.Goals as goal
+
+pub returns-clause-session : goal.returns-clause-session
+returns-clause-session g c = (
+  c.serve_entry-seat.result.1,
+  rw c.sitting_of.ensures.seat c.serve_entry-seat.ensures.session,
+)
+
+pub returns-clause-gains : goal.returns-clause-gains
+returns-clause-gains g c =
+    let e = c.serve_entry-seat.ensures.session in
+    let s = e.session in (
+      s.frames,
+      s.events ++ s.last ∷ [],
+      rw c.sitting_of.ensures.seat (c.a_session_is_its_asks_and_leave.ensures c.args.guest.sitting.seat
+          c.serve_entry-seat.result.0 c.args.guest.reader e.last.reader c.args.guest.writer e.last.writer c.args.clock
+          e.last.clock _ _ c.serve_entry-seat.result.1 s),
+    )
+
+-- the session leaves the store that the desk was opened with as it was
+pub sitting_of-requires-clause-empty : goal.sitting_of-requires-clause-empty
+sitting_of-requires-clause-empty g c =
+    let e = c.serve_entry-seat.ensures.session in
+    let gained = c.a_session_is_its_asks_and_leave.ensures c.args.guest.sitting.seat c.serve_entry-seat.result.0
+    c.args.guest.reader e.last.reader c.args.guest.writer e.last.writer c.args.clock e.last.clock _ _
+    c.serve_entry-seat.result.1 e.session in
+    gained.gains.opening ∙ c.args.guest.sitting.empty
