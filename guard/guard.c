@@ -20,11 +20,14 @@
 #include "listener.h"
 #include "options.h"
 #include "peer.h"
+#include "refused.h"
 
 enum {
     ACCEPTS_A_TURN = 16,
-    PAUSE = 20, /* milliseconds, before what lacked something is tried again */
-    SPARE = 4,  /* descriptors: the listening socket, and what is open for a moment */
+    PAUSE = 20,  /* milliseconds, before what lacked something is tried again */
+    ENOUGH = 16, /* places that a uid gets without a look at how many are left */
+    SPARE = 4 + REFUSED_MAX, /* descriptors: the listening socket, and what is open for a moment */
+    SIGNALS = REFUSED_MAX, FREED, LISTENER, WAITS,
 };
 
 static struct link links[CONNECTIONS_MAX];
@@ -34,11 +37,11 @@ static int64_t next_deadline = INT64_MAX;
 
 /* ---- Clients ---- */
 
-/* A free place for a client of this uid; NULL where it gets none. Places are taken in this thread alone. */
-static struct link *find_place(uint32_t uid) {
+/* A free place for a client of this uid; NULL where it gets none, and how many it has. Places are taken in this thread
+ * alone. The last ones aren't for who has many. */
+static struct link *find_place(uint32_t uid, unsigned *has) {
     struct link *found = NULL;
     unsigned same = 0;
-    if (uid == unknown_uid) return NULL; /* strangers share it */
     for (unsigned i = 0; i < options.connections; i++) {
         uint32_t owner;
         if (!find_owner(&links[i], &owner))
@@ -46,14 +49,30 @@ static struct link *find_place(uint32_t uid) {
         else
             same += owner == uid;
     }
-    return same < options.per_uid || is_trusted_uid(uid) ? found : NULL;
+    bool may = same < options.per_uid && (same < ENOUGH || same < options.connections - used);
+    *has = same;
+    return may || is_trusted_uid(uid) ? found : NULL;
+}
+
+/* False for those who have no number here, and share one. */
+static bool is_somebody(int client, struct ucred *peer) {
+    if (!find_peer(client, peer)) return false;
+    if (peer->uid != unknown_uid) return true;
+    tell(OF_CLIENTS, "refused: a uid without a number here\n");
+    return false;
 }
 
 static void begin_client(int client) {
     struct ucred peer;
-    struct link *place = find_peer(client, &peer) ? find_place(peer.uid) : NULL;
-    if (!place) {
+    unsigned has;
+    if (!is_somebody(client, &peer)) {
         close(client);
+        return;
+    }
+    struct link *place = find_place(peer.uid, &has);
+    if (!place) {
+        tell(OF_CLIENTS, "refused: uid %u (pid %d) has %u of %u places\n", peer.uid, peer.pid, has, options.connections);
+        refuse_client(client, peer.uid);
         return;
     }
     int64_t deadline = INT64_MAX;
@@ -61,6 +80,7 @@ static void begin_client(int client) {
     if (deadline < next_deadline) next_deadline = deadline;
     used++;
     begin_link(place, client, &peer, deadline);
+    if (used == options.connections) tell(OF_CLIENTS, "all %u places are taken: who comes waits\n", used);
 }
 
 /* False where descriptors or memory were lacking: again after PAUSE. */
@@ -92,24 +112,27 @@ static void count_freed(void) {
 
 /* ---- The loop ---- */
 
-static int time_to_wait(void) {
-    if (next_deadline == INT64_MAX) return -1;
-    int64_t left = next_deadline - milliseconds();
+static int time_to_wait(int64_t next) {
+    if (next == INT64_MAX) return -1;
+    int64_t left = next - milliseconds();
     return left < 0 ? 0 : left < 1000 ? (int)left + 1 : 1000;
 }
 
 /* Until a signal comes. Where all places are taken the next client waits. */
 static void run(void) {
+    struct pollfd waited[WAITS] = { [SIGNALS] = { .fd = signals, .events = POLLIN },
+                                    [FREED] = { .fd = freed, .events = POLLIN } };
     bool lacks = false;
     for (;;) {
         bool may_accept = used < options.connections && !lacks;
-        struct pollfd waited[] = { { .fd = signals, .events = POLLIN },
-                                   { .fd = freed, .events = POLLIN },
-                                   { .fd = may_accept ? listener : -1, .events = POLLIN } };
-        poll(waited, 3, lacks ? PAUSE : time_to_wait());
-        if (waited[0].revents) return;
-        if (waited[1].revents) count_freed();
+        waited[LISTENER] = (struct pollfd){ .fd = may_accept ? listener : -1, .events = POLLIN };
+        int64_t next = put_refused(waited);
+        if (next_deadline < next) next = next_deadline;
+        int ready = poll(waited, WAITS, lacks ? PAUSE : time_to_wait(next));
+        if (ready > 0 && waited[SIGNALS].revents) return;
+        if (ready > 0 && waited[FREED].revents) count_freed();
         end_silent(milliseconds());
+        end_refused(waited, milliseconds());
         lacks = !accept_clients();
     }
 }
@@ -161,7 +184,10 @@ int main(int count, char **words) {
     setvbuf(stdout, line, _IOLBF, sizeof line);
     if (!fill_standard_descriptors()) exit(NO_SOCKET);
     read_options(count, words);
-    if (!options.listen_path && !getenv("LISTEN_FDS")) fail_usage();
+    if (!options.listen_path && !getenv("LISTEN_FDS")) {
+        fputs("keyretain-guard: --listen PATH is missing, and systemd passes no socket\n", stderr);
+        fail_usage();
+    }
     begin();
     run();
     if (options.listen_path) unlink(options.listen_path);

@@ -12,7 +12,10 @@
 #include "options.h"
 #include "peer.h"
 
-enum { STACK_SIZE = 262144 }; /* of a thread; a few pages of it are used */
+enum {
+    STACK_SIZE = 262144, /* of a thread; a few pages of it are used */
+    FIRST_REPLY = 5000,  /* milliseconds, after which it is told that a daemon hasn't answered */
+};
 
 int freed = -1;
 static sem_t begun; /* once by each thread */
@@ -34,6 +37,11 @@ static size_t screen_ask(struct link *link, uint8_t *bytes, size_t length, struc
     size_t passed = krs_screen_c_ask(&link->screen, &peer, groups, count, bytes, length);
     return_groups();
     return passed;
+}
+
+static void tell_refusal(const struct ucred *peer, const struct screen_claim *claim) {
+    tell(OF_CLIENTS, "refused: uid %u, gid %u (pid %d) named uid %u, gid %u, %u groups\n", peer->uid, peer->gid,
+         peer->pid, claim->uid, claim->gid, claim->count);
 }
 
 static void note_greeting(struct link *link) {
@@ -66,7 +74,7 @@ static void screen_replies(struct link *link) {
     }
     if (!link->screen.reply_fault) return;
     replies->is_over = true;
-    tell("what the daemon answers is no reply\n");
+    tell(OF_DAEMON, "what the daemon at %s answers is no reply\n", options.daemon.sun_path);
 }
 
 /* Whether all whole asks are answered, and no ask or reply has come in part. */
@@ -112,10 +120,20 @@ static bool has_ended(struct link *link) {
     return has;
 }
 
+/* Once for each client: there is no daemon, or none of its lanes is free. */
+static void tell_daemon(struct link *link, const char *what) {
+    int error = errno;
+    if (!link->is_told) tell(OF_DAEMON, "the daemon at %s: %s\n", options.daemon.sun_path, what);
+    link->is_told = true;
+    errno = error;
+}
+
 static bool open_server(struct link *link) {
     int server;
-    while ((server = connect_once()) < 0)
+    while ((server = connect_once()) < 0) {
+        if (errno != EINTR) tell_daemon(link, errno == EAGAIN ? "too many wait for it" : strerrordesc_np(errno));
         if (!may_be_again() || has_ended(link)) return false;
+    }
     if (!set_server(link, server)) {
         close(server);
         return false;
@@ -186,6 +204,12 @@ static short events_of(const struct way *read, const struct way *given) {
     return (short)((reads ? POLLIN : 0) | (given->passed > 0 ? POLLOUT : 0));
 }
 
+/* Whether the daemon is to answer this client for the first time, and nobody was told yet that it doesn't. */
+static bool waits_for_first(const struct link *link) {
+    const struct screen *screen = &link->screen;
+    return link->server >= 0 && screen->asked > 0 && screen->answered == 0 && screen->ask_left == 0 && !link->is_told;
+}
+
 /* While a client is to have the word, the daemon may still end. */
 static void wait_and_move(struct link *link) {
     struct way *asks = &link->asks, *replies = &link->replies;
@@ -195,7 +219,9 @@ static void wait_and_move(struct link *link) {
     if (client.events == 0) client.fd = -1; /* or its end would be told for ever */
     if (server.events == 0) server.fd = -1;
     struct pollfd both[] = { client, server };
-    if (poll(both, 2, -1) < 0) return;
+    int ready = poll(both, 2, waits_for_first(link) ? FIRST_REPLY : -1);
+    if (ready == 0) tell_daemon(link, "no answer, as where it has no free lane");
+    if (ready <= 0) return;
     short of_client = both[0].revents, of_server = both[1].revents;
     if (of_server && asks->passed > 0 && give_asks(link)) pass_asks(link);
     if ((of_server & ~POLLOUT) && (server.events & ~POLLOUT)) read_replies(link);
@@ -228,7 +254,7 @@ static void end_link(struct link *link) {
     if (link->server >= 0) close(link->server);
     link->client = link->server = -1;
     explicit_bzero(&link->screen, sizeof link->screen);
-    link->is_used = link->is_ended = link->has_greeted = false;
+    link->is_used = link->is_ended = link->has_greeted = link->is_told = false;
     pthread_mutex_unlock(&link->lock);
     while (write(freed, &one, sizeof one) < 0 && may_be_again()) continue;
 }

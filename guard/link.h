@@ -24,6 +24,7 @@ struct link {
     int64_t deadline;  /* for the first HELLO */
     sem_t has_client;  /* what the thread waits for where there is none */
     struct screen screen; /* this and what comes next are the thread's own */
+    bool is_told;         /* that the daemon doesn't answer */
     struct way asks, replies;
 };
 

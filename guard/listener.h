@@ -1,4 +1,5 @@
-/* listener.h: a socket that listens at a path: the guard's, and that of keyretain-agent (clients/c). */
+/* listener.h: a socket that listens at a path: the guard's, and that of keyretain-agent (clients/c). All programs there
+ * have their closed descriptors filled by it. */
 #ifndef KEYRETAIN_GUARD_LISTENER_H
 #define KEYRETAIN_GUARD_LISTENER_H
 

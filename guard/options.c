@@ -6,6 +6,7 @@
 #include <getopt.h>
 #include <stdio.h>
 #include <stdlib.h>
+#include <string.h>
 #include <sys/socket.h>
 
 #include "listener.h"
@@ -17,10 +18,24 @@
 static const char USAGE_TEXT[] =
     "usage: keyretain-guard --daemon PATH [--listen PATH] [--mode OCTAL] [--connections N] [--per-uid N]\n"
     "         [--hello-seconds N] [--trust UID].. [--no-filter]\n";
+static const char HELP_TEXT[] =
+    "\nLets each user speak for itself alone to a keyretaind that believes its clients.\n\n"
+    "  --daemon PATH      the socket of the daemon\n"
+    "  --listen PATH      where clients connect; without it systemd passes the socket\n"
+    "  --mode OCTAL       the mode of that socket: 666\n"
+    "  --connections N    the most connections, 1 to 256: 64\n"
+    "  --per-uid N        the most of a uid: 64\n"
+    "  --hello-seconds N  how long a client may stay silent at first, or 0 for ever: 60\n"
+    "  --trust UID        may speak for anybody; at most 16 times\n"
+    "  --no-filter        takes no filter of system calls\n"
+    "  -h, --help         prints this\n"
+    "  --version          prints the version\n";
 
-struct options options = { .connections = 64, .per_uid = 16, .hello_seconds = 60, .mode = 0666, .has_filter = true };
+struct options options = { .connections = 64, .per_uid = 64, .hello_seconds = 60, .mode = 0666, .has_filter = true };
 
 _Noreturn void fail(const char *why, enum status status) {
+    const char *path = options.listen_path ? options.listen_path : "(passed)";
+    fprintf(stderr, "keyretain-guard: %s: %s\n", path, strerror(errno));
     puts(why);
     exit(status);
 }
@@ -30,8 +45,14 @@ _Noreturn void fail_usage(void) {
     exit(USAGE);
 }
 
-static _Noreturn void tell(const char *text) {
-    fputs(text, stdout);
+/* Which word is wrong, and why. */
+static _Noreturn void refuse_word(const char *why, const char *word) {
+    fprintf(stderr, "keyretain-guard: %s: %s\n", why, word);
+    fail_usage();
+}
+
+static _Noreturn void tell(const char *text, const char *more) {
+    printf("%s%s", text, more);
     exit(fflush(stdout) == 0 ? 0 : NO_SOCKET);
 }
 
@@ -39,12 +60,17 @@ static unsigned number(const char *text, int base, unsigned long least, unsigned
     char *end;
     errno = 0;
     unsigned long value = strtoul(text, &end, base);
-    if (*text < '0' || *text > '9' || *end || errno || value < least || value > most) fail_usage();
+    if (*text < '0' || *text > '9' || *end || errno || value < least || value > most) {
+        const char *form = base == 8 ? "keyretain-guard: an octal number from %lo to %lo is wanted\n"
+                                     : "keyretain-guard: a number from %lu to %lu is wanted\n";
+        fprintf(stderr, form, least, most);
+        refuse_word("this is none", text);
+    }
     return (unsigned)value;
 }
 
 static void trust(const char *text) {
-    if (options.trusted_count == TRUSTED_MAX) fail_usage();
+    if (options.trusted_count == TRUSTED_MAX) refuse_word("more than 16 times --trust", text);
     options.trusted[options.trusted_count++] = number(text, 10, 0, UINT32_MAX - 1);
 }
 
@@ -52,7 +78,7 @@ static void read_option(int option) {
     switch (option) {
     case 'l': options.listen_path = optarg; break;
     case 'd':
-        if (!put_address(&options.daemon, optarg)) fail_usage();
+        if (!put_address(&options.daemon, optarg)) refuse_word("a path of 1 to 107 bytes", optarg);
         break;
     case 'c': options.connections = number(optarg, 10, 1, CONNECTIONS_MAX); break;
     case 'u': options.per_uid = number(optarg, 10, 1, CONNECTIONS_MAX); break;
@@ -60,8 +86,8 @@ static void read_option(int option) {
     case 'm': options.mode = number(optarg, 8, 0, 0777); break;
     case 't': trust(optarg); break;
     case 'n': options.has_filter = false; break;
-    case 'h': tell(USAGE_TEXT);
-    case 'v': tell("keyretain-guard " KEYRETAIN_VERSION "\n");
+    case 'h': tell(USAGE_TEXT, HELP_TEXT);
+    case 'v': tell("keyretain-guard " KEYRETAIN_VERSION "\n", "");
     default: fail_usage();
     }
 }
@@ -71,8 +97,9 @@ void read_options(int count, char **words) {
         { "listen", 1, 0, 'l' }, { "daemon", 1, 0, 'd' }, { "connections", 1, 0, 'c' }, { "per-uid", 1, 0, 'u' },
         { "hello-seconds", 1, 0, 's' }, { "mode", 1, 0, 'm' }, { "trust", 1, 0, 't' }, { "no-filter", 0, 0, 'n' },
         { "help", 0, 0, 'h' }, { "version", 0, 0, 'v' }, { 0, 0, 0, 0 } };
-    for (int option; (option = getopt_long(count, words, "", all, NULL)) != -1;) read_option(option);
-    if (optind != count || options.daemon.sun_family != AF_UNIX) fail_usage();
+    for (int option; (option = getopt_long(count, words, "h", all, NULL)) != -1;) read_option(option);
+    if (optind != count) refuse_word("no option", words[optind]);
+    if (options.daemon.sun_family != AF_UNIX) refuse_word("an option is missing", "--daemon PATH");
 }
 
 /* Not even uid 0, unless the administrator says so: a connection that root has made may be inherited by a process that

@@ -4,15 +4,14 @@
 
 #include <poll.h>
 #include <pthread.h>
+#include <stdarg.h>
 #include <stdio.h>
-#include <string.h>
 #include <time.h>
 #include <unistd.h>
 
 enum {
     GROUPS_MAX = 65536, /* of a process: NGROUPS_MAX */
     UNKNOWN = 65534,    /* unless the system says otherwise */
-    LINES_A_SECOND = 10,
 };
 
 uint32_t unknown_uid = UINT32_MAX, unknown_gid = UINT32_MAX;
@@ -60,32 +59,27 @@ int64_t milliseconds(void) {
     return time.tv_sec * 1000 + time.tv_nsec / 1000000;
 }
 
-static void write_line(const char *line) {
-    struct pollfd error = { .fd = STDERR_FILENO, .events = POLLOUT };
-    /* a pipe that takes something takes a short line */
-    if (poll(&error, 1, 0) == 1 && (error.revents & POLLOUT) && write(STDERR_FILENO, line, strlen(line)) < 0) return;
-}
-
-void tell(const char *line) {
-    pthread_mutex_lock(&tell_lock);
-    write_line(line);
-    pthread_mutex_unlock(&tell_lock);
-}
-
-static bool may_tell(void) {
+static bool may_tell(enum lines most) {
     static int64_t second;
-    static unsigned told;
+    static int told;
     int64_t now = milliseconds() / 1000;
     if (now != second) told = 0;
     second = now;
-    return told++ < LINES_A_SECOND;
+    if (told >= (int)most) return false;
+    told++;
+    return true;
 }
 
-void tell_refusal(const struct ucred *peer, const struct screen_claim *claim) {
-    char line[160];
-    snprintf(line, sizeof line, "refused: uid %u, gid %u (pid %d) named uid %u, gid %u, %u groups\n", peer->uid, peer->gid,
-             peer->pid, claim->uid, claim->gid, claim->count);
+void tell(enum lines most, const char *format, ...) {
+    char line[256]; /* it has at most a path of sockets, and 140 bytes */
+    struct pollfd error = { .fd = STDERR_FILENO, .events = POLLOUT };
+    va_list values;
+    va_start(values, format);
+    int length = vsnprintf(line, sizeof line, format, values);
+    va_end(values);
     pthread_mutex_lock(&tell_lock);
-    if (may_tell()) write_line(line);
+    /* a pipe that takes something takes a short line */
+    bool takes = may_tell(most) && poll(&error, 1, 0) == 1 && (error.revents & POLLOUT);
+    if (takes && write(STDERR_FILENO, line, (size_t)length) < length) length = 0;
     pthread_mutex_unlock(&tell_lock);
 }

@@ -25,10 +25,9 @@ void return_groups(void);
 
 int64_t milliseconds(void);
 
-/* A line to standard error, if it takes one at once. */
-void tell(const char *line);
-
-/* Not more than ten a second: whoever is refused may ask again at once. */
-void tell_refusal(const struct ucred *peer, const struct screen_claim *claim);
+/* A line to standard error, if it takes one at once. At most ten are told in a second, as whoever is refused may ask
+ * again at once, and at most eight that clients bring about: none of them hides what is wrong with the daemon. */
+enum lines { OF_CLIENTS = 8, OF_DAEMON = 10 };
+void tell(enum lines most, const char *format, ...) __attribute__((format(printf, 2, 3)));
 
 #endif

@@ -1,19 +1,13 @@
-/* caller.c: the connections of a process, the contexts of its threads, and its session.
- *
- * LOCKS. `process.lock` is held for a few lines at a time, and over nothing that waits for the daemon: fork(2) takes
- * it, unless a handler of a signal forks in the midst of these lines, and the end of a thread. Who asks has the seat
- * of its identity to itself (`is_busy`) without holding a lock. The child of a fork therefore finds all of `process`
- * whole, and its seats free: no other thread of it is left. */
+/* caller.c: the contexts of a process's threads, and its session. */
 #define _GNU_SOURCE
 #include "caller.h"
 
 #include <errno.h>
+#include <poll.h>
 #include <pthread.h>
-#include <signal.h>
 #include <stdlib.h>
 #include <string.h>
 #include <sys/stat.h>
-#include <time.h>
 #include <unistd.h>
 #if defined __has_include
 #if __has_include(<sys/single_threaded.h>)
@@ -23,333 +17,26 @@
 #endif
 
 #include "connection.h"
-#include "holder.h"
-#include "serials.h"
-#include "session.h"
-#include "wire.h"
-
-/* Identities that are remembered: seteuid(2) and back must not lose the process keyring. Each takes a lane. */
-enum { SEATS = 4, CONTEXTS = 64, COMMANDS = 33 };
+#include "seats.h"
 
 /* A call ends after so long; one that finds no free lane, where the daemon accepts nothing, sooner. */
-enum { CALL_MILLISECONDS = 30000, OPENING_MILLISECONDS = 10000 };
+enum { CALL_MILLISECONDS = 30000, OPENING_MILLISECONDS = 10000, LONGEST_PAUSE = 64 };
 
-enum carried { UNKNOWN, CARRIED, NOT_CARRIED };
+static __thread int64_t limit = KR_NEVER;
 
-/* Threads that wait for a seat that others have. */
-struct line {
-    pthread_cond_t is_free;
-    unsigned waiting;
-    bool is_called; /* one of them was woken, and hasn't looked yet */
-};
-
-/* Which daemon it is. It is known by its process, and where that has none in this PID namespace by the socket's file,
- * which each makes anew. */
-struct daemon {
-    pid_t process;
-    dev_t device;
-    ino_t inode;
-    struct timespec made;
-};
-
-/* One identity. Who has it busy uses all of it; under the lock others see `is_busy`, `identity` and `ended`. */
-struct seat {
-    struct kr_identity identity;
-    bool is_taken, is_busy;
-    unsigned long turn;    /* when it was last used */
-    struct line line;      /* of threads of this identity */
-    struct kr *connection; /* NULL before the first call, after fork(2), and where it was lost */
-    unsigned age;          /* of the connection, no other's: the contexts that threads remember end with it */
-    uint32_t context;      /* of the first thread; 0 for none */
-    bool lost_session;
-    uint32_t ended[CONTEXTS]; /* contexts of threads that have ended, which the daemon wasn't told yet */
-    unsigned ended_count;
-    enum carried carried[COMMANDS]; /* by the numbers of keyctl(2) */
-    struct daemon daemon; /* all zero before the first */
-    bool is_own;          /* it is the user's own daemon */
-    struct serials serials;
-};
-
-static struct {
-    pthread_mutex_t lock;
-    struct seat seats[SEATS];
-    struct line line; /* of threads of other identities, which wait for any seat */
-    unsigned last_age;
-    unsigned long turn;
-    struct kr_session *session; /* that new contexts join */
-    struct kr_holder holder;    /* what keeps it */
-    pthread_key_t end_of_thread;
-    bool has_end_of_thread;
-} process = { .lock = PTHREAD_MUTEX_INITIALIZER, .holder = { .descriptor = -1 } };
-
-/* A context of a thread's own. It is valid while `age` is that of the seat's connection. */
-struct place {
-    unsigned age;
-    uint32_t context;
-    bool lost_session;
-};
-
-/* Of this thread. */
-static __thread struct {
-    enum { UNSEEN, FIRST, OTHER } kind;
-    struct place places[SEATS];
-    struct kr_session *session; /* that it has joined itself, where it isn't the first thread */
-} thread;
-
-static bool is_first_thread(void) {
-    if (thread.kind == UNSEEN) thread.kind = gettid() == getpid() ? FIRST : OTHER;
-    return thread.kind == FIRST;
+int64_t caller_limit(int64_t until) {
+    int64_t before = limit;
+    limit = until;
+    return before;
 }
 
-/* Whether this thread is between the next two. A handler of a signal that forks there finds the lock taken by its own
- * thread, and must not wait for it. */
-static __thread volatile sig_atomic_t is_inside;
+/* ---- Connections ---- */
 
-static void lock(void) {
-    is_inside = 1;
-    pthread_mutex_lock(&process.lock);
-}
-
-static void unlock(void) {
-    int error = errno;
-    pthread_mutex_unlock(&process.lock);
-    is_inside = 0;
-    errno = error;
-}
-
-/* ---- What is done under the lock ---- */
-
-static void close_connection(struct seat *seat) {
-    struct kr *connection = seat->connection;
-    seat->connection = NULL;
-    seat->context = 0;
-    seat->ended_count = 0;
-    kr_close(connection);
-}
-
-/* Tells the daemon of a context whose thread has ended, without waiting for anything; later where it takes nothing now
- * or another thread asks. */
-static void end_context(struct seat *seat, uint32_t context) {
-    bool is_told = !seat->is_busy && kr_tell(seat->connection, KR_EXIT, context);
-    if (!is_told && seat->ended_count < CONTEXTS) seat->ended[seat->ended_count++] = context;
-}
-
-/* The same of those that came while the seat was busy. */
-static void end_contexts(struct seat *seat) {
-    while (seat->connection && seat->ended_count > 0 &&
-           kr_tell(seat->connection, KR_EXIT, seat->ended[seat->ended_count - 1]))
-        seat->ended_count--;
-}
-
-/* ---- Fork, and the ends of threads ---- */
-
-static void begin_line(struct line *line, const pthread_condattr_t *monotonic) {
-    pthread_cond_init(&line->is_free, monotonic);
-    line->waiting = 0;
-    line->is_called = false;
-}
-
-static void begin_waiting(void) {
-    pthread_condattr_t monotonic;
-    pthread_condattr_init(&monotonic);
-    pthread_condattr_setclock(&monotonic, CLOCK_MONOTONIC);
-    begin_line(&process.line, &monotonic);
-    for (int i = 0; i < SEATS; i++) begin_line(&process.seats[i].line, &monotonic);
-    pthread_condattr_destroy(&monotonic);
-}
-
-static void before_fork(void) {
-    if (!is_inside) pthread_mutex_lock(&process.lock);
-}
-
-static void after_fork(void) {
-    if (!is_inside) pthread_mutex_unlock(&process.lock);
-}
-
-/* The child lets go of its copies of the connections, which would keep the parent's from ending. Of its threads only
- * this one is left, whose session is the child's. Where it was inside, nothing is taken from the lines that it comes
- * back to if the handler returns. */
-static void in_child(void) {
-    pthread_mutex_init(&process.lock, NULL);
-    begin_waiting();
-    for (int i = 0; i < SEATS; i++) {
-        if (!is_inside) close_connection(&process.seats[i]);
-        process.seats[i].is_busy = false;
-    }
-    if (is_inside) return;
-    if (process.has_end_of_thread) pthread_setspecific(process.end_of_thread, NULL);
-    thread.kind = FIRST;
-    if (thread.session) {
-        free(process.session);
-        process.session = thread.session;
-        thread.session = NULL;
-    }
-}
-
-/* A thread that returns can still be cancelled here, and would be with the lock in its hands. */
-static void at_end_of_thread(void *unused) {
-    int cancelling;
-    (void)unused;
-    pthread_setcancelstate(PTHREAD_CANCEL_DISABLE, &cancelling);
-    lock();
-    for (int i = 0; i < SEATS; i++) {
-        struct seat *seat = &process.seats[i];
-        if (seat->connection && thread.places[i].age == seat->age) end_context(seat, thread.places[i].context);
-        thread.places[i].age = 0;
-    }
-    unlock();
-    free(thread.session);
-    thread.session = NULL;
-    pthread_setcancelstate(cancelling, NULL);
-}
-
-__attribute__((constructor)) static void begin(void) {
-    const char *text = secure_getenv(KR_SESSION_VARIABLE);
-    if (text && *text && (process.session = malloc(sizeof *process.session)) != NULL &&
-        !kr_parse_session(process.session, text)) {
-        free(process.session);
-        process.session = NULL;
-    }
-    begin_waiting();
-    pthread_atfork(before_fork, after_fork, in_child);
-    process.has_end_of_thread = pthread_key_create(&process.end_of_thread, at_end_of_thread) == 0;
-}
-
-/* Where the library is unloaded no thread may come back to its code. Where the process ends instead, another thread
- * may be in the midst of a call, which is let be. */
-__attribute__((destructor)) static void end(void) {
-    is_inside = 1;
-    if (pthread_mutex_trylock(&process.lock) != 0) {
-        is_inside = 0;
-        return;
-    }
-    if (process.has_end_of_thread) pthread_key_delete(process.end_of_thread);
-    process.has_end_of_thread = false;
-    for (int i = 0; i < SEATS; i++)
-        if (!process.seats[i].is_busy) close_connection(&process.seats[i]);
-    unlock();
-}
-
-/* ---- Seats ---- */
-
-static struct seat *find_seat(const struct kr_identity *identity) {
-    for (int i = 0; i < SEATS; i++)
-        if (process.seats[i].is_taken && memcmp(&process.seats[i].identity, identity, sizeof *identity) == 0)
-            return &process.seats[i];
-    return NULL;
-}
-
-/* A free place, or that of the identity which was not used longest, of those that no thread has: a user's daemon that
- * doesn't answer holds up nobody else. NULL where each is busy. The first stays, to which a server comes back from its
- * clients' identities. */
-static struct seat *find_place(void) {
-    struct seat *oldest = NULL;
-    for (int i = 0; i < SEATS; i++) {
-        struct seat *seat = &process.seats[i];
-        if (!seat->is_taken) return seat;
-        if (i > 0 && !seat->is_busy && (!oldest || seat->turn < oldest->turn)) oldest = seat;
-    }
-    return oldest;
-}
-
-static void clear_seat(struct seat *seat) {
-    close_connection(seat);
-    serials_clear(&seat->serials);
-    seat->is_taken = false;
-    seat->daemon = (struct daemon){ 0 };
-    seat->is_own = false;
-}
-
-/* Ends what belongs to identities that this process can't have again. */
-static void end_former(void) {
-    for (int i = 0; i < SEATS; i++) {
-        struct seat *seat = &process.seats[i];
-        if (seat->is_taken && !seat->is_busy && !kr_may_be_again(&seat->identity)) clear_seat(seat);
-    }
-}
-
-/* The seat of this identity, with what another one had there ended. It may be busy; NULL where each is, and none is its
- * own. */
-static struct seat *have_seat(const struct kr_identity *identity) {
-    struct seat *seat = find_seat(identity);
-    if (seat && seat->turn == process.turn) return seat; /* the same as at the last call */
-    end_former();
-    if (seat) return seat;
-    seat = find_place();
-    if (!seat) return NULL;
-    clear_seat(seat);
-    seat->identity = *identity;
-    seat->is_taken = true;
-    return seat;
-}
-
-/* Wakes a thread of the line. While one is on its way no other is woken: whoever runs may take the seat before it, and
- * again, and then each would be woken for nothing. */
-static void call_next(struct line *line) {
-    if (line->is_called || line->waiting == 0) return;
-    line->is_called = true;
-    pthread_cond_signal(&line->is_free);
-}
-
-/* The seat may be free: whoever wants it looks. */
-static void offer(struct seat *seat) {
-    if (seat->is_busy) return;
-    call_next(&seat->line);
-    call_next(&process.line);
-}
-
-/* Waits once; 0, or ETIMEDOUT. */
-static int wait_in(struct line *line, const struct timespec *end) {
-    line->waiting++;
-    int error = pthread_cond_timedwait(&line->is_free, &process.lock, end);
-    line->waiting--;
-    line->is_called = false;
-    return error;
-}
-
-/* Waits for the seat, or for any where it is NULL. Looks again then, and answers the seat of this identity as have_seat
- * does. There may be another one than was waited for, which others want too. */
-static struct seat *wait_for(struct seat *seat, const struct kr_identity *identity, const struct timespec *end,
-                             int *error) {
-    *error = wait_in(seat ? &seat->line : &process.line, end);
-    struct seat *found = have_seat(identity);
-    if (seat && seat != found) offer(seat);
-    if (!seat && found) call_next(&process.line);
-    return found;
-}
-
-/* Takes the seat of this identity to oneself, by the deadline. NULL with ETIMEDOUT. */
-static struct seat *take_seat(const struct kr_identity *identity, int64_t deadline) {
-    const struct timespec end = { .tv_sec = deadline / 1000, .tv_nsec = deadline % 1000 * 1000000 };
-    int error = 0;
-    lock();
-    struct seat *seat = have_seat(identity);
-    while (error == 0 && (!seat || seat->is_busy)) seat = wait_for(seat, identity, &end, &error);
-    if (error == 0) {
-        seat->is_busy = true;
-        seat->turn = ++process.turn;
-    } else if (seat) {
-        offer(seat);
-    }
-    unlock();
-    if (error == 0) return seat;
-    errno = error;
-    return NULL;
-}
-
-static void free_seat(struct seat *seat) {
-    lock();
-    seat->is_busy = false;
-    end_contexts(seat);
-    offer(seat);
-    unlock();
-}
-
-/* ---- The connection of a seat that is busy ---- */
-
+/* EAGAIN is of a process that can't be made for a keeper. */
 static int set_no_daemon(void) {
     switch (errno) {
     case ENOMEM:
+    case EAGAIN:
     case EMFILE:
     case ENFILE:
     case EACCES:
@@ -358,24 +45,11 @@ static int set_no_daemon(void) {
     }
 }
 
-static void drop_connection(struct seat *seat) {
-    int error = errno;
-    lock();
-    close_connection(seat);
-    unlock();
-    errno = error;
-}
-
-static int64_t opening_deadline(int64_t deadline) {
-    int64_t end = kr_now() + OPENING_MILLISECONDS;
-    return end < deadline ? end : deadline;
-}
-
 /* Under the lock, so that a child of fork(2) finds all of them or none. */
 static int begin_serials_anew(struct seat *seat) {
-    lock();
+    seats_lock();
     int begun = serials_begin_anew(&seat->serials);
-    unlock();
+    seats_unlock();
     return begun;
 }
 
@@ -407,28 +81,24 @@ static int meet_daemon(struct seat *seat) {
     if (is_other && begin_serials_anew(seat) < 0) return -1;
     seat->daemon = daemon;
     seat->is_own = connection->place == KR_OWN;
-    memset(seat->carried, 0, sizeof seat->carried); /* UNKNOWN */
     return 0;
 }
 
-/* The socket is made under the lock, so that a child of fork(2) knows of it. Another thread may take another identity
- * while the daemon is looked for, which is that one's then: it isn't trusted. */
+/* Another thread may take another identity while the daemon is looked for, which is that one's then: it isn't
+ * trusted. */
 static int open_connection(struct seat *seat, int64_t deadline) {
-    lock();
-    seat->connection = kr_prepare(NULL, 0, 0, seat->identity.uid);
-    seat->age = ++process.last_age;
-    unlock();
-    if (!seat->connection) return set_no_daemon();
-    kr_set_deadline(seat->connection, opening_deadline(deadline));
+    bool is_found = *seat->where.path || kr_locate(&seat->where, NULL) == 0;
+    if (!is_found || !seats_prepare(seat)) return set_no_daemon();
+    kr_set_deadline(seat->connection, deadline);
     kr_begin_call(seat->connection);
     if (kr_connect(seat->connection) == 0 && meet_daemon(seat) == 0) return 0;
-    drop_connection(seat);
+    seats_drop(seat, false);
     return set_no_daemon();
 }
 
 /* A new one after fork(2), after the daemon ended it, and after the program closed it. */
 static int have_connection(struct seat *seat, int64_t deadline) {
-    if (seat->connection && (kr_is_broken(seat->connection) || !kr_is_ours(seat->connection))) drop_connection(seat);
+    if (seat->connection && !kr_see(seat->connection)) seats_drop(seat, false);
     return seat->connection ? 0 : open_connection(seat, deadline);
 }
 
@@ -440,7 +110,7 @@ static int enter_session(const struct seat *seat, uint32_t context, const struct
     const uint32_t uid = seat->identity.uid;
     int entered;
     if (session->serial != 0)
-        entered = kr_enter_session(seat->connection, context, session, uid);
+        entered = kr_enter_named(seat->connection, context, session, uid);
     else
         entered = kr_begin_session_as(seat->connection, context, session->name, uid) > 0 ? 0 : errno == EACCES ? 1 : -1;
     *is_lost = entered == 1;
@@ -455,81 +125,107 @@ static int abandon(struct kr *connection, uint32_t context) {
     return -1;
 }
 
-/* A copy of the process's session, as another thread may change it. */
-static bool has_session(struct kr_session *session) {
-    lock();
-    bool has = process.session != NULL;
-    if (has) *session = *process.session;
-    unlock();
-    return has;
-}
-
-/* HELLO, and the session. By the first ask the connection may have been made anew, for frames of version 1: to another
- * daemon, where one has taken the place of the other meanwhile. */
+/* HELLO, and the session. */
 static int begin_seat(struct seat *seat) {
     struct kr_session session;
     int64_t context = kr_hello_as(seat->connection, &seat->identity);
     if (context < 0) return -1;
-    if (meet_daemon(seat) < 0) return abandon(seat->connection, (uint32_t)context);
-    seat->lost_session = false;
-    if (has_session(&session) && enter_session(seat, (uint32_t)context, &session, &seat->lost_session) < 0)
-        return abandon(seat->connection, (uint32_t)context);
-    seat->context = (uint32_t)context;
+    bool is_in_one = seats_session(&session), is_lost = false;
+    if (is_in_one && enter_session(seat, (uint32_t)context, &session, &is_lost) < 0) return -1;
+    seat->shared.number = (uint32_t)context;
+    seat->shared.lost_session = is_lost;
+    seat->is_kept = is_in_one && session.serial != 0 && !is_lost;
     return 0;
 }
 
-/* A context of a thread that isn't the first: it shares the process keyring, and has a thread keyring of its own. */
-static int begin_thread(const struct seat *seat, struct place *place) {
-    int64_t context = kr_thread(seat->connection, seat->context);
-    if (context < 0) {
-        if (errno == EINVAL) errno = EDQUOT; /* the client has as many contexts as it may */
+/* A connection on which no context was made is ended, and what the daemon may do for it with it. Where the guard has no
+ * place for the user's connections, one may be free in a moment. */
+static int have_shared_context(struct seat *seat, int64_t call_end) {
+    int64_t opening_end = kr_now() + OPENING_MILLISECONDS, end = opening_end < call_end ? opening_end : call_end;
+    for (int pause = 1;; pause = pause < LONGEST_PAUSE ? 2 * pause : pause) {
+        if (have_connection(seat, end) < 0) return -1;
+        if (seat->shared.number != 0) return 0;
+        kr_set_deadline(seat->connection, end);
+        if (begin_seat(seat) == 0) return 0;
+        seats_drop(seat, true);
+        if (errno != EDQUOT || kr_now() + pause >= end) return -1;
+        poll(NULL, 0, pause);
+    }
+}
+
+/* A new context of a thread's own is in the session that the thread has joined. */
+static int begin_own(struct seat *seat, struct thread_context *own) {
+    const struct kr_session *session = seats_own_session();
+    if (session && enter_session(seat, own->number, session, &own->lost_session) < 0) {
+        abandon(seat->connection, own->number);
+        own->number = 0;
         return -1;
     }
-    bool is_lost = seat->lost_session;
-    if (thread.session && enter_session(seat, (uint32_t)context, thread.session, &is_lost) < 0)
-        return abandon(seat->connection, (uint32_t)context);
-    *place = (struct place){ seat->age, (uint32_t)context, is_lost };
-    if (process.has_end_of_thread) pthread_setspecific(process.end_of_thread, &process);
+    seats_has_own(seat);
     return 0;
 }
 
 static int enter_context(struct caller *caller) {
     struct seat *seat = caller->seat;
-    struct place *place = &thread.places[seat - process.seats];
-    if (have_connection(seat, caller->deadline) < 0) return -1;
-    if (seat->context == 0) {
-        kr_set_deadline(seat->connection, opening_deadline(caller->deadline));
-        if (begin_seat(seat) < 0) return -1;
-    }
+    if (have_shared_context(seat, caller->deadline) < 0) return -1;
+    struct thread_context *own = seats_own_context(seat);
+    bool had_own = threads_has_own(&seat->shared, own);
+    bool wants_own = caller->names_thread || seats_own_session() || (caller->joins && !seats_is_first_thread());
     kr_set_deadline(seat->connection, caller->deadline);
+    struct thread_context *context = threads_choose(seat->connection, &seat->shared, own, wants_own);
+    if (!context || (context == own && !had_own && begin_own(seat, own) < 0)) return -1;
     caller->connection = seat->connection;
-    if (place->age != seat->age && is_first_thread()) {
-        caller->context = seat->context;
-        caller->lost_session = seat->lost_session;
-        return 0;
-    }
-    if (place->age != seat->age && begin_thread(seat, place) < 0) return -1;
-    caller->context = place->context;
-    caller->lost_session = place->lost_session;
+    caller->context = context->number;
+    caller->lost_session = context->lost_session;
     return 0;
 }
 
 bool caller_enter(struct caller *caller) {
-    struct kr_identity identity;
-    *caller = (struct caller){ .deadline = kr_now() + CALL_MILLISECONDS };
+    caller->seat = NULL;
+    caller->may_hold = false;
+    caller->begun = kr_now();
+    caller->deadline = caller->begun + CALL_MILLISECONDS;
+    if (limit < caller->deadline) caller->deadline = limit;
     pthread_setcancelstate(PTHREAD_CANCEL_DISABLE, &caller->cancelling);
-    kr_own_identity(&identity);
-    caller->seat = take_seat(&identity, caller->deadline);
+    caller->seat = seats_take(seats_identity(), caller->deadline);
     if (caller->seat && enter_context(caller) == 0) return true;
     caller_leave(caller, -1);
     return false;
 }
 
+/* ---- Leaving ---- */
+
+/* Who asks again within DRAINED milliseconds, and has done so OFTEN times, keeps the connection, until nothing was asked
+ * for a second. What a call itself takes doesn't count: else a slow daemon would have more to do. */
+enum { DRAINED = 16, OFTEN = 16, MOST_OFTEN = 64 };
+
+static bool asks_often(const struct caller *caller) {
+    struct seat *seat = caller->seat;
+    int64_t drained = caller->begun > seat->answered ? (caller->begun - seat->answered) / DRAINED : 0;
+    seat->often = drained < seat->often ? seat->often - (unsigned)drained : 0;
+    if (seat->often < MOST_OFTEN) seat->often++;
+    seat->answered = kr_now();
+    return seat->often > OFTEN;
+}
+
+/* A connection takes a lane of the daemon. So it isn't held where nothing ends with it: no keyring of a thread or the
+ * process, and no session that doesn't last as long as the process by itself, as that of a login. */
+static bool may_let_go(const struct caller *caller) {
+    const struct seat *seat = caller->seat;
+    if (!seat->connection || !seat->is_kept || seat->may_have_keyring || asks_often(caller)) return false;
+    return !seats_have_own(seat) && seats_hold_session();
+}
+
 /* A context that the daemon doesn't know is no error of the program's: the next call begins anew. */
 void caller_leave(struct caller *caller, long result) {
+    struct seat *seat = caller->seat;
     int error = errno;
-    if (caller->seat && result < 0 && error == ESRCH) drop_connection(caller->seat);
-    if (caller->seat) free_seat(caller->seat);
+    if (seat && caller->may_hold) seat->may_have_keyring = true;
+    if (seat && result < 0 && error == ESRCH)
+        seats_drop(seat, false);
+    else if (seat && may_let_go(caller))
+        seats_drop(seat, true);
+    if (seat) seats_give_back(seat);
     pthread_setcancelstate(caller->cancelling, NULL);
     errno = error;
 }
@@ -556,23 +252,19 @@ static bool is_one_thread(void) {
     return stat("/proc/self/task", &status) == 0 && status.st_nlink == 3;
 }
 
-static void set_session(struct kr_session *session, const struct kr_holder *holder) {
-    lock();
-    struct kr_session *old_session = process.session;
-    struct kr_holder old_holder = process.holder;
-    process.session = session;
-    process.holder = *holder;
-    unlock();
-    kr_close_holder(&old_holder);
-    free(old_session);
-}
-
 /* Enters a session that was made just now. EKEYREVOKED where it is gone again. */
-static int enter_made(struct caller *caller, const struct kr_session *session, bool *is_lost) {
-    int entered = kr_enter_session(caller->connection, caller->context, session, caller->seat->identity.uid);
-    if (entered >= 0) *is_lost = entered == 1;
+static int enter_made(struct seat *seat, struct thread_context *context, const struct kr_session *session) {
+    int entered = kr_enter_named(seat->connection, context->number, session, seat->identity.uid);
+    if (entered >= 0) context->lost_session = entered == 1;
     if (entered == 1) errno = EKEYREVOKED;
     return entered == 0 ? 0 : -1;
+}
+
+/* In the context that threads share, and where the first thread has one of its own in that too. */
+static int enter_for_all(struct seat *seat, const struct kr_session *session) {
+    struct thread_context *own = seats_own_context(seat);
+    if (enter_made(seat, &seat->shared, session) < 0) return -1;
+    return threads_has_own(&seat->shared, own) ? enter_made(seat, own, session) : 0;
 }
 
 static void restore_variable(const char *before) {
@@ -583,101 +275,62 @@ static void restore_variable(const char *before) {
 
 /* Enters a session that was made just now, and tells what is executed of it. That is done first, as it may fail: by
  * then no other keyring must be this context's. */
-static int export_and_enter(struct caller *caller, const struct kr_session *session) {
+static int export_and_enter(struct seat *seat, const struct kr_session *session) {
     const char *text = getenv(KR_SESSION_VARIABLE);
     char *before = text ? strdup(text) : NULL;
     bool is_kept = before || !text, is_exported = is_kept && kr_export_session(session) == 0;
-    int entered = is_exported ? enter_made(caller, session, &caller->seat->lost_session) : -1;
+    int entered = is_exported ? enter_for_all(seat, session) : -1;
     if (is_exported && entered < 0) restore_variable(before);
     free(before);
     return entered;
 }
 
-/* The session of the process: a keeper makes and holds it, and then this context enters it. What the process executes
+/* The session of the process: a keeper makes and holds it, and then its contexts enter it. What the process executes
  * joins it by the environment's word. */
 static int become_session(struct caller *caller, struct kr_session *session) {
+    struct seat *seat = caller->seat;
     struct kr_holder holder;
     enum kr_refusal why;
     if (kr_start_keeper(&holder, session, caller->connection->address.sun_path, false, caller->deadline, &why) < 0)
         return why == KR_REFUSED ? -1 : set_no_daemon();
-    int entered = is_one_thread() ? export_and_enter(caller, session)
-                                  : enter_made(caller, session, &caller->seat->lost_session);
+    int entered = is_one_thread() ? export_and_enter(seat, session) : enter_for_all(seat, session);
     if (entered < 0) {
         int error = errno;
         kr_close_holder(&holder);
         errno = error;
         return -1;
     }
-    set_session(session, &holder);
+    if (is_one_thread()) kr_export_holder(&holder, session);
+    seats_set_session(session, &holder);
+    seat->is_kept = true;
     return 0;
 }
 
 /* The session of this thread alone, which ends with it. It is tried in a context of its own first, as a refused one
  * must change nothing. */
 static int join_for_thread(struct caller *caller, struct kr_session *session) {
+    struct seat *seat = caller->seat;
     struct kr *connection = caller->connection;
     int64_t trial = kr_thread(connection, caller->context);
     if (trial < 0) {
         if (errno == EINVAL) errno = EDQUOT;
         return -1;
     }
-    session->serial = kr_begin_session_as(connection, (uint32_t)trial, session->name, caller->seat->identity.uid);
-    bool *is_lost = &thread.places[caller->seat - process.seats].lost_session;
-    int entered = session->serial < 0 ? -1 : enter_made(caller, session, is_lost);
+    session->serial = kr_begin_session_as(connection, (uint32_t)trial, session->name, seat->identity.uid);
+    int entered = session->serial < 0 ? -1 : enter_made(seat, seats_own_context(seat), session);
     abandon(connection, (uint32_t)trial);
     if (entered < 0) return -1;
-    free(thread.session);
-    thread.session = session;
+    seats_set_own_session(session);
     return 0;
 }
 
 int32_t caller_join(struct caller *caller, const char *name) {
     struct kr_session *session = calloc(1, sizeof *session);
     if (!session) return -1;
-    bool is_first = is_first_thread(), is_named = (is_first && !name) || kr_name_session(session, name) == 0;
+    bool is_first = seats_is_first_thread(), is_named = (is_first && !name) || kr_name_session(session, name) == 0;
     bool is_joined =
         is_named && (is_first ? become_session(caller, session) : join_for_thread(caller, session)) == 0;
     if (is_joined) return session->serial;
     free(session);
     return -1;
-}
-
-/* ---- What the daemon carries ---- */
-
-/* A connection of its own for the identity of a call, and a context in it. NULL where none can be had. */
-static struct kr *open_beside(const struct caller *caller, uint32_t *context) {
-    const struct kr_identity *identity = &caller->seat->identity;
-    struct kr *connection = kr_prepare(NULL, 0, 0, identity->uid);
-    if (!connection) return NULL;
-    kr_set_deadline(connection, opening_deadline(caller->deadline));
-    kr_begin_call(connection);
-    int64_t made = kr_connect(connection) < 0 ? -1 : kr_hello_as(connection, identity);
-    if (made >= 0) {
-        *context = (uint32_t)made;
-        return connection;
-    }
-    kr_close(connection);
-    return NULL;
-}
-
-/* An ask of ids that are 0 is EINVAL where it is carried. A daemon that doesn't carry it ends the connection, and with
- * that go the process and thread keyrings: so this is asked on another one. */
-static enum carried try_operation(const struct caller *caller, enum kr_operation operation) {
-    const struct kr_field zeros[KR_FIELDS] = { { 0 } };
-    uint32_t context;
-    struct kr *connection = open_beside(caller, &context);
-    if (!connection) return UNKNOWN;
-    kr_set_deadline(connection, caller->deadline);
-    kr_ask(connection, operation, context, zeros);
-    enum carried found = kr_is_broken(connection) ? NOT_CARRIED : CARRIED;
-    kr_close(connection);
-    return found;
-}
-
-/* A daemon that understands version 2 of the frames carries all of them. */
-bool caller_can(struct caller *caller, enum kr_operation operation) {
-    if (kr_frame_version(caller->connection) >= 2) return true;
-    enum carried *known = &caller->seat->carried[operation];
-    if (*known == UNKNOWN) *known = try_operation(caller, operation);
-    return *known == CARRIED;
 }

@@ -1,5 +1,5 @@
 /* caller.h: what a kernel knows about its caller, and a client must say: one connection for each identity that a
- * process takes, one context for a thread, and a session that outlives the process. */
+ * process takes, contexts for its threads, and a session that outlives the process. */
 #ifndef KEYRETAIN_CALLER_H
 #define KEYRETAIN_CALLER_H
 
@@ -12,30 +12,31 @@ struct seat;
 
 /* Who asks: from caller_enter to caller_leave. */
 struct caller {
+    bool names_thread; /* said before caller_enter: the call names the thread keyring */
+    bool joins;        /* the same: it joins a session */
+    bool may_hold;     /* said before caller_leave: there may be a process keyring now */
     struct kr *connection;
     uint32_t context;
     bool lost_session; /* the session that this thread should have was revoked, or nobody holds it any more */
     struct seat *seat; /* the identity's, which this thread alone uses until it leaves */
-    int64_t deadline;  /* of the call */
+    int64_t begun, deadline;
     int cancelling;    /* what pthread_setcancelstate(3) goes back to */
 };
 
 /* Finds the context of this thread under its identity, waits for its turn, and lets no one cancel it. False with errno
  * where there is none: ENOSYS where no daemon is there, as a kernel without keys says; EACCES where it may not be
- * asked; EDQUOT for the 65th context of an identity; ETIMEDOUT where the daemon has no lane free; ECONNRESET where it
- * ends the connection at once. Then caller_leave must not be called. */
+ * asked; EDQUOT for the 65th context of an identity, or where keyretain-guard(8) has no place for its user; ETIMEDOUT
+ * where the daemon has no lane free; ECONNRESET where it ends the connection at once. Then caller_leave must not be
+ * called. */
 bool caller_enter(struct caller *caller);
 
 /* Ends the turn, with what the call came to: -1 with errno for an error. */
 void caller_leave(struct caller *caller, long result);
 
-/* Joins the session of this name, or one of its own for NULL, for this thread; from the first thread also for what the
- * process forks from then on, and, where that is its one thread, for what it executes. Answers the serial of its
- * keyring, or -1 with errno. */
+/* Joins the session of this name, or one of its own for NULL. From the first thread it is joined for all that have not
+ * joined one by themselves and for what the process forks from then on, and, where that is its one thread, for what it
+ * executes; from another for that thread. Answers the serial of its keyring, or -1 with errno. */
 int32_t caller_join(struct caller *caller, const char *name);
-
-/* Whether the daemon carries an operation of keyctl(2) that a daemon of the first version of the frames may lack. */
-bool caller_can(struct caller *caller, enum kr_operation operation);
 
 /* Whether a serial was told by a daemon that is gone, and by this one not yet. */
 bool caller_is_stale(const struct caller *caller, int32_t serial);
@@ -45,5 +46,8 @@ void caller_knows(struct caller *caller, int32_t serial);
 
 /* Whether there are serials of a daemon that is gone. */
 bool caller_has_stale(const struct caller *caller);
+
+/* Calls of this thread end by this moment of kr_now at the latest. Answers the moment before. In a library alone. */
+int64_t caller_limit(int64_t until);
 
 #endif

@@ -16,8 +16,7 @@
 
 /* A type has fewer than 32 bytes and a text fewer than 4,096, with the null byte; an ask has no payload above 65,535
  * bytes; and no keyring reads as more than 65,536 links. */
-enum { ARGUMENTS = 5, TEXTS = 3, TYPE_MAX = 32, TEXT_MAX = 4096, PAYLOAD_MAX = 65537, ROOM_MAX = 262160 };
-enum { ADD_MAX = 1024 * 1024 - 1 };
+enum { TEXTS = 3, TYPE_MAX = 32, TEXT_MAX = 4096, PAYLOAD_MAX = 65537, ROOM_MAX = 262160 };
 
 static struct copies {
     char texts[TEXTS][TEXT_MAX + 1];
@@ -36,43 +35,28 @@ int calls_begin(void) {
     return 0;
 }
 
-/* ---- Which arguments are pointers ---- */
-
+/* Which arguments are pointers, but for texts. */
 struct pointers {
-    int call;
+    const struct key_row *row;
     int payload, room;  /* the argument that is one, or -1 */
     unsigned long most; /* of the payload: a longer one is refused unread */
 };
 
-static int argument_of(int call, enum key_argument kind) {
-    for (unsigned i = 0; i < ARGUMENTS; i++)
-        if (key_call_argument(call, i) == kind) return (int)i;
-    return -1;
-}
-
-static struct pointers pointers_of(int call) {
-    return (struct pointers){ call, argument_of(call, KEY_PAYLOAD), argument_of(call, KEY_ROOM),
-                              call == CALL_ADD_KEY ? ADD_MAX : (unsigned long)sysconf(_SC_PAGESIZE) };
-}
-
-bool call_may_name_thread(int call, const unsigned long given[5]) {
-    return call == KEYCTL_JOIN_SESSION_KEYRING || key_call_names(call, given, KEY_SPEC_THREAD_KEYRING);
-}
-
-bool call_may_name_keyring(int call, const unsigned long given[5]) {
-    return key_call_names(call, given, KEY_SPEC_THREAD_KEYRING) ||
-           key_call_names(call, given, KEY_SPEC_PROCESS_KEYRING);
+static struct pointers pointers_of(const struct key_row *row) {
+    return (struct pointers){ row, key_row_argument(row, KEY_PAYLOAD), key_row_argument(row, KEY_ROOM),
+                              row->most ? row->most : (unsigned long)sysconf(_SC_PAGESIZE) };
 }
 
 /* ---- Copying ---- */
 
 static bool copy_texts(const struct pointers *pointers, unsigned long *at) {
     int count = 0;
-    for (unsigned i = 0; i < ARGUMENTS; i++) {
-        enum key_argument kind = key_call_argument(pointers->call, i);
+    for (int i = 0; i < KEY_ARGUMENTS; i++) {
+        enum key_argument kind = pointers->row->at[i];
         if ((kind != KEY_TYPE && kind != KEY_TEXT) || !at[i]) continue;
         char *text = copies->texts[count++];
-        if (!memory_read_text(tracees_memory(), text, at[i], kind == KEY_TYPE ? TYPE_MAX : TEXT_MAX)) return false;
+        size_t most = kind == KEY_TYPE ? TYPE_MAX : TEXT_MAX;
+        if (!memory_read_text(&tracees_entered()->memory, text, at[i], most)) return false;
         at[i] = (unsigned long)text;
     }
     return true;
@@ -85,7 +69,7 @@ static bool copy_payload(const struct pointers *pointers, unsigned long *at) {
     if (!*from || !*length) return true;
     if (*length > PAYLOAD_MAX) *length = PAYLOAD_MAX;
     contexts_count(*length);
-    if (!memory_read(tracees_memory(), copies->payload, *from, *length)) return false;
+    if (!memory_read(&tracees_entered()->memory, copies->payload, *from, *length)) return false;
     *from = (unsigned long)copies->payload;
     return true;
 }
@@ -103,11 +87,12 @@ static long copy_in(const struct pointers *pointers, unsigned long *at) {
 
 /* What the kernel would put there: all where there is room for it, else nothing; but of capabilities as much as there
  * is room for. */
-static long copy_out(int call, const struct pointers *pointers, unsigned long to, unsigned long room, long result,
-                     bool (*is_valid)(void)) {
+static long copy_out(const struct pointers *pointers, unsigned long to, unsigned long room, long result) {
+    const struct entered *entered = tracees_entered();
     if (pointers->room < 0 || result <= 0 || !to) return result;
-    size_t length = call == KEYCTL_CAPABILITIES ? room : (unsigned long)result <= room ? (size_t)result : 0;
-    if (length > 0 && !memory_write(tracees_memory(), to, copies->room, length, is_valid)) return fail(EFAULT);
+    size_t length = (unsigned long)result <= room ? (size_t)result : 0;
+    if (pointers->row->call == KEYCTL_CAPABILITIES) length = room;
+    if (length > 0 && !memory_write(&entered->memory, to, copies->room, length, entered->is_valid)) return fail(EFAULT);
     return result;
 }
 
@@ -124,19 +109,6 @@ static void wipe(const struct pointers *pointers, const unsigned long *at, long 
 
 /* ---- Answers that are kept ---- */
 
-static bool only_reads(int call, const unsigned long given[5]) {
-    switch (call) {
-    case KEYCTL_GET_KEYRING_ID:
-    case KEYCTL_DESCRIBE:
-    case KEYCTL_READ:
-    case KEYCTL_GET_SECURITY:
-    case KEYCTL_CAPABILITIES: return true;
-    case KEYCTL_SEARCH: return (int)given[3] == 0;
-    case CALL_REQUEST_KEY: return (int)given[2] == 0;
-    default: return false;
-    }
-}
-
 static uint64_t sum_of(const struct pointers *pointers, const unsigned long *at) {
     uint64_t sum = 1;
     for (int i = 0; i < TEXTS; i++) sum = replay_sum(sum, copies->texts[i], strlen(copies->texts[i]) + 1);
@@ -147,26 +119,34 @@ static uint64_t sum_of(const struct pointers *pointers, const unsigned long *at)
 
 /* ---- A call ---- */
 
-static long answer(int call, struct arguments arguments) {
-    switch (call) {
+/* In a user namespace of its own a program has other user keyrings, which aren't there. */
+static bool names_others(const struct key_row *row, const unsigned long *given) {
+    return (key_row_names(row, given, KEY_SPEC_USER_KEYRING) ||
+            key_row_names(row, given, KEY_SPEC_USER_SESSION_KEYRING)) &&
+           tracees_entered()->asker.is_elsewhere;
+}
+
+static long answer(const struct key_row *row, const unsigned long *given, struct arguments arguments) {
+    if (names_others(row, given)) return fail(EOPNOTSUPP);
+    switch (row->call) {
     case KEYCTL_SET_REQKEY_KEYRING: return tracees_set_reqkey_keyring((int)arguments.at[0]);
     case KEYCTL_SESSION_TO_PARENT: return tracees_session_to_parent();
-    default: return key_call(call, arguments);
+    default: return key_call_of_row(row, arguments);
     }
 }
 
-long call_carry_out(int call, const unsigned long given[5], const struct seccomp_data *data, bool (*is_valid)(void),
-                    uint64_t *sum) {
-    const struct pointers pointers = pointers_of(call);
+long call_carry_out(const struct key_row *row, const unsigned long given[KEY_ARGUMENTS],
+                    const struct seccomp_data *data, uint64_t *sum) {
+    const struct pointers pointers = pointers_of(row);
+    const struct entered *entered = tracees_entered();
     struct arguments arguments;
     memcpy(arguments.at, given, sizeof arguments.at);
     long result = copy_in(&pointers, arguments.at);
-    *sum = result < 0 || only_reads(call, given) ? 0 : sum_of(&pointers, arguments.at);
-    bool is_answered = replay_take(tracees_replay(), data, *sum, &result);
-    if (result == 0 && !is_answered) result = answer(call, arguments);
+    *sum = result < 0 || key_row_only_reads(row, given) ? 0 : sum_of(&pointers, arguments.at);
+    bool is_answered = replay_take(&entered->task->replay, data, &entered->asker.process, *sum, &result);
+    if (result == 0 && !is_answered) result = answer(row, given, arguments);
     long length = result;
-    if (pointers.room >= 0)
-        result = copy_out(call, &pointers, given[pointers.room], arguments.at[pointers.room + 1], result, is_valid);
+    if (pointers.room >= 0) result = copy_out(&pointers, given[pointers.room], arguments.at[pointers.room + 1], result);
     wipe(&pointers, arguments.at, length);
     return result;
 }

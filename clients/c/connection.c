@@ -12,8 +12,6 @@ static int fail(int error) {
     return -1;
 }
 
-int kr_frame_version(const struct kr *connection) { return connection->answered > 0 ? connection->version : 0; }
-
 /* Errors of here are those of a call that has ended: no thread is cancelled, and errno stays. */
 static int begin_uncancelled(void) {
     int cancelling;
@@ -28,6 +26,17 @@ static void end_uncancelled(int cancelling) {
 }
 
 /* ---- An ask ---- */
+
+/* In the tags of asks that make a context: so a reply that nobody awaits any more says that there is one. */
+#define KR_MAKES (UINT64_C(1) << 63)
+
+static bool makes_context(const struct kr_ask_form *form) {
+    return form->operation == KR_HELLO || form->operation == KR_THREAD || form->operation == KR_FORK;
+}
+
+static uint64_t tag_of(uint64_t number, const struct kr_ask_form *form) {
+    return makes_context(form) ? number | KR_MAKES : number;
+}
 
 /* An ask of which no byte went out was never made. */
 static void take_back(struct kr *connection, size_t length) {
@@ -44,7 +53,7 @@ static int send_ask(struct kr *connection, const struct kr_ask_form *form, uint3
     if (kr_flush(connection) < 0) return -1;
     bool are_all_answered = connection->answered == connection->asked;
     if (are_all_answered && connection->in_length > 0) return kr_break_off(connection, EPROTO); /* a reply to no ask */
-    size_t length = kr_encode_ask(out, connection->version, connection->asked + 1, form, context, fields);
+    size_t length = kr_encode_ask(out, tag_of(connection->asked + 1, form), form, context, fields);
     if (length == 0) {
         explicit_bzero(out, sizeof connection->memory->out); /* some of it was put there */
         return fail(EINVAL);
@@ -75,22 +84,21 @@ void kr_wipe(struct kr *connection) {
     connection->taken = 0;
 }
 
-/* Which ask this reply answers, by its tag, or in version 1 by its place; 0 where it can be none's. */
-static uint64_t number_of(const struct kr *connection, const struct kr_reply *reply) {
-    uint64_t number = connection->version >= 2 ? reply->tag : connection->answered + 1;
-    return number > connection->answered && number <= connection->asked ? number : 0;
-}
-
 /* Finds the next reply among what has come: 1, or 0 where more bytes are wanted. */
 static int next_reply(struct kr *connection, struct kr_reply *reply) {
-    enum kr_decoded decoded =
-        kr_decode_reply(connection->memory->in, connection->in_length, connection->version, reply);
+    enum kr_decoded decoded = kr_decode_reply(connection->memory->in, connection->in_length, reply);
     if (decoded == KR_PARTIAL) return 0;
-    uint64_t number = decoded == KR_WHOLE ? number_of(connection, reply) : 0;
-    if (number == 0) return kr_break_off(connection, EPROTO);
+    uint64_t number = decoded == KR_WHOLE ? reply->tag & ~KR_MAKES : 0;
+    if (number <= connection->answered || number > connection->asked) return kr_break_off(connection, EPROTO);
     connection->answered = number;
-    connection->is_version_known = true;
     return 1;
+}
+
+/* A context that came too late is ended before the next call. */
+static void note_late(struct kr *connection, const struct kr_reply *reply) {
+    bool has_one = reply->tag & KR_MAKES && reply->status == 0 && reply->length == 4;
+    if (has_one && connection->late_count < KR_CONTEXTS)
+        connection->late[connection->late_count++] = kr_get_u32(reply->body);
 }
 
 /* Takes the next reply to an ask that nobody has given up: 1, or 0 where more bytes are wanted. */
@@ -101,6 +109,7 @@ static int take_reply(struct kr *connection, struct kr_reply *reply) {
             connection->taken = reply->frame_length;
             break;
         }
+        note_late(connection, reply);
         drop(connection, reply->frame_length);
     }
     return found;
@@ -124,25 +133,6 @@ static int exchange(struct kr *connection, const struct kr_ask_form *form, uint3
     return receive_reply(connection, reply);
 }
 
-/* Whether the connection has ended before any reply, which is how a daemon answers frames of a version that it doesn't
- * understand. It has carried nothing out then. */
-static bool may_be_too_new(const struct kr *connection) {
-    return connection->broken && errno == ECONNRESET && !connection->is_version_known && connection->in_length == 0 &&
-           connection->version != KR_OLDEST_VERSION;
-}
-
-/* While the version isn't known an ask may have to be made again in the oldest, on a new connection. */
-static int exchange_in_some_version(struct kr *connection, const struct kr_ask_form *form, uint32_t context,
-                                    const struct kr_field *fields, struct kr_reply *reply) {
-    int result = exchange(connection, form, context, fields, reply);
-    if (result == 0 || !may_be_too_new(connection)) return result;
-    kr_let_go(connection);
-    connection->version = KR_OLDEST_VERSION;
-    if (kr_connect(connection) < 0) return fail(errno == ETIMEDOUT ? ETIMEDOUT : ECONNRESET);
-    connection->broken = false;
-    return exchange(connection, form, context, fields, reply);
-}
-
 /* The last ask that is done with, one way or another. */
 static uint64_t last_done(const struct kr *connection) {
     return connection->answered > connection->given_up ? connection->answered : connection->given_up;
@@ -152,7 +142,14 @@ static uint64_t last_done(const struct kr *connection) {
 static uint64_t awaited(const struct kr *connection) { return connection->asked - last_done(connection); }
 
 static int check_whole(struct kr *connection) {
-    return connection->broken || !kr_is_ours(connection) ? kr_break_off(connection, ECONNRESET) : 0;
+    bool is_seen = connection->was_seen;
+    connection->was_seen = false;
+    return connection->broken || !(is_seen || kr_is_ours(connection)) ? kr_break_off(connection, ECONNRESET) : 0;
+}
+
+static void end_late(struct kr *connection) {
+    while (connection->late_count > 0 && kr_tell(connection, KR_EXIT, connection->late[connection->late_count - 1]))
+        connection->late_count--;
 }
 
 static int call(struct kr *connection, const struct kr_ask_form *form, uint32_t context,
@@ -160,8 +157,9 @@ static int call(struct kr *connection, const struct kr_ask_form *form, uint32_t 
     kr_wipe(connection);
     if (check_whole(connection) < 0) return -1;
     if (awaited(connection) > 0) return fail(EBUSY);
+    end_late(connection);
     kr_begin_call(connection);
-    int result = exchange_in_some_version(connection, form, context, fields, reply);
+    int result = exchange(connection, form, context, fields, reply);
     connection->given_up = connection->asked;
     return result;
 }
@@ -171,7 +169,7 @@ static struct kr_answer answer_of(struct kr *connection, const struct kr_ask_for
                                   const struct kr_reply *reply) {
     struct kr_answer answer = { .length = -1 };
     int error;
-    if (!kr_reply_fits(reply, form, &error))
+    if (!kr_reply_fits(reply, form, &error) || makes_context(form) != (reply->tag & KR_MAKES) >> 63)
         kr_break_off(connection, EPROTO);
     else if (error != 0)
         errno = error;
@@ -180,13 +178,21 @@ static struct kr_answer answer_of(struct kr *connection, const struct kr_ask_for
     return answer;
 }
 
+static struct kr_answer ask(struct kr *connection, const struct kr_ask_form *form, uint32_t context,
+                            const struct kr_field *fields) {
+    struct kr_reply reply;
+    if (call(connection, form, context, fields, &reply) < 0) return (struct kr_answer){ .length = -1 };
+    return answer_of(connection, form, &reply);
+}
+
+/* A context that there is no room for is asked for again where some that came late are in its place. */
 struct kr_answer kr_ask(struct kr *connection, enum kr_operation operation, uint32_t context,
                         const struct kr_field *fields) {
     const struct kr_ask_form *form = kr_ask_form(operation);
-    struct kr_answer answer = { .length = -1 };
-    struct kr_reply reply;
     int cancelling = begin_uncancelled();
-    if (call(connection, form, context, fields, &reply) == 0) answer = answer_of(connection, form, &reply);
+    struct kr_answer answer = ask(connection, form, context, fields);
+    bool is_full = answer.length < 0 && errno == EINVAL && makes_context(form) && connection->late_count > 0;
+    if (is_full) answer = ask(connection, form, context, fields);
     end_uncancelled(cancelling);
     return answer;
 }
@@ -194,7 +200,7 @@ struct kr_answer kr_ask(struct kr *connection, enum kr_operation operation, uint
 bool kr_tell(struct kr *connection, enum kr_operation operation, uint32_t context) {
     uint64_t before = connection->asked;
     kr_wipe(connection);
-    if (!connection->is_version_known || check_whole(connection) < 0) return false;
+    if (check_whole(connection) < 0) return false;
     connection->deadline = 0;
     send_ask(connection, kr_ask_form(operation), context, NULL);
     connection->given_up = connection->asked;
@@ -207,7 +213,7 @@ static int send_ahead(struct kr *connection, const struct kr_ask_form *form, uin
                       const struct kr_field *fields) {
     kr_wipe(connection);
     if (check_whole(connection) < 0) return -1;
-    if (!form || !connection->is_version_known || connection->answered == 0) return fail(EINVAL);
+    if (!form) return fail(EINVAL);
     if (awaited(connection) >= KR_AHEAD_MAX) return fail(EAGAIN);
     connection->deadline = 0;
     uint64_t before = connection->asked;

@@ -15,6 +15,9 @@
 /* Milliseconds of the monotonic clock; the moment that never comes. */
 #define KR_NEVER INT64_MAX
 
+/* As many as a client may have. */
+enum { KR_CONTEXTS = 64 };
+
 /* What was sent and received: in no core file, and in no child of fork(2), which has zeros in its place. So `is_here`
  * is true in the process that made the connection alone. */
 struct kr_memory {
@@ -23,9 +26,9 @@ struct kr_memory {
 };
 
 /* The daemon answers each ask once, in order. So after a call that was interrupted its reply is still to come. Asks
- * are numbered from 1 on, and in version 2 the number is the tag. `asked` is that of the last ask of which a byte was
- * sent, `answered` that of the last reply. Replies up to `given_up` belong to calls that have ended; those behind it
- * to asks that were sent ahead, or to the one call that waits. */
+ * are numbered from 1 on, and the number is the tag, with KR_MAKES where the answer is a context. `asked` is that of
+ * the last ask of which a byte was sent, `answered` that of the last reply. Replies up to `given_up` belong to calls
+ * that have ended; those behind it to asks that were sent ahead, or to the one call that waits. */
 struct kr {
     int descriptor;
     dev_t device;
@@ -33,18 +36,19 @@ struct kr {
     pid_t owner; /* 0 where is_here tells */
     enum kr_place place;
     bool trusts_anybody;
-    uid_t user; /* whose secrets it is told: who listens is trusted by this user, also when it is connected anew */
+    uid_t user; /* whose secrets it is told: who listens is trusted by this user */
     uid_t peer_uid;
     gid_t peer_gid;
     pid_t peer_pid;
     bool broken, interruptible;
+    bool was_seen; /* it was looked at for the next ask: see kr_is_ours */
     int patience;     /* milliseconds, or -1 */
     int64_t deadline; /* of the call that is being made */
     int64_t until;    /* a moment by which all calls end, or KR_NEVER */
     int waits[2];     /* milliseconds that the socket itself waits in send and recv; 0 is for ever */
-    int version;      /* of the frames: the newest, until a daemon has ended the connection for it */
-    bool is_version_known;
     uint64_t asked, answered, given_up;
+    uint32_t late[KR_CONTEXTS]; /* contexts that replies to asks which were given up have told, and that nobody wants */
+    unsigned late_count;
     const struct kr_ask_form *ahead[KR_AHEAD_MAX]; /* of the asks sent ahead, by their number */
     size_t out_start, out_end; /* the bytes of `out` that have not been sent */
     size_t in_length;          /* the bytes of `in` that have come: whole replies and a part of one */
@@ -62,14 +66,19 @@ struct kr_answer {
 /* ---- socket.c ---- */
 
 /* A connection for this user whose socket isn't connected yet: no call waits in here. NULL with errno. */
-struct kr *kr_prepare(const char *path, int version, unsigned flags, uid_t user);
+struct kr *kr_prepare(const struct kr_where *where, unsigned flags, uid_t user);
 
-/* Connects it by its deadline, and sees who listens; -1 with errno. Also anew, after kr_let_go. */
+/* Where a daemon listens: at this path, or for NULL at that which is found. -1 with errno. */
+int kr_locate(struct kr_where *where, const char *path);
+
+/* Connects it by its deadline, and sees who listens; -1 with errno. */
 int kr_connect(struct kr *connection);
-void kr_let_go(struct kr *connection);
 
 /* Whether the descriptor is still the socket that was opened here, by this process. */
 bool kr_is_ours(const struct kr *connection);
+
+/* The same, and the next ask doesn't look again. */
+bool kr_see(struct kr *connection);
 
 /* What may be sent or received by the deadline, and -1 with errno. kr_receive_bytes waits for some. */
 int kr_flush(struct kr *connection);

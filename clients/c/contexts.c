@@ -3,6 +3,7 @@
 #include "contexts.h"
 
 #include <errno.h>
+#include <stdlib.h>
 #include <string.h>
 
 #include "connection.h"
@@ -15,16 +16,24 @@
 
 enum { CALL_MILLISECONDS = 30000, OPENING_MILLISECONDS = 10000, READ_BYTES = 4096 };
 
+/* So many contexts of identities, and with sessions so many that last, may be on one connection: the rest is for
+ * processes that ask. All wait while a further connection is opened, so one that fails isn't tried again at once. */
+enum { IDENTITIES = 24, LASTING = 60, FURTHER_MILLISECONDS = 1000, PAUSE_MILLISECONDS = 10000 };
+
 struct line {
     struct kr *connection;
-    unsigned age;
+    unsigned age, replaces; /* the age of the one in whose place it is, or 0 */
+    unsigned count, lasting;
+    bool is_old;
     unsigned long long reads; /* beside one for each ask */
     unsigned long long most;  /* when it is worn */
+    struct line *next;
 };
 
 static struct {
-    struct line new, old;
-    unsigned last_age;
+    struct line *lines; /* the youngest first */
+    unsigned last_age, beginnings;
+    int64_t next_further;
     char path[KR_PATH_ROOM];
     bool (*make_room)(unsigned age);
 } all;
@@ -37,16 +46,27 @@ static int fail(int error) {
 /* ---- Connections ---- */
 
 static void close_line(struct line *line) {
+    struct line **at = &all.lines;
+    while (*at != line) at = &(*at)->next;
+    *at = line->next;
     kr_close(line->connection);
-    *line = (struct line){ 0 };
+    free(line);
 }
 
-static int open_line(struct line *line) {
-    struct kr *connection = kr_open_with(all.path, 0, 0, OPENING_MILLISECONDS);
-    if (!connection) return -1;
-    kr_set_deadline(connection, kr_now() + OPENING_MILLISECONDS);
-    *line = (struct line){ .connection = connection, .age = ++all.last_age, .most = KEYRETAIN_READS };
-    return 0;
+/* Another daemon at the path has none of what there is on the other connections. */
+static struct line *open_line(int milliseconds) {
+    struct kr *connection = kr_open_with(all.path, 0, milliseconds);
+    struct line *line = connection ? calloc(1, sizeof *line) : NULL;
+    if (!line || (all.lines && connection->peer_pid != contexts_daemon())) {
+        if (connection) kr_close(connection);
+        free(line);
+        return NULL;
+    }
+    kr_set_deadline(connection, kr_now() + milliseconds);
+    all.beginnings += !all.lines;
+    *line = (struct line){ .connection = connection, .age = ++all.last_age, .most = KEYRETAIN_READS,
+                           .next = all.lines };
+    return all.lines = line;
 }
 
 int contexts_begin(const char *path, bool (*make_room)(unsigned age)) {
@@ -54,64 +74,98 @@ int contexts_begin(const char *path, bool (*make_room)(unsigned age)) {
     if (!path && kr_default_path(all.path, sizeof all.path) < 0) return -1;
     if (path && strlen(path) >= sizeof all.path) return fail(ENAMETOOLONG);
     if (path) memcpy(all.path, path, strlen(path) + 1);
-    return open_line(&all.new);
-}
-
-static void begin_call(struct line *line) {
-    if (line->connection && kr_is_broken(line->connection)) close_line(line);
-    if (line->connection) kr_set_deadline(line->connection, kr_now() + CALL_MILLISECONDS);
+    return open_line(OPENING_MILLISECONDS) ? 0 : -1;
 }
 
 void contexts_set_deadline(void) {
-    begin_call(&all.old);
-    begin_call(&all.new);
+    for (struct line *line = all.lines, *next; line; line = next) {
+        next = line->next;
+        if (kr_is_broken(line->connection))
+            close_line(line);
+        else
+            kr_set_deadline(line->connection, kr_now() + CALL_MILLISECONDS);
+    }
+}
+
+static struct line *first_in_use(void) {
+    struct line *line = all.lines;
+    while (line && line->is_old) line = line->next;
+    return line;
 }
 
 int contexts_begin_call(void) {
     contexts_set_deadline();
-    if (all.new.connection || open_line(&all.new) == 0) return 0;
+    if (first_in_use() || open_line(OPENING_MILLISECONDS)) return 0;
     return errno == ENOMEM || errno == EACCES || errno == ETIMEDOUT ? -1 : fail(ENOSYS);
 }
 
 int32_t contexts_daemon(void) {
-    return all.new.connection && !kr_is_broken(all.new.connection) ? all.new.connection->peer_pid : -1;
+    for (const struct line *line = all.lines; line; line = line->next)
+        if (!kr_is_broken(line->connection)) return line->connection->peer_pid;
+    return -1;
 }
+
+unsigned contexts_beginnings(void) { return all.beginnings; }
+
+void contexts_tidy(void) {
+    for (struct line *line = all.lines, *next; line; line = next) {
+        next = line->next;
+        if (line->count == 0 && line != first_in_use()) close_line(line);
+    }
+}
+
+/* ---- Connections that are worn ---- */
 
 static unsigned long long reads_of(const struct line *line) { return line->connection->asked + line->reads; }
 
-bool contexts_are_worn(void) { return all.new.connection && reads_of(&all.new) >= all.new.most; }
+static struct line *find_worn(void) {
+    struct line *line = all.lines;
+    while (line && (line->is_old || reads_of(line) < line->most)) line = line->next;
+    return line;
+}
 
-/* Another daemon has none of the sessions. Where there is no second connection it is tried again a while later. */
+bool contexts_are_worn(void) { return find_worn() != NULL; }
+
+static struct line *find_line(unsigned age) {
+    struct line *line = all.lines;
+    while (line && line->age != age) line = line->next;
+    return line;
+}
+
+/* Where there is no other connection it is tried again a while later. */
 int contexts_renew(void) {
-    struct line line = { 0 };
-    bool is_open = open_line(&line) == 0;
-    if (!is_open || line.connection->peer_pid != all.new.connection->peer_pid) {
-        if (is_open) close_line(&line);
-        all.new.most = reads_of(&all.new) + KEYRETAIN_READS / 100;
+    struct line *worn = find_worn(), *line = open_line(OPENING_MILLISECONDS);
+    if (!line) {
+        worn->most = reads_of(worn) + KEYRETAIN_READS / 100;
         return -1;
     }
-    close_line(&all.old);
-    all.old = all.new;
-    all.new = line;
+    struct line *before = worn->replaces ? find_line(worn->replaces) : NULL;
+    if (before) close_line(before);
+    worn->is_old = true;
+    line->replaces = worn->age;
     return 0;
 }
 
-void contexts_count(size_t bytes) { all.new.reads += bytes / READ_BYTES; }
+/* On which connection the ask is sent isn't known yet. */
+void contexts_count(size_t bytes) {
+    for (struct line *line = all.lines; line; line = line->next) line->reads += bytes / READ_BYTES;
+}
 
 /* ---- Contexts ---- */
 
 static struct line *line_of(const struct context *context) {
-    struct line *lines[] = { &all.new, &all.old };
-    for (int i = 0; i < 2; i++)
-        if (lines[i]->connection && context->number != 0 && lines[i]->age == context->age &&
-            !kr_is_broken(lines[i]->connection))
-            return lines[i];
-    return NULL;
+    struct line *line = context->number != 0 ? find_line(context->age) : NULL;
+    return line && !kr_is_broken(line->connection) ? line : NULL;
 }
 
 struct kr *context_connection(const struct context *context) {
     struct line *line = line_of(context);
     return line ? line->connection : NULL;
+}
+
+bool context_is_old(const struct context *context) {
+    const struct line *line = line_of(context);
+    return line && line->is_old;
 }
 
 /* Whether the ask is to be made again: EINVAL is that of a client with as many contexts as it may have. */
@@ -122,33 +176,68 @@ static bool again(const struct line *line, int64_t number) {
     return false;
 }
 
-static int take(struct context *made, const struct line *line, int64_t number) {
+static int take(struct context *made, struct line *line, int64_t number, bool lasts) {
     if (number < 0) return -1;
-    *made = (struct context){ line->age, (uint32_t)number };
+    *made = (struct context){ line->age, (uint32_t)number, lasts };
+    line->count++;
+    line->lasting += lasts;
     return 0;
 }
 
-int context_hello(struct context *made, const struct kr_identity *identity) {
-    struct line *line = &all.new;
-    int64_t number;
-    if (!line->connection) return fail(ENOSYS);
-    do number = kr_hello_as(line->connection, identity);
-    while (again(line, number));
-    return take(made, line, number);
+static struct line *find_for_identity(void) {
+    struct line *line = all.lines;
+    while (line && (line->is_old || line->lasting >= IDENTITIES)) line = line->next;
+    return line;
 }
 
-static int derive(struct context *made, const struct context *from, int64_t (*ask)(struct kr *, uint32_t)) {
+static int hello_on_further(struct context *made, const struct kr_identity *identity) {
+    struct line *line = kr_now() < all.next_further ? NULL : open_line(FURTHER_MILLISECONDS);
+    int64_t number = line ? kr_hello_as(line->connection, identity) : -1;
+    if (number < 0) {
+        if (line) close_line(line);
+        all.next_further = kr_now() + PAUSE_MILLISECONDS;
+        return fail(EDQUOT);
+    }
+    kr_set_deadline(line->connection, kr_now() + CALL_MILLISECONDS);
+    return take(made, line, number, true);
+}
+
+int context_hello(struct context *made, const struct kr_identity *identity) {
+    struct line *line;
+    int64_t number;
+    if (!all.lines) return fail(ENOSYS);
+    while (!(line = find_for_identity()) && all.make_room(0)) continue;
+    if (!line) return hello_on_further(made, identity);
+    do number = kr_hello_as(line->connection, identity);
+    while (again(line, number));
+    return number < 0 && errno == EDQUOT ? hello_on_further(made, identity) : take(made, line, number, true);
+}
+
+static int derive(struct context *made, const struct context *from, int64_t (*ask)(struct kr *, uint32_t), bool lasts) {
     struct line *line = line_of(from);
     int64_t number;
     if (!line) return fail(ECONNRESET);
+    while (lasts && line->lasting >= LASTING)
+        if (!all.make_room(0)) return fail(EDQUOT);
     do number = ask(line->connection, from->number);
     while (again(line, number));
-    return take(made, line, number);
+    return take(made, line, number, lasts);
 }
 
-int context_fork(struct context *made, const struct context *from) { return derive(made, from, kr_fork); }
+int context_hold(struct context *made, const struct context *from) { return derive(made, from, kr_fork, true); }
 
-int context_thread(struct context *made, const struct context *from) { return derive(made, from, kr_thread); }
+int context_fork(struct context *made, const struct context *from) { return derive(made, from, kr_fork, false); }
+
+int context_thread(struct context *made, const struct context *from) { return derive(made, from, kr_thread, false); }
+
+void context_forget(struct context *context) {
+    struct line *line = line_of(context);
+    if (line) {
+        line->count--;
+        line->lasting -= context->lasts;
+    }
+    *context = (struct context){ 0 };
+}
 
 /* Waits for nothing, unless the daemon takes nothing more before it has given its replies. */
 void context_end(struct context *context) {
@@ -158,7 +247,7 @@ void context_end(struct context *context) {
         kr_set_deadline(connection, kr_now() + CALL_MILLISECONDS);
         kr_exit(connection, context->number);
     }
-    *context = (struct context){ 0 };
+    context_forget(context);
     errno = error;
 }
 

@@ -77,8 +77,7 @@ static int prepare_signals(posix_spawnattr_t *attributes) {
 
 /* The process that is started goes to the background by itself, and ends. */
 static int spawn(const struct pipes *pipes, char *const words[], pid_t *started) {
-    static char trusts_anybody[] = "KEYRETAIN_TRUST=any";
-    char *environment[] = { kr_trusts_anybody() ? trusts_anybody : NULL, NULL };
+    char *environment[] = { NULL };
     posix_spawn_file_actions_t actions;
     posix_spawnattr_t attributes;
     int error = posix_spawn_file_actions_init(&actions);
@@ -202,10 +201,33 @@ int kr_start_keeper(struct kr_holder *holder, struct kr_session *session, const 
     return result;
 }
 
-void kr_close_holder(struct kr_holder *holder) {
+/* ---- Handing on ---- */
+
+#define HOLDER_VARIABLE "KEYRETAIN_HOLDER"
+
+int kr_export_holder(const struct kr_holder *holder, const struct kr_session *session) {
+    char text[sizeof session->name + 64];
+    snprintf(text, sizeof text, "%d:%llu:%llu:%s", holder->descriptor, (unsigned long long)holder->device,
+             (unsigned long long)holder->inode, session->name);
+    return setenv(HOLDER_VARIABLE, text, 1);
+}
+
+struct kr_holder kr_handed_holder(const struct kr_session *session) {
+    const char *text = secure_getenv(HOLDER_VARIABLE);
+    unsigned long long device, inode;
+    int descriptor, length = 0;
+    bool is_read = text && sscanf(text, "%d:%llu:%llu:%n", &descriptor, &device, &inode, &length) == 3 && length > 0;
+    if (!is_read || strcmp(text + length, session->name) != 0) return (struct kr_holder){ .descriptor = -1 };
+    return (struct kr_holder){ descriptor, (dev_t)device, (ino_t)inode };
+}
+
+bool kr_is_held(const struct kr_holder *holder) {
     struct stat status;
-    bool is_pipe = holder->descriptor >= 0 && fstat(holder->descriptor, &status) == 0 &&
-                   status.st_dev == holder->device && status.st_ino == holder->inode;
-    if (is_pipe) close(holder->descriptor);
+    return holder->descriptor >= 0 && fstat(holder->descriptor, &status) == 0 && S_ISFIFO(status.st_mode) &&
+           status.st_dev == holder->device && status.st_ino == holder->inode;
+}
+
+void kr_close_holder(struct kr_holder *holder) {
+    if (kr_is_held(holder)) close(holder->descriptor);
     holder->descriptor = -1;
 }

@@ -25,6 +25,15 @@ enum kr_refusal { KR_REFUSED, KR_NO_DAEMON, KR_NO_KEEPER };
 int kr_start_keeper(struct kr_holder *holder, struct kr_session *session, const char *socket, bool links_user,
                     int64_t deadline, enum kr_refusal *why);
 
+/* Tells what is executed which descriptor holds the session. -1 with errno where it can't. */
+int kr_export_holder(const struct kr_holder *holder, const struct kr_session *session);
+
+/* What this process was handed of a session; the descriptor is -1 where it was handed nothing, as in a login. */
+struct kr_holder kr_handed_holder(const struct kr_session *session);
+
+/* Whether the number is still the pipe's: then the session lasts as long as this process. */
+bool kr_is_held(const struct kr_holder *holder);
+
 /* Closes this copy, if the number is still the pipe's. */
 void kr_close_holder(struct kr_holder *holder);
 

@@ -27,7 +27,7 @@
 /* With an empty id it is a free place. */
 struct container {
     char id[CONTAINER_ID_MAX + 1];
-    pid_t server;
+    pid_t server, first;
     int in, out; /* what is sent to `in` comes out for the server */
 };
 
@@ -94,11 +94,11 @@ static struct container *find(const char *id) {
     return NULL;
 }
 
-static struct container *begin(const char *id) {
+static struct container *begin(const char *id, pid_t first) {
     struct container *container = find("");
     int ends[2];
     if (!container || socketpair(AF_UNIX, SOCK_SEQPACKET | SOCK_CLOEXEC | SOCK_NONBLOCK, 0, ends) < 0) return NULL;
-    *container = (struct container){ .in = ends[0], .out = ends[1] };
+    *container = (struct container){ .first = first, .in = ends[0], .out = ends[1] };
     strcpy(container->id, id);
     return container;
 }
@@ -129,16 +129,16 @@ static bool start_server(struct container *container) {
     unlink(path);
     container->server = fork();
     if (container->server == 0) {
-        const struct server server = { agent, container->id, all.settings.daemon, all.copy, path, all.settings.memory,
-                                       container->out };
+        const struct server server = { agent, container->first, container->id, all.settings.daemon, all.copy, path,
+                                       all.settings.memory, container->out };
         serve_container(&server);
     }
     return container->server > 0;
 }
 
-void containers_take(const char *id, int listener) {
+void containers_take(const char *id, int first, int listener) {
     struct container *container = find(id);
-    if (!container) container = begin(id);
+    if (!container) container = begin(id, first);
     bool is_sent = container && send_listener(container, listener);
     close(listener);
     if (!is_sent) fprintf(stderr, "keyretain-agent: container %s: there are too many\n", id);

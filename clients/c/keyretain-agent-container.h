@@ -16,8 +16,9 @@ struct containers_settings {
 /* False where the folder isn't ours alone, or another agent uses it; what an earlier one left there is removed. */
 bool containers_begin(const struct containers_settings *settings);
 
-/* Gives a listener to the server of its container, which is started where there is none. It is closed here. */
-void containers_take(const char *id, int listener);
+/* Gives a listener to the server of its container, which is started where there is none. It is closed here. `first` is
+ * the container's first process, whose ids are served, or 0. */
+void containers_take(const char *id, int first, int listener);
 
 /* Looks which servers have ended. */
 void containers_reap(void);

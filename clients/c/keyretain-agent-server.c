@@ -78,7 +78,7 @@ static bool limit_memory(unsigned long bytes) {
 static _Noreturn void become_daemon(const struct server *server, pid_t parent, int answers) {
     static char one_arena[] = "MALLOC_ARENA_MAX=1";
     char *environment[] = { one_arena, NULL };
-    char *words[] = { "keyretaind", "--socket", (char *)server->socket, "--lanes", "2", NULL };
+    char *words[] = { "keyretaind", "--socket", (char *)server->socket, "--lanes", "8", NULL };
     if (drop_capabilities() && end_with(parent) && limit_memory(server->memory) && dup2(answers, STDOUT_FILENO) >= 0) {
         execveat(COPY, "", words, environment, AT_EMPTY_PATH);
         execve(server->daemon, words, environment); /* no copy may be executed here, or it is no program by itself */
@@ -140,7 +140,8 @@ static void reset_signals(void) {
 _Noreturn void serve_container(const struct server *server) {
     char name[sizeof "_ses." + CONTAINER_ID_MAX];
     const struct serve_settings settings = {
-        .tracees = { .socket = server->socket, .name = name, .is_container = true }, .more = LISTENERS };
+        .tracees = { .socket = server->socket, .name = name, .is_container = true, .first = server->first },
+        .more = LISTENERS };
     snprintf(name, sizeof name, "_ses.%s", server->id);
     if (!end_with(server->agent)) _exit(FAILED);
     keep_descriptors(server);

@@ -6,6 +6,7 @@
 
 struct server {
     pid_t agent;
+    pid_t first;          /* the container's first process, or 0 */
     const char *id;       /* the container's */
     const char *daemon;   /* the program */
     int copy;             /* of it, by copy_program; or -1 */

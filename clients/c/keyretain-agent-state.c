@@ -1,59 +1,131 @@
 /* keyretain-agent-state.c: see keyretain-agent-state.h. */
+#define _GNU_SOURCE
 #include "keyretain-agent-state.h"
 
+#include <jansson.h>
+#include <limits.h>
 #include <string.h>
+#include <sys/mman.h>
 
-#include "keyretain-agent-json.h"
+#ifndef STATE_ROOM
+#define STATE_ROOM (16 * 1024 * 1024)
+#endif
+
+enum { ALIGNMENT = 16 };
 
 static const char id_characters[] = "abcdefghijklmnopqrstuvwxyzABCDEFGHIJKLMNOPQRSTUVWXYZ0123456789_+-.";
 
-enum { NAME_ROOM = 32 };
+/* ---- How far an object reaches ---- */
 
-/* How often each has been found; each is wanted once. */
-struct found {
-    unsigned names, states, ids, listeners;
-};
+static bool is_space(char byte) { return byte == ' ' || byte == '\t' || byte == '\n' || byte == '\r'; }
 
-static bool read_names(struct json *json, struct container_state *state, struct found *found) {
-    char name[NAME_ROOM];
-    found->names++;
-    if (!json_enter(json, '[')) return false;
-    for (state->descriptors = 0; json_next_element(json); state->descriptors++) {
-        if (!json_read_text(json, name, sizeof name)) return false;
-        if (strcmp(name, "seccompFd") != 0) continue;
-        found->listeners++;
-        state->listener = state->descriptors;
+static void scan_text(struct json_scan *scan, char byte) {
+    if (scan->is_escaped)
+        scan->is_escaped = false;
+    else if (byte == '\\')
+        scan->is_escaped = true;
+    else
+        scan->is_text = byte != '"';
+}
+
+static enum json_extent scan_byte(struct json_scan *scan, char byte) {
+    if (scan->is_text) {
+        scan_text(scan, byte);
+    } else if (scan->depth == 0) {
+        if (byte != '{' && !is_space(byte)) return JSON_BROKEN;
+        scan->depth = byte == '{';
+    } else if (byte == '"') {
+        scan->is_text = true;
+    } else if (byte == '{' || byte == '[') {
+        if (++scan->depth > JSON_DEPTH_MAX) return JSON_BROKEN;
+    } else if (byte == '}' || byte == ']') {
+        if (--scan->depth == 0) return JSON_WHOLE;
     }
-    return !json->is_broken;
+    return JSON_PARTIAL;
 }
 
-static bool read_state(struct json *json, struct container_state *state, struct found *found) {
-    char name[NAME_ROOM];
-    found->states++;
-    if (!json_enter(json, '{')) return false;
-    while (json_next_member(json, name, sizeof name)) {
-        bool is_id = strcmp(name, "id") == 0;
-        found->ids += is_id;
-        if (is_id ? !json_read_text(json, state->id, sizeof state->id) : !json_skip(json)) return false;
+enum json_extent json_scan(struct json_scan *scan, const char *bytes, size_t length, size_t *used) {
+    for (*used = 0; *used < length;) {
+        enum json_extent extent = scan_byte(scan, bytes[(*used)++]);
+        if (extent != JSON_PARTIAL) return extent;
     }
-    return !json->is_broken;
+    return JSON_PARTIAL;
 }
 
-static bool read_member(struct json *json, const char *name, struct container_state *state, struct found *found) {
-    if (strcmp(name, "fds") == 0) return read_names(json, state, found);
-    if (strcmp(name, "state") == 0) return read_state(json, state, found);
-    return json_skip(json);
+/* ---- Memory ---- */
+
+void *room_for_state(size_t bytes) {
+    void *room = mmap(NULL, bytes, PROT_READ | PROT_WRITE, MAP_PRIVATE | MAP_ANONYMOUS, -1, 0);
+    if (room == MAP_FAILED) return NULL;
+    madvise(room, bytes, MADV_DONTDUMP);
+    madvise(room, bytes, MADV_WIPEONFORK);
+    return room;
 }
 
+/* What jansson takes of memory while it reads one state. All of it is wiped and given back at the end. */
+static struct {
+    char *bytes;
+    size_t taken;
+} room;
+
+static void *take(size_t bytes) {
+    size_t rounded = (bytes + ALIGNMENT - 1) / ALIGNMENT * ALIGNMENT;
+    if (!room.bytes || bytes > STATE_ROOM || rounded > STATE_ROOM - room.taken) return NULL;
+    room.taken += rounded;
+    return room.bytes + room.taken - rounded;
+}
+
+static void keep_until_end(void *taken) { (void)taken; }
+
+static void wipe_room(void) {
+    if (!room.bytes) return;
+    explicit_bzero(room.bytes, room.taken);
+    munmap(room.bytes, STATE_ROOM);
+    room.bytes = NULL;
+    room.taken = 0;
+}
+
+/* ---- What it says ---- */
+
+static bool read_names(const json_t *names, struct container_state *state) {
+    static const char wanted[] = "seccompFd";
+    unsigned listeners = 0;
+    for (size_t i = 0; i < json_array_size(names); i++) {
+        const json_t *name = json_array_get(names, i);
+        if (!json_is_string(name)) return false;
+        if (json_string_length(name) != sizeof wanted - 1 || strcmp(json_string_value(name), wanted) != 0) continue;
+        listeners++;
+        state->listener = (unsigned)i;
+    }
+    state->descriptors = (unsigned)json_array_size(names);
+    return listeners == 1;
+}
+
+static bool read_id(const json_t *id, struct container_state *state) {
+    size_t length = json_string_length(id);
+    if (length == 0 || length > CONTAINER_ID_MAX || strspn(json_string_value(id), id_characters) != length) return false;
+    memcpy(state->id, json_string_value(id), length + 1);
+    return true;
+}
+
+/* The number of the container's first process, where that is one; else 0. */
+static int read_process(const json_t *process) {
+    json_int_t number = json_integer_value(process);
+    return number > 0 && number <= INT_MAX ? (int)number : 0;
+}
+
+/* It isn't read before it is known to be nested no deeper than that: jansson calls itself for each level. */
 bool read_container_state(const char *text, size_t length, struct container_state *state) {
-    struct json json = json_read(text, length);
-    struct found found = { 0 };
-    char name[NAME_ROOM];
+    struct json_scan scan = { 0 };
+    size_t used;
     memset(state, 0, sizeof *state);
-    if (!json_enter(&json, '{')) return false;
-    while (json_next_member(&json, name, sizeof name))
-        if (!read_member(&json, name, state, &found)) return false;
-    if (!json_has_ended(&json)) return false;
-    if (found.names != 1 || found.listeners != 1 || found.states != 1 || found.ids != 1) return false;
-    return *state->id && strspn(state->id, id_characters) == strlen(state->id);
+    if (json_scan(&scan, text, length, &used) != JSON_WHOLE) return false;
+    room.bytes = room_for_state(STATE_ROOM);
+    json_set_alloc_funcs(take, keep_until_end);
+    const json_t *said = json_loadb(text, length, JSON_REJECT_DUPLICATES | JSON_ALLOW_NUL, NULL);
+    const json_t *container = json_object_get(said, "state");
+    state->first = read_process(json_object_get(container, "pid"));
+    bool is_right = read_names(json_object_get(said, "fds"), state) && read_id(json_object_get(container, "id"), state);
+    wipe_room();
+    return is_right;
 }

@@ -12,16 +12,8 @@
 
 #include "connection.h"
 
-static char *room_for_state(void) {
-    void *room = mmap(NULL, VISITOR_STATE_MAX, PROT_READ | PROT_WRITE, MAP_PRIVATE | MAP_ANONYMOUS, -1, 0);
-    if (room == MAP_FAILED) return NULL;
-    madvise(room, VISITOR_STATE_MAX, MADV_DONTDUMP);
-    madvise(room, VISITOR_STATE_MAX, MADV_WIPEONFORK);
-    return room;
-}
-
 bool visitor_begin(struct visitor *visitor, int connection) {
-    char *text = room_for_state();
+    char *text = room_for_state(VISITOR_STATE_MAX);
     if (!text) {
         close(connection);
         return false;

@@ -6,7 +6,6 @@
 #include <stddef.h>
 #include <stdint.h>
 
-#include "keyretain-agent-json.h"
 #include "keyretain-agent-state.h"
 
 /* The annotations of a container are in its state, and may be long. */

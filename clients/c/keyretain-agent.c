@@ -39,6 +39,15 @@ enum { MEMORY_MAX = 1024 * 1024, MEBIBYTE = 1024 * 1024, PAUSE = 20 /* milliseco
 
 static const char usage[] = "usage: keyretain-agent [--socket PATH] [--folder PATH] [--daemon PROGRAM]\n"
                             "         [--containers N] [--memory MEBIBYTES]\n";
+static const char help[] =
+    "\nAnswers the key calls of containers, each from a keyretaind of its own: an OCI seccomp agent.\n\n"
+    "  --socket PATH       where runtimes connect: " AGENT_SOCKET ", or what systemd passes\n"
+    "  --folder PATH       where the daemons have their sockets: " AGENT_FOLDER "\n"
+    "  --daemon PROGRAM    keyretaind: " KEYRETAIN_DAEMON "\n"
+    "  --containers N      the most containers: 256\n"
+    "  --memory MEBIBYTES  the most memory of each daemon, or 0 for no limit: 64\n"
+    "  -h, --help          prints this\n"
+    "  --version           prints the version\n";
 
 static const char *socket_path; /* NULL: it is passed */
 static struct containers_settings settings = { AGENT_FOLDER, KEYRETAIN_DAEMON, 64ul * MEBIBYTE, 256 };
@@ -47,7 +56,10 @@ static int listening = -1, signals = -1;
 static struct visitor visitors[VISITORS_MAX];
 
 static _Noreturn void fail(const char *what) {
+    bool is_foreign = errno == EACCES || errno == EPERM;
     fprintf(stderr, "keyretain-agent: %s: %s\n", what, strerror(errno));
+    if (is_foreign && geteuid() != 0)
+        fputs("keyretain-agent: root runs it; another user names a --socket and a --folder of its own\n", stderr);
     exit(NO_SOCKET);
 }
 
@@ -58,8 +70,8 @@ static _Noreturn void fail_usage(void) {
     exit(USAGE);
 }
 
-static _Noreturn void answer(const char *text) {
-    fputs(text, stdout);
+static _Noreturn void answer(const char *text, const char *more) {
+    printf("%s%s", text, more);
     exit(fflush(stdout) == 0 ? 0 : NO_SOCKET);
 }
 
@@ -67,7 +79,9 @@ static unsigned number(const char *text, unsigned long least, unsigned long most
     char *end;
     errno = 0;
     unsigned long value = strtoul(text, &end, 10);
-    if (*text < '0' || *text > '9' || *end || errno || value < least || value > most) fail_usage();
+    bool is_one = *text >= '0' && *text <= '9' && !*end && !errno && value >= least && value <= most;
+    if (!is_one) fprintf(stderr, "keyretain-agent: no number from %lu to %lu: %s\n", least, most, text);
+    if (!is_one) fail_usage();
     return (unsigned)value;
 }
 
@@ -78,8 +92,8 @@ static void read_option(int option) {
     case 'd': settings.daemon = optarg; break;
     case 'c': settings.most = number(optarg, 1, CONTAINERS_MAX); break;
     case 'm': settings.memory = number(optarg, 0, MEMORY_MAX) * (unsigned long)MEBIBYTE; break;
-    case 'h': answer(usage);
-    case 'v': answer("keyretain-agent " KEYRETAIN_VERSION "\n");
+    case 'h': answer(usage, help);
+    case 'v': answer("keyretain-agent " KEYRETAIN_VERSION "\n", "");
     default: fail_usage();
     }
 }
@@ -88,7 +102,8 @@ static void read_options(int count, char **words) {
     static const struct option known[] = {
         { "socket", 1, 0, 's' }, { "folder", 1, 0, 'f' },  { "daemon", 1, 0, 'd' }, { "containers", 1, 0, 'c' },
         { "memory", 1, 0, 'm' }, { "help", 0, 0, 'h' },    { "version", 0, 0, 'v' }, { 0, 0, 0, 0 } };
-    for (int option; (option = getopt_long(count, words, "", known, NULL)) != -1;) read_option(option);
+    for (int option; (option = getopt_long(count, words, "h", known, NULL)) != -1;) read_option(option);
+    if (optind != count) fprintf(stderr, "keyretain-agent: no option: %s\n", words[optind]);
     if (optind != count) fail_usage();
 }
 
@@ -129,7 +144,7 @@ static void take_state(struct visitor *visitor) {
     if (listener < 0)
         fputs("keyretain-agent: a state is refused: no container, or no listener\n", stderr);
     else
-        containers_take(state.id, listener);
+        containers_take(state.id, state.first, listener);
 }
 
 static void serve_visitor(struct visitor *visitor) {

@@ -16,6 +16,7 @@
 #include <sys/prctl.h>
 #include <unistd.h>
 
+#include "../../guard/listener.h"
 #include "connection.h"
 #include "session.h"
 
@@ -30,6 +31,16 @@ enum { SERIAL_WIDTH = 4, USER_MAY_SEARCH = 0x00080000, DECIMAL = 10 };
 static const char usage[] =
     "usage: keyretain-keeper [--name NAME] [--socket PATH] [--patience MILLISECONDS] [--no-link] [--deaf]\n"
     "       keyretain-keeper --hold RING [--socket PATH] [--patience MILLISECONDS]\n";
+static const char help[] =
+    "\nMakes a session of keyretaind and holds it until descriptor 0, a pipe, ends; it says which on descriptor 1.\n\n"
+    "  --name NAME              the session of this name; without it a new one\n"
+    "  --hold RING              holds no session, but this keyring of the user keyring, while it has keys\n"
+    "  --socket PATH            the daemon's socket\n"
+    "  --patience MILLISECONDS  how long the daemon may take, 1 to 999999; 10000 without it\n"
+    "  --no-link                doesn't link the user keyring\n"
+    "  --deaf                   reads nothing of the pipe\n"
+    "  -h, --help               prints this\n"
+    "  --version                prints the version\n";
 
 struct options {
     const char *name, *ring, *socket, *patience;
@@ -39,14 +50,14 @@ struct options {
 
 /* ---- Words ---- */
 
-static void refuse_words(void) {
-    fputs(usage, stderr);
+static void refuse_words(const char *why, const char *word) {
+    fprintf(stderr, "%skeyretain-keeper: %s: %s\n", usage, why, word);
     exit(USAGE);
 }
 
 static void answer_option(const char *word) {
-    if (strcmp(word, "--help") == 0)
-        fputs(usage, stdout);
+    if (strcmp(word, "--help") == 0 || strcmp(word, "-h") == 0)
+        printf("%s%s", usage, help);
     else if (strcmp(word, "--version") == 0)
         puts("keyretain-keeper " KEYRETAIN_VERSION);
     else
@@ -72,7 +83,7 @@ static const char **value_of(const char *word, struct options *options) {
 static int read_patience(const char *digits) {
     size_t length = strspn(digits, "0123456789");
     int milliseconds = digits[length] == '\0' && length <= PATIENCE_DIGITS ? (int)strtol(digits, NULL, DECIMAL) : 0;
-    if (milliseconds == 0) refuse_words();
+    if (milliseconds == 0) refuse_words("--patience is 1 to 999999", digits);
     return milliseconds;
 }
 
@@ -82,10 +93,11 @@ static struct options read_options(char **words) {
     for (; *words; words++) {
         if (is_flag(*words, &options)) continue;
         const char **value = value_of(*words, &options);
-        if (!value || !*++words || !**words || strchr(*words, '\n')) refuse_words();
-        *value = *words;
+        if (!value) refuse_words("no option", *words);
+        if (!words[1] || !*words[1] || strchr(words[1], '\n')) refuse_words("a value of one line must follow", *words);
+        *value = *++words;
     }
-    if (options.name && options.ring) refuse_words();
+    if (options.name && options.ring) refuse_words("either --name or --hold", options.name);
     if (options.patience) options.milliseconds = read_patience(options.patience);
     return options;
 }
@@ -142,7 +154,7 @@ static struct kr *connect_to(const struct options *options, char path[KR_PATH_RO
         errno = ENAMETOOLONG;
         fail("the socket's path");
     }
-    struct kr *connection = kr_open_with(options->socket, 0, 0, options->milliseconds);
+    struct kr *connection = kr_open_with(options->socket, 0, options->milliseconds);
     if (!connection || chdir("/") < 0) fail(path);
     kr_set_deadline(connection, end);
     kr_own_identity(&identity);
@@ -194,22 +206,16 @@ static void hold_session(const struct options *options) {
 
 /* ---- A keyring that is held as long as it has keys ---- */
 
-static int32_t find_ring(struct kr *connection, uint32_t context, const char *name) {
-    return kr_search(connection, context, KEY_SPEC_USER_KEYRING, "keyring", name, 0);
-}
-
-/* The keyring of this name in the user keyring. Where there is none it is made beside it and moved there: of two
+/* The key of this type and name in the user keyring. Where there is none it is made beside it and moved there: of two
  * keepers that do so at once the second finds what the first has made. */
-static int32_t have_ring(struct kr *connection, uint32_t context, const char *name) {
+static int32_t have_key(struct kr *connection, uint32_t context, const char *type, const char *name,
+                        const char *payload) {
     const int32_t beside = KEY_SPEC_THREAD_KEYRING, user = KEY_SPEC_USER_KEYRING;
-    int32_t ring = find_ring(connection, context, name);
-    if (ring < 0 && errno == ENOKEY) {
-        ring = kr_add(connection, context, "keyring", name, NULL, 0, beside);
-        if (ring >= 0 && kr_move(connection, context, ring, beside, user, KEYCTL_MOVE_EXCL) < 0)
-            ring = errno == EEXIST ? find_ring(connection, context, name) : -1;
-    }
-    if (ring < 0) fail_ask(connection, name);
-    return ring;
+    int32_t key = kr_search(connection, context, user, type, name, 0);
+    if (key >= 0 || errno != ENOKEY) return key;
+    key = kr_add(connection, context, type, name, payload, strlen(payload), beside);
+    if (key < 0 || kr_move(connection, context, key, beside, user, KEYCTL_MOVE_EXCL) == 0) return key;
+    return errno == EEXIST ? kr_search(connection, context, user, type, name, 0) : -1;
 }
 
 /* Unlinks the keys that can't be used any more, and answers whether one is left that can: there may be one where the
@@ -230,17 +236,31 @@ static bool sweep(struct kr *connection, uint32_t context, int32_t ring) {
 
 enum { IS_HELD = -1, UNCLAIMED = 0 };
 
-/* Whether no other keeper holds this keyring: it would have a session of this name, which its user may search. One
+/* The name of the session by which the keepers of this keyring know one another: the first has made it up, and put it
+ * into the user keyring. So no other user knows it. */
+static bool have_name(struct kr *connection, uint32_t context, const char *ring, struct kr_session *session) {
+    char key[KR_SESSION_NAME_ROOM];
+    snprintf(key, sizeof key, "keyretain-keeper:%s", ring);
+    if (kr_name_session(session, NULL) < 0) return false;
+    int32_t serial = have_key(connection, context, "user", key, session->name);
+    int64_t length = serial < 0 ? -1 : kr_read(connection, context, serial, session->name, sizeof session->name);
+    if (length <= 0 || length >= (int64_t)sizeof session->name) return false;
+    session->name[length] = '\0';
+    return true;
+}
+
+/* Whether no other keeper holds this keyring: it would have the session of that name, which its user may search. One
  * that was made just now may not be searched. The session is a second context's, as the first one's possesses the user
- * keyring: that context is answered, or UNCLAIMED where the name can't be had, as another user has it. */
+ * keyring: that context is answered, or UNCLAIMED where the daemon refuses it. */
 static int64_t claim(struct kr *connection, uint32_t context, const char *ring) {
-    char name[KR_SESSION_NAME_ROOM], described[KR_SESSION_NAME_ROOM + 64] = "";
+    static struct kr_session known;
+    char described[KR_SESSION_NAME_ROOM + 64] = "";
     unsigned owner = 0, mask = 0;
-    snprintf(name, sizeof name, "keyretain-keeper:%s", ring);
+    if (!have_name(connection, context, ring, &known)) return UNCLAIMED;
     int64_t second = kr_thread(connection, context);
-    int32_t session = second < 0 ? -1 : kr_join(connection, (uint32_t)second, name);
-    if (session < 0) return UNCLAIMED;
-    kr_describe(connection, (uint32_t)second, session, described, sizeof described - 1);
+    if (second < 0) return UNCLAIMED;
+    int32_t session = kr_join(connection, (uint32_t)second, known.name);
+    if (session >= 0) kr_describe(connection, (uint32_t)second, session, described, sizeof described - 1);
     bool is_own = sscanf(described, "keyring;%u;%*u;%x;", &owner, &mask) == 2 && owner == geteuid();
     if (is_own && mask & USER_MAY_SEARCH) return IS_HELD;
     if (is_own && kr_setperm(connection, (uint32_t)second, session, mask | USER_MAY_SEARCH) == 0) return second;
@@ -264,7 +284,8 @@ static void hold_ring(const struct options *options) {
     char path[KR_PATH_ROOM];
     uint32_t context;
     struct kr *connection = connect_to(options, path, &context);
-    int32_t ring = have_ring(connection, context, options->ring);
+    int32_t ring = have_key(connection, context, "keyring", options->ring, "");
+    if (ring < 0) fail_ask(connection, options->ring);
     answer(connection, ring, options->ring, path);
     let_go_of(STDOUT_FILENO);
     wait_for_end(connection, true);
@@ -273,9 +294,17 @@ static void hold_ring(const struct options *options) {
     kr_close(connection);
 }
 
+static bool is_open(int descriptor) { return fcntl(descriptor, F_GETFD) >= 0; }
+
 int main(int count, char **words) {
+    bool has_pipes = is_open(STDIN_FILENO) && is_open(STDOUT_FILENO);
+    if (!fill_standard_descriptors()) exit(NO_CONNECTION); /* a connection would get their number */
     if (count == 2) answer_option(words[1]);
     struct options options = read_options(words + 1);
+    if (!has_pipes) {
+        fputs("keyretain-keeper: descriptors 0, a pipe, and 1, on which it answers, must be open\n", stderr);
+        exit(REFUSED);
+    }
     stand_alone();
     if (options.ring)
         hold_ring(&options);

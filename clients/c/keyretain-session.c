@@ -1,5 +1,5 @@
-/* keyretain-session [--join | [--syscalls] [NAME]] [-- CMD [ARG ..]]: runs a command in a session of keyretaind. See
- * keyretain-session(1).
+/* keyretain-session [--env VARIABLE=KEY].. [--join | [--syscalls] [NAME]] [-- CMD [ARG ..]]: runs a command in a
+ * session of keyretaind. See keyretain-session(1).
  *
  * A keeper makes the session and holds it. The command, which doesn't know it, inherits the writing end of the pipe
  * on which the keeper waits: so the session lasts as long as the command and what it has started. With --syscalls a
@@ -7,12 +7,15 @@
 #define _GNU_SOURCE
 #include <errno.h>
 #include <limits.h>
+#include <linux/keyctl.h>
 #include <stdbool.h>
 #include <stdio.h>
 #include <stdlib.h>
 #include <string.h>
+#include <sys/stat.h>
 #include <unistd.h>
 
+#include "../../guard/listener.h"
 #include "connection.h"
 #include "holder.h"
 #include "launch.h"
@@ -25,15 +28,57 @@
 #define KEYRETAIN_VERSION "0"
 #endif
 
-enum { PATIENCE_MILLISECONDS = 10000 };
+enum { PATIENCE_MILLISECONDS = 10000, VARIABLES_MAX = 16, PAYLOAD_MAX = 32767, DECIMAL = 10 };
 
 enum way { BY_LIBRARY, BY_SYSTEM_CALLS, JOINING };
 
-static const char usage[] = "usage: keyretain-session [--syscalls] [NAME] [-- CMD [ARG ..]]\n"
-                            "       keyretain-session --join [-- CMD [ARG ..]]\n";
+static const char usage[] = "usage: keyretain-session [--env VARIABLE=KEY].. [NAME] [-- CMD [ARG ..]]\n"
+                            "       keyretain-session [--env VARIABLE=KEY].. --join [-- CMD [ARG ..]]\n"
+                            "       keyretain-session --syscalls [NAME] [-- CMD [ARG ..]]\n";
+static const char help[] =
+    "\nRuns a command, or a shell, in a session of keyretaind, where keyctl(1) and the like find its keys.\n\n"
+    "  NAME         the session of this name, which is made where there is none; without it a new one\n"
+    "  --env V=KEY  gives the command what a key holds, in the variable V; a KEY is a serial or %user:DESCRIPTION\n"
+    "  --join       the session that KEYRETAIN_SESSION names, as a login has it\n"
+    "  --syscalls   answers the system calls themselves: for programs that are static, or in Go or Rust\n"
+    "  -- CMD ARG   what is run; without it the shell that SHELL names\n"
+    "  -h, --help   prints this\n"
+    "  --version    prints the version\n\n"
+    "The daemon's socket is KEYRETAIN_SOCKET, or is looked for where keyretain-session(1) says.\n";
+
+static char socket_path[KR_PATH_ROOM];
+static const char *session_name; /* NULL: none was given */
+
+/* Why a session can't have the name that was given; NULL where it can. */
+static const char *name_fault(void) {
+    if (!session_name) return NULL;
+    if (*session_name == '.') return "a name begins with no dot";
+    if (strchr(session_name, '\n')) return "a name has no end of line";
+    return strlen(session_name) >= KR_SESSION_NAME_ROOM ? "a name has at most 4095 bytes" : NULL;
+}
+
+/* What to do about it, where that is known. */
+static const char *advice(int status, int error, const char *what) {
+    const char *exported = getenv("KEYRETAIN_SOCKET");
+    bool is_socket = status == NO_CONNECTION &&
+                     (strcmp(what, socket_path) == 0 || (exported && strcmp(what, exported) == 0));
+    if (is_socket && (error == ENOENT || error == ECONNREFUSED))
+        return "no daemon is there; start one: systemctl --user enable --now keyretaind";
+    if (is_socket && error == EACCES)
+        return "only the group keyretain reaches the system's daemon, and no other user may listen for you";
+    if (status == NO_CONNECTION && error == ETIMEDOUT)
+        return "all lanes may be held: keyretain-status tells, and keyretaind --lanes gives more";
+    if (status == NO_CONNECTION && error == EPERM)
+        return "another filter refuses the key calls, as that of a container does: its profile must allow them";
+    if (status == REFUSED && error == EKEYREVOKED)
+        return "the daemon was started anew, or nothing holds it: begin one by keyretain-session or a new login";
+    return NULL;
+}
 
 void fail(int status, const char *what) {
-    fprintf(stderr, "keyretain-session: %s: %s\n", what, strerror(errno));
+    const char *wrong = status == REFUSED ? name_fault() : NULL, *next = wrong ? wrong : advice(status, errno, what);
+    fprintf(stderr, "keyretain-session: %s: %s\n", wrong ? "the name" : what, strerror(errno));
+    if (next) fprintf(stderr, "keyretain-session: %s\n", next);
     exit(status);
 }
 
@@ -44,16 +89,40 @@ static void fail_ask(const struct kr *connection, const char *what) {
 
 /* ---- Words ---- */
 
-static void refuse_words(void) {
-    fputs(usage, stderr);
+static void refuse_words(const char *why, const char *word) {
+    fprintf(stderr, "%skeyretain-session: %s: %s\n", usage, why, word ? word : "none is given");
     exit(USAGE);
 }
 
+/* What --env says: VARIABLE=KEY. */
+static char *variables[VARIABLES_MAX + 1];
+
+/* VARIABLE is a name of the shell's, and KEY a serial or `%user:DESCRIPTION`. */
+static bool is_variable(const char *word) {
+    static const char first[] = "ABCDEFGHIJKLMNOPQRSTUVWXYZabcdefghijklmnopqrstuvwxyz_";
+    size_t length = strspn(word, "ABCDEFGHIJKLMNOPQRSTUVWXYZabcdefghijklmnopqrstuvwxyz_0123456789");
+    if (length == 0 || !strchr(first, *word) || word[length] != '=') return false;
+    const char *key = word + length + 1;
+    size_t digits = strspn(key, "0123456789");
+    return strncmp(key, "%user:", 6) == 0 ? key[6] != '\0' : digits > 0 && digits < 11 && !key[digits];
+}
+
+static void read_variables(char ***arguments) {
+    for (int i = 0; **arguments && strcmp(**arguments, "--env") == 0; i++, *arguments += 2) {
+        char *word = (*arguments)[1];
+        if (i == VARIABLES_MAX) refuse_words("more than 16 times --env", word);
+        if (!word || !is_variable(word)) refuse_words("--env is VARIABLE=SERIAL or VARIABLE=%user:DESCRIPTION", word);
+        variables[i] = word;
+    }
+}
+
 static enum way read_way(char ***arguments) {
+    read_variables(arguments);
     if (!**arguments) return BY_LIBRARY;
     enum way way = strcmp(**arguments, "--join") == 0       ? JOINING
                    : strcmp(**arguments, "--syscalls") == 0 ? BY_SYSTEM_CALLS
                                                             : BY_LIBRARY;
+    if (way == BY_SYSTEM_CALLS && *variables) refuse_words("--env is not for --syscalls", *variables);
     if (way != BY_LIBRARY) ++*arguments;
     return way;
 }
@@ -63,15 +132,16 @@ static char **read_arguments(char **arguments, const char **name, enum way *way)
     *way = read_way(&arguments);
     *name = NULL;
     if (*way != JOINING && *arguments && strcmp(*arguments, "--") != 0) *name = *arguments++;
-    if (*name && (**name == '-' || **name == '\0')) refuse_words();
+    if (*name && (**name == '-' || **name == '\0')) refuse_words("no option, and no name of a session", *name);
     if (!*arguments) return NULL;
-    if (strcmp(*arguments, "--") != 0 || !arguments[1]) refuse_words();
+    if (strcmp(*arguments, "--") != 0) refuse_words("-- is missing before the command", *arguments);
+    if (!arguments[1]) refuse_words("a command stands behind --", NULL);
     return arguments + 1;
 }
 
 static void answer_option(const char *word) {
-    if (strcmp(word, "--help") == 0)
-        fputs(usage, stdout);
+    if (strcmp(word, "--help") == 0 || strcmp(word, "-h") == 0)
+        printf("%s%s", usage, help);
     else if (strcmp(word, "--version") == 0)
         puts("keyretain-session " KEYRETAIN_VERSION);
     else
@@ -100,6 +170,15 @@ static const char *library_folder(void) {
     return named && *named ? named : KEYRETAIN_LIBRARY_FOLDER;
 }
 
+/* What the environment names may be another user's, as after su(1), and what is run would load it. */
+static void refuse_others(const char *path) {
+    struct stat status;
+    bool is_there = stat(path, &status) == 0;
+    if (is_there && (status.st_uid == geteuid() || status.st_uid == 0)) return;
+    if (is_there) errno = EACCES;
+    fail(NO_CONNECTION, path);
+}
+
 /* Programs are to find our libkeyutils.so.1 before the system's, wherever they run. Without it they would use the
  * kernel's keys, and nothing would say so. */
 static void export_library(void) {
@@ -109,6 +188,8 @@ static void export_library(void) {
     if (!folder) fail(NO_CONNECTION, library_folder());
     snprintf(library, sizeof library, "%s/libkeyutils.so.1", folder);
     if (access(library, R_OK) < 0) fail(NO_CONNECTION, library);
+    refuse_others(folder);
+    refuse_others(library);
     if (!others) others = "";
     if (asprintf(&folders, "%s%s%s", folder, *others ? ":" : "", others) < 0) fail(REFUSED, "LD_LIBRARY_PATH");
     set_variable("LD_LIBRARY_PATH", folders);
@@ -138,31 +219,58 @@ static void begin(const char *name, const char *path, struct kr_session *session
     struct kr_holder holder;
     enum kr_refusal why;
     if (name && kr_name_session(session, name) < 0) fail(REFUSED, "the name");
-    if (kr_start_keeper(&holder, session, path, true, kr_now() + PATIENCE_MILLISECONDS, &why) == 0) return;
+    if (kr_start_keeper(&holder, session, path, true, kr_now() + PATIENCE_MILLISECONDS, &why) == 0) {
+        if (kr_export_holder(&holder, session) < 0) fail(REFUSED, "the environment");
+        return;
+    }
     if (why == KR_REFUSED) fail(REFUSED, name ? name : "the session");
     fail(NO_CONNECTION, why == KR_NO_KEEPER && errno != ETIMEDOUT ? "keyretain-keeper" : path);
 }
 
 /* A login without a session has the variable too, and empty. */
 static _Noreturn void refuse_to_join(void) {
-    fputs("keyretain-session: there is no session to join: " KR_SESSION_VARIABLE " names none\n", stderr);
+    fputs("keyretain-session: there is no session to join: " KR_SESSION_VARIABLE " names none\n"
+          "keyretain-session: logins have one by pam_keyretain(8); keyretain-session without --join begins one\n",
+          stderr);
     exit(REFUSED);
 }
 
-/* Sees that the session which the environment names is there. Whoever began it holds it. */
-static void join(const char *path, struct kr_session *session) {
+static void find_session(struct kr_session *session) {
     const char *text = getenv(KR_SESSION_VARIABLE);
-    struct kr_identity identity;
     if (!text || !kr_parse_session(session, text) || session->serial == 0) refuse_to_join();
-    struct kr *connection = kr_open_with(path, 0, 0, PATIENCE_MILLISECONDS);
+}
+
+/* What a key holds, for the command alone: neither it nor what it is found by has a null byte. */
+static void give_variable(struct kr *connection, uint32_t context, char *word) {
+    static char secret[PAYLOAD_MAX + 1];
+    char *key = strchr(word, '=');
+    *key++ = '\0';
+    int64_t id = *key == '%' ? kr_search(connection, context, KEY_SPEC_SESSION_KEYRING, "user", key + 6, 0)
+                             : strtoll(key, NULL, DECIMAL);
+    if (id > INT32_MAX) errno = ENOKEY;
+    int64_t length = id < 0 || id > INT32_MAX ? -1 : kr_read(connection, context, (int32_t)id, secret, PAYLOAD_MAX);
+    if (length > PAYLOAD_MAX) errno = EMSGSIZE;
+    if (length < 0 || length > PAYLOAD_MAX) fail_ask(connection, key);
+    secret[length] = '\0';
+    errno = EINVAL;
+    if (strlen(secret) != (size_t)length) fail(REFUSED, key);
+    set_variable(word, secret);
+    explicit_bzero(secret, sizeof secret);
+}
+
+/* Sees that the session is there, and gives the command what it has. Who began the session holds it. */
+static void enter(const char *path, const struct kr_session *session) {
+    struct kr_identity identity;
+    struct kr *connection = kr_open_with(path, 0, PATIENCE_MILLISECONDS);
     if (!connection) fail(NO_CONNECTION, path);
     kr_set_deadline(connection, kr_now() + PATIENCE_MILLISECONDS);
     kr_own_identity(&identity);
     int64_t context = kr_hello_as(connection, &identity);
-    int entered = context < 0 ? -1 : kr_enter_session(connection, (uint32_t)context, session, identity.uid);
+    int entered = context < 0 ? -1 : kr_enter_named(connection, (uint32_t)context, session, identity.uid);
     if (entered == 1) errno = EKEYREVOKED;
     if (entered == 1) fail(REFUSED, session->name);
     if (entered < 0) fail_ask(connection, session->name);
+    for (char **word = variables; *word; word++) give_variable(connection, (uint32_t)context, *word);
     kr_close(connection);
 }
 
@@ -181,22 +289,25 @@ static void run(char **command) {
 
 int main(int count, char **arguments) {
     static struct kr_session session;
-    char path[KR_PATH_ROOM];
-    const char *name;
     enum way way;
+    if (!fill_standard_descriptors()) exit(NO_CONNECTION); /* a connection would get their number */
     if (count == 2) answer_option(arguments[1]);
-    char **command = command_or_shell(read_arguments(arguments + 1, &name, &way));
-    if (kr_default_path(path, sizeof path) < 0) fail(NO_CONNECTION, "the socket's path");
+    char **given = read_arguments(arguments + 1, &session_name, &way), **command = command_or_shell(given);
+    const char *name = session_name;
+    if (name && !given && isatty(STDERR_FILENO))
+        fprintf(stderr, "keyretain-session: a shell in the session %s; a command stands behind --\n", name);
+    if (kr_default_path(socket_path, sizeof socket_path) < 0) fail(NO_CONNECTION, "the socket's path");
     if (way == BY_SYSTEM_CALLS)
         hide_library();
     else
         export_library();
-    export_socket(path);
+    export_socket(socket_path);
     if (way == BY_SYSTEM_CALLS) launch(getenv("KEYRETAIN_SOCKET"), name, command);
     if (way == JOINING)
-        join(path, &session);
+        find_session(&session);
     else
         begin(name, getenv("KEYRETAIN_SOCKET"), &session);
+    if (way == JOINING || *variables) enter(socket_path, &session);
     if (kr_export_session(&session) < 0) fail(REFUSED, KR_SESSION_VARIABLE);
     run(command);
 }

@@ -26,14 +26,14 @@
  *                           folder keyretain, also if nobody listens there
  *   the system's path       root or the system's daemon, which is the owner of the folder /run/keyretain
  *   a path that was named   (in an argument, or by $KEYRETAIN_SOCKET) the effective user, root or the system's daemon;
- *                           with KR_ANY_SERVER, or KEYRETAIN_TRUST=any in the environment, which is for tests: anybody
+ *                           with KR_ANY_SERVER anybody
  *
  * Whoever has a connection may say HELLO as anybody and read what that user may read. So a connection isn't handed on:
  * not to a forked child, not over execve(2), and not to another identity that the process takes.
  *
  * UNITS. Times are seconds, but for kr_set_patience, which takes milliseconds. Masks are those of keyctl_setperm(3).
- * Serials are above 2; the ids -1 to -5 are the keyrings of keyrings(7), as KEY_SPEC_USER_KEYRING. Lengths and rooms
- * are bytes. Texts end with a null byte, and NULL is the empty one. No answer has a null byte put after it.
+ * Serials are above 2; the ids -1 to -5 are the keyrings of keyrings(7), KEY_SPEC_THREAD_KEYRING and so on. Lengths and
+ * rooms are bytes. Texts end with a null byte, and NULL is the empty one. No answer has a null byte put after it.
  *
  * THREADS. The library has no variables of its own. One connection must be used by one thread at a time: a program
  * that shares it locks around each call. Connections are independent of each other. No call may be made in a signal
@@ -56,19 +56,23 @@ extern "C" {
 
 struct kr;
 
+/* As in linux/keyctl.h and keyutils.h. */
+#define KEY_SPEC_THREAD_KEYRING -1
+#define KEY_SPEC_PROCESS_KEYRING -2
+#define KEY_SPEC_SESSION_KEYRING -3
+#define KEY_SPEC_USER_KEYRING -4
+#define KEY_SPEC_USER_SESSION_KEYRING -5
+
 /* ---- A connection ---- */
 
 /* Connects to the daemon at `path`, or for NULL where kr_default_path says. NULL with connect(2)'s errno where that
  * fails, EACCES where who listens isn't trusted, ETIMEDOUT after 30 seconds, ENOENT for an empty path, ENAMETOOLONG
- * for one above 107 bytes. The version of the frames is found out with the first ask. */
+ * for one above 107 bytes. The frames are those of version 2. */
 struct kr *kr_open(const char *path);
 
-/* The same with frames of this version, 1 or 2; 0 finds it out. EINVAL for any other. */
-struct kr *kr_open_version(const char *path, int version);
-
-/* The same with flags, and with the patience that kr_set_patience sets later. */
+/* The same with flags, and with the patience that kr_set_patience sets later. EINVAL for a flag that is none. */
 enum { KR_ANY_SERVER = 1 /* whoever listens at a path that is named is trusted */ };
-struct kr *kr_open_with(const char *path, int version, unsigned flags, int milliseconds);
+struct kr *kr_open_with(const char *path, unsigned flags, int milliseconds);
 
 void kr_close(struct kr *connection);
 
@@ -94,15 +98,6 @@ int kr_is_broken(const struct kr *connection);
 /* The socket: to wait for its end, not to read from. -1 once another descriptor has its number. */
 int kr_descriptor(const struct kr *connection);
 
-/* The version of the frames, 0 before the first reply. */
-int kr_frame_version(const struct kr *connection);
-
-/* Leaves the descriptor open over execve(2), so that the connection lasts as long as what is executed, and its
- * children, have it open. Its number becomes at least 200, out of the way of shells, where so many are allowed.
- * WHOEVER INHERITS IT MAY ASK AS ANYBODY: keep a session by keyretain-keeper(8), and use this for programs that are
- * trusted. */
-int kr_keep_over_exec(struct kr *connection);
-
 /* ---- Contexts: the first three answer the number that other asks take as `context` ---- */
 
 int64_t kr_hello(struct kr *connection, uint32_t uid, uint32_t gid, uint32_t count, const uint32_t *groups);
@@ -111,6 +106,12 @@ int64_t kr_fork(struct kr *connection, uint32_t context);
 int kr_exec(struct kr *connection, uint32_t context);
 int kr_exit(struct kr *connection, uint32_t context);
 int kr_leave(struct kr *connection);
+
+/* Has a context of the effective user join the session that the program is in: SERIAL:NAME, for NULL what
+ * KEYRETAIN_SESSION says, unless the program runs set-uid. Answers 1; 0 where no session is named, and the context is
+ * as it was; -1 with EKEYREVOKED where it was revoked or is gone, or is another user's or open to others. Then the
+ * context has a new session keyring, which nobody shares. */
+int kr_enter_session(struct kr *connection, uint32_t context, const char *session);
 
 /* ---- Keys and keyrings ---- */
 
@@ -148,8 +149,7 @@ int kr_set_timeout(struct kr *connection, uint32_t context, int32_t id, uint32_t
 
 int kr_invalidate(struct kr *connection, uint32_t context, int32_t id);
 
-/* A daemon that doesn't carry one of these two ends the connection, which is ECONNRESET. `type` is NULL or empty to
- * close a keyring against new links. With flag 1 a key of the same name is not displaced. */
+/* `type` is NULL or empty to close a keyring against new links. With flag 1 a key of the same name is not displaced. */
 int kr_restrict_keyring(struct kr *connection, uint32_t context, int32_t ring, const char *type);
 int kr_move(struct kr *connection, uint32_t context, int32_t id, int32_t from, int32_t to, uint32_t flags);
 
@@ -220,9 +220,8 @@ struct kr_field {
 enum { KR_AHEAD_MAX = 256 };
 
 /* Sends an ask with as many fields as it has, and waits for nothing: 0, with its tag. -1 and EAGAIN where a reply is
- * to be received first: KR_AHEAD_MAX are awaited, or the daemon takes no more. EINVAL for a number of no ask, and
- * before the connection's first reply, which says which frames the daemon understands. What else a call answers is
- * above. */
+ * to be received first: KR_AHEAD_MAX are awaited, or the daemon takes no more. EINVAL for a number of no ask. What
+ * else a call answers is above. */
 int kr_send(struct kr *connection, unsigned operation, uint32_t context, const struct kr_field *fields, uint64_t *tag);
 
 /* Waits for the next reply, and answers as the ask's own function does, with the ask's tag. Bytes are in `buffer`

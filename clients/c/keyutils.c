@@ -9,6 +9,8 @@
 #include <stdlib.h>
 #include <string.h>
 
+#include "caller.h"
+#include "connection.h"
 #include "else_kernel.h"
 #include "syscalls.h"
 #include "wire.h"
@@ -252,12 +254,13 @@ int keyctl_read_alloc(key_serial_t id, void **buffer) {
 /* ---- Scans ---- */
 
 /* How deep libkeyutils goes. */
-enum { DEEPEST = 800, SERIAL_WIDTH = 4 };
+enum { DEEPEST = 800, SERIAL_WIDTH = 4, MOST_LINKS = 1 << 18, SCAN_MILLISECONDS = 30000 };
 
 struct scan {
     recursive_key_scanner_t scanner;
     void *data;
     bool is_lost; /* there is no daemon any more: a next one has other keys, and none may keep each ask waiting */
+    int left;     /* how many links more are followed, as a daemon may say any */
 };
 
 static int scan_key(struct scan *scan, key_serial_t parent, key_serial_t key, int depth);
@@ -274,6 +277,8 @@ static int scan_links(struct scan *scan, key_serial_t ring, int depth) {
         note_loss(scan);
         return 0;
     }
+    if (length / SERIAL_WIDTH > scan->left) scan->is_lost = true;
+    scan->left -= length / SERIAL_WIDTH;
     for (const uint8_t *at = links; length >= SERIAL_WIDTH && !scan->is_lost; at += SERIAL_WIDTH, length -= SERIAL_WIDTH)
         if (kr_is_serial(kr_get_u32(at))) found += scan_key(scan, ring, (key_serial_t)kr_get_u32(at), depth + 1);
     free(links);
@@ -293,9 +298,19 @@ static int scan_key(struct scan *scan, key_serial_t parent, key_serial_t key, in
     return found;
 }
 
+/* Calls from here on end by the time that one may take, all together, or by the moment that was set before. */
+static int64_t begin_scan(void) {
+    int64_t end = kr_now() + SCAN_MILLISECONDS, before = caller_limit(end);
+    if (before < end) caller_limit(before);
+    return before;
+}
+
 int recursive_key_scan(key_serial_t key, recursive_key_scanner_t scanner, void *data) {
-    struct scan scan = { scanner, data, false };
-    return scan_key(&scan, 0, key, 0);
+    struct scan scan = { scanner, data, false, MOST_LINKS };
+    int64_t before = begin_scan();
+    int found = scan_key(&scan, 0, key, 0);
+    caller_limit(before);
+    return found;
 }
 
 int recursive_session_key_scan(recursive_key_scanner_t scanner, void *data) {
@@ -337,11 +352,18 @@ static key_serial_t find_in_keyrings(const char *type, const char *description) 
     return wanted.found;
 }
 
-key_serial_t find_key_by_type_and_desc(const char *type, const char *description, key_serial_t destination) {
+static key_serial_t find_key(const char *type, const char *description, key_serial_t destination) {
     key_serial_t found = request_key(type, description, NULL, destination);
     int error = errno;
     if (found >= 0 || error == ENOMEM || error == ENOSYS) return found;
     found = find_in_keyrings(type, description);
     if (found == 0) return (key_serial_t)fail(error);
     return destination != 0 && keyctl_link(found, destination) < 0 ? -1 : found;
+}
+
+key_serial_t find_key_by_type_and_desc(const char *type, const char *description, key_serial_t destination) {
+    int64_t before = begin_scan();
+    key_serial_t found = find_key(type, description, destination);
+    caller_limit(before);
+    return found;
 }

@@ -170,16 +170,17 @@ static bool read_report(int reports, struct report *report) {
     return got == (ssize_t)sizeof *report;
 }
 
-/* Without the supervisor the command goes on, without keys, and is this process's child. */
-static void wait_without_supervisor(void) {
+/* Without the supervisor the command goes on, without keys, and is this process's child once that has ended. */
+static void wait_without(pid_t supervisor) {
     int status;
     pid_t ended;
+    while (waitpid(supervisor, &status, 0) < 0 && errno == EINTR) continue;
     while ((ended = waitpid(command_process, &status, 0)) < 0 && errno == EINTR) continue;
     if (ended == command_process && command_process > 0) end_as(status);
     exit(NO_CONNECTION);
 }
 
-static void wait_for_command(int reports, const char *path, const char *name) {
+static void wait_for_command(pid_t supervisor, int reports, const char *path, const char *name) {
     struct report report;
     while (read_report(reports, &report)) {
         errno = report.error;
@@ -188,7 +189,7 @@ static void wait_for_command(int reports, const char *path, const char *name) {
         command_process = report.value;
         handle_signals();
     }
-    wait_without_supervisor();
+    wait_without(supervisor);
 }
 
 /* ---- Beginning ---- */
@@ -264,6 +265,6 @@ void launch(const char *path, const char *name, char **command) {
         supervise(reports[1], path, name, command);
     }
     close(reports[1]);
-    wait_for_command(reports[0], path, name);
+    wait_for_command(supervisor, reports[0], path, name);
     abort();
 }

@@ -7,9 +7,9 @@
 #include <fcntl.h>
 #include <linux/types.h>
 #include <stdio.h>
+#include <stdlib.h>
 #include <string.h>
 #include <sys/ioctl.h>
-#include <sys/uio.h>
 #include <unistd.h>
 
 #include "proc.h"
@@ -89,24 +89,35 @@ static enum answer is_writable_in(int maps, unsigned long at, unsigned long end)
     return YES;
 }
 
-static enum answer is_writable(pid_t thread, unsigned long at, size_t length) {
-    char path[64];
-    snprintf(path, sizeof path, "/proc/%d/maps", (int)thread);
-    if (at + length < at) return NO;
-    int maps = open(path, O_RDONLY | O_CLOEXEC);
-    if (maps < 0) return UNKNOWN;
-    enum answer answer = is_writable_in(maps, at, at + length);
-    close(maps);
-    return answer;
+/* Before, it is told in lines, in the order of addresses. */
+static bool is_writable_in_lines(FILE *maps, unsigned long at, unsigned long end) {
+    unsigned long start, stop;
+    char *line = NULL, writable;
+    size_t room = 0;
+    while (at < end && getline(&line, &room, maps) > 0) {
+        if (sscanf(line, "%lx-%lx %*c%c", &start, &stop, &writable) != 3 || at < start || at >= stop) continue;
+        if (writable != 'w') break;
+        at = stop;
+    }
+    free(line);
+    return at >= end;
 }
 
-/* Where the kernel doesn't tell, process_vm_writev(2) honours protections; it takes a number, so the thread must still
- * wait just before. */
+static bool is_writable(pid_t thread, unsigned long at, size_t length) {
+    char path[64];
+    snprintf(path, sizeof path, "/proc/%d/maps", (int)thread);
+    FILE *maps = at + length < at ? NULL : fopen(path, "re");
+    if (!maps) return false;
+    enum answer answer = is_writable_in(fileno(maps), at, at + length);
+    bool is_one = answer == UNKNOWN ? is_writable_in_lines(maps, at, at + length) : answer == YES;
+    fclose(maps);
+    return is_one;
+}
+
+/* What is looked at and written to was opened, or is, while the thread waited. So it is that thread's memory, whatever
+ * is executed meanwhile, and whoever has its number. */
 bool memory_write(const struct memory *memory, unsigned long to, const void *from, size_t length,
                   bool (*is_valid)(void)) {
-    enum answer writable = is_writable(memory->thread, to, length);
-    if (writable == NO || !is_valid()) return false;
-    if (writable == YES) return pwrite(memory->file, from, length, (off_t)to) == (ssize_t)length;
-    const struct iovec here = { (void *)from, length }, there = { (void *)to, length };
-    return process_vm_writev(memory->thread, &here, 1, &there, 1, 0) == (ssize_t)length;
+    return is_writable(memory->thread, to, length) && is_valid() &&
+           pwrite(memory->file, from, length, (off_t)to) == (ssize_t)length;
 }

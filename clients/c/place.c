@@ -78,8 +78,3 @@ bool kr_is_trusted(enum kr_place place, uid_t user, uid_t peer) {
     default: return is_own || is_system_daemon(peer);
     }
 }
-
-bool kr_trusts_anybody(void) {
-    const char *word = secure_getenv("KEYRETAIN_TRUST");
-    return word && strcmp(word, "any") == 0;
-}

@@ -15,13 +15,15 @@ enum kr_place {
     KR_SYSTEM /* there is no other */
 };
 
+struct kr_where {
+    enum kr_place place;
+    char path[KR_PATH_ROOM];
+};
+
 /* Puts the path there and answers its length, as kr_default_path does; -1 with errno. */
 int kr_find_daemon(char *path, size_t room, enum kr_place *place);
 
 /* Whether a daemon that `peer` runs may be told what a user keeps. */
 bool kr_is_trusted(enum kr_place place, uid_t user, uid_t peer);
-
-/* Whether the environment says, for a test, that whoever listens at a named path is trusted. */
-bool kr_trusts_anybody(void);
 
 #endif

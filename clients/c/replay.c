@@ -16,8 +16,10 @@ uint64_t replay_sum(uint64_t sum, const void *bytes, size_t length) {
     return sum;
 }
 
-bool replay_take(struct replay *replay, const struct seccomp_data *call, uint64_t sum, long *result) {
-    bool is_same = replay->until >= kr_now() && replay->sum == sum && memcmp(&replay->call, call, sizeof *call) == 0;
+bool replay_take(struct replay *replay, const struct seccomp_data *call, const struct admission_process *caller,
+                 uint64_t sum, long *result) {
+    bool is_same = replay->until >= kr_now() && replay->sum == sum && memcmp(&replay->call, call, sizeof *call) == 0 &&
+                   memcmp(&replay->caller, caller, sizeof *caller) == 0;
     replay->until = 0;
     if (!is_same) return false;
     *result = replay->result;
@@ -25,6 +27,12 @@ bool replay_take(struct replay *replay, const struct seccomp_data *call, uint64_
     return true;
 }
 
-void replay_keep(struct replay *replay, const struct seccomp_data *call, uint64_t sum, long result, int error) {
-    *replay = (struct replay){ *call, sum, kr_now() + KEPT_MILLISECONDS, result, error };
+void replay_keep(struct replay *replay, const struct seccomp_data *call, const struct admission_process *caller,
+                 uint64_t sum, long result, int error) {
+    replay->call = *call;
+    memcpy(&replay->caller, caller, sizeof *caller);
+    replay->sum = sum;
+    replay->until = kr_now() + KEPT_MILLISECONDS;
+    replay->result = result;
+    replay->error = error;
 }

@@ -12,9 +12,12 @@
 #include <stddef.h>
 #include <stdint.h>
 
+#include "krs_admission.h"
+
 /* A thread's, at first all zero. */
 struct replay {
     struct seccomp_data call;
+    struct admission_process caller; /* all its bytes count */
     uint64_t sum; /* of the bytes that the call's pointers meant */
     int64_t until;
     long result;
@@ -24,10 +27,13 @@ struct replay {
 /* The sum of some bytes more. */
 uint64_t replay_sum(uint64_t sum, const void *bytes, size_t length);
 
-/* Whether the call is that of the answer that is kept, which is then given. Either way none is kept afterwards. */
-bool replay_take(struct replay *replay, const struct seccomp_data *call, uint64_t sum, long *result);
+/* Whether the call is that of the answer that is kept, and of who has the same ids, which is then given it. Either way
+ * none is kept afterwards. */
+bool replay_take(struct replay *replay, const struct seccomp_data *call, const struct admission_process *caller,
+                 uint64_t sum, long *result);
 
 /* Keeps the answer `result`, with this errno. */
-void replay_keep(struct replay *replay, const struct seccomp_data *call, uint64_t sum, long result, int error);
+void replay_keep(struct replay *replay, const struct seccomp_data *call, const struct admission_process *caller,
+                 uint64_t sum, long result, int error);
 
 #endif

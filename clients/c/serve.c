@@ -69,23 +69,24 @@ static bool reply(long result, int error) {
     return ioctl(all.listener, SECCOMP_IOCTL_NOTIF_SEND, all.reply) == 0;
 }
 
-static void answer_entered(int call, const unsigned long given[5]) {
+static void answer_entered(const struct key_row *row, const unsigned long given[KEY_ARGUMENTS]) {
     const struct seccomp_data *data = &all.notification->data;
+    const struct entered *entered = tracees_entered();
     uint64_t sum;
-    long result = call_carry_out(call, given, data, is_valid, &sum);
+    long result = call_carry_out(row, given, data, &sum);
     int error = errno;
     if (!reply(result, error) && errno == ENOENT && sum != 0)
-        replay_keep(tracees_replay(), data, sum, result, error);
+        replay_keep(&entered->task->replay, data, &entered->asker.process, sum, result, error);
     tracees_leave();
 }
 
 /* What can't be looked into is answered as where no daemon is: never by the kernel's keys. */
 static void answer(void) {
-    unsigned long given[5];
+    unsigned long given[KEY_ARGUMENTS];
     int call = filter_decode(&all.notification->data, given);
-    struct tracees_wish wish = { call_may_name_thread(call, given), call_may_name_keyring(call, given) };
-    if (call >= 0 && all.notification->pid != 0 && tracees_enter((pid_t)all.notification->pid, wish, is_valid))
-        answer_entered(call, given);
+    const struct key_row *row = key_row_of(call);
+    if (call >= 0 && all.notification->pid != 0 && tracees_enter((pid_t)all.notification->pid, row, given, is_valid))
+        answer_entered(row, given);
     else
         reply(-1, ENOSYS);
 }
@@ -231,7 +232,7 @@ static void take_event(const struct epoll_event *event) {
 static void take_events(const struct epoll_event *events, int count) {
     for (int i = 0; i < count; i++)
         if (is_tracee(events[i].data.ptr)) {
-            tracees_ended(events[i].data.ptr);
+            entries_ended(events[i].data.ptr);
             return;
         }
     for (int i = 0; i < count; i++) take_event(&events[i]);

@@ -156,11 +156,21 @@ int32_t kr_begin_session(struct kr *connection, uint32_t context, const char *na
 
 /* A daemon that was started anew gives the same serials again. So it isn't enough that the serial is the session's: one
  * that JOIN has just made is known by lacking the right to search, without which JOIN would not have found it. */
-int kr_enter_session(struct kr *connection, uint32_t context, const struct kr_session *session, uint32_t uid) {
+int kr_enter_named(struct kr *connection, uint32_t context, const struct kr_session *session, uint32_t uid) {
     struct attributes attributes = { 0 };
     int32_t ring = kr_join(connection, context, session->name);
     if (ring < 0) return -1;
     int other = ring != session->serial ? 1 : check_private(connection, context, ring, uid, &attributes);
     if (other == 0 && !(attributes.mask & USER_MAY_SEARCH)) return 1;
     return other > 0 ? leave_session(connection, context) : other;
+}
+
+int kr_enter_session(struct kr *connection, uint32_t context, const char *text) {
+    struct kr_session session;
+    if (!text) text = secure_getenv(KR_SESSION_VARIABLE);
+    if (!text || !kr_parse_session(&session, text)) return 0;
+    if (session.serial == 0) return kr_begin_session(connection, context, session.name) < 0 ? -1 : 1;
+    int entered = kr_enter_named(connection, context, &session, geteuid());
+    if (entered == 1) errno = EKEYREVOKED;
+    return entered == 0 ? 1 : -1;
 }

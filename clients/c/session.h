@@ -54,7 +54,7 @@ int32_t kr_begin_session_as(struct kr *connection, uint32_t context, const char 
 /* Joins a session whose serial is known, and which must still be there, for the user of a context: 0; 1 where its
  * keyring was revoked, is gone, or isn't this user's alone; -1 with errno. With 1 the context has another keyring,
  * which nobody shares, as its session. */
-int kr_enter_session(struct kr *connection, uint32_t context, const struct kr_session *session, uint32_t uid);
+int kr_enter_named(struct kr *connection, uint32_t context, const struct kr_session *session, uint32_t uid);
 
 /* Whether an id is a keyring's, as far as this context may know. */
 bool kr_is_keyring(struct kr *connection, uint32_t context, int32_t id);

@@ -15,7 +15,7 @@
 
 #include "connection.h"
 
-enum { KEPT_DESCRIPTOR = 200, USUAL_PATIENCE = 30000, IN_SEND = 0, IN_RECV = 1 };
+enum { USUAL_PATIENCE = 30000, IN_SEND = 0, IN_RECV = 1 };
 
 static int fail(int error) {
     errno = error;
@@ -95,17 +95,14 @@ static struct kr_memory *make_memory(pid_t *owner) {
     return memory;
 }
 
-/* The path, or for NULL that which is found. An empty one would be a name that anybody may take. */
-static int set_address(struct kr *connection, const char *path) {
-    char found[KR_PATH_ROOM];
-    connection->place = KR_NAMED;
-    if (!path && kr_find_daemon(found, sizeof found, &connection->place) < 0) return -1;
-    path = path ? path : found;
+/* An empty path would be a name that anybody may take. */
+int kr_locate(struct kr_where *where, const char *path) {
+    if (!path) return kr_find_daemon(where->path, sizeof where->path, &where->place) < 0 ? -1 : 0;
     size_t length = strlen(path);
     if (length == 0) return fail(ENOENT);
-    if (length >= sizeof connection->address.sun_path) return fail(ENAMETOOLONG);
-    connection->address.sun_family = AF_UNIX;
-    memcpy(connection->address.sun_path, path, length + 1);
+    if (length >= sizeof where->path) return fail(ENAMETOOLONG);
+    where->place = KR_NAMED;
+    memcpy(where->path, path, length + 1);
     return 0;
 }
 
@@ -125,24 +122,25 @@ static int have_socket(struct kr *connection) {
     return 0;
 }
 
-static int prepare(struct kr *connection, const char *path, int version, unsigned flags) {
-    if (version < 0 || version > KR_NEWEST_VERSION || flags & ~(unsigned)KR_ANY_SERVER) return fail(EINVAL);
+static int prepare(struct kr *connection, const struct kr_where *where, unsigned flags) {
+    _Static_assert(sizeof where->path == sizeof connection->address.sun_path, "a path of unix(7)");
+    if (flags & ~(unsigned)KR_ANY_SERVER) return fail(EINVAL);
     connection->descriptor = -1;
     connection->patience = USUAL_PATIENCE;
     connection->until = KR_NEVER;
-    connection->version = version == 0 ? KR_NEWEST_VERSION : version;
-    connection->is_version_known = version != 0;
-    connection->trusts_anybody = flags & KR_ANY_SERVER || kr_trusts_anybody();
-    if (set_address(connection, path) < 0) return -1;
+    connection->trusts_anybody = flags & KR_ANY_SERVER;
+    connection->place = where->place;
+    connection->address.sun_family = AF_UNIX;
+    memcpy(connection->address.sun_path, where->path, sizeof where->path);
     connection->memory = make_memory(&connection->owner);
     return connection->memory ? have_socket(connection) : -1;
 }
 
-struct kr *kr_prepare(const char *path, int version, unsigned flags, uid_t user) {
+struct kr *kr_prepare(const struct kr_where *where, unsigned flags, uid_t user) {
     struct kr *connection = calloc(1, sizeof *connection);
     if (!connection) return NULL;
     connection->user = user;
-    if (prepare(connection, path, version, flags) == 0) return connection;
+    if (prepare(connection, where, flags) == 0) return connection;
     kr_close(connection);
     return NULL;
 }
@@ -181,14 +179,12 @@ static int check_peer(struct kr *connection) {
 }
 
 int kr_connect(struct kr *connection) {
-    if (connection->descriptor < 0 && have_socket(connection) < 0) return -1;
-    connection->asked = connection->answered = connection->given_up = 0;
-    connection->out_start = connection->out_end = connection->in_length = connection->taken = 0;
     return connect_in_time(connection) < 0 ? -1 : check_peer(connection);
 }
 
-static struct kr *open_now(const char *path, int version, unsigned flags, int milliseconds) {
-    struct kr *connection = kr_prepare(path, version, flags, geteuid());
+static struct kr *open_now(const char *path, unsigned flags, int milliseconds) {
+    struct kr_where where = { .place = KR_NAMED };
+    struct kr *connection = kr_locate(&where, path) < 0 ? NULL : kr_prepare(&where, flags, geteuid());
     if (!connection) return NULL;
     connection->patience = milliseconds < 0 ? -1 : milliseconds;
     kr_begin_call(connection);
@@ -197,19 +193,17 @@ static struct kr *open_now(const char *path, int version, unsigned flags, int mi
     return NULL;
 }
 
-struct kr *kr_open_with(const char *path, int version, unsigned flags, int milliseconds) {
+struct kr *kr_open_with(const char *path, unsigned flags, int milliseconds) {
     int cancelling;
     pthread_setcancelstate(PTHREAD_CANCEL_DISABLE, &cancelling);
-    struct kr *connection = open_now(path, version, flags, milliseconds);
+    struct kr *connection = open_now(path, flags, milliseconds);
     int error = errno;
     pthread_setcancelstate(cancelling, NULL);
     errno = error;
     return connection;
 }
 
-struct kr *kr_open_version(const char *path, int version) { return kr_open_with(path, version, 0, USUAL_PATIENCE); }
-
-struct kr *kr_open(const char *path) { return kr_open_version(path, 0); }
+struct kr *kr_open(const char *path) { return kr_open_with(path, 0, USUAL_PATIENCE); }
 
 /* ---- Closing ---- */
 
@@ -225,41 +219,20 @@ bool kr_is_ours(const struct kr *connection) {
     return is_here && is_socket(connection);
 }
 
-void kr_let_go(struct kr *connection) {
-    int error = errno;
-    if (is_socket(connection)) close(connection->descriptor);
-    connection->descriptor = -1;
-    errno = error;
+bool kr_see(struct kr *connection) {
+    connection->was_seen = !connection->broken && kr_is_ours(connection);
+    return connection->was_seen;
 }
 
 void kr_close(struct kr *connection) {
     int error = errno, cancelling;
     if (!connection) return;
     pthread_setcancelstate(PTHREAD_CANCEL_DISABLE, &cancelling);
-    kr_let_go(connection);
+    if (is_socket(connection)) close(connection->descriptor);
     if (connection->memory) munmap(connection->memory, sizeof *connection->memory); /* the system clears its pages */
     free(connection);
     pthread_setcancelstate(cancelling, NULL);
     errno = error;
-}
-
-static int keep_over_exec(struct kr *connection) {
-    if (!kr_is_ours(connection)) return fail(ECONNRESET);
-    int kept = fcntl(connection->descriptor, F_DUPFD, KEPT_DESCRIPTOR);
-    if (kept < 0) return fcntl(connection->descriptor, F_SETFD, 0); /* fewer descriptors are allowed than that */
-    close(connection->descriptor);
-    connection->descriptor = kept;
-    return 0;
-}
-
-/* Cancelled in its midst it would leave a second descriptor, which nobody knows of and each program inherits. */
-int kr_keep_over_exec(struct kr *connection) {
-    int cancelling;
-    pthread_setcancelstate(PTHREAD_CANCEL_DISABLE, &cancelling);
-    int result = keep_over_exec(connection), error = errno;
-    pthread_setcancelstate(cancelling, NULL);
-    errno = error;
-    return result;
 }
 
 /* ---- What is set and told ---- */

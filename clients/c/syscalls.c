@@ -14,7 +14,7 @@
 
 typedef const unsigned long *values;
 
-enum { ARGUMENTS = 5, SERIAL_WIDTH = 4 };
+enum { SERIAL_WIDTH = 4 };
 
 static long fail(int error) {
     errno = error;
@@ -25,65 +25,27 @@ static int32_t id_of(unsigned long value) { return (int32_t)(uint32_t)value; }
 
 static const char *text_of(unsigned long value) { return (const char *)value; }
 
-/* ---- The arguments ---- */
-
-/* Of the calls that don't begin with an id, or have more than that and numbers. */
-static const struct {
-    int call;
-    enum key_argument at[ARGUMENTS];
-} forms[] = {
-    { CALL_ADD_KEY, { KEY_TYPE, KEY_TEXT, KEY_PAYLOAD, KEY_NUMBER, KEY_ID } },
-    { CALL_REQUEST_KEY, { KEY_TYPE, KEY_TEXT, KEY_ID, KEY_TEXT } },
-    { KEYCTL_JOIN_SESSION_KEYRING, { KEY_TEXT } },
-    { KEYCTL_UPDATE, { KEY_ID, KEY_PAYLOAD } },
-    { KEYCTL_DESCRIBE, { KEY_ID, KEY_ROOM } },
-    { KEYCTL_LINK, { KEY_ID, KEY_ID } },
-    { KEYCTL_UNLINK, { KEY_ID, KEY_ID } },
-    { KEYCTL_SEARCH, { KEY_ID, KEY_TYPE, KEY_TEXT, KEY_ID } },
-    { KEYCTL_READ, { KEY_ID, KEY_ROOM } },
-    { KEYCTL_SET_REQKEY_KEYRING, { KEY_NUMBER } },
-    { KEYCTL_GET_SECURITY, { KEY_ID, KEY_ROOM } },
-    { KEYCTL_SESSION_TO_PARENT, { KEY_NUMBER } },
-    { KEYCTL_RESTRICT_KEYRING, { KEY_ID, KEY_TYPE, KEY_TEXT } },
-    { KEYCTL_MOVE, { KEY_ID, KEY_ID, KEY_ID } },
-    { KEYCTL_CAPABILITIES, { KEY_ROOM } },
-};
-
-enum key_argument key_call_argument(int call, unsigned argument) {
-    for (size_t i = 0; i < sizeof forms / sizeof *forms; i++)
-        if (forms[i].call == call) return forms[i].at[argument];
-    return argument == 0 ? KEY_ID : KEY_NUMBER;
-}
-
-static bool is_id(int call, unsigned argument) { return key_call_argument(call, argument) == KEY_ID; }
-
-bool key_call_names(int call, const unsigned long at[ARGUMENTS], int32_t id) {
-    for (unsigned i = 0; i < ARGUMENTS; i++)
-        if (is_id(call, i) && id_of(at[i]) == id) return true;
-    return false;
-}
+/* ---- What a call names ---- */
 
 /* A daemon that was started anew gives the serials of the last one to other keys. So one that this process knows from
  * the last one is refused as revoked, until this one has told it too. */
-static bool names_stale(const struct caller *caller, int call, values at) {
-    for (unsigned i = 0; i < ARGUMENTS; i++)
-        if (is_id(call, i) && caller_is_stale(caller, id_of(at[i]))) return true;
+static bool names_stale(const struct caller *caller, const struct key_row *row, values at) {
+    for (int i = 0; i < KEY_ARGUMENTS; i++)
+        if (row->at[i] == KEY_ID && caller_is_stale(caller, id_of(at[i]))) return true;
     return false;
 }
 
 /* A session that is lost is refused as a revoked one: made anew it would hide that its keys are gone. */
-static bool wants_session(int call, values at) {
-    return call == CALL_REQUEST_KEY || key_call_names(call, at, KEY_SPEC_SESSION_KEYRING);
+static bool wants_session(const struct key_row *row, values at) {
+    return row->wants_session || key_row_names(row, at, KEY_SPEC_SESSION_KEYRING);
 }
 
 /* The key of an authority and the keyring of its requestor, which nobody has here: the kernel finds no key. */
-static bool names_authority(int call, values at) {
-    return key_call_names(call, at, KEY_SPEC_REQKEY_AUTH_KEY) || key_call_names(call, at, KEY_SPEC_REQUESTOR_KEYRING);
+static bool names_authority(const struct key_row *row, values at) {
+    return key_row_names(row, at, KEY_SPEC_REQKEY_AUTH_KEY) || key_row_names(row, at, KEY_SPEC_REQUESTOR_KEYRING);
 }
 
 /* ---- What is known without the daemon ---- */
-
-enum { PAYLOAD_MAX = 1024 * 1024 - 1 };
 
 static size_t page_size(void) { return (size_t)sysconf(_SC_PAGESIZE); }
 
@@ -106,7 +68,7 @@ static long assume_authority(int32_t id) {
 }
 
 static long check_add(values at) {
-    if (at[3] > PAYLOAD_MAX) return fail(EINVAL);
+    if (at[3] > key_row_of(CALL_ADD_KEY)->most) return fail(EINVAL);
     return !at[0] || (at[3] && !at[2]) ? fail(EFAULT) : 0;
 }
 
@@ -134,34 +96,19 @@ static long check(int call, values at) {
     }
 }
 
-/* Whether a command is answered here, with *answer. */
-static bool is_answered_here(int call, values at, long *answer) {
-    switch (call) {
-    case KEYCTL_INSTANTIATE:
-    case KEYCTL_INSTANTIATE_IOV:
-    case KEYCTL_NEGATE:
-    case KEYCTL_REJECT: *answer = fail(EPERM); return true;
-    case KEYCTL_ASSUME_AUTHORITY: *answer = assume_authority(id_of(at[0])); return true;
-    case KEYCTL_SET_REQKEY_KEYRING: *answer = set_reqkey_keyring((int)at[0]); return true;
-    case KEYCTL_SESSION_TO_PARENT:
-    case KEYCTL_GET_PERSISTENT:
-    case KEYCTL_DH_COMPUTE:
-    case KEYCTL_PKEY_QUERY:
-    case KEYCTL_PKEY_ENCRYPT:
-    case KEYCTL_PKEY_DECRYPT:
-    case KEYCTL_PKEY_SIGN:
-    case KEYCTL_PKEY_VERIFY:
-    case KEYCTL_WATCH_KEY: *answer = fail(EOPNOTSUPP); return true;
-    default: return false;
-    }
+/* Whether a call is answered here, with *answer. */
+static bool is_answered_here(const struct key_row *row, values at, long *answer) {
+    if (row->refused) return *answer = fail(row->refused), true;
+    if (row->call == KEYCTL_ASSUME_AUTHORITY) return *answer = assume_authority(id_of(at[0])), true;
+    if (row->call == KEYCTL_SET_REQKEY_KEYRING) return *answer = set_reqkey_keyring((int)at[0]), true;
+    return false;
 }
 
 /* ---- What the daemon answers ---- */
 
 /* The kernel makes a missing thread or process keyring for more commands than the daemon does. */
-static void make_special(struct caller *caller, int call, int32_t id) {
-    bool makes = call == KEYCTL_CLEAR || call == KEYCTL_SETPERM || call == KEYCTL_CHOWN || call == KEYCTL_SET_TIMEOUT;
-    if (makes && (id == KEY_SPEC_THREAD_KEYRING || id == KEY_SPEC_PROCESS_KEYRING))
+static void make_special(struct caller *caller, const struct key_row *row, int32_t id) {
+    if (row->makes_special && (id == KEY_SPEC_THREAD_KEYRING || id == KEY_SPEC_PROCESS_KEYRING))
         kr_get_id(caller->connection, caller->context, id, 1);
 }
 
@@ -199,20 +146,17 @@ static long change_owner(struct caller *caller, int32_t id, uint32_t uid, uint32
 
 /* No type here has a restriction of its own. */
 static long restrict_keyring(struct caller *caller, int32_t ring, const char *type) {
-    if (!caller_can(caller, KR_RESTRICT_KEYRING)) return fail(EOPNOTSUPP);
     long answer = kr_restrict_keyring(caller->connection, caller->context, ring, type);
     return answer < 0 && errno == EINVAL && type ? fail(ENOENT) : answer;
 }
 
 static long move_link(struct caller *caller, values at) {
-    if (!caller_can(caller, KR_MOVE)) return fail(EOPNOTSUPP);
     return kr_move(caller->connection, caller->context, id_of(at[0]), id_of(at[1]), id_of(at[2]), (uint32_t)at[3]);
 }
 
-static long capabilities(struct caller *caller, unsigned char *buffer, size_t room) {
-    unsigned char known[2] = { KEYCTL_CAPS0_CAPABILITIES | KEYCTL_CAPS0_INVALIDATE, 0 };
-    if (caller_can(caller, KR_RESTRICT_KEYRING)) known[0] |= KEYCTL_CAPS0_RESTRICT_KEYRING;
-    if (caller_can(caller, KR_MOVE)) known[0] |= KEYCTL_CAPS0_MOVE;
+static long capabilities(unsigned char *buffer, size_t room) {
+    const unsigned char known[2] = { KEYCTL_CAPS0_CAPABILITIES | KEYCTL_CAPS0_INVALIDATE |
+                                     KEYCTL_CAPS0_RESTRICT_KEYRING | KEYCTL_CAPS0_MOVE, 0 };
     if (buffer && room > 0) {
         memset(buffer, 0, room);
         memcpy(buffer, known, room < sizeof known ? room : sizeof known);
@@ -257,20 +201,8 @@ static long answer(struct caller *caller, int call, values at) {
     case KEYCTL_INVALIDATE: return kr_invalidate(connection, context, id);
     case KEYCTL_RESTRICT_KEYRING: return restrict_keyring(caller, id, text_of(at[1]));
     case KEYCTL_MOVE: return move_link(caller, at);
-    case KEYCTL_CAPABILITIES: return capabilities(caller, (unsigned char *)at[0], at[1]);
+    case KEYCTL_CAPABILITIES: return capabilities((unsigned char *)at[0], at[1]);
     default: return fail(EOPNOTSUPP);
-    }
-}
-
-/* Whether what a call answers is a serial. */
-static bool answers_serial(int call) {
-    switch (call) {
-    case CALL_ADD_KEY:
-    case CALL_REQUEST_KEY:
-    case KEYCTL_GET_KEYRING_ID:
-    case KEYCTL_JOIN_SESSION_KEYRING:
-    case KEYCTL_SEARCH: return true;
-    default: return false;
     }
 }
 
@@ -284,30 +216,39 @@ static void know_links(struct caller *caller, values at, long length) {
 }
 
 /* What this daemon has told, and what it was asked about and knew. */
-static void know_serials(struct caller *caller, int call, values at, long result) {
+static void know_serials(struct caller *caller, const struct key_row *row, values at, long result) {
     if (result < 0) return;
-    if (answers_serial(call)) caller_knows(caller, (int32_t)result);
-    if (call == KEYCTL_READ) know_links(caller, at, result);
-    for (unsigned i = 0; i < ARGUMENTS; i++)
-        if (is_id(call, i)) caller_knows(caller, id_of(at[i]));
+    if (row->answers_serial) caller_knows(caller, (int32_t)result);
+    if (row->call == KEYCTL_READ) know_links(caller, at, result);
+    for (int i = 0; i < KEY_ARGUMENTS; i++)
+        if (row->at[i] == KEY_ID) caller_knows(caller, id_of(at[i]));
 }
 
-static long ask(struct caller *caller, int call, values at) {
-    if ((caller->lost_session && wants_session(call, at)) || names_stale(caller, call, at)) return fail(EKEYREVOKED);
-    make_special(caller, call, id_of(at[0]));
-    long result = answer(caller, call, at);
-    know_serials(caller, call, at, result);
-    return result < 0 && errno == EINVAL && names_authority(call, at) ? fail(ENOKEY) : result;
+/* Whether a call may have made a process keyring. */
+static bool may_have_made(const struct key_row *row, values at, long result) {
+    return key_row_names(row, at, KEY_SPEC_PROCESS_KEYRING) && (result >= 0 || errno != ENOKEY);
 }
 
-long key_call(int call, struct arguments arguments) {
+static long ask(struct caller *caller, const struct key_row *row, values at) {
+    if ((caller->lost_session && wants_session(row, at)) || names_stale(caller, row, at)) return fail(EKEYREVOKED);
+    make_special(caller, row, id_of(at[0]));
+    long result = answer(caller, row->call, at);
+    know_serials(caller, row, at, result);
+    return result < 0 && errno == EINVAL && names_authority(row, at) ? fail(ENOKEY) : result;
+}
+
+long key_call_of_row(const struct key_row *row, struct arguments arguments) {
     values at = arguments.at;
-    struct caller caller;
+    struct caller caller = { .names_thread = key_row_names(row, at, KEY_SPEC_THREAD_KEYRING),
+                             .joins = row->call == KEYCTL_JOIN_SESSION_KEYRING };
     long result;
-    if (check(call, at) < 0) return -1;
-    if (is_answered_here(call, at, &result)) return result;
+    if (check(row->call, at) < 0) return -1;
+    if (is_answered_here(row, at, &result)) return result;
     if (!caller_enter(&caller)) return -1;
-    result = ask(&caller, call, at);
+    result = ask(&caller, row, at);
+    caller.may_hold = may_have_made(row, at, result);
     caller_leave(&caller, result);
     return result;
 }
+
+long key_call(int call, struct arguments arguments) { return key_call_of_row(key_row_of(call), arguments); }

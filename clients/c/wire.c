@@ -4,6 +4,8 @@
 #include <errno.h>
 #include <string.h>
 
+enum { VERSION = 2, REPLY_HEAD = 16, NO_PLACE = 122 /* keyretain-guard(8) has none left for the user */ };
+
 const struct kr_ask_form kr_ask_forms[] = {
     { KR_GET_ID, "GET_ID", KR_SERIAL, { KR_ID, KR_U8 } },
     { KR_JOIN, "JOIN", KR_SERIAL, { KR_TEXT } },
@@ -44,6 +46,7 @@ const struct kr_status kr_statuses[] = {
     STATUS(22, EINVAL), STATUS(23, ENFILE), STATUS(28, ENOSPC), STATUS(35, EDEADLK), STATUS(40, ELOOP),
     STATUS(57, EBADSLT), STATUS(95, EOPNOTSUPP), STATUS(105, ENOBUFS), STATUS(126, ENOKEY),
     STATUS(127, EKEYEXPIRED), STATUS(128, EKEYREVOKED),
+    STATUS(122, EDQUOT), /* keyretain-guard(8) says it, and no daemon */
 };
 const size_t kr_status_count = sizeof kr_statuses / sizeof *kr_statuses;
 
@@ -100,14 +103,14 @@ static void put_field(struct writer *writer, enum kr_field_form form, const stru
     }
 }
 
-size_t kr_encode_ask(uint8_t *out, int version, uint64_t tag, const struct kr_ask_form *form, uint32_t context,
+size_t kr_encode_ask(uint8_t *out, uint64_t tag, const struct kr_ask_form *form, uint32_t context,
                      const struct kr_field *fields) {
     struct writer writer = { .out = out, .fits = true };
     put_number(&writer, 0, 4);
-    put_number(&writer, (uint64_t)version, 2);
+    put_number(&writer, VERSION, 2);
     put_number(&writer, form->operation, 2);
     put_number(&writer, context, 4);
-    if (version >= 2) put_number(&writer, tag, 8);
+    put_number(&writer, tag, 8);
     for (size_t i = 0; form->fields[i] != KR_END; i++) put_field(&writer, form->fields[i], &fields[i]);
     if (!writer.fits) return 0;
     size_t length = writer.length;
@@ -124,20 +127,21 @@ uint32_t kr_get_u32(const uint8_t *at) {
 
 static uint64_t get_u64(const uint8_t *at) { return kr_get_u32(at) | (uint64_t)kr_get_u32(at + 4) << 32; }
 
-enum kr_decoded kr_decode_reply(const uint8_t *in, size_t length, int version, struct kr_reply *reply) {
-    size_t head = version >= 2 ? 16 : 8, longest = version >= 2 ? KR_REPLY_ROOM : KR_REPLY_ROOM - 8;
+enum kr_decoded kr_decode_reply(const uint8_t *in, size_t length, struct kr_reply *reply) {
     if (length < 4) return KR_PARTIAL;
     reply->frame_length = 4 + (size_t)kr_get_u32(in);
-    if (reply->frame_length < head || reply->frame_length > longest) return KR_MALFORMED;
+    if (reply->frame_length < REPLY_HEAD || reply->frame_length > KR_REPLY_ROOM) return KR_MALFORMED;
     if (length < reply->frame_length) return KR_PARTIAL;
     reply->status = kr_get_u32(in + 4);
-    reply->tag = version >= 2 ? get_u64(in + 8) : 0;
-    reply->body = in + head;
-    reply->length = reply->frame_length - head;
+    reply->tag = get_u64(in + 8);
+    reply->body = in + REPLY_HEAD;
+    reply->length = reply->frame_length - REPLY_HEAD;
     return KR_WHOLE;
 }
 
 static bool is_error(uint32_t status, int *error) {
+    *error = EDQUOT;
+    if (status == NO_PLACE) return true;
     for (size_t i = 0; i < kr_status_count; i++) {
         if (kr_statuses[i].number == status) {
             *error = kr_statuses[i].error;

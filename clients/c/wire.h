@@ -1,4 +1,4 @@
-/* wire.h: the frames of keyretain-protocol(7), without a socket. */
+/* wire.h: the frames of version 2 of keyretain-protocol(7), without a socket. */
 #ifndef KEYRETAIN_WIRE_H
 #define KEYRETAIN_WIRE_H
 
@@ -8,10 +8,7 @@
 
 #include "keyretain.h"
 
-/* The versions that are spoken: the newest is tried first, and the oldest where the daemon doesn't understand it. */
-enum { KR_OLDEST_VERSION = 1, KR_NEWEST_VERSION = 2 };
-
-/* The longest frames, with the four bytes of their length. A reply is longest in version 2. */
+/* The longest frames, with the four bytes of their length. */
 enum { KR_ASK_ROOM = 4 + 65536, KR_REPLY_ROOM = 4 + 262152 };
 
 /* The fields of bodies. GROUPS are a count and as many numbers, ENTRIES a count and as many entries of a filter. */
@@ -45,12 +42,11 @@ extern const size_t kr_status_count;
 /* NULL for a number of no ask. */
 const struct kr_ask_form *kr_ask_form(unsigned operation);
 
-/* Puts an ask's frame at `out`, which has KR_ASK_ROOM bytes, and answers its length; 0 where it fits no frame. In
- * version 1 the tag is left out. */
-size_t kr_encode_ask(uint8_t *out, int version, uint64_t tag, const struct kr_ask_form *form, uint32_t context,
+/* Puts an ask's frame at `out`, which has KR_ASK_ROOM bytes, and answers its length; 0 where it fits no frame. */
+size_t kr_encode_ask(uint8_t *out, uint64_t tag, const struct kr_ask_form *form, uint32_t context,
                      const struct kr_field *fields);
 
-/* A reply's frame in pieces. The tag is 0 in version 1. */
+/* A reply's frame in pieces. */
 struct kr_reply {
     size_t frame_length;
     uint32_t status;
@@ -62,7 +58,7 @@ struct kr_reply {
 enum kr_decoded { KR_PARTIAL, KR_WHOLE, KR_MALFORMED };
 
 /* Reads the first reply of these bytes. KR_PARTIAL: more bytes are wanted. */
-enum kr_decoded kr_decode_reply(const uint8_t *in, size_t length, int version, struct kr_reply *reply);
+enum kr_decoded kr_decode_reply(const uint8_t *in, size_t length, struct kr_reply *reply);
 
 /* Whether this reply is one to an ask of this form; then *error is errno's number for its status, or 0. */
 bool kr_reply_fits(const struct kr_reply *reply, const struct kr_ask_form *form, int *error);

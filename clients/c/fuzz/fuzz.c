@@ -35,8 +35,8 @@ int is_untouched(const void *buffer, size_t room) {
 }
 
 /* What docs/FORMAT.md says of bytes that begin so. */
-static enum kr_decoded state_of(const uint8_t *received, size_t length, int version) {
-    uint64_t shortest = version == 2 ? 12 : 4, longest = version == 2 ? 262152 : 262144, said;
+static enum kr_decoded state_of(const uint8_t *received, size_t length) {
+    uint64_t shortest = 12, longest = 262152, said;
     if (length < 4) return KR_PARTIAL;
     said = received[0] + received[1] * 256ULL + received[2] * 65536ULL + received[3] * 16777216ULL;
     if (said < shortest || said > longest) return KR_MALFORMED;
@@ -59,22 +59,20 @@ static void look_at(const struct kr_reply *reply, const uint8_t *received, size_
 
 /* The decoder alone, on memory that ends with the bytes. */
 void fuzz_decoder(void) {
-    int version = 1 + (server_byte() & 1);
     const uint8_t *rest;
     size_t length = server_rest(&rest);
     uint8_t *received = malloc(length ? length : 1);
     struct kr_reply reply;
     if (!received) abort();
     if (length) memcpy(received, rest, length);
-    enum kr_decoded decoded = kr_decode_reply(received, length, version, &reply);
-    if (decoded != state_of(received, length, version)) fault("bytes are taken for what they aren't");
+    enum kr_decoded decoded = kr_decode_reply(received, length, &reply);
+    if (decoded != state_of(received, length)) fault("bytes are taken for what they aren't");
     if (decoded == KR_WHOLE) look_at(&reply, received, length);
     free(received);
 }
 
 int LLVMFuzzerTestOneInput(const uint8_t *input, size_t length) {
     setenv("KEYRETAIN_SOCKET", "/nowhere", 1);
-    unsetenv("KEYRETAIN_TRUST");
     server_begin(input, length);
     switch (server_byte() % 4) {
     case 0: fuzz_decoder(); break;

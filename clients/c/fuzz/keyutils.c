@@ -12,9 +12,6 @@
 
 enum { CALLS = 8, PATIENCE = 30000, BODIES = 1 << 16 };
 
-/* In the library from the version on that has deadlines. */
-__attribute__((weak)) void kr_peer(const struct kr *connection, uint32_t *uid, uint32_t *gid, int32_t *pid);
-
 struct words {
     uint8_t number;
     int32_t id;
@@ -113,7 +110,7 @@ static bool makes_several(uint8_t which) {
 
 /* A call of the system's ends by its patience, and by a hundredth more. */
 static void look_at_time(int64_t begun, bool is_one) {
-    if (kr_peer && is_one && server_time() - begun > PATIENCE + PATIENCE / 100 + 2) fault("a call out of its time");
+    if (is_one && server_time() - begun > PATIENCE + PATIENCE / 100 + 2) fault("a call out of its time");
 }
 
 static void call(void) {

@@ -12,12 +12,6 @@
 
 enum { CALLS = 12, PATIENCE = 30000, ANYBODY = 1, LONGEST_ANSWER = 262140 };
 
-/* In the library from the version on that has deadlines and asks sent ahead. */
-__attribute__((weak)) struct kr *kr_open_with(const char *path, int version, unsigned flags, int milliseconds);
-__attribute__((weak)) int kr_send(struct kr *connection, unsigned operation, uint32_t context,
-                                  const struct kr_field *fields, uint64_t *tag);
-__attribute__((weak)) int64_t kr_receive(struct kr *connection, uint64_t *tag, void *buffer, size_t room);
-
 /* What a call is made with. Texts and the buffer lie in memory of their own length. */
 struct words {
     uint8_t number;
@@ -139,7 +133,7 @@ static int64_t go_ahead(struct kr *connection, struct words *words) {
 
 /* A call ends by its patience, and by a hundredth more. */
 static void look_at_time(int64_t begun, int patience) {
-    if (kr_open_with && server_time() - begun > patience + patience / 100 + 2) fault("a call out of its time");
+    if (server_time() - begun > patience + patience / 100 + 2) fault("a call out of its time");
 }
 
 /* An ask is answered by its own reply; and what ends a connection is said ever after. */
@@ -157,7 +151,7 @@ static int call(struct kr *connection, int patience) {
     bool was_broken = kr_is_broken(connection);
     if ((which & 127) >= 120)
         patience = set_some(connection, &words, patience);
-    else if ((which & 127) >= 100 && kr_send && kr_receive)
+    else if ((which & 127) >= 100)
         answer = go_ahead(connection, &words);
     else
         answer = ask(connection, which % 32, &words);
@@ -172,12 +166,11 @@ static int call(struct kr *connection, int patience) {
 
 static struct kr *open_some(void) {
     uint8_t how = server_byte();
-    int version = how & 3, milliseconds = how & 8 ? how : PATIENCE;
+    int milliseconds = how & 8 ? how : PATIENCE;
     unsigned flags = how & 4 ? ANYBODY : 0;
-    if (!kr_open_with) return kr_open_version("/nowhere", version);
     if (flags) server_allow_anybody();
     int64_t begun = server_time();
-    struct kr *connection = kr_open_with("/nowhere", version, flags, milliseconds);
+    struct kr *connection = kr_open_with("/nowhere", flags, milliseconds);
     look_at_time(begun, milliseconds);
     if (connection && milliseconds != PATIENCE) kr_set_patience(connection, PATIENCE);
     return connection;

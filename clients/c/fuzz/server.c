@@ -28,9 +28,6 @@
 enum { DESCRIPTOR = 1000, OPENED_MAX = 6, MAPPED_MAX = 16, STEPS_MAX = 1500, STRANGER = 4242, KEEPER = 1 << 30 };
 enum { ASKS_ROOM = 1 << 18, REPLIES_ROOM = 1 << 20, BODY_ROOM = 270000 };
 
-/* In the library from the version on that asks who listens. */
-__attribute__((weak)) void kr_peer(const struct kr *connection, uint32_t *uid, uint32_t *gid, int32_t *pid);
-
 static struct {
     const uint8_t *input;
     size_t left;
@@ -110,28 +107,27 @@ static void put_number(uint64_t number, size_t width) {
     put(bytes, width);
 }
 
-static void put_reply(int version, uint64_t tag, uint32_t status, const uint8_t *body, size_t length) {
-    put_number((version == 2 ? 12 : 4) + length, 4);
+static void put_reply(uint64_t tag, uint32_t status, const uint8_t *body, size_t length) {
+    put_number(12 + length, 4);
     put_number(status, 4);
-    if (version == 2) put_number(tag, 8);
+    put_number(tag, 8);
     put(body, length);
 }
 
 /* An ask as far as its reply depends on it. */
 struct ask {
-    int version;
     unsigned operation;
     uint64_t tag;
     enum kr_answer_form answer;
 };
 
 static struct ask read_ask(const uint8_t *frame, size_t length) {
-    struct ask ask = { .version = frame[4] | frame[5] << 8, .operation = (unsigned)(frame[6] | frame[7] << 8) };
+    struct ask ask = { .operation = (unsigned)(frame[6] | frame[7] << 8) };
     const struct kr_ask_form *form = kr_ask_form(ask.operation);
     if (!form) fault("an ask of an unknown number");
-    if (ask.version != 1 && ask.version != 2) fault("an ask of an unknown version");
-    if (ask.version == 2 && length < 20) fault("an ask without a tag");
-    for (int i = 7; ask.version == 2 && i >= 0; i--) ask.tag = ask.tag << 8 | frame[12 + i];
+    if ((frame[4] | frame[5] << 8) != 2) fault("an ask of another version");
+    if (length < 20) fault("an ask without a tag");
+    for (int i = 7; i >= 0; i--) ask.tag = ask.tag << 8 | frame[12 + i];
     ask.answer = form->answer;
     return ask;
 }
@@ -198,11 +194,11 @@ static void answer(const struct ask *ask) {
     if (how & 128) length += (size_t)(int8_t)server_byte();
     if (length > 262200) length = 5;
     if (status != 0 && !(how & 16)) length = 0;
-    put_reply(ask->version, tag, status, body, length);
+    put_reply(tag, status, body, length);
     server.has_answered = tag == ask->tag;
-    if (ask->version == 1 || (how & 31) == 16) server.has_sent_noise = true;
+    if ((how & 31) == 16) server.has_sent_noise = true;
     if ((how & 31) == 16) put_number(server_word(), 4); /* and more than was asked for */
-    if ((how & 31) == 17) put_reply(ask->version, tag + 1, 0, body, 4);
+    if ((how & 31) == 17) put_reply(tag + 1, 0, body, 4);
 }
 
 /* Answers the whole asks that have come, and looks whether they are frames. */
@@ -316,7 +312,7 @@ static ssize_t some_of(size_t length, int which, int flags) {
 WRAPS(ssize_t, send, int descriptor, const void *bytes, size_t length, int flags) {
     if (!is_ours(descriptor)) return __real_send(descriptor, bytes, length, flags);
     if (!(flags & MSG_NOSIGNAL)) fault("a send that may end the program");
-    if (kr_peer && server.is_stranger && !server.may_be_anybody) fault("a stranger is told something");
+    if (server.is_stranger && !server.may_be_anybody) fault("a stranger is told something");
     if (!server.is_open) return fail(EPIPE);
     ssize_t sent = some_of(length, 0, flags);
     if (sent < 0) return sent;
@@ -349,6 +345,10 @@ static short ready_events(void) {
 /* A socket of the client's, or the pipe of a keeper, which always has something to say. */
 WRAPS(int, poll, struct pollfd *waits, nfds_t count, int milliseconds) {
     bool is_pipe = server.depth > 0 && server.keeper_speaks;
+    if (count == 0 && server.depth > 0) { /* a pause */
+        server.time += milliseconds;
+        return 0;
+    }
     if (count != 1 || !(is_pipe || is_ours(waits->fd))) return __real_poll(waits, count, milliseconds);
     if (++server.steps > STEPS_MAX) server.is_open = false;
     if (server_byte() == 251) return fail(EINTR);

@@ -1,0 +1,152 @@
+/* admission.c: the facts of which krs_admission.h judges. Nothing is judged here: what can't be read is said to be
+ * so. */
+#define _GNU_SOURCE
+#include "admission.h"
+
+#include <string.h>
+#include <unistd.h>
+
+#include "maps.h"
+
+static bool is_in_container;
+
+void admission_begin(bool is_container, pid_t first) {
+    is_in_container = is_container;
+    maps_begin(is_container ? first : 0);
+}
+
+/* ---- Who runs a process ---- */
+
+static struct admission_ids to_inside(const struct admission_ids *ids, unsigned (*map)(unsigned)) {
+    return (struct admission_ids){ map(ids->real), map(ids->effective), map(ids->saved), map(ids->files) };
+}
+
+void admission_read(struct admission_process *process, pid_t id, const struct proc_status *status) {
+    memset(process, 0, sizeof *process);
+    process->uids = to_inside(&status->uids, maps_uid);
+    process->owner = status->owner == UINT32_MAX ? UINT32_MAX : maps_uid(status->owner);
+    process->unknown = maps_unknown();
+    process->mapped = maps_length();
+    process->starter = UINT32_MAX;
+    process->has_auxv = proc_read_auxv(id, &process->is_secure, &process->starter);
+}
+
+void admission_set(struct admission_process *process, uint32_t uid) {
+    memset(process, 0, sizeof *process);
+    process->uids = (struct admission_ids){ uid, uid, uid, uid };
+    process->starter = process->owner = uid;
+    process->unknown = maps_unknown();
+    process->mapped = maps_length();
+    process->has_auxv = true;
+}
+
+void admission_put_identity(struct kr_identity *identity, const struct proc_status *status, bool is_of_user) {
+    const struct admission_ids uids = to_inside(&status->uids, maps_uid), gids = to_inside(&status->gids, maps_gid);
+    memset(identity, 0, sizeof *identity);
+    identity->uid = krs_admission_c_asks_as(&uids, is_of_user);
+    identity->gid = krs_admission_c_asks_as(&gids, is_of_user);
+    identity->count = status->count;
+    for (uint32_t i = 0; i < status->count; i++) identity->groups[i] = maps_gid(status->groups[i]);
+}
+
+bool admission_has_ids(const struct proc_status *status) {
+    return maps_have_uid(status->uids.real) && maps_have_uid(status->uids.files);
+}
+
+/* A runtime's user is the container's, or its root. */
+void admission_put_first(struct kr_identity *identity) {
+    memset(identity, 0, sizeof *identity);
+    if (!maps_have_uid(geteuid())) return;
+    identity->uid = maps_uid(geteuid());
+    identity->gid = maps_gid(getegid());
+}
+
+bool admission_is_elsewhere(pid_t thread) { return maps_are_others(thread); }
+
+/* ---- Sessions ---- */
+
+/* Who has begun it, as that one is now, where it still holds it. */
+static bool read_beginner(const struct session *session, struct admission_process *beginner) {
+    const struct process *process = session->beginner;
+    struct proc_status status;
+    if (!process || process->first->session != session || !proc_read_status(process->id, &status)) return false;
+    admission_read(beginner, process->id, &status);
+    return !proc_has_ended(process->descriptor);
+}
+
+/* Whether there is one, of which this is told then. */
+static bool tell(const struct session *session, struct admission_session *told) {
+    if (!session) return false;
+    told->begun = session->begun;
+    told->tag = session->tag;
+    told->is_there = !session_is_lost(session);
+    told->has_beginner = read_beginner(session, &told->beginner);
+    return true;
+}
+
+/* What a runtime has begun for all of a container is above all in it. */
+static struct session *session_above(pid_t parent) {
+    const struct process *above = find_above(parent);
+    return above ? above->first->session : is_in_container ? sessions_first() : NULL;
+}
+
+struct admitted admission_admit(const struct task *task, pid_t parent, const struct admission_process *process) {
+    struct admission_arrival arrival;
+    struct session *tagged, *above = session_above(parent);
+    memset(&arrival, 0, sizeof arrival);
+    arrival.process = *process;
+    arrival.has_limit = proc_read_locks(task->process->id, &arrival.soft);
+    tagged = arrival.has_limit ? session_of_tag(arrival.soft) : NULL;
+    arrival.has_held = tell(task->session, &arrival.held);
+    arrival.has_tagged = tell(tagged, &arrival.tagged);
+    arrival.has_above = tell(above, &arrival.above);
+    switch (krs_admission_c_admit(&arrival)) {
+    case ADMISSION_USER_SESSION: return (struct admitted){ NULL, false };
+    case ADMISSION_HELD: return (struct admitted){ task->session, false };
+    case ADMISSION_TAGGED: return (struct admitted){ tagged, false };
+    case ADMISSION_ABOVE: return (struct admitted){ above, false };
+    default: return (struct admitted){ NULL, true };
+    }
+}
+
+bool admission_keeps(pid_t id, const struct session *session) {
+    struct proc_status status;
+    struct admission_session told;
+    struct admission_process process;
+    if (!proc_read_status(id, &status)) return false;
+    memset(&told, 0, sizeof told);
+    tell(session, &told);
+    admission_read(&process, id, &status);
+    return krs_admission_c_keeps(&process, &told);
+}
+
+bool admission_may_be_forgotten(const struct process *process) {
+    struct admission_arrival arrival;
+    struct proc_status status;
+    if (!process->first->session) return true;
+    memset(&arrival, 0, sizeof arrival);
+    if (!proc_read_status(process->id, &status)) return false;
+    admission_read(&arrival.process, process->id, &status);
+    arrival.has_limit = proc_read_locks(process->id, &arrival.soft);
+    arrival.has_held = tell(process->first->session, &arrival.held);
+    return krs_admission_c_knows_again(&arrival);
+}
+
+bool admission_may_be_given(const struct proc_status *child, const struct session *session,
+                            const struct proc_status *status) {
+    struct admission_parent parent;
+    struct admission_session told;
+    memset(&parent, 0, sizeof parent);
+    memset(&told, 0, sizeof told);
+    admission_read(&parent.process, status->process, status);
+    parent.gids = to_inside(&status->gids, maps_gid);
+    parent.number = (uint32_t)status->process;
+    parent.supervisor = (uint32_t)getpid();
+    parent.threads = status->threads;
+    parent.seccomp = status->seccomp;
+    const struct process *process = find_process(status->process);
+    parent.has_held = process && tell(process->first->session, &parent.held);
+    tell(session, &told);
+    const struct admission_ids uids = to_inside(&child->uids, maps_uid), gids = to_inside(&child->gids, maps_gid);
+    return krs_admission_c_may_be_given(&parent, &uids, &gids, &told);
+}

@@ -1,0 +1,145 @@
+/* maps.c: the ids of user_namespaces(7). */
+#define _GNU_SOURCE
+#include "maps.h"
+
+#include <fcntl.h>
+#include <linux/nsfs.h>
+#include <sched.h>
+#include <signal.h>
+#include <stdio.h>
+#include <stdlib.h>
+#include <string.h>
+#include <sys/ioctl.h>
+#include <sys/stat.h>
+#include <sys/wait.h>
+#include <unistd.h>
+
+#include "proc.h"
+
+enum { DECIMAL = 10, OVERFLOW_ID = 65534, RANGE_LETTERS = 34 };
+
+static struct {
+    struct map uids, gids;
+    bool is_ours; /* then nothing is mapped */
+    unsigned unknown, length;
+    struct stat namespace;
+} all;
+
+/* 0, or -1 where it may not be looked at. */
+static int find_namespace(pid_t process, struct stat *namespace) {
+    char path[64];
+    snprintf(path, sizeof path, "/proc/%d/ns/user", (int)process);
+    return stat(path, namespace);
+}
+
+static bool is_same(const struct stat *one, const struct stat *other) {
+    return one->st_dev == other->st_dev && one->st_ino == other->st_ino;
+}
+
+static bool read_map(pid_t process, const char *name, struct map *map) {
+    char text[MAP_RANGES * RANGE_LETTERS + 1];
+    const char *line = text;
+    map->count = 0;
+    if (!proc_read(process, name, text, sizeof text)) return false;
+    while (line && map->count < MAP_RANGES &&
+           sscanf(line, "%u %u %u", &map->ranges[map->count].inside, &map->ranges[map->count].outside,
+                  &map->ranges[map->count].length) == 3) {
+        map->count++;
+        line = strchr(line, '\n');
+        if (line) line++;
+    }
+    return map->count > 0;
+}
+
+static unsigned length_of(const struct map *map) {
+    unsigned length = 0;
+    for (unsigned i = 0; i < map->count; i++) length += map->ranges[i].length;
+    return length;
+}
+
+static unsigned read_unknown(void) {
+    char text[32] = "";
+    FILE *file = fopen("/proc/sys/kernel/overflowuid", "re");
+    char *line = file ? fgets(text, sizeof text, file) : NULL;
+    if (file) fclose(file);
+    return line ? (unsigned)strtoul(line, NULL, DECIMAL) : OVERFLOW_ID;
+}
+
+/* The outermost user namespace around a process that isn't ours, if our user has made it, as runtimes do; else -1. What
+ * runs in it may have made others, as it may have before this is looked at. */
+static int open_outermost(pid_t process, const struct stat *ours) {
+    char path[64];
+    struct stat namespace;
+    uid_t maker;
+    snprintf(path, sizeof path, "/proc/%d/ns/user", (int)process);
+    int outermost = -1, next = open(path, O_RDONLY | O_CLOEXEC);
+    while (next >= 0 && fstat(next, &namespace) == 0 && !is_same(&namespace, ours)) {
+        if (outermost >= 0) close(outermost);
+        outermost = next;
+        next = ioctl(outermost, NS_GET_PARENT);
+    }
+    bool is_runtimes = next >= 0 && outermost >= 0 && ioctl(outermost, NS_GET_OWNER_UID, &maker) == 0 &&
+                       maker == geteuid();
+    if (next >= 0) close(next);
+    if (outermost >= 0 && !is_runtimes) close(outermost);
+    return is_runtimes ? outermost : -1;
+}
+
+/* Whether a process is in it, before and after its maps were read. */
+static bool read_maps_in(pid_t process, const struct stat *namespace) {
+    struct stat before, after;
+    return find_namespace(process, &before) == 0 && is_same(&before, namespace) &&
+           read_map(process, "uid_map", &all.uids) && read_map(process, "gid_map", &all.gids) &&
+           find_namespace(process, &after) == 0 && is_same(&after, namespace);
+}
+
+/* Where the first process is there no more, the maps are read of one of ours. */
+static bool read_maps_of(int namespace, pid_t first) {
+    int status;
+    if (read_maps_in(first, &all.namespace)) return true;
+    pid_t child = fork();
+    if (child == 0) _exit(setns(namespace, CLONE_NEWUSER) == 0 ? raise(SIGSTOP) : 1);
+    bool is_there = child > 0 && waitpid(child, &status, WUNTRACED) == child && WIFSTOPPED(status);
+    bool is_read = is_there && read_maps_in(child, &all.namespace);
+    if (is_there) kill(child, SIGKILL);
+    if (is_there) waitpid(child, &status, 0);
+    return is_read;
+}
+
+void maps_begin(pid_t first) {
+    all.unknown = read_unknown();
+    all.is_ours = find_namespace(getpid(), &all.namespace) == 0;
+    all.length = read_map(getpid(), "uid_map", &all.uids) ? length_of(&all.uids) : 0;
+    int outermost = first > 0 && all.is_ours ? open_outermost(first, &all.namespace) : -1;
+    if (outermost < 0) return;
+    all.is_ours = false;
+    if (fstat(outermost, &all.namespace) < 0 || !read_maps_of(outermost, first)) all.uids.count = all.gids.count = 0;
+    all.length = length_of(&all.uids);
+    close(outermost);
+}
+
+bool maps_have_uid(unsigned uid) {
+    for (unsigned i = 0; i < all.uids.count; i++)
+        if (uid - all.uids.ranges[i].outside < all.uids.ranges[i].length) return true;
+    return all.is_ours;
+}
+
+unsigned map_to_inside(const struct map *map, unsigned id, unsigned unknown) {
+    for (unsigned i = 0; i < map->count; i++)
+        if (id - map->ranges[i].outside < map->ranges[i].length)
+            return id - map->ranges[i].outside + map->ranges[i].inside;
+    return unknown;
+}
+
+unsigned maps_uid(unsigned uid) { return all.is_ours ? uid : map_to_inside(&all.uids, uid, all.unknown); }
+
+unsigned maps_gid(unsigned gid) { return all.is_ours ? gid : map_to_inside(&all.gids, gid, all.unknown); }
+
+unsigned maps_unknown(void) { return all.unknown; }
+
+unsigned maps_length(void) { return all.length; }
+
+bool maps_are_others(pid_t thread) {
+    struct stat namespace;
+    return find_namespace(thread, &namespace) < 0 || !is_same(&namespace, &all.namespace);
+}

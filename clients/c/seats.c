@@ -1,0 +1,400 @@
+/* seats.c: the connections of a process.
+ *
+ * LOCKS. `process.lock` is held for a few lines at a time, and over nothing that waits for the daemon: fork(2) takes
+ * it, unless a handler of a signal forks in the midst of these lines, and the end of a thread. Who asks has the seat
+ * of its identity to itself (`is_busy`) without holding a lock. The child of a fork therefore finds all of `process`
+ * whole, and its seats free: no other thread of it is left. */
+#define _GNU_SOURCE
+#include "seats.h"
+
+#include <errno.h>
+#include <linux/capability.h>
+#include <pthread.h>
+#include <signal.h>
+#include <stdlib.h>
+#include <string.h>
+#include <sys/syscall.h>
+#include <unistd.h>
+
+/* A thread that waits for a seat that others have. */
+struct waiter {
+    const struct kr_identity *identity;
+    pthread_cond_t is_called;
+    struct seat *seat; /* that it was given */
+    struct waiter *next;
+};
+
+static struct {
+    pthread_mutex_t lock;
+    struct seat seats[SEATS];
+    struct waiter *first; /* who came first */
+    unsigned last_age;
+    unsigned long turn;
+    struct kr_session *session;
+    struct kr_holder holder; /* what keeps it */
+    struct kr_holder handed; /* the same, where it was begun by what has executed this */
+    pthread_key_t end_of_thread;
+    bool has_end_of_thread;
+} process = { .lock = PTHREAD_MUTEX_INITIALIZER, .holder = { .descriptor = -1 }, .handed = { .descriptor = -1 } };
+
+/* Of this thread. */
+static __thread struct {
+    enum { UNSEEN, FIRST, OTHER } kind;
+    bool is_fixed; /* nothing but its effective uid can change */
+    struct kr_identity identity;
+    struct thread_context own[SEATS];
+    struct kr_session *session;
+} thread;
+
+bool seats_is_first_thread(void) {
+    if (thread.kind == UNSEEN) thread.kind = gettid() == getpid() ? FIRST : OTHER;
+    return thread.kind == FIRST;
+}
+
+/* Whether this thread is between the next two. A handler of a signal that forks there finds the lock taken by its own
+ * thread, and must not wait for it. */
+static __thread volatile sig_atomic_t is_inside;
+
+void seats_lock(void) {
+    is_inside = 1;
+    pthread_mutex_lock(&process.lock);
+}
+
+void seats_unlock(void) {
+    int error = errno;
+    pthread_mutex_unlock(&process.lock);
+    is_inside = 0;
+    errno = error;
+}
+
+/* ---- What is done under the lock ---- */
+
+static void close_connection(struct seat *seat) {
+    struct kr *connection = seat->connection;
+    seat->connection = NULL;
+    seat->shared = (struct thread_context){ 0 };
+    seat->own = seat->ended_count = 0;
+    seat->may_have_keyring = seat->is_kept = false;
+    *seat->where.path = '\0';
+    kr_close(connection);
+}
+
+/* Tells the daemon of a context whose thread has ended, without waiting for anything; later where it takes nothing now
+ * or another thread asks. */
+static void end_context(struct seat *seat, uint32_t context) {
+    bool is_told = !seat->is_busy && kr_tell(seat->connection, KR_EXIT, context);
+    if (!is_told && seat->ended_count < KR_CONTEXTS) seat->ended[seat->ended_count++] = context;
+    seat->own--;
+}
+
+/* The same of those that came while the seat was busy. */
+static void end_contexts(struct seat *seat) {
+    while (seat->connection && seat->ended_count > 0 &&
+           kr_tell(seat->connection, KR_EXIT, seat->ended[seat->ended_count - 1]))
+        seat->ended_count--;
+}
+
+/* ---- Fork, and the ends of threads ---- */
+
+enum { FORK_SECONDS = 1 };
+
+static __thread bool is_locked_for_fork;
+
+/* A C library whose fork(2) runs one at a time may have it wait for one in a handler of whoever has the lock. So this
+ * doesn't wait for ever, and the child then finds what it would find in that handler. */
+static void before_fork(void) {
+    struct timespec end;
+    clock_gettime(CLOCK_REALTIME, &end);
+    end.tv_sec += FORK_SECONDS;
+    is_locked_for_fork = !is_inside && pthread_mutex_timedlock(&process.lock, &end) == 0;
+}
+
+static void after_fork(void) {
+    if (is_locked_for_fork) pthread_mutex_unlock(&process.lock);
+}
+
+/* The child lets go of its copies of the connections, which would keep the parent's from ending. Of its threads only
+ * this one is left, whose session is the child's. Where it was inside, nothing is taken from the lines that it comes
+ * back to if the handler returns. */
+static void in_child(void) {
+    pthread_mutex_init(&process.lock, NULL);
+    process.first = NULL;
+    for (int i = 0; i < SEATS; i++) {
+        if (is_locked_for_fork) close_connection(&process.seats[i]);
+        process.seats[i].is_busy = false;
+    }
+    if (!is_locked_for_fork) return;
+    if (process.has_end_of_thread) pthread_setspecific(process.end_of_thread, NULL);
+    thread.kind = FIRST;
+    if (thread.session) {
+        free(process.session);
+        process.session = thread.session;
+        thread.session = NULL;
+    }
+}
+
+/* A thread that returns can still be cancelled here, and would be with the lock in its hands. */
+static void at_end_of_thread(void *unused) {
+    int cancelling;
+    (void)unused;
+    pthread_setcancelstate(PTHREAD_CANCEL_DISABLE, &cancelling);
+    seats_lock();
+    for (int i = 0; i < SEATS; i++) {
+        struct seat *seat = &process.seats[i];
+        if (seat->connection && threads_has_own(&seat->shared, &thread.own[i]))
+            end_context(seat, thread.own[i].number);
+        thread.own[i] = (struct thread_context){ 0 };
+    }
+    seats_unlock();
+    free(thread.session);
+    thread.session = NULL;
+    pthread_setcancelstate(cancelling, NULL);
+}
+
+__attribute__((constructor)) static void begin(void) {
+    const char *text = secure_getenv(KR_SESSION_VARIABLE);
+    if (text && *text && (process.session = malloc(sizeof *process.session)) != NULL &&
+        !kr_parse_session(process.session, text)) {
+        free(process.session);
+        process.session = NULL;
+    }
+    if (process.session) process.handed = kr_handed_holder(process.session);
+    pthread_atfork(before_fork, after_fork, in_child);
+    process.has_end_of_thread = pthread_key_create(&process.end_of_thread, at_end_of_thread) == 0;
+}
+
+/* Where the library is unloaded no thread may come back to its code. Where the process ends instead, another thread
+ * may be in the midst of a call, which is let be. */
+__attribute__((destructor)) static void end(void) {
+    is_inside = 1;
+    if (pthread_mutex_trylock(&process.lock) != 0) {
+        is_inside = 0;
+        return;
+    }
+    if (process.has_end_of_thread) pthread_key_delete(process.end_of_thread);
+    process.has_end_of_thread = false;
+    for (int i = 0; i < SEATS; i++)
+        if (!process.seats[i].is_busy) close_connection(&process.seats[i]);
+    seats_unlock();
+}
+
+/* ---- Identity ---- */
+
+/* Whether the gid and the groups of this thread can't change, nor more than its uids among themselves. */
+static bool is_fixed(void) {
+    struct __user_cap_header_struct header = { _LINUX_CAPABILITY_VERSION_3, 0 };
+    struct __user_cap_data_struct data[_LINUX_CAPABILITY_U32S_3];
+    gid_t real, effective, saved;
+    getresgid(&real, &effective, &saved);
+    return real == effective && saved == effective && syscall(SYS_capget, &header, data) == 0 &&
+           !(data[0].permitted & (1U << CAP_SETGID | 1U << CAP_SETUID));
+}
+
+/* Rights come by execve(2) alone, so that what is fixed stays so. */
+const struct kr_identity *seats_identity(void) {
+    struct kr_identity now;
+    if (thread.is_fixed && geteuid() == thread.identity.uid) return &thread.identity;
+    kr_own_identity(&now);
+    if (memcmp(&now, &thread.identity, sizeof now) != 0) {
+        thread.identity = now;
+        thread.is_fixed = is_fixed();
+    }
+    return &thread.identity;
+}
+
+/* ---- Seats ---- */
+
+static bool is_seat_of(const struct seat *seat, const struct kr_identity *identity) {
+    return seat->is_taken && memcmp(&seat->identity, identity, sizeof *identity) == 0;
+}
+
+static struct seat *find_seat(const struct kr_identity *identity) {
+    for (int i = 0; i < SEATS; i++)
+        if (is_seat_of(&process.seats[i], identity)) return &process.seats[i];
+    return NULL;
+}
+
+/* A free place, or that of the identity which was not used longest, of those that no thread has: a user's daemon that
+ * doesn't answer holds up nobody else. NULL where each is busy. The first stays, to which a server comes back from its
+ * clients' identities. */
+static struct seat *find_place(void) {
+    struct seat *oldest = NULL;
+    for (int i = 0; i < SEATS; i++) {
+        struct seat *seat = &process.seats[i];
+        if (!seat->is_taken) return seat;
+        if (i > 0 && !seat->is_busy && (!oldest || seat->turn < oldest->turn)) oldest = seat;
+    }
+    return oldest;
+}
+
+static void clear_seat(struct seat *seat) {
+    close_connection(seat);
+    serials_clear(&seat->serials);
+    seat->is_taken = false;
+    seat->daemon = (struct daemon){ 0 };
+    seat->is_own = false;
+    seat->often = 0;
+}
+
+/* Ends what the identity had that the seat is taken from. */
+static void settle(struct seat *seat, const struct kr_identity *identity) {
+    if (is_seat_of(seat, identity)) return;
+    clear_seat(seat);
+    seat->identity = *identity;
+    seat->is_taken = true;
+}
+
+/* Ends what belongs to identities that this process can't have again. */
+static void end_former(void) {
+    for (int i = 0; i < SEATS; i++) {
+        struct seat *seat = &process.seats[i];
+        if (seat->is_taken && !seat->is_busy && !kr_may_be_again(&seat->identity)) clear_seat(seat);
+    }
+}
+
+/* The seat of this identity, which may be busy, or a place for it; NULL where each is busy, and none is its own. */
+static struct seat *choose(const struct kr_identity *identity) {
+    struct seat *seat = find_seat(identity);
+    if (seat && seat->turn == process.turn) return seat; /* the same as at the last call */
+    end_former();
+    return seat ? seat : find_place();
+}
+
+/* A thread whose identity has no seat takes any but the first. */
+static bool may_have(const struct kr_identity *identity, const struct seat *seat) {
+    const struct seat *own = find_seat(identity);
+    return own ? own == seat : seat != process.seats;
+}
+
+/* To who waited longest of those that may have it. */
+static void pass_on(struct seat *seat) {
+    struct waiter **at = &process.first;
+    while (*at && !may_have((*at)->identity, seat)) at = &(*at)->next;
+    struct waiter *next = *at;
+    seat->is_busy = next != NULL;
+    if (!next) return;
+    *at = next->next;
+    settle(seat, next->identity);
+    next->seat = seat;
+    pthread_cond_signal(&next->is_called);
+}
+
+static void leave_line(const struct waiter *waiter) {
+    struct waiter **at = &process.first;
+    while (*at && *at != waiter) at = &(*at)->next;
+    if (*at) *at = waiter->next;
+}
+
+/* Waits until a seat is passed on. NULL with ETIMEDOUT. */
+static struct seat *wait_in_line(const struct kr_identity *identity, int64_t deadline) {
+    const struct timespec end = { .tv_sec = deadline / 1000, .tv_nsec = deadline % 1000 * 1000000 };
+    struct waiter self = { .identity = identity }, **at = &process.first;
+    pthread_condattr_t monotonic;
+    pthread_condattr_init(&monotonic);
+    pthread_condattr_setclock(&monotonic, CLOCK_MONOTONIC);
+    pthread_cond_init(&self.is_called, &monotonic);
+    pthread_condattr_destroy(&monotonic);
+    while (*at) at = &(*at)->next;
+    *at = &self;
+    int error = 0;
+    while (!self.seat && error == 0) error = pthread_cond_timedwait(&self.is_called, &process.lock, &end);
+    if (!self.seat) leave_line(&self);
+    pthread_cond_destroy(&self.is_called);
+    errno = error;
+    return self.seat;
+}
+
+struct seat *seats_take(const struct kr_identity *identity, int64_t deadline) {
+    seats_lock();
+    struct seat *seat = choose(identity);
+    if (!seat || seat->is_busy) {
+        seat = wait_in_line(identity, deadline);
+    } else {
+        settle(seat, identity);
+        seat->is_busy = true;
+    }
+    if (seat) seat->turn = ++process.turn;
+    seats_unlock();
+    return seat;
+}
+
+void seats_give_back(struct seat *seat) {
+    seats_lock();
+    if (seat->connection) seat->connection->was_seen = false;
+    end_contexts(seat);
+    pass_on(seat);
+    seats_unlock();
+}
+
+/* ---- The connection of a seat that is busy ---- */
+
+/* The socket is made under the lock, so that a child of fork(2) knows of it. */
+struct kr *seats_prepare(struct seat *seat) {
+    seats_lock();
+    seat->connection = kr_prepare(&seat->where, 0, seat->identity.uid);
+    seat->shared.age = ++process.last_age;
+    seats_unlock();
+    return seat->connection;
+}
+
+void seats_drop(struct seat *seat, bool is_same_place) {
+    int error = errno;
+    const struct kr_where where = seat->where;
+    seats_lock();
+    close_connection(seat);
+    if (is_same_place) seat->where = where;
+    seats_unlock();
+    errno = error;
+}
+
+/* ---- This thread, and the process ---- */
+
+struct thread_context *seats_own_context(const struct seat *seat) { return &thread.own[seat - process.seats]; }
+
+void seats_has_own(struct seat *seat) {
+    seats_lock();
+    seat->own++;
+    seats_unlock();
+    if (process.has_end_of_thread) pthread_setspecific(process.end_of_thread, &process);
+}
+
+bool seats_have_own(const struct seat *seat) {
+    seats_lock();
+    bool have = seat->own > 0;
+    seats_unlock();
+    return have;
+}
+
+struct kr_session *seats_own_session(void) { return thread.session; }
+
+void seats_set_own_session(struct kr_session *session) {
+    free(thread.session);
+    thread.session = session;
+}
+
+bool seats_session(struct kr_session *session) {
+    seats_lock();
+    bool has = process.session != NULL;
+    if (has) *session = *process.session;
+    seats_unlock();
+    return has;
+}
+
+bool seats_hold_session(void) {
+    seats_lock();
+    bool is_held = kr_is_held(&process.holder) || kr_is_held(&process.handed);
+    seats_unlock();
+    return is_held;
+}
+
+void seats_set_session(struct kr_session *session, const struct kr_holder *holder) {
+    seats_lock();
+    struct kr_session *old_session = process.session;
+    struct kr_holder old_holder = process.holder;
+    process.session = session;
+    process.holder = *holder;
+    process.handed.descriptor = -1;
+    seats_unlock();
+    kr_close_holder(&old_holder);
+    free(old_session);
+}

@@ -1,0 +1,215 @@
+/* task_contexts.c: the contexts of threads. */
+#define _GNU_SOURCE
+#include "task_contexts.h"
+
+#include <errno.h>
+#include <linux/keyctl.h>
+#include <string.h>
+
+#include "connection.h"
+
+enum { LOOKED_AT = 64, GIVEN_UP = 8 };
+
+/* ---- A thread's ---- */
+
+static void drop_seat(struct task *task, unsigned at) {
+    context_end(&task->seats[at].context);
+    user_let_go(task->seats[at].user);
+    task->seats[at] = task->seats[--task->count];
+}
+
+void end_seats(struct task *task) {
+    while (task->count > 0) drop_seat(task, task->count - 1);
+}
+
+/* Those whose connection has ended. */
+static void drop_ended_seats(struct task *task) {
+    for (unsigned i = task->count; i > 0; i--)
+        if (!context_connection(&task->seats[i - 1].context)) drop_seat(task, i - 1);
+}
+
+static bool is_made_for(const struct seat *seat, const struct asker *asker) {
+    return seat->is_elsewhere == asker->is_elsewhere &&
+           memcmp(&seat->made_for, &asker->process, sizeof asker->process) == 0;
+}
+
+struct seat *find_seat(struct task *task, const struct user *user, const struct asker *asker) {
+    drop_ended_seats(task);
+    for (struct seat *seat = task->seats; seat < task->seats + task->count; seat++)
+        if (seat->user == user && (seat->has_joined || is_made_for(seat, asker))) return seat;
+    return NULL;
+}
+
+static struct seat *find_in_session(struct task *task, const struct user *user, struct admitted admitted) {
+    for (struct seat *seat = task->seats; seat < task->seats + task->count; seat++)
+        if (seat->user == user && seat->session == admitted.session && seat->is_lost == admitted.is_lost) return seat;
+    return NULL;
+}
+
+/* A place for one more; the one that asked longest ago makes room, but for the first. */
+static struct seat *add_seat(struct task *task, const struct seat *made) {
+    if (task->count == SEATS) drop_seat(task, 1);
+    task->seats[task->count] = *made;
+    user_use(made->user);
+    return &task->seats[task->count++];
+}
+
+static struct seat *have_first_seat(struct task *first, struct user *user, struct admitted admitted) {
+    struct seat *seat = find_in_session(first, user, admitted);
+    struct seat made = { .user = user, .session = admitted.session, .is_lost = admitted.is_lost };
+    if (seat) return seat;
+    if (session_enter(&made.context, user, made.session, &made.is_lost) < 0) return NULL;
+    return add_seat(first, &made);
+}
+
+static struct seat *find_of_user(struct task *task, const struct user *user) {
+    for (struct seat *seat = task->seats; seat < task->seats + task->count; seat++)
+        if (seat->user == user) return seat;
+    return NULL;
+}
+
+/* A context that shares another one's process keyring is in that one's session at first. */
+static bool bring(struct seat *made, const struct seat *root) {
+    if (root->session == made->session && root->is_lost == made->is_lost) return true;
+    bool is_in = made->session && session_enter_by_name(&made->context, made->user, made->session);
+    made->is_lost = !is_in;
+    return is_in || session_leave(&made->context) == 0;
+}
+
+/* A thread that isn't the first shares that one's process keyring. */
+static struct seat *have_task_seat(struct task *task, struct user *user, struct admitted admitted) {
+    struct task *first = task->process->first;
+    struct seat *seat = find_in_session(task, user, admitted), *root = find_of_user(first, user);
+    struct seat made = { .user = user, .session = admitted.session, .is_lost = admitted.is_lost };
+    if (seat) return seat;
+    if (!root) root = have_first_seat(first, user, admitted);
+    if (!root || context_thread(&made.context, &root->context) < 0) return NULL;
+    if (bring(&made, root)) return add_seat(task, &made);
+    context_end(&made.context);
+    return NULL;
+}
+
+struct seat *have_seat(struct task *task, struct user *user, struct admitted admitted, const struct asker *asker) {
+    bool is_first = task == task->process->first;
+    struct seat *seat = is_first ? have_first_seat(task, user, admitted) : have_task_seat(task, user, admitted);
+    if (!seat) return NULL;
+    memcpy(&seat->made_for, &asker->process, sizeof seat->made_for);
+    seat->is_elsewhere = asker->is_elsewhere;
+    return seat;
+}
+
+static bool has_state(const struct context *context) {
+    return context_has_keyring(context, KEY_SPEC_THREAD_KEYRING) ||
+           context_has_keyring(context, KEY_SPEC_PROCESS_KEYRING);
+}
+
+void bring_seats(struct task *task, struct session *session) {
+    for (unsigned i = task->count; i > 0; i--) {
+        struct seat *seat = &task->seats[i - 1];
+        if (seat->session == session) continue;
+        if (has_state(&seat->context)) {
+            bool is_in = session_enter_by_name(&seat->context, seat->user, session);
+            seat->session = is_in ? session : NULL;
+            seat->is_lost = !is_in;
+            seat->has_joined = false;
+        } else {
+            drop_seat(task, i - 1);
+        }
+    }
+}
+
+/* ---- Giving up ---- */
+
+static bool has_keyring(const struct task *task, int32_t id) {
+    for (unsigned i = 0; i < task->count; i++)
+        if (context_has_keyring(&task->seats[i].context, id)) return true;
+    return false;
+}
+
+static bool process_has_state(const struct process *process) {
+    if (!process->may_have_keyrings) return false;
+    for (struct task *task = process->tasks; task; task = task->next)
+        if (has_keyring(task, KEY_SPEC_THREAD_KEYRING) || has_keyring(task, KEY_SPEC_PROCESS_KEYRING)) return true;
+    return false;
+}
+
+/* Whether it has a context on the connection of this age, or of any for 0. */
+static bool has_seat(const struct task *task, unsigned age) {
+    for (unsigned i = 0; i < task->count; i++)
+        if (age == 0 || task->seats[i].context.age == age) return true;
+    return false;
+}
+
+static bool has_seats(const struct process *process, unsigned age) {
+    for (struct task *task = process->tasks; task; task = task->next)
+        if (has_seat(task, age)) return true;
+    return false;
+}
+
+static void end_all_seats(struct process *process) {
+    for (struct task *task = process->tasks; task; task = task->next) end_seats(task);
+}
+
+static bool end_idle_process(unsigned age, const struct task *asking) {
+    for (struct process *process = entries_oldest(); process; process = entries_next(process)) {
+        bool is_idle = (!asking || process != asking->process) && has_seats(process, age);
+        if (!is_idle || process_has_state(process)) continue;
+        end_all_seats(process);
+        return true;
+    }
+    return false;
+}
+
+/* A thread that isn't the first shares that one's process keyring: it has but its thread keyring to lose. */
+static bool end_idle_task(unsigned age, const struct task *asking) {
+    for (struct process *process = entries_oldest(); process; process = entries_next(process))
+        for (struct task *task = process->tasks; task != process->first; task = task->next) {
+            if (task == asking || !has_seat(task, age) || has_keyring(task, KEY_SPEC_THREAD_KEYRING)) continue;
+            end_seats(task);
+            return true;
+        }
+    return false;
+}
+
+/* An identity that only idle processes have is given up with their contexts. */
+bool seats_make_room(unsigned age, const struct task *asking, bool (*keeps)(pid_t, const struct session *)) {
+    if (sessions_make_room(keeps) || users_make_room(age, entries_have_uid)) return true;
+    if (age > 0) return end_idle_process(age, asking) || end_idle_task(age, asking);
+    while (end_idle_process(0, asking))
+        if (users_make_room(0, entries_have_uid)) return true;
+    return false;
+}
+
+static bool has_nothing(const struct task *task) {
+    return task->reqkey == 0 && task->session == task->process->first->session && task->replay.until < kr_now();
+}
+
+static unsigned give_up_tasks(struct process *process, const struct task *asking) {
+    unsigned count = 0;
+    for (struct task *task = process->tasks, *next; task != process->first; task = next) {
+        next = task->next;
+        if (task == asking || !has_nothing(task) || has_keyring(task, KEY_SPEC_THREAD_KEYRING)) continue;
+        end_task(task);
+        count++;
+    }
+    return count;
+}
+
+void seats_make_descriptors(const struct task *asking, bool (*may_be_forgotten)(const struct process *)) {
+    struct process *process = entries_oldest(), *next;
+    unsigned given_up = 0;
+    for (int looked_at = 0; process && looked_at < LOOKED_AT && given_up < GIVEN_UP; looked_at++, process = next) {
+        next = entries_next(process);
+        given_up += give_up_tasks(process, asking);
+        if (process->tasks != process->first || process == asking->process || !has_nothing(process->first) ||
+            process_has_state(process) || !may_be_forgotten(process))
+            continue;
+        end_process(process);
+        given_up++;
+    }
+}
+
+void seats_leave_old_connections(void) {
+    for (struct process *process = entries_oldest(); process; process = entries_next(process))
+        if (!process_has_state(process)) end_all_seats(process);
+}

@@ -1,0 +1,112 @@
+/* users.c: the identities of what a supervisor serves. */
+#define _GNU_SOURCE
+#include "users.h"
+
+#include <errno.h>
+#include <linux/keyctl.h>
+#include <stdlib.h>
+#include <string.h>
+
+enum { ABSENT_SWEEPS = 2, LINK_BYTES = 4 };
+
+static struct user *all; /* who came last is the first */
+
+static struct user *add_user(const struct kr_identity *identity) {
+    struct user *user = calloc(1, sizeof *user);
+    if (!user) return NULL;
+    user->identity = *identity;
+    if (context_hello(&user->context, identity) < 0) {
+        int error = errno;
+        free(user);
+        errno = error;
+        return NULL;
+    }
+    user->next = all;
+    return all = user;
+}
+
+struct user *users_find(const struct kr_identity *identity) {
+    struct user *user = all;
+    while (user && memcmp(&user->identity, identity, sizeof *identity) != 0) user = user->next;
+    if (!user) return add_user(identity);
+    user->absent = 0;
+    user_use(user); /* what is given up to make room isn't this one */
+    bool is_there = context_connection(&user->context) || context_hello(&user->context, identity) == 0;
+    user_let_go(user);
+    return is_there ? user : NULL;
+}
+
+struct user *user_use(struct user *user) {
+    user->uses++;
+    return user;
+}
+
+void user_let_go(struct user *user) {
+    if (!user || --user->uses > 0) return;
+    user->absent = 0;
+    user->has_keys = false;
+}
+
+/* ---- Giving up ---- */
+
+static bool is_kept_by_another(const struct user *user) {
+    for (const struct user *other = all; other; other = other->next)
+        if (other != user && other->identity.uid == user->identity.uid && context_connection(&other->context))
+            return true;
+    return false;
+}
+
+/* The user-session keyring has a link to the user keyring, and nothing else at first. */
+static bool would_lose_keys(const struct user *user) {
+    struct kr *connection = context_connection(&user->context);
+    if (!connection || is_kept_by_another(user)) return false;
+    return kr_read(connection, user->context.number, KEY_SPEC_USER_KEYRING, NULL, 0) != 0 ||
+           kr_read(connection, user->context.number, KEY_SPEC_USER_SESSION_KEYRING, NULL, 0) != LINK_BYTES;
+}
+
+static void end_user(struct user *user) {
+    struct user **at = &all;
+    while (*at != user) at = &(*at)->next;
+    *at = user->next;
+    context_end(&user->context);
+    free(user);
+}
+
+static bool may_be_given_up(const struct user *user) { return user->uses == 0 && !user->has_keys; }
+
+bool users_want_sweep(void) {
+    const struct user *user = all;
+    while (user && !may_be_given_up(user)) user = user->next;
+    return user != NULL;
+}
+
+void users_sweep(void) {
+    for (struct user *user = all, *next; user; user = next) {
+        next = user->next;
+        if (!may_be_given_up(user) || ++user->absent < ABSENT_SWEEPS) continue;
+        user->has_keys = would_lose_keys(user);
+        if (!user->has_keys) end_user(user);
+    }
+}
+
+bool users_make_room(unsigned age, bool (*is_here)(uint32_t uid)) {
+    struct user *found = NULL; /* the one that came first */
+    for (struct user *user = all; user; user = user->next) {
+        bool is_there = age ? user->context.age == age : !context_is_old(&user->context);
+        if (user->uses > 0 || !is_there || !context_connection(&user->context)) continue;
+        if (!user->has_keys && !would_lose_keys(user)) {
+            end_user(user);
+            return true;
+        }
+        if (!is_here(user->identity.uid)) found = user;
+    }
+    if (found) end_user(found);
+    return found != NULL;
+}
+
+void users_renew(void) {
+    for (struct user *user = all; user; user = user->next) {
+        struct context before = user->context;
+        if (context_is_old(&before) && context_hello(&user->context, &user->identity) == 0) context_end(&before);
+    }
+}

@@ -1,0 +1,19 @@
+/* refused.h: clients that get no place. Each is told so, by EDQUOT in reply to its first ask, and is then disconnected. */
+#ifndef KEYRETAIN_GUARD_REFUSED_H
+#define KEYRETAIN_GUARD_REFUSED_H
+
+#include <poll.h>
+#include <stdint.h>
+
+enum { REFUSED_MAX = 16 }; /* that wait for their first ask to come */
+
+/* Takes the client over. Where as many wait already, one of its uid is ended, or else of any: the one that came first. */
+void refuse_client(int client, uint32_t uid);
+
+/* What is to be waited for, in so many entries. Answers until when, or INT64_MAX. */
+int64_t put_refused(struct pollfd *waited);
+
+/* Answers those of whom something has come, and ends them, and those of whom nothing has come for five seconds. */
+void end_refused(const struct pollfd *waited, int64_t now);
+
+#endif
