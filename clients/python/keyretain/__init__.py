@@ -1,25 +1,31 @@
-"""A client of keyretaind(8), by Python's standard library alone: frames of both versions, every ask, and notes.
+"""A client of keyretaind(8), by Python's standard library alone: every ask, and notes.
 
+    import os, keyretain
     with keyretain.Client() as client:
         context = client.hello(os.geteuid(), os.getegid())
+        client.enter_session(context)  # that of keyretain-session(1) or of the login, if there is one
         serial = client.add(context, "user", "token", b"s3", keyretain.USER)
-        client.read(context, serial)
+        print(client.read(context, serial))  # b's3'
 
 A call that the daemon refuses raises Refused, with the error's number; a connection that can't be used any more raises
 Lost, bytes that are no reply Malformed, and a daemon that takes too long TimeoutError: all are OSErrors. What fits no
 frame is a ValueError, and nothing is sent. A Client is one connection: its contexts and queues end with it. It isn't
 locked: one thread at a time, and never a handler of a signal. keyretain-protocol(7) has each ask with its errors.
 
+The client wipes its own copies of what it has sent and received. What the program gives it and gets of it are objects
+of Python: who wants none left gives payloads as a bytearray, reads by Client.read_into(), and wipes both.
+
     python3 -m keyretain KEY
 
-watches a key, by its serial or as @t, @p, @s, @u or @us, for the caller's uid, and prints its notes as text.
+watches a key, by its serial or as @t, @p, @s, @u or @us, for the caller's uid in the session that it is in, and prints
+its notes as text.
 """
 from .client import PATIENCE, Client, notes_of
 from .connection import AHEAD
 from .errors import STATUSES, Lost, Malformed, Refused, TooFarAhead
 from .frames import (
     ASKS, ENTRY, LEAVE_AS_IT_IS, LONGEST_ASK, LONGEST_REPLY, NUMBERS, PROCESS, SESSION, SHORTEST_REPLY, THREAD, USER,
-    USER_SESSION, VERSIONS, Ask, Reply, answer_of, decode_body, decode_reply, decode_serials, encode_ask, encode_body,
+    USER_SESSION, Ask, Reply, answer_of, decode_body, decode_reply, decode_serials, encode_ask, encode_body,
     frame, name_of,
 )
 from .notes import SUBTYPES, Loss, Note, Removal, decode_notes, describe_note
@@ -30,7 +36,7 @@ __version__ = "0.1.0"
 
 __all__ = [
     "AHEAD", "ASKS", "ENTRY", "LEAVE_AS_IT_IS", "LONGEST_ASK", "LONGEST_REPLY", "NUMBERS", "PATIENCE", "PROCESS",
-    "SESSION", "SHORTEST_REPLY", "STATUSES", "SUBTYPES", "SYSTEM_PATH", "THREAD", "USER", "USER_SESSION", "VERSIONS",
+    "SESSION", "SHORTEST_REPLY", "STATUSES", "SUBTYPES", "SYSTEM_PATH", "THREAD", "USER", "USER_SESSION",
     "Ask", "Client", "Loss", "Lost", "Malformed", "Note", "Peer", "Refused", "Removal", "Reply", "Session",
     "TooFarAhead", "answer_of", "decode_body", "decode_notes", "decode_reply", "decode_serials", "default_path",
     "describe_note", "encode_ask", "encode_body", "frame", "name_of", "notes_of", "parse_session",

@@ -1,15 +1,20 @@
-"""python3 -m keyretain KEY: watches a key for the caller's uid, and prints its notes."""
+"""python3 -m keyretain [--exec COMMAND] KEY: watches a key for the caller's uid, in the session that it is in. It
+prints its notes, or runs a command of the shell at each, which finds the note in the variable KEYRETAIN_NOTE."""
 from __future__ import annotations
 
+import errno
 import os
+import subprocess
 import sys
 from typing import Optional, Sequence
 
-from . import PROCESS, SESSION, THREAD, USER, USER_SESSION, Client, describe_note, notes_of
+from . import PROCESS, SESSION, THREAD, USER, USER_SESSION, Client, Refused, describe_note, notes_of
+from .places import environment
+from .sessions import VARIABLE
 
 WORDS = {"@t": THREAD, "@p": PROCESS, "@s": SESSION, "@u": USER, "@us": USER_SESSION}
 LARGEST_SERIAL = 0x7FFFFFFF
-USAGE = "usage: python3 -m keyretain KEY    (a serial, @t, @p, @s, @u or @us)"
+USAGE = "usage: python3 -m keyretain [--exec COMMAND] KEY    (a serial, @t, @p, @s, @u or @us)"
 FAILED, WRONG_WORDS = 1, 2
 
 
@@ -28,25 +33,39 @@ def printable(text: bytes) -> str:
                    for sign in text.decode("ascii", "backslashreplace"))
 
 
-def watch(key: int) -> None:
-    """Prints the notes of a key until it is watched no more."""
+def act(note: str, command: Optional[str]) -> None:
+    """What is done at a note. The next one waits until the command has ended."""
+    if command is None:
+        print(note, flush=True)
+        return
+    environ = {**os.environ, "KEYRETAIN_NOTE": note}
+    status = subprocess.run(["/bin/sh", "-c", command], env=environ, check=False).returncode
+    if status != 0:
+        print(f"keyretain: the command ended with {status}: {note}", file=sys.stderr)
+
+
+def watch(key: int, command: Optional[str]) -> None:
+    """Tells the notes of a key until it is watched no more."""
     with Client() as client:
         context = client.hello(os.geteuid(), os.getegid(), os.getgroups()[:32])
+        if environment(VARIABLE) and not client.enter_session(context):
+            raise Refused("JOIN", errno.EKEYREVOKED)
         queue = client.open_queue(256)
         client.watch(context, key, queue)
         print("watching", printable(client.describe(context, key)), flush=True)
         for note in notes_of(client, queue):
-            print(describe_note(note), flush=True)
+            act(describe_note(note), command)
 
 
 def main(words: Sequence[str]) -> int:
     """Answers the exit status."""
-    key = key_of(words[0]) if len(words) == 1 else None
+    command = words[1] if len(words) == 3 and words[0] == "--exec" else None
+    key = key_of(words[-1]) if len(words) == (1 if command is None else 3) else None
     if key is None:
         print(USAGE, file=sys.stderr)
         return WRONG_WORDS
     try:
-        watch(key)
+        watch(key, command)
     except OSError as error:
         print(f"keyretain: {error}", file=sys.stderr)
         return FAILED

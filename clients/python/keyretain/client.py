@@ -6,9 +6,9 @@ import time
 from collections.abc import Iterator
 from typing import Any, Optional, Sequence, Union
 
-from .connection import Connection, Deadline
-from .errors import Lost, Malformed, Refused
-from .frames import LEAVE_AS_IT_IS, VERSIONS, Answer, Bytes, Reply, Text, answer_of, decode_serials
+from .connection import Connection, Deadline, wipe
+from .errors import Malformed, Refused
+from .frames import LEAVE_AS_IT_IS, Answer, Bytes, Reply, Text, answer_of, decode_serials
 from .notes import Record, Removal, decode_notes
 from .places import Path, Peer, environment, place_of
 from .sessions import VARIABLE, enter, parse_session
@@ -22,13 +22,10 @@ class Client:
     `path` names the daemon's socket; without it default_path() does. Nothing is sent before it is known who listens
     there: the effective user where the path was found in the runtime directory, root or the system's daemon where it is
     the system's, any of these where it was named. Else PermissionError is raised. A path that is named may be anybody's
-    if `trust` is "any", or KEYRETAIN_TRUST in the environment, which is for tests.
-
-    `version` is that of the frames: 1, 2, or None to find out with the first ask whether the daemon understands 2. It
-    may be set anew between asks: a reply is of its ask's version.
+    if `trust` is "any".
 
     `timeout` is how many seconds a call may take in all, 0 to look once and None for no end; then it raises
-    TimeoutError. It may be set anew too. Signals don't lengthen it.
+    TimeoutError. It may be set anew. Signals don't lengthen it.
 
     A call that an exception ends leaves the connection as it was where no frame was half sent or half taken: whether
     the ask was carried out isn't known then, and a reply that comes late is dropped. In the midst of a frame it ends
@@ -36,9 +33,9 @@ class Client:
     closed. So does each call after the program has closed the socket's descriptor itself: what has that number since is
     neither written to nor closed."""
 
-    def __init__(self, path: Optional[Path] = None, version: Optional[int] = None, timeout: Optional[float] = PATIENCE,
+    def __init__(self, path: Optional[Path] = None, timeout: Optional[float] = PATIENCE,
                  trust: Optional[str] = None) -> None:
-        self.version, self.timeout = version, timeout
+        self.timeout = timeout
         self._place = place_of(path, trust)
         self._connection = Connection(self._place, Deadline(timeout))
 
@@ -65,8 +62,7 @@ class Client:
         """Sends an ask without waiting for its reply; answers its tag. receive() gives the answers, in order. While it
         waits to write, replies are read and kept. So at most 256 asks may be ahead of receive(), which take 64 MiB at
         worst; then it raises TooFarAhead."""
-        version = self.version or VERSIONS[-1]
-        return self._connection.send(name, context, values, version, True, Deadline(self.timeout)).tag
+        return self._connection.send(name, context, values, True, Deadline(self.timeout)).tag
 
     def receive(self) -> Answer:
         """The answer to the first ask that was sent ahead and has none yet."""
@@ -75,38 +71,26 @@ class Client:
 
     def ask(self, name: str, context: int = 0, *values: Any) -> Answer:
         """One ask and its answer."""
-        deadline = Deadline(self.timeout)
-        if self.version is None:
-            reply = self._first_exchange(name, context, values, deadline)
-        else:
-            reply = self._exchange(name, context, values, self.version, deadline)
-        return self._answer_of(name, reply)
+        return self._answer_of(name, self._exchange(name, context, values))
 
-    def _exchange(self, name: str, context: int, values: tuple[Any, ...], version: int, deadline: Deadline) -> Reply:
-        asked = self._connection.send(name, context, values, version, False, deadline)
+    def _exchange(self, name: str, context: int, values: tuple[Any, ...]) -> Reply:
+        deadline = Deadline(self.timeout)
+        asked = self._connection.send(name, context, values, False, deadline)
         return self._connection.reply_to(asked, deadline)
 
-    def _first_exchange(self, name: str, context: int, values: tuple[Any, ...], deadline: Deadline) -> Reply:
-        """A daemon that doesn't understand the newest frames ends the connection, and has carried nothing out. The
-        version is found out once there is a reply."""
+    def _answer_of(self, name: str, reply: Reply, room: Optional[memoryview] = None) -> Answer:
+        """The answer or, where there is room for bytes, their length; the reply's own copy is wiped."""
         try:
-            reply = self._exchange(name, context, values, VERSIONS[-1], deadline)
-            self.version = VERSIONS[-1]
-            return reply
-        except Lost:
-            if not self._connection.may_be_too_new():
-                raise
-        self._connection = Connection(self._place, deadline)
-        reply = self._exchange(name, context, values, VERSIONS[0], deadline)
-        self.version = VERSIONS[0]
-        return reply
-
-    def _answer_of(self, name: str, reply: Reply) -> Answer:
-        try:
-            return answer_of(name, reply)
+            if room is None or reply.status:
+                return answer_of(name, reply)
+            if len(reply.body) <= len(room):
+                room[:len(reply.body)] = reply.body
+            return len(reply.body)
         except Malformed as error:
             self._connection.end(error.strerror, forget=True)
             raise
+        finally:
+            wipe(reply.body)
 
     def _number(self, name: str, context: int, *values: Any) -> int:
         answer = self.ask(name, context, *values)
@@ -199,8 +183,16 @@ class Client:
         return self._number("SEARCH", context, head, type, description, destination)
 
     def read(self, context: int, key: int) -> bytes:
-        """The payload of a key."""
+        """The payload of a key. Python can't wipe these bytes: read_into() gives them to whoever can."""
         return self._bytes("READ", context, key)
+
+    def read_into(self, context: int, key: int, buffer: Union[bytearray, memoryview]) -> int:
+        """Puts the payload of a key into a buffer that the caller may wipe, and answers its length. If it is longer
+        than the buffer, nothing is put there. No other copy stays in the program."""
+        with memoryview(buffer) as whole, whole.cast("B") as room:
+            length = self._answer_of("READ", self._exchange("READ", context, (key,)), room)
+        assert isinstance(length, int)
+        return length
 
     def read_ring(self, context: int, ring: int) -> list[int]:
         """The serials that a keyring links. Malformed where the key reads as none: it isn't a keyring."""

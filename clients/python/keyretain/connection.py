@@ -16,10 +16,10 @@ import struct
 import time
 import weakref
 from collections import deque
-from typing import Any, NamedTuple, Optional
+from typing import Any, NamedTuple, Optional, Union
 
 from .errors import Lost, Malformed, TooFarAhead
-from .frames import Reply, decode_reply, encode_ask
+from .frames import Reply, decode_reply, make_ask
 from .places import Peer, Place, check
 
 AHEAD = 256  # asks that may await receive(): each may be answered with some 256 KiB
@@ -69,9 +69,29 @@ class Asked(NamedTuple):
     """An ask that was sent. Its reply is kept for receive() if it was sent ahead, and else for the call that waits."""
 
     name: str
-    version: int
     tag: int
     is_ahead: bool
+
+
+# ---- Bytes that may be secret: a bytearray that grows, or whose front is taken away, leaves a copy behind. So each is
+# made anew, and the old one is wiped.
+
+
+def wipe(held: Union[bytearray, memoryview]) -> None:
+    held[:] = bytes(len(held))
+
+
+def _joined(held: bytearray, more: memoryview) -> bytearray:
+    both = bytearray().join((held, more))
+    wipe(held)
+    wipe(more)
+    return both
+
+
+def _behind(held: bytearray, at: int) -> bytearray:
+    left = bytearray(memoryview(held)[at:])
+    wipe(held)
+    return left
 
 
 # ---- Sockets
@@ -142,11 +162,11 @@ class Connection:
         self._owner = (os.getpid(), _forks)
         self._lost, self._cut = "", False
         self._received, self._last = bytearray(), 0
+        self._room = memoryview(bytearray(PIECE))
         self._waiting: deque[Asked] = deque()
         self._come: deque[tuple[Asked, Reply]] = deque()
         self._answer: Optional[Reply] = None
         self._awaited = 0  # the tag of the ask for which a call waits
-        self._has_come, self._was_ended = False, False  # whether bytes have come, and whether the daemon ended it
         self._socket = _open_socket()
         self._identity = _identity_of(self._socket)
         _open.add(self)
@@ -166,10 +186,17 @@ class Connection:
         they are to be forgotten."""
         self._lost = self._lost or why
         self._close()
-        self._received.clear()
-        self._answer = None
+        self._received = _behind(self._received, len(self._received))
+        self._drop_answer()
         if forget:
+            for _, reply in self._come:
+                wipe(reply.body)
             self._come.clear()
+
+    def _drop_answer(self) -> None:
+        if self._answer is not None:
+            wipe(self._answer.body)
+        self._answer = None
 
     def _close(self) -> None:
         """Closes the socket. A program may have closed its descriptor, and have something else under the number."""
@@ -189,35 +216,31 @@ class Connection:
         if self._lost:
             raise Lost(self._lost)
 
-    def may_be_too_new(self) -> bool:
-        """Whether the daemon ended it and had answered nothing, as one does that doesn't know the frames' version."""
-        return self._was_ended and not self._has_come and not any(asked.is_ahead for asked in self._waiting)
-
     def _fail(self, error: OSError) -> OSError:
         """Ends the connection for this error."""
-        self._was_ended = isinstance(error, Lost)
-        self.end(error.strerror, forget=not self._was_ended)
+        self.end(error.strerror, forget=not isinstance(error, Lost))
         return error
 
     # Asks
 
-    def send(self, name: str, context: int, values: tuple[Any, ...], version: int, is_ahead: bool,
-             deadline: Deadline) -> Asked:
+    def send(self, name: str, context: int, values: tuple[Any, ...], is_ahead: bool, deadline: Deadline) -> Asked:
         """Sends an ask. An ask of which no byte was sent was never made; one that is cut short ends the connection."""
         self.check()
         if is_ahead and len(self._waiting) + len(self._come) >= AHEAD:
             raise TooFarAhead(AHEAD)
-        asked = Asked(name, version, self._last + 1, is_ahead)
-        whole = encode_ask(name, context, values, version, asked.tag)
+        asked = Asked(name, self._last + 1, is_ahead)
+        whole = make_ask(name, context, values, asked.tag)
         try:
-            self._write(whole, asked, deadline)
+            self._write(memoryview(whole), asked, deadline)
         except BaseException:
             if self._cut:
                 self.end(CUT)
             raise
+        finally:
+            wipe(whole)
         return asked
 
-    def _write(self, whole: bytes, asked: Asked, deadline: Deadline) -> None:
+    def _write(self, whole: memoryview, asked: Asked, deadline: Deadline) -> None:
         """Takes what comes while it waits: a daemon whose replies aren't taken doesn't read."""
         at = self._write_some(whole)
         while at == 0:
@@ -233,7 +256,7 @@ class Connection:
             at += self._write_some(whole[at:])
         self._cut = False
 
-    def _write_some(self, piece: bytes) -> int:
+    def _write_some(self, piece: memoryview) -> int:
         """How many bytes have gone out: none where there is no room. `_cut` is then as it was."""
         was_cut, self._cut = self._cut, True
         try:
@@ -257,16 +280,15 @@ class Connection:
         """Takes the bytes that have come, if any, and the replies that are whole with them."""
         was_cut, self._cut = self._cut, True
         try:
-            piece = self._socket.recv(PIECE)
+            count = self._socket.recv_into(self._room)
         except BlockingIOError:
             self._cut = was_cut
             return
         except OSError as error:
             raise self._fail(Lost(f"receiving: {error.strerror}")) from None
-        if not piece:
+        if not count:
             raise self._fail(Lost("the daemon ended the connection"))
-        self._received += piece
-        self._has_come = True
+        self._received = _joined(self._received, self._room[:count])
         try:
             self._take_replies()
         except Malformed as error:
@@ -275,21 +297,30 @@ class Connection:
 
     def _take_replies(self) -> None:
         """Gives each whole reply to whom it is for; one that a call gave up waiting for is dropped."""
-        while self._received:
+        view, at = memoryview(self._received), 0
+        while at < len(view):
             if not self._waiting:
                 raise Malformed("bytes that nobody asked for")
-            asked = self._waiting[0]
-            reply = decode_reply(self._received, asked.version)
+            reply = decode_reply(view[at:], bytearray)
             if reply is None:
-                return
-            if reply.tag not in (None, asked.tag):
-                raise Malformed(f"a reply to {reply.tag}, not to {asked.tag}")
-            del self._received[:reply.length]
-            self._waiting.popleft()
-            if asked.is_ahead:
-                self._come.append((asked, reply))
-            elif asked.tag == self._awaited:
-                self._answer = reply
+                break
+            self._take_reply(reply)
+            at += reply.length
+        if at:
+            self._received = _behind(self._received, at)
+
+    def _take_reply(self, reply: Reply) -> None:
+        asked = self._waiting[0]
+        if reply.tag != asked.tag:
+            raise Malformed(f"a reply to {reply.tag}, not to {asked.tag}")
+        self._waiting.popleft()
+        if asked.is_ahead:
+            self._come.append((asked, reply))
+        elif asked.tag == self._awaited:
+            self._drop_answer()
+            self._answer = reply
+        else:
+            wipe(reply.body)
 
     def _receive(self, deadline: Deadline) -> None:
         try:
@@ -302,7 +333,8 @@ class Connection:
 
     def reply_to(self, asked: Asked, deadline: Deadline) -> Reply:
         """The reply to an ask that wasn't sent ahead, which is the last one."""
-        self._answer, self._awaited = None, asked.tag
+        self._drop_answer()
+        self._awaited = asked.tag
         while self._answer is None:
             self._receive(deadline)
         reply, self._answer = self._answer, None

@@ -10,7 +10,9 @@ STATUSES = {
     1: "EPERM", 2: "ENOENT", 3: "ESRCH", 9: "EBADF", 11: "EAGAIN", 12: "ENOMEM", 13: "EACCES", 16: "EBUSY",
     17: "EEXIST", 19: "ENODEV", 20: "ENOTDIR", 22: "EINVAL", 23: "ENFILE", 28: "ENOSPC", 35: "EDEADLK", 40: "ELOOP",
     57: "EBADSLT", 95: "EOPNOTSUPP", 105: "ENOBUFS", 126: "ENOKEY", 127: "EKEYEXPIRED", 128: "EKEYREVOKED",
+    122: "EDQUOT",  # keyretain-guard(8) says it, and no daemon
 }
+NAMES = {**STATUSES, 122: "EDQUOT"}  # keyretain-guard(8) has no place for a connection
 
 
 class Refused(OSError):
@@ -18,7 +20,7 @@ class Refused(OSError):
 
     def __init__(self, ask: str, status: int) -> None:
         super().__init__(status, os.strerror(status))
-        self.ask, self.name = ask, STATUSES[status]
+        self.ask, self.name = ask, NAMES[status]
 
     def __reduce__(self) -> tuple[Any, ...]:
         return type(self), (self.ask, self.errno)

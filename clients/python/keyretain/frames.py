@@ -1,12 +1,12 @@
-"""Frames: the asks with their fields, as bytes and back, in both versions. docs/FORMAT.md has each of them."""
+"""Frames of version 2: the asks with their fields, as bytes and back. docs/FORMAT.md has each of them."""
 from __future__ import annotations
 
 import struct
 from typing import Any, NamedTuple, Optional, Sequence, Union
 
-from .errors import STATUSES, Malformed, Refused
+from .errors import NAMES, Malformed, Refused
 
-VERSIONS = (1, 2)
+VERSION = 2
 
 THREAD, PROCESS, SESSION, USER, USER_SESSION = -1, -2, -3, -4, -5  # ids of keyrings: keyrings(7)
 LEAVE_AS_IT_IS = 0xFFFFFFFF  # a uid or gid of chown
@@ -59,58 +59,68 @@ ASKS = {
 NUMBERS = {"id": struct.Struct("<i"), "i32": struct.Struct("<i"), "u8": struct.Struct("<B"),
            "u32": struct.Struct("<I")}
 ENTRY = struct.Struct("<3I8I")
+HEAD = struct.Struct("<IHHIQ")
 COUNTED = {"text": ("<H", 1), "blob": ("<I", 1), "groups": ("<I", 4), "entries": ("<I", ENTRY.size)}
 LONGEST_ASK = 65536
 HIGHEST_SERIAL = 2**31 - 1
-SHORTEST_REPLY = {1: 4, 2: 12}
-LONGEST_REPLY = {1: 262144, 2: 262152}
+SHORTEST_REPLY, LONGEST_REPLY = 12, 262152
 
 # ---- Asks
 
 
-def _bytes(value: Text) -> bytes:
-    return value.encode() if isinstance(value, str) else bytes(memoryview(value))
+def _view(value: Text) -> memoryview:
+    """Its bytes, without a copy of them where they stand in a row."""
+    view = memoryview(value.encode() if isinstance(value, str) else value)
+    return view.cast("B") if view.c_contiguous else memoryview(view.tobytes())
 
 
-def _encode_field(form: str, value: Any) -> bytes:
+def _encode_field(form: str, value: Any) -> list[Union[bytes, memoryview]]:
     if form in NUMBERS:
-        return NUMBERS[form].pack(value)
-    if form == "text":
-        return struct.pack("<H", len(_bytes(value))) + _bytes(value)
-    if form == "blob":
-        return struct.pack("<I", len(_bytes(value))) + _bytes(value)
+        return [NUMBERS[form].pack(value)]
+    if form in ("text", "blob"):
+        view = _view(value)
+        return [struct.pack(COUNTED[form][0], len(view)), view]
     if form == "groups":
-        return struct.pack(f"<I{len(value)}I", len(value), *value)
-    return struct.pack("<I", len(value)) + b"".join(ENTRY.pack(*entry) for entry in value)
+        return [struct.pack(f"<I{len(value)}I", len(value), *value)]
+    return [struct.pack("<I", len(value)), *(ENTRY.pack(*entry) for entry in value)]
 
 
-def encode_body(name: str, values: Sequence[Any]) -> bytes:
-    """The fields of this ask, one after the other. ValueError where a value is out of its width."""
+def _encode_fields(name: str, values: Sequence[Any]) -> list[Union[bytes, memoryview]]:
     forms = ASKS[name].fields.split()
     if len(forms) != len(values):
         raise TypeError(f"{name} has the fields {forms}")
     try:
-        return b"".join(map(_encode_field, forms, values))
+        return [part for form, value in zip(forms, values) for part in _encode_field(form, value)]
     except struct.error as error:
         raise ValueError(f"{name}: {error}") from None
 
 
-def frame(number: int, context: int, body: bytes = b"", version: int = 1, tag: int = 0) -> bytes:
+def encode_body(name: str, values: Sequence[Any]) -> bytes:
+    """The fields of this ask, one after the other. ValueError where a value is out of its width."""
+    return b"".join(_encode_fields(name, values))
+
+
+def frame(number: int, context: int, body: bytes = b"", tag: int = 0) -> bytes:
     """An ask's frame around any bytes, also such as the daemon will refuse."""
-    tagged = struct.pack("<Q", tag) if version == 2 else b""
-    rest = struct.pack("<HHI", version, number, context) + tagged + body
-    return struct.pack("<I", len(rest)) + rest
+    return HEAD.pack(HEAD.size - 4 + len(body), VERSION, number, context, tag) + body
 
 
-def encode_ask(name: str, context: int, values: Sequence[Any] = (), version: int = 1, tag: int = 0) -> bytes:
-    """An ask's frame. ValueError where no frame holds it."""
+def make_ask(name: str, context: int, values: Sequence[Any], tag: int) -> bytearray:
+    """An ask's frame, with the only copy of its payload, which whoever has sent it wipes."""
+    fields = _encode_fields(name, values)
+    size = HEAD.size - 4 + sum(map(len, fields))
+    if size > LONGEST_ASK:
+        raise ValueError(f"{name} is longer than a frame")
     try:
-        whole = frame(ASKS[name].number, context, encode_body(name, values), version, tag)
+        head = HEAD.pack(size, VERSION, ASKS[name].number, context, tag)
     except struct.error as error:
         raise ValueError(f"{name}: {error}") from None
-    if len(whole) - 4 > LONGEST_ASK:
-        raise ValueError(f"{name} is longer than a frame")
-    return whole
+    return bytearray().join([head, *fields])
+
+
+def encode_ask(name: str, context: int, values: Sequence[Any] = (), tag: int = 0) -> bytes:
+    """An ask's frame. ValueError where no frame holds it."""
+    return bytes(make_ask(name, context, values, tag))
 
 
 def _decode_field(form: str, body: bytes, at: int) -> tuple[Any, int]:
@@ -151,37 +161,37 @@ def name_of(number: int) -> Optional[str]:
 
 
 class Reply(NamedTuple):
-    """A reply, and how long its frame is. Version 1 has no tag."""
+    """A reply, and how long its frame is."""
 
     status: int
-    tag: Optional[int]
-    body: bytes
+    tag: int
+    body: Union[bytes, bytearray]
     length: int
 
 
-def decode_reply(received: Union[bytes, bytearray], version: int = 1) -> Optional[Reply]:
-    """The first reply of these bytes, or None where it isn't whole yet. Malformed where it can't become one."""
+def decode_reply(received: Bytes, kind: Union[type[bytes], type[bytearray]] = bytes) -> Optional[Reply]:
+    """The first reply of these bytes, with a body of this kind, or None where it isn't whole yet. Malformed where it
+    can't become one."""
     if len(received) < 4:
         return None
-    length, head = struct.unpack_from("<I", received)[0], 16 if version == 2 else 8
-    if not SHORTEST_REPLY[version] <= length <= LONGEST_REPLY[version]:
+    length = struct.unpack_from("<I", received)[0]
+    if not SHORTEST_REPLY <= length <= LONGEST_REPLY:
         raise Malformed(f"a reply of {length} bytes")
     if len(received) < 4 + length:
         return None
-    status = struct.unpack_from("<I", received, 4)[0]
-    tag = struct.unpack_from("<Q", received, 8)[0] if version == 2 else None
-    return Reply(status, tag, bytes(received[head:4 + length]), 4 + length)
+    status, tag = struct.unpack_from("<IQ", received, 4)
+    return Reply(status, tag, kind(memoryview(received)[4 + SHORTEST_REPLY:4 + length]), 4 + length)
 
 
 def answer_of(name: str, reply: Reply) -> Answer:
     """The number, the bytes or the None that a reply to this ask answers; Refused for an error."""
     if reply.status:
-        if reply.status not in STATUSES or reply.body:
+        if reply.status not in NAMES or reply.body:
             raise Malformed(f"status {reply.status} with {len(reply.body)} bytes")
         raise Refused(name, reply.status)
     form = ASKS[name].answer
     if form == "bytes":
-        return reply.body
+        return bytes(reply.body)
     if len(reply.body) != (0 if form == "nothing" else 4):
         raise Malformed(f"{name} is answered with {len(reply.body)} bytes")
     if form == "nothing":

@@ -32,8 +32,7 @@ class Trust(enum.Enum):
 
 
 class Place(NamedTuple):
-    """A path, who may listen there, and for whom, also where it is connected to anew: the process may have become
-    another user by then, who would trust a daemon of its own."""
+    """A path, who may listen there, and for whom."""
 
     path: Path
     trust: Trust
@@ -125,8 +124,7 @@ def place_of(path: Optional[Path], trust: Optional[str]) -> Place:
         raise FileNotFoundError(errno.ENOENT, os.strerror(errno.ENOENT), place.path)
     if b"\0" in spelled:
         raise ValueError("a path with a null byte: an abstract name is anybody's to take")
-    is_any = place.trust is Trust.NAMED and "any" in (trust, environment("KEYRETAIN_TRUST"))
-    return place._replace(trust=Trust.ANY) if is_any else place
+    return place._replace(trust=Trust.ANY) if trust and place.trust is Trust.NAMED else place
 
 
 def is_system_daemon(uid: int) -> bool:

@@ -1,5 +1,8 @@
 """keyretain-keeper(8), which holds a keyring as long as it has keys. It is executed with nothing of this process but a
-pipe: it stays as long as the pipe is open, and then until the last key has expired."""
+pipe: it stays as long as the pipe is open, and then until the last key has expired.
+
+Where the user has a systemd it belongs to that, and not to the login whose program has started it: it neither ends with
+that login nor keeps it from ending, and ends with the user's last one."""
 from __future__ import annotations
 
 import errno
@@ -9,11 +12,13 @@ import select
 import signal
 import time
 from collections.abc import Iterator
-from contextlib import contextmanager
+from contextlib import contextmanager, suppress
+from typing import Optional
 
-from ..places import environment
 
 KEEPER = "/usr/local/libexec/keyretain/keyretain-keeper"  # `make install` writes its folder here
+MANAGERS = "/run/user"  # each has a folder of its user, which nobody else may change
+MANAGED = ("/usr/bin/systemd-run", "--user", "--scope", "--quiet", "--collect", "--")
 PATIENCE, PAUSE = 10.0, 0.001
 LONGEST_ANSWER = 8192
 
@@ -42,13 +47,13 @@ class _Pipe:
             os.close(end)
 
 
-def _spawn(words: list[str], life: _Pipe, answer: _Pipe) -> int:
+def _spawn(words: list[str], variables: dict[str, str], life: _Pipe, answer: _Pipe) -> int:
     """Starts it: descriptor 0 is the pipe that it waits on, 1 the one that it answers on."""
-    trust = {"KEYRETAIN_TRUST": "any"} if environment("KEYRETAIN_TRUST") == "any" else {}
     actions = [(os.POSIX_SPAWN_DUP2, life.reading, 0), (os.POSIX_SPAWN_DUP2, answer.writing, 1),
                (os.POSIX_SPAWN_OPEN, 2, os.devnull, os.O_RDWR, 0)]
     try:
-        return os.posix_spawn(KEEPER, words, trust, file_actions=actions, setsid=True, setsigmask=[],
+        words, program = [os.path.basename(words[0]), *words[1:]], words[0]
+        return os.posix_spawn(program, words, variables, file_actions=actions, setsid=True, setsigmask=[],
                               setsigdef=signal.valid_signals() - {signal.SIGKILL, signal.SIGSTOP})
     except OSError as error:
         raise OSError(error.errno, error.strerror, KEEPER) from None
@@ -92,13 +97,11 @@ def _reap(child: int, end: float) -> None:
         pass  # a program may reap all of its children by itself
 
 
-@contextmanager
-def holding(ring: str, socket: str) -> Iterator[None]:
-    """Within this block a keeper holds the keyring, and behind it as long as it has keys. OSError where none can."""
+def _begin(words: list[str], variables: dict[str, str], end: float) -> _Pipe:
+    """Has it started by this moment, and answers the pipe that it waits on. OSError where it isn't, or says why not."""
     life, answer = _Pipe(), _Pipe()
-    end = time.monotonic() + PATIENCE
     try:
-        child = _spawn([os.path.basename(KEEPER), "--hold", ring, "--socket", socket], life, answer)
+        child = _spawn(words, variables, life, answer)
         try:
             line = _read_line(answer.reading, end)
         except BaseException:
@@ -106,7 +109,31 @@ def holding(ring: str, socket: str) -> Iterator[None]:
             raise
         _reap(child, end)
         _check(line)
+        return life
+    except BaseException:
+        life.close()
+        raise
+    finally:
+        answer.close()
+
+
+def _begin_managed(words: list[str], end: float) -> Optional[_Pipe]:
+    """The same by the user's systemd; None where there is none, or it doesn't do so, in half of the time. A program of
+    root's that has taken a user's effective uid isn't that systemd's to start."""
+    folder = f"{MANAGERS}/{os.geteuid()}"
+    if os.getuid() != os.geteuid() or not os.path.exists(f"{folder}/systemd/private"):
+        return None
+    with suppress(OSError):
+        return _begin([*MANAGED, *words], {"XDG_RUNTIME_DIR": folder}, end - PATIENCE / 2)
+    return None
+
+
+@contextmanager
+def holding(ring: str, socket: str) -> Iterator[None]:
+    """Within this block a keeper holds the keyring, and behind it as long as it has keys. OSError where none can."""
+    words, end = [KEEPER, "--hold", ring, "--socket", socket], time.monotonic() + PATIENCE
+    life = _begin_managed(words, end) or _begin(words, {}, end)
+    try:
         yield
     finally:
         life.close()
-        answer.close()
