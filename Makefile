@@ -7,21 +7,25 @@ SBINDIR = $(PREFIX)/sbin
 MANDIR = $(PREFIX)/share/man
 UNITDIR = $(PREFIX)/lib/systemd/system
 USERUNITDIR = $(PREFIX)/lib/systemd/user
+PRESETDIR = $(PREFIX)/lib/systemd
 SYSUSERSDIR = $(PREFIX)/lib/sysusers.d
 DATADIR = $(PREFIX)/share/keyretain
 COMPLETIONDIR = $(PREFIX)/share/bash-completion/completions
+COMPLETED = keyretain keyretaind keyretain-session keyretain-guard keyretain-agent keyretain-status
+ZSHDIR = $(PREFIX)/share/zsh/site-functions
 PYTHON = python3
 
 PROGRAMS = keyretain keyretaind
 
-.PHONY: build help run clients guard pam test wrong-bodies fuzz check-man check-keyutils install uninstall deb dist \
-  bench bench-instructions measure
+.PHONY: build help try run clients guard pam ssh-agent test gate wrong-bodies fuzz check-man check-keyutils install \
+  uninstall deb dist bench bench-instructions measure
 
-# Proves and builds the programs and the rule of the guard, crate by crate, as many side by side as there are processors,
-# and says how long the rest takes. It may be ended at any time, and then goes on where it was.
+# Proves and builds the programs and the rules of the guard and of sessions, crate by crate, as many side by side as
+# there are processors, and says which, and how long the rest takes. It may be ended at any time, and then goes on where it was.
 build:
 	@tools/check-toolchain
-	@sum=$$(tools/proved --sum) && tools/build $(PROGRAMS) krs_screen_c && tools/proved --put "$$sum"
+	@tools/proved >/dev/null || echo 'Each crate is proved first; it may be ended, and goes on later. Programs within minutes: make run'
+	@sum=$$(tools/proved --sum) && tools/build $(PROGRAMS) krs_screen_c krs_admission_c && tools/proved --put "$$sum"
 	@echo 'proved and built: $(PROGRAMS:%=bin/%)'
 
 # Prints what each target does.
@@ -29,13 +33,22 @@ help:
 	@awk '/^# / { said = said (said == "" ? "" : " ") substr($$0, 3) } /^[a-z-]+:/ { target = $$1; sub(/:.*/, "", target); \
 	  sub(/[.] .*/, ".", said); if (said != "") printf "%-20s %s\n", target, said } !/^#/ { said = "" }' Makefile
 
+# A shell in which keyctl(1), kinit(1) and any static program use a daemon of its own, which ends with it; or the command
+# RUN. What isn't proved yet is compiled with no proof, and it says so. Wants a C compiler.
+try:
+	@tools/try $${RUN:+sh -c "$$RUN"}
+
 # Shows a daemon at work at once: starts one, adds a key through it, and reads it back. It takes the proved programs
 # where bin/ has them, and else compiles the sources with no proof, in bin/unproved, and says so.
 run:
 	@tools/run
 
-# Builds the C clients. Wants a C compiler.
+# Proves which session a process comes into, builds that rule as a library for C, and the C clients over it. Wants a C
+# compiler; the agent of containers wants jansson too (libjansson-dev).
 clients:
+	@command -v rt >/dev/null || { echo 'rt is not on the PATH: README.md says what is needed' >&2; exit 1; }
+	@tools/check-toolchain
+	tools/build krs_admission_c
 	$(MAKE) -C clients/c PREFIX="$(PREFIX)"
 
 # Proves the rule of the guard and builds it as a library for C, and the guard over it. Wants a C compiler.
@@ -50,22 +63,33 @@ guard:
 pam:
 	$(MAKE) -C pam PREFIX="$(PREFIX)"
 
-# Proves everything from nothing, runs the tests, has each wrong body refused by itself, runs the tests of memory with
-# each allocation refused in turn, tries the programs that were built so and the clients over real sockets, renders the
-# manual pages, and reads the scripts with shellcheck.
+# Builds keyretain-ssh-agent, an ssh-agent whose keys are the daemon's. Wants a C compiler and the headers of OpenSSL
+# (libssl-dev).
+ssh-agent:
+	$(MAKE) -C ssh-agent
+
+# Runs the tests, in some minutes: those of the crates, those over real sockets, of the clients, the helpers, the guard and
+# the pages, side by side. It compiles the sources for that, with checks and no proof: NOTHING IS PROVED by it.
 test:
 	@tools/check-toolchain
-	tests/gate
+	tests/all
+
+# What must hold before a change is merged, in hours: `make test`; then proves everything from nothing, has wrong bodies
+# refused by themselves, and tests once more what was proved. ALL=1 has each wrong body refused: before a release.
+gate:
+	@tools/check-toolchain
+	tests/gate $(if $(ALL),--all)
 
 # Has each wrong body refused by itself, over what earlier builds kept.
 wrong-bodies:
 	tests/wrong-bodies
 
-# Fuzzes the C clients for so many seconds, against a hostile daemon in memory and under sanitizers. Wants a clang with
-# libFuzzer.
+# Fuzzes the C clients for so many seconds, against a hostile daemon in memory, and then the ssh-agent, by messages; both
+# under sanitizers. Wants a clang with libFuzzer and the headers of OpenSSL (libssl-dev).
 SECONDS = 30
 fuzz:
 	$(MAKE) -C clients/c/fuzz fuzz SECONDS=$(SECONDS)
+	$(MAKE) -C ssh-agent/fuzz fuzz SECONDS=$(SECONDS)
 
 # Whether the man pages render without a warning.
 check-man:
@@ -78,15 +102,16 @@ check-keyutils:
 	$(MAKE) build
 	tests/keyutils-suite $(SUITE)
 
-# Puts what `make build` made, the man pages, the systemd units, the bash completion, the Python client, and what `make
-# clients`, `make guard` and `make pam` made if they were run, in their folders.
+# Puts what `make build` made, the man pages, the systemd units, the completions, the Python client, and what `make
+# clients`, `make guard`, `make pam` and `make ssh-agent` made if they were run, in their folders.
 install:
 	@cd bin 2>/dev/null && sha256sum --status -c proved 2>/dev/null || \
 	  { echo 'run make build first: what it proved is installed, and nothing else' >&2; exit 1; }
 	install -d "$(DESTDIR)$(BINDIR)" "$(DESTDIR)$(SBINDIR)" "$(DESTDIR)$(UNITDIR)" "$(DESTDIR)$(SYSUSERSDIR)" \
 	  "$(DESTDIR)$(COMPLETIONDIR)" "$(DESTDIR)$(MANDIR)/man1" "$(DESTDIR)$(MANDIR)/man7" "$(DESTDIR)$(MANDIR)/man8"
 	install -m 755 bin/keyretain "$(DESTDIR)$(BINDIR)/"
-	install -m 755 bin/keyretaind "$(DESTDIR)$(SBINDIR)/"
+	# who may not read a program isn't shown the memory of what it runs
+	install -m 711 bin/keyretaind "$(DESTDIR)$(SBINDIR)/"
 	install -m 644 man/keyretain.1 "$(DESTDIR)$(MANDIR)/man1/"
 	install -m 644 man/keyretain-protocol.7 "$(DESTDIR)$(MANDIR)/man7/"
 	install -m 644 man/keyretaind.8 "$(DESTDIR)$(MANDIR)/man8/"
@@ -94,7 +119,10 @@ install:
 	  >"$(DESTDIR)$(UNITDIR)/keyretaind.service"
 	chmod 644 "$(DESTDIR)$(UNITDIR)/keyretaind.service"
 	install -m 644 contrib/systemd/keyretain.conf "$(DESTDIR)$(SYSUSERSDIR)/"
-	install -m 644 contrib/bash-completion/keyretain contrib/bash-completion/keyretaind "$(DESTDIR)$(COMPLETIONDIR)/"
+	install -m 644 contrib/bash-completion/* "$(DESTDIR)$(COMPLETIONDIR)/"
+	for name in guard agent status; do ln -sf keyretain-session "$(DESTDIR)$(COMPLETIONDIR)/keyretain-$$name"; done
+	install -d "$(DESTDIR)$(ZSHDIR)"
+	install -m 644 contrib/zsh-completion/_keyretain "$(DESTDIR)$(ZSHDIR)/"
 	install -d "$(DESTDIR)$(USERUNITDIR)"
 	sed -e '/^ExecStart=/s|@sbindir@|$(SBINDIR)|' -e '/^ExecCondition=/s|@bindir@|$(BINDIR)|' \
 	  contrib/systemd/user/keyretaind.service \
@@ -106,17 +134,22 @@ install:
 	  >"$(DESTDIR)$(UNITDIR)/keyretaind@.service"
 	chmod 644 "$(DESTDIR)$(UNITDIR)/keyretaind@.service"
 	install -m 644 contrib/systemd/user-quota.conf "$(DESTDIR)$(DATADIR)/"
+	install -d "$(DESTDIR)$(PRESETDIR)/system-preset" "$(DESTDIR)$(PRESETDIR)/user-preset"
+	install -m 644 contrib/systemd/80-keyretain.preset "$(DESTDIR)$(PRESETDIR)/system-preset/"
+	install -m 644 contrib/systemd/80-keyretain.preset "$(DESTDIR)$(PRESETDIR)/user-preset/"
 	@if [ -x guard/build/keyretain-guard ]; then $(MAKE) -C guard install PREFIX="$(PREFIX)" DESTDIR="$(DESTDIR)"; \
 	  else echo 'the guard is not installed: make guard builds it'; fi
 	@if [ -d clients/c/build ]; then $(MAKE) -C clients/c install PREFIX="$(PREFIX)" DESTDIR="$(DESTDIR)"; \
 	  else echo 'the C clients are not installed: make clients builds them'; fi
 	@if [ -e pam/build/pam_keyretain.so ]; then $(MAKE) -C pam install PREFIX="$(PREFIX)" DESTDIR="$(DESTDIR)"; \
 	  else echo 'the PAM module is not installed: make pam builds it'; fi
+	@if [ -x ssh-agent/build/keyretain-ssh-agent ]; then $(MAKE) -C ssh-agent install PREFIX="$(PREFIX)" \
+	  DESTDIR="$(DESTDIR)"; else echo 'the ssh-agent is not installed: make ssh-agent builds it'; fi
 	@if $(PYTHON) -c 1 2>/dev/null; then $(MAKE) -C clients/python install PREFIX="$(PREFIX)" DESTDIR="$(DESTDIR)" \
 	  PYTHON="$(PYTHON)"; else echo 'the Python client is not installed: no $(PYTHON)'; fi
 
-# Packages for Debian 12, in the folder packages/, of the programs that `make build` proved. Wants debhelper, dh-python and
-# libpam0g-dev.
+# Packages for Debian 12, in the folder packages/, of the programs that `make build` proved. Wants debhelper, dh-python,
+# libpam0g-dev and libssl-dev.
 deb:
 	@debian/make-packages packages
 
@@ -128,18 +161,26 @@ dist:
 	  git -C .. archive --format=tar --prefix="$$name/" HEAD | gzip -n -9 >"$$name.tar.gz" && \
 	  sha256sum "$$name.tar.gz" | tee "$$name.tar.gz.sha256"
 
-# Takes away what `make install` has put there.
+# Takes away what `make install` has put there, and the links by which units were enabled for the system or for all
+# users. What users have enabled for themselves stays.
 uninstall:
 	$(MAKE) -C clients/c uninstall PREFIX="$(PREFIX)" DESTDIR="$(DESTDIR)"
 	$(MAKE) -C guard uninstall PREFIX="$(PREFIX)" DESTDIR="$(DESTDIR)"
 	$(MAKE) -C pam uninstall PREFIX="$(PREFIX)" DESTDIR="$(DESTDIR)"
+	$(MAKE) -C ssh-agent uninstall PREFIX="$(PREFIX)" DESTDIR="$(DESTDIR)"
 	rm -f "$(DESTDIR)$(UNITDIR)/keyretaind@.service" "$(DESTDIR)$(DATADIR)/user-quota.conf"
 	$(MAKE) -C clients/python uninstall PREFIX="$(PREFIX)" DESTDIR="$(DESTDIR)" PYTHON="$(PYTHON)"
 	rm -f "$(DESTDIR)$(USERUNITDIR)/keyretaind.service"
 	rm -f "$(DESTDIR)$(BINDIR)/keyretain" "$(DESTDIR)$(SBINDIR)/keyretaind" "$(DESTDIR)$(MANDIR)/man1/keyretain.1" \
 	  "$(DESTDIR)$(MANDIR)/man7/keyretain-protocol.7" "$(DESTDIR)$(MANDIR)/man8/keyretaind.8" \
 	  "$(DESTDIR)$(UNITDIR)/keyretaind.service" "$(DESTDIR)$(SYSUSERSDIR)/keyretain.conf" \
-	  "$(DESTDIR)$(COMPLETIONDIR)/keyretain" "$(DESTDIR)$(COMPLETIONDIR)/keyretaind"
+	  $(COMPLETED:%="$(DESTDIR)$(COMPLETIONDIR)/%") "$(DESTDIR)$(ZSHDIR)/_keyretain" \
+	  "$(DESTDIR)$(PRESETDIR)/system-preset/80-keyretain.preset" "$(DESTDIR)$(PRESETDIR)/user-preset/80-keyretain.preset"
+	@for folder in "$(DESTDIR)$(PREFIX)/lib" "$(DESTDIR)$(PREFIX)/libexec" "$(DESTDIR)$(PREFIX)/share"; do \
+	  [ ! -d "$$folder/keyretain" ] || rmdir --ignore-fail-on-non-empty "$$folder/keyretain"; done
+	@[ ! -d "$(DESTDIR)/etc/systemd" ] || find "$(DESTDIR)/etc/systemd" -type l \
+	  \( -lname '$(UNITDIR)/keyretain*' -o -lname '$(USERUNITDIR)/keyretain*' \) -delete
+	@grep -ls pam_keyretain "$(DESTDIR)"/etc/pam.d/* | sed 's/$$/ still names pam_keyretain: take its line out/'
 
 # Nanoseconds per ask, on one processor where taskset is there to pin it; then threads at one desk, on all processors.
 bench:

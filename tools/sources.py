@@ -24,10 +24,11 @@ def crates_below(names):
     return sorted(found)
 
 
-def sum_of(parts):
-    """A sum of what the programs are made from: these folders of each crate, as src, and the list of crates."""
+def sum_of(parts, names=PROGRAMS):
+    """A sum of what the programs, or the crates of these names, are made from: these folders of each crate, as src, and
+    the list of crates."""
     total = hashlib.sha256()
-    for crate in crates_below(PROGRAMS):
+    for crate in crates_below(names):
         for part in parts:
             for folder, folders, files in os.walk(f"{TOP}/crates/{crate}/{part}"):
                 folders.sort()

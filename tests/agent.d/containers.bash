@@ -96,9 +96,9 @@ try_calls() {
   local uid gid
   uid=$(id -u) gid=$(id -g)
   says 'a key in a container' 'ok secret ' calls a add k secret @s print k
-  says 'its session' 'keyring;0;0; _ses.a ' session_of calls a
+  says 'its session' "keyring;$uid;$gid; _ses.a " session_of calls a
   says 'its user keyring' "keyring;$uid;$gid;1f3f0000;_uid.$uid " calls a describe @u
-  says "its user keyring isn't linked to the session, which all its users have" 'ok ENOKEY ' \
+  says "its user keyring isn't linked to the session" 'ok ENOKEY ' \
     calls a add k secret @u print k
   says 'a session of its own' 'ok ok ENOKEY ' calls a add k secret @s join other print k
   says 'a session for its parent, which is the runtime and is not served' 'ok EPERM ' calls a join other to-parent
@@ -229,6 +229,10 @@ try_other_ids() {
     return
   fi
   says 'another uid' 'keyring;4005;4005;1f3f0000;_uid.4005 ' calls a become 4005 describe @u
+  says 'its session is none but its user-session keyring' 'keyring;4005;4005;1f3f0000;_uid_ses.4005 ' \
+    calls a become 4005 describe @s
+  says "it doesn't find what root has in the container's session" 'ok ENOKEY ' \
+    calls a add k v @s become 4005 print k
   says 'what it adds' 'ok v ' calls a become 4005 add k v @s print k
   says 'what executes something as another uid' 'ok v ' calls a become 4005 add k v @s exec "$dir/calls" print k
   unshare -U true 2>/dev/null || return 0
@@ -243,17 +247,23 @@ try_other_ids() {
   try_nested
 }
 
-# A process that asks first, in a user namespace that it has made itself, is who it was before.
+# A process that asks first, in a user namespace that it has made itself: its user keyrings are others, which are
+# refused, and it doesn't say whose ids the container's are. So it is of root's, whose uid may be the agent's.
 try_nested() {
-  local asks=("$dir/calls" become 33 exec unshare -Ur "$dir/calls" describe @u)
-  says 'a user namespace within a container' 'keyring;33;33;1f3f0000;_uid.33 ' contain n --pids -- "${asks[@]}"
-  says 'one within a container that has no pids of its own' 'keyring;33;33;1f3f0000;_uid.33 ' contain n -- "${asks[@]}"
-  says 'one within that of a container that has none' 'keyring;33;33;1f3f0000;_uid.33 ' \
-    contain n --uids 100000 -- sh -c '"$@"; :' sh "${asks[@]}"
-  says 'one within that of a container' 'keyring;33;33;1f3f0000;_uid.33 ' \
-    contain n --uids 100000 --pids -- "${asks[@]}"
-  says 'one within that of a container, with pids of its own' 'keyring;33;33;1f3f0000;_uid.33 ' \
-    contain n --uids 100000 --pids -- "$dir/calls" become 33 exec unshare -Urpf "$dir/calls" describe @u
+  local word first who
+  for word in '' --pids '--uids 100000' '--uids 100000 --pids'; do
+    for first in -Ur -Urpf; do
+      # shellcheck disable=SC2086 # the words are options
+      says "unshare $first by the first process, ${word:-without namespaces}" 'EOPNOTSUPP EKEYREVOKED ' \
+        contain n $word -- "$dir/calls" become 33 exec unshare "$first" "$dir/calls" describe @u describe @s
+      for who in 33 0; do
+        # shellcheck disable=SC2016,SC2086 # it is for the other shell; the words are options
+        says "unshare $first by uid $who, which asks first, ${word:-without namespaces}; then another" \
+          'EOPNOTSUPP keyring;34;34;1f3f0000;_uid.34 ' contain n $word -- sh -c \
+          '"$0" become "$2" exec unshare "$1" "$0" describe @u; "$0" become 34 describe @u' "$dir/calls" "$first" "$who"
+      done
+    done
+  done
 }
 
 # What fills its daemon is refused, and nobody else.

@@ -5,7 +5,6 @@
 #include <stdlib.h>
 #include <string.h>
 
-#include "keyretain-agent-json.h"
 #include "keyretain-agent-state.h"
 
 int LLVMFuzzerTestOneInput(const uint8_t *input, size_t length);

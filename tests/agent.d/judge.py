@@ -23,10 +23,25 @@ def all_of(pairs, name):
     return [value for key, value in pairs if key == name]
 
 
+def object_of(pairs):
+    if len({name for name, _ in pairs}) != len(pairs):
+        raise ValueError('a name twice')
+    return 'object', pairs
+
+
+def number_of(word):
+    """As many as RFC 8259 expects of everybody: whole ones of 64 bits, and others within the range of doubles."""
+    if abs(float(word)) == float('inf') or word.lstrip('-').isdigit() and not -2**63 <= int(word) < 2**63:
+        raise ValueError('a number out of range')
+    return float(word)
+
+
 def wanted(text):
-    """What RFC 8259 and the rules of keyretain-agent(8) make of a text."""
+    """What RFC 8259 and the rules of keyretain-agent(8) make of a text. Half of a surrogate pair is no character."""
     try:
-        value = json.loads(text, object_pairs_hook=lambda pairs: ('object', pairs), parse_constant=no_constant)
+        value = json.loads(text, object_pairs_hook=object_of, parse_constant=no_constant, parse_int=number_of,
+                           parse_float=number_of)
+        json.dumps(value, ensure_ascii=False).encode()
     except (ValueError, RecursionError):
         return 'refused'
     if not isinstance(value, tuple):

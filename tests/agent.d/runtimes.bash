@@ -65,9 +65,9 @@ try_bundles() {
   says "$1: what is executed has the container's session" 'v ' in_container "$one" /bin/calls print kept
   says "$1: and adds to it" 'ok ' in_container "$one" /bin/calls add later w @s
   says "$1: another container has its own" 'ENOKEY v ' in_container "$two" /bin/calls print later print kept
-  says "$1: another uid" 'keyring;33;33;1f3f0000;_uid.33 v ' \
+  says "$1: another uid" 'keyring;33;33;1f3f0000;_uid.33 ENOKEY ' \
     in_container "$one" /bin/calls become 33 describe @u print kept
-  says "$1: another uid of a user namespace" 'keyring;33;33;1f3f0000;_uid.33 v ' \
+  says "$1: another uid of a user namespace" 'keyring;33;33;1f3f0000;_uid.33 ENOKEY ' \
     in_container "$two" /bin/calls become 33 describe @u print kept
   is "$1: all that tests/syscalls knows the answers of" '' \
     "$(diff "$dir/answers.text" <(in_container "$one" /bin/answers))"

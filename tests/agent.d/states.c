@@ -3,7 +3,6 @@
 #include <stdio.h>
 #include <string.h>
 
-#include "keyretain-agent-json.h"
 #include "keyretain-agent-state.h"
 
 #define FIRST "{\"ociVersion\":\"1.0.2\",\"fds\":[\"seccompFd\"],"
@@ -44,6 +43,8 @@ static const struct {
     { "brackets and quotes in texts",
       FIRST "\"state\":{\"annotations\":{\"}]\\\"{[\":\"\\\\\"},\"id\":\"a\"}}", "a", 1, 0 },
     { "a long name", FIRST "\"0123456789012345678901234567890123456789\":1," STATE "}", "a", 1, 0 },
+    { "a null character in an annotation",
+      FIRST "\"state\":{\"annotations\":{\"b\":\"c\\u0000d\"},\"id\":\"a\"}}", "a", 1, 0 },
     { "bytes beyond ASCII", FIRST "\"x\":\"\xc3\xa4\\u00e4\\ud83d\\ude00\"," STATE "}", "a", 1, 0 },
 };
 
@@ -95,6 +96,11 @@ static const struct {
     { "an escape of three digits", FIRST "\"x\":\"\\u12\"," STATE "}" },
     { "a text that doesn't end", FIRST STATE ",\"x" },
     { "a name without quotes", "{fds:[\"seccompFd\"]," STATE "}" },
+    { "a member twice that nobody knows", FIRST "\"x\":1,\"x\":2," STATE "}" },
+    { "an annotation twice", FIRST "\"state\":{\"id\":\"a\",\"annotations\":{\"b\":\"\",\"\\u0062\":\"\"}}}" },
+    { "half of a surrogate pair", FIRST "\"x\":\"\\ud83d\"," STATE "}" },
+    { "bytes that are no UTF-8", FIRST "\"x\":\"\xc3\"," STATE "}" },
+    { "a listener with a byte too many", "{\"fds\":[\"seccompFdd\"]," STATE "}" },
 };
 
 static void try_states(void) {
@@ -125,6 +131,19 @@ static void try_limits(void) {
         size_t used;
         is("the deepest value, scanned",
            json_scan(&scan, text, strlen(text), &used) == (depth == 32 ? JSON_WHOLE : JSON_BROKEN));
+    }
+}
+
+/* A mebibyte of one text, and of things that take much more memory than they have bytes. */
+static void try_much(void) {
+    static char text[1024 * 1024];
+    const char *const much[] = { "x", "\"},{\"y\":\"" };
+    for (int i = 0; i < 2; i++) {
+        struct container_state state;
+        size_t length = (size_t)sprintf(text, FIRST "\"x\":[{\"y\":\"");
+        while (length + 200 < sizeof text) length += (size_t)sprintf(text + length, "%s", much[i]);
+        length += (size_t)sprintf(text + length, "\"}]," STATE "}");
+        is("much memory", read_container_state(text, length, &state) == (i == 0));
     }
 }
 
@@ -162,6 +181,7 @@ static void try_scans(void) {
 int main(void) {
     try_states();
     try_limits();
+    try_much();
     try_scans();
     printf("states: %d passed, %d failed\n", passed, failed);
     return failed != 0;

@@ -18,6 +18,7 @@ from typing import NamedTuple
 
 from compare import compare, conclude
 import keyretain
+import versions
 
 path, asks, seed = sys.argv[1], int(sys.argv[2]), int(sys.argv[3])
 CLIENTS, AHEAD, BOARD = 16, 64, 512
@@ -67,11 +68,11 @@ class Client:
 
     def exchange(self, batch):
         sent = time.monotonic_ns()
-        frames = [keyretain.encode_ask(name, context, values, self.version, at) for at, (name, context, values) in enumerate(batch)]
+        frames = [versions.encode_ask(name, context, values, self.version, at) for at, (name, context, values) in enumerate(batch)]
         self.end.sendall(b"".join(frames))
         answers = []
         for name, _, values in batch:
-            while (reply := keyretain.decode_reply(self.received, self.version)) is None:
+            while (reply := versions.decode_reply(self.received, self.version)) is None:
                 piece = self.end.recv(65536)
                 if not piece:
                     raise ConnectionResetError("the daemon has ended the connection")

@@ -11,6 +11,7 @@ import subprocess
 import tempfile
 
 import keyretain
+import versions
 from lines import Player, ask_of, printed
 
 PATIENCE = 120
@@ -194,7 +195,7 @@ class Frames(OfDaemon):
     def _exchange(self, asks):
         sent, answers = b"", []
         for at, (name, context, values) in enumerate(asks):
-            sent += keyretain.encode_ask(name, context, values, self._version(at), self.asked + at)
+            sent += versions.encode_ask(name, context, values, self._version(at), self.asked + at)
         self._send(sent)
         for at, (name, _, _) in enumerate(asks):
             answers.append(self._receive(name, self._version(at), self.asked + at))
@@ -214,7 +215,7 @@ class Frames(OfDaemon):
                 self.received += self.end_of_it.recv(65536)
 
     def _receive(self, name, version, tag):
-        while (reply := keyretain.decode_reply(self.received, version)) is None:
+        while (reply := versions.decode_reply(self.received, version)) is None:
             piece = self.end_of_it.recv(65536)
             if not piece:
                 return "the end"

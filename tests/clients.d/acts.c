@@ -53,8 +53,8 @@ static void take_identities(char **words) {
 }
 
 /* As if another thread took another identity in the midst of root's first call: where the library looks whether it runs
- * set-uid, before it looks for a daemon; where it connects to one, or does so anew; or where it receives an answer. */
-static enum { NEVER, LOOKING, CONNECTING, CONNECTING_ANEW, RECEIVING } taken;
+ * set-uid, before it looks for a daemon; where it connects to one; or where it receives an answer. */
+static enum { NEVER, LOOKING, CONNECTING, RECEIVING } taken;
 
 static void take_identity(bool is_now) {
     if (is_now) (void)!seteuid(OTHER);
@@ -69,8 +69,7 @@ unsigned long getauxval(unsigned long type) {
 int connect(int end, __CONST_SOCKADDR_ARG address, socklen_t length) {
     int (*ours)(int, __CONST_SOCKADDR_ARG, socklen_t) =
         (int (*)(int, __CONST_SOCKADDR_ARG, socklen_t))dlsym(RTLD_NEXT, "connect");
-    static int count;
-    take_identity(taken == CONNECTING || (taken == CONNECTING_ANEW && ++count > 1));
+    take_identity(taken == CONNECTING);
     return ours(end, address, length);
 }
 
@@ -88,22 +87,6 @@ static void take_identity_meanwhile(char **words) {
     taken = NEVER;
     (void)!seteuid(0);
     add_key("user", "root-secret", "hunter2", 7, KEY_SPEC_USER_KEYRING);
-}
-
-/* turned: the same where it connects anew. */
-static void take_identity_turned(char **words) {
-    (void)words;
-    taken = CONNECTING_ANEW;
-    puts(word_of(add_key("user", "root-secret", "hunter2", 7, KEY_SPEC_USER_KEYRING) > 0));
-}
-
-/* tried SOCKET PATH: the same where the library finds out what a daemon of the first version carries, on a connection
- * of its own. By then the other user has its socket there. How many sockets are open afterwards. */
-static void take_identity_trying(char **words) {
-    bool fine = keyctl_get_keyring_ID(KEY_SPEC_USER_KEYRING, 0) > 0 && rename(words[0], words[1]) == 0;
-    taken = CONNECTING;
-    printf("%s ", word_of(fine && keyctl_move(5, 6, 7, 0) == 0));
-    printf("%d\n", count_sockets());
 }
 
 /* entered: the same where it receives what the daemon says of the session that its environment names. What is answered
@@ -485,7 +468,7 @@ static void see_session(char **words) {
 static void see_peer(char **words) {
     uint32_t uid, gid;
     int32_t pid;
-    struct kr *connection = kr_open_with(words[0], 0, KR_ANY_SERVER, 1000);
+    struct kr *connection = kr_open_with(words[0], KR_ANY_SERVER, 1000);
     if (connection) {
         kr_peer(connection, &uid, &gid, &pid);
         printf("%u %u %d\n", (unsigned)uid, (unsigned)gid, (int)pid);
@@ -516,8 +499,7 @@ int main(int count, char **words) {
     } modes[] = { { "sockets", see_sockets },     { "identities", take_identities },
                   { "drop", drop_identity },      { "drop-groups", drop_groups },
                   { "held-up", hold_up },         { "entered", take_identity_entering },
-                  { "meanwhile", take_identity_meanwhile }, { "turned", take_identity_turned },
-                  { "tried", take_identity_trying },
+                  { "meanwhile", take_identity_meanwhile },
                   { "group", read_by_group },     { "back", go_and_come_back },
                   { "effective-group", read_by_effective_group }, { "each", ask_as_each },
                   { "saved", come_back_by_saved },

@@ -117,7 +117,7 @@ static void ask_late(void) {
     say("the next", kr_get_id(connection, 1, -4, 0));
 }
 
-/* An interrupted call before the version of the frames is known. */
+/* An interrupted call that is the first. */
 static void ask_first(void) {
     struct sigaction action = { .sa_handler = on_alarm };
     struct itimerval soon = { .it_value.tv_usec = 50000 };
@@ -162,10 +162,9 @@ int main(int count, char **words) {
         void (*run)(void);
     } modes[] = { { "all", ask_all }, { "late", ask_late }, { "first", ask_first }, { "restarted", ask_restarted },
                   { "one", ask_one }, { "fork", ask_in_child } };
-    if (count != 4 || !(connection = kr_open_version(words[1], atoi(words[2])))) return 2;
+    if (count != 3 || !(connection = kr_open(words[1]))) return 2;
     for (size_t i = 0; i < sizeof modes / sizeof *modes; i++)
-        if (strcmp(words[3], modes[i].name) == 0) modes[i].run();
-    printf("version %d\n", kr_frame_version(connection));
+        if (strcmp(words[2], modes[i].name) == 0) modes[i].run();
     kr_close(connection);
     return 0;
 }

@@ -1,6 +1,5 @@
-"""eavesdrop.py UID PATH [deaf | old]: becomes UID, and serves at PATH: says yes to everything, and prints a line for
-each ask: its number, and of HELLO (256) the uid. Prints `listening` first. One that is deaf accepts nothing, and one
-that is old understands the first version alone."""
+"""eavesdrop.py UID PATH [deaf]: becomes UID, and serves at PATH: says yes to everything, and prints a line for each ask:
+its number, and of HELLO (256) the uid. Prints `listening` first. One that is deaf accepts nothing."""
 import os
 import signal
 import socket
@@ -15,14 +14,11 @@ BYTES = {6, 11, 266}
 def serve(end):
     while head := end.recv(4, socket.MSG_WAITALL):
         rest = end.recv(struct.unpack("<I", head)[0], socket.MSG_WAITALL)
-        version, number = struct.unpack_from("<HH", rest)
-        if version != 1 and sys.argv[3:] == ["old"]:
-            break
-        tag = rest[8:16] if version == 2 else b""
-        uid = struct.unpack_from("<I", rest, 8 + len(tag))[0] if number == 256 else ""
+        number = struct.unpack_from("<H", rest, 2)[0]
+        uid = struct.unpack_from("<I", rest, 16)[0] if number == 256 else ""
         print(number, uid, flush=True)
         body = struct.pack("<I", 9) if number in NUMBERS else b"keyring;0;0;3f1b0000;x" if number in BYTES else b""
-        end.sendall(struct.pack("<II", 4 + len(tag) + len(body), 0) + tag + body)
+        end.sendall(struct.pack("<II", 12 + len(body), 0) + rest[8:16] + body)
     end.close()
 
 

@@ -16,19 +16,18 @@ import keyretain
 program = sys.argv[1]
 
 
-def reply(version, tag, status=0, body=b""):
-    rest = struct.pack("<I", status) + (struct.pack("<Q", tag) if version == 2 else b"") + body
+def reply(tag, status=0, body=b""):
+    rest = struct.pack("<IQ", status, tag) + body
     return struct.pack("<I", len(rest)) + rest
 
 
 class Server(threading.Thread):
-    """Takes connections one after the other and answers each ask by `answer(version, tag, name, values)`: bytes, or
-    None to end the connection. `asked` has what came. A frame of another version than these ends the connection after
-    `pause` seconds, so that a call can be interrupted before it sees the end."""
+    """Takes connections one after the other and answers each ask by `answer(tag, name, values)`: bytes, or None to end
+    the connection. `asked` has what came. A frame of another version than 2 ends the connection."""
 
-    def __init__(self, path, answer, versions, pause=0.2):
+    def __init__(self, path, answer):
         super().__init__(daemon=True)
-        self.answer, self.versions, self.pause, self.asked = answer, versions, pause, []
+        self.answer, self.asked = answer, []
         self.listener = socket.socket(socket.AF_UNIX)
         self.listener.bind(path)
         self.listener.listen(8)
@@ -45,38 +44,36 @@ class Server(threading.Thread):
     def serve(self, end):
         while head := end.recv(4, socket.MSG_WAITALL):
             rest = end.recv(struct.unpack("<I", head)[0], socket.MSG_WAITALL)
-            version, number, context = struct.unpack_from("<HHI", rest)
-            if version not in self.versions:
-                time.sleep(self.pause)
+            version, number, context, tag = struct.unpack_from("<HHIQ", rest)
+            if version != 2:
                 return
-            tag = struct.unpack_from("<Q", rest, 8)[0] if version == 2 else None
             name = keyretain.name_of(number)
-            values = keyretain.decode_body(name, rest[16 if version == 2 else 8:])
+            values = keyretain.decode_body(name, rest[16:])
             self.asked.append((name, context, values))
-            answered = self.answer(version, tag, name, values)
+            answered = self.answer(tag, name, values)
             if answered is None:
                 return
             end.sendall(answered)
 
 
-def run(mode, version, answer, versions=(1, 2)):
+def run(mode, answer):
     """What the program prints, and what the server was asked."""
     with tempfile.TemporaryDirectory(prefix="keyretain.") as folder:
         path = folder + "/sock"
-        server = Server(path, answer, versions)
-        printed = subprocess.run([program, path, str(version), mode], stdout=subprocess.PIPE, timeout=30).stdout
+        server = Server(path, answer)
+        printed = subprocess.run([program, path, mode], stdout=subprocess.PIPE, timeout=30).stdout
         return printed.decode(errors="replace").splitlines(), server.asked
 
 
-def plain(version, tag, name, values):
+def plain(tag, name, values):
     """As a daemon that knows every key: numbers are 77, bytes are their ask's name."""
     body = {"number": struct.pack("<I", 77), "serial": struct.pack("<I", 77), "nothing": b"", "bytes": name.encode()}[keyretain.ASKS[name].answer]
-    return reply(version, tag, 0, body)
+    return reply(tag, 0, body)
 
 
 def every_ask():
     """The asks that the program has, as it spells them: their names, contexts and values."""
-    printed, _ = run("all", 2, plain)
+    printed, _ = run("all", plain)
     spelled = (re.match(r"([A-Z_]+) (\d+) (\[.*\]): \d+$", line) for line in printed)
     return [(it[1], int(it[2]), ast.literal_eval(it[3])) for it in spelled if it]
 
@@ -86,34 +83,32 @@ ALL_ASKED = every_ask()
 BUFFERS = ["untouched", "DESCRIBEd", "READ", None, "READ_QUEUE"]
 
 
-def wanted_lines(version):
+def wanted_lines():
     lines, buffers = [], iter(BUFFERS)
     for name, context, values in ALL_ASKED:
         what, form = f"{name} {context} {values}", keyretain.ASKS[name].answer
         lines.append(f"{what}: " + {"number": "77", "serial": "77", "nothing": "0", "bytes": str(len(name))}[form])
         if form == "bytes" and (buffer := next(buffers)):
             lines.append(f"{what}: {buffer}")
-    return [*lines, "a name of 65536 bytes: EINVAL", "a payload of 65536 bytes: EINVAL", f"version {version}"]
+    return [*lines, "a name of 65536 bytes: EINVAL", "a payload of 65536 bytes: EINVAL"]
 
 
 def try_all():
     compare("every ask is made", set(keyretain.ASKS), {name for name, _, _ in ALL_ASKED})
-    for asked_version, versions, version in ((1, (1, 2), 1), (2, (1, 2), 2), (0, (1, 2), 2), (0, (1,), 1)):
-        printed, asked = run("all", asked_version, plain, versions)
-        what = f"every ask, version {asked_version}, a server of {versions}:"
-        compare(f"{what} what is sent", ALL_ASKED, asked)
-        compare(f"{what} what is printed", wanted_lines(version), printed)
+    printed, asked = run("all", plain)
+    compare("every ask: what is sent", ALL_ASKED, asked)
+    compare("every ask: what is printed", wanted_lines(), printed)
 
 
 def late():
     """Replies to REVOKE come late, before that to the next other ask."""
     kept = []
 
-    def answer(version, tag, name, values):
+    def answer(tag, name, values):
         if name == "REVOKE":
-            kept.append(reply(version, tag, 126 if values == [5] else 0))
+            kept.append(reply(tag, 126 if values == [5] else 0))
             return b""
-        sent = b"".join(kept) + plain(version, tag, name, values)
+        sent = b"".join(kept) + plain(tag, name, values)
         kept.clear()
         return sent
 
@@ -122,89 +117,79 @@ def late():
 
 def try_late():
     """Each call has its own answer all the same."""
-    for version in keyretain.VERSIONS:
-        printed, _ = run("late", version, late())
-        compare(f"late replies, version {version}",
-                ["hello: 77", "interrupted: EINTR", "the next: 77", "out of patience: ETIMEDOUT",
-                 "out of patience again: ETIMEDOUT", "the next: 77", f"version {version}"], printed)
+    printed, _ = run("late", late())
+    compare("late replies",
+            ["hello: 77", "interrupted: EINTR", "the next: 77", "out of patience: ETIMEDOUT",
+             "out of patience again: ETIMEDOUT", "the next: 77"], printed)
 
 
 def try_first():
-    """A first call that is interrupted, to a server of the old version and to one of both."""
-    def answer(version, tag, name, values):
-        time.sleep(0.2 if version == 2 else 0)
-        return plain(version, tag, name, values)
+    """A first call that is interrupted."""
+    def answer(tag, name, values):
+        time.sleep(0.2)
+        return plain(tag, name, values)
 
-    for versions in ((1,), (1, 2)):
-        compare(f"an interrupted first call, a server of {versions}",
-                ["interrupted: EINTR", "the next: 77", "another: 77", f"version {versions[-1]}"],
-                run("first", 0, answer, versions)[0])
+    compare("an interrupted first call", ["interrupted: EINTR", "the next: 77", "another: 77"],
+            run("first", answer)[0])
 
 
 def try_restarted():
-    def answer(version, tag, name, values):
+    def answer(tag, name, values):
         if name == "CLEAR":
             time.sleep(0.2)
-        return plain(version, tag, name, values)
+        return plain(tag, name, values)
 
-    compare("signals that end no call", ["hello: 77", "signals: 0", "version 2"], run("restarted", 2, answer)[0])
+    compare("signals that end no call", ["hello: 77", "signals: 0"], run("restarted", answer)[0])
 
 
 def try_child():
     compare("a call in a child",
-            ["hello: 77", "in the child: ECONNRESET, broken", "in the parent: 77", "version 2"],
-            run("fork", 2, plain)[0])
+            ["hello: 77", "in the child: ECONNRESET, broken", "in the parent: 77"],
+            run("fork", plain)[0])
 
 
 def try_statuses():
-    for version in keyretain.VERSIONS:
-        for status, name in keyretain.STATUSES.items():
-            printed, _ = run("one", version, lambda _, tag, *__: reply(version, tag, status))
-            compare(f"status {status}", [f"one: {name}", f"one more: {name}", f"version {version}"],
-                    [line.replace("ENOTSUP", "EOPNOTSUPP") for line in printed])
+    for status, name in keyretain.STATUSES.items():
+        printed, _ = run("one", lambda tag, *_: reply(tag, status))
+        compare(f"status {status}", [f"one: {name}", f"one more: {name}"],
+                [line.replace("ENOTSUP", "EOPNOTSUPP") for line in printed])
 
 
 def try_broken():
     """Replies that are none, and servers that go: an error once, and then that the connection is lost."""
     four = b"\1\0\0\0"
-    for version in keyretain.VERSIONS:
-        cases = {
-            "the end": (None, "ECONNRESET"),
-            "no status": (lambda tag: reply(version, tag, 7), "EPROTO"),
-            "an error with a body": (lambda tag: reply(version, tag, 1, b"x"), "EPROTO"),
-            "no number": (lambda tag: reply(version, tag, 0, b""), "EPROTO"),
-            "a long number": (lambda tag: reply(version, tag, 0, four + b"\0"), "EPROTO"),
-            "a serial of 0": (lambda tag: reply(version, tag, 0, bytes(4)), "EPROTO"),
-            "a serial of 2^31": (lambda tag: reply(version, tag, 0, b"\0\0\0\x80"), "EPROTO"),
-            "a serial of 2^32 - 1": (lambda tag: reply(version, tag, 0, b"\xff" * 4), "EPROTO"),
-            "a short length": (lambda tag: b"\3\0\0\0" + bytes(20), "EPROTO"),
-            "a great length": (lambda tag: b"\x09\0\4\0" + bytes(20), "EPROTO"),
-            "two replies": (lambda tag: reply(version, tag, 0, four) * 2, "EPROTO"),
-        }
-        if version == 2:
-            cases["another tag"] = (lambda tag: reply(version, tag + 1, 0, four), "EPROTO")
-            cases["a tag of 0"] = (lambda tag: reply(version, 0, 0, four), "EPROTO")
-            cases["a tag's low half"] = (lambda tag: reply(version, tag + (1 << 32), 0, four), "EPROTO")
-        for case, (spell, error) in cases.items():
-            printed, _ = run("one", version, lambda _, tag, *__: spell and spell(tag))
-            compare(f"{case}, version {version}",
-                    [f"one: {error}, broken", "one more: ECONNRESET, broken"], printed[:2])
+    cases = {
+        "the end": (None, "ECONNRESET"),
+        "no status": (lambda tag: reply(tag, 7), "EPROTO"),
+        "an error with a body": (lambda tag: reply(tag, 1, b"x"), "EPROTO"),
+        "no number": (lambda tag: reply(tag, 0, b""), "EPROTO"),
+        "a long number": (lambda tag: reply(tag, 0, four + b"\0"), "EPROTO"),
+        "a serial of 0": (lambda tag: reply(tag, 0, bytes(4)), "EPROTO"),
+        "a serial of 2^31": (lambda tag: reply(tag, 0, b"\0\0\0\x80"), "EPROTO"),
+        "a serial of 2^32 - 1": (lambda tag: reply(tag, 0, b"\xff" * 4), "EPROTO"),
+        "a short length": (lambda tag: b"\3\0\0\0" + bytes(20), "EPROTO"),
+        "a great length": (lambda tag: b"\x09\0\4\0" + bytes(20), "EPROTO"),
+        "two replies": (lambda tag: reply(tag, 0, four) * 2, "EPROTO"),
+        "another tag": (lambda tag: reply(tag + 1, 0, four), "EPROTO"),
+        "a tag of 0": (lambda tag: reply(0, 0, four), "EPROTO"),
+        "a tag's low half": (lambda tag: reply(tag + (1 << 32), 0, four), "EPROTO"),
+    }
+    for case, (spell, error) in cases.items():
+        printed, _ = run("one", lambda tag, *_: spell and spell(tag))
+        compare(case,
+                [f"one: {error}, broken", "one more: ECONNRESET, broken"], printed[:2])
 
 
 def try_python():
     """The same asks by the Python client."""
-    for version, versions in ((1, (1, 2)), (2, (1, 2)), (None, (1, 2)), (None, (1,))):
-        with tempfile.TemporaryDirectory(prefix="keyretain.") as folder:
-            server = Server(folder + "/sock", plain, versions)
-            with keyretain.Client(folder + "/sock", version, timeout=20) as client:
-                answers = [client.ask(name, context, *values) for name, context, values in ALL_ASKED]
-                spoken = client.version
-        what = f"the Python client, version {version}, a server of {versions}:"
-        wanted = {"number": 77, "serial": 77, "nothing": None}
-        compare(f"{what} its version", version or versions[-1], spoken)
-        compare(f"{what} what is sent", ALL_ASKED, server.asked)
-        compare(f"{what} the answers", [wanted.get(keyretain.ASKS[name].answer, name.encode())
-                                        for name, _, _ in ALL_ASKED], answers)
+    with tempfile.TemporaryDirectory(prefix="keyretain.") as folder:
+        server = Server(folder + "/sock", plain)
+        with keyretain.Client(folder + "/sock", timeout=20) as client:
+            answers = [client.ask(name, context, *values) for name, context, values in ALL_ASKED]
+    wanted = {"number": 77, "serial": 77, "nothing": None}
+    compare("the Python client: what is sent", ALL_ASKED, server.asked)
+    compare("the Python client: the answers", [wanted.get(keyretain.ASKS[name].answer, name.encode())
+                                               for name, _, _ in ALL_ASKED], answers)
 
 
 def try_python_serials():
@@ -215,8 +200,8 @@ def try_python_serials():
                            ("READ_QUEUE", lambda client: client.read_queue(1))):
             body = struct.pack("<II", 1 | 2 << 24, 16) + b"\5\0\0\0" + spelled if name == "READ_QUEUE" else spelled
             with tempfile.TemporaryDirectory(prefix="keyretain.") as folder:
-                Server(folder + "/sock", lambda version, tag, *_: reply(version, tag, 0, body), (1, 2))
-                with keyretain.Client(folder + "/sock", 2, timeout=20) as client:
+                Server(folder + "/sock", lambda tag, *_: reply(tag, 0, body))
+                with keyretain.Client(folder + "/sock", timeout=20) as client:
                     try:
                         got = call(client)
                     except keyretain.Malformed:
@@ -238,35 +223,31 @@ def give_up(client, run, *words):
 
 def try_python_late():
     """Calls of the Python client that are out of patience, and an ask between others that were sent ahead."""
-    for version in keyretain.VERSIONS:
-        with tempfile.TemporaryDirectory(prefix="keyretain.") as folder:
-            Server(folder + "/sock", late(), (1, 2))
-            with keyretain.Client(folder + "/sock", version, timeout=20) as client:
-                answers = [give_up(client, client.revoke, 1, 5), give_up(client, client.revoke, 1, 6),
-                           client.read(1, 7), client.describe(1, 8), give_up(client, client.revoke, 1, 5),
-                           client.get_id(1, 9)]
-                for name, values in (("READ", [7]), ("THREAD", [])):
-                    client.send(name, 1, *values)
-                answers += [client.describe(1, 8), client.receive(), client.receive(), client.read(1, 7)]
-        compare(f"late replies to the Python client, version {version}",
-                ["no answer", "no answer", b"READ", b"DESCRIBE", "no answer", 77, b"DESCRIBE", b"READ", 77, b"READ"],
-                answers)
+    with tempfile.TemporaryDirectory(prefix="keyretain.") as folder:
+        Server(folder + "/sock", late())
+        with keyretain.Client(folder + "/sock", timeout=20) as client:
+            answers = [give_up(client, client.revoke, 1, 5), give_up(client, client.revoke, 1, 6),
+                       client.read(1, 7), client.describe(1, 8), give_up(client, client.revoke, 1, 5),
+                       client.get_id(1, 9)]
+            for name, values in (("READ", [7]), ("THREAD", [])):
+                client.send(name, 1, *values)
+            answers += [client.describe(1, 8), client.receive(), client.receive(), client.read(1, 7)]
+    compare("late replies to the Python client",
+            ["no answer", "no answer", b"READ", b"DESCRIBE", "no answer", 77, b"DESCRIBE", b"READ", 77, b"READ"],
+            answers)
 
 
 def try_python_first():
     """A first call of the Python client that no frame holds, and one that is out of patience."""
-    for versions in ((1,), (1, 2)):
-        with tempfile.TemporaryDirectory(prefix="keyretain.") as folder:
-            Server(folder + "/sock", late(), versions, pause=1)
-            with keyretain.Client(folder + "/sock", timeout=20) as client:
-                try:
-                    answers = [client.update(1, 5, bytes(65536))]
-                except ValueError:
-                    answers = ["no frame"]
-                answers += [client.version, give_up(client, client.revoke, 1, 6), client.version]
-                answers += [client.read(1, 7), client.version, client.read(1, 7)]
-        compare(f"a first call of the Python client, a server of {versions}",
-                ["no frame", None, "no answer", None, b"READ", versions[-1], b"READ"], answers)
+    with tempfile.TemporaryDirectory(prefix="keyretain.") as folder:
+        Server(folder + "/sock", late())
+        with keyretain.Client(folder + "/sock", timeout=20) as client:
+            try:
+                answers = [client.update(1, 5, bytes(65536))]
+            except ValueError:
+                answers = ["no frame"]
+            answers += [give_up(client, client.revoke, 1, 6), client.read(1, 7), client.read(1, 7)]
+    compare("a first call of the Python client", ["no frame", "no answer", b"READ", b"READ"], answers)
 
 
 for case in (try_python, try_python_serials, try_python_late, try_python_first, try_all, try_late, try_first, try_restarted, try_child,

@@ -12,7 +12,7 @@ from compare import compare, conclude
 from servers import reply, served
 import keyretain
 
-RING, KEY = 77, 78
+RING, KEY, MARK = 77, 78, 79
 SERIAL, LINK = struct.pack("<I", RING), struct.pack("<I", KEY)
 OTHERS = b"keyring;%d;0;3f1b0000;of another user" % (os.geteuid() + 1)
 FORMS = {"number": SERIAL, "serial": SERIAL, "nothing": b"", "bytes": OTHERS}
@@ -20,12 +20,17 @@ FORMS = {"number": SERIAL, "serial": SERIAL, "nothing": b"", "bytes": OTHERS}
 
 class Daemon:
     """One whose keyring reads as these, one after the other: bytes, or the number of an error. Another user has the name
-    of the keeper's session. `ended` is set when the keeper has gone, which has read `count` times then."""
+    of the keeper's session, which a key of its own says. `ended` is set when the keeper has gone, which has read the
+    keyring `count` times then."""
 
     def __init__(self, readings):
         self.readings, self.count, self.ended = iter(readings), 0, threading.Event()
 
-    def answer(self, name):
+    def answer(self, name, values):
+        if name == "SEARCH" and b"user" in values:
+            return struct.pack("<I", MARK), 0
+        if name == "READ" and MARK in values:
+            return b"_ses.0123456789abcdef", 0
         if name == "READ":
             self.count += 1
             reading = next(self.readings)
@@ -33,9 +38,9 @@ class Daemon:
         return FORMS[keyretain.ASKS[name].answer], 0
 
     def serve(self, end):
-        for version, tag, name, _ in end.asks():
-            body, status = self.answer(name)
-            end.socket.sendall(reply(version, tag, body, status))
+        for tag, name, values in end.asks():
+            body, status = self.answer(name, values)
+            end.socket.sendall(reply(tag, body, status))
         self.ended.set()
 
 

@@ -58,10 +58,12 @@ static bool then_closes;
 /* Answers the first ask, and half of what the second one reads; then it ends the connection where `then_closes` says
  * so. The frames are of version 2. */
 static void *answer_half(void *unused) {
-    uint8_t ask[FRAME], number[] = { 16, 0, 0, 0, 0, 0, 0, 0, 1, 0, 0, 0, 0, 0, 0, 0, 1, 0, 0, 0 };
+    uint8_t ask[FRAME], number[] = { 16, 0, 0, 0, 0, 0, 0, 0, 0, 0, 0, 0, 0, 0, 0, 0, 1, 0, 0, 0 };
     uint8_t half[16 + SECRET] = { 12 + 100, 0, 0, 0, 0, 0, 0, 0, 2 };
     int end = accept(listener, NULL, NULL);
-    if (read(end, ask, sizeof ask) > 0 && write(end, number, sizeof number) > 0 && read(end, ask, sizeof ask) > 0) {
+    bool has_asked = read(end, ask, sizeof ask) > 0;
+    memcpy(number + 8, ask + 12, 8); /* the tag */
+    if (has_asked && write(end, number, sizeof number) > 0 && read(end, ask, sizeof ask) > 0) {
         for (int i = 0; i < SECRET; i++) half[16 + i] = (uint8_t)(i * 7 + 0x41);
         (void)!write(end, half, sizeof half);
         explicit_bzero(half, sizeof half);
@@ -82,7 +84,7 @@ static void *answer_some(void *unused) {
     for (int i = 1; i <= answers && read(end, ask, sizeof ask) > 0; i++) {
         bool is_secret = reads_last && i == answers;
         uint8_t frame[16 + SECRET] = { is_secret ? 12 + SECRET : 16 };
-        frame[8] = (uint8_t)i;
+        memcpy(frame + 8, ask + 12, 8); /* the tag */
         frame[16] = 1;
         for (int j = 0; is_secret && j < SECRET; j++) frame[16 + j] = (uint8_t)(j * 7 + 0x41);
         (void)!write(end, frame, is_secret ? sizeof frame : 20);
@@ -99,7 +101,7 @@ static struct kr *connect_to(void *(*serve)(void *), int patience) {
     pthread_t thread;
     listen_here(8);
     if (serve) pthread_create(&thread, NULL, serve, NULL);
-    struct kr *connection = kr_open_version(path, 2);
+    struct kr *connection = kr_open(path);
     if (!connection || kr_set_patience(connection, patience) < 0) exit(2);
     return connection;
 }
@@ -286,26 +288,6 @@ static const char *try_dump(void) {
     return is_left_out ? "left out" : "dumped";
 }
 
-/* A thread that is to be cancelled: how many descriptors of the connection it leaves for what is executed. */
-static void *keep(void *connection) {
-    pthread_cancel(pthread_self());
-    kr_keep_over_exec(connection);
-    return NULL;
-}
-
-static const char *try_kept(void) {
-    struct kr *connection = connect_to(NULL, 700);
-    pthread_t thread;
-    struct stat status;
-    int left = 0;
-    pthread_create(&thread, NULL, keep, connection);
-    pthread_join(thread, NULL);
-    kr_close(connection);
-    for (int i = STDERR_FILENO + 1; i < FILES; i++)
-        left += i != listener && fstat(i, &status) == 0 && S_ISSOCK(status.st_mode);
-    return left == 0 ? "none" : "left";
-}
-
 static const char *try_empty(void) { return kr_open("") ? "connected" : strerrorname_np(errno); }
 
 /* As many bytes as sun_path of unix(7) has, which leaves none for the null byte. */
@@ -335,7 +317,7 @@ int main(int count, char **words) {
                   { "dump", try_dump }, { "no frame", try_no_frame }, { "empty", try_empty },
                   { "sent", try_sent }, { "read", try_read },       { "full", try_full },     { "closed", try_closed },
                   { "long", try_long }, { "longest", try_longest },
-                  { "note", try_note }, { "kept", try_kept }, { "lost", try_lost } };
+                  { "note", try_note }, { "lost", try_lost } };
     if (count != 3) return 2;
     path = words[1];
     signal(SIGALRM, on_alarm);

@@ -11,7 +11,7 @@
 #include "check.h"
 #include "keyutils.h"
 
-enum { AT_ONCE = 300, CONTEXTS = 64, IN_TURN = 200, FORKS = 30, HAMMERS = 4, FILES = 300, OTHER_UID = 1001 };
+enum { AT_ONCE = 300, ALIVE = 1000, STACK = 1 << 16, CONTEXTS = 64, IN_TURN = 200, FORKS = 30, HAMMERS = 4, FILES = 300, OTHER_UID = 1001 };
 enum { LONG = 5000 };
 
 static key_serial_t process_key, thread_ring;
@@ -56,13 +56,34 @@ static void *ask_once(void *barrier) {
     return NULL;
 }
 
+static int answered;
+
+static void *ask_beside(void *unused) {
+    if (keyctl_get_keyring_ID(KEY_SPEC_USER_KEYRING, 0) > 0) __atomic_add_fetch(&answered, 1, __ATOMIC_SEQ_CST);
+    pthread_barrier_wait(&all_have_asked);
+    return unused;
+}
+
+/* Threads that have no keyring of their own share a context. */
+static void try_living_threads(void) {
+    static pthread_t threads[ALIVE];
+    pthread_attr_t small;
+    pthread_attr_init(&small);
+    pthread_attr_setstacksize(&small, STACK);
+    pthread_barrier_init(&all_have_asked, NULL, ALIVE);
+    for (int i = 0; i < ALIVE; i++) pthread_create(&threads[i], &small, ask_beside, NULL);
+    for (int i = 0; i < ALIVE; i++) pthread_join(threads[i], NULL);
+    check("1000 threads that live at one time are all answered", answered == ALIVE);
+    pthread_barrier_destroy(&all_have_asked);
+}
+
 static void try_many_threads(void) {
     pthread_t threads[AT_ONCE];
     pthread_barrier_init(&all_have_asked, NULL, AT_ONCE);
     for (int i = 0; i < AT_ONCE; i++) pthread_create(&threads[i], NULL, ask_once, &all_have_asked);
     for (int i = 0; i < AT_ONCE; i++) pthread_join(threads[i], NULL);
-    check("300 threads at once: as many have a context as a client may have",
-          with_context == CONTEXTS - 1 && over_quota == AT_ONCE - with_context);
+    check("300 threads at once: as many have a keyring as have contexts beside this thread's and the shared one",
+          with_context == CONTEXTS - 2 && over_quota == AT_ONCE - with_context);
     with_context = 0;
     for (int i = 0; i < IN_TURN; i++) {
         pthread_create(threads, NULL, ask_once, NULL);
@@ -280,6 +301,7 @@ int main(int count, char **words) {
     try_keyrings();
     check("a process has one descriptor", open_descriptors() == before + 1);
     try_many_threads();
+    try_living_threads();
     try_sessions();
     key_serial_t session = keyctl_join_session_keyring("life");
     key_serial_t key = add_key("user", "of session", "abc", 3, KEY_SPEC_SESSION_KEYRING);

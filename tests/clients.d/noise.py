@@ -16,9 +16,9 @@ DOCUMENTED = (keyretain.Refused, keyretain.Lost, keyretain.Malformed, TimeoutErr
 CALLS = [name for name, method in vars(keyretain.Client).items()
          if inspect.isfunction(method) and not name.startswith("_")
          and name not in ("ask", "send", "receive", "close", "peer", "notes")]
-LONGEST = 4 + max(keyretain.LONGEST_REPLY.values())
+LONGEST = 4 + keyretain.LONGEST_REPLY
 WORDS = {"type": "user", "description": "some", "payload": b"s3", "entries": [(1, 0, 0, 2, 0, 0, 0, 0, 0, 0, 0)],
-         "mask": 0x3F3F0000, "capacity": 4}
+         "mask": 0x3F3F0000, "capacity": 4, "buffer": bytearray(64)}
 
 
 class Server:
@@ -75,15 +75,15 @@ class Server:
         dice = self.dice
         _, version, number, _ = struct.unpack_from("<IHHI", ask)
         name = keyretain.name_of(number)
-        if name is None or version not in keyretain.VERSIONS:
+        if name is None or version != 2:
             return  # the rest of a frame that was sent in parts
-        tag = struct.unpack_from("<Q", ask, 12)[0] if version == 2 and len(ask) >= 20 else 0
+        tag = struct.unpack_from("<Q", ask, 12)[0] if len(ask) >= 20 else 0
         status = 0 if dice.random() < 0.7 else dice.choice([*keyretain.STATUSES, dice.getrandbits(32), 4])
         body = b"" if status and dice.random() < 0.9 else self.body_of(name)
         if dice.random() < 0.03:
             tag = dice.choice((tag + 1, max(tag, 1) - 1, dice.getrandbits(64)))
         self.sent[tag].append(body)
-        rest = struct.pack("<I", status) + (struct.pack("<Q", tag) if version == 2 else b"") + body
+        rest = struct.pack("<IQ", status, tag) + body
         whole, chance = struct.pack("<I", len(rest)) + rest, dice.random()
         self.sends_frames = self.sends_frames and chance > 0.04
         if chance < 0.02:
@@ -93,18 +93,18 @@ class Server:
             whole = dice.choice((b"", whole[:7], dice.randbytes(30), whole * 2))
         self.out += whole
 
-    def recv(self, room):
+    def recv_into(self, room):
         dice = self.dice
         if (chance := dice.random()) < 0.005:
             raise ConnectionResetError(104, "reset")
         if not self.out:
             if chance < 0.5:
-                return b""
+                return 0
             raise BlockingIOError(11, "nothing there")
-        room = min(room, len(self.out)) if chance < 0.7 else dice.randrange(1, len(self.out) + 1)
-        piece = bytes(self.out[:room])
-        del self.out[:room]
-        return piece
+        length = min(len(room), len(self.out)) if chance < 0.7 else dice.randrange(1, len(self.out) + 1)
+        room[:length] = self.out[:length]
+        del self.out[:length]
+        return length
 
 
 def client_of(server):
@@ -113,7 +113,7 @@ def client_of(server):
     connection._connect = lambda *_: None
     connection.peer_of = lambda _: keyretain.Peer(1, 0, 0)
     connection.select.poll = lambda: server
-    return keyretain.Client("/nowhere", server.dice.choice((None, 1, 2)), 20, trust="any")
+    return keyretain.Client("/nowhere", 20, trust="any")
 
 
 def words_of(name, dice):
@@ -145,12 +145,14 @@ class Run:
         self.look_at("receive", answer, tag)
 
     def call(self, name):
-        answer = getattr(self.client, name)(*words_of(name, self.dice))
+        words = words_of(name, self.dice)
+        answer = getattr(self.client, name)(*words)
+        if name == "read_into":
+            answer = bytes(words[-1][:answer])
         self.look_at(name, answer, self.client._connection._last)
 
     def look_at(self, name, answer, tag):
-        is_known = self.server.sends_frames and self.client.version == 2
-        if is_known and isinstance(answer, bytes) and answer not in self.server.sent[tag]:
+        if self.server.sends_frames and isinstance(answer, bytes) and answer not in self.server.sent[tag]:
             self.faults[f"{name} has another's answer"] += 1
 
     def step(self):

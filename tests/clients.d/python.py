@@ -1,13 +1,11 @@
-"""python.py PATH [VERSION]: calls of the Python client on a daemon that nobody has used, with what they answer; then
-the example that watches a key. VERSION is that of the frames; without it the first ask finds it out."""
+"""python.py PATH: calls of the Python client on a daemon that nobody has used, with what they answer; then the example
+that watches a key."""
 import os
 import subprocess
 import sys
 
 sys.path.insert(0, os.path.join(os.path.dirname(__file__), "../../clients/python"))
 import keyretain
-
-version = int(sys.argv[2]) if len(sys.argv) > 2 else None
 
 
 def say(what, run, *words):
@@ -19,9 +17,8 @@ def say(what, run, *words):
         print(what, "lost")
 
 
-with keyretain.Client(sys.argv[1], version, timeout=20) as client:
+with keyretain.Client(sys.argv[1], timeout=20) as client:
     say("hello", client.hello, 1000, 1000, [7])
-    spoken = client.version
     say("thread", client.thread, 1)
     say("add", client.add, 1, "user", "alpha", b"s3", keyretain.USER)
     say("read", client.read, 1, 5)
@@ -46,9 +43,8 @@ with keyretain.Client(sys.argv[1], version, timeout=20) as client:
     for what in ("sent ahead", "sent ahead", "sent ahead"):
         say(what, client.receive)
     for key in (5, 99, 5, keyretain.USER):
-        client.version = 3 - client.version
         client.send("DESCRIBE", 1, key)
-    for what in ("in both versions", "in both versions", "in both versions", "in both versions"):
+    for what in ("sent ahead", "sent ahead", "sent ahead", "sent ahead"):
         say(what, client.receive)
     say("unlink", client.unlink, 1, 5, keyretain.USER)
     say("clear", client.clear, 1, 6)
@@ -65,9 +61,8 @@ with keyretain.Client(sys.argv[1], version, timeout=20) as client:
     say("close queue", client.close_queue, 1)
     say("leave", client.leave)
     say("left", client.read, 1, 5)
-    print("version", spoken)
 
-with keyretain.Client(sys.argv[1], version, timeout=20) as client:
+with keyretain.Client(sys.argv[1], timeout=20) as client:
     context = client.hello(os.geteuid(), os.getegid())
     key = client.add(context, "user", "watched", b"s3", keyretain.USER)
     client.setperm(context, key, 0x3F3F0000)

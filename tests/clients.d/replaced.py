@@ -1,6 +1,8 @@
-"""replaced.py LIBRARY: what the libkeyutils LIBRARY makes of the serials that it knows where another daemon takes the
-place of the one to which it connects anew; also in a PID namespace where none of them has a number. Prints a line for
-each difference, and last how many were compared."""
+"""replaced.py LIBRARY: what the libkeyutils LIBRARY makes of the serials that it knows where another daemon has taken the
+place of the first, also in a PID namespace where none of them has a number; of a context that the daemon doesn't know
+any more; and of a guard that has no place for it at first. Prints a line for each difference, and last how many were
+compared."""
+import errno
 import os
 import signal
 import socket
@@ -8,42 +10,35 @@ import subprocess
 import sys
 import tempfile
 
-from servers import End, answer_all, compare, conclude, plain, reply
+from servers import End, answer_all, compare, conclude, keyretain, plain, reply, served
 
 library = sys.argv[1]
 CALLS = """
-import ctypes, errno, os, sys
+import ctypes, errno, os, sys, time
 library, room = ctypes.CDLL(sys.argv[1], use_errno=True), ctypes.create_string_buffer(8)
 def word(answer): return answer if answer >= 0 else errno.errorcode[ctypes.get_errno()]
+path = os.environ["KEYRETAIN_SOCKET"]
+first = os.stat(path).st_ino
 key = library.keyctl_get_keyring_ID(-4, 0)
 os.closerange(3, 64)
+while os.stat(path).st_ino == first: time.sleep(0.01)
 print(key, word(library.keyctl_read(key, room, 8)), word(library.keyctl_get_keyring_ID(-4, 0)),
       word(library.keyctl_read(key, room, 8)))
 """
 
 
-def answer_old(end):
-    """As a daemon that understands the first version alone."""
-    for version, tag, name, values in end.asks():
-        if version != 1:
-            return
-        end.socket.sendall(reply(version, tag, plain(name, values)))
-
-
 def first(listener, path, other):
-    """Serves one client, and ends the connection of the next one once it has asked: then the other daemon is there."""
+    """Serves one client: then the other daemon is there."""
     with End(listener.accept()[0]) as end:
         answer_all(end)
-    with End(listener.accept()[0]) as end:
-        next(end.asks())
-        os.rename(other, path)
+    os.rename(other, path)
     signal.pause()
 
 
 def second(listener):
     while True:
         with End(listener.accept()[0]) as end:
-            answer_old(end)
+            answer_all(end)
 
 
 def daemon(path, serve, *words):
@@ -83,4 +78,57 @@ if subprocess.run([*apart, "true"], stderr=subprocess.DEVNULL, check=False).retu
     compare("the same in another PID namespace", WANTED, told(*apart))
 else:
     print("skipped: a PID namespace of its own: this user may have none")
+
+
+def told_by_python(path):
+    with keyretain.Client(path, timeout=20) as client:
+        try:
+            return client.hello(1, 1)
+        except keyretain.Refused as refused:
+            return refused.name
+
+
+AGAIN = """
+import ctypes, errno, sys
+library = ctypes.CDLL(sys.argv[1], use_errno=True)
+answers = [library.keyctl_get_keyring_ID(-4, 0) for _ in range(2)]
+print(*(answer if answer >= 0 else errno.errorcode[ctypes.get_errno()] for answer in answers))
+"""
+
+
+def forgetful(connections):
+    """As a daemon that doesn't know the first connection's context any more."""
+    def serve(end):
+        connections.append(end)
+        is_first = len(connections) == 1
+        for tag, name, values in end.asks():
+            is_lost = is_first and name != "HELLO"
+            end.socket.sendall(reply(tag, b"", errno.ESRCH) if is_lost else reply(tag, plain(name, values)))
+    return serve
+
+
+with served(forgetful([])) as path:
+    said = subprocess.run([sys.executable, "-c", AGAIN, library], env={**os.environ, "KEYRETAIN_SOCKET": path},
+                          stdout=subprocess.PIPE, timeout=30, text=True, check=False)
+    compare("a context that the daemon doesn't know: the next call has another one", "ESRCH 77", said.stdout.strip())
+
+
+def crowded(connections):
+    """As a guard that refuses the first five connections for want of a place."""
+    def serve(end):
+        connections.append(end)
+        is_refused = len(connections) <= 5
+        for tag, name, values in end.asks():
+            end.socket.sendall(reply(tag, b"", errno.EDQUOT) if is_refused else reply(tag, plain(name, values)))
+            if is_refused:
+                return
+    return serve
+
+
+with served(crowded([])) as path:
+    said = subprocess.run([sys.executable, "-c", AGAIN, library], env={**os.environ, "KEYRETAIN_SOCKET": path},
+                          stdout=subprocess.PIPE, timeout=30, text=True, check=False)
+    compare("a place that is free later: the call waits for it", "77 77", said.stdout.strip())
+with served(crowded([])) as path:
+    compare("what the Python client is told", "EDQUOT", told_by_python(path))
 conclude()

@@ -52,7 +52,6 @@ full:gone
 closed:ECONNRESET
 longest:262140
 note:EPROTO
-kept:none
 dump:left out
 empty:ENOENT
 long:ENAMETOOLONG
@@ -81,6 +80,56 @@ time.sleep(60)' "$dir/full.sock" >"$dir/full.text" &
     "$(KEYRETAIN_SOCKET=$dir/full.sock "$dir/once" signals)"
   kill "$server"
   finish "$server"
+}
+
+# ---- Many threads and processes, and a daemon that is slow or full
+
+try_busy() {
+  local name mode wanted
+  serve --lanes 16
+  for name in busy busy-address,undefined busy-thread; do
+    [ -x "$dir/$name" ] || continue
+    while IFS=: read -r mode wanted; do
+      # shellcheck disable=SC2086 # some have a word
+      is "$name: $mode" "$wanted" "$(timeout 120 "$dir/$name" ${mode/DAEMON/$daemon})"
+    done <<'END'
+fair:fair
+stalled DAEMON:200 late, then answered
+threads DAEMON:200 late, then answered, and the process's key is there
+late DAEMON:200 late, then answered
+held:1 1 1 1 answered
+thread:1 1 the same
+no-process:EAGAIN
+END
+    while IFS=: read -r mode wanted; do
+      # shellcheck disable=SC2086 # some have a word
+      is "$name, in a session: $mode" "$wanted" "$(in_session -- timeout 120 "$dir/$name" $mode)"
+    done <<'END'
+held:0 1 0 1 answered
+thread:1 0 the same
+many 40:40 of 40
+END
+  done
+  try_counted
+  kill_daemon TERM
+}
+
+# calls_of COUNT: how many system calls a program makes in all that reads a key so often, as one that has no rights
+calls_of() {
+  KEYRETAIN_SOCKET=$path setpriv --reuid 65534 --regid 65534 --clear-groups strace -f -c -o "$dir/counted" \
+    "$dir/busy" read "$1" >/dev/null 2>&1
+  awk '$NF == "total" { print $4 }' "$dir/counted"
+}
+
+# What a call takes: geteuid, fstat, send and receive.
+try_counted() {
+  if [ "$(id -u)" != 0 ] || ! command -v strace >/dev/null || ! command -v setpriv >/dev/null; then
+    skipped 'how many system calls a call takes: not root, no strace, or no setpriv'
+    return
+  fi
+  chmod 711 "$dir" && chmod 755 "$dir/keyretain" "$dir/c" && chmod 666 "$path"
+  : >"$dir/counted" && chmod 666 "$dir/counted"
+  is 'the system calls of 1000 calls' 4000 $(($(calls_of 1100) - $(calls_of 100)))
 }
 
 # ---- Keepers
@@ -211,7 +260,7 @@ try_inherited() {
   is 'nor is one that no variable names' 1 "$(in_session --join -- true 2>/dev/null; echo $?)"
   is 'what is said of that, as in a login without a session' \
     'keyretain-session: there is no session to join: KEYRETAIN_SESSION names none' \
-    "$(KEYRETAIN_SESSION='' in_session --join -- true 2>&1)"
+    "$(KEYRETAIN_SESSION='' in_session --join -- true 2>&1 | head -n 1)"
   is 'a name to join' 2 "$(in_session --join name 2>/dev/null; echo $?)"
   is 'a folder of the library that is not absolute' "$dir/keyretain" "$(cd "$dir" &&
     KEYRETAIN_LIBRARY_FOLDER=keyretain "$dir/c/keyretain-session" -- sh -c 'echo ${LD_LIBRARY_PATH%%:*}')"

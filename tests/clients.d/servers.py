@@ -17,8 +17,8 @@ def outcome(run, *words, **named):
         return type(error).__name__
 
 
-def reply(version, tag, body=b"", status=0):
-    rest = struct.pack("<I", status) + (struct.pack("<Q", tag) if version == 2 else b"") + body
+def reply(tag, body=b"", status=0):
+    rest = struct.pack("<IQ", status, tag) + body
     return struct.pack("<I", len(rest)) + rest
 
 
@@ -35,13 +35,12 @@ class End:
         self.socket.close()
 
     def asks(self):
-        """Yields the version, the tag, the name and the values of each ask."""
+        """Yields the tag, the name and the values of each ask."""
         while head := self.socket.recv(4, socket.MSG_WAITALL):
             rest = self.socket.recv(struct.unpack("<I", head)[0], socket.MSG_WAITALL)
-            version, number, _ = struct.unpack_from("<HHI", rest)
-            tag = struct.unpack_from("<Q", rest, 8)[0] if version == 2 else None
+            number, tag = struct.unpack_from("<2xH4xQ", rest)
             name = keyretain.name_of(number)
-            yield version, tag, name, keyretain.decode_body(name, rest[16 if version == 2 else 8:])
+            yield tag, name, keyretain.decode_body(name, rest[16:])
 
 
 def plain(name, values):
@@ -52,8 +51,8 @@ def plain(name, values):
 
 def answer_all(end):
     """As a daemon that knows every key."""
-    for version, tag, name, values in end.asks():
-        end.socket.sendall(reply(version, tag, plain(name, values)))
+    for tag, name, values in end.asks():
+        end.socket.sendall(reply(tag, plain(name, values)))
 
 
 @contextmanager
@@ -83,7 +82,7 @@ def served(serve=answer_all, backlog=8):
 
 
 @contextmanager
-def client_of(serve=answer_all, version=2, timeout=20):
+def client_of(serve=answer_all, timeout=20):
     """A client whose server is that."""
-    with served(serve) as path, keyretain.Client(path, version, timeout) as client:
+    with served(serve) as path, keyretain.Client(path, timeout) as client:
         yield client

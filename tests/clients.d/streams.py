@@ -75,20 +75,19 @@ def in_child(run, fork=os.fork):
 def try_children():
     """A child, also of another thread and one that has its parent's number, can't ask on the parent's connection."""
     answers, getpid = [], os.getpid
-    for version in keyretain.VERSIONS:
-        with client_of(version=version) as client:
-            answers.append(in_child(lambda: client.read(1, 5)))
-            thread = threading.Thread(target=lambda: answers.append(in_child(lambda: client.read(1, 5))))
-            thread.start()
-            thread.join()
-            answers.append(in_child(lambda: client.send("READ", 1, 5)))
-            answers.append(in_child(lambda: client.read(1, 5), bare_fork))
-            os.getpid = lambda: 1
-            with keyretain.Client(client.path, version, 20) as other:
-                answers.append(in_child(lambda: other.read(1, 5)))
-            os.getpid = getpid
-            compare(f"the parent's answer afterwards, version {version}", b"9", client.read(1, 9))
-    compare("asks in children", ["Lost"] * 10, answers)
+    with client_of() as client:
+        answers.append(in_child(lambda: client.read(1, 5)))
+        thread = threading.Thread(target=lambda: answers.append(in_child(lambda: client.read(1, 5))))
+        thread.start()
+        thread.join()
+        answers.append(in_child(lambda: client.send("READ", 1, 5)))
+        answers.append(in_child(lambda: client.read(1, 5), bare_fork))
+        os.getpid = lambda: 1
+        with keyretain.Client(client.path, 20) as other:
+            answers.append(in_child(lambda: other.read(1, 5)))
+        os.getpid = getpid
+        compare("the parent's answer afterwards", b"9", client.read(1, 9))
+    compare("asks in children", ["Lost"] * 5, answers)
 
 
 def try_children_ahead():
@@ -131,7 +130,7 @@ def try_cut_frames():
     def serve(end):
         going.wait(20)
         try:
-            got.extend(name for _, _, name, _ in end.asks())
+            got.extend(name for _, name, _ in end.asks())
         except Exception:
             got.append("half a frame")
         going.clear()
@@ -149,19 +148,18 @@ def try_late_replies():
     """A handler raises while a reply is awaited: the next call has its own answer all the same."""
     def serve(end):
         kept = b""
-        for version, tag, name, values in end.asks():
-            kept += reply(version, tag, plain(name, values))
+        for tag, name, values in end.asks():
+            kept += reply(tag, plain(name, values))
             if values != [5]:
                 end.socket.sendall(kept)
                 kept = b""
 
-    for version in keyretain.VERSIONS:
-        with client_of(serve, version) as client:
-            with alarm(interrupt, 0.2):
-                first = ended_by(client.read, 1, 5)
-            client.send("READ", 1, 6)
-            compare(f"a call that was interrupted, version {version}", ["interrupted", b"6", b"7"],
-                    [first, outcome(client.receive), outcome(client.read, 1, 7)])
+    with client_of(serve) as client:
+        with alarm(interrupt, 0.2):
+            first = ended_by(client.read, 1, 5)
+        client.send("READ", 1, 6)
+        compare("a call that was interrupted", ["interrupted", b"6", b"7"],
+                [first, outcome(client.receive), outcome(client.read, 1, 7)])
 
 
 class Steps:
@@ -198,17 +196,16 @@ def own_answers(client):
 
 def try_every_step(what, call):
     """The call is ended at each of its steps in turn, as a handler might."""
-    for version in keyretain.VERSIONS:
-        number, ended, wrong = 0, True, []
-        with served() as path:
-            while ended:
-                number += 1
-                with keyretain.Client(path, version, 20) as client:
-                    ended = Steps(number).run(lambda: call(client)) == "interrupted"
-                    if not own_answers(client):
-                        wrong.append(number)
-        compare(f"{what}, version {version}: more than 50 steps", True, number > 50)
-        compare(f"{what}, version {version}: steps after which an answer is another's", [], wrong)
+    number, ended, wrong = 0, True, []
+    with served() as path:
+        while ended:
+            number += 1
+            with keyretain.Client(path, 20) as client:
+                ended = Steps(number).run(lambda: call(client)) == "interrupted"
+                if not own_answers(client):
+                    wrong.append(number)
+    compare(f"{what}: more than 50 steps", True, number > 50)
+    compare(f"{what}: steps after which an answer is another's", [], wrong)
 
 
 def ahead(client):
@@ -223,22 +220,21 @@ def ahead(client):
 def try_ahead():
     """A server that stops reading while its replies aren't taken."""
     def serve(end):
-        for version, tag, _, values in end.asks():
-            end.socket.sendall(reply(version, tag, b"%05d" % values[0] + bytes(32000)))
+        for tag, _, values in end.asks():
+            end.socket.sendall(reply(tag, b"%05d" % values[0] + bytes(32000)))
 
-    for version in keyretain.VERSIONS:
-        with client_of(serve, version, 10) as client:
-            sent = outcome(lambda: [client.send("READ", 1, key) for key in range(250)][-1])
-            compare(f"asks sent ahead, version {version}", 250, sent)
-            answers = outcome(lambda: [client.receive()[:5] for _ in range(250)])
-            compare(f"their answers, version {version}", [b"%05d" % key for key in range(250)], answers)
+    with client_of(serve, timeout=10) as client:
+        sent = outcome(lambda: [client.send("READ", 1, key) for key in range(250)][-1])
+        compare("asks sent ahead", 250, sent)
+        answers = outcome(lambda: [client.receive()[:5] for _ in range(250)])
+        compare("their answers", [b"%05d" % key for key in range(250)], answers)
 
 
 def try_large_ahead():
     """The same where the server stops in the midst of a long ask."""
     def serve(end):
-        for version, tag, name, values in end.asks():
-            end.socket.sendall(reply(version, tag, plain(name, values) + bytes(32000 if name == "READ" else 0)))
+        for tag, name, values in end.asks():
+            end.socket.sendall(reply(tag, plain(name, values) + bytes(32000 if name == "READ" else 0)))
 
     with client_of(serve, timeout=10) as client:
         def send():
@@ -267,8 +263,8 @@ def try_too_far():
 def try_answered_then_gone():
     """Two asks are answered, and then the daemon goes."""
     def serve(end):
-        for version, tag, name, values in end.asks():
-            end.socket.sendall(reply(version, tag, plain(name, values)))
+        for tag, name, values in end.asks():
+            end.socket.sendall(reply(tag, plain(name, values)))
             if values == [2]:
                 return
 
@@ -280,11 +276,10 @@ def try_answered_then_gone():
 
 
 def answer_two_at_once(second):
-    """A server that sends its answers to two asks as one piece, and goes. The second is made of an ask's version and
-    tag."""
+    """A server that sends its answers to two asks as one piece, and goes. The second is made of an ask's tag."""
     def serve(end):
-        (version, tag, name, values), (_, other, *_) = (ask for _, ask in zip(range(2), end.asks()))
-        end.socket.sendall(reply(version, tag, plain(name, values)) + second(version, other))
+        (tag, name, values), (other, *_) = (ask for _, ask in zip(range(2), end.asks()))
+        end.socket.sendall(reply(tag, plain(name, values)) + second(other))
 
     return serve
 
@@ -298,36 +293,9 @@ def try_two_at_once():
             return [outcome(client.receive), outcome(client.read, 1, 3), *[outcome(client.receive) for _ in range(2)]]
 
     compare("an answer that came before the end", [b"1", "Lost", b"2", "Lost"],
-            outcomes(lambda version, tag: reply(version, tag, b"2")))
+            outcomes(lambda tag: reply(tag, b"2")))
     compare("one that came before noise", ["Malformed", "Lost", "Lost", "Lost"],
-            outcomes(lambda version, tag: reply(version, tag + 1, b"2")))
-
-
-def try_first_ask():
-    """The first ask is made anew, in the oldest version, where the daemon ended the connection and has said nothing at
-    all. Else it may have been carried out, and what was sent ahead would be lost unseen."""
-    asked = []
-
-    def serve(said, count):
-        def run(end):
-            for number, (version, tag, name, values) in enumerate(end.asks(), 1):
-                asked.append(version)
-                if version == 1:
-                    end.socket.sendall(reply(version, tag, plain(name, values)))
-                elif number == count:
-                    end.socket.sendall(said)
-                    return
-
-        return run
-
-    for what, said, ahead_of_it, wanted in (
-            ("nothing", b"", 0, (b"5", [2, 1])), ("a part of a reply", b"\x0d\0\0", 0, ("Lost", [2])),
-            ("nothing, and an ask was sent ahead", b"", 1, ("Lost", [2, 2]))):
-        asked.clear()
-        with client_of(serve(said, 1 + ahead_of_it), None) as client:
-            for _ in range(ahead_of_it):
-                client.send("READ", 1, 6)
-            compare(f"the first ask of a daemon that says {what}", wanted, (outcome(client.read, 1, 5), asked))
+            outcomes(lambda tag: reply(tag + 1, b"2")))
 
 
 # ---- Time
@@ -341,8 +309,8 @@ def seconds_of(run, *words):
 
 
 def drip(end):
-    for version, tag, _, values in end.asks():
-        for byte in reply(version, tag, bytes(200)):
+    for tag, _, values in end.asks():
+        for byte in reply(tag, bytes(200)):
             end.socket.sendall(bytes([byte]))
             time.sleep(0.1)
 
@@ -380,13 +348,13 @@ def try_backlog():
     with servers.tempfile.TemporaryDirectory(prefix="keyretain.") as folder, socket.socket(socket.AF_UNIX) as listener:
         listener.bind(folder + "/sock")
         listener.listen(0)
-        waiting = [keyretain.Client(folder + "/sock", 2, 20)]
-        compare("a full backlog", ("TimeoutError", True), seconds_of(keyretain.Client, folder + "/sock", 2, 0.5))
+        waiting = [keyretain.Client(folder + "/sock", 20)]
+        compare("a full backlog", ("TimeoutError", True), seconds_of(keyretain.Client, folder + "/sock", 0.5))
         with alarm(lambda *_: None, 0.1, 0.1):
             compare("a full backlog, and signals", ("TimeoutError", True),
-                    seconds_of(keyretain.Client, folder + "/sock", 2, 0.5))
+                    seconds_of(keyretain.Client, folder + "/sock", 0.5))
         threading.Timer(0.5, lambda: waiting.append(listener.accept()[0])).start()
-        compare("a place that is free later", "Client", type(keyretain.Client(folder + "/sock", 2, 20)).__name__)
+        compare("a place that is free later", "Client", type(keyretain.Client(folder + "/sock", 20)).__name__)
         waiting[0].close()
 
 
@@ -394,10 +362,10 @@ def try_backlog():
 
 
 def answering(*replies):
-    """A server whose replies are these bytes, or what these make of an ask's version and tag."""
+    """A server whose replies are these bytes, or what these make of an ask's tag."""
     def serve(end):
-        for (version, tag, *_), spelled in zip(end.asks(), replies):
-            end.socket.sendall(spelled(version, tag))
+        for (tag, *_), spelled in zip(end.asks(), replies):
+            end.socket.sendall(spelled(tag))
 
     return serve
 
@@ -405,24 +373,23 @@ def answering(*replies):
 def try_nonsense():
     """Replies that are none end the connection, which says so ever after."""
     cases = {
-        "bytes behind a reply": lambda version, tag: reply(version, tag, b"5") + b"\0",
-        "two replies": lambda version, tag: reply(version, tag, b"5") * 2,
-        "an unknown status": lambda version, tag: reply(version, tag, b"", 4),
-        "an error with a body": lambda version, tag: reply(version, tag, b"x", 1),
-        "a short length": lambda version, tag: b"\3\0\0\0" + bytes(20),
-        "a great length": lambda version, tag: b"\x09\0\4\0" + bytes(20),
+        "bytes behind a reply": lambda tag: reply(tag, b"5") + b"\0",
+        "two replies": lambda tag: reply(tag, b"5") * 2,
+        "an unknown status": lambda tag: reply(tag, b"", 4),
+        "an error with a body": lambda tag: reply(tag, b"x", 1),
+        "a short length": lambda tag: b"\3\0\0\0" + bytes(20),
+        "a great length": lambda tag: b"\x09\0\4\0" + bytes(20),
     }
     for what, spelled in cases.items():
-        for version in keyretain.VERSIONS:
-            with client_of(answering(spelled, lambda version, tag: reply(version, tag, b"6")), version) as client:
-                compare(f"{what}, version {version}", ["Malformed", "Lost", "Lost"],
-                        [outcome(client.read, 1, 5), outcome(client.read, 1, 6), outcome(client.read, 1, 7)])
+        with client_of(answering(spelled, lambda tag: reply(tag, b"6"))) as client:
+            compare(f"{what}", ["Malformed", "Lost", "Lost"],
+                    [outcome(client.read, 1, 5), outcome(client.read, 1, 6), outcome(client.read, 1, 7)])
 
 
 def try_listings():
     """A keyring or a queue that reads as something else."""
     def answer(body):
-        return answering(lambda version, tag: reply(version, tag, body))
+        return answering(lambda tag: reply(tag, body))
 
     for body in (b"12345", b"1"):
         with client_of(answer(body)) as client:
@@ -434,9 +401,9 @@ def try_listings():
         compare("the highest serial", (1 << 31) - 1, outcome(client.get_id, 1, keyretain.USER))
     with client_of(answer(struct.pack("<IIII", 0x01000001, 16, (1 << 31) - 1, 0))) as client:
         compare("a note of it", [keyretain.Note(0, "updated", (1 << 31) - 1, 0)], outcome(client.read_queue, 1))
-    for version in keyretain.VERSIONS:  # docs/FORMAT.md, of both the same
-        with client_of(answer(bytes(262140)), version) as client:
-            compare(f"the length of the longest answer, version {version}", 262140, len(outcome(client.read, 1, 5)))
+    # docs/FORMAT.md, of both the same
+    with client_of(answer(bytes(262140))) as client:
+        compare("the length of the longest answer", 262140, len(outcome(client.read, 1, 5)))
     for body in (b"\x01\0\0\1", b"\x05\0\0\0\x10\0\0\0" + bytes(8), b"\1\0\0\1\x10\0\0\0" + bytes(4),
                  struct.pack("<IIII", 0x01000001, 16, 1 << 31, 0), struct.pack("<IIII", 0x01000001, 16, 5, 1 << 31),
                  struct.pack("<IIQ", 0, 16, 1 << 31), struct.pack("<IIQQ", 0, 24, 5, 0)):
@@ -487,7 +454,7 @@ def try_standard():
                 for number in range(first, 3):  # pylint: disable=cell-var-from-loop
                     os.close(number)
                 before = sockets()
-                with keyretain.Client(path, 2, 20) as client:
+                with keyretain.Client(path, 20) as client:
                     client.read(1, 5)
                     return [(end > 2, os.get_inheritable(end)) for end in sockets() - before]
 
@@ -498,7 +465,7 @@ def try_reused():
     """A program that closes all its descriptors, and has something else under the number: that isn't told anything, and
     isn't closed."""
     def ask():
-        with keyretain.Client(path, 2, 2) as client:
+        with keyretain.Client(path, 2) as client:
             client.read(1, 5)
             number, = sockets() - before
             ours, theirs = socket.socketpair()
@@ -522,7 +489,7 @@ def try_pipe_signal():
 
     def ask():
         signal.signal(signal.SIGPIPE, signal.SIG_DFL)
-        with served(serve) as path, keyretain.Client(path, 2, 20) as client:
+        with served(serve) as path, keyretain.Client(path, 20) as client:
             gone.wait(20)
             return [outcome(client.read, 1, key) for key in (5, 6)]
 
@@ -545,7 +512,7 @@ def try_words():
 
 if __name__ == "__main__":
     for case in (try_children, try_children_ahead, try_held, try_cut_frames, try_late_replies, try_ahead,
-                 try_large_ahead, try_too_far, try_answered_then_gone, try_two_at_once, try_first_ask, try_deadlines,
+                 try_large_ahead, try_too_far, try_answered_then_gone, try_two_at_once, try_deadlines,
                  try_one_look, try_backlog, try_nonsense, try_listings, try_values, try_pickled, try_standard,
                  try_reused, try_pipe_signal, try_words):
         case()

@@ -157,13 +157,10 @@ def try_found():
             compare("another listens at one's own path", "PermissionError", tells())
             compare("what another was told", 0, told())
             compare("the same, found, where anybody may", "PermissionError", tells(trust="any"))
-            compare("the same, found, by the environment", "PermissionError",
-                    tells(environment={"KEYRETAIN_TRUST": "any"}))
             compare("the same, named", "PermissionError", tells(own))
             compare("the same, named, where anybody may", "told", tells(own, trust="any"))
-            for word, wanted in (("any", "told"), ("all", "PermissionError")):
-                compare(f"the same, named, the environment says {word}", wanted,
-                        tells(own, environment={"KEYRETAIN_TRUST": word}))
+            compare("the same, named, and the environment isn't asked who may", "PermissionError",
+                    tells(own, environment={"KEYRETAIN_TRUST": "any"}))
 
 
 def try_found_root():
@@ -226,35 +223,6 @@ def try_closed():
         os.chmod(runtime, 0o700)
 
 
-def try_turned():
-    """Who listens is asked at each connection: also at the one that is made for frames of version 1."""
-    def greet():
-        with keyretain.Client(path) as client:
-            return client.hello(0, 0)
-
-    def greet_as_other():
-        with keyretain.Client(path) as client:
-            os.seteuid(OTHER)  # as another thread may
-            try:
-                return client.hello(0, 0)
-            finally:
-                os.seteuid(OWN)
-
-    words = [sys.executable, "-B", os.path.join(os.path.dirname(os.path.abspath(__file__)), "turn.py")]
-    with folders() as (_, system):
-        path, other = os.path.dirname(system) + "/turned.sock", os.path.dirname(system) + "/others.sock"
-        os.chmod(os.path.dirname(system), 0o777)
-        for what, ask in (("a path that is turned to another after the first connection", greet),
-                          ("the same, where the process has become that user", greet_as_other)):
-            with listening(other, OTHER) as told, \
-                    subprocess.Popen([*words, path, other], stdout=subprocess.PIPE) as turns:
-                turns.stdout.readline()
-                compare(what, "PermissionError", outcome(ask))
-                compare(f"{what}: what the other was told", 0, told())
-                compare(f"{what}: the first connection was made", 0, turns.wait(20))
-                os.rename(path, other)
-
-
 def tells_path(uid, environment):
     """What default_path answers this user."""
     def run(write):
@@ -315,8 +283,7 @@ def try_system():
         with listening(path, OTHER):
             compare("root and another's daemon there", "PermissionError", tells())
             compare("the same user's", "PermissionError", tells(uid=OTHER))
-            for named in ({"trust": "any"}, {"environment": {"KEYRETAIN_TRUST": "any"}}):
-                compare(f"the same, {named}", "PermissionError", tells(uid=OTHER, **named))
+            compare("the same, where anybody may", "PermissionError", tells(uid=OTHER, trust="any"))
 
 
 def try_set_uid():
@@ -332,8 +299,7 @@ print(client.enter_session(1))"""
         os.setresuid(OTHER, OWN, OWN)
         os.dup2(write, 1)
         os.execve(sys.executable, [sys.executable, "-B", "-c", words, sys.path[0]],
-                  {"KEYRETAIN_SOCKET": "/another", "XDG_RUNTIME_DIR": runtime, "KEYRETAIN_SESSION": "5:named",
-                   "KEYRETAIN_TRUST": "any"})
+                  {"KEYRETAIN_SOCKET": "/another", "XDG_RUNTIME_DIR": runtime, "KEYRETAIN_SESSION": "5:named"})
 
     with folders() as (runtime, _):
         os.mkdir(runtime + "/keyretain")
@@ -386,12 +352,11 @@ def try_capabilities():
 
 
 if __name__ == "__main__":
-    for variable in ("KEYRETAIN_SOCKET", "KEYRETAIN_TRUST"):
-        os.environ.pop(variable, None)
+    os.environ.pop("KEYRETAIN_SOCKET", None)
     cases = [try_places, try_names, try_peer]
     if sys.argv[1:] != ["one"]:
         cases += [try_found, try_found_root, try_effective, try_another_runtime_directory, try_closed,
-                  try_turned, try_named, try_system, try_set_uid, try_capabilities]
+                  try_named, try_system, try_set_uid, try_capabilities]
     for case in cases:
         case()
     servers.conclude()

@@ -305,9 +305,26 @@ def try_other_user():
     with daemon(), keyretain.Client() as client:
         context = client.hello(54321, 54321)
         client.setperm(context, client.join(context, "keyretain-keeper:git-credentials"), 0x3F3F3F3F)
-        git("store", "protocol=https host=a username=u password=p")
-        time.sleep(1)
+        for host in "abcde":
+            git("store", f"protocol=https host={host} username=u password=p")
+        time.sleep(2)
         compare("a key is kept all the same", {"username=u", "password=p"}, git("get", "protocol=https host=a"))
+        compare("by one keeper", 1, len(keepers()))
+
+
+def try_killed_keeper():
+    """A keeper that was killed leaves its place to the next one."""
+    with daemon(), looking("git-credentials") as look:
+        git("store", "protocol=https host=a username=u password=p")
+        compare("one keeper", True, until(lambda: len(keepers()) == 1))
+        pid = keepers()[0][0]
+        time.sleep(1.5)  # so that it has come to hold the keyring
+        os.kill(pid, signal.SIGKILL)
+        compare("none", True, until(lambda: not keepers()))
+        git("store", "protocol=https host=b username=u password=p")
+        time.sleep(2)
+        compare("another one", 1, len(keepers()))
+        compare("both keys are kept", 2, len(look()))
 
 
 def in_session(words, *options):
@@ -356,6 +373,6 @@ def try_no_keeper():
 
 
 for case in (try_steps, try_bytes, try_others, try_expiry, try_words, try_silent_daemon, try_no_core, try_elsewhere,
-             try_crowd, try_keeper, try_groups, try_other_user, try_session, try_no_keeper):
+             try_crowd, try_keeper, try_groups, try_other_user, try_killed_keeper, try_session, try_no_keeper):
     case()
 conclude()

@@ -1,5 +1,5 @@
 """Whether a keeper whose user stops it, before it is in the background, keeps who has started it waiting; what is left
-of one that isn't stopped; and in which order an entry is made. Prints a line for each difference, and last how many
+of one that isn't stopped; that the user's systemd starts it, where it does; and in which order an entry is made. Prints a line for each difference, and last how many
 were compared."""
 import errno
 import os
@@ -51,16 +51,57 @@ def left_by(folder):
     return len(os.listdir("/proc/self/fd")) - before, children
 
 
+def begun_by(folder, manager, uid=os.geteuid()):
+    """What was executed to have a keeper, where the user's systemd-run is this script: of the keeper its words, and the
+    folder of the user's that it was told."""
+    told = folder + "/told"
+    for name, text in (("keyretain-keeper", f'#!/bin/sh\necho "keeper $* $XDG_RUNTIME_DIR" >>{told}\necho 5:ring\n'),
+                       ("systemd-run", f'#!/bin/sh\necho "manager" >>{told}\n{manager}\n')):
+        with open(f"{folder}/{name}", "w", encoding="ascii") as program:
+            program.write(text)
+        os.chmod(f"{folder}/{name}", 0o755)
+    os.seteuid(uid)
+    try:
+        with keeper.holding("ring", "/sock"):
+            pass
+    finally:
+        os.seteuid(os.getuid())
+    with open(told, encoding="ascii") as lines:
+        found = lines.read().split("\n")[:-1]
+    os.remove(told)
+    return found
+
+
+def try_managed(folder):
+    """A scope of the user's systemd has the keeper; where there is none, or it fails or says nothing, it is started all the
+    same."""
+    own = f"{folder}/{os.geteuid()}"
+    keeper.MANAGERS, keeper.MANAGED, keeper.PATIENCE = folder, (folder + "/systemd-run", *keeper.MANAGED[1:]), 4
+    words = "keeper --hold ring --socket /sock "
+    compare("where there is no systemd", [words], begun_by(folder, "exit 1"))
+    os.makedirs(own + "/systemd")
+    with open(own + "/systemd/private", "w", encoding="ascii"):
+        pass
+    scope = '[ "$*" = "--user --scope --quiet --collect -- $6 --hold ring --socket /sock" ] || exit 1'
+    compare("by systemd", ["manager", words + own], begun_by(folder, f'{scope}\nshift 5\nexec "$@"'))
+    compare("one that fails", ["manager", words], begun_by(folder, "exit 1"))
+    compare("one that hangs", ["manager", words], begun_by(folder, "exec sleep 30"))
+    if os.geteuid() == 0:
+        os.chmod(folder, 0o777)
+        os.rename(own, f"{folder}/4001")
+        compare("another user's", [words], begun_by(folder, f'{scope}\nshift 5\nexec "$@"', 4001))
+
+
 def asks_of_put():
     """What a locker asks to keep an entry where there is no keyring yet, but of contexts and sessions."""
     asked = []
 
     def serve(end):
-        for version, tag, name, values in end.asks():
+        for tag, name, values in end.asks():
             asked.append((name, *(value for value in values if isinstance(value, (int, bytes)))))
             is_refused = name == "SEARCH"
-            refused = reply(version, tag, b"", errno.ENOKEY)
-            end.socket.sendall(refused if is_refused else reply(version, tag, plain(name, [])))
+            refused = reply(tag, b"", errno.ENOKEY)
+            end.socket.sendall(refused if is_refused else reply(tag, plain(name, [])))
 
     with served(serve) as path:
         os.environ["KEYRETAIN_SOCKET"] = path
@@ -87,5 +128,6 @@ with tempfile.TemporaryDirectory(prefix="keyretain.") as folder:
     compare("a keeper that has answered, and is stopped", "held", held(folder, "echo 5:ring"))
     compare("one that is stopped without a word", "TimeoutError", held(folder, ":"))
     compare("neither takes long", True, time.monotonic() - begun < 10)
+    try_managed(folder)
 try_order()
 conclude()

@@ -23,7 +23,7 @@ FAULTS = [*(f"accept4:error={error}:when=1..3" for error in ("EAGAIN", "ENOMEM",
           "getsockopt:error=ENOPROTOOPT:when=2..3", "poll:error=EINTR:when=1..3",
           "fcntl:error=ENOMEM:when=1"]
 passed = failed = 0
-folder = tempfile.mkdtemp(prefix="keyretain.", dir="/tmp")
+folder = tempfile.mkdtemp(prefix="keyretain.")
 
 
 def hello(uid, gid=os.getegid()):

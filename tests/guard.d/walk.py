@@ -1,5 +1,5 @@
-"""walk.py PUBLIC README FOLDERS: types README's walk of two users into a shell of each, by the uids 1000 and 1001, and compares
-what these print, line by line. PUBLIC is where the guard listens, in the place of the path that README names; FOLDERS
+"""walk.py PUBLIC PAGE FOLDERS: types the walk of two users of keyretain-guard(8), which is PAGE, into a shell of each, by
+the uids 1000 and 1001, and compares what these print, line by line. PUBLIC stands for the path that it names; FOLDERS
 have the programs, as a PATH. Run by root. Prints a line for each difference, and last how many were compared."""
 import os
 import pty
@@ -11,7 +11,7 @@ import sys
 sys.path.insert(0, os.path.join(os.path.dirname(os.path.abspath(__file__)), "../clients.d"))
 from compare import compare, conclude
 
-public, readme, folders = sys.argv[1:]
+public, page, folders = sys.argv[1:]
 PATIENCE = 20
 
 
@@ -49,8 +49,8 @@ class Shell:
         return (self.said + (self.process.stdout.read() or b"")).decode()
 
 
-with open(readme, encoding="utf-8") as file:
-    walk = next(it for it in re.findall(r"^```console\n(.*?)^```$", file.read(), re.M | re.S) if "bob$" in it)
+with open(page, encoding="utf-8") as file:
+    walk = next(it for it in re.findall(r"^\.Bd -literal\n(.*?)^\.Ed$", file.read(), re.M | re.S) if "bob$" in it)
 shells = {"alice": Shell(1000), "bob": Shell(1001)}
 who = []
 for line in walk.splitlines():

@@ -315,7 +315,8 @@ given() {
 }
 
 report() {
-  sed 's/[[:space:]]\+/ /g; s/ $//; /^SigIgn/s/0000000180000000/0000000000000000/' "$dir/given"
+  # signals 32 and 33 are the C library's own, and nobody can have them be as at first: make(1) has them ignored
+  sed 's/[[:space:]]\+/ /g; s/ $//; /^SigIgn/s/0000000\(08\|10\|18\)0000000/0000000000000000/' "$dir/given"
 }
 
 try_given() {
@@ -333,8 +334,9 @@ try_given() {
 # As long as the application's memory runs as the user nobody's signal reaches it, and none has it written to a file.
 try_no_core() {
   local log_in=(strace -f -qq -e 'trace=setresuid,prctl,rt_sigprocmask,execve' -o "$dir/trace" "$dir/login") pid
-  if ! strace -f -qq -o /dev/null true 2>/dev/null; then
-    skipped 'what is called before a keeper is executed: no strace(1)'
+  # who isn't root may not read the words of a process that isn't dumpable
+  if [ "$(id -u)" != 0 ] || ! strace -f -qq -o /dev/null true 2>/dev/null; then
+    skipped 'what is called before a keeper is executed: not root, or no strace(1)'
     return
   fi
   ASAN_OPTIONS=detect_leaks=0 logs_in one open close >/dev/null

@@ -3,11 +3,10 @@ import os
 import struct
 import sys
 
-sys.path.insert(0, os.path.join(os.path.dirname(os.path.abspath(__file__)), "../../clients/python"))
-import keyretain
-from keyretain import encode_ask, frame
+sys.path.insert(0, os.path.join(os.path.dirname(os.path.abspath(__file__)), "../clients.d"))
+from versions import decode_reply, encode_ask, frame, keyretain
 
-HELLO = keyretain.encode_ask("HELLO", 0, (1000, 1000, ()))
+HELLO = encode_ask("HELLO", 0, (1000, 1000, ()))
 
 
 def text(of):
@@ -76,7 +75,7 @@ def status_without_context(operation, fields):
 def is_reply(operation, got, version=1, tag=None):
     """Whether these bytes are just one reply to this operation, with this tag."""
     try:
-        found = keyretain.decode_reply(got, version)
+        found = decode_reply(got, version)
         if found is None or found.length != len(got) or found.tag != tag:
             return False
         keyretain.answer_of(ASKS[operation].name, found)

@@ -97,6 +97,33 @@ try_few_files() {
   is_served 'few files' 14
 }
 
+# are_others_shown MODE PROGRAM WANTED: whether a daemon's memory is shown to its uid, where its program has this mode. What
+# setpriv itself executes is executed with its capabilities, and so can be read.
+are_others_shown() {
+  local as='setpriv --reuid 65534 --regid 65534 --clear-groups' program=$dir/of-mode-$1 keyretaind=$dir/as-nobody
+  install -m "$1" "$2" "$program"
+  # shellcheck disable=SC2016 # the shell that is executed expands these
+  printf '#!%s\nexec %s sh -c %q %q "$@"\n' "$BASH" "$as" 'exec "$0" "$@"' "$program" >"$keyretaind"
+  chmod 755 "$keyretaind"
+  runs=$((runs + 1))
+  start_on "$dir/nobody/$1.sock"
+  is "a daemon of mode $1: its memory, to its uid" "$3" \
+    "$($as sh -c "read -r line </proc/$daemon/maps && echo shown || echo hidden" 2>/dev/null)"
+  kill_daemon KILL
+}
+
+# The mode that make install gives the daemon hides it from all but root.
+try_others() {
+  if [ "$(id -u)" != 0 ] || ! command -v setpriv >/dev/null; then
+    skipped "who is shown the daemon's memory: not root, or no setpriv"
+    return
+  fi
+  chmod 711 "$dir"
+  install -d -o 65534 -g 65534 "$dir/nobody"
+  are_others_shown 755 "$keyretaind" shown
+  are_others_shown 711 "$keyretaind" hidden
+}
+
 # Keyrings that are nested crosswise are walked each once, whatever the number of ways to them.
 try_crosswise() {
   start

@@ -14,7 +14,7 @@ class Client(keyretain.Client):
     """A connection, and its context."""
 
     def __init__(self, uid):
-        super().__init__(sys.argv[1], 1, SOON)
+        super().__init__(sys.argv[1], SOON)
         self.context = self.hello(uid, uid)
 
     def keyring(self, name, ring):

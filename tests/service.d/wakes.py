@@ -17,7 +17,7 @@ class Client(keyretain.Client):
     """A connection, and its context."""
 
     def __init__(self):
-        super().__init__(sys.argv[1], 1, SOON)
+        super().__init__(sys.argv[1], SOON)
         self.context = self.hello(1000, 1000)
 
     def make_rings(self):

@@ -16,13 +16,13 @@
 #include "../clients.d/check.h"
 #include "calls.h"
 #include "connection.h"
+#include "maps.h"
 #include "proc.h"
 #include "syscalls.h"
 #include "tracees.h"
 
 enum { NUMBER = 100, THREAD = 200, MOST_DESCRIPTORS = 256 };
 
-static const struct tracees_wish wish = { .thread = true, .keyring = true };
 static char *shared_byte; /* at one address in all processes, and each has its own */
 static pid_t successor;
 
@@ -61,6 +61,14 @@ static char byte_of(pid_t process) {
     return byte;
 }
 
+/* As for a call that names the thread keyring. */
+static bool enter(pid_t thread, bool (*is_valid)(void)) {
+    const unsigned long given[KEY_ARGUMENTS] = { (unsigned long)(long)KEY_SPEC_THREAD_KEYRING };
+    return tracees_enter(thread, key_row_of(KEYCTL_GET_KEYRING_ID), given, is_valid);
+}
+
+static const struct memory *entered_memory(void) { return &tracees_entered()->memory; }
+
 static long ask(int command, unsigned long one, unsigned long two) {
     struct arguments arguments = { { one, two } };
     return key_call(command, arguments);
@@ -81,34 +89,34 @@ static int count_descriptors(void) {
 static void try_validity(void) {
     pid_t child = begin_child();
     int descriptors = count_descriptors();
-    check("a notification that waits no more is not answered", !tracees_enter(child, wish, never));
+    check("a notification that waits no more is not answered", !enter(child, never));
     check("and nothing of its thread stays open", count_descriptors() == descriptors);
-    check("one that waits is", tracees_enter(child, wish, always));
+    check("one that waits is", enter(child, always));
     check("nothing is written for one that waits no more",
-          !memory_write(tracees_memory(), (unsigned long)shared_byte, "x", 1, never) && byte_of(child) == 'a');
+          !memory_write(entered_memory(), (unsigned long)shared_byte, "x", 1, never) && byte_of(child) == 'a');
     check("something is for one that waits",
-          memory_write(tracees_memory(), (unsigned long)shared_byte, "x", 1, always) && byte_of(child) == 'x');
+          memory_write(entered_memory(), (unsigned long)shared_byte, "x", 1, always) && byte_of(child) == 'x');
     tracees_leave();
     descriptors = count_descriptors();
-    check("one that has asked before is", tracees_enter(child, wish, always));
+    check("one that has asked before is", enter(child, always));
     tracees_leave();
     check("and nothing more stays open", count_descriptors() == descriptors);
     end_child(child);
 }
 
-/* Where the kernel tells what can be written, a stranger is never written to. */
+/* A stranger is never written to, though it has the number of who waited just before. */
 static void try_stranger(void) {
     pid_t child = begin_child();
-    check("a thread enters", tracees_enter(child, wish, always));
-    memory_write(tracees_memory(), (unsigned long)shared_byte, "x", 1, replaced);
+    check("a thread enters", enter(child, always));
+    memory_write(entered_memory(), (unsigned long)shared_byte, "x", 1, replaced);
     check("who gets the number is not written to", byte_of(successor) == 'a');
     tracees_leave();
     end_child(successor);
     child = begin_child();
     char read = '?';
-    check("a thread enters again", tracees_enter(child, wish, always));
+    check("a thread enters again", enter(child, always));
     replaced();
-    check("nor read", !memory_read(tracees_memory(), &read, (unsigned long)shared_byte, 1));
+    check("nor read", !memory_read(entered_memory(), &read, (unsigned long)shared_byte, 1));
     tracees_leave();
     end_child(successor);
 }
@@ -117,7 +125,7 @@ static void try_stranger(void) {
 static void try_reuse(void) {
     long first = 0, joined = 0;
     pid_t child = begin_child();
-    if (check("a thread enters", tracees_enter(child, wish, always))) {
+    if (check("a thread enters", enter(child, always))) {
         first = ring(KEY_SPEC_SESSION_KEYRING, 0);
         joined = ask(KEYCTL_JOIN_SESSION_KEYRING, 0, 0);
         check("it joins a session", joined > 0 && joined != first);
@@ -126,33 +134,36 @@ static void try_reuse(void) {
     }
     end_child(child);
     child = begin_child();
-    if (check("another thread of the number enters", tracees_enter(child, wish, always))) {
-        check("it has not the session of the one before", refused(ring(KEY_SPEC_SESSION_KEYRING, 0), EKEYREVOKED));
+    if (check("another thread of the number enters", enter(child, always))) {
+        check("it has not the session of the one before", ring(KEY_SPEC_SESSION_KEYRING, 0) != joined);
         check("it has no process keyring", refused(ring(KEY_SPEC_PROCESS_KEYRING, 0), ENOKEY));
         tracees_leave();
     }
     end_child(child);
 }
 
-/* The notification waited when it was asked, and just then the process is killed, and its number another's in a session
- * that has been joined. */
+/* The notification waited when it was asked first, and just then the process is killed, and its number another's in a
+ * session that has been joined. */
 static struct rlimit tag;
+static bool has_waited;
 
 static bool replaced_in_session(void) {
+    if (has_waited) return false;
+    has_waited = true;
     return replaced() && prlimit(successor, RLIMIT_LOCKS, &tag, NULL) == 0;
 }
 
 static void try_session_of_stranger(void) {
     long joined = 0;
     pid_t child = begin_child();
-    if (check("a thread enters", tracees_enter(child, wish, always))) {
+    if (check("a thread enters", enter(child, always))) {
         joined = ask(KEYCTL_JOIN_SESSION_KEYRING, 0, 0);
         check("it joins a session", joined > 0 && prlimit(child, RLIMIT_LOCKS, NULL, &tag) == 0);
         tracees_leave();
     }
     end_child(child);
     child = begin_child();
-    if (check("another enters, whose number a third one gets", tracees_enter(child, wish, replaced_in_session))) {
+    if (check("another enters, whose number a third one gets", enter(child, replaced_in_session))) {
         check("it has not the session of that one", ring(KEY_SPEC_SESSION_KEYRING, 0) != joined);
         tracees_leave();
     }
@@ -193,12 +204,12 @@ static void try_thread_reuse(void) {
     struct clone_args arguments = { .exit_signal = SIGCHLD, .set_tid = (uintptr_t)&number, .set_tid_size = 1 };
     pid_t child = (pid_t)syscall(SYS_clone3, &arguments, sizeof arguments);
     if (child == 0) have_threads();
-    if (check("a thread begins", has_begun()) && check("it enters", tracees_enter(THREAD, wish, always))) {
+    if (check("a thread begins", has_begun()) && check("it enters", enter(THREAD, always))) {
         check("it has a thread keyring", ring(KEY_SPEC_THREAD_KEYRING, 1) > 0);
         tracees_leave();
     }
     check("it ends", write(orders[1], "e", 1) == 1);
-    if (check("another of its number begins", has_begun()) && tracees_enter(THREAD, wish, always)) {
+    if (check("another of its number begins", has_begun()) && enter(THREAD, always)) {
         check("it has no thread keyring", refused(ring(KEY_SPEC_THREAD_KEYRING, 0), ENOKEY));
         tracees_leave();
     }
@@ -210,41 +221,44 @@ static void try_replay(void) {
     struct replay replay = { 0 };
     const struct seccomp_data call = { .nr = SYS_add_key, .instruction_pointer = 0x1000, .args = { 1, 2, 3, 4, 5 } };
     struct seccomp_data elsewhere = call, otherwise = call;
+    struct admission_process caller = { .uids = { 33, 0, 0, 0 } }, another = { .uids = { 33, 33, 0, 33 } };
     long result = 0;
     elsewhere.instruction_pointer++;
     otherwise.args[4]++;
-    check("nothing is kept at first", !replay_take(&replay, &call, 7, &result));
-    replay_keep(&replay, &call, 7, -1, EDQUOT);
+    check("nothing is kept at first", !replay_take(&replay, &call, &caller, 7, &result));
+    replay_keep(&replay, &call, &caller, 7, -1, EDQUOT);
     errno = 0;
-    check("what is kept is given", replay_take(&replay, &call, 7, &result) && refused(result, EDQUOT));
-    check("once", !replay_take(&replay, &call, 7, &result));
-    replay_keep(&replay, &call, 7, 9, 0);
-    check("not for another payload", !replay_take(&replay, &call, 8, &result));
-    check("and not at all after that", !replay_take(&replay, &call, 7, &result));
-    replay_keep(&replay, &call, 7, 9, 0);
+    check("what is kept is given", replay_take(&replay, &call, &caller, 7, &result) && refused(result, EDQUOT));
+    check("once", !replay_take(&replay, &call, &caller, 7, &result));
+    replay_keep(&replay, &call, &caller, 7, 9, 0);
+    check("not for another payload", !replay_take(&replay, &call, &caller, 8, &result));
+    check("and not at all after that", !replay_take(&replay, &call, &caller, 7, &result));
+    replay_keep(&replay, &call, &caller, 7, 9, 0);
     replay.until = kr_now() - 1;
-    check("not after its time", !replay_take(&replay, &call, 7, &result));
-    replay_keep(&replay, &call, 7, 9, 0);
-    check("not from another place", !replay_take(&replay, &elsewhere, 7, &result));
-    replay_keep(&replay, &call, 7, 9, 0);
-    check("not for other arguments", !replay_take(&replay, &otherwise, 7, &result));
+    check("not after its time", !replay_take(&replay, &call, &caller, 7, &result));
+    replay_keep(&replay, &call, &caller, 7, 9, 0);
+    check("not from another place", !replay_take(&replay, &elsewhere, &caller, 7, &result));
+    replay_keep(&replay, &call, &caller, 7, 9, 0);
+    check("not for other arguments", !replay_take(&replay, &otherwise, &caller, 7, &result));
+    replay_keep(&replay, &call, &caller, 7, 9, 0);
+    check("not for who has other ids", !replay_take(&replay, &call, &another, 7, &result));
     check("payloads are told apart", replay_sum(1, "a", 2) != replay_sum(1, "b", 2));
 }
 
 /* user_namespaces(7): an id that has none in the namespace is seen there as 65534. */
 static void try_maps(void) {
-    const struct proc_map map = { .count = 2, .ranges = { { 0, 100000, 1000 }, { 5000, 7, 1 } } };
-    check("the first of a range", proc_to_inside(&map, 100000) == 0);
-    check("the last of it", proc_to_inside(&map, 100999) == 999);
-    check("another range", proc_to_inside(&map, 7) == 5000);
-    check("ids beside the ranges", proc_to_inside(&map, 101000) == 65534 && proc_to_inside(&map, 99999) == 65534 &&
-          proc_to_inside(&map, 0) == 65534 && proc_to_inside(&map, 8) == 65534);
+    const struct map map = { .count = 2, .ranges = { { 0, 100000, 1000 }, { 5000, 7, 1 } } };
+    check("the first of a range", map_to_inside(&map, 100000, 65534) == 0);
+    check("the last of it", map_to_inside(&map, 100999, 65534) == 999);
+    check("another range", map_to_inside(&map, 7, 65534) == 5000);
+    check("ids beside the ranges", map_to_inside(&map, 101000, 65534) == 65534 &&
+          map_to_inside(&map, 99999, 65534) == 65534 && map_to_inside(&map, 0, 65534) == 65534 &&
+          map_to_inside(&map, 8, 65534) == 65534);
 }
 
-int main(int count, char **words) {
+int main(void) {
     struct tracees_settings settings = { 0 };
     int epoll = epoll_create1(EPOLL_CLOEXEC);
-    (void)words;
     kr_own_identity(&settings.identity);
     shared_byte = mmap(NULL, 1, PROT_READ | PROT_WRITE, MAP_PRIVATE | MAP_ANONYMOUS, -1, 0);
     if (shared_byte == MAP_FAILED || epoll < 0) return 2;
@@ -253,7 +267,7 @@ int main(int count, char **words) {
     try_replay();
     try_maps();
     try_validity();
-    if (count == 1) try_stranger();
+    try_stranger();
     try_reuse();
     try_session_of_stranger();
     try_thread_reuse();

@@ -16,7 +16,7 @@
 
 enum { MOST = 1000, SECONDS = 60, LOOK_MICROSECONDS = 20000 };
 enum { PAGE = 4096, LONG_PAYLOAD = 32000, FIRST_OTHER = 1000 };
-enum { POSSESSOR_ALL = 0x3f000000, EVERYBODY_ALL = 0x3f3f3f3f, GROUP_READ = 0x00000200, NOBODY = 65534 };
+enum { POSSESSOR_ALL = 0x3f000000, EVERYBODY_ALL = 0x3f3f3f3f, GROUP_READ = 0x00000200, NOBODY = 4105 };
 
 struct answer {
     long value;
@@ -183,7 +183,7 @@ static int join_in_sequence(int count) {
 }
 
 /* A chain of children, of which none has asked. The last says which session it has after its first ancestor has joined
- * another, which gets no tag, as its hard limit is too low for that. */
+ * another, which gets no tag, as its hard limit is too low for that: then the nearest above tells. */
 static void fork_chain(int count) {
     while (count > 0 && fork() == 0) count--;
     if (count == 0) {
@@ -207,10 +207,10 @@ static int fork_deep(int count) {
         take();
         long joined = join(NULL);
         close(gates[1]);
-        _exit(joined > 0 && joined != session && take().value == session ? 0 : 1);
+        _exit(joined > 0 && joined != session && take().value == joined ? 0 : 1);
     }
     close(gates[1]);
-    puts(status_of(child) == 0 ? "the old session" : "another session");
+    puts(status_of(child) == 0 ? "that of the nearest above" : "another session");
     return 0;
 }
 
@@ -478,26 +478,30 @@ static void describe(int id, unsigned *owner, unsigned *mask) {
     if (sscanf(text, "keyring;%u;%*u;%x;", owner, mask) != 2) exit(2);
 }
 
-/* The uid that the user keyring has, after the file system's uid was changed to this one. */
-static int print_owner(uid_t uid) {
+/* The uid that the user keyring has, after the file system's uid was changed to this one, or the real one. */
+static int print_owner(uid_t uid, bool is_real) {
     unsigned owner, mask;
-    setfsuid(uid);
+    if (!is_real)
+        setfsuid(uid);
+    else if (setreuid(uid, (uid_t)-1) < 0)
+        return 2;
     describe(KEY_SPEC_USER_KEYRING, &owner, &mask);
     return printf("%u\n", owner) < 0;
 }
 
-/* A process that has a process keyring asks as so many others too, each of whom has a user keyring, and comes back. */
+/* A process that has a process keyring asks as so many others too, each of whom has a user keyring and, as it can be
+ * another, no session; and it comes back. */
 static int be_many(int count) {
     long ring = ring_of(KEY_SPEC_PROCESS_KEYRING, 1);
     int served = 0;
     for (int i = 0; i < count; i++) {
         const uid_t uid = FIRST_OTHER + (uid_t)i;
         unsigned owner, mask;
-        setfsuid(uid);
+        if (setresuid(uid, uid, 0) < 0) return 2;
         describe(KEY_SPEC_USER_KEYRING, &owner, &mask);
-        served += owner == uid && ring_of(KEY_SPEC_SESSION_KEYRING, 0) > 0;
+        served += owner == uid && ring_of(KEY_SPEC_SESSION_KEYRING, 0) < 0 && errno == EKEYREVOKED;
+        if (setresuid(0, 0, 0) < 0) return 2;
     }
-    setfsuid(geteuid());
     bool is_kept = ring > 0 && ring_of(KEY_SPEC_PROCESS_KEYRING, 0) == ring;
     return printf("%d served, the process keyring %s\n", served, is_kept ? "kept" : "lost") < 0;
 }
@@ -574,7 +578,7 @@ static int give_to_parent(const char *how) {
     long after = ring_of(KEY_SPEC_SESSION_KEYRING, 0);
     status_of(child);
     printf("%s, %s\n", answer.value > 0 ? "given" : answer.error == EPERM ? "EPERM" : "another error",
-           after == before ? "as before" : after == answer.value ? "the child's" : "another");
+           after == before ? "as before" : after < 0 ? "lost" : after == answer.value ? "the child's" : "another");
     fflush(stdout);
     _exit(0);
 }
@@ -603,9 +607,16 @@ static void become_nobody(void) {
         _exit(2);
 }
 
-/* Whether a session is this one, or is none that can be used. */
+/* The serial of the session, or 0 where the user-session keyring is in its place. */
+static long own_session(void) {
+    long session = ring_of(KEY_SPEC_SESSION_KEYRING, 0);
+    return session > 0 && session == ring_of(KEY_SPEC_USER_SESSION_KEYRING, 0) ? 0 : session;
+}
+
+/* Whether a session is this one, or none, or is none that can be used. */
 static int tell_session(struct answer found, long wanted) {
     return puts(found.value == wanted                              ? "the same"
+                : found.value == 0                                 ? "the user's"
                 : found.value < 0 && found.error == EKEYREVOKED ? "lost"
                                                                    : "another") < 0;
 }
@@ -618,7 +629,7 @@ static int join_late(void) {
         become_nobody();
         give(0);
         wait_at_gate();
-        give(ring_of(KEY_SPEC_SESSION_KEYRING, 0));
+        give(own_session());
         _exit(0);
     }
     take();
@@ -639,7 +650,7 @@ static int leave_to_other(void) {
         if (fork() == 0) {
             become_nobody();
             while (getppid() == parent) usleep(LOOK_MICROSECONDS);
-            give(ring_of(KEY_SPEC_SESSION_KEYRING, 0));
+            give(own_session());
         } else {
             give(joined);
         }
@@ -657,7 +668,7 @@ static int become_other(void) {
     if (joined < 0) return 2;
     if (fork() == 0) {
         become_nobody();
-        give(ring_of(KEY_SPEC_SESSION_KEYRING, 0));
+        give(own_session());
         _exit(0);
     }
     return tell_session(take(), joined);
@@ -681,28 +692,50 @@ static void copy_tag(pid_t process) {
     if (soft == 0 || !set_soft_limit(soft)) _exit(2);
 }
 
-/* Another user's process takes the tag of one that has joined a session of its own, for a child; or of a program that
- * runs set-uid, which that user has started. */
-static int take_others_tag(bool is_set_uid) {
-    pid_t other = getpid();
-    begin();
+/* Another user's process takes the tag of one that has joined a session, for a child. */
+static void take_tag(pid_t other) {
+    become_nobody();
+    give(0);
+    wait_at_gate();
+    copy_tag(other);
     if (fork() == 0) {
-        become_nobody();
-        give(0);
-        wait_at_gate();
-        copy_tag(other);
-        if (fork() == 0) {
-            give(ring_of(KEY_SPEC_SESSION_KEYRING, 0));
-            _exit(0);
-        }
-        wait(NULL);
+        give(ring_of(KEY_SPEC_SESSION_KEYRING, 0));
         _exit(0);
     }
+    wait(NULL);
+    _exit(0);
+}
+
+static int take_others_tag(void) {
+    pid_t other = getpid();
+    begin();
+    if (fork() == 0) take_tag(other);
     take();
-    long joined = is_set_uid && setresuid(NOBODY, 0, 0) < 0 ? -1 : join(NULL);
+    long joined = join(NULL);
     if (joined < 0) return 2;
     close(gates[1]);
     return puts(take().value == joined ? "let in" : "kept out") < 0;
+}
+
+/* The same of a program that runs set-uid, which that user has started. */
+static int take_set_uid_tag(const char *file) {
+    char number[16];
+    begin();
+    snprintf(number, sizeof number, "%d", answers[1]);
+    pid_t program = fork();
+    if (program == 0) {
+        close(gates[1]);
+        become_nobody();
+        execl(file, "tree", "joins", number, (char *)NULL);
+        _exit(2);
+    }
+    long joined = take().value;
+    if (fork() == 0) take_tag(program);
+    take();
+    close(gates[1]);
+    int status = joined <= 0 ? 2 : puts(take().value == joined ? "let in" : "kept out") < 0;
+    kill(program, SIGKILL);
+    return status;
 }
 
 /* ---- What a process finds below it that it hasn't forked since ---- */
@@ -806,13 +839,11 @@ static int log_in(bool is_real) {
     if (fork() == 0) {
         uid_t same = (uid_t)-1;
         long joined = (is_real ? setreuid(NOBODY, same) : seteuid(NOBODY)) == 0 ? join(NULL) : -1;
-        if (joined < 0 || (is_real ? setreuid(0, same) : seteuid(0)) < 0 ||
-            ring_of(KEY_SPEC_SESSION_KEYRING, 0) != joined)
-            _exit(2);
+        if (joined < 0 || (is_real ? setreuid(0, same) : seteuid(0)) < 0) _exit(2);
         if (fork() == 0) {
             become_nobody();
             give(joined);
-            give(ring_of(KEY_SPEC_SESSION_KEYRING, 0));
+            give(own_session());
         }
         wait(NULL);
         _exit(0);
@@ -836,10 +867,210 @@ static int take_name(const char *name, uid_t uid, char **words) {
     return 2;
 }
 
+/* The name and the owner of the session's keyring. */
+static int print_whose(void) {
+    char text[4200] = "", name[64] = "";
+    unsigned owner = 0;
+    keyctl(KEYCTL_DESCRIBE, (unsigned long)(long)KEY_SPEC_SESSION_KEYRING, (unsigned long)text, sizeof text - 1, 0);
+    if (sscanf(text, "keyring;%u;%*u;%*x;%63s", &owner, name) != 2) return puts(strerror(errno)) < 0;
+    return printf("%s %u\n", name, owner) < 0;
+}
+
+/* Executes words in a session of its own. */
+static int execute_in_session(char **words) {
+    if (join(NULL) > 0) execvp(*words, words);
+    return 2;
+}
+
 static int print_mask(void) {
     unsigned owner, mask;
     describe(KEY_SPEC_SESSION_KEYRING, &owner, &mask);
     return printf("%08x\n", mask) < 0;
+}
+
+/* ---- Root's keys, and logins ---- */
+
+static int put_for_user(const char *payload) {
+    return printf("%ld\n", add_key("user", "of root", payload, strlen(payload), KEY_SPEC_USER_KEYRING)) < 0;
+}
+
+static const char *error_name(void) {
+    return errno == EACCES ? "EACCES" : errno == EKEYREVOKED ? "EKEYREVOKED" : strerror(errno);
+}
+
+static int print_read(long serial) {
+    char payload[64] = "";
+    return puts(read_key(serial, payload, sizeof payload - 1) > 0 ? payload : error_name()) < 0;
+}
+
+/* As pam_keyinit(8) does in a login: with the user's real ids and root's effective ones. A child becomes the user; then
+ * the session is revoked. */
+static int init_keyrings(void) {
+    unsigned owner, mask;
+    long key = add_key("user", "of root", "x", 1, KEY_SPEC_USER_KEYRING);
+    if (key < 0 || setregid(NOBODY, (gid_t)-1) < 0 || setreuid(NOBODY, (uid_t)-1) < 0) return 2;
+    const unsigned long user = (unsigned long)(long)KEY_SPEC_USER_KEYRING,
+                        session = (unsigned long)(long)KEY_SPEC_SESSION_KEYRING;
+    long joined = join(NULL);
+    printf("%s, ", joined > 0 ? "joined" : error_name());
+    printf("%s, ", keyctl(KEYCTL_LINK, user, session, 0, 0) == 0 ? "linked" : error_name());
+    fflush(stdout);
+    if (setreuid(0, (uid_t)-1) < 0 || setregid(0, (gid_t)-1) < 0) return 2;
+    pid_t child = fork();
+    if (child == 0) {
+        char text[4200] = "", name[64] = "", byte;
+        become_nobody();
+        keyctl(KEYCTL_DESCRIBE, (unsigned long)(long)KEY_SPEC_SESSION_KEYRING, (unsigned long)text, sizeof text - 1, 0);
+        sscanf(text, "keyring;%u;%*u;%*x;%63s", &owner, name);
+        printf("%s %u, ", name, owner);
+        describe(KEY_SPEC_USER_KEYRING, &owner, &mask);
+        printf("the user keyring %u, %s, ", owner, read_key(key, &byte, 1) > 0 ? "root's key" : error_name());
+        fflush(stdout);
+        _exit(0);
+    }
+    status_of(child);
+    if (setregid(NOBODY, (gid_t)-1) < 0 || setreuid(NOBODY, (uid_t)-1) < 0) return 2;
+    return puts(keyctl(KEYCTL_REVOKE, (unsigned long)joined, 0, 0, 0) == 0 ? "revoked" : error_name()) < 0;
+}
+
+/* ---- Set-uid programs ---- */
+
+/* Root's process is in a session of its own; below it a user executes a set-uid program, which asks, and becomes the
+ * user again; with the tag of root's, if that is wanted. */
+static int have_deputy(const char *file, bool copies) {
+    char number[16];
+    pid_t other = getpid();
+    begin();
+    long joined = join(NULL);
+    if (joined < 0) return 2;
+    if (fork() == 0) {
+        become_nobody();
+        if (copies) copy_tag(other);
+        close(gates[1]);
+        snprintf(number, sizeof number, "%d", answers[1]);
+        execl(file, "tree", "acts", number, (char *)NULL);
+        _exit(2);
+    }
+    struct answer first = take(), then = take();
+    printf("%s, then %s\n", first.value == joined ? "root's" : (errno = first.error, error_name()),
+           then.value == joined ? "root's" : then.value == 0 ? "none" : "another");
+    return 0;
+}
+
+static pid_t joined;
+
+static int keep_memory(void *unused) {
+    (void)unused;
+    while (getppid() == joined) usleep(LOOK_MICROSECONDS);
+    _exit(0);
+}
+
+/* The same where the user has joined a session before, and another process has the memory that it had then. */
+static int have_joined_deputy(const char *file) {
+    static char stack[16 * PAGE], number[16];
+    begin();
+    if ((joined = fork()) == 0) {
+        become_nobody();
+        joined = getpid();
+        snprintf(number, sizeof number, "%d", answers[1]);
+        if (join(NULL) < 0 || clone(keep_memory, stack + sizeof stack, CLONE_VM, NULL) < 0) _exit(2);
+        execl(file, "tree", "acts", number, (char *)NULL);
+        _exit(2);
+    }
+    struct answer first = take(), then = take();
+    printf("%s, then %s\n", first.value > 0 ? "its user's" : (errno = first.error, error_name()),
+           then.value > 0 ? "its user's" : "none");
+    return 0;
+}
+
+static int act(int to) {
+    answers[1] = to;
+    errno = 0;
+    give(ring_of(KEY_SPEC_SESSION_KEYRING, 0));
+    if (setresuid(getuid(), getuid(), getuid()) < 0) return 2;
+    give(own_session());
+    return 0;
+}
+
+/* A program of a user that isn't dumpable joins a session, and another of the same user copies its tag. */
+static int be_untraceable(void) {
+    char number[16];
+    pid_t other = getpid();
+    begin();
+    become_nobody();
+    if (prctl(PR_SET_DUMPABLE, 0, 0, 0, 0) < 0) return 2;
+    if (fork() == 0) {
+        wait_at_gate();
+        copy_tag(other);
+        snprintf(number, sizeof number, "%d", answers[1]);
+        execl("/proc/self/exe", "tree", "acts", number, (char *)NULL);
+        _exit(2);
+    }
+    long joined = join(NULL);
+    close(gates[1]);
+    return puts(joined > 0 && take().value != joined ? "kept out" : "let in") < 0;
+}
+
+/* A program joins a session of this name, and another of the same user, in its own, links that. */
+static int link_session(const char *name) {
+    begin();
+    if (fork() == 0) {
+        give(join(name));
+        wait_at_gate();
+        _exit(0);
+    }
+    long joined = take().value, here = KEY_SPEC_SESSION_KEYRING;
+    long linked = keyctl(KEYCTL_LINK, (unsigned long)joined, (unsigned long)here, 0, 0);
+    return puts(joined < 0 ? "none" : linked == 0 ? "linked" : error_name()) < 0;
+}
+
+/* ---- Identities that come and go ---- */
+
+/* Children, each of another uid, that ask; all at one time, or one after the other. Then root does. */
+static int be_others(int count, bool at_one_time) {
+    int served = 0;
+    begin();
+    for (int i = 0; i < count; i++) {
+        pid_t child = fork();
+        if (child == 0) {
+            uid_t uid = 100000 + (uid_t)i;
+            if (setgroups(0, NULL) < 0 || setresgid(uid, uid, uid) < 0 || setresuid(uid, uid, uid) < 0) _exit(2);
+            give(join(NULL));
+            if (at_one_time) wait_at_gate();
+            _exit(0);
+        }
+        served += take().value > 0;
+        if (!at_one_time) status_of(child);
+    }
+    close(gates[1]);
+    while (wait(NULL) > 0) continue;
+    return printf("%d served, then %s\n", served, add_key("user", "k", "x", 1, KEY_SPEC_SESSION_KEYRING) > 0 ? "root"
+                                                                                        : error_name()) < 0;
+}
+
+/* ---- Joins beside others ---- */
+
+static int join_beside(int count, const char *ready, const char *go) {
+    int joined = 0;
+    begin();
+    for (int i = 0; i < count; i++)
+        if (fork() == 0) {
+            wait_at_gate();
+            _exit(0);
+        }
+    if (ring_of(KEY_SPEC_SESSION_KEYRING, 0) < 0 || fclose(fopen(ready, "w")) != 0) return 2;
+    while (access(go, F_OK) < 0) usleep(LOOK_MICROSECONDS);
+    for (int i = 0; i < 20; i++) joined += join(NULL) > 0;
+    printf("%d joined\n", joined);
+    fflush(stdout);
+    close(gates[1]);
+    return 0;
+}
+
+static int join_named(const char *name, long wanted, int often) {
+    int found = 0;
+    for (int i = 0; i < often; i++) found += join(name) == wanted;
+    return puts(found ? "joined" : "never") < 0;
 }
 
 /* ---- Without descriptors ---- */
@@ -870,7 +1101,10 @@ int main(int count, char **words) {
     const char *mode = count > 1 ? words[1] : "";
     int many = count > 2 ? atoi(words[2]) : 0;
     if (strcmp(mode, "serial") == 0) return ask_serial(many);
-    if (many > MOST && strcmp(mode, "owner") != 0 && strcmp(mode, "often") != 0) return 2;
+    if (strcmp(mode, "putting") == 0 && count == 3) return put_for_user(words[2]);
+    if (many > MOST && strcmp(mode, "owner") != 0 && strcmp(mode, "often") != 0 && strcmp(mode, "read") != 0 &&
+        strcmp(mode, "others") != 0)
+        return 2;
     if (strcmp(mode, "sleep") == 0) return pause();
     if (strcmp(mode, "session") == 0) return printf("%ld\n", ring_of(KEY_SPEC_SESSION_KEYRING, 0)) < 0;
     if (strcmp(mode, "processes") == 0) return ask_in_processes(many, KEY_SPEC_SESSION_KEYRING);
@@ -898,7 +1132,7 @@ int main(int count, char **words) {
     if (strcmp(mode, "unwritten") == 0 && count == 3) return read_unwritten(words[2]);
     if (strcmp(mode, "identities") == 0) return be_many(many);
     if (strcmp(mode, "long") == 0) return ask_at_length(many);
-    if (strcmp(mode, "owner") == 0) return print_owner((uid_t)many);
+    if (strcmp(mode, "owner") == 0) return print_owner((uid_t)many, count == 4);
     if (strcmp(mode, "ignoring") == 0 && count > 2) return ignore_children(words + 2);
     if (strcmp(mode, "interrupted") == 0 && count > 2) return reset_signals(words + 2);
     if (strcmp(mode, "groups") == 0) return have_groups(many);
@@ -909,14 +1143,26 @@ int main(int count, char **words) {
     if (strcmp(mode, "left-to-other") == 0) return leave_to_other();
     if (strcmp(mode, "login") == 0) return log_in(count == 3 && strcmp(words[2], "real") == 0);
     if (strcmp(mode, "becomes-other") == 0) return become_other();
-    if (strcmp(mode, "copied") == 0) return take_others_tag(false);
-    if (strcmp(mode, "copied-set-uid") == 0) return take_others_tag(true);
+    if (strcmp(mode, "copied") == 0) return take_others_tag();
+    if (strcmp(mode, "copied-set-uid") == 0 && count == 3) return take_set_uid_tag(words[2]);
     if (strcmp(mode, "follows") == 0 && count == 3) return follow_root(strcmp(words[2], "orphan") == 0);
     if (strcmp(mode, "follows") == 0 && count == 4) return follow_set_uid(words[3], strcmp(words[2], "orphan") == 0);
     if (strcmp(mode, "joins") == 0) return join_and_give(many);
     if (strcmp(mode, "among") == 0) return join_among(many);
     if (strcmp(mode, "taken") == 0 && count > 4) return take_name(words[2], (uid_t)atol(words[3]), words + 4);
     if (strcmp(mode, "mask") == 0) return print_mask();
+    if (strcmp(mode, "read") == 0) return print_read(many);
+    if (strcmp(mode, "keyinit") == 0) return init_keyrings();
+    if (strcmp(mode, "deputy") == 0 && count > 2) return have_deputy(words[2], count > 3);
+    if (strcmp(mode, "joined-deputy") == 0 && count == 3) return have_joined_deputy(words[2]);
+    if (strcmp(mode, "acts") == 0 && count == 3) return act(many);
+    if (strcmp(mode, "untraceable") == 0) return be_untraceable();
+    if (strcmp(mode, "links") == 0) return link_session(count > 2 ? words[2] : NULL);
+    if (strcmp(mode, "others") == 0 && count == 4) return be_others(many, strcmp(words[3], "all") == 0);
+    if (strcmp(mode, "idle") == 0 && count == 5) return join_beside(many, words[3], words[4]);
+    if (strcmp(mode, "joins-named") == 0 && count == 5) return join_named(words[2], atol(words[3]), atoi(words[4]));
+    if (strcmp(mode, "whose") == 0) return print_whose();
+    if (strcmp(mode, "joining") == 0 && count > 2) return execute_in_session(words + 2);
     if (strcmp(mode, "closed") == 0) return close_all(ring_of(KEY_SPEC_SESSION_KEYRING, 0));
     return 2;
 }

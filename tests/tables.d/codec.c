@@ -1,5 +1,5 @@
 /* codec: what wire.c has, for tables.py. Without words it prints the table of asks and that of statuses; else it reads
- * lines `VERSION TAG NUMBER CONTEXT FIELD ..` and prints each ask's frame. A field is a number, or a letter and then
+ * lines `TAG NUMBER CONTEXT FIELD ..` and prints each ask's frame. A field is a number, or a letter and then
  * bytes in hexadecimal: t for text, b for a blob, g for groups, e for entries. */
 #include <stdio.h>
 #include <stdlib.h>
@@ -41,13 +41,12 @@ static struct kr_field read_field(const char *word) {
 static void encode_line(char *line) {
     static uint8_t out[KR_ASK_ROOM];
     struct kr_field fields[KR_FIELDS] = { { 0 } };
-    int version = atoi(strtok(line, " \n"));
-    uint64_t tag = strtoull(strtok(NULL, " \n"), NULL, 10);
+    uint64_t tag = strtoull(strtok(line, " \n"), NULL, 10);
     const struct kr_ask_form *form = kr_ask_form((unsigned)atoi(strtok(NULL, " \n")));
     uint32_t context = (uint32_t)strtoul(strtok(NULL, " \n"), NULL, 10);
     char *word;
     for (size_t i = 0; i < KR_FIELDS && (word = strtok(NULL, " \n")); i++) fields[i] = read_field(word);
-    size_t length = form ? kr_encode_ask(out, version, tag, form, context, fields) : 0;
+    size_t length = form ? kr_encode_ask(out, tag, form, context, fields) : 0;
     for (size_t i = 0; i < length; i++) printf("%02x", out[i]);
     puts("");
     for (size_t i = 0; i < KR_FIELDS; i++) free((void *)fields[i].items);

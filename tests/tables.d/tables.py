@@ -1,7 +1,8 @@
-"""tables.py KEYRETAIN [CODEC]: whether all that lists the asks, the commands or the errors has the rows that the
+"""tables.py KEYRETAIN [CODEC CALLS]: whether all that lists the asks, the commands or the errors has the rows that the
 programs are proved by: FORMAT.md, the manual pages, `keyretain --help` where KEYRETAIN is a program, the completion,
 the C and the Python client, the bench and its figures. Prints a line for each difference and each check that can't be
-made, and last how many were compared. CODEC is codec.c; without it the C client's table isn't compared."""
+made, and last how many were compared. CODEC is codec.c and CALLS calls.c; without them the tables of C aren't
+compared."""
 import os
 import subprocess
 import sys
@@ -10,11 +11,13 @@ sys.path.insert(0, os.path.join(os.path.dirname(os.path.abspath(__file__)), "../
 from compare import compare, conclude
 import keyretain
 
+import admission
 import documents
+import foreign
 import rows
 import vectors
 
-KEYRETAIN, CODEC = sys.argv[1], sys.argv[2] if len(sys.argv) > 2 else None
+KEYRETAIN, CODEC, CALLS = (*sys.argv[1:], None, None)[:3]
 KEYRINGS, TYPES = "@t @p @s @u @us", "user logon keyring"
 ASKS, COMMANDS = rows.asks(), rows.commands()
 
@@ -119,13 +122,18 @@ def try_help():
 # ---- Clients
 
 
+def client_statuses():
+    """The daemon's, and what the guard alone says: keyretain-guard(8), --per-uid."""
+    return {**rows.statuses(), 122: "EDQUOT"}
+
+
 def try_client(name, found, statuses):
     """`found` has number, name, fields and answer of each ask. FORMAT.md has the names, and says what a serial is."""
     table = {number: (matched[1], "serial" if answer == "serial" else documents.ANSWERS.get(answer))
              for number, matched, _, answer, _ in documents.format_table()}
     compare_all(name, by_number((ask.number, table[ask.number][0], ask.fields, table[ask.number][1])
                                 if ask.number in table else (ask.number,) for ask in ASKS), by_number(found))
-    compare_all(f"{name}, errors", rows.statuses(), statuses)
+    compare_all(f"{name}, errors", client_statuses(), statuses)
 
 
 def try_python():
@@ -144,11 +152,36 @@ def try_c():
         else:
             statuses[int(number)], numbers[name] = name, int(rest[0])
     try_client("the C client", asks, statuses)
-    compare_all("errors of this system", {name: number for number, name in rows.statuses().items()}, numbers)
+    compare_all("errors of this system", {name: number for number, name in client_statuses().items()}, numbers)
     for place in ("clients/c/keyretain.h", "clients/c/libkeyretain.map", "man/libkeyretain.3"):
         text = rows.text_of(place)
         for _, name, *_ in asks:
             compare(f"{place}, a function for {name}", True, f"kr_{name.lower()}" in vectors.words_in(text))
+
+
+def try_calls():
+    """The calls that are asks: those of keyctl(2) by its numbers, and two by names. What no ask has stands behind: what
+    is told to an upcall, and how a keyring is restricted."""
+    named, found = {"add_key": "ADD", "request_key": "REQUEST"}, {}
+    words = {ask.number: ask.word for ask in ASKS if ask.number <= keyretain.ASKS["MOVE"].number}
+    for line in subprocess.run([CALLS], text=True, stdout=subprocess.PIPE, check=True).stdout.splitlines():
+        number, name, answer, refused, *kinds = line.split(" ")
+        word = named.get(name) or words.get(int(number))
+        if word:
+            found[word] = (refused, answer, [kind for kind in kinds if kind in ("id", "text", "blob")])
+    for ask in ASKS:
+        if ask.word in {*named.values(), *words.values()}:
+            wanted = [kind for kind in ask.fields.split() if kind in ("id", "text", "blob")]
+            refused, answer, kinds = found.get(ask.word, (None, None, []))
+            compare(f"rows.c, the call that is {ask.word}", ("-", "serial" if ask.answer == "number" else "-", wanted),
+                    (refused, answer, kinds[:len(wanted)]))
+
+
+def try_admission():
+    compare_all("krs_admission.h, a structure", admission.crate_structures(), admission.header_structures())
+    compare_all("krs_admission.h, a function", admission.crate_functions(), admission.header_functions())
+    compare_all("krs_admission.h, a place", admission.crate_places(), admission.header_places())
+    compare("krs_admission.h, tags", admission.crate_tags(), admission.header_tags())
 
 
 # ---- The bench
@@ -168,7 +201,18 @@ def try_bench():
             sorted({word_of(name.split(",")[0].split(" ")[0]) for name in named}))
 
 
-for case in (try_definitions, try_format, try_lists, try_pages, try_python, try_bench):
+# ---- What the proofs rest on
+
+
+def try_foreign():
+    reached = foreign.reached()
+    if reached is None:
+        print("skipped: the C functions of the daemon: KEYRETAIN_AXIOMS isn't set, or no toolchain")
+    else:
+        compare_all("ASSURANCE, the C functions that the daemon reaches", reached, foreign.listed())
+
+
+for case in (try_definitions, try_format, try_lists, try_pages, try_python, try_admission, try_bench, try_foreign):
     case()
 if os.access(KEYRETAIN, os.X_OK):
     try_help()
@@ -177,7 +221,8 @@ else:
     print(f"skipped: keyretain --help, and the completion, which reads it: no program {KEYRETAIN}")
 if CODEC:
     try_c()
+    try_calls()
 else:
-    print("skipped: the table of the C client: no C compiler")
+    print("skipped: the tables of C: no C compiler")
 vectors.try_vectors(CODEC)
 conclude()

@@ -5,6 +5,7 @@ import subprocess
 
 from compare import compare
 import keyretain
+import versions
 
 from documents import protocol_frames, section
 
@@ -58,20 +59,19 @@ def run_codec(codec, lines):
     return asked.stdout.splitlines()
 
 
-def line_of(version, tag, name, context, values):
+def line_of(tag, name, context, values):
     words = map(word, keyretain.ASKS[name].fields.split(), values)
-    return " ".join([f"{version} {tag} {keyretain.ASKS[name].number} {context}", *words]) + "\n"
+    return " ".join([f"{tag} {keyretain.ASKS[name].number} {context}", *words]) + "\n"
 
 
 def compare_clients(codec):
-    """Each ask in both versions, and texts that fit no frame."""
-    asked = [(version, 1 << 33 | version, name, 9, [SAMPLES[form] for form in ask.fields.split()])
-             for name, ask in keyretain.ASKS.items() for version in keyretain.VERSIONS]
-    for (version, tag, name, context, values), got in zip(asked, run_codec(codec, (line_of(*ask) for ask in asked))):
-        compare(f"C and Python, {name}, version {version}",
-                keyretain.encode_ask(name, context, values, version, tag).hex(), got)
+    """Each ask, and texts that fit no frame."""
+    asked = [(1 << 33 | 2, name, 9, [SAMPLES[form] for form in ask.fields.split()])
+             for name, ask in keyretain.ASKS.items()]
+    for (tag, name, context, values), got in zip(asked, run_codec(codec, (line_of(*ask) for ask in asked))):
+        compare(f"C and Python, {name}", keyretain.encode_ask(name, context, values, tag).hex(), got)
     too_long = [("JOIN", [LARGEST["text"]]), ("UPDATE", [5, LARGEST["blob"]])]
-    for got in run_codec(codec, (line_of(1, 0, name, 0, values) for name, values in too_long)):
+    for got in run_codec(codec, (line_of(0, name, 0, values) for name, values in too_long)):
         compare("C, an ask that fits no frame", "", got)
 
 
@@ -85,8 +85,8 @@ def try_vectors(codec):
         compare(f"keyretain-protocol(7), the frame {frame}", True, frame in spelled)
     for what, whole, (version, tag, name, context, values) in read:
         compare(f"vector {what}, its ask", what.split()[0], name)
-        compare(f"Python, vector {what}", whole, keyretain.encode_ask(name, context, values, version, tag))
+        compare(f"Python, vector {what}", whole, versions.encode_ask(name, context, values, version, tag))
     if codec:
-        for (what, whole, _), got in zip(read, run_codec(codec, (line_of(*ask) for _, _, ask in read))):
-            compare(f"C, vector {what}", whole.hex(), got)
+        for (what, whole, ask), got in zip(read, run_codec(codec, (line_of(*ask[1:]) for _, _, ask in read))):
+            compare(f"C, vector {what}", whole, versions.in_version(ask[0], bytes.fromhex(got)))
         compare_clients(codec)

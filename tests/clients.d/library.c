@@ -1,5 +1,4 @@
-/* versions: the same asks of libkeyretain to a daemon, with frames of version 1, of version 2, and of the version that
- * the first ask finds out, which is the newest. */
+/* library: asks of libkeyretain to a daemon. */
 #include <stdlib.h>
 #include <string.h>
 
@@ -64,15 +63,14 @@ static void try_queues(void) {
     check("it is closed already", refused(kr_close_queue(connection, (uint32_t)queue), EBADF));
 }
 
-static void try_version(int asked, int spoken) {
-    uint32_t uid = 5000 + (uint32_t)asked;
-    connection = kr_open_version(NULL, asked);
-    if (!check("a connection", connection != NULL)) return;
-    check("no version before the first ask", kr_frame_version(connection) == 0);
+int main(void) {
+    const uint32_t uid = 5000;
+    check("no such flag", !kr_open_with(NULL, 2, 1000) && errno == EINVAL);
+    connection = kr_open(NULL);
+    if (!check("a connection", connection != NULL)) return conclude("library");
     int64_t made = kr_hello(connection, uid, 1000, 0, NULL);
     context = (uint32_t)made;
     check("a context", made > 0);
-    check("the version of the frames", kr_frame_version(connection) == spoken);
     try_keys(uid);
     try_longest();
     try_queues();
@@ -80,12 +78,5 @@ static void try_version(int asked, int spoken) {
     check("its context has ended", refused(kr_exec(connection, context), ESRCH));
     check("the connection is whole", !kr_is_broken(connection));
     kr_close(connection);
-}
-
-int main(void) {
-    check("no version 3", !kr_open_version(NULL, 3) && errno == EINVAL);
-    try_version(1, 1);
-    try_version(2, 2);
-    try_version(0, 2);
-    return conclude("versions");
+    return conclude("library");
 }

@@ -1,0 +1,47 @@
+"""watching.py PATH: what `python3 -m keyretain @s` watches in a session that is held, and that it says where that is gone.
+Prints a line for each difference, and last how many were compared."""
+import os
+import subprocess
+import sys
+
+from compare import compare, conclude
+import keyretain
+
+path = sys.argv[1]
+
+
+def watch(session, *words):
+    environment = {**os.environ, "KEYRETAIN_SOCKET": path, "KEYRETAIN_SESSION": session,
+                   "PYTHONPATH": os.path.dirname(os.path.dirname(keyretain.__file__))}
+    return subprocess.Popen([sys.executable, "-B", "-m", "keyretain", *words, "@s"], env=environment,
+                            stdout=subprocess.PIPE, stderr=subprocess.STDOUT, text=True)
+
+
+with keyretain.Client(path, timeout=20) as client:
+    context = client.hello(os.geteuid(), os.getegid())
+    ring = client.join(context, "watched")
+    client.setperm(context, ring, 0x3F1F0000)
+    with watch(f"{ring}:watched") as watching:
+        compare("what is watched", "watched\n", watching.stdout.readline().split(";")[-1])
+        key = client.add(context, "user", "a", b"s3", keyretain.SESSION)
+        compare("the note of a key that is put there", f"key {ring} linked {key}\n", watching.stdout.readline())
+        client.revoke(context, ring)
+        compare("and of its end", f"key {ring} revoked\n", watching.stdout.readline())
+        watching.kill()
+with keyretain.Client(path, timeout=20) as client:
+    context = client.hello(os.geteuid(), os.getegid())
+    ring = client.join(context, "acted")
+    client.setperm(context, ring, 0x3F1F0000)
+    command = 'echo "at $KEYRETAIN_NOTE"; [ -n "${KEYRETAIN_NOTE##*linked*}" ]'
+    with watch(f"{ring}:acted", "--exec", command) as watching:
+        watching.stdout.readline()
+        key = client.add(context, "user", "a", b"s3", keyretain.SESSION)
+        compare("a command at a note", f"at key {ring} linked {key}\n", watching.stdout.readline())
+        told = f"keyretain: the command ended with 1: key {ring} linked {key}\n"
+        compare("that fails", told, watching.stdout.readline())
+        client.revoke(context, ring)
+        compare("at the next note", f"at key {ring} revoked\n", watching.stdout.readline())
+        watching.kill()
+with watch("5:gone") as watching:
+    compare("a session that is gone", (1, True), (watching.wait(20), "EKEYREVOKED" in watching.stdout.read()))
+conclude()

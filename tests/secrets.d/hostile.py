@@ -1,0 +1,129 @@
+"""hostile.py: clients that send what is wrong, too long, or too much, that don't read, or are another user's. Prints a
+line for each difference, and last how many were compared."""
+import os
+import subprocess
+import sys
+
+from stage import (COLLECTION, FOLDER, ITEM, PATIENCE, ROOT, SESSION, SESSION_COLLECTION, Caller, bus, compare,
+                   conclude, daemon, secrets)
+from jeepney import DBusAddress, HeaderFields, new_signal
+
+SECRET = "s3cret-that-nobody-tells"
+NOBODY = 65534
+
+
+def try_types(caller):
+    for member, interface, path in (("OpenSession", None, ROOT), ("CreateItem", COLLECTION, SESSION_COLLECTION),
+                                    ("GetSecret", ITEM, f"{SESSION_COLLECTION}/x"), ("Unlock", None, ROOT)):
+        for signature, body in (("", ()), ("i", (1,)), ("s", (SECRET,)), ("aai", ([[1], [2]],)),
+                                ("v", (("v", ("s", SECRET)),)),
+                                ("(oayays)", (("/", b"", SECRET.encode(), "x"),))):
+            named = {"path": path, **({"interface": interface} if interface else {})}
+            compare(f"{member} of {signature!r}", "InvalidArgs", caller.call(member, signature, *body, **named))
+    session = caller.open_plain()
+    in_collection = {"path": SESSION_COLLECTION, "interface": COLLECTION}
+    for name, value in (("Label", ("i", 1)), ("Attributes", ("a{sv}", {})), ("Attributes", ("s", SECRET))):
+        compare("properties of other types", "InvalidArgs", caller.call(
+            "CreateItem", "a{sv}(oayays)b", {f"{ITEM}.{name}": value}, (session, b"", b"x", ""), False,
+            **in_collection))
+    compare("a key for plain", "InvalidArgs", caller.call("OpenSession", "sv", "plain", ("ay", b"x")))
+    compare("parameters for plain", "InvalidArgs", caller.call(
+        "CreateItem", "a{sv}(oayays)b", {}, (session, b"x", b"x", ""), False, **in_collection))
+    for path in ("/", f"{ROOT}/prompt/1", f"{ROOT}/collection/login", f"{ROOT}/session/77"):
+        compare(path, True, caller.call("Close", path=path, interface=None) in ("NoSuchObject", "NoSession"))
+    compare("an item of no name", "NoSuchObject", caller.secret(f"{SESSION_COLLECTION}/a/b", session))
+
+
+def try_sizes(caller):
+    session = caller.open_plain()
+    compare("the longest secret of a key, and more", "Failed", caller.create(session, {"a": "b"}, b"x" * 32768))
+    compare("a long attribute", "Failed", caller.create(session, {"a": "b" * 40000}, b"x"))
+    compare("many attributes", "LimitsExceeded", caller.create(session, {str(each): "" for each in range(65)}, b"x"))
+    for size in (1 << 18, 1 << 22, 1 << 24):
+        compare(f"a secret of {size} bytes", "LimitsExceeded", caller.create(session, {}, b"x" * size))
+    compare("a path of many bytes", "LimitsExceeded", caller.call("Unlock", "ao", ["/" + "a" * 200000]))
+    compare("nothing is kept", ([], []), caller.search({}))
+
+
+def try_many(caller):
+    with Caller() as many:
+        opened = [many.call("OpenSession", "sv", "plain", ("s", "")) for _ in range(1000)]
+        compare("sessions of one client", ["LimitsExceeded"] * (1000 - 64), opened[64:])
+        compare("each is another", 64, len({path for _, path in opened[:64]}))
+        compare("another client has its own", True, caller.open_plain().startswith(f"{ROOT}/session/"))
+    for _ in range(20):  # of which no more than 16 could be there at once
+        with Caller() as again:
+            last = [again.call("OpenSession", "sv", "plain", ("s", "")) for _ in range(64)][-1]
+    compare("a client that has gone has left none", True, last != "LimitsExceeded")
+
+
+def try_stalled(caller):
+    """A client that asks and never reads what it is answered."""
+    session = caller.open_plain()
+    item = caller.create(session, {"big": "one"}, b"y" * 30000)
+    with Caller() as stalled:
+        own = stalled.open_plain()
+        for _ in range(300):
+            stalled.connection.send(stalled.message("GetSecrets", "aoo", [item], own))
+        compare("others are answered", b"y" * 30000, caller.secret(item, session)[2])
+
+
+def try_forged(caller):
+    """A signal that only the bus sends: its sender is the bus's word."""
+    session = caller.open_plain()
+    with Caller() as other:
+        said = DBusAddress("/org/freedesktop/DBus", interface="org.freedesktop.DBus")
+        message = new_signal(said, "NameOwnerChanged", "sss", (caller.connection.unique_name,) * 2 + ("",))
+        message.header.fields[HeaderFields.destination] = "org.freedesktop.secrets"
+        other.connection.send(message)
+        other.open_plain()
+    compare("the session is still there", (), caller.call("Close", path=session, interface=SESSION))
+
+
+AS_NOBODY = """
+import os, sys
+os.setgroups([]); os.setgid(%d); os.setuid(%d)
+sys.path.insert(0, sys.argv[1])
+from jeepney import DBusAddress, new_method_call
+from jeepney.io.blocking import open_dbus_connection
+with open_dbus_connection(auth_timeout=60.) as bus:
+    where = DBusAddress("/org/freedesktop/secrets", "org.freedesktop.secrets", "org.freedesktop.Secret.Service")
+    for words in (("OpenSession", "sv", ("plain", ("s", ""))), ("SearchItems", "a{ss}", ({},))):
+        print(bus.send_and_get_reply(new_method_call(where, *words), timeout=60).header.fields[4])
+""" % (NOBODY, NOBODY)
+
+
+def as_nobody():
+    return subprocess.run(["/usr/bin/python3", "-c", AS_NOBODY, "/usr/lib/python3/dist-packages"], check=False,
+                          text=True, capture_output=True, timeout=PATIENCE)
+
+
+def try_other_user():
+    if os.geteuid() != 0:
+        print("skipped: another user's client, and another user's bus: not root")
+        return
+    with bus(everybody=True), secrets():
+        compare("another user's client", "org.freedesktop.DBus.Error.AccessDenied\n" * 2, as_nobody().stdout)
+        ended = subprocess.run([f"{FOLDER}/bin/keyretain-secrets"], capture_output=True, check=False, text=True,
+                               timeout=PATIENCE, user=NOBODY, group=NOBODY, extra_groups=[])
+        compare("another user's bus", (1, "keyretain-secrets: the session bus is another user's\n"),
+                (ended.returncode, ended.stderr))
+
+
+with daemon(), bus() as broker:
+    with secrets() as process:
+        with Caller() as client:
+            for part in (try_types, try_sizes, try_many, try_stalled, try_forged):
+                part(client)
+        with open(f"/proc/{process.pid}/limits", encoding="ascii") as limits:
+            cores = [line.split()[4:6] for line in limits if "core file" in line]
+        compare("no core file", [["0", "0"]], cores)
+        compare("its memory is root's", 0, os.stat(f"/proc/{process.pid}/mem").st_uid)
+        second = subprocess.run([f"{FOLDER}/bin/keyretain-secrets"], capture_output=True, check=False, timeout=PATIENCE)
+        compare("a second one", (1, b"keyretain-secrets: org.freedesktop.secrets is another program's on this bus\n"),
+                (second.returncode, second.stderr))
+        broker.kill()
+        compare("it ends with the bus", 0, process.wait(PATIENCE))
+        compare("it has told nothing", b"", process.stderr.read())
+    try_other_user()
+conclude()

@@ -1,0 +1,54 @@
+"""keys.py: items that somebody takes away in the store, that expire, or whose daemon ends. Prints a line for each
+difference, and last how many were compared."""
+import os
+
+from stage import ITEM, PATIENCE, RING, SESSION_COLLECTION, Caller, bus, compare, conclude, daemon, secrets, until
+import keyretain
+
+
+def key_of(client, context, item):
+    ring = client.search(context, keyretain.USER, "keyring", RING)
+    return client.search(context, ring, "user", "secret " + item.rpartition("/")[2])
+
+
+def try_taken(caller):
+    session = caller.open_plain()
+    with keyretain.Client(timeout=PATIENCE) as client:
+        context = client.hello(os.geteuid(), os.getegid())
+        for way in ("revoke", "invalidate"):
+            item = caller.create(session, {"w": way}, b"s3cret")
+            compare(f"{way}: there", b"s3cret", caller.secret(item, session)[2])
+            getattr(client, way)(context, key_of(client, context, item))
+            compare(f"{way}: gone at once", "NoSuchObject", caller.secret(item, session))
+            compare(f"{way}: not found", ([], []), caller.search({"w": way}))
+        item = caller.create(session, {"w": "timeout"}, b"s3cret")
+        client.set_timeout(context, key_of(client, context, item), 1)
+        compare("it expires", True, until(lambda: caller.secret(item, session) == "NoSuchObject"))
+        ring = client.search(context, keyretain.USER, "keyring", RING)
+        heads = [b'{"label":%s,"attributes":{},"content_type":"","created":0,"modified":0}' % label
+                 for label in (b"1", b'"\\u0000"', b'"\\ud800"')]
+        for number, payload in enumerate((b"{}", b"[1]", b"\xff", *heads)):
+            client.add(context, "user", f"secret {number:032}", payload + b"\n", ring)
+        client.add(context, "user", "secret x", heads[0].replace(b"1", b'""') + b"\n", ring)
+        compare("what somebody else has put there", ([], []), caller.search({}))
+
+
+with bus():
+    with daemon() as server, secrets() as process, Caller() as one:
+        try_taken(one)
+        last = one.create(one.open_plain(), {"l": "m"}, b"s3cret")
+        process.kill()
+        process.wait()
+        with secrets("--timeout", "2"):
+            opened = one.open_plain()
+            compare("it is there after a restart", b"s3cret", one.secret(last, opened)[2])
+            short = one.create(opened, {"s": "t"}, b"s3cret")
+            compare("the timeout of the program", True, until(lambda: one.search({"s": "t"}) == ([], [])))
+            compare("is not that of others", ([last], []), one.search({}))
+            server.kill()
+            server.wait()
+            compare("no daemon", "Failed", one.secret(last, opened))
+            compare("nothing is put there", "Failed", one.create(opened, {}, b"s3cret"))
+    with daemon(), secrets(), Caller() as one:
+        compare("a new daemon has none", ([], []), one.search({}))
+conclude()

@@ -1,0 +1,189 @@
+# What passes between users under one supervisor, for tests/syscalls: logins by the stacks of pam(7) as they are
+# installed, set-uid programs, and identities that come and go.
+# shellcheck shell=bash disable=SC2016,SC2154 # texts are for other shells; names come from the part
+
+# begin_users: users keyretain-1 and keyretain-2, of uids 4101 and 4102, in a mount namespace, whose shell is
+# $dir/shell: it adds to $dir/said what the session is, whose the user keyring is, and what is read of root's key, whose
+# serial is in $dir/roots.
+begin_users() {
+  local file i
+  for file in passwd group shadow; do cp "/etc/$file" "$dir/$file"; done
+  for i in 1 2; do
+    echo "keyretain-$i:x:$((4100 + i)):$((4100 + i))::/:$dir/shell" >>"$dir/passwd"
+    echo "keyretain-$i:x:$((4100 + i)):" >>"$dir/group"
+    echo "keyretain-$i:*:19000:0:99999:7:::" >>"$dir/shadow"
+  done
+  cat >"$dir/shell" <<END
+#!/bin/sh
+{ "$dir/tree" whose | sed 's/[.][0-9a-f]*//'; "$dir/tree" owner 4294967295; "$dir/tree" read "\$(cat "$dir/roots")"
+} 2>&1 | paste -sd ' ' >>"$dir/said"
+END
+  chmod 755 "$dir/shell"
+  cat >"$dir/as-users" <<END
+for file in passwd group shadow; do mount --bind "$dir/\$file" "/etc/\$file"; done
+exec "\$@"
+END
+  : >"$dir/said"
+  chmod 666 "$dir/said"
+}
+
+# logged_in COMMAND ..: what the shell has said that this begins, below root with a key in its user keyring
+logged_in() {
+  : >"$dir/said"
+  timeout "$limit" unshare -m bash "$dir/as-users" "$dir/$built/keyretain-session" --syscalls -- sh -c \
+    '"$0" putting "secret of root" >"$1/roots"; shift; exec "$@"' "$dir/tree" "$dir" "$@" \
+    >"$dir/login.text" 2>&1 </dev/null
+  cat "$dir/said"
+}
+
+# try_login NAME WANTED PROGRAM OPTION ..: by a program of Debian's, with its own stack
+try_login() {
+  local name=$1 wanted=$2
+  shift 2
+  if command -v "$1" >/dev/null; then
+    is "$built: $name: the session, the user keyring, root's key" "$wanted" "$(logged_in "$@")"
+  else
+    skipped "$name: not here"
+  fi
+}
+
+try_logins() {
+  local own='_ses 4102 4102 EACCES' none='_uid_ses 4102 4102 EACCES'
+  if [ "$(id -u)" != 0 ] || ! unshare -m true 2>/dev/null; then
+    skipped 'logins: not root, or no mount namespace'
+    return
+  fi
+  begin_users
+  grep -qs '^session.*pam_keyinit.so.*force' /etc/pam.d/su-l || own=$none
+  try_login 'su -l' "$own" su -l keyretain-2
+  try_login 'su' "$none" su keyretain-2
+  try_login 'runuser' "$none" runuser keyretain-2 -c true
+  try_login 'runuser -l' "$own" runuser -l keyretain-2
+  try_login 'login' "$own" script -qec 'login -f keyretain-2' /dev/null
+  try_sshd "$own"
+  try_keyinit
+}
+
+# By Debian's sshd on a port of this machine, which takes a key of this test.
+try_sshd() {
+  local port=$((20000 + RANDOM % 20000)) sshd
+  if ! sshd=$(command -v /usr/sbin/sshd) || ! command -v ssh >/dev/null || ! ip link show lo >/dev/null 2>&1; then
+    skipped 'a login by sshd(8): not here'
+    return
+  fi
+  ssh-keygen -q -t ed25519 -N '' -f "$dir/host-key" && ssh-keygen -q -t ed25519 -N '' -f "$dir/user-key"
+  cp "$dir/user-key.pub" "$dir/authorized" && chmod 644 "$dir/authorized"
+  mkdir -p /run/sshd
+  is "$built: a login by sshd(8): the session, the user keyring, root's key" "$1" "$(logged_in sh -c "
+    '$sshd' -D -p $port -h '$dir/host-key' -o AuthorizedKeysFile='$dir/authorized' -o StrictModes=no \\
+      -o UsePAM=yes -o PidFile=none &
+    server=\$!
+    for i in \$(seq 100); do
+      ssh -q -p $port -i '$dir/user-key' -o StrictHostKeyChecking=no -o UserKnownHostsFile=/dev/null \
+        -o BatchMode=yes keyretain-2@127.0.0.1 && break
+      sleep 0.1
+    done
+    kill \$server")"
+}
+
+# What pam_keyinit(8) does, without the program around it: so also where other users' limits can't be set.
+try_keyinit() {
+  is "$built: what pam_keyinit does" 'joined, linked, _ses 4105, the user keyring 4105, EACCES, revoked' \
+    "$(supervised -- "$dir/tree" keyinit 2>&1 | sed 's/[.][0-9a-f]*//')"
+}
+
+# A user's program, executed set-uid, that asks and becomes its user again; below a session of root's.
+try_deputies() {
+  local wanted='EKEYREVOKED, then none' copied
+  [ "$(id -u)" = 0 ] || { skipped 'set-uid programs: not root'; return; }
+  install -m 4755 "$dir/tree" "$dir/tree-set-uid"
+  prints 'a set-uid program of a user below a session of root' "$wanted" "$dir/tree" deputy "$dir/tree-set-uid"
+  prints 'a set-uid program of a user that has joined a session' "EKEYREVOKED, then its user's" "$dir/tree" \
+    joined-deputy "$dir/tree-set-uid"
+  begin_room || { skipped 'a set-uid program with a copied tag: no CAP_SYS_RESOURCE'; return; }
+  copied=$("${in_room[@]}" timeout "$limit" "$dir/now/keyretain-session" --syscalls -- "$dir/tree" deputy \
+    "$dir/tree-set-uid" copied 2>&1)
+  is 'a set-uid program of a user, with the tag of a session of root' "$wanted" "$copied"
+  is 'who has a copied tag of a program that its user may not trace' 'kept out' "$("${in_room[@]}" timeout "$limit" \
+    "$dir/now/keyretain-session" --syscalls -- "$dir/tree" untraceable 2>&1)"
+  end_room
+}
+
+# ---- Nothing is used up
+
+# So many contexts and connections as a supervisor holds when all that asked have gone.
+try_given_up() {
+  local many=100 descriptors waits supervisor
+  [ "$(id -u)" = 0 ] || { skipped 'many identities: not root'; return; }
+  prints "$many identities, one after the other" "$many served, then root" "$dir/tree" others "$many" one
+  prints '60 identities at one time, each in a session' "60 served, then root" "$dir/tree" others 60 all
+  is "$built: 200 processes at one time, with few descriptors" \
+    'served all, refused the others by EDQUOT, kept all, then served' \
+    "$(ulimit -n 160; supervised -- "$dir/tree" processes 200 2>&1)"
+  is "$built: 200 threads at one time, with few descriptors" 'served all, refused the others by EDQUOT, one for all' \
+    "$(ulimit -n 160; supervised -- "$dir/tree" threads 200 2>&1)"
+  rm -f "$dir/go" "$dir/put"
+  "$dir/now/keyretain-session" --syscalls -- sh -c '"$0" others 40 all >/dev/null; touch "$1/put"
+    until [ -e "$1/go" ]; do sleep 0.05; done' "$dir/tree" "$dir" &
+  waits=$!
+  until_true test -e "$dir/put"
+  supervisor=$(pgrep -P "$waits")
+  until_true has_few_descriptors
+  descriptors=$(find "/proc/$supervisor/fd" -mindepth 1 | wc -l)
+  is 'what a supervisor has open when 40 identities have gone' 'as few as before' \
+    "$([ "$descriptors" -le 20 ] && echo 'as few as before' || echo "$descriptors")"
+  touch "$dir/go"
+  finish "$waits"
+}
+
+has_few_descriptors() { [ "$(find "/proc/$supervisor/fd" -mindepth 1 | wc -l)" -le 20 ]; }
+
+# A join asks the daemon, and looks at no other process.
+try_cheap_join() {
+  local waits supervisor calls tracer
+  if [ "$(id -u)" != 0 ] || ! command -v strace >/dev/null; then
+    skipped 'what a join costs: not root, or no strace(1)'
+    return
+  fi
+  rm -f "$dir/go" "$dir/ready" "$dir/calls.text"
+  "$dir/now/keyretain-session" --syscalls -- "$dir/tree" idle 300 "$dir/ready" "$dir/go" >"$dir/idle.text" 2>&1 &
+  waits=$!
+  until_true test -e "$dir/ready"
+  supervisor=$(pgrep -P "$waits")
+  strace -qq -e trace=openat -o "$dir/calls.text" -p "$supervisor" 2>/dev/null &
+  tracer=$!
+  until_true is_traced "$supervisor"
+  touch "$dir/go"
+  finish "$waits"
+  finish "$tracer"
+  calls=$(wc -l <"$dir/calls.text")
+  is '20 joins beside 300 idle processes: all are joined' '20 joined' "$(<"$dir/idle.text")"
+  is 'and what the supervisor opens for that' 'few files' "$([ "$calls" -lt 400 ] && echo few files || echo "$calls")"
+}
+
+# ---- A session that has a name
+
+# Others ask below it, and a user who knows the name joins it meanwhile, by another supervisor.
+try_named() {
+  local waits
+  [ "$(id -u)" = 0 ] || { skipped 'a session that has a name: not root'; return; }
+  chmod 711 "$dir"
+  rm -f "$dir/end"
+  supervised work -- sh -c '"$0" session >"$1/work"; until [ -e "$1/end" ]; do
+    setpriv --reuid 4101 --regid 4101 --clear-groups "$0" session >/dev/null 2>&1; done' "$dir/tree" "$dir" &
+  waits=$!
+  until_true test -s "$dir/work"
+  is 'a session that has a name, joined by another user meanwhile' 'never' \
+    "$(supervised -- setpriv --reuid 4102 --regid 4102 --clear-groups "$dir/tree" joins-named work \
+      "$(<"$dir/work")" 600)"
+  touch "$dir/end"
+  finish "$waits"
+}
+
+try_users() {
+  try_logins
+  try_deputies
+  try_given_up
+  try_cheap_join
+  try_named
+}

@@ -1,0 +1,271 @@
+"""The ways by which a secret goes out of a daemon, or comes back to its reader, by raw frames of either version."""
+from __future__ import annotations
+
+import os
+import socket
+import struct
+import sys
+import time
+from pathlib import Path
+
+sys.path.insert(0, str(Path(__file__).resolve().parents[1] / "clients.d"))
+from versions import encode_ask, keyretain  # noqa: E402
+
+from memory import Secret  # noqa: E402
+
+U, S, P, T = keyretain.USER, keyretain.SESSION, keyretain.PROCESS, keyretain.THREAD
+
+
+class Raw:
+    """A connection, with nothing kept of what goes over it."""
+
+    def __init__(self, path: str, version: int) -> None:
+        self.end = socket.socket(socket.AF_UNIX)
+        self.end.connect(path)
+        self.version, self.tag = version, 0
+        self.context = 0
+        self.context = self.ask("HELLO", os.geteuid(), os.getegid(), ())
+
+    def frame(self, name: str, *values) -> bytes:
+        self.tag += 1
+        return encode_ask(name, self.context, values, self.version, self.tag)
+
+    def exactly(self, count: int) -> bytes:
+        data = b""
+        while len(data) < count:
+            more = self.end.recv(count - len(data))
+            if not more:
+                raise EOFError
+            data += more
+        return data
+
+    def reply(self) -> tuple[int, bytes]:
+        body = self.exactly(struct.unpack("<I", self.exactly(4))[0])
+        return struct.unpack_from("<I", body)[0], body[12 if self.version == 2 else 4:]
+
+    def ask(self, name: str, *values, wants=0):
+        self.end.sendall(self.frame(name, *values))
+        status, body = self.reply()
+        assert status == wants, (name, status)
+        return struct.unpack("<I", body)[0] if len(body) == 4 and name not in ("READ",) else body
+
+    def close(self) -> None:
+        self.end.close()
+
+
+def add(c: Raw, secret: Secret, ring=U, desc="token") -> int:
+    return c.ask("ADD", "user", desc, secret.payload, ring)
+
+
+# Each takes a connection and a secret, and says how many copies may be left: the key's own, or none.
+
+
+def update(c, s):
+    c.ask("UPDATE", add(c, s), b"other")
+
+
+def update_longer(c, s):
+    c.ask("UPDATE", add(c, s), b"z" * (2 * len(s.payload) % 32767 + 1))
+
+
+def update_shorter(c, s):
+    c.ask("UPDATE", add(c, s), b"z")
+
+
+def add_over(c, s):
+    add(c, s)
+    c.ask("ADD", "user", "token", b"other", U)
+
+
+def displaced(c, s):
+    """An expired key's name is taken by a new key."""
+    key = add(c, s)
+    c.ask("SET_TIMEOUT", key, 1)
+    time.sleep(1.1)
+    c.ask("ADD", "user", "token", b"other", U)
+
+
+def revoke(c, s):
+    c.ask("REVOKE", add(c, s))
+
+
+def revoke_unlink(c, s):
+    key = add(c, s)
+    c.ask("REVOKE", key)
+    c.ask("UNLINK", key, U)
+
+
+def invalidate(c, s):
+    c.ask("INVALIDATE", add(c, s))
+
+
+def unlink(c, s):
+    c.ask("UNLINK", add(c, s), U)
+
+
+def clear(c, s):
+    add(c, s)
+    c.ask("CLEAR", U)
+
+
+def move_over(c, s):
+    """MOVE displaces a link that was the last of a key."""
+    ring = c.ask("ADD", "keyring", "other", b"", U)
+    add(c, s, ring)
+    key = c.ask("ADD", "user", "token", b"other", U)
+    c.ask("MOVE", key, U, ring, 0)
+
+
+def expire_unlink(c, s):
+    key = add(c, s)
+    c.ask("SET_TIMEOUT", key, 1)
+    time.sleep(1.1)
+    c.ask("UNLINK", key, U)
+
+
+def expire(c, s):
+    """An expired key keeps its payload until it is unlinked, displaced or dropped: profile, expired keys stay."""
+    key = add(c, s)
+    c.ask("SET_TIMEOUT", key, 1)
+    time.sleep(1.1)
+    c.ask("READ", key, wants=127)
+    return 1
+
+
+def join(c, s):
+    """The session keyring goes with its keys as another is joined."""
+    c.ask("JOIN", "")
+    add(c, s, S)
+    c.ask("JOIN", "")
+
+
+def exec_(c, s):
+    add(c, s, P)
+    c.ask("EXEC")
+
+
+def exit_(c, s):
+    add(c, s, T)
+    c.ask("EXIT")
+
+
+def leave(c, s):
+    add(c, s, P)
+    c.ask("LEAVE")
+
+
+def close(c, s):
+    add(c, s, P)
+    c.close()
+    time.sleep(0.3)
+
+
+def cut(c, s):
+    """A connection that ends in the midst of an ADD."""
+    whole = c.frame("ADD", "user", "token", s.payload, U)
+    c.end.sendall(whole[:-4])
+    time.sleep(0.2)
+    c.close()
+    time.sleep(0.3)
+
+
+def refused_add(c, s):
+    c.ask("ADD", "nosuch", "token", s.payload, U, wants=19)
+
+
+def refused_ring(c, s):
+    c.ask("ADD", "user", "token", s.payload, 2_000_000_000, wants=126)
+
+
+def refused_update(c, s):
+    c.ask("UPDATE", 2_000_000_000, s.payload, wants=126)
+
+
+def refused_fault(c, s):
+    """A frame that is no ask ends the connection: its bytes were held already."""
+    whole = c.frame("ADD", "user", "token", s.payload, U)
+    c.end.sendall(whole[:6] + b"\xff\xff" + whole[8:])
+    time.sleep(0.3)
+    c.close()
+    time.sleep(0.2)
+
+
+def kept(c, s):
+    """An ADD alone: the key has it, and nothing else."""
+    add(c, s)
+    return 1
+
+
+def pieces(c, s):
+    """The same, sent in three parts."""
+    whole = c.frame("ADD", "user", "token", s.payload, U)
+    for part in (whole[:20], whole[20:len(whole) // 2], whole[len(whole) // 2:]):
+        c.end.sendall(part)
+        time.sleep(0.05)
+    assert c.reply()[0] == 0
+    return 1
+
+
+def read(c, s):
+    key = add(c, s)
+    assert c.ask("READ", key) == s.payload
+    return 1
+
+
+def read_many(c, s):
+    """Twenty READs sent ahead, whose replies go out together."""
+    key = add(c, s)
+    c.end.sendall(b"".join(c.frame("READ", key) for _ in range(20)))
+    for _ in range(20):
+        assert c.reply() == (0, s.payload)
+    return 1
+
+
+def read_revoke(c, s):
+    key = add(c, s)
+    assert c.ask("READ", key) == s.payload
+    c.ask("REVOKE", key)
+
+
+def read_unread(c, s):
+    """READs whose replies nobody takes, and then the end."""
+    key = add(c, s, P)
+    c.end.sendall(b"".join(c.frame("READ", key) for _ in range(40)))
+    time.sleep(0.3)
+    c.close()
+    time.sleep(0.5)
+
+
+def read_behind(c, s):
+    """READs that are held, and a reply behind them that is longer than the room for both: nothing may move."""
+    key, ring = add(c, s), c.ask("ADD", "keyring", "ring", b"", U)
+    for start in range(0, 17_000, 250):
+        names = [f"key {n}" for n in range(start, start + 250)]
+        c.end.sendall(b"".join(c.frame("ADD", "user", name, b"x", ring) for name in names))
+        for _ in names:
+            assert c.reply()[0] == 0
+    held = min(60_000 // (len(s.payload) + 16), 100)
+    c.end.sendall(b"".join(c.frame("READ", key) for _ in range(held)) + c.frame("READ", ring))
+    for _ in range(held):
+        assert c.reply() == (0, s.payload)
+    assert len(c.reply()[1]) == 68_000
+    c.ask("REVOKE", key)
+
+
+def batch(c, s):
+    """ADD, UPDATE and REVOKE sent ahead, in one write."""
+    key = add(c, s)
+    again = [c.frame("UPDATE", key, s.payload) for _ in range(2)]
+    c.end.sendall(b"".join([*again, c.frame("REVOKE", key)]))
+    for _ in range(3):
+        assert c.reply()[0] == 0
+
+
+WAYS = {"kept: ADD": kept, "kept: ADD in three parts": pieces, "kept: READ": read, "kept: 20 READs ahead": read_many,
+        "UPDATE": update, "UPDATE, longer": update_longer, "UPDATE, one byte": update_shorter, "ADD over it": add_over,
+        "expired, ADD over it": displaced, "REVOKE": revoke, "REVOKE, UNLINK": revoke_unlink, "INVALIDATE": invalidate,
+        "UNLINK": unlink, "CLEAR": clear, "MOVE over it": move_over, "expired, UNLINK": expire_unlink,
+        "expired": expire, "JOIN": join, "EXEC": exec_, "EXIT": exit_, "LEAVE": leave, "close": close,
+        "close amid ADD": cut, "fault in ADD": refused_fault, "ADD: ENODEV": refused_add, "ADD: ENOKEY": refused_ring,
+        "UPDATE: ENOKEY": refused_update, "READ, REVOKE": read_revoke, "READs not taken, close": read_unread,
+        "READs, a long READ, REVOKE": read_behind, "UPDATE, REVOKE ahead": batch}
