@@ -11,7 +11,7 @@ import time
 
 pid, path, seconds, seed = int(sys.argv[1]), sys.argv[2], float(sys.argv[3]), int(sys.argv[4])
 chance = random.Random(seed)
-EPERM, EINVAL, ESRCH = 1, 22, 3
+EPERM, EINVAL, ESRCH, EDQUOT = 1, 22, 3, 122
 UIDS = [4001, 4002, 4003]
 
 
@@ -52,6 +52,7 @@ class Client:
         self.spoilt = self.shut = False
         self.deaf = chance.random() < 0.15
         self.refused = 0
+        self.is_answered = False
 
     def write(self):
         for _ in range(chance.randrange(1, 30)):
@@ -109,6 +110,10 @@ class Client:
                 continue
             status, tag = self.wanted.pop(0)
             got = struct.unpack('<I', frame[:4])[0]
+            if got == EDQUOT and not self.is_answered:
+                counts['places'] += 1  # each is held by one that has gone, which a busy guard hasn't seen yet
+                return False
+            self.is_answered = True
             if not self.spoilt:
                 assert got == status or (status is None and got in (0, EINVAL)), (got, status)
                 assert tag is None or struct.unpack('<Q', frame[4:12])[0] == tag
@@ -137,7 +142,7 @@ def descriptors():
     return len(os.listdir(f'/proc/{pid}/fd'))
 
 
-counts = {'replies': 0, 'clients': 0}
+counts = {'replies': 0, 'clients': 0, 'places': 0}
 makers = {uid: Maker(uid) for uid in UIDS}
 clients, before = [], descriptors()
 finish = time.monotonic() + seconds
@@ -162,5 +167,6 @@ first = b''
 while len(first) < 20:
     first += sock.recv(100)
 assert struct.unpack('<II', first[:8]) == (4, EPERM) and struct.unpack('<II', first[8:16]) == (8, 0), first
+assert counts['replies'] > counts['places'], counts
 print(f'chaos: {counts["clients"]} clients, {counts["replies"]} replies, none wrong', flush=True)
 os._exit(0)
