@@ -75,7 +75,7 @@ static void *answer_half(void *unused) {
 
 /* Answers so many asks with the number or serial 1; the last one instead as READ, with the secret. Then it ends the
  * connection where `then_closes` says so. */
-static int answers;
+static int answers, wiped;
 static bool reads_last;
 
 static void *answer_some(void *unused) {
@@ -90,6 +90,7 @@ static void *answer_some(void *unused) {
         (void)!write(end, frame, is_secret ? sizeof frame : 20);
         explicit_bzero(frame, sizeof frame);
         explicit_bzero(ask, sizeof ask);
+        __atomic_store_n(&wiped, i, __ATOMIC_SEQ_CST);
     }
     if (then_closes) close(end);
     if (then_closes) __atomic_store_n(&answers, 0, __ATOMIC_SEQ_CST);
@@ -155,6 +156,7 @@ static bool finds_in(int memory, unsigned long from, unsigned long to) {
 }
 
 static const char *look_for_secret(void) {
+    while (__atomic_load_n(&wiped, __ATOMIC_SEQ_CST) < answers) usleep(1000); /* the server's own copies */
     FILE *maps = fopen("/proc/self/maps", "r");
     int memory = open("/proc/self/mem", O_RDONLY);
     unsigned long from, to;
