@@ -13,6 +13,7 @@ from versions import encode_ask, keyretain  # noqa: E402
 
 from memory import Secret  # noqa: E402
 
+PATIENCE = 180  # seconds in which a reply comes, on a busy machine
 U, S, P, T = keyretain.USER, keyretain.SESSION, keyretain.PROCESS, keyretain.THREAD
 
 
@@ -21,6 +22,7 @@ class Raw:
 
     def __init__(self, path: str, version: int) -> None:
         self.end = socket.socket(socket.AF_UNIX)
+        self.end.settimeout(PATIENCE)
         self.end.connect(path)
         self.version, self.tag = version, 0
         self.context = 0
