@@ -148,8 +148,9 @@ def bench_operations():
 
 
 def costs_tables():
-    """Of COSTS.md: the names in the table of instructions, and the operations in that of nanoseconds."""
-    text = text_of("docs/COSTS.md")
-    counted, timed = text.split("\n## Instructions\n")[1], text.split("\n## Nanoseconds\n")[1].split("\n## ")[0]
+    """The names in COSTS.md's table of instructions, and the operations in the newest results' table of nanoseconds."""
+    counted = text_of("docs/COSTS.md").split("\n## Instructions\n")[1]
     first = cells(counted[counted.index("\n| Ask |"):].split("\n\n")[0])[1:]
-    return [row[0] for row in first], [row[0].strip("`") for row in cells(timed) if row[0].startswith("`")]
+    newest = max(os.listdir(f"{TOP}/bench/results"))
+    timed = text_of(f"bench/results/{newest}").split("\n[nanoseconds]\n")[1].split("\n\n")[0].splitlines()[1:]
+    return [row[0] for row in first], [line.split()[0] for line in timed]

@@ -190,7 +190,7 @@ def try_admission():
 def try_bench():
     operations = documents.bench_operations()
     named, timed = documents.costs_tables()
-    compare("COSTS, operations", sorted(operations), sorted(timed))
+    compare("bench/results, operations", sorted(operations), sorted(timed))
     counted = [(line, name) for lines in operations.values() for line, name in lines if name]
     compare("COSTS, names of asks", [name for _, name in counted], named)
     asks = {command.word: command.ask for command in COMMANDS}
