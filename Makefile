@@ -30,8 +30,10 @@ build:
 
 # Prints what each target does.
 help:
-	@awk '/^# / { said = said (said == "" ? "" : " ") substr($$0, 3) } /^[a-z-]+:/ { target = $$1; sub(/:.*/, "", target); \
-	  sub(/[.] .*/, ".", said); if (said != "") printf "%-20s %s\n", target, said } !/^#/ { said = "" }' Makefile
+	@awk '/^# / { said = said " " substr($$0, 3) } /^[a-z-]+:/ && said != "" { sub(/:.*/, ""); sub(/[.] .*/, ".", said); \
+	  line = sprintf("%-18s", $$0); count = split(said, words, " "); \
+	  for (i = 1; i <= count; i++) { if (length(line words[i]) > 79) { print line; line = sprintf("%18s", "") } \
+	    line = line " " words[i] } print line } !/^#|^[A-Z]+ =/ { said = "" }' Makefile
 
 # A shell in which keyctl(1), kinit(1) and any static program use a daemon of its own, which ends with it; or the command
 # RUN. What isn't proved yet is compiled with no proof, and it says so. Wants a C compiler.
@@ -46,7 +48,6 @@ run:
 # Proves which session a process comes into, builds that rule as a library for C, and the C clients over it. Wants a C
 # compiler; the agent of containers wants jansson too (libjansson-dev).
 clients:
-	@command -v rt >/dev/null || { echo 'rt is not on the PATH: README.md says what is needed' >&2; exit 1; }
 	@tools/check-toolchain
 	tools/build krs_admission_c
 	$(MAKE) -C clients/c PREFIX="$(PREFIX)"
