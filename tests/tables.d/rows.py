@@ -80,6 +80,22 @@ def variants():
     return sorted(name.upper() for name in re.findall(r"^    (\w+)", body, re.M))
 
 
+# What a form of a field in asks! is in the rows of the definitions; an id that is a watch's is no key's.
+CODE_FORMS = {"number": "u32", "id": "id", "flag": "u8", "type_name": "text", "text": "text", "blob": "blob",
+              "caller": "u32 u32 groups", "entries": "entries"}
+CODE_GROWS = {"always": "yes", "never": "no", "(create)": "with create", "(dest != 0)": "with a destination",
+              "(watch != -1)": "where it sets"}
+
+
+def asks_of_code():
+    """The rows that the code's tables are made from: number, kind of answer, growth and fields of each ask."""
+    text = text_of("crates/krs_types/src/ask.rt")
+    found = re.findall(r"^ {12}(\w+) (\d+) (\w+) (\w+|\([^)]*\)) [{(](.*)[})];$", text, re.M)
+    return {name.upper(): (int(number), shape.lower(), CODE_GROWS[grows], " ".join(
+        "i32" if field == "watch" else CODE_FORMS[form] for field, form in re.findall(r"(\w+): (\w+)", fields)))
+        for name, number, shape, grows, fields in found}
+
+
 def forms():
     """What the definitions say of the fields that have a name."""
     text = text_of("crates/krs_wire/specs/Bodies.antt")
