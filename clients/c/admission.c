@@ -1,12 +1,6 @@
 /* admission.c: the facts of which krs_admission.h judges. Nothing is judged here: what can't be read is said to be
  * so. */
-#define _GNU_SOURCE
 #include "admission.h"
-
-#include <string.h>
-#include <unistd.h>
-
-#include "maps.h"
 
 static bool is_in_container;
 

@@ -3,7 +3,7 @@
 #define KEYRETAIN_ADMISSION_H
 
 #include "proc.h"
-#include "task_contexts.h"
+#include "entries.h"
 
 /* Begins: what ids are served. In a container the one whose first process this is, or 0 where it isn't known. */
 void admission_begin(bool is_container, pid_t first);
@@ -36,5 +36,38 @@ bool admission_may_be_given(const struct proc_status *child, const struct sessio
 
 /* Whether a thread is in another user namespace than the one whose ids are served: its user keyrings are others. */
 bool admission_is_elsewhere(pid_t thread);
+
+/* ---- maps.c: the ids of user_namespaces(7) ----
+ *
+ * Whose ids are served, and how those that are read here are seen there. */
+
+/* uid_map or gid_map. */
+enum { MAP_RANGES = 340 };
+struct map {
+    unsigned count;
+    struct {
+        unsigned inside, outside, length;
+    } ranges[MAP_RANGES];
+};
+
+/* The user namespace whose ids are served: the one that a runtime of our user has made around a container, whose first
+ * process this is; else ours. What asks may be in others, which it has made itself. */
+void maps_begin(pid_t first);
+
+/* 65534, or what the system has in its place, for an id that isn't mapped. */
+unsigned map_to_inside(const struct map *map, unsigned id, unsigned unknown);
+
+/* Whether a uid that is read here has a number there. */
+bool maps_have_uid(unsigned uid);
+
+unsigned maps_uid(unsigned uid);
+unsigned maps_gid(unsigned gid);
+
+/* What stands for ids that have no number there; and how many uids have one, or 0 where that isn't known. */
+unsigned maps_unknown(void);
+unsigned maps_length(void);
+
+/* Whether a thread is in another user namespace. */
+bool maps_are_others(pid_t thread);
 
 #endif

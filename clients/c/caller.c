@@ -1,14 +1,7 @@
 /* caller.c: the contexts of a process's threads, and its session. */
-#define _GNU_SOURCE
 #include "caller.h"
 
-#include <errno.h>
 #include <poll.h>
-#include <pthread.h>
-#include <stdlib.h>
-#include <string.h>
-#include <sys/stat.h>
-#include <unistd.h>
 #if defined __has_include
 #if __has_include(<sys/single_threaded.h>)
 #include <sys/single_threaded.h>
@@ -16,7 +9,6 @@
 #endif
 #endif
 
-#include "connection.h"
 #include "seats.h"
 
 /* A call ends after so long; one that finds no free lane, where the daemon accepts nothing, sooner. */
@@ -41,16 +33,8 @@ static int set_no_daemon(void) {
     case ENFILE:
     case EACCES:
     case ETIMEDOUT: return -1;
-    default: errno = ENOSYS; return -1;
+    default: return fail_as(ENOSYS);
     }
-}
-
-/* Under the lock, so that a child of fork(2) finds all of them or none. */
-static int begin_serials_anew(struct seat *seat) {
-    seats_lock();
-    int begun = serials_begin_anew(&seat->serials);
-    seats_unlock();
-    return begun;
 }
 
 static struct daemon daemon_of(const struct kr *connection) {
@@ -74,11 +58,8 @@ static int meet_daemon(struct seat *seat) {
     struct kr *connection = seat->connection;
     const struct daemon none = { 0 }, daemon = daemon_of(connection);
     bool is_other = !are_same(&seat->daemon, &none) && !are_same(&seat->daemon, &daemon);
-    if (seat->is_own && connection->place == KR_SYSTEM) {
-        errno = ENOSYS;
-        return -1;
-    }
-    if (is_other && begin_serials_anew(seat) < 0) return -1;
+    if (seat->is_own && connection->place == KR_SYSTEM) return fail_as(ENOSYS);
+    if (is_other && seats_begin_serials(seat) < 0) return -1;
     seat->daemon = daemon;
     seat->is_own = connection->place == KR_OWN;
     return 0;
@@ -112,17 +93,15 @@ static int enter_session(const struct seat *seat, uint32_t context, const struct
     if (session->serial != 0)
         entered = kr_enter_named(seat->connection, context, session, uid);
     else
-        entered = kr_begin_session_as(seat->connection, context, session->name, uid) > 0 ? 0 : errno == EACCES ? 1 : -1;
+        entered = kr_begin_session(seat->connection, context, session->name, uid) > 0 ? 0 : errno == EACCES ? 1 : -1;
     *is_lost = entered == 1;
     return entered < 0 ? -1 : 0;
 }
 
 /* Ends a context in which no session could be entered; errno stays. */
-static int abandon(struct kr *connection, uint32_t context) {
-    int error = errno;
+static void abandon(struct kr *connection, uint32_t context) {
+    ERRNO_STAYS;
     if (!kr_is_broken(connection)) kr_exit(connection, context);
-    errno = error;
-    return -1;
 }
 
 /* HELLO, and the session. */
@@ -153,28 +132,39 @@ static int have_shared_context(struct seat *seat, int64_t call_end) {
     }
 }
 
-/* A new context of a thread's own is in the session that the thread has joined. */
-static int begin_own(struct seat *seat, struct thread_context *own) {
+/* EDQUOT where the connection has as many as it may. */
+static int64_t make_context(const struct seat *seat, uint32_t from) {
+    int64_t made = kr_thread(seat->connection, from);
+    if (made < 0 && errno == EINVAL) errno = EDQUOT;
+    return made;
+}
+
+/* The context of this thread: its own, if it has one; the shared one, unless `wants_own`; else a new one, which is its
+ * own then, with the shared one's process, and its session or that which the thread has joined. NULL with errno. */
+static struct thread_context *choose_context(struct seat *seat, bool wants_own) {
+    struct thread_context *own = seats_own_context(seat);
     const struct kr_session *session = seats_own_session();
-    if (session && enter_session(seat, own->number, session, &own->lost_session) < 0) {
-        abandon(seat->connection, own->number);
-        own->number = 0;
-        return -1;
-    }
+    if (seats_is_own(seat, own)) return own;
+    if (!wants_own) return &seat->shared;
+    int64_t made = make_context(seat, seat->shared.number);
+    if (made < 0) return NULL;
+    struct thread_context begun = { seat->shared.age, (uint32_t)made, seat->shared.lost_session };
+    if (session && enter_session(seat, begun.number, session, &begun.lost_session) < 0)
+        return abandon(seat->connection, begun.number), NULL;
     seats_has_own(seat);
-    return 0;
+    *own = begun;
+    return own;
 }
 
 static int enter_context(struct caller *caller) {
     struct seat *seat = caller->seat;
     if (have_shared_context(seat, caller->deadline) < 0) return -1;
-    struct thread_context *own = seats_own_context(seat);
-    bool had_own = threads_has_own(&seat->shared, own);
     bool wants_own = caller->names_thread || seats_own_session() || (caller->joins && !seats_is_first_thread());
     kr_set_deadline(seat->connection, caller->deadline);
-    struct thread_context *context = threads_choose(seat->connection, &seat->shared, own, wants_own);
-    if (!context || (context == own && !had_own && begin_own(seat, own) < 0)) return -1;
+    const struct thread_context *context = choose_context(seat, wants_own);
+    if (!context) return -1;
     caller->connection = seat->connection;
+    caller->serials = &seat->serials;
     caller->context = context->number;
     caller->lost_session = context->lost_session;
     return 0;
@@ -195,7 +185,7 @@ bool caller_enter(struct caller *caller) {
 
 /* ---- Leaving ---- */
 
-/* Who asks again within DRAINED milliseconds, and has done so OFTEN times, keeps the connection, until nothing was asked
+/* Who asks again within DRAINED milliseconds, and has done so OFTEN times, keeps the connection until nothing was asked
  * for a second. What a call itself takes doesn't count: else a slow daemon would have more to do. */
 enum { DRAINED = 16, OFTEN = 16, MOST_OFTEN = 64 };
 
@@ -213,32 +203,21 @@ static bool asks_often(const struct caller *caller) {
 static bool may_let_go(const struct caller *caller) {
     const struct seat *seat = caller->seat;
     if (!seat->connection || !seat->is_kept || seat->may_have_keyring || asks_often(caller)) return false;
-    return !seats_have_own(seat) && seats_hold_session();
+    return seats_may_let_go(seat);
 }
 
 /* A context that the daemon doesn't know is no error of the program's: the next call begins anew. */
 void caller_leave(struct caller *caller, long result) {
     struct seat *seat = caller->seat;
-    int error = errno;
+    ERRNO_STAYS;
     if (seat && caller->may_hold) seat->may_have_keyring = true;
-    if (seat && result < 0 && error == ESRCH)
+    if (seat && result < 0 && errno == ESRCH)
         seats_drop(seat, false);
     else if (seat && may_let_go(caller))
         seats_drop(seat, true);
     if (seat) seats_give_back(seat);
     pthread_setcancelstate(caller->cancelling, NULL);
-    errno = error;
 }
-
-/* ---- Serials ---- */
-
-bool caller_is_stale(const struct caller *caller, int32_t serial) {
-    return serials_is_stale(&caller->seat->serials, serial);
-}
-
-void caller_knows(struct caller *caller, int32_t serial) { serials_add(&caller->seat->serials, serial); }
-
-bool caller_has_stale(const struct caller *caller) { return caller->seat->serials.stale > 0; }
 
 /* ---- Sessions ---- */
 
@@ -264,13 +243,12 @@ static int enter_made(struct seat *seat, struct thread_context *context, const s
 static int enter_for_all(struct seat *seat, const struct kr_session *session) {
     struct thread_context *own = seats_own_context(seat);
     if (enter_made(seat, &seat->shared, session) < 0) return -1;
-    return threads_has_own(&seat->shared, own) ? enter_made(seat, own, session) : 0;
+    return seats_is_own(seat, own) ? enter_made(seat, own, session) : 0;
 }
 
 static void restore_variable(const char *before) {
-    int error = errno;
+    ERRNO_STAYS;
     if (!before || setenv(KR_SESSION_VARIABLE, before, 1) < 0) unsetenv(KR_SESSION_VARIABLE);
-    errno = error;
 }
 
 /* Enters a session that was made just now, and tells what is executed of it. That is done first, as it may fail: by
@@ -294,12 +272,7 @@ static int become_session(struct caller *caller, struct kr_session *session) {
     if (kr_start_keeper(&holder, session, caller->connection->address.sun_path, false, caller->deadline, &why) < 0)
         return why == KR_REFUSED ? -1 : set_no_daemon();
     int entered = is_one_thread() ? export_and_enter(seat, session) : enter_for_all(seat, session);
-    if (entered < 0) {
-        int error = errno;
-        kr_close_holder(&holder);
-        errno = error;
-        return -1;
-    }
+    if (entered < 0) return kr_close_holder(&holder), -1;
     if (is_one_thread()) kr_export_holder(&holder, session);
     seats_set_session(session, &holder);
     seat->is_kept = true;
@@ -311,12 +284,9 @@ static int become_session(struct caller *caller, struct kr_session *session) {
 static int join_for_thread(struct caller *caller, struct kr_session *session) {
     struct seat *seat = caller->seat;
     struct kr *connection = caller->connection;
-    int64_t trial = kr_thread(connection, caller->context);
-    if (trial < 0) {
-        if (errno == EINVAL) errno = EDQUOT;
-        return -1;
-    }
-    session->serial = kr_begin_session_as(connection, (uint32_t)trial, session->name, seat->identity.uid);
+    int64_t trial = make_context(seat, caller->context);
+    if (trial < 0) return -1;
+    session->serial = kr_begin_session(connection, (uint32_t)trial, session->name, seat->identity.uid);
     int entered = session->serial < 0 ? -1 : enter_made(seat, seats_own_context(seat), session);
     abandon(connection, (uint32_t)trial);
     if (entered < 0) return -1;

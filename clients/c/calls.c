@@ -1,18 +1,11 @@
 /* calls.c: copies what a call's pointers mean out of the caller's memory, lets syscalls.c answer it from these
  * copies, and copies the result back. Each byte is read once, so that nothing can change between a look and its
  * use. */
-#define _GNU_SOURCE
-#include "calls.h"
+#include "connection.h"
+#include "serve.h"
 
-#include <errno.h>
 #include <linux/keyctl.h>
-#include <string.h>
 #include <sys/mman.h>
-#include <unistd.h>
-
-#include "contexts.h"
-#include "syscalls.h"
-#include "tracees.h"
 
 /* A type has fewer than 32 bytes and a text fewer than 4,096, with the null byte; an ask has no payload above 65,535
  * bytes; and no keyring reads as more than 65,536 links. */
@@ -22,11 +15,6 @@ static struct copies {
     char texts[TEXTS][TEXT_MAX + 1];
     unsigned char payload[PAYLOAD_MAX], room[ROOM_MAX];
 } *copies;
-
-static long fail(int error) {
-    errno = error;
-    return -1;
-}
 
 int calls_begin(void) {
     void *room = mmap(NULL, sizeof *copies, PROT_READ | PROT_WRITE, MAP_PRIVATE | MAP_ANONYMOUS, -1, 0);
@@ -76,8 +64,8 @@ static bool copy_payload(const struct pointers *pointers, unsigned long *at) {
 
 /* Puts the copies where the call has its pointers: 0, or -1 with errno. */
 static long copy_in(const struct pointers *pointers, unsigned long *at) {
-    if (pointers->payload >= 0 && at[pointers->payload + 1] > pointers->most) return fail(EINVAL);
-    if (!copy_texts(pointers, at) || !copy_payload(pointers, at)) return fail(EFAULT);
+    if (pointers->payload >= 0 && at[pointers->payload + 1] > pointers->most) return fail_as(EINVAL);
+    if (!copy_texts(pointers, at) || !copy_payload(pointers, at)) return fail_as(EFAULT);
     if (pointers->room >= 0 && at[pointers->room]) {
         at[pointers->room] = (unsigned long)copies->room;
         if (at[pointers->room + 1] > ROOM_MAX) at[pointers->room + 1] = ROOM_MAX;
@@ -92,22 +80,51 @@ static long copy_out(const struct pointers *pointers, unsigned long to, unsigned
     if (pointers->room < 0 || result <= 0 || !to) return result;
     size_t length = (unsigned long)result <= room ? (size_t)result : 0;
     if (pointers->row->call == KEYCTL_CAPABILITIES) length = room;
-    if (length > 0 && !memory_write(&entered->memory, to, copies->room, length, entered->is_valid)) return fail(EFAULT);
-    return result;
+    bool is_put = length == 0 || memory_write(&entered->memory, to, copies->room, length, entered->is_valid);
+    return is_put ? result : fail_as(EFAULT);
 }
 
 static size_t least(unsigned long one, size_t other) { return one < other ? one : other; }
 
 /* `length` is what was answered before it was copied out. */
 static void wipe(const struct pointers *pointers, const unsigned long *at, long length) {
-    int error = errno;
+    ERRNO_STAYS;
     for (int i = 0; i < TEXTS; i++) explicit_bzero(copies->texts[i], strlen(copies->texts[i]));
     if (pointers->payload >= 0) explicit_bzero(copies->payload, least(at[pointers->payload + 1], PAYLOAD_MAX));
     if (pointers->room >= 0 && length > 0) explicit_bzero(copies->room, least((unsigned long)length, ROOM_MAX));
-    errno = error;
 }
 
 /* ---- Answers that are kept ---- */
+
+enum { KEPT_MILLISECONDS = 1000 };
+
+/* FNV-1a: a thread that wants two calls to have one sum deceives itself alone. */
+uint64_t replay_sum(uint64_t sum, const void *bytes, size_t length) {
+    const unsigned char *at = bytes;
+    for (size_t i = 0; i < length; i++) sum = (sum ^ at[i]) * UINT64_C(0x100000001b3);
+    return sum;
+}
+
+bool replay_take(struct replay *replay, const struct seccomp_data *call, const struct admission_process *caller,
+                 uint64_t sum, long *result) {
+    bool is_same = replay->until >= kr_now() && replay->sum == sum && memcmp(&replay->call, call, sizeof *call) == 0 &&
+                   memcmp(&replay->caller, caller, sizeof *caller) == 0;
+    replay->until = 0;
+    if (!is_same) return false;
+    *result = replay->result;
+    errno = replay->error;
+    return true;
+}
+
+void replay_keep(struct replay *replay, const struct seccomp_data *call, const struct admission_process *caller,
+                 uint64_t sum, long result, int error) {
+    replay->call = *call;
+    memcpy(&replay->caller, caller, sizeof *caller);
+    replay->sum = sum;
+    replay->until = kr_now() + KEPT_MILLISECONDS;
+    replay->result = result;
+    replay->error = error;
+}
 
 static uint64_t sum_of(const struct pointers *pointers, const unsigned long *at) {
     uint64_t sum = 1;
@@ -127,7 +144,7 @@ static bool names_others(const struct key_row *row, const unsigned long *given) 
 }
 
 static long answer(const struct key_row *row, const unsigned long *given, struct arguments arguments) {
-    if (names_others(row, given)) return fail(EOPNOTSUPP);
+    if (names_others(row, given)) return fail_as(EOPNOTSUPP);
     switch (row->call) {
     case KEYCTL_SET_REQKEY_KEYRING: return tracees_set_reqkey_keyring((int)arguments.at[0]);
     case KEYCTL_SESSION_TO_PARENT: return tracees_session_to_parent();

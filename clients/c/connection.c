@@ -1,29 +1,7 @@
 /* connection.c: how an ask goes out on a connection, and how its reply is found. */
-#define _GNU_SOURCE
 #include "connection.h"
 
-#include <errno.h>
 #include <poll.h>
-#include <pthread.h>
-#include <string.h>
-
-static int fail(int error) {
-    errno = error;
-    return -1;
-}
-
-/* Errors of here are those of a call that has ended: no thread is cancelled, and errno stays. */
-static int begin_uncancelled(void) {
-    int cancelling;
-    pthread_setcancelstate(PTHREAD_CANCEL_DISABLE, &cancelling);
-    return cancelling;
-}
-
-static void end_uncancelled(int cancelling) {
-    int error = errno;
-    pthread_setcancelstate(cancelling, NULL);
-    errno = error;
-}
 
 /* ---- An ask ---- */
 
@@ -40,10 +18,9 @@ static uint64_t tag_of(uint64_t number, const struct kr_ask_form *form) {
 
 /* An ask of which no byte went out was never made. */
 static void take_back(struct kr *connection, size_t length) {
-    int error = errno;
+    ERRNO_STAYS;
     explicit_bzero(connection->memory->out, length);
     connection->out_end = 0;
-    errno = error;
 }
 
 /* Sends one ask behind what an earlier call left. */
@@ -56,7 +33,7 @@ static int send_ask(struct kr *connection, const struct kr_ask_form *form, uint3
     size_t length = kr_encode_ask(out, tag_of(connection->asked + 1, form), form, context, fields);
     if (length == 0) {
         explicit_bzero(out, sizeof connection->memory->out); /* some of it was put there */
-        return fail(EINVAL);
+        return fail_as(EINVAL);
     }
     connection->out_end = length;
     int sent = kr_flush(connection);
@@ -156,7 +133,7 @@ static int call(struct kr *connection, const struct kr_ask_form *form, uint32_t 
                 const struct kr_field *fields, struct kr_reply *reply) {
     kr_wipe(connection);
     if (check_whole(connection) < 0) return -1;
-    if (awaited(connection) > 0) return fail(EBUSY);
+    if (awaited(connection) > 0) return fail_as(EBUSY);
     end_late(connection);
     kr_begin_call(connection);
     int result = exchange(connection, form, context, fields, reply);
@@ -188,13 +165,11 @@ static struct kr_answer ask(struct kr *connection, const struct kr_ask_form *for
 /* A context that there is no room for is asked for again where some that came late are in its place. */
 struct kr_answer kr_ask(struct kr *connection, enum kr_operation operation, uint32_t context,
                         const struct kr_field *fields) {
+    UNCANCELLED;
     const struct kr_ask_form *form = kr_ask_form(operation);
-    int cancelling = begin_uncancelled();
     struct kr_answer answer = ask(connection, form, context, fields);
     bool is_full = answer.length < 0 && errno == EINVAL && makes_context(form) && connection->late_count > 0;
-    if (is_full) answer = ask(connection, form, context, fields);
-    end_uncancelled(cancelling);
-    return answer;
+    return is_full ? ask(connection, form, context, fields) : answer;
 }
 
 bool kr_tell(struct kr *connection, enum kr_operation operation, uint32_t context) {
@@ -213,22 +188,21 @@ static int send_ahead(struct kr *connection, const struct kr_ask_form *form, uin
                       const struct kr_field *fields) {
     kr_wipe(connection);
     if (check_whole(connection) < 0) return -1;
-    if (!form) return fail(EINVAL);
-    if (awaited(connection) >= KR_AHEAD_MAX) return fail(EAGAIN);
+    if (!form) return fail_as(EINVAL);
+    if (awaited(connection) >= KR_AHEAD_MAX) return fail_as(EAGAIN);
     connection->deadline = 0;
     uint64_t before = connection->asked;
     int sent = send_ask(connection, form, context, fields);
-    if (connection->asked == before) return sent < 0 && errno == ETIMEDOUT ? fail(EAGAIN) : -1;
+    if (connection->asked == before) return sent < 0 && errno == ETIMEDOUT ? fail_as(EAGAIN) : -1;
     connection->ahead[connection->asked % KR_AHEAD_MAX] = form;
     return connection->broken ? -1 : 0; /* what hasn't gone out goes out later */
 }
 
 int kr_send(struct kr *connection, unsigned operation, uint32_t context, const struct kr_field *fields,
             uint64_t *tag) {
-    int cancelling = begin_uncancelled();
+    UNCANCELLED;
     int sent = send_ahead(connection, kr_ask_form(operation), context, fields);
     if (sent == 0 && tag) *tag = connection->asked;
-    end_uncancelled(cancelling);
     return sent;
 }
 
@@ -247,7 +221,7 @@ static int send_and_receive(struct kr *connection) {
     while (connection->out_start < connection->out_end) {
         struct pollfd wait = { .fd = connection->descriptor, .events = POLLIN | POLLOUT };
         int ready = poll(&wait, 1, kr_milliseconds_left(connection));
-        if (ready == 0) return fail(ETIMEDOUT);
+        if (ready == 0) return fail_as(ETIMEDOUT);
         if (ready < 0 && (errno != EINTR || connection->interruptible)) return -1;
         if (ready > 0 && wait.revents & ~POLLOUT) break;
         if (ready > 0 && flush_at_once(connection) < 0) return -1;
@@ -261,7 +235,7 @@ static int receive_ahead(struct kr *connection, struct kr_reply *reply) {
     int found;
     kr_wipe(connection);
     if (check_whole(connection) < 0) return -1;
-    if (awaited(connection) == 0) return fail(ENOMSG);
+    if (awaited(connection) == 0) return fail_as(ENOMSG);
     kr_begin_call(connection);
     while ((found = take_reply(connection, reply)) == 0)
         if (send_and_receive(connection) < 0) return -1;
@@ -280,7 +254,7 @@ static int64_t give_answer(struct kr *connection, const struct kr_ask_form *form
 }
 
 int64_t kr_receive(struct kr *connection, uint64_t *tag, void *buffer, size_t room) {
-    int cancelling = begin_uncancelled();
+    UNCANCELLED;
     struct kr_reply reply;
     int64_t answer = -1;
     uint64_t answered = 0;
@@ -289,10 +263,8 @@ int64_t kr_receive(struct kr *connection, uint64_t *tag, void *buffer, size_t ro
         answer = give_answer(connection, connection->ahead[answered % KR_AHEAD_MAX], &reply, buffer, room);
         if (connection->broken) answered = 0;
     }
-    int error = errno;
+    ERRNO_STAYS;
     kr_wipe(connection);
-    errno = error;
     if (tag) *tag = answered;
-    end_uncancelled(cancelling);
     return answer;
 }

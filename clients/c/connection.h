@@ -2,15 +2,47 @@
 #ifndef KEYRETAIN_CONNECTION_H
 #define KEYRETAIN_CONNECTION_H
 
-#include <stdbool.h>
-#include <stdint.h>
+#include "wire.h"
+
+#include <pthread.h>
 #include <sys/socket.h>
-#include <sys/types.h>
 #include <sys/un.h>
 
-#include "keyretain.h"
-#include "place.h"
-#include "wire.h"
+/* ---- place.c: where a daemon is looked for, and who has to listen there before anything is told to it ---- */
+
+enum { KR_PATH_ROOM = 108 };
+
+/* What makes a path the one that is meant. */
+enum kr_place {
+    KR_NAMED, /* the program or the environment says so */
+    KR_OWN,   /* the user's runtime directory has a folder for it */
+    KR_SYSTEM /* there is no other */
+};
+
+struct kr_where {
+    enum kr_place place;
+    char path[KR_PATH_ROOM];
+};
+
+/* Puts the path there and answers its length, as kr_default_path does; -1 with errno. */
+int kr_find_daemon(char *path, size_t room, enum kr_place *place);
+
+/* Whether a daemon that `peer` runs may be told what a user keeps. */
+bool kr_is_trusted(enum kr_place place, uid_t user, uid_t peer);
+
+/* ---- A connection ---- */
+
+/* From here to the end of the block this thread isn't cancelled; errno is that of the block's end. */
+#define UNCANCELLED int cancelling __attribute__((cleanup(end_uncancelled), unused)) = begin_uncancelled()
+static inline int begin_uncancelled(void) {
+    int cancelling;
+    pthread_setcancelstate(PTHREAD_CANCEL_DISABLE, &cancelling);
+    return cancelling;
+}
+static inline void end_uncancelled(const int *cancelling) {
+    ERRNO_STAYS;
+    pthread_setcancelstate(*cancelling, NULL);
+}
 
 /* Milliseconds of the monotonic clock; the moment that never comes. */
 #define KR_NEVER INT64_MAX

@@ -1,11 +1,5 @@
 /* contexts.c: the connections of a supervisor, and the contexts in them. */
-#define _GNU_SOURCE
 #include "contexts.h"
-
-#include <errno.h>
-#include <stdlib.h>
-#include <string.h>
-
 #include "connection.h"
 
 /* The daemon ends a connection after 16,777,216 reads of at most 4,096 bytes each. What is left of them is for
@@ -34,28 +28,21 @@ static struct {
     struct line *lines; /* the youngest first */
     unsigned last_age, beginnings;
     int64_t next_further;
-    char path[KR_PATH_ROOM];
+    struct kr_where where;
     bool (*make_room)(unsigned age);
 } all;
-
-static int fail(int error) {
-    errno = error;
-    return -1;
-}
 
 /* ---- Connections ---- */
 
 static void close_line(struct line *line) {
-    struct line **at = &all.lines;
-    while (*at != line) at = &(*at)->next;
-    *at = line->next;
+    TAKE_OUT(all.lines, line);
     kr_close(line->connection);
     free(line);
 }
 
 /* Another daemon at the path has none of what there is on the other connections. */
 static struct line *open_line(int milliseconds) {
-    struct kr *connection = kr_open_with(all.path, 0, milliseconds);
+    struct kr *connection = kr_open_with(all.where.path, 0, milliseconds);
     struct line *line = connection ? calloc(1, sizeof *line) : NULL;
     if (!line || (all.lines && connection->peer_pid != contexts_daemon())) {
         if (connection) kr_close(connection);
@@ -71,10 +58,7 @@ static struct line *open_line(int milliseconds) {
 
 int contexts_begin(const char *path, bool (*make_room)(unsigned age)) {
     all.make_room = make_room;
-    if (!path && kr_default_path(all.path, sizeof all.path) < 0) return -1;
-    if (path && strlen(path) >= sizeof all.path) return fail(ENAMETOOLONG);
-    if (path) memcpy(all.path, path, strlen(path) + 1);
-    return open_line(OPENING_MILLISECONDS) ? 0 : -1;
+    return kr_locate(&all.where, path) == 0 && open_line(OPENING_MILLISECONDS) ? 0 : -1;
 }
 
 void contexts_set_deadline(void) {
@@ -96,7 +80,7 @@ static struct line *first_in_use(void) {
 int contexts_begin_call(void) {
     contexts_set_deadline();
     if (first_in_use() || open_line(OPENING_MILLISECONDS)) return 0;
-    return errno == ENOMEM || errno == EACCES || errno == ETIMEDOUT ? -1 : fail(ENOSYS);
+    return errno == ENOMEM || errno == EACCES || errno == ETIMEDOUT ? -1 : fail_as(ENOSYS);
 }
 
 int32_t contexts_daemon(void) {
@@ -196,7 +180,7 @@ static int hello_on_further(struct context *made, const struct kr_identity *iden
     if (number < 0) {
         if (line) close_line(line);
         all.next_further = kr_now() + PAUSE_MILLISECONDS;
-        return fail(EDQUOT);
+        return fail_as(EDQUOT);
     }
     kr_set_deadline(line->connection, kr_now() + CALL_MILLISECONDS);
     return take(made, line, number, true);
@@ -205,7 +189,7 @@ static int hello_on_further(struct context *made, const struct kr_identity *iden
 int context_hello(struct context *made, const struct kr_identity *identity) {
     struct line *line;
     int64_t number;
-    if (!all.lines) return fail(ENOSYS);
+    if (!all.lines) return fail_as(ENOSYS);
     while (!(line = find_for_identity()) && all.make_room(0)) continue;
     if (!line) return hello_on_further(made, identity);
     do number = kr_hello_as(line->connection, identity);
@@ -216,18 +200,16 @@ int context_hello(struct context *made, const struct kr_identity *identity) {
 static int derive(struct context *made, const struct context *from, int64_t (*ask)(struct kr *, uint32_t), bool lasts) {
     struct line *line = line_of(from);
     int64_t number;
-    if (!line) return fail(ECONNRESET);
+    if (!line) return fail_as(ECONNRESET);
     while (lasts && line->lasting >= LASTING)
-        if (!all.make_room(0)) return fail(EDQUOT);
+        if (!all.make_room(0)) return fail_as(EDQUOT);
     do number = ask(line->connection, from->number);
     while (again(line, number));
     return take(made, line, number, lasts);
 }
 
 int context_hold(struct context *made, const struct context *from) { return derive(made, from, kr_fork, true); }
-
 int context_fork(struct context *made, const struct context *from) { return derive(made, from, kr_fork, false); }
-
 int context_thread(struct context *made, const struct context *from) { return derive(made, from, kr_thread, false); }
 
 void context_forget(struct context *context) {
@@ -241,14 +223,13 @@ void context_forget(struct context *context) {
 
 /* Waits for nothing, unless the daemon takes nothing more before it has given its replies. */
 void context_end(struct context *context) {
-    int error = errno;
+    ERRNO_STAYS;
     struct kr *connection = context_connection(context);
     if (connection && !kr_tell(connection, KR_EXIT, context->number)) {
         kr_set_deadline(connection, kr_now() + CALL_MILLISECONDS);
         kr_exit(connection, context->number);
     }
     context_forget(context);
-    errno = error;
 }
 
 /* Where the daemon doesn't say so in time, it may have one. */

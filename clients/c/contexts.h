@@ -6,10 +6,6 @@
 #ifndef KEYRETAIN_CONTEXTS_H
 #define KEYRETAIN_CONTEXTS_H
 
-#include <stdbool.h>
-#include <stddef.h>
-#include <stdint.h>
-
 #include "session.h"
 
 /* Its connection's age and its number there. All zero is none. One that lasts is an identity's or a session's, and

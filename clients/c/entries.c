@@ -1,17 +1,10 @@
 /* entries.c: what a supervisor remembers of the processes and threads that have asked. */
-#define _GNU_SOURCE
 #include "entries.h"
 
-#include <errno.h>
-#include <stdlib.h>
-#include <string.h>
 #include <sys/epoll.h>
 #include <sys/resource.h>
-#include <unistd.h>
 
-#include "memory.h"
 #include "proc.h"
-#include "task_contexts.h"
 
 enum { BUCKETS = 1024, SPARE_DESCRIPTORS = 40, OF_PROCESS = 2 };
 
@@ -33,13 +26,6 @@ void entries_begin(int epoll) {
 /* What else is open is no more than the spare ones. */
 bool entries_are_many(void) { return all.descriptors + SPARE_DESCRIPTORS >= all.most_descriptors; }
 
-static void close_one(int *descriptor) {
-    int error = errno;
-    if (*descriptor >= 0) close(*descriptor);
-    *descriptor = -1;
-    errno = error;
-}
-
 /* ---- Ends ---- */
 
 static void sweep_no_more(struct process *process) {
@@ -54,9 +40,7 @@ void sweep_from_now_on(struct process *process) {
 }
 
 void end_task(struct task *task) {
-    struct task **at = &task->process->tasks;
-    while (*at != task) at = &(*at)->next;
-    *at = task->next;
+    TAKE_OUT(task->process->tasks, task);
     end_seats(task);
     session_let_go(task->session);
     if (task->descriptor >= 0) all.descriptors--;
@@ -68,9 +52,7 @@ void end_task(struct task *task) {
 static struct process **bucket_of(pid_t id) { return &all.buckets[(unsigned)id % BUCKETS]; }
 
 void end_process(struct process *process) {
-    struct process **at = bucket_of(process->id);
-    while (*at != process) at = &(*at)->next;
-    *at = process->next;
+    TAKE_OUT(*bucket_of(process->id), process);
     TAILQ_REMOVE(&all.order, process, order);
     while (process->tasks) end_task(process->tasks);
     sessions_forget(process);
@@ -155,7 +137,6 @@ void process_asks(struct process *process) {
 }
 
 struct process *entries_oldest(void) { return TAILQ_FIRST(&all.order); }
-
 struct process *entries_next(const struct process *process) { return TAILQ_NEXT(process, order); }
 
 bool entries_have_uid(uint32_t uid) {

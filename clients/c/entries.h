@@ -3,14 +3,41 @@
 #ifndef KEYRETAIN_ENTRIES_H
 #define KEYRETAIN_ENTRIES_H
 
-#include <stdbool.h>
-#include <sys/queue.h>
-#include <sys/types.h>
-
-#include "contexts.h"
-#include "krs_admission.h"
-#include "replay.h"
 #include "sessions.h"
+
+#include <linux/seccomp.h>
+#include <sys/queue.h>
+
+/* ---- calls.c: the answer to a call that a signal has ended while it was carried out ----
+ *
+ * Without WAIT_KILLABLE_RECV, which runtimes of containers may not set, a signal ends a call that is under way: the
+ * answer finds nobody, and the call may come again, from the kernel (SA_RESTART) or from the program (EINTR). A link
+ * that is taken away twice would be ENOENT. So the answer is kept for a moment, and given where the next call of the
+ * same thread is the same one. */
+
+/* A thread's, at first all zero. */
+struct replay {
+    struct seccomp_data call;
+    struct admission_process caller; /* all its bytes count */
+    uint64_t sum; /* of the bytes that the call's pointers meant */
+    int64_t until;
+    long result;
+    int error;
+};
+
+/* The sum of some bytes more. */
+uint64_t replay_sum(uint64_t sum, const void *bytes, size_t length);
+
+/* Whether the call is that of the answer that is kept, and of who has the same ids, which is then given it. Either way
+ * none is kept afterwards. */
+bool replay_take(struct replay *replay, const struct seccomp_data *call, const struct admission_process *caller,
+                 uint64_t sum, long *result);
+
+/* Keeps the answer `result`, with this errno. */
+void replay_keep(struct replay *replay, const struct seccomp_data *call, const struct admission_process *caller,
+                 uint64_t sum, long result, int error);
+
+/* ---- entries.c ---- */
 
 enum { SEATS = 4 };
 
@@ -99,5 +126,45 @@ bool entries_are_many(void);
 
 bool entries_want_sweep(void);
 void entries_sweep(void);
+
+/* ---- task_contexts.c: the contexts of threads ----
+ *
+ * A thread has one for each identity in which it has asked. It is given up for another's where it has no thread and no
+ * process keyring, and made anew at the thread's next ask. */
+
+/* In which session a thread asks: in this one, in none, or in a lost one. */
+struct admitted {
+    struct session *session;
+    bool is_lost;
+};
+
+/* Who asks: what is judged of the process, and whether it is in another user namespace than the one that is served. */
+struct asker {
+    struct admission_process process;
+    bool is_elsewhere;
+};
+
+/* The one under this identity that was made for this process as it is now, or NULL. */
+struct seat *find_seat(struct task *task, const struct user *user, const struct asker *asker);
+
+/* The one under this identity in this session, which is made where there is none. NULL with errno. */
+struct seat *have_seat(struct task *task, struct user *user, struct admitted admitted, const struct asker *asker);
+
+/* After a thread has come into a session in which its other contexts aren't: they are given up, and those that have
+ * something to lose are brought there where they are of the session's user, or lose their session. */
+void bring_seats(struct task *task, struct session *session);
+
+void end_seats(struct task *task);
+
+/* Ends contexts that nothing is lost with: of the connection of this age, or lasting ones for 0. `keeps` is that of
+ * sessions.h, and `asking` the thread whose call is served, or NULL. False where there is none. */
+bool seats_make_room(unsigned age, const struct task *asking, bool (*keeps)(pid_t, const struct session *));
+
+/* Where descriptors run short: gives up threads and processes that have nothing to lose, and are known again as
+ * `may_be_forgotten` says. */
+void seats_make_descriptors(const struct task *asking, bool (*may_be_forgotten)(const struct process *));
+
+/* A process that has nothing to lose on an old connection gets contexts on another one. */
+void seats_leave_old_connections(void);
 
 #endif

@@ -1,21 +1,12 @@
 /* filter.c: the seccomp filter, and what its notifications mean. Only the three key calls are ever handed over:
  * without a supervisor a call that is handed over is ENOSYS, and a process that could not exit or fork then would be
  * lost. */
-#define _GNU_SOURCE
-#include "filter.h"
+#include "serve.h"
 
-#include <errno.h>
 #include <linux/audit.h>
 #include <linux/filter.h>
-#include <linux/seccomp.h>
-#include <stdbool.h>
-#include <stddef.h>
 #include <sys/prctl.h>
 #include <sys/syscall.h>
-#include <unistd.h>
-
-#include "proc.h"
-#include "syscalls.h"
 
 #ifndef SECCOMP_FILTER_FLAG_WAIT_KILLABLE_RECV
 #define SECCOMP_FILTER_FLAG_WAIT_KILLABLE_RECV (1UL << 5)
@@ -74,10 +65,7 @@ static int install_for_kernel(void) {
 }
 
 int filter_install(void) {
-    if (IS_UNKNOWN) {
-        errno = ENOSYS;
-        return -1;
-    }
+    if (IS_UNKNOWN) return fail_as(ENOSYS);
     int listener = install_for_kernel();
     if (listener >= 0 || errno != EACCES) return listener;
     if (prctl(PR_SET_NO_NEW_PRIVS, 1, 0, 0, 0) < 0) return -1;
@@ -100,7 +88,7 @@ int filter_decode(const struct seccomp_data *data, unsigned long at[5]) {
     case 0:
         for (int i = 0; i < 5; i++) at[i] = args[i];
         return CALL_ADD_KEY;
-    case 1: /* syscalls.h has the call-out information last */
+    case 1: /* rows.h has the call-out information last */
         at[0] = args[0], at[1] = args[1], at[2] = args[3], at[3] = args[2];
         return CALL_REQUEST_KEY;
     case 2:

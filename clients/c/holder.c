@@ -1,19 +1,10 @@
 /* holder.c: how a keeper is started. It is executed, and not merely forked: so nothing of this process is in its
  * memory. */
-#define _GNU_SOURCE
-#include "holder.h"
+#include "session.h"
 
-#include <errno.h>
-#include <fcntl.h>
 #include <poll.h>
-#include <signal.h>
 #include <spawn.h>
-#include <stdio.h>
-#include <stdlib.h>
-#include <string.h>
-#include <sys/stat.h>
 #include <sys/wait.h>
-#include <unistd.h>
 
 #include "connection.h"
 
@@ -27,13 +18,6 @@ enum { KEPT_DESCRIPTOR = 200, READING = 0, WRITING = 1, LOOK_MILLISECONDS = 1 };
 struct pipes {
     int life[2], answer[2];
 };
-
-static void close_one(int *descriptor) {
-    int error = errno;
-    if (*descriptor >= 0) close(*descriptor);
-    *descriptor = -1;
-    errno = error;
-}
 
 static void close_pipes(struct pipes *pipes) {
     for (int i = READING; i <= WRITING; i++) {
@@ -55,38 +39,27 @@ static int open_pipe(int ends[2]) {
 
 /* ---- Starting ---- */
 
-static int prepare_descriptors(posix_spawn_file_actions_t *actions, const struct pipes *pipes) {
-    int error = posix_spawn_file_actions_adddup2(actions, pipes->life[READING], STDIN_FILENO);
-    if (!error) error = posix_spawn_file_actions_adddup2(actions, pipes->answer[WRITING], STDOUT_FILENO);
-    if (!error) error = posix_spawn_file_actions_addopen(actions, STDERR_FILENO, "/dev/null", O_RDWR, 0);
-    return error;
-}
-
-/* All signals as at first, none held back, and no terminal. */
-static int prepare_signals(posix_spawnattr_t *attributes) {
-    sigset_t none, all;
-    sigemptyset(&none);
-    sigfillset(&all);
-    int error = posix_spawnattr_setsigmask(attributes, &none);
-    if (!error) error = posix_spawnattr_setsigdefault(attributes, &all);
-    if (!error)
-        error = posix_spawnattr_setflags(attributes,
-                                         POSIX_SPAWN_SETSIGMASK | POSIX_SPAWN_SETSIGDEF | POSIX_SPAWN_SETSID);
-    return error;
-}
-
-/* The process that is started goes to the background by itself, and ends. */
+/* An error, or 0. The process that is started has all signals as at first, none held back, and no terminal; it goes to
+ * the background by itself, and ends. */
 static int spawn(const struct pipes *pipes, char *const words[], pid_t *started) {
     char *environment[] = { NULL };
     posix_spawn_file_actions_t actions;
     posix_spawnattr_t attributes;
+    sigset_t none, all;
+    sigemptyset(&none);
+    sigfillset(&all);
     int error = posix_spawn_file_actions_init(&actions);
     if (error) return error;
     error = posix_spawnattr_init(&attributes);
     if (!error) {
-        error = prepare_descriptors(&actions, pipes);
-        if (!error) error = prepare_signals(&attributes);
-        if (!error) error = posix_spawn(started, KEYRETAIN_KEEPER, &actions, &attributes, words, environment);
+        if (!(error = posix_spawn_file_actions_adddup2(&actions, pipes->life[READING], STDIN_FILENO)) &&
+            !(error = posix_spawn_file_actions_adddup2(&actions, pipes->answer[WRITING], STDOUT_FILENO)) &&
+            !(error = posix_spawn_file_actions_addopen(&actions, STDERR_FILENO, "/dev/null", O_RDWR, 0)) &&
+            !(error = posix_spawnattr_setsigmask(&attributes, &none)) &&
+            !(error = posix_spawnattr_setsigdefault(&attributes, &all)) &&
+            !(error = posix_spawnattr_setflags(
+                  &attributes, POSIX_SPAWN_SETSIGMASK | POSIX_SPAWN_SETSIGDEF | POSIX_SPAWN_SETSID)))
+            error = posix_spawn(started, KEYRETAIN_KEEPER, &actions, &attributes, words, environment);
         posix_spawnattr_destroy(&attributes);
     }
     posix_spawn_file_actions_destroy(&actions);
@@ -170,10 +143,7 @@ static int start(struct pipes *pipes, char *const words[], struct kr_session *se
     int error = spawn(pipes, words, &started);
     close_one(&pipes->life[READING]);
     close_one(&pipes->answer[WRITING]);
-    if (error) {
-        errno = error;
-        return -1;
-    }
+    if (error) return fail_as(error);
     int result = read_answer(pipes->answer[READING], session, deadline, why);
     error = errno;
     reap(started, deadline);
@@ -181,17 +151,14 @@ static int start(struct pipes *pipes, char *const words[], struct kr_session *se
     return result;
 }
 
-static bool is_a_line(const char *name) { return !strchr(name, '\n'); }
-
 int kr_start_keeper(struct kr_holder *holder, struct kr_session *session, const char *socket, bool links_user,
                     int64_t deadline, enum kr_refusal *why) {
     struct pipes pipes = { { -1, -1 }, { -1, -1 } };
     char *words[8] = { "keyretain-keeper", "--deaf", "--socket", (char *)socket };
     int count = 4;
-    if (!is_a_line(session->name)) { /* which the keeper answers with */
+    if (strchr(session->name, '\n')) { /* the keeper answers with a line */
         *why = KR_REFUSED;
-        errno = EINVAL;
-        return -1;
+        return fail_as(EINVAL);
     }
     if (!links_user) words[count++] = "--no-link";
     if (*session->name) words[count++] = "--name", words[count++] = session->name;
@@ -228,6 +195,7 @@ bool kr_is_held(const struct kr_holder *holder) {
 }
 
 void kr_close_holder(struct kr_holder *holder) {
+    ERRNO_STAYS;
     if (kr_is_held(holder)) close(holder->descriptor);
     holder->descriptor = -1;
 }

@@ -1,28 +1,30 @@
-/* keyretain-agent-container.c: see keyretain-agent-container.h.
+/* keyretain-agent-container.c: the containers, the process that serves each, and its daemon.
  *
  * A listener goes to the server by a socket pair of which both ends stay open here. So what a server that ends has not
  * taken from it is still there, for the next one. */
-#define _GNU_SOURCE
-#include "keyretain-agent-container.h"
+#include "keyretain-agent.h"
 
 #include <dirent.h>
-#include <errno.h>
-#include <fcntl.h>
+#include <linux/capability.h>
 #include <poll.h>
-#include <signal.h>
-#include <stdio.h>
-#include <stdlib.h>
-#include <string.h>
 #include <sys/file.h>
+#include <sys/mman.h>
+#include <sys/prctl.h>
+#include <sys/resource.h>
+#include <sys/sendfile.h>
 #include <sys/socket.h>
-#include <sys/stat.h>
+#include <sys/syscall.h>
 #include <sys/wait.h>
-#include <unistd.h>
 
-#include "keyretain-agent-server.h"
-#include "keyretain-agent-state.h"
-#include "place.h"
+#include "connection.h"
 #include "serve.h"
+
+enum { FAILED = 3, DAEMON_PATIENCE = 10000, STACK_BYTES = 256 * 1024, COPIED_AT_ONCE = 1024 * 1024 };
+enum { LISTENERS = 3, COPY = 4, KEPT = 5 }; /* descriptors of a server */
+
+#ifndef MFD_EXEC
+#define MFD_EXEC 0x10u
+#endif
 
 /* With an empty id it is a free place. */
 struct container {
@@ -36,6 +38,135 @@ static struct {
     int folder, copy; /* of the daemon's program, or -1 */
     struct container *containers;
 } all;
+
+static _Noreturn void fail(const struct container *container, const char *what) {
+    fprintf(stderr, "keyretain-agent: container %s: %s: %s\n", container->id, what, strerror(errno));
+    _exit(FAILED);
+}
+
+/* What `parent` has started ends with it. */
+static bool end_with(pid_t parent) { return prctl(PR_SET_PDEATHSIG, SIGKILL) == 0 && getppid() == parent; }
+
+/* ---- The program ---- */
+
+/* Linux 6.3 wants to be told that it is to be executed; others don't know that. */
+static int make_file(void) {
+    int file = memfd_create("keyretaind", MFD_CLOEXEC | MFD_EXEC);
+    return file < 0 && errno == EINVAL ? memfd_create("keyretaind", MFD_CLOEXEC) : file;
+}
+
+static bool copy_all(int from, int to) {
+    ssize_t copied;
+    while ((copied = sendfile(to, from, NULL, COPIED_AT_ONCE)) > 0) continue;
+    return copied == 0 && fchmod(to, S_IXUSR) == 0;
+}
+
+/* A copy in memory that may be executed and not read, unless by who has the capabilities for that. What executes it
+ * can't be dumped or traced by others of its uid, as those of another container may be. -1 where there is none. */
+static int copy_program(const char *path) {
+    int program = open(path, O_RDONLY | O_CLOEXEC), copy = program < 0 ? -1 : make_file();
+    bool is_copied = copy >= 0 && copy_all(program, copy);
+    close_one(&program);
+    if (!is_copied) close_one(&copy);
+    return copy;
+}
+
+/* ---- The daemon ---- */
+
+/* Not even as root: without new privileges a program that root executes gets none that it hasn't here. */
+static bool drop_capabilities(void) {
+    struct __user_cap_header_struct head = { .version = _LINUX_CAPABILITY_VERSION_3 };
+    struct __user_cap_data_struct none[_LINUX_CAPABILITY_U32S_3] = { 0 };
+    return prctl(PR_SET_NO_NEW_PRIVS, 1, 0, 0, 0) == 0 && syscall(SYS_capset, &head, none) == 0;
+}
+
+/* What it keeps is the container's, which may ask for as much as it likes. At a limit on address space it refuses what
+ * would be too much; the stacks of its threads count too: keyretaind(8). */
+static bool limit_memory(unsigned long bytes) {
+    const struct rlimit space = { bytes, bytes }, stack = { STACK_BYTES, STACK_BYTES };
+    return bytes == 0 || (setrlimit(RLIMIT_STACK, &stack) == 0 && setrlimit(RLIMIT_AS, &space) == 0);
+}
+
+static _Noreturn void become_daemon(const struct container *container, const char *path, pid_t parent, int answers) {
+    static char one_arena[] = "MALLOC_ARENA_MAX=1";
+    char *environment[] = { one_arena, NULL };
+    char *words[] = { "keyretaind", "--socket", (char *)path, "--lanes", "8", NULL };
+    if (drop_capabilities() && end_with(parent) && limit_memory(all.settings.memory) &&
+        dup2(answers, STDOUT_FILENO) >= 0) {
+        execveat(COPY, "", words, environment, AT_EMPTY_PATH);
+        execve(all.settings.daemon, words, environment); /* no copy may be executed, or it is no program by itself */
+    }
+    fail(container, all.settings.daemon);
+}
+
+/* It says `listening PATH`. */
+static bool is_listening(int answers) {
+    static const char wanted[] = "listening ";
+    char said[sizeof wanted - 1];
+    struct pollfd wait = { .fd = answers, .events = POLLIN };
+    int64_t deadline = kr_now() + DAEMON_PATIENCE;
+    int ready;
+    do ready = poll(&wait, 1, kr_now() < deadline ? (int)(deadline - kr_now()) : 0);
+    while (ready < 0 && errno == EINTR);
+    if (ready <= 0) errno = ETIMEDOUT;
+    if (ready <= 0 || read(answers, said, sizeof said) != sizeof said) return false;
+    return memcmp(said, wanted, sizeof said) == 0;
+}
+
+static _Noreturn void fail_daemon(const struct container *container) {
+    const char *why = errno == ETIMEDOUT ? "does not begin" : "has ended before it listened, or is another program";
+    fprintf(stderr, "keyretain-agent: container %s: its daemon %s\n", container->id, why);
+    _exit(FAILED);
+}
+
+static void start_daemon(const struct container *container, const char *path) {
+    pid_t parent = getpid();
+    int ends[2];
+    if (pipe2(ends, O_CLOEXEC) < 0) fail(container, "a pipe");
+    pid_t daemon = fork();
+    if (daemon == 0) become_daemon(container, path, parent, ends[1]);
+    if (daemon < 0) fail(container, "its daemon");
+    close(ends[1]);
+    errno = 0;
+    if (!is_listening(ends[0])) fail_daemon(container);
+    close(ends[0]);
+    close(COPY);
+}
+
+/* ---- The server ---- */
+
+/* Nothing of the agent but the standard descriptors and these. */
+static void keep_descriptors(const struct container *container) {
+    int listeners = fcntl(container->out, F_DUPFD_CLOEXEC, KEPT), copy = fcntl(all.copy, F_DUPFD_CLOEXEC, KEPT);
+    if (listeners < 0 || dup3(listeners, LISTENERS, O_CLOEXEC) < 0) fail(container, "its listeners");
+    close(COPY);
+    if (copy >= 0) dup3(copy, COPY, O_CLOEXEC);
+    closefrom(KEPT);
+}
+
+static void reset_signals(void) {
+    sigset_t none;
+    sigemptyset(&none);
+    sigprocmask(SIG_SETMASK, &none, NULL);
+}
+
+/* Serves the container until its last listener has gone, and ends the process: with 0 then, and else with FAILED. It
+ * is a child of the agent, with which it ends. */
+static _Noreturn void serve_container(const struct container *container, const char *path, pid_t agent) {
+    char name[sizeof "_ses." + CONTAINER_ID_MAX];
+    const struct serve_settings settings = {
+        .tracees = { .socket = path, .name = name, .is_container = true, .first = container->first },
+        .more = LISTENERS };
+    snprintf(name, sizeof name, "_ses.%s", container->id);
+    if (!end_with(agent)) _exit(FAILED);
+    keep_descriptors(container);
+    reset_signals();
+    start_daemon(container, path);
+    int listener = serve_receive_listener(LISTENERS);
+    if (listener < 0) fail(container, "its listener");
+    if (serve(listener, &settings) != SERVE_DONE) fail(container, "its session");
+    _exit(0);
+}
 
 /* ---- The folder ---- */
 
@@ -55,20 +186,9 @@ static bool open_folder(const char *path) {
     if (mkdir(path, 0700) < 0 && errno != EEXIST) return false;
     all.folder = open(path, O_RDONLY | O_DIRECTORY | O_NOFOLLOW | O_CLOEXEC);
     if (all.folder < 0 || fstat(all.folder, &status) < 0) return false;
-    if (status.st_uid != geteuid() || (status.st_mode & 077) != 0) {
-        errno = EPERM;
-        return false;
-    }
+    errno = EPERM;
+    if (status.st_uid != geteuid() || (status.st_mode & 077) != 0) return false;
     return flock(all.folder, LOCK_EX | LOCK_NB) == 0;
-}
-
-bool containers_begin(const struct containers_settings *settings) {
-    all.settings = *settings;
-    all.containers = calloc(settings->most, sizeof *all.containers);
-    if (!all.containers || !open_folder(settings->folder)) return false;
-    all.copy = copy_program(settings->daemon);
-    remove_left_sockets();
-    return true;
 }
 
 /* The name of the daemon's socket has nothing of the container's id. */
@@ -80,6 +200,15 @@ static bool put_socket_path(char *path, size_t room, const struct container *con
 static void remove_socket(const struct container *container) {
     char path[KR_PATH_ROOM];
     if (put_socket_path(path, sizeof path, container)) unlink(path);
+}
+
+bool containers_begin(const struct containers_settings *settings) {
+    all.settings = *settings;
+    all.containers = calloc(settings->most, sizeof *all.containers);
+    if (!all.containers || !open_folder(settings->folder)) return false;
+    all.copy = copy_program(settings->daemon);
+    remove_left_sockets();
+    return true;
 }
 
 /* ---- A container ---- */
@@ -128,11 +257,7 @@ static bool start_server(struct container *container) {
     if (!put_socket_path(path, sizeof path, container)) return false;
     unlink(path);
     container->server = fork();
-    if (container->server == 0) {
-        const struct server server = { agent, container->first, container->id, all.settings.daemon, all.copy, path,
-                                       all.settings.memory, container->out };
-        serve_container(&server);
-    }
+    if (container->server == 0) serve_container(container, path, agent);
     return container->server > 0;
 }
 

@@ -1,10 +1,8 @@
-/* keyretain-agent-state.c: see keyretain-agent-state.h. */
-#define _GNU_SOURCE
-#include "keyretain-agent-state.h"
+/* keyretain-agent-state.c: see keyretain-agent.h. */
+#include "keyretain-agent.h"
 
 #include <jansson.h>
 #include <limits.h>
-#include <string.h>
 #include <sys/mman.h>
 
 #ifndef STATE_ROOM
@@ -102,9 +100,10 @@ static bool read_names(const json_t *names, struct container_state *state) {
 }
 
 static bool read_id(const json_t *id, struct container_state *state) {
+    const char *text = json_string_value(id);
     size_t length = json_string_length(id);
-    if (length == 0 || length > CONTAINER_ID_MAX || strspn(json_string_value(id), id_characters) != length) return false;
-    memcpy(state->id, json_string_value(id), length + 1);
+    if (length == 0 || length > CONTAINER_ID_MAX || strspn(text, id_characters) != length) return false;
+    memcpy(state->id, text, length + 1);
     return true;
 }
 

@@ -3,29 +3,18 @@
  * of its own. See keyretain-agent(8).
  *
  * This process only takes states and starts the others. It is one thread, with one poll(2) at which it waits. */
-#define _GNU_SOURCE
-#include <errno.h>
+#include "keyretain-agent.h"
+
 #include <getopt.h>
 #include <poll.h>
-#include <signal.h>
-#include <stdio.h>
-#include <stdlib.h>
-#include <string.h>
+#include <sys/mman.h>
 #include <sys/signalfd.h>
 #include <sys/socket.h>
-#include <sys/stat.h>
-#include <unistd.h>
 
 #include "../../guard/listener.h"
 #include "connection.h"
-#include "keyretain-agent-container.h"
-#include "keyretain-agent-visitor.h"
-#include "proc.h"
 #include "serve.h"
 
-#ifndef KEYRETAIN_VERSION
-#define KEYRETAIN_VERSION "0"
-#endif
 #ifndef KEYRETAIN_DAEMON
 #define KEYRETAIN_DAEMON "/usr/local/sbin/keyretaind"
 #endif
@@ -53,7 +42,6 @@ static const char *socket_path; /* NULL: it is passed */
 static struct containers_settings settings = { AGENT_FOLDER, KEYRETAIN_DAEMON, 64ul * MEBIBYTE, 256 };
 
 static int listening = -1, signals = -1;
-static struct visitor visitors[VISITORS_MAX];
 
 static _Noreturn void fail(const char *what) {
     bool is_foreign = errno == EACCES || errno == EPERM;
@@ -107,6 +95,105 @@ static void read_options(int count, char **words) {
     if (optind != count) fail_usage();
 }
 
+/* ---- A runtime that has connected, and what has come from it so far ---- */
+
+/* The annotations of a container are in its state, and may be long. */
+enum { VISITOR_STATE_MAX = 1024 * 1024, VISITOR_DESCRIPTORS_MAX = 16, VISITOR_PATIENCE = 2000 };
+
+struct visitor {
+    bool is_here;
+    int connection;
+    int64_t deadline;
+    char *text;              /* of VISITOR_STATE_MAX bytes, in no core file and in no child */
+    size_t received, length; /* `length` is without what came behind the state */
+    struct json_scan scan;
+    int descriptors[VISITOR_DESCRIPTORS_MAX];
+    unsigned count;
+};
+
+static struct visitor visitors[VISITORS_MAX];
+
+/* From here on the connection is the visitor's, and no call waits for it; where there is no memory it is closed. */
+static void begin_visit(struct visitor *visitor, int connection) {
+    char *text = room_for_state(VISITOR_STATE_MAX);
+    if (!text) close(connection);
+    if (text)
+        *visitor = (struct visitor){ .is_here = true, .connection = connection, .text = text,
+                                     .deadline = kr_now() + VISITOR_PATIENCE };
+}
+
+/* Closes all that came but the listener, and leaves nothing of the state in memory. */
+static void end_visit(struct visitor *visitor) {
+    explicit_bzero(visitor->text, visitor->received);
+    munmap(visitor->text, VISITOR_STATE_MAX);
+    while (visitor->count > 0) close_one(&visitor->descriptors[--visitor->count]);
+    close(visitor->connection);
+    *visitor = (struct visitor){ 0 };
+}
+
+/* ---- Receiving ---- */
+
+/* False where there are more than may come; these are closed. */
+static bool keep_descriptor(struct visitor *visitor, int descriptor) {
+    if (visitor->count == VISITOR_DESCRIPTORS_MAX) return close(descriptor), false;
+    visitor->descriptors[visitor->count++] = descriptor;
+    return true;
+}
+
+static bool keep_descriptors(struct visitor *visitor, struct msghdr *message) {
+    bool all_kept = !(message->msg_flags & MSG_CTRUNC);
+    for (struct cmsghdr *head = CMSG_FIRSTHDR(message); head; head = CMSG_NXTHDR(message, head)) {
+        if (head->cmsg_level != SOL_SOCKET || head->cmsg_type != SCM_RIGHTS) continue;
+        for (size_t at = CMSG_LEN(0); at + sizeof(int) <= head->cmsg_len; at += sizeof(int)) {
+            int descriptor;
+            memcpy(&descriptor, (const char *)head + at, sizeof descriptor);
+            all_kept = keep_descriptor(visitor, descriptor) && all_kept;
+        }
+    }
+    return all_kept;
+}
+
+/* Takes what has come. JSON_BROKEN: the visit is over, for nothing can come of it. */
+static enum json_extent receive(struct visitor *visitor) {
+    union { /* as cmsg(3) aligns it */
+        char bytes[CMSG_SPACE(sizeof(int) * VISITOR_DESCRIPTORS_MAX)];
+        struct cmsghdr head;
+    } room;
+    struct iovec bytes = { visitor->text + visitor->received, VISITOR_STATE_MAX - visitor->received };
+    struct msghdr message = { .msg_iov = &bytes, .msg_iovlen = 1, .msg_control = &room,
+                              .msg_controllen = sizeof room };
+    size_t used;
+    ssize_t got = recvmsg(visitor->connection, &message, MSG_CMSG_CLOEXEC | MSG_DONTWAIT);
+    if (got < 0) return errno == EAGAIN || errno == EINTR ? JSON_PARTIAL : JSON_BROKEN;
+    visitor->received += (size_t)got;
+    if (!keep_descriptors(visitor, &message) || got == 0) return JSON_BROKEN;
+    enum json_extent extent = json_scan(&visitor->scan, bytes.iov_base, (size_t)got, &used);
+    visitor->length += used;
+    return extent;
+}
+
+/* ---- The listener ---- */
+
+static bool is_seccomp_listener(int descriptor) {
+    char path[40], kind[40];
+    snprintf(path, sizeof path, "/proc/self/fd/%d", descriptor);
+    ssize_t length = readlink(path, kind, sizeof kind - 1);
+    if (length < 0) return false;
+    kind[length] = '\0';
+    return strcmp(kind, "anon_inode:seccomp notify") == 0;
+}
+
+/* What a whole state says, and the listener that came with it, which is the caller's then; -1 where it isn't what a
+ * runtime sends: as many descriptors as it names, and a listener of seccomp(2) in its place. */
+static int take_listener(struct visitor *visitor, struct container_state *state) {
+    if (!read_container_state(visitor->text, visitor->length, state)) return -1;
+    if (state->descriptors != visitor->count || state->listener >= visitor->count) return -1;
+    int listener = visitor->descriptors[state->listener];
+    if (!is_seccomp_listener(listener)) return -1;
+    visitor->descriptors[state->listener] = -1;
+    return listener;
+}
+
 /* ---- Visitors ---- */
 
 static struct visitor *free_place(void) {
@@ -129,7 +216,7 @@ static void accept_visitor(void) {
     if (connection < 0) {
         if (errno != EAGAIN) poll(NULL, 0, PAUSE); /* no descriptors, or no memory */
     } else if (is_runtime(connection)) {
-        visitor_begin(visitor, connection);
+        begin_visit(visitor, connection);
     } else {
         fputs("keyretain-agent: a connection of another user is refused\n", stderr);
         close(connection);
@@ -139,8 +226,8 @@ static void accept_visitor(void) {
 /* Its state is whole. Nothing is left of the visit before anything is started. */
 static void take_state(struct visitor *visitor) {
     struct container_state state;
-    int listener = visitor_listener(visitor, &state);
-    visitor_end(visitor);
+    int listener = take_listener(visitor, &state);
+    end_visit(visitor);
     if (listener < 0)
         fputs("keyretain-agent: a state is refused: no container, or no listener\n", stderr);
     else
@@ -148,11 +235,11 @@ static void take_state(struct visitor *visitor) {
 }
 
 static void serve_visitor(struct visitor *visitor) {
-    switch (visitor_receive(visitor)) {
+    switch (receive(visitor)) {
     case JSON_WHOLE: take_state(visitor); break;
     case JSON_BROKEN:
         fputs("keyretain-agent: a state is refused: it is broken off, too long, or no object of JSON\n", stderr);
-        visitor_end(visitor);
+        end_visit(visitor);
         break;
     case JSON_PARTIAL: break;
     }
@@ -163,7 +250,7 @@ static void end_late_visitors(void) {
     for (int i = 0; i < VISITORS_MAX; i++) {
         if (!visitors[i].is_here || visitors[i].deadline > now) continue;
         fputs("keyretain-agent: a state is refused: it hasn't come in time\n", stderr);
-        visitor_end(&visitors[i]);
+        end_visit(&visitors[i]);
     }
 }
 

@@ -3,30 +3,18 @@
  * It is executed by who has a session, with the ids of the session's user and nothing else: so its memory and its
  * descriptors have nothing of the program that started it, and what that program hands on is a pipe and no
  * connection. */
-#define _GNU_SOURCE
-#include <errno.h>
-#include <fcntl.h>
+#include "connection.h"
+
 #include <linux/keyctl.h>
 #include <poll.h>
-#include <signal.h>
-#include <stdbool.h>
-#include <stdio.h>
-#include <stdlib.h>
-#include <string.h>
 #include <sys/prctl.h>
-#include <unistd.h>
 
 #include "../../guard/listener.h"
-#include "connection.h"
 #include "session.h"
-
-#ifndef KEYRETAIN_VERSION
-#define KEYRETAIN_VERSION "0"
-#endif
 
 enum { REFUSED = 1, USAGE = 2, NO_CONNECTION = 3 };
 enum { PATIENCE_MILLISECONDS = 10000, PATIENCE_DIGITS = 6, LOOK_MILLISECONDS = 1000 };
-enum { SERIAL_WIDTH = 4, USER_MAY_SEARCH = 0x00080000, DECIMAL = 10 };
+enum { SERIAL_WIDTH = 4, DECIMAL = 10 };
 
 static const char usage[] =
     "usage: keyretain-keeper [--name NAME] [--socket PATH] [--patience MILLISECONDS] [--no-link] [--deaf]\n"
@@ -55,30 +43,6 @@ static void refuse_words(const char *why, const char *word) {
     exit(USAGE);
 }
 
-static void answer_option(const char *word) {
-    if (strcmp(word, "--help") == 0 || strcmp(word, "-h") == 0)
-        printf("%s%s", usage, help);
-    else if (strcmp(word, "--version") == 0)
-        puts("keyretain-keeper " KEYRETAIN_VERSION);
-    else
-        return;
-    exit(fflush(stdout) == 0 ? 0 : NO_CONNECTION);
-}
-
-static bool is_flag(const char *word, struct options *options) {
-    if (strcmp(word, "--deaf") == 0) return options->is_deaf = true;
-    if (strcmp(word, "--no-link") != 0) return false;
-    options->links_user = false;
-    return true;
-}
-
-static const char **value_of(const char *word, struct options *options) {
-    if (strcmp(word, "--name") == 0) return &options->name;
-    if (strcmp(word, "--hold") == 0) return &options->ring;
-    if (strcmp(word, "--patience") == 0) return &options->patience;
-    return strcmp(word, "--socket") == 0 ? &options->socket : NULL;
-}
-
 /* Digits alone: 1 to 999999. */
 static int read_patience(const char *digits) {
     size_t length = strspn(digits, "0123456789");
@@ -91,9 +55,18 @@ static int read_patience(const char *digits) {
 static struct options read_options(char **words) {
     struct options options = { .milliseconds = PATIENCE_MILLISECONDS, .links_user = true };
     for (; *words; words++) {
-        if (is_flag(*words, &options)) continue;
-        const char **value = value_of(*words, &options);
-        if (!value) refuse_words("no option", *words);
+        const char **value = NULL;
+        if (strcmp(*words, "--deaf") == 0)
+            options.is_deaf = true;
+        else if (strcmp(*words, "--no-link") == 0)
+            options.links_user = false;
+        else
+            value = strcmp(*words, "--name") == 0       ? &options.name
+                    : strcmp(*words, "--hold") == 0     ? &options.ring
+                    : strcmp(*words, "--patience") == 0 ? &options.patience
+                    : strcmp(*words, "--socket") == 0   ? &options.socket
+                                                        : (refuse_words("no option", *words), NULL);
+        if (!value) continue;
         if (!words[1] || !*words[1] || strchr(words[1], '\n')) refuse_words("a value of one line must follow", *words);
         *value = *++words;
     }
@@ -145,21 +118,16 @@ static void stand_alone(void) {
 
 /* A context of this user, on a connection to the daemon, whose calls all end within the patience until it has answered.
  * A path may be relative, and no folder is kept in use. */
-static struct kr *connect_to(const struct options *options, char path[KR_PATH_ROOM], uint32_t *context) {
+static struct kr *connect_to(const struct options *options, struct kr_where *where, uint32_t *context) {
     struct kr_identity identity;
     int64_t end = kr_now() + options->milliseconds;
-    bool is_short = options->socket ? snprintf(path, KR_PATH_ROOM, "%s", options->socket) < KR_PATH_ROOM
-                                    : kr_default_path(path, KR_PATH_ROOM) >= 0;
-    if (!is_short) {
-        errno = ENAMETOOLONG;
-        fail("the socket's path");
-    }
+    if (kr_locate(where, options->socket) < 0) fail("the socket's path");
     struct kr *connection = kr_open_with(options->socket, 0, options->milliseconds);
-    if (!connection || chdir("/") < 0) fail(path);
+    if (!connection || chdir("/") < 0) fail(where->path);
     kr_set_deadline(connection, end);
     kr_own_identity(&identity);
     int64_t made = kr_hello_as(connection, &identity);
-    if (made < 0) fail_ask(connection, path);
+    if (made < 0) fail_ask(connection, where->path);
     *context = (uint32_t)made;
     return connection;
 }
@@ -175,7 +143,7 @@ static void answer(struct kr *connection, int32_t serial, const char *name, cons
 static void begin(struct kr *connection, uint32_t context, const struct options *options,
                   struct kr_session *session) {
     if (kr_name_session(session, options->name) < 0) say(REFUSED, "refused", "the name");
-    session->serial = kr_begin_session(connection, context, session->name);
+    session->serial = kr_begin_session(connection, context, session->name, geteuid());
     if (session->serial < 0) fail_ask(connection, session->name);
     if (options->links_user && kr_link(connection, context, KEY_SPEC_USER_KEYRING, KEY_SPEC_SESSION_KEYRING) < 0)
         fail_ask(connection, "linking the user keyring");
@@ -194,11 +162,11 @@ static char wait_for_end(const struct kr *connection, bool is_deaf) {
 
 static void hold_session(const struct options *options) {
     static struct kr_session session;
-    char path[KR_PATH_ROOM];
+    struct kr_where where;
     uint32_t context;
-    struct kr *connection = connect_to(options, path, &context);
+    struct kr *connection = connect_to(options, &where, &context);
     begin(connection, context, options, &session);
-    answer(connection, session.serial, session.name, path);
+    answer(connection, session.serial, session.name, where.path);
     if (wait_for_end(connection, options->is_deaf) == 'r')
         kr_revoke(connection, context, KEY_SPEC_SESSION_KEYRING);
     kr_close(connection);
@@ -254,16 +222,16 @@ static bool have_name(struct kr *connection, uint32_t context, const char *ring,
  * keyring: that context is answered, or UNCLAIMED where the daemon refuses it. */
 static int64_t claim(struct kr *connection, uint32_t context, const char *ring) {
     static struct kr_session known;
-    char described[KR_SESSION_NAME_ROOM + 64] = "";
-    unsigned owner = 0, mask = 0;
+    struct kr_attributes attributes;
     if (!have_name(connection, context, ring, &known)) return UNCLAIMED;
     int64_t second = kr_thread(connection, context);
     if (second < 0) return UNCLAIMED;
     int32_t session = kr_join(connection, (uint32_t)second, known.name);
-    if (session >= 0) kr_describe(connection, (uint32_t)second, session, described, sizeof described - 1);
-    bool is_own = sscanf(described, "keyring;%u;%*u;%x;", &owner, &mask) == 2 && owner == geteuid();
-    if (is_own && mask & USER_MAY_SEARCH) return IS_HELD;
-    if (is_own && kr_setperm(connection, (uint32_t)second, session, mask | USER_MAY_SEARCH) == 0) return second;
+    bool is_own = session >= 0 && kr_read_attributes(connection, (uint32_t)second, session, &attributes) == 0 &&
+                  attributes.owner == geteuid();
+    if (is_own && attributes.mask & KR_USER_MAY_SEARCH) return IS_HELD;
+    if (is_own && kr_setperm(connection, (uint32_t)second, session, attributes.mask | KR_USER_MAY_SEARCH) == 0)
+        return second;
     kr_exit(connection, (uint32_t)second);
     return UNCLAIMED;
 }
@@ -281,12 +249,12 @@ static void hold_keys(struct kr *connection, uint32_t context, int32_t ring, con
 
 /* As long as the pipe is open, so that whoever started it can put a key there; then until it has none. */
 static void hold_ring(const struct options *options) {
-    char path[KR_PATH_ROOM];
+    struct kr_where where;
     uint32_t context;
-    struct kr *connection = connect_to(options, path, &context);
+    struct kr *connection = connect_to(options, &where, &context);
     int32_t ring = have_key(connection, context, "keyring", options->ring, "");
     if (ring < 0) fail_ask(connection, options->ring);
-    answer(connection, ring, options->ring, path);
+    answer(connection, ring, options->ring, where.path);
     let_go_of(STDOUT_FILENO);
     wait_for_end(connection, true);
     let_go_of(STDIN_FILENO);
@@ -299,7 +267,7 @@ static bool is_open(int descriptor) { return fcntl(descriptor, F_GETFD) >= 0; }
 int main(int count, char **words) {
     bool has_pipes = is_open(STDIN_FILENO) && is_open(STDOUT_FILENO);
     if (!fill_standard_descriptors()) exit(NO_CONNECTION); /* a connection would get their number */
-    if (count == 2) answer_option(words[1]);
+    if (count == 2) answer_option(words[1], usage, help, "keyretain-keeper " KEYRETAIN_VERSION);
     struct options options = read_options(words + 1);
     if (!has_pipes) {
         fputs("keyretain-keeper: descriptors 0, a pipe, and 1, on which it answers, must be open\n", stderr);

@@ -4,28 +4,17 @@
  * A keeper makes the session and holds it. The command, which doesn't know it, inherits the writing end of the pipe
  * on which the keeper waits: so the session lasts as long as the command and what it has started. With --syscalls a
  * supervisor holds it: launch.c. */
-#define _GNU_SOURCE
-#include <errno.h>
+#include "connection.h"
+
 #include <limits.h>
 #include <linux/keyctl.h>
-#include <stdbool.h>
-#include <stdio.h>
-#include <stdlib.h>
-#include <string.h>
-#include <sys/stat.h>
-#include <unistd.h>
 
 #include "../../guard/listener.h"
-#include "connection.h"
-#include "holder.h"
 #include "launch.h"
 #include "session.h"
 
 #ifndef KEYRETAIN_LIBRARY_FOLDER
 #define KEYRETAIN_LIBRARY_FOLDER "/usr/local/lib/keyretain"
-#endif
-#ifndef KEYRETAIN_VERSION
-#define KEYRETAIN_VERSION "0"
 #endif
 
 enum { PATIENCE_MILLISECONDS = 10000, VARIABLES_MAX = 16, PAYLOAD_MAX = 32767, DECIMAL = 10 };
@@ -137,16 +126,6 @@ static char **read_arguments(char **arguments, const char **name, enum way *way)
     if (strcmp(*arguments, "--") != 0) refuse_words("-- is missing before the command", *arguments);
     if (!arguments[1]) refuse_words("a command stands behind --", NULL);
     return arguments + 1;
-}
-
-static void answer_option(const char *word) {
-    if (strcmp(word, "--help") == 0 || strcmp(word, "-h") == 0)
-        printf("%s%s", usage, help);
-    else if (strcmp(word, "--version") == 0)
-        puts("keyretain-session " KEYRETAIN_VERSION);
-    else
-        return;
-    exit(fflush(stdout) == 0 ? 0 : NO_CONNECTION);
 }
 
 /* ---- What the command is given ---- */
@@ -291,7 +270,7 @@ int main(int count, char **arguments) {
     static struct kr_session session;
     enum way way;
     if (!fill_standard_descriptors()) exit(NO_CONNECTION); /* a connection would get their number */
-    if (count == 2) answer_option(arguments[1]);
+    if (count == 2) answer_option(arguments[1], usage, help, "keyretain-session " KEYRETAIN_VERSION);
     char **given = read_arguments(arguments + 1, &session_name, &way), **command = command_or_shell(given);
     const char *name = session_name;
     if (name && !given && isatty(STDERR_FILENO))

@@ -1,41 +1,42 @@
 /* keyutils.c: the functions of libkeyutils 1.6.3. */
-#define _GNU_SOURCE
-#include "keyutils.h"
-
-#include <errno.h>
-#include <stdarg.h>
-#include <stdbool.h>
-#include <stdio.h>
-#include <stdlib.h>
-#include <string.h>
-
 #include "caller.h"
 #include "connection.h"
-#include "else_kernel.h"
-#include "syscalls.h"
-#include "wire.h"
+#include "keyutils.h"
+#include "rows.h"
+#include "session.h"
 
-/* Who answers: keyretaind, or for a library that a whole system uses, the kernel where no session is named. */
-#ifdef KEYRETAIN_ELSE_KERNEL
-#define ANSWER key_call_else_kernel
-#else
-#define ANSWER key_call
-#endif
+#include <stdarg.h>
+#include <sys/syscall.h>
 
 /* Programs copy both, so that their lengths are part of the interface. */
 const char keyutils_version_string[] = "keyutils-1.6.3";
 const char keyutils_build_string[] = "2022-12-18";
 
-static long fail(int error) {
-    errno = error;
-    return -1;
+/* ---- Who answers ---- */
+
+/* A library that a whole system may use is built with KEYRETAIN_ELSE_KERNEL: there keyretaind answers where the
+ * environment names a session of it; elsewhere, and in a program that runs set-uid, the kernel. */
+#ifdef KEYRETAIN_ELSE_KERNEL
+static long call_kernel(int call, const unsigned long *at) {
+    switch (call) {
+    case CALL_ADD_KEY: return syscall(SYS_add_key, at[0], at[1], at[2], at[3], at[4]);
+    case CALL_REQUEST_KEY: return syscall(SYS_request_key, at[0], at[1], at[3], at[2]);
+    default: return syscall(SYS_keyctl, (long)call, at[0], at[1], at[2], at[3]);
+    }
 }
 
-#define CALL(call, ...) ANSWER(call, (struct arguments){ { __VA_ARGS__ } })
+static long answer(int call, struct arguments arguments) {
+    const char *session = secure_getenv(KR_SESSION_VARIABLE);
+    return session && *session ? key_call(call, arguments) : call_kernel(call, arguments.at);
+}
+#else
+#define answer key_call
+#endif
+
+#define CALL(call, ...) answer(call, (struct arguments){ { __VA_ARGS__ } })
 
 /* An argument as the system call has it: an id is widened by its sign. */
 static unsigned long word(long number) { return (unsigned long)number; }
-
 static unsigned long address(const void *at) { return (unsigned long)at; }
 
 /* ---- System calls: weak, as in libkeyutils, so that a C library may have them ---- */
@@ -57,95 +58,51 @@ __attribute__((weak)) long keyctl(int command, ...) {
     va_start(list, command);
     for (int i = 0; i < 4; i++) arguments.at[i] = va_arg(list, unsigned long);
     va_end(list);
-    if (command < 0 || command >= CALL_ADD_KEY) return fail(EOPNOTSUPP);
-    return ANSWER(command, arguments);
+    if (command < 0 || command >= CALL_ADD_KEY) return fail_as(EOPNOTSUPP);
+    return answer(command, arguments);
 }
 
-/* ---- Commands ---- */
+/* ---- Commands: a function of each ---- */
 
-key_serial_t keyctl_get_keyring_ID(key_serial_t id, int create) {
-    return (key_serial_t)CALL(KEYCTL_GET_KEYRING_ID, word(id), word(create));
-}
+#define COMMAND(type, name, parameters, ...) \
+    type keyctl_##name parameters { return (type)CALL(__VA_ARGS__); }
 
-key_serial_t keyctl_join_session_keyring(const char *name) {
-    return (key_serial_t)CALL(KEYCTL_JOIN_SESSION_KEYRING, address(name));
-}
-
-long keyctl_update(key_serial_t id, const void *payload, size_t length) {
-    return CALL(KEYCTL_UPDATE, word(id), address(payload), length);
-}
-
-long keyctl_revoke(key_serial_t id) { return CALL(KEYCTL_REVOKE, word(id)); }
-
-long keyctl_chown(key_serial_t id, uid_t uid, gid_t gid) { return CALL(KEYCTL_CHOWN, word(id), uid, gid); }
-
-long keyctl_setperm(key_serial_t id, key_perm_t mask) { return CALL(KEYCTL_SETPERM, word(id), mask); }
-
-long keyctl_describe(key_serial_t id, char *buffer, size_t room) {
-    return CALL(KEYCTL_DESCRIBE, word(id), address(buffer), room);
-}
-
-long keyctl_clear(key_serial_t ring) { return CALL(KEYCTL_CLEAR, word(ring)); }
-
-long keyctl_link(key_serial_t id, key_serial_t ring) { return CALL(KEYCTL_LINK, word(id), word(ring)); }
-
-long keyctl_unlink(key_serial_t id, key_serial_t ring) { return CALL(KEYCTL_UNLINK, word(id), word(ring)); }
-
-long keyctl_search(key_serial_t ring, const char *type, const char *description, key_serial_t destination) {
-    return CALL(KEYCTL_SEARCH, word(ring), address(type), address(description), word(destination));
-}
-
-long keyctl_read(key_serial_t id, char *buffer, size_t room) {
-    return CALL(KEYCTL_READ, word(id), address(buffer), room);
-}
-
-long keyctl_instantiate(key_serial_t id, const void *payload, size_t length, key_serial_t ring) {
-    return CALL(KEYCTL_INSTANTIATE, word(id), address(payload), length, word(ring));
-}
-
-long keyctl_negate(key_serial_t id, unsigned timeout, key_serial_t ring) {
-    return CALL(KEYCTL_NEGATE, word(id), timeout, word(ring));
-}
-
-long keyctl_set_reqkey_keyring(int choice) { return CALL(KEYCTL_SET_REQKEY_KEYRING, word(choice)); }
-
-long keyctl_set_timeout(key_serial_t id, unsigned seconds) { return CALL(KEYCTL_SET_TIMEOUT, word(id), seconds); }
-
-long keyctl_assume_authority(key_serial_t id) { return CALL(KEYCTL_ASSUME_AUTHORITY, word(id)); }
-
-long keyctl_get_security(key_serial_t id, char *buffer, size_t room) {
-    return CALL(KEYCTL_GET_SECURITY, word(id), address(buffer), room);
-}
-
-long keyctl_session_to_parent(void) { return CALL(KEYCTL_SESSION_TO_PARENT, 0); }
-
-long keyctl_reject(key_serial_t id, unsigned timeout, unsigned error, key_serial_t ring) {
-    return CALL(KEYCTL_REJECT, word(id), timeout, error, word(ring));
-}
-
-long keyctl_instantiate_iov(key_serial_t id, const struct iovec *payload, unsigned count, key_serial_t ring) {
-    return CALL(KEYCTL_INSTANTIATE_IOV, word(id), address(payload), count, word(ring));
-}
-
-long keyctl_invalidate(key_serial_t id) { return CALL(KEYCTL_INVALIDATE, word(id)); }
-
-long keyctl_get_persistent(uid_t uid, key_serial_t id) { return CALL(KEYCTL_GET_PERSISTENT, uid, word(id)); }
-
-long keyctl_restrict_keyring(key_serial_t ring, const char *type, const char *restriction) {
-    return CALL(KEYCTL_RESTRICT_KEYRING, word(ring), address(type), address(restriction));
-}
-
-long keyctl_move(key_serial_t id, key_serial_t from, key_serial_t to, unsigned flags) {
-    return CALL(KEYCTL_MOVE, word(id), word(from), word(to), flags);
-}
-
-long keyctl_capabilities(unsigned char *buffer, size_t room) {
-    return CALL(KEYCTL_CAPABILITIES, address(buffer), room);
-}
-
-long keyctl_watch_key(key_serial_t id, int pipe, int watch) {
-    return CALL(KEYCTL_WATCH_KEY, word(id), word(pipe), word(watch));
-}
+COMMAND(key_serial_t, get_keyring_ID, (key_serial_t id, int create), KEYCTL_GET_KEYRING_ID, word(id), word(create))
+COMMAND(key_serial_t, join_session_keyring, (const char *name), KEYCTL_JOIN_SESSION_KEYRING, address(name))
+COMMAND(long, update, (key_serial_t id, const void *payload, size_t length),
+        KEYCTL_UPDATE, word(id), address(payload), length)
+COMMAND(long, revoke, (key_serial_t id), KEYCTL_REVOKE, word(id))
+COMMAND(long, chown, (key_serial_t id, uid_t uid, gid_t gid), KEYCTL_CHOWN, word(id), uid, gid)
+COMMAND(long, setperm, (key_serial_t id, key_perm_t mask), KEYCTL_SETPERM, word(id), mask)
+COMMAND(long, describe, (key_serial_t id, char *buffer, size_t room), KEYCTL_DESCRIBE, word(id), address(buffer), room)
+COMMAND(long, clear, (key_serial_t ring), KEYCTL_CLEAR, word(ring))
+COMMAND(long, link, (key_serial_t id, key_serial_t ring), KEYCTL_LINK, word(id), word(ring))
+COMMAND(long, unlink, (key_serial_t id, key_serial_t ring), KEYCTL_UNLINK, word(id), word(ring))
+COMMAND(long, search, (key_serial_t ring, const char *type, const char *description, key_serial_t destination),
+        KEYCTL_SEARCH, word(ring), address(type), address(description), word(destination))
+COMMAND(long, read, (key_serial_t id, char *buffer, size_t room), KEYCTL_READ, word(id), address(buffer), room)
+COMMAND(long, instantiate, (key_serial_t id, const void *payload, size_t length, key_serial_t ring),
+        KEYCTL_INSTANTIATE, word(id), address(payload), length, word(ring))
+COMMAND(long, negate, (key_serial_t id, unsigned timeout, key_serial_t ring),
+        KEYCTL_NEGATE, word(id), timeout, word(ring))
+COMMAND(long, set_reqkey_keyring, (int choice), KEYCTL_SET_REQKEY_KEYRING, word(choice))
+COMMAND(long, set_timeout, (key_serial_t id, unsigned seconds), KEYCTL_SET_TIMEOUT, word(id), seconds)
+COMMAND(long, assume_authority, (key_serial_t id), KEYCTL_ASSUME_AUTHORITY, word(id))
+COMMAND(long, get_security, (key_serial_t id, char *buffer, size_t room),
+        KEYCTL_GET_SECURITY, word(id), address(buffer), room)
+COMMAND(long, session_to_parent, (void), KEYCTL_SESSION_TO_PARENT, 0)
+COMMAND(long, reject, (key_serial_t id, unsigned timeout, unsigned error, key_serial_t ring),
+        KEYCTL_REJECT, word(id), timeout, error, word(ring))
+COMMAND(long, instantiate_iov, (key_serial_t id, const struct iovec *payload, unsigned count, key_serial_t ring),
+        KEYCTL_INSTANTIATE_IOV, word(id), address(payload), count, word(ring))
+COMMAND(long, invalidate, (key_serial_t id), KEYCTL_INVALIDATE, word(id))
+COMMAND(long, get_persistent, (uid_t uid, key_serial_t id), KEYCTL_GET_PERSISTENT, uid, word(id))
+COMMAND(long, restrict_keyring, (key_serial_t ring, const char *type, const char *restriction),
+        KEYCTL_RESTRICT_KEYRING, word(ring), address(type), address(restriction))
+COMMAND(long, move, (key_serial_t id, key_serial_t from, key_serial_t to, unsigned flags),
+        KEYCTL_MOVE, word(id), word(from), word(to), flags)
+COMMAND(long, capabilities, (unsigned char *buffer, size_t room), KEYCTL_CAPABILITIES, address(buffer), room)
+COMMAND(long, watch_key, (key_serial_t id, int pipe, int watch), KEYCTL_WATCH_KEY, word(id), word(pipe), word(watch))
 
 /* ---- Commands on keys of other types, which are in the kernel alone: else EOPNOTSUPP ---- */
 
@@ -170,45 +127,28 @@ int keyctl_dh_compute_alloc(key_serial_t private_key, key_serial_t prime, key_se
     if (length < 0 || length > room) {
         explicit_bzero(bytes, (size_t)room);
         free(bytes);
-        return length < 0 ? -1 : (int)fail(EOVERFLOW);
+        return length < 0 ? -1 : fail_as(EOVERFLOW);
     }
     bytes[length] = '\0';
     *buffer = bytes;
     return (int)length;
 }
 
-long keyctl_pkey_query(key_serial_t id, const char *info, struct keyctl_pkey_query *result) {
-    return CALL(KEYCTL_PKEY_QUERY, word(id), 0, address(info), address(result));
-}
+COMMAND(long, pkey_query, (key_serial_t id, const char *info, struct keyctl_pkey_query *result),
+        KEYCTL_PKEY_QUERY, word(id), 0, address(info), address(result))
 
 /* A key, and the lengths of what comes in, and of what goes out or is compared. */
-static struct keyctl_pkey_params both_of(key_serial_t id, size_t in_length, size_t length) {
-    return (struct keyctl_pkey_params){ .key_id = id, .in_len = (uint32_t)in_length, .out_len = (uint32_t)length };
-}
+#define PKEY(name, type, command) \
+    COMMAND(long, pkey_##name, \
+            (key_serial_t id, const char *info, const void *data, size_t length, type out, size_t out_length), \
+            command, address(&(const struct keyctl_pkey_params){ \
+                .key_id = id, .in_len = (uint32_t)length, .out_len = (uint32_t)out_length }), \
+            address(info), address(data), address(out))
 
-long keyctl_pkey_encrypt(key_serial_t id, const char *info, const void *data, size_t data_length, void *out,
-                         size_t out_length) {
-    const struct keyctl_pkey_params both = both_of(id, data_length, out_length);
-    return CALL(KEYCTL_PKEY_ENCRYPT, address(&both), address(info), address(data), address(out));
-}
-
-long keyctl_pkey_decrypt(key_serial_t id, const char *info, const void *data, size_t data_length, void *out,
-                         size_t out_length) {
-    const struct keyctl_pkey_params both = both_of(id, data_length, out_length);
-    return CALL(KEYCTL_PKEY_DECRYPT, address(&both), address(info), address(data), address(out));
-}
-
-long keyctl_pkey_sign(key_serial_t id, const char *info, const void *data, size_t data_length, void *out,
-                      size_t out_length) {
-    const struct keyctl_pkey_params both = both_of(id, data_length, out_length);
-    return CALL(KEYCTL_PKEY_SIGN, address(&both), address(info), address(data), address(out));
-}
-
-long keyctl_pkey_verify(key_serial_t id, const char *info, const void *data, size_t data_length,
-                        const void *signature, size_t signature_length) {
-    const struct keyctl_pkey_params both = both_of(id, data_length, signature_length);
-    return CALL(KEYCTL_PKEY_VERIFY, address(&both), address(info), address(data), address(signature));
-}
+PKEY(encrypt, void *, KEYCTL_PKEY_ENCRYPT)
+PKEY(decrypt, void *, KEYCTL_PKEY_DECRYPT)
+PKEY(sign, void *, KEYCTL_PKEY_SIGN)
+PKEY(verify, const void *, KEYCTL_PKEY_VERIFY)
 
 /* ---- Answers in memory of their own ---- */
 
@@ -241,7 +181,6 @@ static int read_text(int command, key_serial_t id, char **buffer) {
 }
 
 int keyctl_describe_alloc(key_serial_t id, char **buffer) { return read_text(KEYCTL_DESCRIBE, id, buffer); }
-
 int keyctl_get_security_alloc(key_serial_t id, char **buffer) { return read_text(KEYCTL_GET_SECURITY, id, buffer); }
 
 int keyctl_read_alloc(key_serial_t id, void **buffer) {
@@ -279,8 +218,10 @@ static int scan_links(struct scan *scan, key_serial_t ring, int depth) {
     }
     if (length / SERIAL_WIDTH > scan->left) scan->is_lost = true;
     scan->left -= length / SERIAL_WIDTH;
-    for (const uint8_t *at = links; length >= SERIAL_WIDTH && !scan->is_lost; at += SERIAL_WIDTH, length -= SERIAL_WIDTH)
-        if (kr_is_serial(kr_get_u32(at))) found += scan_key(scan, ring, (key_serial_t)kr_get_u32(at), depth + 1);
+    for (int at = 0; at + SERIAL_WIDTH <= length && !scan->is_lost; at += SERIAL_WIDTH) {
+        uint32_t serial = kr_get_u32((const uint8_t *)links + at);
+        if (kr_is_serial(serial)) found += scan_key(scan, ring, (key_serial_t)serial, depth + 1);
+    }
     free(links);
     return found;
 }
@@ -357,7 +298,7 @@ static key_serial_t find_key(const char *type, const char *description, key_seri
     int error = errno;
     if (found >= 0 || error == ENOMEM || error == ENOSYS) return found;
     found = find_in_keyrings(type, description);
-    if (found == 0) return (key_serial_t)fail(error);
+    if (found == 0) return fail_as(error);
     return destination != 0 && keyctl_link(found, destination) < 0 ? -1 : found;
 }
 

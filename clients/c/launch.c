@@ -1,29 +1,16 @@
 /* launch.c: three processes. This one waits, and ends as the command does. Its child, the supervisor, lives as long as
  * something has the filter. The command is the supervisor's child, as some systems let none but ancestors look into a
  * process (Yama), and what it leaves behind stays below the supervisor. */
-#define _GNU_SOURCE
 #include "launch.h"
 
-#include <errno.h>
-#include <fcntl.h>
 #include <linux/keyctl.h>
-#include <signal.h>
-#include <stdbool.h>
-#include <stdint.h>
-#include <stdio.h>
-#include <stdlib.h>
-#include <string.h>
 #include <sys/prctl.h>
 #include <sys/resource.h>
 #include <sys/socket.h>
 #include <sys/syscall.h>
 #include <sys/wait.h>
-#include <unistd.h>
 
-#include "filter.h"
-#include "proc.h"
 #include "serve.h"
-#include "session.h"
 
 /* What the supervisor tells the process that waits. */
 struct report {
@@ -85,14 +72,12 @@ static void give_up(int status) {
     _exit(status);
 }
 
-static void let_go(void *unused) {
-    (void)unused;
+static void let_go(void) {
     if (send(LISTENERS, "", 1, MSG_NOSIGNAL) != 1) give_up(NO_CONNECTION);
     close(LISTENERS);
 }
 
-static void tell_end(int status, void *unused) {
-    (void)unused;
+static void tell_end(int status) {
     tell((struct report){ ENDED, status, 0 });
     close(REPORTS);
 }
@@ -139,9 +124,8 @@ static void supervise(int reports, const char *path, const char *name, char **co
 /* ---- The process that waits ---- */
 
 static void forward(int number) {
-    int error = errno;
+    ERRNO_STAYS;
     if (command_process > 0) kill(command_process, number);
-    errno = error;
 }
 
 /* What a terminal sends goes to the command too. */
@@ -205,24 +189,20 @@ static int try_filter(void) {
     return WIFEXITED(status) ? WEXITSTATUS(status) : EIO;
 }
 
-struct attributes {
-    unsigned owner, mask;
-};
-
-static bool read_attributes(long id, struct attributes *attributes) {
+static bool read_attributes(long id, struct kr_attributes *attributes) {
     char text[KR_SESSION_NAME_ROOM + 64];
     long length = syscall(SYS_keyctl, KEYCTL_DESCRIBE, id, text, sizeof text);
-    return length > 0 && length <= (long)sizeof text &&
-           sscanf(text, "keyring;%u;%*u;%x;", &attributes->owner, &attributes->mask) == 2;
+    return length > 0 && length <= (long)sizeof text && kr_parse_attributes(text, attributes);
 }
 
 /* Whether the session that was joined by its name is this user's alone: see kr_begin_session. Which uid this process
  * has to the daemon, its user keyring tells. */
 static bool is_session_private(void) {
-    struct attributes session, user;
-    bool are_known = read_attributes(KEY_SPEC_SESSION_KEYRING, &session) && read_attributes(KEY_SPEC_USER_KEYRING, &user);
+    struct kr_attributes session, user;
+    bool is_known = read_attributes(KEY_SPEC_SESSION_KEYRING, &session) &&
+                    read_attributes(KEY_SPEC_USER_KEYRING, &user);
     errno = EACCES;
-    return are_known && session.owner == user.owner && !(session.mask & KR_GROUP_AND_OTHERS);
+    return is_known && session.owner == user.owner && !(session.mask & KR_GROUP_AND_OTHERS);
 }
 
 /* Where keyretaind answers already, a session is joined as by any program. */

@@ -1,20 +1,10 @@
 /* maps.c: the ids of user_namespaces(7). */
-#define _GNU_SOURCE
-#include "maps.h"
+#include "admission.h"
 
-#include <fcntl.h>
 #include <linux/nsfs.h>
 #include <sched.h>
-#include <signal.h>
-#include <stdio.h>
-#include <stdlib.h>
-#include <string.h>
 #include <sys/ioctl.h>
-#include <sys/stat.h>
 #include <sys/wait.h>
-#include <unistd.h>
-
-#include "proc.h"
 
 enum { DECIMAL = 10, OVERFLOW_ID = 65534, RANGE_LETTERS = 34 };
 
@@ -68,11 +58,9 @@ static unsigned read_unknown(void) {
 /* The outermost user namespace around a process that isn't ours, if our user has made it, as runtimes do; else -1. What
  * runs in it may have made others, as it may have before this is looked at. */
 static int open_outermost(pid_t process, const struct stat *ours) {
-    char path[64];
     struct stat namespace;
     uid_t maker;
-    snprintf(path, sizeof path, "/proc/%d/ns/user", (int)process);
-    int outermost = -1, next = open(path, O_RDONLY | O_CLOEXEC);
+    int outermost = -1, next = proc_open_file(process, "ns/user", O_RDONLY);
     while (next >= 0 && fstat(next, &namespace) == 0 && !is_same(&namespace, ours)) {
         if (outermost >= 0) close(outermost);
         outermost = next;
@@ -132,11 +120,8 @@ unsigned map_to_inside(const struct map *map, unsigned id, unsigned unknown) {
 }
 
 unsigned maps_uid(unsigned uid) { return all.is_ours ? uid : map_to_inside(&all.uids, uid, all.unknown); }
-
 unsigned maps_gid(unsigned gid) { return all.is_ours ? gid : map_to_inside(&all.gids, gid, all.unknown); }
-
 unsigned maps_unknown(void) { return all.unknown; }
-
 unsigned maps_length(void) { return all.length; }
 
 bool maps_are_others(pid_t thread) {

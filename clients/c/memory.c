@@ -1,35 +1,19 @@
 /* memory.c: /proc/PID/mem, which reads and writes also where the program itself may not. So what is written is looked
  * at first. */
-#define _GNU_SOURCE
-#include "memory.h"
-
-#include <errno.h>
-#include <fcntl.h>
-#include <linux/types.h>
-#include <stdio.h>
-#include <stdlib.h>
-#include <string.h>
-#include <sys/ioctl.h>
-#include <unistd.h>
-
 #include "proc.h"
+
+#include <linux/types.h>
+#include <sys/ioctl.h>
 
 enum { PAGE = 4096, SHORT = 256 };
 
 int memory_open(struct memory *memory, pid_t thread) {
-    char path[64];
-    snprintf(path, sizeof path, "/proc/%d/mem", (int)thread);
     memory->thread = thread;
-    memory->file = open(path, O_RDWR | O_CLOEXEC);
+    memory->file = proc_open_file(thread, "mem", O_RDWR);
     return memory->file < 0 ? -1 : 0;
 }
 
-void memory_close(struct memory *memory) {
-    int error = errno;
-    if (memory->file >= 0) close(memory->file);
-    memory->file = -1;
-    errno = error;
-}
+void memory_close(struct memory *memory) { close_one(&memory->file); }
 
 /* The kernel reads nothing, and calls that no error, of memory that nobody has any more. */
 bool memory_is_gone(int file) {
@@ -104,10 +88,9 @@ static bool is_writable_in_lines(FILE *maps, unsigned long at, unsigned long end
 }
 
 static bool is_writable(pid_t thread, unsigned long at, size_t length) {
-    char path[64];
-    snprintf(path, sizeof path, "/proc/%d/maps", (int)thread);
-    FILE *maps = at + length < at ? NULL : fopen(path, "re");
-    if (!maps) return false;
+    int file = at + length < at ? -1 : proc_open_file(thread, "maps", O_RDONLY);
+    FILE *maps = file < 0 ? NULL : fdopen(file, "r");
+    if (!maps) return close_one(&file), false;
     enum answer answer = is_writable_in(fileno(maps), at, at + length);
     bool is_one = answer == UNKNOWN ? is_writable_in_lines(maps, at, at + length) : answer == YES;
     fclose(maps);

@@ -1,30 +1,16 @@
 /* place.c: which daemon is meant, and who it may be. Paths and variables may be another user's, as after su(1), and may
  * change between two looks: so they only say where to connect. Who listens is asked of the kernel, after connect(2). */
-#define _GNU_SOURCE
-#include "place.h"
+#include "connection.h"
 
-#include <errno.h>
 #include <limits.h>
-#include <stdio.h>
-#include <stdlib.h>
-#include <string.h>
 #include <sys/auxv.h>
-#include <sys/stat.h>
-#include <unistd.h>
-
-#include "keyretain.h"
 
 #define SYSTEM_FOLDER "/run/keyretain"
 #define SOCKET_NAME "/keyretain.sock"
 
-static int fail(int error) {
-    errno = error;
-    return -1;
-}
-
 static int put_path(char *path, size_t room, const char *folder, const char *name) {
     int length = snprintf(path, room, "%s%s", folder, name);
-    return length >= 0 && (size_t)length < room ? length : fail(ENAMETOOLONG);
+    return length >= 0 && (size_t)length < room ? length : fail_as(ENAMETOOLONG);
 }
 
 /* $XDG_RUNTIME_DIR, unless it is another user's, which su(1) may leave in the environment. */

@@ -1,20 +1,10 @@
 /* proc.c: what the kernel tells of processes. */
-#define _GNU_SOURCE
 #include "proc.h"
 
-#include <ctype.h>
-#include <errno.h>
-#include <fcntl.h>
 #include <linux/auxvec.h>
 #include <linux/kcmp.h>
-#include <signal.h>
-#include <stdio.h>
-#include <stdlib.h>
-#include <string.h>
 #include <sys/resource.h>
-#include <sys/stat.h>
 #include <sys/syscall.h>
-#include <unistd.h>
 
 enum { DECIMAL = 10, FORKED_AND_NOT_EXECUTED = 0x40 /* PF_FORKNOEXEC of the kernel */ };
 
@@ -22,9 +12,14 @@ enum { DECIMAL = 10, FORKED_AND_NOT_EXECUTED = 0x40 /* PF_FORKNOEXEC of the kern
 #define PIDFD_THREAD O_EXCL
 #endif
 
-/* Puts the first bytes of a file as a text, and whose it is where that is wanted; false for none. */
-static bool read_file(const char *path, char *text, size_t room, uint32_t *owner) {
-    int file = open(path, O_RDONLY | O_CLOEXEC);
+int proc_open_file(pid_t id, const char *name, int flags) {
+    char path[64];
+    snprintf(path, sizeof path, "/proc/%d/%s", (int)id, name);
+    return open(path, flags | O_CLOEXEC);
+}
+
+/* Puts the first bytes of a file as a text, and whose it is where that is wanted; false for none. Closes it. */
+static bool read_file(int file, char *text, size_t room, uint32_t *owner) {
     struct stat status = { .st_uid = UINT32_MAX };
     size_t length = 0;
     ssize_t got = 0;
@@ -38,9 +33,7 @@ static bool read_file(const char *path, char *text, size_t room, uint32_t *owner
 }
 
 bool proc_read(pid_t id, const char *name, char *text, size_t room) {
-    char path[64];
-    snprintf(path, sizeof path, "/proc/%d/%s", (int)id, name);
-    return read_file(path, text, room, NULL);
+    return read_file(proc_open_file(id, name, O_RDONLY), text, room, NULL);
 }
 
 /* ---- status ---- */
@@ -65,26 +58,21 @@ static bool read_ids(const char *text, const char *name, struct admission_ids *i
 
 static bool read_groups(const char *text, struct proc_status *status) {
     const char *at = find_field(text, "\nGroups:");
-    if (!at) return false;
-    while (status->count < KR_GROUPS_MAX) {
-        while (*at == '\t' || *at == ' ') at++;
-        if (!isdigit((unsigned char)*at)) break;
-        char *end;
-        status->groups[status->count++] = (uint32_t)strtoul(at, &end, DECIMAL);
-        at = end;
-    }
-    return true;
+    int length = 0;
+    for (; at && status->count < KR_GROUPS_MAX; status->count++, at += length)
+        if (sscanf(at, "%*[ \t]%u%n", &status->groups[status->count], &length) != 1) break;
+    return at != NULL;
 }
 
 /* The last two stand behind the groups, of which there may be more than there is room for. */
 bool proc_read_status(pid_t thread, struct proc_status *status) {
-    char text[4096], path[64];
+    char text[4096];
     unsigned process, parent;
     memset(status, 0, sizeof *status);
-    snprintf(path, sizeof path, "/proc/%d/status", (int)thread);
-    if (!read_file(path, text, sizeof text, &status->owner) || !read_number(text, "\nTgid:", &process) ||
-        !read_number(text, "\nPPid:", &parent) || !read_ids(text, "\nUid:", &status->uids) ||
-        !read_ids(text, "\nGid:", &status->gids) || !read_groups(text, status))
+    if (!read_file(proc_open_file(thread, "status", O_RDONLY), text, sizeof text, &status->owner) ||
+        !read_number(text, "\nTgid:", &process) || !read_number(text, "\nPPid:", &parent) ||
+        !read_ids(text, "\nUid:", &status->uids) || !read_ids(text, "\nGid:", &status->gids) ||
+        !read_groups(text, status))
         return false;
     status->process = (pid_t)process;
     status->parent = (pid_t)parent;
@@ -98,7 +86,7 @@ bool proc_read_status(pid_t thread, struct proc_status *status) {
 bool proc_is_ours(void) {
     char text[4096];
     int number, within;
-    if (!read_file("/proc/self/status", text, sizeof text, NULL)) return false;
+    if (!read_file(open("/proc/self/status", O_RDONLY | O_CLOEXEC), text, sizeof text, NULL)) return false;
     const char *at = find_field(text, "\nNStgid:");
     errno = ESRCH;
     return !at || (sscanf(at, "%d %d", &number, &within) == 1 && number == getpid());
@@ -196,13 +184,11 @@ int proc_open(pid_t process) { return (int)syscall(SYS_pidfd_open, process, 0); 
 /* Kernels before 6.9 have no such descriptors of single threads: there it is that of the thread's folder, which is
  * bound to it too, but can't be waited for. */
 int proc_open_thread(pid_t thread) {
-    char path[64];
     if (!KEYRETAIN_OLD_KERNEL) {
         int descriptor = (int)syscall(SYS_pidfd_open, thread, PIDFD_THREAD);
         if (descriptor >= 0 || errno != EINVAL) return descriptor;
     }
-    snprintf(path, sizeof path, "/proc/%d", (int)thread);
-    return open(path, O_PATH | O_DIRECTORY | O_CLOEXEC);
+    return proc_open_file(thread, "", O_PATH | O_DIRECTORY);
 }
 
 bool proc_has_ended(int descriptor) {

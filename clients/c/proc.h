@@ -2,12 +2,8 @@
 #ifndef KEYRETAIN_PROC_H
 #define KEYRETAIN_PROC_H
 
-#include <stdbool.h>
-#include <stdint.h>
-#include <sys/types.h>
-
-#include "krs_admission.h"
 #include "session.h"
+#include "krs_admission.h"
 
 /* For tests: 1 does without what came after Linux 5.9, as WAIT_KILLABLE_RECV, PROCMAP_QUERY and PIDFD_THREAD. */
 #ifndef KEYRETAIN_OLD_KERNEL
@@ -25,6 +21,9 @@ struct proc_status {
 /* Whether the numbers in /proc are those that this process gives and is told. They are another PID namespace's where
  * one was made, and no /proc mounted for it: then each would mean some other process. False with errno. */
 bool proc_is_ours(void);
+
+/* Opens a file of a process in proc(5), with these flags of open(2); -1 with errno. */
+int proc_open_file(pid_t id, const char *name, int flags);
 
 /* The beginning of a file of a process in proc(5), as a text; false for none. */
 bool proc_read(pid_t id, const char *name, char *text, size_t room);
@@ -59,5 +58,30 @@ bool proc_read_locks(pid_t process, uint64_t *soft);
 int proc_open(pid_t process);
 int proc_open_thread(pid_t thread);
 bool proc_has_ended(int descriptor);
+
+/* ---- memory.c: the memory of a thread whose call is carried out for it ---- */
+
+/* What is opened stays bound to that memory, whoever gets the thread's number later. */
+struct memory {
+    pid_t thread;
+    int file;
+};
+
+/* -1 with errno: EACCES where it may not be looked at. */
+int memory_open(struct memory *memory, pid_t thread);
+void memory_close(struct memory *memory);
+
+/* Whether what a descriptor of memory_open stands for is gone: its processes have ended or executed something else. */
+bool memory_is_gone(int file);
+
+/* False where not all of it can be read. */
+bool memory_read(const struct memory *memory, void *to, unsigned long from, size_t length);
+
+/* A text with its null byte; a longer one than `max` bytes is cut there. `to` has room for one byte more. */
+bool memory_read_text(const struct memory *memory, char *to, unsigned long from, size_t max);
+
+/* False where the program itself could not write there. `is_valid` tells whether the thread still waits. */
+bool memory_write(const struct memory *memory, unsigned long to, const void *from, size_t length,
+                  bool (*is_valid)(void));
 
 #endif

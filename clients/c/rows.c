@@ -1,9 +1,7 @@
 /* rows.c: the calls. */
 #include "rows.h"
 
-#include <errno.h>
 #include <linux/keyctl.h>
-#include <stddef.h>
 
 enum { ADD_MAX = 1024 * 1024 - 1 };
 
@@ -13,8 +11,7 @@ const struct key_row key_rows[] = {
     { CALL("add_key", CALL_ADD_KEY, KEY_TYPE, KEY_TEXT, KEY_PAYLOAD, KEY_NUMBER, KEY_ID), .most = ADD_MAX,
       .answers_serial = true },
     { CALL("request_key", CALL_REQUEST_KEY, KEY_TYPE, KEY_TEXT, KEY_ID, KEY_TEXT), .effect = KEY_READS_WITHOUT_RING,
-      .ring = 2,
-      .answers_serial = true, .wants_session = true },
+      .ring = 2, .answers_serial = true, .wants_session = true },
     { CALL("get_keyring_id", KEYCTL_GET_KEYRING_ID, KEY_ID), .effect = KEY_READS, .answers_serial = true },
     { CALL("join_session_keyring", KEYCTL_JOIN_SESSION_KEYRING, KEY_TEXT), .answers_serial = true, .is_of_user = true },
     { CALL("update", KEYCTL_UPDATE, KEY_ID, KEY_PAYLOAD) },

@@ -1,10 +1,9 @@
 /* rows.h: the calls, a row each: all that the supervisor and libkeyutils.so.1 want to know of one before it is carried
- * out. */
+ * out; and who carries it out. */
 #ifndef KEYRETAIN_ROWS_H
 #define KEYRETAIN_ROWS_H
 
-#include <stdbool.h>
-#include <stdint.h>
+#include "common.h"
 
 /* The commands of keyctl(2), and behind them the two other system calls. */
 enum { CALL_ADD_KEY = 256, CALL_REQUEST_KEY };
@@ -45,5 +44,16 @@ int key_row_argument(const struct key_row *row, enum key_argument kind);
 
 /* Whether a call of these arguments changes nothing. */
 bool key_row_only_reads(const struct key_row *row, const unsigned long at[KEY_ARGUMENTS]);
+
+/* ---- syscalls.c: add_key(2), request_key(2) and keyctl(2) on keyretaind ---- */
+
+/* The arguments of a system call as the kernel sees them. */
+struct arguments {
+    unsigned long at[KEY_ARGUMENTS];
+};
+
+/* Answers what the system call would, or -1 with errno. */
+long key_call(int call, struct arguments arguments);
+long key_call_of_row(const struct key_row *row, struct arguments arguments);
 
 #endif

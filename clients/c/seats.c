@@ -4,17 +4,10 @@
  * it, unless a handler of a signal forks in the midst of these lines, and the end of a thread. Who asks has the seat
  * of its identity to itself (`is_busy`) without holding a lock. The child of a fork therefore finds all of `process`
  * whole, and its seats free: no other thread of it is left. */
-#define _GNU_SOURCE
 #include "seats.h"
 
-#include <errno.h>
 #include <linux/capability.h>
-#include <pthread.h>
-#include <signal.h>
-#include <stdlib.h>
-#include <string.h>
 #include <sys/syscall.h>
-#include <unistd.h>
 
 /* A thread that waits for a seat that others have. */
 struct waiter {
@@ -55,16 +48,15 @@ bool seats_is_first_thread(void) {
  * thread, and must not wait for it. */
 static __thread volatile sig_atomic_t is_inside;
 
-void seats_lock(void) {
+static void lock(void) {
     is_inside = 1;
     pthread_mutex_lock(&process.lock);
 }
 
-void seats_unlock(void) {
-    int error = errno;
+static void unlock(void) {
+    ERRNO_STAYS;
     pthread_mutex_unlock(&process.lock);
     is_inside = 0;
-    errno = error;
 }
 
 /* ---- What is done under the lock ---- */
@@ -135,20 +127,18 @@ static void in_child(void) {
 
 /* A thread that returns can still be cancelled here, and would be with the lock in its hands. */
 static void at_end_of_thread(void *unused) {
-    int cancelling;
+    UNCANCELLED;
     (void)unused;
-    pthread_setcancelstate(PTHREAD_CANCEL_DISABLE, &cancelling);
-    seats_lock();
+    lock();
     for (int i = 0; i < SEATS; i++) {
         struct seat *seat = &process.seats[i];
-        if (seat->connection && threads_has_own(&seat->shared, &thread.own[i]))
+        if (seat->connection && seats_is_own(seat, &thread.own[i]))
             end_context(seat, thread.own[i].number);
         thread.own[i] = (struct thread_context){ 0 };
     }
-    seats_unlock();
+    unlock();
     free(thread.session);
     thread.session = NULL;
-    pthread_setcancelstate(cancelling, NULL);
 }
 
 __attribute__((constructor)) static void begin(void) {
@@ -175,7 +165,7 @@ __attribute__((destructor)) static void end(void) {
     process.has_end_of_thread = false;
     for (int i = 0; i < SEATS; i++)
         if (!process.seats[i].is_busy) close_connection(&process.seats[i]);
-    seats_unlock();
+    unlock();
 }
 
 /* ---- Identity ---- */
@@ -305,7 +295,7 @@ static struct seat *wait_in_line(const struct kr_identity *identity, int64_t dea
 }
 
 struct seat *seats_take(const struct kr_identity *identity, int64_t deadline) {
-    seats_lock();
+    lock();
     struct seat *seat = choose(identity);
     if (!seat || seat->is_busy) {
         seat = wait_in_line(identity, deadline);
@@ -314,55 +304,58 @@ struct seat *seats_take(const struct kr_identity *identity, int64_t deadline) {
         seat->is_busy = true;
     }
     if (seat) seat->turn = ++process.turn;
-    seats_unlock();
+    unlock();
     return seat;
 }
 
 void seats_give_back(struct seat *seat) {
-    seats_lock();
+    lock();
     if (seat->connection) seat->connection->was_seen = false;
     end_contexts(seat);
     pass_on(seat);
-    seats_unlock();
+    unlock();
 }
 
 /* ---- The connection of a seat that is busy ---- */
 
 /* The socket is made under the lock, so that a child of fork(2) knows of it. */
 struct kr *seats_prepare(struct seat *seat) {
-    seats_lock();
+    lock();
     seat->connection = kr_prepare(&seat->where, 0, seat->identity.uid);
     seat->shared.age = ++process.last_age;
-    seats_unlock();
+    unlock();
     return seat->connection;
 }
 
+int seats_begin_serials(struct seat *seat) {
+    lock();
+    int begun = serials_begin_anew(&seat->serials);
+    unlock();
+    return begun;
+}
+
 void seats_drop(struct seat *seat, bool is_same_place) {
-    int error = errno;
+    ERRNO_STAYS;
     const struct kr_where where = seat->where;
-    seats_lock();
+    lock();
     close_connection(seat);
     if (is_same_place) seat->where = where;
-    seats_unlock();
-    errno = error;
+    unlock();
 }
 
 /* ---- This thread, and the process ---- */
 
 struct thread_context *seats_own_context(const struct seat *seat) { return &thread.own[seat - process.seats]; }
 
-void seats_has_own(struct seat *seat) {
-    seats_lock();
-    seat->own++;
-    seats_unlock();
-    if (process.has_end_of_thread) pthread_setspecific(process.end_of_thread, &process);
+bool seats_is_own(const struct seat *seat, const struct thread_context *own) {
+    return own->number != 0 && own->age == seat->shared.age;
 }
 
-bool seats_have_own(const struct seat *seat) {
-    seats_lock();
-    bool have = seat->own > 0;
-    seats_unlock();
-    return have;
+void seats_has_own(struct seat *seat) {
+    lock();
+    seat->own++;
+    unlock();
+    if (process.has_end_of_thread) pthread_setspecific(process.end_of_thread, &process);
 }
 
 struct kr_session *seats_own_session(void) { return thread.session; }
@@ -373,28 +366,28 @@ void seats_set_own_session(struct kr_session *session) {
 }
 
 bool seats_session(struct kr_session *session) {
-    seats_lock();
+    lock();
     bool has = process.session != NULL;
     if (has) *session = *process.session;
-    seats_unlock();
+    unlock();
     return has;
 }
 
-bool seats_hold_session(void) {
-    seats_lock();
-    bool is_held = kr_is_held(&process.holder) || kr_is_held(&process.handed);
-    seats_unlock();
-    return is_held;
+bool seats_may_let_go(const struct seat *seat) {
+    lock();
+    bool may = seat->own == 0 && (kr_is_held(&process.holder) || kr_is_held(&process.handed));
+    unlock();
+    return may;
 }
 
 void seats_set_session(struct kr_session *session, const struct kr_holder *holder) {
-    seats_lock();
+    lock();
     struct kr_session *old_session = process.session;
     struct kr_holder old_holder = process.holder;
     process.session = session;
     process.holder = *holder;
     process.handed.descriptor = -1;
-    seats_unlock();
+    unlock();
     kr_close_holder(&old_holder);
     free(old_session);
 }

@@ -2,16 +2,11 @@
 #ifndef KEYRETAIN_SEATS_H
 #define KEYRETAIN_SEATS_H
 
-#include <stdbool.h>
-#include <stdint.h>
-#include <sys/types.h>
-#include <time.h>
-
+#include "caller.h"
 #include "connection.h"
-#include "holder.h"
-#include "serials.h"
 #include "session.h"
-#include "threads.h"
+
+#include <time.h>
 
 /* Identities that are remembered: seteuid(2) and back must not lose the process keyring. */
 enum { SEATS = 4 };
@@ -23,6 +18,15 @@ struct daemon {
     dev_t device;
     ino_t inode;
     struct timespec made;
+};
+
+/* A context of the connection of this age, no other's. All zero is none. One serves all threads of an identity: so
+ * threads take no contexts by asking alone. A thread has one of its own from the first call on that names its thread
+ * keyring or has it join a session by itself. So no thread possesses the thread keyring of another. */
+struct thread_context {
+    unsigned age;
+    uint32_t number;
+    bool lost_session; /* the session that it should have was revoked, or nobody holds it any more */
 };
 
 /* One identity. Who has it busy uses all of it; under the lock others see the first lines and `ended`. */
@@ -50,9 +54,8 @@ struct seat {
 struct seat *seats_take(const struct kr_identity *identity, int64_t deadline);
 void seats_give_back(struct seat *seat);
 
-/* The lock, which is held over nothing that waits: a child of fork(2) finds all or nothing of what is done under it. */
-void seats_lock(void);
-void seats_unlock(void);
+/* From here on another daemon answers a busy seat. A child of fork(2) finds all of its serials or none. -1: ENOMEM. */
+int seats_begin_serials(struct seat *seat);
 
 /* The identity of this thread. */
 const struct kr_identity *seats_identity(void);
@@ -67,12 +70,10 @@ void seats_drop(struct seat *seat, bool is_same_place);
 
 bool seats_is_first_thread(void);
 
-/* Its own context in a seat, which ends with it once seats_has_own was told. */
+/* Its own context in a seat, which ends with it once seats_has_own was told; and whether it has one there. */
 struct thread_context *seats_own_context(const struct seat *seat);
+bool seats_is_own(const struct seat *seat, const struct thread_context *own);
 void seats_has_own(struct seat *seat);
-
-/* Whether some thread has one. */
-bool seats_have_own(const struct seat *seat);
 
 /* The session that it has joined itself, where it isn't the first thread, and which is freed with it. */
 struct kr_session *seats_own_session(void);
@@ -83,8 +84,9 @@ void seats_set_own_session(struct kr_session *session);
 /* A copy, as another thread may change it. */
 bool seats_session(struct kr_session *session);
 
-/* Whether it lasts as long as this process, and not only as long as a login or as who began it. */
-bool seats_hold_session(void);
+/* Whether it lasts as long as this process, and not only as long as a login or as who began it; and no thread has a
+ * context of its own in this seat. */
+bool seats_may_let_go(const struct seat *seat);
 
 /* Takes both over; those before end. */
 void seats_set_session(struct kr_session *session, const struct kr_holder *holder);

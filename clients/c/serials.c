@@ -1,8 +1,5 @@
 /* serials.c: the serials of daemons that follow one another. */
-#include "serials.h"
-
-#include <stdlib.h>
-#include <string.h>
+#include "caller.h"
 
 /* How many of these have a bit. */
 static int32_t told_apart(int32_t stale) { return stale < SERIALS_TOLD_APART ? stale : SERIALS_TOLD_APART; }

@@ -1,14 +1,7 @@
 /* serve.c: the loop of a supervisor: notifications, ends of processes, further listeners, its children. */
-#define _GNU_SOURCE
 #include "serve.h"
 
-#include <errno.h>
 #include <linux/kcmp.h>
-#include <linux/seccomp.h>
-#include <signal.h>
-#include <stdint.h>
-#include <stdlib.h>
-#include <string.h>
 #include <sys/epoll.h>
 #include <sys/ioctl.h>
 #include <sys/prctl.h>
@@ -17,11 +10,8 @@
 #include <sys/socket.h>
 #include <sys/syscall.h>
 #include <sys/wait.h>
-#include <unistd.h>
 
-#include "calls.h"
 #include "connection.h"
-#include "filter.h"
 
 #ifndef SECCOMP_IOCTL_NOTIF_SET_FLAGS
 #define SECCOMP_IOCTL_NOTIF_SET_FLAGS _IOW('!', 4, __u64)
@@ -47,12 +37,6 @@ static struct {
     struct seccomp_notif_resp *reply;
     size_t notification_room, reply_room;
 } all;
-
-static void close_one(int descriptor) {
-    int error = errno;
-    if (descriptor >= 0) close(descriptor);
-    errno = error;
-}
 
 /* ---- A call ---- */
 
@@ -124,10 +108,7 @@ int serve_receive_listener(int socket) {
     if (got == 0) errno = ECONNRESET;
     if (got <= 0) return -1;
     const struct cmsghdr *head = CMSG_FIRSTHDR(&message);
-    if (!head || head->cmsg_type != SCM_RIGHTS || head->cmsg_len != CMSG_LEN(sizeof listener)) {
-        errno = EPROTO;
-        return -1;
-    }
+    if (!head || head->cmsg_type != SCM_RIGHTS || head->cmsg_len != CMSG_LEN(sizeof listener)) return fail_as(EPROTO);
     memcpy(&listener, CMSG_DATA(head), sizeof listener);
     return listener;
 }
@@ -151,7 +132,7 @@ static int add_listener(int descriptor) {
     struct listener *listener = is_new ? calloc(1, sizeof *listener) : NULL;
     if (!listener || watch(descriptor, listener) < 0) {
         free(listener);
-        close_one(descriptor);
+        close_one(&descriptor);
         return is_new ? -1 : 0;
     }
     ioctl(descriptor, SECCOMP_IOCTL_NOTIF_SET_FLAGS, SECCOMP_USER_NOTIF_FD_SYNC_WAKE_UP);
@@ -163,11 +144,9 @@ static int add_listener(int descriptor) {
 /* A runtime, or the agent, may have it for a moment longer: then epoll(7) doesn't forget it by itself, and would go on
  * to tell of an entry that is freed. */
 static void end_listener(struct listener *listener) {
-    struct listener **at = &all.listeners;
-    while (*at != listener) at = &(*at)->next;
-    *at = listener->next;
+    TAKE_OUT(all.listeners, listener);
     epoll_ctl(all.epoll, EPOLL_CTL_DEL, listener->descriptor, NULL);
-    close_one(listener->descriptor);
+    close_one(&listener->descriptor);
     free(listener);
 }
 
@@ -190,7 +169,7 @@ static void take_listener(void) {
 static void note_end(pid_t process, int status) {
     if (process != all.settings->tracees.child || all.has_told) return;
     all.has_told = true;
-    if (all.settings->has_ended) all.settings->has_ended(status, all.settings->data);
+    if (all.settings->has_ended) all.settings->has_ended(status);
 }
 
 static void reap(void) {
@@ -308,7 +287,7 @@ enum serve_result serve(int listener, const struct serve_settings *settings) {
     if (begin(listener) < 0) return SERVE_REFUSED;
     if (tracees_begin(&settings->tracees, all.epoll) < 0)
         return tracees_have_no_daemon() ? SERVE_NO_DAEMON : SERVE_REFUSED;
-    if (settings->is_ready) settings->is_ready(settings->data);
+    if (settings->is_ready) settings->is_ready();
     run();
     wait_for_child();
     return SERVE_DONE;

@@ -1,22 +1,18 @@
-/* serve.h: a supervisor: answers add_key(2), request_key(2) and keyctl(2) of processes under the filter of filter.h
- * from what keyretaind answers.
+/* serve.h: a supervisor: answers add_key(2), request_key(2) and keyctl(2) of processes under the filter of
+ * filter.c from what keyretaind answers.
  *
  * It is one process with one thread, which serves until nobody is left who has the filter. It reads and writes the
  * memory of what it serves, and tells the daemon who asks: so nobody else may look into it. */
 #ifndef KEYRETAIN_SERVE_H
 #define KEYRETAIN_SERVE_H
 
-#include <stdbool.h>
-#include <sys/types.h>
-
 #include "tracees.h"
 
 struct serve_settings {
     struct tracees_settings tracees;
     int more; /* a socket over which further listeners come, by serve_send_listener; or -1 */
-    void (*is_ready)(void *data);            /* the daemon is there, and calls are answered from now on; or NULL */
-    void (*has_ended)(int status, void *data); /* the child, with its status of waitpid(2); or NULL */
-    void *data;
+    void (*is_ready)(void);        /* the daemon is there, and calls are answered from now on; or NULL */
+    void (*has_ended)(int status); /* the child, with its status of waitpid(2); or NULL */
 };
 
 enum serve_result { SERVE_DONE, SERVE_REFUSED, SERVE_NO_DAEMON };
@@ -30,11 +26,34 @@ int serve_protect(void);
  * children. Where it can't begin errno says why: SERVE_REFUSED by the daemon, or SERVE_NO_DAEMON. */
 enum serve_result serve(int listener, const struct serve_settings *settings);
 
+/* ---- calls.c: a call of another process, on copies of what its pointers mean ---- */
+
+/* Makes the room for copies, which is in no core file. -1 with errno. */
+int calls_begin(void);
+
+/* Carries out the call of a thread that has entered (tracees_enter), and answers it, or -1 with errno. `sum` is that
+ * of struct replay, or 0 for a call that changes nothing. */
+long call_carry_out(const struct key_row *row, const unsigned long given[KEY_ARGUMENTS],
+                    const struct seccomp_data *data, uint64_t *sum);
+
+/* ---- Listeners ---- */
+
 /* Sends a descriptor over a socket; -1 with errno. A server answers a byte to each that it has taken: one that has
  * ended meanwhile answers none, and whoever has sent it serves it otherwise. */
 int serve_send_listener(int socket, int listener);
 
 /* -1 with errno, ECONNRESET at the end. */
 int serve_receive_listener(int socket);
+
+/* ---- filter.c: the seccomp filter that hands the three key calls of a process to a supervisor ---- */
+
+/* Installs it for this process, what it forks and what it executes. Answers the listener, closed by execve(2), or -1
+ * with errno: EBUSY where these processes have another listener, EPERM or ENOSYS where filters are refused. Without
+ * CAP_SYS_ADMIN the process has no_new_privs from then on. */
+int filter_install(void);
+
+/* Which call a notification is of: a command of keyctl(2), CALL_ADD_KEY or CALL_REQUEST_KEY; -1 for another. The
+ * arguments are put in the order of rows.h, each as wide as in the caller's ABI. */
+int filter_decode(const struct seccomp_data *data, unsigned long at[5]);
 
 #endif

@@ -1,18 +1,12 @@
 /* session.c: sessions that other processes find. A keyring of JOIN is found by its name, so the name says which one is
  * meant, and the serial whether it is still the same one. */
-#define _GNU_SOURCE
 #include "session.h"
 
-#include <errno.h>
-#include <stdio.h>
-#include <stdlib.h>
-#include <string.h>
 #include <sys/random.h>
-#include <unistd.h>
 
 #include "connection.h"
 
-enum { USER_MAY_SEARCH = 0x00080000, DECIMAL = 10 };
+enum { DECIMAL = 10 };
 
 /* ---- Identity ---- */
 
@@ -92,40 +86,31 @@ int kr_name_session(struct kr_session *session, const char *name) {
     memset(session, 0, sizeof *session);
     if (!name) return make_name(session);
     size_t length = strlen(name);
-    if (length >= sizeof session->name) {
-        errno = EINVAL;
-        return -1;
-    }
+    if (length >= sizeof session->name) return fail_as(EINVAL);
     memcpy(session->name, name, length + 1);
     return 0;
 }
 
 /* ---- Keyrings ---- */
 
-struct attributes {
-    unsigned owner, mask;
-};
+bool kr_parse_attributes(const char *described, struct kr_attributes *attributes) {
+    return sscanf(described, "keyring;%u;%*u;%x;", &attributes->owner, &attributes->mask) == 2;
+}
 
-/* 0; 1 where the daemon doesn't tell; -1 where the connection fails. */
-static int read_attributes(struct kr *connection, uint32_t context, int32_t ring, struct attributes *attributes) {
+int kr_read_attributes(struct kr *connection, uint32_t context, int32_t ring, struct kr_attributes *attributes) {
     const struct kr_field fields[] = { { .number = (uint32_t)ring } };
     struct kr_answer answer = kr_ask(connection, KR_DESCRIBE, context, fields);
     char head[64] = "";
     if (answer.length < 0) return kr_is_broken(connection) ? -1 : 1;
     memcpy(head, answer.bytes, (size_t)answer.length < sizeof head ? (size_t)answer.length : sizeof head - 1);
-    return sscanf(head, "keyring;%u;%*u;%x;", &attributes->owner, &attributes->mask) == 2 ? 0 : 1;
-}
-
-bool kr_is_keyring(struct kr *connection, uint32_t context, int32_t id) {
-    struct attributes attributes;
-    return read_attributes(connection, context, id, &attributes) == 0;
+    return kr_parse_attributes(head, attributes) ? 0 : 1;
 }
 
 /* Whether the keyring is this user's, and gives nothing to group and others. 1 where it isn't, or the daemon doesn't
  * tell; -1 where the connection fails. */
 static int check_private(struct kr *connection, uint32_t context, int32_t ring, uint32_t uid,
-                         struct attributes *attributes) {
-    int known = read_attributes(connection, context, ring, attributes);
+                         struct kr_attributes *attributes) {
+    int known = kr_read_attributes(connection, context, ring, attributes);
     if (known != 0) return known;
     return attributes->owner != uid || attributes->mask & KR_GROUP_AND_OTHERS;
 }
@@ -138,30 +123,26 @@ static int leave_session(struct kr *connection, uint32_t context) {
 /* JOIN by name finds a keyring only where the caller may search it: a new one doesn't let its user do so, as the
  * kernel's doesn't, and would be lost to the next process. So its user is given that right. One of another user, who
  * made it first and open to all, may be found too: what is put into it would be told to that user. */
-int32_t kr_begin_session_as(struct kr *connection, uint32_t context, const char *name, uint32_t uid) {
-    struct attributes attributes;
+int32_t kr_begin_session(struct kr *connection, uint32_t context, const char *name, uint32_t uid) {
+    struct kr_attributes attributes;
     int32_t ring = kr_join(connection, context, name);
     if (ring < 0) return -1;
     int other = check_private(connection, context, ring, uid, &attributes);
     if (other > 0) other = leave_session(connection, context);
     if (other > 0) errno = EACCES;
     if (other != 0) return -1;
-    if (attributes.mask & USER_MAY_SEARCH) return ring;
-    return kr_setperm(connection, context, ring, attributes.mask | USER_MAY_SEARCH) < 0 ? -1 : ring;
-}
-
-int32_t kr_begin_session(struct kr *connection, uint32_t context, const char *name) {
-    return kr_begin_session_as(connection, context, name, geteuid());
+    if (attributes.mask & KR_USER_MAY_SEARCH) return ring;
+    return kr_setperm(connection, context, ring, attributes.mask | KR_USER_MAY_SEARCH) < 0 ? -1 : ring;
 }
 
 /* A daemon that was started anew gives the same serials again. So it isn't enough that the serial is the session's: one
  * that JOIN has just made is known by lacking the right to search, without which JOIN would not have found it. */
 int kr_enter_named(struct kr *connection, uint32_t context, const struct kr_session *session, uint32_t uid) {
-    struct attributes attributes = { 0 };
+    struct kr_attributes attributes = { 0 };
     int32_t ring = kr_join(connection, context, session->name);
     if (ring < 0) return -1;
     int other = ring != session->serial ? 1 : check_private(connection, context, ring, uid, &attributes);
-    if (other == 0 && !(attributes.mask & USER_MAY_SEARCH)) return 1;
+    if (other == 0 && !(attributes.mask & KR_USER_MAY_SEARCH)) return 1;
     return other > 0 ? leave_session(connection, context) : other;
 }
 
@@ -169,7 +150,7 @@ int kr_enter_session(struct kr *connection, uint32_t context, const char *text) 
     struct kr_session session;
     if (!text) text = secure_getenv(KR_SESSION_VARIABLE);
     if (!text || !kr_parse_session(&session, text)) return 0;
-    if (session.serial == 0) return kr_begin_session(connection, context, session.name) < 0 ? -1 : 1;
+    if (session.serial == 0) return kr_begin_session(connection, context, session.name, geteuid()) < 0 ? -1 : 1;
     int entered = kr_enter_named(connection, context, &session, geteuid());
     if (entered == 1) errno = EKEYREVOKED;
     return entered == 0 ? 1 : -1;

@@ -2,17 +2,16 @@
 #ifndef KEYRETAIN_SESSION_H
 #define KEYRETAIN_SESSION_H
 
-#include <stdbool.h>
-#include <stdint.h>
-
+#include "common.h"
 #include "keyretain.h"
 
 #define KR_SESSION_VARIABLE "KEYRETAIN_SESSION"
 
 enum { KR_SESSION_NAME_ROOM = 4096, KR_GROUPS_MAX = 32 };
 
-/* What a session's mask must not give: who made a keyring of its name first, open to all, would read its keys. */
-enum { KR_GROUP_AND_OTHERS = 0x00003f3f };
+/* What a session's mask must not give: who made a keyring of its name first, open to all, would read its keys. And what
+ * lets its user's other processes find it by the name. */
+enum { KR_GROUP_AND_OTHERS = 0x00003f3f, KR_USER_MAY_SEARCH = 0x00080000 };
 
 /* The serial is 0 where any keyring of the name will do, and a new one too. */
 struct kr_session {
@@ -43,20 +42,59 @@ int kr_name_session(struct kr_session *session, const char *name);
 /* Puts SERIAL:NAME into the environment. -1 with errno where it can't. */
 int kr_export_session(const struct kr_session *session);
 
-/* Joins the keyring of this name, or makes it, and lets later processes of the uid find it by the name. Answers its
- * serial; -1 with errno, which is EACCES where the keyring is another user's or gives group or others anything. Then
- * the context has another session keyring, which nobody shares. */
-int32_t kr_begin_session(struct kr *connection, uint32_t context, const char *name);
-
-/* The same for the user of a context, which the process may not be any more. */
-int32_t kr_begin_session_as(struct kr *connection, uint32_t context, const char *name, uint32_t uid);
+/* Joins the keyring of this name, or makes it, and lets later processes of the uid find it by the name: that of the
+ * context's user, which the process may not be any more. Answers its serial; -1 with errno, which is EACCES where the
+ * keyring is another user's or gives group or others anything. Then the context has another session keyring, which
+ * nobody shares. */
+int32_t kr_begin_session(struct kr *connection, uint32_t context, const char *name, uint32_t uid);
 
 /* Joins a session whose serial is known, and which must still be there, for the user of a context: 0; 1 where its
  * keyring was revoked, is gone, or isn't this user's alone; -1 with errno. With 1 the context has another keyring,
  * which nobody shares, as its session. */
 int kr_enter_named(struct kr *connection, uint32_t context, const struct kr_session *session, uint32_t uid);
 
-/* Whether an id is a keyring's, as far as this context may know. */
-bool kr_is_keyring(struct kr *connection, uint32_t context, int32_t id);
+/* Whose a keyring is, and its mask. */
+struct kr_attributes {
+    unsigned owner, mask;
+};
+
+/* Reads what DESCRIBE says of a keyring; false where it says that of none. */
+bool kr_parse_attributes(const char *described, struct kr_attributes *attributes);
+
+/* The same of the daemon's: 0; 1 where it doesn't tell; -1 where the connection fails. */
+int kr_read_attributes(struct kr *connection, uint32_t context, int32_t ring, struct kr_attributes *attributes);
+
+/* ---- holder.c: what holds a session ----
+ *
+ * What a process has, and hands on, in place of the connection that holds a session: the writing end of the pipe on
+ * which keyretain-keeper(8) waits. It can ask nothing. The session lasts as long as any copy of it. */
+
+struct kr_holder {
+    int descriptor; /* at least 200 where so many are allowed; -1 for none */
+    dev_t device;
+    ino_t inode;
+};
+
+/* Why there is no session. */
+enum kr_refusal { KR_REFUSED, KR_NO_DAEMON, KR_NO_KEEPER };
+
+/* Has a keeper make the session of this name at this socket, and hold it; for an empty name one of its own, which the
+ * keeper makes up, as everybody can read its command line. One with an end of line is EINVAL. `links_user` links the
+ * user keyring to it, as a login does. Sets the session's serial and name. -1 with errno, and why, after `deadline` (of
+ * kr_now) at the latest. */
+int kr_start_keeper(struct kr_holder *holder, struct kr_session *session, const char *socket, bool links_user,
+                    int64_t deadline, enum kr_refusal *why);
+
+/* Tells what is executed which descriptor holds the session. -1 with errno where it can't. */
+int kr_export_holder(const struct kr_holder *holder, const struct kr_session *session);
+
+/* What this process was handed of a session; the descriptor is -1 where it was handed nothing, as in a login. */
+struct kr_holder kr_handed_holder(const struct kr_session *session);
+
+/* Whether the number is still the pipe's: then the session lasts as long as this process. */
+bool kr_is_held(const struct kr_holder *holder);
+
+/* Closes this copy, if the number is still the pipe's; errno stays. */
+void kr_close_holder(struct kr_holder *holder);
 
 #endif

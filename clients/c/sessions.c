@@ -1,27 +1,21 @@
 /* sessions.c: the sessions of what a supervisor serves. */
-#define _GNU_SOURCE
 #include "sessions.h"
 
 #include <ctype.h>
 #include <dirent.h>
-#include <errno.h>
 #include <linux/keyctl.h>
-#include <stdio.h>
-#include <stdlib.h>
-#include <string.h>
 #include <sys/random.h>
 #include <sys/resource.h>
 
 #include "proc.h"
 
-enum { USER_MAY_SEARCH = 0x00080000, MASK_WITHOUT_NAME = 0x3f030000, ABSENT_SWEEPS = 2, DECIMAL = 10 };
+enum { MASK_WITHOUT_NAME = 0x3f030000, ABSENT_SWEEPS = 2, DECIMAL = 10 };
 
 static struct {
     struct session *sessions, *first;
 } all;
 
 struct session *sessions_first(void) { return all.first; }
-
 bool session_is_lost(const struct session *session) { return !context_connection(&session->holder); }
 
 struct session *session_use(struct session *session) {
@@ -35,9 +29,7 @@ void session_let_go(struct session *session) {
 }
 
 static void end_session(struct session *session) {
-    struct session **at = &all.sessions;
-    while (*at != session) at = &(*at)->next;
-    *at = session->next;
+    TAKE_OUT(all.sessions, session);
     context_end(&session->holder);
     user_let_go(session->user);
     free(session);
@@ -70,24 +62,17 @@ static struct session *add_session(const struct context *context, struct user *u
     session->serial = serial;
     session->begun = *begun;
     snprintf(session->name, sizeof session->name, "%s", name);
-    if (make_tag(&session->tag) < 0 || context_hold(&session->holder, context) < 0) {
-        int error = errno;
-        free(session);
-        errno = error;
-        return NULL;
-    }
+    if (make_tag(&session->tag) < 0 || context_hold(&session->holder, context) < 0) return forgotten(session);
     session->user = user_use(user);
     session->next = all.sessions;
     return all.sessions = session;
 }
 
-/* The mask of a keyring of this uid; false for what is another's. */
-static bool read_mask(const struct context *context, int32_t serial, uint32_t uid, unsigned *mask) {
-    char text[KR_SESSION_NAME_ROOM + 64] = "";
-    unsigned owner;
+/* What a keyring of this uid has; false for what is another's. */
+static bool read_own(const struct context *context, int32_t serial, uint32_t uid, struct kr_attributes *attributes) {
     struct kr *connection = context_connection(context);
-    if (!connection || kr_describe(connection, context->number, serial, text, sizeof text - 1) < 0) return false;
-    return sscanf(text, "keyring;%u;%*u;%x;", &owner, mask) == 2 && owner == uid;
+    return connection && kr_read_attributes(connection, context->number, serial, attributes) == 0 &&
+           attributes->owner == uid;
 }
 
 int session_leave(const struct context *context) {
@@ -97,8 +82,8 @@ int session_leave(const struct context *context) {
 
 /* One that was joined without a name is its user's to link only from within, as the kernel's is. */
 static bool is_own_session(const struct context *context, int32_t serial, const char *name, uint32_t uid) {
-    unsigned mask;
-    if (name) return read_mask(context, serial, uid, &mask);
+    struct kr_attributes attributes;
+    if (name) return read_own(context, serial, uid, &attributes);
     return kr_setperm(context_connection(context), context->number, serial, MASK_WITHOUT_NAME) == 0;
 }
 
@@ -132,14 +117,14 @@ static int set_mask(const struct session *session, unsigned mask) {
  * the context leaves what it has joined. */
 bool session_enter_by_name(const struct context *context, const struct user *user, const struct session *session) {
     struct kr *connection = context_connection(context);
-    unsigned mask;
+    struct kr_attributes attributes;
     if (!connection || user->identity.uid != session->user->identity.uid ||
-        !read_mask(&session->holder, session->serial, user->identity.uid, &mask))
+        !read_own(&session->holder, session->serial, user->identity.uid, &attributes))
         return false;
-    bool may_search = mask & USER_MAY_SEARCH;
-    if (!may_search && set_mask(session, mask | USER_MAY_SEARCH) < 0) return false;
+    bool may_search = attributes.mask & KR_USER_MAY_SEARCH;
+    if (!may_search && set_mask(session, attributes.mask | KR_USER_MAY_SEARCH) < 0) return false;
     int32_t joined = kr_join(connection, context->number, session->name);
-    if (!may_search) set_mask(session, mask);
+    if (!may_search) set_mask(session, attributes.mask);
     if (joined == session->serial) return true;
     session_leave(context);
     return false;
@@ -242,7 +227,7 @@ int sessions_begin(const struct kr_identity *identity, const struct admission_pr
     struct user *user = users_find(identity);
     if (!user || kr_name_session(&named, name) < 0 || context_fork(&context, &user->context) < 0) return -1;
     struct kr *connection = context_connection(&context);
-    int32_t serial = kr_begin_session_as(connection, context.number, named.name, identity->uid);
+    int32_t serial = kr_begin_session(connection, context.number, named.name, identity->uid);
     bool is_linked = is_container || (serial > 0 && kr_link(connection, context.number, KEY_SPEC_USER_KEYRING,
                                                             KEY_SPEC_SESSION_KEYRING) == 0);
     if (serial > 0 && is_linked) all.first = session_use(add_session(&context, user, serial, named.name, begun));

@@ -1,33 +1,19 @@
 /* socket.c: the socket of a connection: how it is made, who listens, and how bytes go out and come by a deadline. */
-#define _GNU_SOURCE
-#include <errno.h>
-#include <fcntl.h>
-#include <limits.h>
-#include <pthread.h>
-#include <stddef.h>
-#include <stdlib.h>
-#include <string.h>
-#include <sys/mman.h>
-#include <sys/stat.h>
-#include <sys/time.h>
-#include <time.h>
-#include <unistd.h>
-
 #include "connection.h"
 
-enum { USUAL_PATIENCE = 30000, IN_SEND = 0, IN_RECV = 1 };
+#include <limits.h>
+#include <sys/mman.h>
+#include <sys/time.h>
+#include <time.h>
 
-static int fail(int error) {
-    errno = error;
-    return -1;
-}
+enum { USUAL_PATIENCE = 30000, IN_SEND = 0, IN_RECV = 1 };
 
 /* Nothing is sent or decoded any more, so nothing stays of what was to be: whoever has the connection may keep it. */
 int kr_break_off(struct kr *connection, int error) {
     connection->broken = true;
     explicit_bzero(connection->memory->out, connection->out_end);
     explicit_bzero(connection->memory->in, connection->in_length);
-    return fail(error);
+    return fail_as(error);
 }
 
 /* ---- Time ---- */
@@ -78,9 +64,7 @@ static int open_socket(void) {
     int opened = socket(AF_UNIX, SOCK_STREAM | SOCK_CLOEXEC, 0);
     if (opened < 0 || opened > STDERR_FILENO) return opened;
     int moved = fcntl(opened, F_DUPFD_CLOEXEC, STDERR_FILENO + 1);
-    int error = errno;
-    close(opened);
-    errno = error;
+    close_one(&opened);
     return moved;
 }
 
@@ -99,8 +83,8 @@ static struct kr_memory *make_memory(pid_t *owner) {
 int kr_locate(struct kr_where *where, const char *path) {
     if (!path) return kr_find_daemon(where->path, sizeof where->path, &where->place) < 0 ? -1 : 0;
     size_t length = strlen(path);
-    if (length == 0) return fail(ENOENT);
-    if (length >= sizeof where->path) return fail(ENAMETOOLONG);
+    if (length == 0) return fail_as(ENOENT);
+    if (length >= sizeof where->path) return fail_as(ENAMETOOLONG);
     where->place = KR_NAMED;
     memcpy(where->path, path, length + 1);
     return 0;
@@ -111,11 +95,7 @@ static int have_socket(struct kr *connection) {
     int opened = open_socket();
     connection->waits[IN_SEND] = connection->waits[IN_RECV] = 0;
     if (opened < 0) return -1;
-    if (fstat(opened, &status) < 0) {
-        int error = errno;
-        close(opened);
-        return fail(error);
-    }
+    if (fstat(opened, &status) < 0) return close_one(&opened), -1;
     connection->descriptor = opened;
     connection->inode = status.st_ino;
     connection->device = status.st_dev;
@@ -124,7 +104,7 @@ static int have_socket(struct kr *connection) {
 
 static int prepare(struct kr *connection, const struct kr_where *where, unsigned flags) {
     _Static_assert(sizeof where->path == sizeof connection->address.sun_path, "a path of unix(7)");
-    if (flags & ~(unsigned)KR_ANY_SERVER) return fail(EINVAL);
+    if (flags & ~(unsigned)KR_ANY_SERVER) return fail_as(EINVAL);
     connection->descriptor = -1;
     connection->patience = USUAL_PATIENCE;
     connection->until = KR_NEVER;
@@ -156,7 +136,7 @@ static int connect_in_time(struct kr *connection) {
         if (connect(connection->descriptor, address, length) == 0) return 0;
         bool is_interrupted = errno == EINTR && !connection->interruptible;
         if (is_interrupted && left != 0) continue;
-        return is_interrupted || errno == EAGAIN ? fail(ETIMEDOUT) : -1;
+        return is_interrupted || errno == EAGAIN ? fail_as(ETIMEDOUT) : -1;
     }
 }
 
@@ -175,14 +155,15 @@ static int check_peer(struct kr *connection) {
     connection->peer_uid = peer.uid;
     connection->peer_gid = peer.gid;
     connection->peer_pid = peer.pid;
-    return may_be_told(connection) ? 0 : fail(EACCES);
+    return may_be_told(connection) ? 0 : fail_as(EACCES);
 }
 
 int kr_connect(struct kr *connection) {
     return connect_in_time(connection) < 0 ? -1 : check_peer(connection);
 }
 
-static struct kr *open_now(const char *path, unsigned flags, int milliseconds) {
+struct kr *kr_open_with(const char *path, unsigned flags, int milliseconds) {
+    UNCANCELLED;
     struct kr_where where = { .place = KR_NAMED };
     struct kr *connection = kr_locate(&where, path) < 0 ? NULL : kr_prepare(&where, flags, geteuid());
     if (!connection) return NULL;
@@ -191,16 +172,6 @@ static struct kr *open_now(const char *path, unsigned flags, int milliseconds) {
     if (kr_connect(connection) == 0) return connection;
     kr_close(connection);
     return NULL;
-}
-
-struct kr *kr_open_with(const char *path, unsigned flags, int milliseconds) {
-    int cancelling;
-    pthread_setcancelstate(PTHREAD_CANCEL_DISABLE, &cancelling);
-    struct kr *connection = open_now(path, flags, milliseconds);
-    int error = errno;
-    pthread_setcancelstate(cancelling, NULL);
-    errno = error;
-    return connection;
 }
 
 struct kr *kr_open(const char *path) { return kr_open_with(path, 0, USUAL_PATIENCE); }
@@ -225,27 +196,23 @@ bool kr_see(struct kr *connection) {
 }
 
 void kr_close(struct kr *connection) {
-    int error = errno, cancelling;
+    ERRNO_STAYS;
+    UNCANCELLED;
     if (!connection) return;
-    pthread_setcancelstate(PTHREAD_CANCEL_DISABLE, &cancelling);
     if (is_socket(connection)) close(connection->descriptor);
     if (connection->memory) munmap(connection->memory, sizeof *connection->memory); /* the system clears its pages */
     free(connection);
-    pthread_setcancelstate(cancelling, NULL);
-    errno = error;
 }
 
 /* ---- What is set and told ---- */
 
 int kr_set_patience(struct kr *connection, int milliseconds) {
     connection->patience = milliseconds < 0 ? -1 : milliseconds;
-    return kr_is_ours(connection) ? 0 : fail(ECONNRESET);
+    return kr_is_ours(connection) ? 0 : fail_as(ECONNRESET);
 }
 
 void kr_set_interruptible(struct kr *connection, int interruptible) { connection->interruptible = interruptible != 0; }
-
 int kr_is_broken(const struct kr *connection) { return connection->broken; }
-
 int kr_descriptor(const struct kr *connection) { return is_socket(connection) ? connection->descriptor : -1; }
 
 void kr_peer(const struct kr *connection, uint32_t *uid, uint32_t *gid, int32_t *pid) {
@@ -260,7 +227,7 @@ void kr_peer(const struct kr *connection, uint32_t *uid, uint32_t *gid, int32_t 
 static int after_failure(struct kr *connection) {
     if (errno == EINTR) return connection->interruptible ? -1 : 0;
     if (errno != EAGAIN && errno != EWOULDBLOCK) return kr_break_off(connection, ECONNRESET);
-    return kr_milliseconds_left(connection) == 0 ? fail(ETIMEDOUT) : 0;
+    return kr_milliseconds_left(connection) == 0 ? fail_as(ETIMEDOUT) : 0;
 }
 
 /* Sends what `out` has. Where it is interrupted the rest stays there, to go out before the next ask. */

@@ -1,12 +1,8 @@
 /* syscalls.c: what add_key(2), request_key(2) and keyctl(2) answer, from what keyretaind answers. Where the two
  * differ, the kernel's answer is given, as programs know it. */
-#define _GNU_SOURCE
-#include "syscalls.h"
+#include "rows.h"
 
-#include <errno.h>
 #include <linux/keyctl.h>
-#include <string.h>
-#include <unistd.h>
 
 #include "caller.h"
 #include "session.h"
@@ -16,13 +12,7 @@ typedef const unsigned long *values;
 
 enum { SERIAL_WIDTH = 4 };
 
-static long fail(int error) {
-    errno = error;
-    return -1;
-}
-
 static int32_t id_of(unsigned long value) { return (int32_t)(uint32_t)value; }
-
 static const char *text_of(unsigned long value) { return (const char *)value; }
 
 /* ---- What a call names ---- */
@@ -31,7 +21,7 @@ static const char *text_of(unsigned long value) { return (const char *)value; }
  * the last one is refused as revoked, until this one has told it too. */
 static bool names_stale(const struct caller *caller, const struct key_row *row, values at) {
     for (int i = 0; i < KEY_ARGUMENTS; i++)
-        if (row->at[i] == KEY_ID && caller_is_stale(caller, id_of(at[i]))) return true;
+        if (row->at[i] == KEY_ID && serials_is_stale(caller->serials, id_of(at[i]))) return true;
     return false;
 }
 
@@ -56,7 +46,7 @@ static long set_reqkey_keyring(int choice) {
     int before = chosen;
     if (choice < KEY_REQKEY_DEFL_NO_CHANGE || choice > KEY_REQKEY_DEFL_REQUESTOR_KEYRING ||
         choice == KEY_REQKEY_DEFL_GROUP_KEYRING)
-        return fail(EINVAL);
+        return fail_as(EINVAL);
     if (choice != KEY_REQKEY_DEFL_NO_CHANGE) chosen = choice;
     return before;
 }
@@ -64,22 +54,22 @@ static long set_reqkey_keyring(int choice) {
 /* Nobody ever has an authority, as nothing is constructed by upcalls. */
 static long assume_authority(int32_t id) {
     if (id == 0) return 0;
-    return fail(id < 0 ? EINVAL : ENOKEY);
+    return fail_as(id < 0 ? EINVAL : ENOKEY);
 }
 
 static long check_add(values at) {
-    if (at[3] > key_row_of(CALL_ADD_KEY)->most) return fail(EINVAL);
-    return !at[0] || (at[3] && !at[2]) ? fail(EFAULT) : 0;
+    if (at[3] > key_row_of(CALL_ADD_KEY)->most) return fail_as(EINVAL);
+    return !at[0] || (at[3] && !at[2]) ? fail_as(EFAULT) : 0;
 }
 
 static long check_request(values at) {
-    if (!at[0] || !at[1]) return fail(EFAULT);
-    return at[3] && strlen(text_of(at[3])) > page_size() - 1 ? fail(EINVAL) : 0;
+    if (!at[0] || !at[1]) return fail_as(EFAULT);
+    return at[3] && strlen(text_of(at[3])) > page_size() - 1 ? fail_as(EINVAL) : 0;
 }
 
 static long check_update(values at) {
-    if (at[2] > page_size()) return fail(EINVAL);
-    return at[2] && !at[1] ? fail(EFAULT) : 0;
+    if (at[2] > page_size()) return fail_as(EINVAL);
+    return at[2] && !at[1] ? fail_as(EFAULT) : 0;
 }
 
 /* What a kernel refuses before it looks at a key: 0 where it goes on. */
@@ -88,17 +78,17 @@ static long check(int call, values at) {
     case CALL_ADD_KEY: return check_add(at);
     case CALL_REQUEST_KEY: return check_request(at);
     case KEYCTL_UPDATE: return check_update(at);
-    case KEYCTL_SEARCH: return !at[1] || !at[2] ? fail(EFAULT) : 0;
-    case KEYCTL_JOIN_SESSION_KEYRING: return at[0] && !*text_of(at[0]) ? fail(EINVAL) : 0;
-    case KEYCTL_RESTRICT_KEYRING: return !at[1] != !at[2] ? fail(EINVAL) : 0;
-    case KEYCTL_MOVE: return (unsigned)at[3] & ~(unsigned)KEYCTL_MOVE_EXCL ? fail(EINVAL) : 0;
+    case KEYCTL_SEARCH: return !at[1] || !at[2] ? fail_as(EFAULT) : 0;
+    case KEYCTL_JOIN_SESSION_KEYRING: return at[0] && !*text_of(at[0]) ? fail_as(EINVAL) : 0;
+    case KEYCTL_RESTRICT_KEYRING: return !at[1] != !at[2] ? fail_as(EINVAL) : 0;
+    case KEYCTL_MOVE: return (unsigned)at[3] & ~(unsigned)KEYCTL_MOVE_EXCL ? fail_as(EINVAL) : 0;
     default: return 0;
     }
 }
 
 /* Whether a call is answered here, with *answer. */
 static bool is_answered_here(const struct key_row *row, values at, long *answer) {
-    if (row->refused) return *answer = fail(row->refused), true;
+    if (row->refused) return *answer = fail_as(row->refused), true;
     if (row->call == KEYCTL_ASSUME_AUTHORITY) return *answer = assume_authority(id_of(at[0])), true;
     if (row->call == KEYCTL_SET_REQKEY_KEYRING) return *answer = set_reqkey_keyring((int)at[0]), true;
     return false;
@@ -115,7 +105,7 @@ static void make_special(struct caller *caller, const struct key_row *row, int32
 /* A search for a type or a description that no key has: the kernel finds none, the daemon refuses it. */
 static long searched(long serial, const char *type, const char *description) {
     bool finds_none = errno == ENODEV || (errno == EINVAL && *type && !*description);
-    return serial < 0 && finds_none ? fail(ENOKEY) : serial;
+    return serial < 0 && finds_none ? fail_as(ENOKEY) : serial;
 }
 
 /* A text with a null byte, which the kernel counts, and puts there only where all of it has room. */
@@ -129,7 +119,7 @@ static long describe(struct caller *caller, int32_t id, char *buffer, size_t roo
 /* The kernel says of an id that none can be that there is no key. */
 static long read_key(struct caller *caller, int32_t id, void *buffer, size_t room) {
     long length = kr_read(caller->connection, caller->context, id, buffer, room);
-    return length < 0 && errno == EINVAL ? fail(ENOKEY) : length;
+    return length < 0 && errno == EINVAL ? fail_as(ENOKEY) : length;
 }
 
 /* No label is kept: the kernel gives an empty one to those who may view the key. */
@@ -147,11 +137,7 @@ static long change_owner(struct caller *caller, int32_t id, uint32_t uid, uint32
 /* No type here has a restriction of its own. */
 static long restrict_keyring(struct caller *caller, int32_t ring, const char *type) {
     long answer = kr_restrict_keyring(caller->connection, caller->context, ring, type);
-    return answer < 0 && errno == EINVAL && type ? fail(ENOENT) : answer;
-}
-
-static long move_link(struct caller *caller, values at) {
-    return kr_move(caller->connection, caller->context, id_of(at[0]), id_of(at[1]), id_of(at[2]), (uint32_t)at[3]);
+    return answer < 0 && errno == EINVAL && type ? fail_as(ENOENT) : answer;
 }
 
 static long capabilities(unsigned char *buffer, size_t room) {
@@ -200,28 +186,29 @@ static long answer(struct caller *caller, int call, values at) {
     case KEYCTL_GET_SECURITY: return get_security(caller, id, (char *)at[1], at[2]);
     case KEYCTL_INVALIDATE: return kr_invalidate(connection, context, id);
     case KEYCTL_RESTRICT_KEYRING: return restrict_keyring(caller, id, text_of(at[1]));
-    case KEYCTL_MOVE: return move_link(caller, at);
+    case KEYCTL_MOVE: return kr_move(connection, context, id, id_of(at[1]), id_of(at[2]), (uint32_t)at[3]);
     case KEYCTL_CAPABILITIES: return capabilities((unsigned char *)at[0], at[1]);
-    default: return fail(EOPNOTSUPP);
+    default: return fail_as(EOPNOTSUPP);
     }
 }
 
 /* The serials of a keyring that was read. They are looked at only where others are stale, as that takes an ask. */
 static void know_links(struct caller *caller, values at, long length) {
     const uint8_t *links = (const uint8_t *)at[1];
-    if (!caller_has_stale(caller) || !links || length < SERIAL_WIDTH || (unsigned long)length > at[2]) return;
-    if (!kr_is_keyring(caller->connection, caller->context, id_of(at[0]))) return;
+    struct kr_attributes ring;
+    if (caller->serials->stale == 0 || !links || length < SERIAL_WIDTH || (unsigned long)length > at[2]) return;
+    if (kr_read_attributes(caller->connection, caller->context, id_of(at[0]), &ring) != 0) return;
     for (long i = 0; i + SERIAL_WIDTH <= length; i += SERIAL_WIDTH)
-        caller_knows(caller, (int32_t)kr_get_u32(links + i));
+        serials_add(caller->serials, (int32_t)kr_get_u32(links + i));
 }
 
 /* What this daemon has told, and what it was asked about and knew. */
 static void know_serials(struct caller *caller, const struct key_row *row, values at, long result) {
     if (result < 0) return;
-    if (row->answers_serial) caller_knows(caller, (int32_t)result);
+    if (row->answers_serial) serials_add(caller->serials, (int32_t)result);
     if (row->call == KEYCTL_READ) know_links(caller, at, result);
     for (int i = 0; i < KEY_ARGUMENTS; i++)
-        if (row->at[i] == KEY_ID) caller_knows(caller, id_of(at[i]));
+        if (row->at[i] == KEY_ID) serials_add(caller->serials, id_of(at[i]));
 }
 
 /* Whether a call may have made a process keyring. */
@@ -230,11 +217,11 @@ static bool may_have_made(const struct key_row *row, values at, long result) {
 }
 
 static long ask(struct caller *caller, const struct key_row *row, values at) {
-    if ((caller->lost_session && wants_session(row, at)) || names_stale(caller, row, at)) return fail(EKEYREVOKED);
+    if ((caller->lost_session && wants_session(row, at)) || names_stale(caller, row, at)) return fail_as(EKEYREVOKED);
     make_special(caller, row, id_of(at[0]));
     long result = answer(caller, row->call, at);
     know_serials(caller, row, at, result);
-    return result < 0 && errno == EINVAL && names_authority(row, at) ? fail(ENOKEY) : result;
+    return result < 0 && errno == EINVAL && names_authority(row, at) ? fail_as(ENOKEY) : result;
 }
 
 long key_call_of_row(const struct key_row *row, struct arguments arguments) {

@@ -1,10 +1,7 @@
 /* task_contexts.c: the contexts of threads. */
-#define _GNU_SOURCE
-#include "task_contexts.h"
+#include "entries.h"
 
-#include <errno.h>
 #include <linux/keyctl.h>
-#include <string.h>
 
 #include "connection.h"
 

@@ -1,29 +1,13 @@
 /* tracees.c: the threads whose calls are served, one at a time. */
-#define _GNU_SOURCE
 #include "tracees.h"
 
-#include <errno.h>
-#include <fcntl.h>
 #include <linux/keyctl.h>
-#include <string.h>
-#include <unistd.h>
 
 #include "admission.h"
 #include "caller.h"
 
 static struct entered all;
-
-static long fail(int error) {
-    errno = error;
-    return -1;
-}
-
-static void close_one(int *descriptor) {
-    int error = errno;
-    if (*descriptor >= 0) close(*descriptor);
-    *descriptor = -1;
-    errno = error;
-}
+static struct serials serials;
 
 const struct entered *tracees_entered(void) { return &all; }
 
@@ -135,14 +119,14 @@ static struct task *seated(struct task *task) { return task->process->has_thread
  * another user, as a login does, is what its children look for: it goes on to hold that. */
 static struct seat *have_new_seat(struct task *task, struct user *user) {
     struct admitted admitted = admission_admit(task, all.status.parent, &all.asker.process);
-    if (!all.is_valid()) return fail(ENOSYS), NULL;
+    if (!all.is_valid()) return fail_as(ENOSYS), NULL;
     admitted.is_lost |= !admitted.session && all.asker.is_elsewhere; /* its user-session keyring is another */
     if (admitted.session && admitted.session != task->session && !has_joined(task))
         set_session(task, admitted.session);
     return have_seat(task, user, admitted, &all.asker);
 }
 
-struct seat *tracees_have_seat(void) {
+static struct seat *have_context(void) {
     struct task *task = seated(all.task);
     struct user *user = users_find(&all.identity);
     if (!user) return NULL;
@@ -154,7 +138,43 @@ struct seat *tracees_have_seat(void) {
     return seat;
 }
 
-struct seat *tracees_have_joined(struct seat *seat, struct session *session) {
+/* Serials of another daemon than the last one's mean nothing. Behind a guard it has the same process, so it may be
+ * another whenever nothing was left of the connections to the last. */
+static int meet_daemon(void) {
+    static unsigned last; /* the daemon is the one met since then */
+    unsigned beginnings = contexts_beginnings();
+    if (last != 0 && beginnings != last && serials_begin_anew(&serials) < 0) return -1;
+    last = beginnings;
+    return 0;
+}
+
+static int have_connection(void) {
+    if (contexts_begin_call() < 0 || meet_daemon() < 0) return -1;
+    if (contexts_are_worn() && contexts_renew() == 0) {
+        users_renew();
+        sessions_renew();
+        seats_leave_old_connections();
+    }
+    return 0;
+}
+
+/* ---- What caller.h wants, for the thread that has entered ---- */
+
+bool caller_enter(struct caller *caller) {
+    struct seat *seat = have_connection() < 0 ? NULL : have_context();
+    if (!seat) return false;
+    *caller = (struct caller){ .connection = context_connection(&seat->context), .context = seat->context.number,
+                               .lost_session = seat->is_lost, .seat = seat, .serials = &serials };
+    return true;
+}
+
+/* A context that the daemon doesn't know is no error of the program's: the next call begins anew. */
+void caller_leave(struct caller *caller, long result) {
+    if (result < 0 && errno == ESRCH) context_forget(&caller->seat->context);
+}
+
+/* Its seat, which has joined a session, and may have another place then. */
+static struct seat *note_joined(struct seat *seat, struct session *session) {
     struct task *task = all.task;
     bool is_first = task == task->process->first;
     if (is_first && session->uses == 0) session->beginner = task->process;
@@ -169,6 +189,15 @@ struct seat *tracees_have_joined(struct seat *seat, struct session *session) {
     return seat;
 }
 
+int32_t caller_join(struct caller *caller, const char *name) {
+    struct seat *seat = caller->seat;
+    struct session *session = session_join(&seat->context, seat->user, name, &all.asker.process);
+    if (!session) return -1;
+    int32_t serial = session->serial;
+    caller->seat = note_joined(seat, session);
+    return serial;
+}
+
 /* ---- What a kernel does with the thread itself ---- */
 
 /* Where keys go that an upcall makes. There are none, so the choice is kept and has no effect. */
@@ -177,7 +206,7 @@ long tracees_set_reqkey_keyring(int choice) {
     if (choice == KEY_REQKEY_DEFL_NO_CHANGE) return before;
     if (choice < KEY_REQKEY_DEFL_DEFAULT || choice > KEY_REQKEY_DEFL_REQUESTOR_KEYRING ||
         choice == KEY_REQKEY_DEFL_GROUP_KEYRING)
-        return fail(EINVAL);
+        return fail_as(EINVAL);
     all.task->reqkey = choice;
     return before;
 }
@@ -202,9 +231,9 @@ long tracees_session_to_parent(void) {
     if (!caller_enter(&caller)) return -1;
     struct session *session = caller.lost_session ? NULL : caller.seat->session;
     caller_leave(&caller, 0);
-    if (caller.lost_session) return fail(EKEYREVOKED);
+    if (caller.lost_session) return fail_as(EKEYREVOKED);
     struct process *parent = session ? have_parent(session) : NULL;
-    if (!parent) return fail(EPERM);
+    if (!parent) return fail_as(EPERM);
     bring_seats(parent->first, session);
     set_session(parent->first, session);
     return 0;
@@ -212,8 +241,7 @@ long tracees_session_to_parent(void) {
 
 /* ---- Room, and the sweep ---- */
 
-bool tracees_make_room(unsigned age) { return seats_make_room(age, all.task, admission_keeps); }
-
+static bool make_room(unsigned age) { return seats_make_room(age, all.task, admission_keeps); }
 bool tracees_want_sweep(void) { return entries_want_sweep() || sessions_want_sweep() || users_want_sweep(); }
 
 void tracees_sweep(void) {
@@ -242,7 +270,7 @@ int tracees_begin(const struct tracees_settings *settings, int epoll) {
     struct kr_identity identity = settings->identity;
     if (settings->is_container) admission_put_first(&identity);
     admission_set(&begun, identity.uid);
-    if (contexts_begin(settings->socket, tracees_make_room) < 0) return -1;
+    if (contexts_begin(settings->socket, make_room) < 0) return -1;
     if (sessions_begin(&identity, &begun, settings->name, settings->is_container) < 0) return -1;
     return settings->child > 0 ? begin_child(settings->child) : 0;
 }

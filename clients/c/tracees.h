@@ -1,16 +1,11 @@
-/* tracees.h: the threads whose calls are served, one at a time: who each is, and in which context it asks. For
- * syscalls.c supervised.c is what caller.h wants of a supervisor. */
+/* tracees.h: the threads whose calls are served, one at a time: who each is, and in which context it asks. So they
+ * are what caller.h wants of a supervisor, for syscalls.c. */
 #ifndef KEYRETAIN_TRACEES_H
 #define KEYRETAIN_TRACEES_H
 
-#include <stdbool.h>
-#include <sys/types.h>
-
-#include "entries.h"
-#include "memory.h"
 #include "proc.h"
 #include "rows.h"
-#include "task_contexts.h"
+#include "entries.h"
 
 struct tracees_settings {
     const char *socket;          /* the daemon's; NULL for where kr_default_path says */
@@ -46,12 +41,6 @@ struct entered {
 };
 const struct entered *tracees_entered(void);
 
-/* Its context, or NULL with errno. */
-struct seat *tracees_have_seat(void);
-
-/* It has joined a session by this seat, which may have another place then. */
-struct seat *tracees_have_joined(struct seat *seat, struct session *session);
-
 /* What a kernel does with the thread itself for KEYCTL_SET_REQKEY_KEYRING and KEYCTL_SESSION_TO_PARENT: the answer,
  * or -1 with errno. */
 long tracees_set_reqkey_keyring(int choice);
@@ -61,8 +50,5 @@ long tracees_session_to_parent(void);
  * nothing else tells, and which sessions and identities nobody has any more. */
 bool tracees_want_sweep(void);
 void tracees_sweep(void);
-
-/* Gives up contexts of a connection of this age, and entries where descriptors run short. */
-bool tracees_make_room(unsigned age);
 
 #endif

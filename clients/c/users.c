@@ -1,11 +1,7 @@
 /* users.c: the identities of what a supervisor serves. */
-#define _GNU_SOURCE
-#include "users.h"
+#include "sessions.h"
 
-#include <errno.h>
 #include <linux/keyctl.h>
-#include <stdlib.h>
-#include <string.h>
 
 enum { ABSENT_SWEEPS = 2, LINK_BYTES = 4 };
 
@@ -15,12 +11,7 @@ static struct user *add_user(const struct kr_identity *identity) {
     struct user *user = calloc(1, sizeof *user);
     if (!user) return NULL;
     user->identity = *identity;
-    if (context_hello(&user->context, identity) < 0) {
-        int error = errno;
-        free(user);
-        errno = error;
-        return NULL;
-    }
+    if (context_hello(&user->context, identity) < 0) return forgotten(user);
     user->next = all;
     return all = user;
 }
@@ -65,9 +56,7 @@ static bool would_lose_keys(const struct user *user) {
 }
 
 static void end_user(struct user *user) {
-    struct user **at = &all;
-    while (*at != user) at = &(*at)->next;
-    *at = user->next;
+    TAKE_OUT(all, user);
     context_end(&user->context);
     free(user);
 }

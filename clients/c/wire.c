@@ -1,10 +1,7 @@
-/* wire.c: the frames of keyretain-protocol(7). All numbers are little-endian. */
+/* wire.c: the frames of keyretain-protocol(7), and the records of queues. All numbers are little-endian. */
 #include "wire.h"
 
-#include <errno.h>
-#include <string.h>
-
-enum { VERSION = 2, REPLY_HEAD = 16, NO_PLACE = 122 /* keyretain-guard(8) has none left for the user */ };
+enum { VERSION = 2, REPLY_HEAD = 16 };
 
 const struct kr_ask_form kr_ask_forms[] = {
     { KR_GET_ID, "GET_ID", KR_SERIAL, { KR_ID, KR_U8 } },
@@ -46,7 +43,7 @@ const struct kr_status kr_statuses[] = {
     STATUS(22, EINVAL), STATUS(23, ENFILE), STATUS(28, ENOSPC), STATUS(35, EDEADLK), STATUS(40, ELOOP),
     STATUS(57, EBADSLT), STATUS(95, EOPNOTSUPP), STATUS(105, ENOBUFS), STATUS(126, ENOKEY),
     STATUS(127, EKEYEXPIRED), STATUS(128, EKEYREVOKED),
-    STATUS(122, EDQUOT), /* keyretain-guard(8) says it, and no daemon */
+    STATUS(122, EDQUOT), /* keyretain-guard(8) says it, which has no place left for the user, and no daemon */
 };
 const size_t kr_status_count = sizeof kr_statuses / sizeof *kr_statuses;
 
@@ -140,8 +137,6 @@ enum kr_decoded kr_decode_reply(const uint8_t *in, size_t length, struct kr_repl
 }
 
 static bool is_error(uint32_t status, int *error) {
-    *error = EDQUOT;
-    if (status == NO_PLACE) return true;
     for (size_t i = 0; i < kr_status_count; i++) {
         if (kr_statuses[i].number == status) {
             *error = kr_statuses[i].error;
@@ -162,4 +157,35 @@ bool kr_reply_fits(const struct kr_reply *reply, const struct kr_ask_form *form,
     case KR_SERIAL: return reply->length == 4 && kr_is_serial(kr_get_u32(reply->body));
     default: return true;
     }
+}
+
+/* ---- The records of a queue ---- */
+
+enum { REMOVED_OR_LOST = 0, KEY_NOTE = 1, HEAD = 8, LONG_RECORD = 16 };
+
+static const char *name_of(uint32_t type, uint32_t subtype) {
+    static const char *const metas[] = { "removed", "lost" };
+    static const char *const notes[] = { "instantiated", "updated", "linked", "unlinked",
+                                         "cleared", "revoked", "invalidated", "setattr" };
+    if (type == KEY_NOTE && subtype < sizeof notes / sizeof *notes) return notes[subtype];
+    if (type == REMOVED_OR_LOST && subtype < sizeof metas / sizeof *metas) return metas[subtype];
+    return "unknown";
+}
+
+int kr_next_note(const void **records, size_t *length, struct kr_note *note) {
+    const uint8_t *at = *records;
+    if (*length == 0) return 0;
+    size_t size = *length >= HEAD ? kr_get_u32(at + 4) & 0x7f : 0;
+    if (size < HEAD || size > *length) return fail_as(EPROTO);
+    uint32_t head = kr_get_u32(at), type = head & 0xffffff, subtype = head >> 24;
+    *note = (struct kr_note){ .name = name_of(type, subtype), .type = type, .subtype = subtype,
+                              .watch = kr_get_u32(at + 4) >> 8 & 0xff };
+    uint32_t key = size >= LONG_RECORD ? kr_get_u32(at + 8) : 0;
+    uint32_t other = size >= LONG_RECORD && type == KEY_NOTE ? kr_get_u32(at + 12) : 0;
+    if (key > INT32_MAX || other > INT32_MAX) return fail_as(EPROTO); /* no key has such a serial */
+    note->key = (int32_t)key;
+    note->other = (int32_t)other;
+    *records = at + size;
+    *length -= size;
+    return 1;
 }

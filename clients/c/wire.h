@@ -2,10 +2,7 @@
 #ifndef KEYRETAIN_WIRE_H
 #define KEYRETAIN_WIRE_H
 
-#include <stdbool.h>
-#include <stddef.h>
-#include <stdint.h>
-
+#include "common.h"
 #include "keyretain.h"
 
 /* The longest frames, with the four bytes of their length. */

@@ -5,7 +5,7 @@
 #include <stdlib.h>
 #include <string.h>
 
-#include "keyretain-agent-state.h"
+#include "keyretain-agent.h"
 
 int LLVMFuzzerTestOneInput(const uint8_t *input, size_t length);
 

@@ -3,7 +3,7 @@
 #include <stdio.h>
 #include <string.h>
 
-#include "keyretain-agent-state.h"
+#include "keyretain-agent.h"
 
 int main(void) {
     static char line[65536], bytes[sizeof line / 2];

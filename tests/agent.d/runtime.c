@@ -26,7 +26,7 @@
 #include <sys/wait.h>
 #include <unistd.h>
 
-#include "filter.h"
+#include "serve.h"
 
 enum { DESCRIPTORS = 64, FAILED = 99 };
 

@@ -3,7 +3,7 @@
 #include <stdio.h>
 #include <string.h>
 
-#include "keyretain-agent-state.h"
+#include "keyretain-agent.h"
 
 #define FIRST "{\"ociVersion\":\"1.0.2\",\"fds\":[\"seccompFd\"],"
 #define STATE "\"state\":{\"ociVersion\":\"1.0.2\",\"id\":\"a\",\"status\":\"creating\",\"pid\":7,\"bundle\":\"/b\"}"

@@ -2,7 +2,7 @@
  * moment. It has free(3) look at them: what is freed there mustn't be what they have. */
 #include <malloc.h>
 
-#include "serials.h"
+#include "caller.h"
 
 #include "check.h"
 

@@ -16,9 +16,9 @@
 #include "../clients.d/check.h"
 #include "calls.h"
 #include "connection.h"
-#include "maps.h"
+#include "admission.h"
 #include "proc.h"
-#include "syscalls.h"
+#include "rows.h"
 #include "tracees.h"
 
 enum { NUMBER = 100, THREAD = 200, MOST_DESCRIPTORS = 256 };

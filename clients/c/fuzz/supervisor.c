@@ -16,11 +16,9 @@
 #include <sys/mman.h>
 #include <unistd.h>
 
-#include "calls.h"
 #include "caller.h"
 #include "contexts.h"
-#include "filter.h"
-#include "tracees.h"
+#include "serve.h"
 
 enum { PAGE = 4096, PAGES = 96, WORDS = 5, HEAD = 2 + WORDS * 8 };
 
@@ -40,28 +38,20 @@ long tracees_session_to_parent(void) { return 0; }
 
 void contexts_count(size_t bytes) { seen += bytes; }
 
+static uint8_t again[77 / 8 + 1];
+static struct serials serials = { .again = again };
+
 bool caller_enter(struct caller *caller) {
-    *caller = (struct caller){ .lost_session = random_state & 1 };
+    serials.stale = random_state & 2 ? 77 : 0;
+    *caller = (struct caller){ .lost_session = random_state & 1, .serials = &serials };
     return true;
 }
 
 void caller_leave(struct caller *caller, long result) { (void)caller, (void)result; }
 
-bool caller_is_stale(const struct caller *caller, int32_t serial) {
-    (void)caller;
-    return serial == 77;
-}
-
-void caller_knows(struct caller *caller, int32_t serial) { (void)caller, seen += (unsigned)serial; }
-
-bool caller_has_stale(const struct caller *caller) {
-    (void)caller;
-    return random_state & 2;
-}
-
-bool kr_is_keyring(struct kr *connection, uint32_t context, int32_t id) {
-    (void)connection, (void)context, (void)id;
-    return true;
+int kr_read_attributes(struct kr *connection, uint32_t context, int32_t id, struct kr_attributes *attributes) {
+    (void)connection, (void)context, (void)id, (void)attributes;
+    return 0;
 }
 
 /* ---- In the place of the daemon ---- */
