@@ -146,7 +146,7 @@ static bool names_others(const struct key_row *row, const unsigned long *given) 
 static long answer(const struct key_row *row, const unsigned long *given, struct arguments arguments) {
     if (names_others(row, given)) return fail_as(EOPNOTSUPP);
     switch (row->call) {
-    case KEYCTL_SET_REQKEY_KEYRING: return tracees_set_reqkey_keyring((int)arguments.at[0]);
+    case KEYCTL_SET_REQKEY_KEYRING: return key_set_reqkey(&tracees_entered()->task->reqkey, (int)arguments.at[0]);
     case KEYCTL_SESSION_TO_PARENT: return tracees_session_to_parent();
     default: return key_call_of_row(row, arguments);
     }

@@ -56,4 +56,8 @@ struct arguments {
 long key_call(int call, struct arguments arguments);
 long key_call_of_row(const struct key_row *row, struct arguments arguments);
 
+/* KEYCTL_SET_REQKEY_KEYRING of a thread that has chosen this: where keys go that an upcall makes. There are none, so
+ * the choice is kept and has no effect. */
+long key_set_reqkey(int *chosen, int choice);
+
 #endif

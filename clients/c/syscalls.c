@@ -39,15 +39,12 @@ static bool names_authority(const struct key_row *row, values at) {
 
 static size_t page_size(void) { return (size_t)sysconf(_SC_PAGESIZE); }
 
-/* Where keys go that an upcall makes. There are none, so the choice, which is a thread's, is kept and has no
- * effect. */
-static long set_reqkey_keyring(int choice) {
-    static __thread int chosen;
-    int before = chosen;
+long key_set_reqkey(int *chosen, int choice) {
+    int before = *chosen;
     if (choice < KEY_REQKEY_DEFL_NO_CHANGE || choice > KEY_REQKEY_DEFL_REQUESTOR_KEYRING ||
         choice == KEY_REQKEY_DEFL_GROUP_KEYRING)
         return fail_as(EINVAL);
-    if (choice != KEY_REQKEY_DEFL_NO_CHANGE) chosen = choice;
+    if (choice != KEY_REQKEY_DEFL_NO_CHANGE) *chosen = choice;
     return before;
 }
 
@@ -88,9 +85,10 @@ static long check(int call, values at) {
 
 /* Whether a call is answered here, with *answer. */
 static bool is_answered_here(const struct key_row *row, values at, long *answer) {
+    static __thread int chosen;
     if (row->refused) return *answer = fail_as(row->refused), true;
     if (row->call == KEYCTL_ASSUME_AUTHORITY) return *answer = assume_authority(id_of(at[0])), true;
-    if (row->call == KEYCTL_SET_REQKEY_KEYRING) return *answer = set_reqkey_keyring((int)at[0]), true;
+    if (row->call == KEYCTL_SET_REQKEY_KEYRING) return *answer = key_set_reqkey(&chosen, (int)at[0]), true;
     return false;
 }
 

@@ -198,18 +198,7 @@ int32_t caller_join(struct caller *caller, const char *name) {
     return serial;
 }
 
-/* ---- What a kernel does with the thread itself ---- */
-
-/* Where keys go that an upcall makes. There are none, so the choice is kept and has no effect. */
-long tracees_set_reqkey_keyring(int choice) {
-    int before = all.task->reqkey;
-    if (choice == KEY_REQKEY_DEFL_NO_CHANGE) return before;
-    if (choice < KEY_REQKEY_DEFL_DEFAULT || choice > KEY_REQKEY_DEFL_REQUESTOR_KEYRING ||
-        choice == KEY_REQKEY_DEFL_GROUP_KEYRING)
-        return fail_as(EINVAL);
-    all.task->reqkey = choice;
-    return before;
-}
+/* ---- Giving a session to the parent ---- */
 
 /* The caller's parent, if it may be given its session. It is bound before it is read by its number, and is the caller's
  * parent still afterwards. */

@@ -41,9 +41,7 @@ struct entered {
 };
 const struct entered *tracees_entered(void);
 
-/* What a kernel does with the thread itself for KEYCTL_SET_REQKEY_KEYRING and KEYCTL_SESSION_TO_PARENT: the answer,
- * or -1 with errno. */
-long tracees_set_reqkey_keyring(int choice);
+/* KEYCTL_SESSION_TO_PARENT: the answer, or -1 with errno. */
 long tracees_session_to_parent(void);
 
 /* Whether to sweep a second later: sees which processes have executed something else, which threads have ended where

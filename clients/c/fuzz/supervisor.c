@@ -32,8 +32,6 @@ static uint32_t random_state;
 
 const struct entered *tracees_entered(void) { return &entered; }
 
-long tracees_set_reqkey_keyring(int choice) { return choice; }
-
 long tracees_session_to_parent(void) { return 0; }
 
 void contexts_count(size_t bytes) { seen += bytes; }
