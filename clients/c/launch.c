@@ -1,6 +1,7 @@
 /* launch.c: three processes. This one waits, and ends as the command does. Its child, the supervisor, lives as long as
  * something has the filter. The command is the supervisor's child, as some systems let none but ancestors look into a
  * process (Yama), and what it leaves behind stays below the supervisor. */
+#include "serve.h"
 #include "launch.h"
 
 #include <linux/keyctl.h>
@@ -9,8 +10,6 @@
 #include <sys/socket.h>
 #include <sys/syscall.h>
 #include <sys/wait.h>
-
-#include "serve.h"
 
 /* What the supervisor tells the process that waits. */
 struct report {

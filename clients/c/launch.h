@@ -2,8 +2,6 @@
 #ifndef KEYRETAIN_LAUNCH_H
 #define KEYRETAIN_LAUNCH_H
 
-#include "common.h"
-
 /* What keyretain-session(1) ends with. */
 enum { REFUSED = 1, USAGE = 2, NO_CONNECTION = 3, NOT_EXECUTABLE = 126, NOT_FOUND = 127 };
 
