@@ -214,7 +214,12 @@ static void move_session(struct session *session) {
 }
 
 void sessions_renew(void) {
-    for (struct session *session = all.sessions; session; session = session->next) move_session(session);
+    for (struct session *session = all.sessions, *next; session; session = next) {
+        session_use(session); /* what is given up to make room isn't this one */
+        move_session(session);
+        next = session->next;
+        session_let_go(session);
+    }
 }
 
 /* ---- Beginning ---- */

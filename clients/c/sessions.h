@@ -53,7 +53,7 @@ struct session {
     uint64_t tag;
     struct admission_process begun; /* who did, when it did */
     const void *beginner;           /* its entry, as long as that holds the session; NULL is none */
-    unsigned uses;                  /* how many entries of threads have it */
+    unsigned uses;                  /* how many entries of threads, and contexts of these, have it */
     unsigned absent;                /* how many sweeps have found no process with its tag, since none uses it */
     struct session *next;
     char name[KR_SESSION_NAME_ROOM];

@@ -11,6 +11,7 @@ enum { LOOKED_AT = 64, GIVEN_UP = 8 };
 
 static void drop_seat(struct task *task, unsigned at) {
     context_end(&task->seats[at].context);
+    session_let_go(task->seats[at].session);
     user_let_go(task->seats[at].user);
     task->seats[at] = task->seats[--task->count];
 }
@@ -47,6 +48,7 @@ static struct seat *find_in_session(struct task *task, const struct user *user, 
 static struct seat *add_seat(struct task *task, const struct seat *made) {
     if (task->count == SEATS) drop_seat(task, 1);
     task->seats[task->count] = *made;
+    session_use(made->session);
     user_use(made->user);
     return &task->seats[task->count++];
 }
@@ -100,13 +102,19 @@ static bool has_state(const struct context *context) {
            context_has_keyring(context, KEY_SPEC_PROCESS_KEYRING);
 }
 
+void seat_set_session(struct seat *seat, struct session *session) {
+    struct session *before = seat->session;
+    seat->session = session_use(session);
+    session_let_go(before);
+}
+
 void bring_seats(struct task *task, struct session *session) {
     for (unsigned i = task->count; i > 0; i--) {
         struct seat *seat = &task->seats[i - 1];
         if (seat->session == session) continue;
         if (has_state(&seat->context)) {
             bool is_in = session_enter_by_name(&seat->context, seat->user, session);
-            seat->session = is_in ? session : NULL;
+            seat_set_session(seat, is_in ? session : NULL);
             seat->is_lost = !is_in;
             seat->has_joined = false;
         } else {

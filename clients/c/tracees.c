@@ -121,9 +121,12 @@ static struct seat *have_new_seat(struct task *task, struct user *user) {
     struct admitted admitted = admission_admit(task, all.status.parent, &all.asker.process);
     if (!all.is_valid()) return fail_as(ENOSYS), NULL;
     admitted.is_lost |= !admitted.session && all.asker.is_elsewhere; /* its user-session keyring is another */
+    session_use(admitted.session); /* what is given up to make room isn't this one */
     if (admitted.session && admitted.session != task->session && !has_joined(task))
         set_session(task, admitted.session);
-    return have_seat(task, user, admitted, &all.asker);
+    struct seat *seat = have_seat(task, user, admitted, &all.asker);
+    session_let_go(admitted.session);
+    return seat;
 }
 
 static struct seat *have_context(void) {
@@ -178,12 +181,10 @@ static struct seat *note_joined(struct seat *seat, struct session *session) {
     struct task *task = all.task;
     bool is_first = task == task->process->first;
     if (is_first && session->uses == 0) session->beginner = task->process;
-    seat->session = session;
+    seat_set_session(seat, session);
     seat->is_lost = false;
     seat->has_joined = true;
-    session_use(session);
     bring_seats(task, session);
-    session_let_go(session);
     set_session(task, session);
     for (seat = task->seats; !seat->has_joined; seat++) continue;
     return seat;

@@ -94,8 +94,11 @@ bool users_make_room(unsigned age, bool (*is_here)(uint32_t uid)) {
 }
 
 void users_renew(void) {
-    for (struct user *user = all; user; user = user->next) {
+    for (struct user *user = all, *next; user; user = next) {
         struct context before = user->context;
+        user_use(user); /* what is given up to make room isn't this one */
         if (context_is_old(&before) && context_hello(&user->context, &user->identity) == 0) context_end(&before);
+        next = user->next;
+        user_let_go(user);
     }
 }

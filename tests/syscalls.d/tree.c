@@ -3,6 +3,7 @@
 #include <pthread.h>
 #include <grp.h>
 #include <linux/capability.h>
+#include <linux/securebits.h>
 #include <sched.h>
 #include <signal.h>
 #include <sys/fsuid.h>
@@ -852,6 +853,44 @@ static int log_in(bool is_real) {
     return tell_session(take(), joined);
 }
 
+/* Another user, who may become this one again. */
+static void change_to(uid_t uid) {
+    if (prctl(PR_SET_SECUREBITS, SECBIT_NO_SETUID_FIXUP, 0, 0, 0) < 0 || setresuid(uid, uid, uid) < 0 ||
+        prctl(PR_SET_DUMPABLE, 1, 0, 0, 0) < 0)
+        _exit(2);
+}
+
+/* Asks as root, as another user, and as root again, who gives the session to the parent. */
+static void ask_as_two(void) {
+    give(ring_of(KEY_SPEC_SESSION_KEYRING, 0));
+    wait_at_gate();
+    change_to(NOBODY);
+    give(ring_of(KEY_SPEC_SESSION_KEYRING, 0));
+    wait_at_gate();
+    change_to(0);
+    give(keyctl(KEYCTL_SESSION_TO_PARENT, 0, 0, 0, 0));
+    _exit(0);
+}
+
+/* A child asks in two sessions of two users, of which each is the only one to have the first meanwhile. */
+static int come_back(void) {
+    long first = join(NULL), second;
+    begin();
+    if (fork() == 0) ask_as_two();
+    bool was_in = take().value == first;
+    change_to(NOBODY);
+    second = join(NULL);
+    if (first < 0 || second < 0 || write(gates[1], "", 1) != 1) return 2;
+    was_in = was_in && take().value == second;
+    sleep(4); /* a session ends some seconds after its last process */
+    change_to(0);
+    if (join(NULL) < 0 || write(gates[1], "", 1) != 1) return 2;
+    struct answer given = take();
+    bool is_same = ring_of(KEY_SPEC_SESSION_KEYRING, 0) == first;
+    return printf("%s, %s\n", !was_in ? "in others" : given.value == 0 ? "given" : strerror(given.error),
+                  is_same ? "the first one" : "another") < 0;
+}
+
 /* A user takes the name of a session first, and opens that to all; then words are executed. */
 static int take_name(const char *name, uid_t uid, char **words) {
     begin();
@@ -1143,6 +1182,7 @@ int main(int count, char **words) {
     if (strcmp(mode, "left-to-other") == 0) return leave_to_other();
     if (strcmp(mode, "login") == 0) return log_in(count == 3 && strcmp(words[2], "real") == 0);
     if (strcmp(mode, "becomes-other") == 0) return become_other();
+    if (strcmp(mode, "comes-back") == 0) return come_back();
     if (strcmp(mode, "copied") == 0) return take_others_tag();
     if (strcmp(mode, "copied-set-uid") == 0 && count == 3) return take_set_uid_tag(words[2]);
     if (strcmp(mode, "follows") == 0 && count == 3) return follow_root(strcmp(words[2], "orphan") == 0);
