@@ -4,12 +4,24 @@
 #include <openssl/crypto.h>
 #include <openssl/evp.h>
 #include <stdio.h>
+#include <unistd.h>
 
 #include "agent.h"
 #include "session.h"
 
 static const char ring_name[] = "ssh-agent";
 enum { PATIENCE_MILLISECONDS = 10000, DIGEST_SIZE = 32 };
+
+/* The keyring; 0 where its user has none there, and -1 where the daemon doesn't tell. A search also finds what another
+ * user has put into a keyring that is linked there: who possesses that would possess private keys. */
+static int32_t find_ring(const struct ring *ring, int32_t head) {
+    char text[64] = "";
+    unsigned owner;
+    int32_t found = kr_search(ring->connection, ring->context, head, "keyring", ring_name, 0);
+    if (found < 0) return errno == ENOKEY || errno == EKEYREVOKED || errno == EKEYEXPIRED ? 0 : -1;
+    kr_describe(ring->connection, ring->context, found, text, sizeof text - 1);
+    return sscanf(text, "keyring;%u;", &owner) == 1 && owner == geteuid() ? found : 0;
+}
 
 bool open_ring(struct ring *ring) {
     struct kr_identity identity;
@@ -22,9 +34,11 @@ bool open_ring(struct ring *ring) {
     int entered = kr_enter_session(ring->connection, ring->context, NULL);
     if (entered < 0) return false;
     ring->head = entered ? KEY_SPEC_SESSION_KEYRING : KEY_SPEC_USER_KEYRING;
-    int32_t found = kr_search(ring->connection, ring->context, KEY_SPEC_SESSION_KEYRING, "keyring", ring_name, 0);
+    int32_t found = find_ring(ring, KEY_SPEC_SESSION_KEYRING);
+    if (found < 0) return false;
+    if (found == 0) found = find_ring(ring, KEY_SPEC_USER_KEYRING); /* behind one that isn't the user's */
     ring->keyring = found > 0 ? found : 0;
-    return found > 0 || errno == ENOKEY || errno == EKEYREVOKED || errno == EKEYEXPIRED;
+    return true;
 }
 
 void close_ring(struct ring *ring) {

@@ -12,10 +12,10 @@ from compare import compare, conclude
 from servers import reply, served
 import keyretain
 
-RING, KEY, MARK = 77, 78, 79
+RING, KEY, MARK, SESSION = 77, 78, 79, 80
 SERIAL, LINK = struct.pack("<I", RING), struct.pack("<I", KEY)
-OTHERS = b"keyring;%d;0;3f1b0000;of another user" % (os.geteuid() + 1)
-FORMS = {"number": SERIAL, "serial": SERIAL, "nothing": b"", "bytes": OTHERS}
+OWN, OTHERS = (b"keyring;%d;0;3f1b0000;of some user" % uid for uid in (os.geteuid(), os.geteuid() + 1))
+FORMS = {"number": SERIAL, "serial": SERIAL, "nothing": b"", "bytes": OWN}
 
 
 class Daemon:
@@ -29,6 +29,10 @@ class Daemon:
     def answer(self, name, values):
         if name == "SEARCH" and b"user" in values:
             return struct.pack("<I", MARK), 0
+        if name == "JOIN":
+            return struct.pack("<I", SESSION), 0
+        if name == "DESCRIBE" and SESSION in values:
+            return OTHERS, 0
         if name == "READ" and MARK in values:
             return b"_ses.0123456789abcdef", 0
         if name == "READ":

@@ -312,6 +312,24 @@ def try_other_user():
         compare("by one keeper", 1, len(keepers()))
 
 
+def try_linked_keyring():
+    """The user keyring has a link to a keyring of another user's, who has put there what a helper and a keeper look for."""
+    with daemon(), keyretain.Client() as other, keyretain.Client() as client:
+        theirs, own = other.hello(54321, 54321), client.hello(os.geteuid(), os.getegid())
+        client.setperm(own, client.join(own, "work"), 0x3F3B0000)
+        shared = other.add(theirs, "keyring", "shared", b"", keyretain.USER)
+        ring = other.add(theirs, "keyring", "git-credentials", b"", shared)
+        name = other.add(theirs, "user", "keyretain-keeper:git-credentials", b"work", shared)
+        for serial in (shared, ring, name):
+            other.setperm(theirs, serial, 0x3F3F3F3F)
+        client.link(own, shared, keyretain.USER)
+        git("store", "protocol=https host=a username=u password=p")
+        compare("a keyring of another user's is given nothing", [], other.read_ring(theirs, ring))
+        compare("the user's own is", {"username=u", "password=p"}, git("get", "protocol=https host=a"))
+        time.sleep(2)
+        compare("and a keeper holds that", 1, len(keepers()))
+
+
 def try_killed_keeper():
     """A keeper that was killed leaves its place to the next one."""
     with daemon(), looking("git-credentials") as look:
@@ -373,6 +391,6 @@ def try_no_keeper():
 
 
 for case in (try_steps, try_bytes, try_others, try_expiry, try_words, try_silent_daemon, try_no_core, try_elsewhere,
-             try_crowd, try_keeper, try_groups, try_other_user, try_killed_keeper, try_session, try_no_keeper):
+             try_crowd, try_keeper, try_groups, try_other_user, try_linked_keyring, try_killed_keeper, try_session, try_no_keeper):
     case()
 conclude()
