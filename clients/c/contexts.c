@@ -12,7 +12,7 @@ enum { CALL_MILLISECONDS = 30000, OPENING_MILLISECONDS = 10000, READ_BYTES = 409
 
 /* So many contexts of identities, and with sessions so many that last, may be on one connection: the rest is for
  * processes that ask. All wait while a further connection is opened, so one that fails isn't tried again at once. */
-enum { IDENTITIES = 24, LASTING = 60, FURTHER_MILLISECONDS = 1000, PAUSE_MILLISECONDS = 10000 };
+enum { IDENTITIES = 24, LASTING = 60, SPARE = 8, FURTHER_MILLISECONDS = 1000, PAUSE_MILLISECONDS = 10000 };
 
 struct line {
     struct kr *connection;
@@ -150,6 +150,11 @@ struct kr *context_connection(const struct context *context) {
 bool context_is_old(const struct context *context) {
     const struct line *line = line_of(context);
     return line && line->is_old;
+}
+
+bool context_is_scarce(const struct context *context) {
+    const struct line *line = line_of(context);
+    return line && line->count + SPARE > KR_CONTEXTS;
 }
 
 /* Whether the ask is to be made again: EINVAL is that of a client with as many contexts as it may have. */

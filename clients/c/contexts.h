@@ -45,6 +45,9 @@ int contexts_renew(void);
 /* Whether it is on a connection in whose place there is another. */
 bool context_is_old(const struct context *context);
 
+/* Whether on its connection the last contexts are left, which are for others than who has most of them. */
+bool context_is_scarce(const struct context *context);
+
 /* The connection of a context, NULL where it has gone with its connection, or is none. */
 struct kr *context_connection(const struct context *context);
 

@@ -174,8 +174,8 @@ static void hold_session(const struct options *options) {
 
 /* ---- A keyring that is held as long as it has keys ---- */
 
-/* The user's key of this type and name in the user keyring, or -1: ENOKEY also where another user's was found, which has
- * put it into a keyring that is linked there. */
+/* The user's key of this type and name in the user keyring, or -1: ENOKEY also where another user's was found, in a
+ * keyring that is linked there. */
 static int32_t find_key(struct kr *connection, uint32_t context, const char *type, const char *name) {
     char text[KR_SESSION_NAME_ROOM + 64] = "";
     unsigned owner;

@@ -18,6 +18,13 @@ static struct {
 struct session *sessions_first(void) { return all.first; }
 bool session_is_lost(const struct session *session) { return !context_connection(&session->holder); }
 
+unsigned sessions_count(uint32_t uid, unsigned age) {
+    unsigned count = 0;
+    for (const struct session *session = all.sessions; session; session = session->next)
+        count += session->user->identity.uid == uid && session->holder.age == age;
+    return count;
+}
+
 struct session *session_use(struct session *session) {
     if (session) session->uses++;
     return session;

@@ -70,6 +70,9 @@ struct session *sessions_first(void);
 
 bool session_is_lost(const struct session *session);
 
+/* How many a uid has on the connection of this age. */
+unsigned sessions_count(uint32_t uid, unsigned age);
+
 /* One entry more has it, and one less. NULL is none. */
 struct session *session_use(struct session *session);
 void session_let_go(struct session *session);

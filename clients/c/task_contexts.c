@@ -4,8 +4,9 @@
 #include <linux/keyctl.h>
 
 #include "connection.h"
+#include "tracees.h"
 
-enum { LOOKED_AT = 64, GIVEN_UP = 8 };
+enum { LOOKED_AT = 64, GIVEN_UP = 8, MOST = KR_CONTEXTS * 3 / 4 };
 
 /* ---- A thread's ---- */
 
@@ -57,6 +58,7 @@ static struct seat *have_first_seat(struct task *first, struct user *user, struc
     struct seat *seat = find_in_session(first, user, admitted);
     struct seat made = { .user = user, .session = admitted.session, .is_lost = admitted.is_lost };
     if (seat) return seat;
+    if (!seats_may_have_more(user)) return NULL;
     if (session_enter(&made.context, user, made.session, &made.is_lost) < 0) return NULL;
     return add_seat(first, &made);
 }
@@ -82,7 +84,7 @@ static struct seat *have_task_seat(struct task *task, struct user *user, struct 
     struct seat made = { .user = user, .session = admitted.session, .is_lost = admitted.is_lost };
     if (seat) return seat;
     if (!root) root = have_first_seat(first, user, admitted);
-    if (!root || context_thread(&made.context, &root->context) < 0) return NULL;
+    if (!root || !seats_may_have_more(user) || context_thread(&made.context, &root->context) < 0) return NULL;
     if (bring(&made, root)) return add_seat(task, &made);
     context_end(&made.context);
     return NULL;
@@ -174,6 +176,25 @@ static bool end_idle_task(unsigned age, const struct task *asking) {
             return true;
         }
     return false;
+}
+
+static unsigned count_of(uint32_t uid, unsigned age) {
+    unsigned count = sessions_count(uid, age);
+    for (struct process *process = entries_oldest(); process; process = entries_next(process))
+        for (struct task *task = process->tasks; task; task = task->next)
+            for (unsigned i = 0; i < task->count; i++)
+                count += task->seats[i].user->identity.uid == uid && task->seats[i].context.age == age;
+    return count;
+}
+
+bool seats_may_have_more(const struct user *user) {
+    const unsigned age = user->context.age;
+    while (context_is_scarce(&user->context) && count_of(user->identity.uid, age) >= MOST)
+        if (!tracees_make_room(age)) {
+            errno = EDQUOT;
+            return false;
+        }
+    return true;
 }
 
 /* An identity that only idle processes have is given up with their contexts. */

@@ -35,6 +35,10 @@ void end_seats(struct task *task);
  * sessions.h, and `asking` the thread whose call is served, or NULL. False where there is none. */
 bool seats_make_room(unsigned age, const struct task *asking, bool (*keeps)(pid_t, const struct session *));
 
+/* Whether a user may have one more context. Who has most of them on a connection leaves the last ones to others: false
+ * with EDQUOT where nothing can be given up. */
+bool seats_may_have_more(const struct user *user);
+
 /* Where descriptors run short: gives up threads and processes that have nothing to lose, and are known again as
  * `may_be_forgotten` says. */
 void seats_make_descriptors(const struct task *asking, bool (*may_be_forgotten)(const struct process *));

@@ -662,6 +662,30 @@ static int leave_to_other(void) {
     return tell_session(take(), joined);
 }
 
+/* Another user's processes have as many process keyrings as they get, and each a session too where it joins one. Then
+ * new processes of this one ask, whose user keyring has a key. */
+static int crowd(int count, bool joins) {
+    int served = 0, refused = 0;
+    if (add_key("user", "own", "x", 1, KEY_SPEC_USER_KEYRING) < 0) return 2;
+    begin();
+    for (int i = 0; i < count; i++)
+        if (fork() == 0) {
+            become_nobody();
+            give(joins && join(NULL) < 0 ? -1 : ring_of(KEY_SPEC_PROCESS_KEYRING, 1));
+            wait_at_gate();
+            _exit(0);
+        }
+    for (int i = 0; i < count; i++) served += take().value > 0;
+    for (int i = 0; i < 10; i++) {
+        pid_t child = fork();
+        if (child == 0) _exit(ring_of(KEY_SPEC_USER_KEYRING, 0) < 0);
+        refused += status_of(child) != 0;
+    }
+    close(gates[1]);
+    while (wait(NULL) > 0) continue;
+    return printf("%s served, %d refused\n", served == count ? "all" : served > 0 ? "some" : "none", refused) < 0;
+}
+
 /* A process joins a session, and a child of it becomes another user. */
 static int become_other(void) {
     begin();
@@ -1183,6 +1207,7 @@ int main(int count, char **words) {
     if (strcmp(mode, "login") == 0) return log_in(count == 3 && strcmp(words[2], "real") == 0);
     if (strcmp(mode, "becomes-other") == 0) return become_other();
     if (strcmp(mode, "comes-back") == 0) return come_back();
+    if (strcmp(mode, "crowd") == 0) return crowd(many, count == 4);
     if (strcmp(mode, "copied") == 0) return take_others_tag();
     if (strcmp(mode, "copied-set-uid") == 0 && count == 3) return take_set_uid_tag(words[2]);
     if (strcmp(mode, "follows") == 0 && count == 3) return follow_root(strcmp(words[2], "orphan") == 0);

@@ -45,8 +45,8 @@ class Locker(AbstractContextManager["Locker"]):
     # Reading
 
     def _find(self) -> int:
-        """The serial of the keyring, or 0. A search also finds what another user has put into a keyring that is linked to
-        the user keyring: who possesses that would possess what is kept there."""
+        """The serial of the keyring, or 0. A search also finds what another user has put into a keyring that is linked
+        to the user keyring: who possesses that would possess what is kept there."""
         try:
             ring = self._client.search(self._context, USER, "keyring", self._name)
             return ring if int(self._client.describe(self._context, ring).split(b";", 2)[1]) == os.geteuid() else 0
