@@ -14,6 +14,7 @@
 
 enum {
     STACK_SIZE = 262144, /* of a thread; a few pages of it are used */
+    CLAIMED_MAX = 32,    /* groups of a HELLO: keyretain-protocol(7) */
     FIRST_REPLY = 5000,  /* milliseconds, after which it is told that a daemon hasn't answered */
 };
 
@@ -26,6 +27,24 @@ static void wait_for(sem_t *semaphore) {
 
 /* ---- What is judged ---- */
 
+/* Of a peer's groups those that a whole HELLO names, whose last fields they are: the rule compares each with each, and a
+ * peer may be in 65,536. What is left are the peer's in any case. */
+static size_t keep_named(uint32_t *groups, size_t count, const uint8_t *bytes, size_t length,
+                         const struct screen_claim *claim) {
+    uint32_t named[CLAIMED_MAX + 1] = { claim->gid }, frame;
+    size_t kept = 0, size = sizeof *groups * claim->count;
+    if (claim->count > CLAIMED_MAX) return 0; /* which is refused from anybody */
+    memcpy(&frame, bytes, sizeof frame);
+    if (frame > length - sizeof frame || size > frame) return count;
+    memcpy(named + 1, bytes + sizeof frame + frame - size, size);
+    for (size_t i = 0; i < count; i++) {
+        bool is_named = false;
+        for (size_t at = 0; at <= claim->count; at++) is_named |= groups[i] == named[at];
+        if (is_named) groups[kept++] = groups[i];
+    }
+    return kept;
+}
+
 /* The next frame, or the next part of one. Answers how many bytes may be passed on, and whom a HELLO names. */
 static size_t screen_ask(struct link *link, uint8_t *bytes, size_t length, struct screen_claim *claim) {
     const struct screen_peer peer = { link->peer.uid, link->peer.gid, unknown_gid, link->is_trusted };
@@ -33,7 +52,8 @@ static size_t screen_ask(struct link *link, uint8_t *bytes, size_t length, struc
     if (link->screen.ask_left > 0 || !krs_screen_c_find_claim(bytes, length, claim))
         return krs_screen_c_ask(&link->screen, &peer, none, 0, bytes, length);
     size_t count;
-    const uint32_t *groups = borrow_groups(link->client, &count);
+    uint32_t *groups = borrow_groups(link->client, &count);
+    count = keep_named(groups, count, bytes, length, claim);
     size_t passed = krs_screen_c_ask(&link->screen, &peer, groups, count, bytes, length);
     return_groups();
     return passed;

@@ -17,6 +17,8 @@ enum {
 uint32_t unknown_uid = UINT32_MAX, unknown_gid = UINT32_MAX;
 
 static pthread_mutex_t groups_lock = PTHREAD_MUTEX_INITIALIZER, tell_lock = PTHREAD_MUTEX_INITIALIZER;
+static pthread_cond_t next_turn = PTHREAD_COND_INITIALIZER;
+static unsigned turns, turn; /* how many were given, and whose it is: a mutex alone would let who is fastest go first */
 
 static_assert(sizeof(gid_t) == sizeof(uint32_t), "gid_t");
 
@@ -42,16 +44,23 @@ bool find_peer(int client, struct ucred *peer) {
     return getsockopt(client, SOL_SOCKET, SO_PEERCRED, peer, &length) == 0 && length == sizeof *peer;
 }
 
-const uint32_t *borrow_groups(int client, size_t *count) {
+uint32_t *borrow_groups(int client, size_t *count) {
     static uint32_t groups[GROUPS_MAX];
     socklen_t size = sizeof groups;
     pthread_mutex_lock(&groups_lock);
+    for (unsigned own = turns++; own != turn;) pthread_cond_wait(&next_turn, &groups_lock);
+    pthread_mutex_unlock(&groups_lock);
     bool are_known = getsockopt(client, SOL_SOCKET, SO_PEERGROUPS, groups, &size) == 0;
     *count = are_known ? size / sizeof *groups : 0;
     return groups;
 }
 
-void return_groups(void) { pthread_mutex_unlock(&groups_lock); }
+void return_groups(void) {
+    pthread_mutex_lock(&groups_lock);
+    turn++;
+    pthread_cond_broadcast(&next_turn);
+    pthread_mutex_unlock(&groups_lock);
+}
 
 int64_t milliseconds(void) {
     struct timespec time;

@@ -20,7 +20,7 @@ bool find_peer(int client, struct ucred *peer);
 
 /* The supplementary groups that the peer had when it connected; none where the kernel doesn't say. They stay until they
  * are given back, and meanwhile no other thread gets any. */
-const uint32_t *borrow_groups(int client, size_t *count);
+uint32_t *borrow_groups(int client, size_t *count);
 void return_groups(void);
 
 int64_t milliseconds(void);

@@ -295,6 +295,21 @@ def try_own():
     check('ends well', run.end(), 0)
 
 
+def try_many_groups():
+    """A peer in more groups than a HELLO can name, as a user namespace may give it: what others wait for is short."""
+    if not ROOT:
+        return skipped('a peer in 65,000 groups: not root')
+    run = Running()
+    client, named = run.one(USER_A, GROUP_A, range(5000, 70000)), list(range(69968, 70000))
+    before = ticks(run)
+    check('32 of 65,000 groups', [client.status(hello(USER_A, GROUP_A, named)) for _ in range(10)], [0] * 10)
+    check('they take less than a second', (ticks(run) - before) / os.sysconf('SC_CLK_TCK') < 1, True)
+    check('one of them as gid', client.status(hello(USER_A, named[0])), 0)
+    check('31 of them and a foreign one', client.status(hello(USER_A, GROUP_A, named[1:] + [7777777])), EPERM)
+    check('a foreign gid', client.status(hello(USER_A, 7777777, named)), EPERM)
+    check('ends well', run.end(), 0)
+
+
 def try_root():
     if not ROOT:
         return skipped('other uids: not root')
