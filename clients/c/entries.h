@@ -154,6 +154,12 @@ struct seat *have_seat(struct task *task, struct user *user, struct admitted adm
  * something to lose are brought there where they are of the session's user, or lose their session. */
 void bring_seats(struct task *task, struct session *session);
 
+void seat_set_session(struct seat *seat, struct session *session);
+
+/* Whether a user may have one more context. Who has most of them on a connection leaves the last ones to others: false
+ * with EDQUOT where nothing can be given up. */
+bool seats_may_have_more(const struct user *user);
+
 void end_seats(struct task *task);
 
 /* Ends contexts that nothing is lost with: of the connection of this age, or lasting ones for 0. `keeps` is that of

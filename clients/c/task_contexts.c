@@ -190,10 +190,7 @@ static unsigned count_of(uint32_t uid, unsigned age) {
 bool seats_may_have_more(const struct user *user) {
     const unsigned age = user->context.age;
     while (context_is_scarce(&user->context) && count_of(user->identity.uid, age) >= MOST)
-        if (!tracees_make_room(age)) {
-            errno = EDQUOT;
-            return false;
-        }
+        if (!tracees_make_room(age)) return fail_as(EDQUOT), false;
     return true;
 }
 

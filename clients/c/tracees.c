@@ -192,6 +192,7 @@ static struct seat *note_joined(struct seat *seat, struct session *session) {
 
 int32_t caller_join(struct caller *caller, const char *name) {
     struct seat *seat = caller->seat;
+    if (!seats_may_have_more(seat->user)) return -1;
     struct session *session = session_join(&seat->context, seat->user, name, &all.asker.process);
     if (!session) return -1;
     int32_t serial = session->serial;
@@ -231,7 +232,7 @@ long tracees_session_to_parent(void) {
 
 /* ---- Room, and the sweep ---- */
 
-static bool make_room(unsigned age) { return seats_make_room(age, all.task, admission_keeps); }
+bool tracees_make_room(unsigned age) { return seats_make_room(age, all.task, admission_keeps); }
 bool tracees_want_sweep(void) { return entries_want_sweep() || sessions_want_sweep() || users_want_sweep(); }
 
 void tracees_sweep(void) {
@@ -260,7 +261,7 @@ int tracees_begin(const struct tracees_settings *settings, int epoll) {
     struct kr_identity identity = settings->identity;
     if (settings->is_container) admission_put_first(&identity);
     admission_set(&begun, identity.uid);
-    if (contexts_begin(settings->socket, make_room) < 0) return -1;
+    if (contexts_begin(settings->socket, tracees_make_room) < 0) return -1;
     if (sessions_begin(&identity, &begun, settings->name, settings->is_container) < 0) return -1;
     return settings->child > 0 ? begin_child(settings->child) : 0;
 }

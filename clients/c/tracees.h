@@ -49,4 +49,8 @@ long tracees_session_to_parent(void);
 bool tracees_want_sweep(void);
 void tracees_sweep(void);
 
+/* Gives up a context of the connection of this age that nothing is lost with, or for 0 a lasting one. False where there
+ * is none. */
+bool tracees_make_room(unsigned age);
+
 #endif
