@@ -20,7 +20,7 @@
 #include "contexts.h"
 #include "serve.h"
 
-enum { PAGE = 4096, PAGES = 96, WORDS = 5, HEAD = 2 + WORDS * 8 };
+enum { PAGE = 4096, PAGES = 96, BEHIND = 65, WORDS = 5, HEAD = 2 + WORDS * 8 };
 
 static uint8_t *arena;
 static struct task task;
@@ -134,10 +134,12 @@ int32_t caller_join(struct caller *caller, const char *name) {
 
 static bool is_valid(void) { return random_state & 4; }
 
+/* Behind the arena nobody may write, as far as the longest answer reaches. */
 static void begin(void) {
-    arena = mmap(NULL, PAGES * PAGE, PROT_READ | PROT_WRITE, MAP_PRIVATE | MAP_ANONYMOUS, -1, 0);
+    arena = mmap(NULL, (PAGES + BEHIND) * PAGE, PROT_NONE, MAP_PRIVATE | MAP_ANONYMOUS, -1, 0);
     entered.memory = (struct memory){ .thread = getpid(), .file = open("/proc/self/mem", O_RDWR | O_CLOEXEC) };
-    if (arena == MAP_FAILED || entered.memory.file < 0 || calls_begin() < 0) abort();
+    if (arena == MAP_FAILED || mprotect(arena, PAGES * PAGE, PROT_READ | PROT_WRITE) < 0) abort();
+    if (entered.memory.file < 0 || calls_begin() < 0) abort();
     munmap(arena + 8 * PAGE, PAGE);
     mprotect(arena + 40 * PAGE, PAGE, PROT_READ);
     mprotect(arena + 50 * PAGE, PAGE, PROT_NONE);
