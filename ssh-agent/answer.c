@@ -132,8 +132,10 @@ static bool hash(struct bytes passphrase, const unsigned char *salt, unsigned ch
 static bool lock(struct ring *ring, struct reader *asked) {
     unsigned char kept[SALT_SIZE + HASH_SIZE];
     struct bytes passphrase = read_string(asked);
-    return !asked->is_bad && RAND_bytes(kept, SALT_SIZE) == 1 && hash(passphrase, kept, kept + SALT_SIZE)
-           && put_entry(ring, lock_name, (struct bytes){ kept, sizeof kept }, 0);
+    bool is_put = !asked->is_bad && RAND_bytes(kept, SALT_SIZE) == 1 && hash(passphrase, kept, kept + SALT_SIZE)
+                  && put_entry(ring, lock_name, (struct bytes){ kept, sizeof kept }, 0);
+    OPENSSL_cleanse(kept, sizeof kept);
+    return is_put;
 }
 
 static bool unlock(struct ring *ring, struct reader *asked) {
@@ -144,6 +146,7 @@ static bool unlock(struct ring *ring, struct reader *asked) {
     struct bytes kept = written(buffer);
     bool is_right = !asked->is_bad && kept.length == SALT_SIZE + HASH_SIZE && hash(passphrase, kept.at, hashed)
                     && CRYPTO_memcmp(kept.at + SALT_SIZE, hashed, HASH_SIZE) == 0;
+    OPENSSL_cleanse(hashed, sizeof hashed);
     BUF_MEM_free(buffer);
     return is_right && drop_entry(ring, entry);
 }
