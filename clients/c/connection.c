@@ -61,6 +61,13 @@ void kr_wipe(struct kr *connection) {
     connection->taken = 0;
 }
 
+/* Of a reply that nobody awaits any more a part may have come. Its head stays, and the number of a context. */
+static void wipe_part(struct kr *connection) {
+    enum { KEPT = 16 + 4 };
+    if (connection->answered < connection->given_up && connection->in_length > KEPT)
+        explicit_bzero(connection->memory->in + KEPT, connection->in_length - KEPT);
+}
+
 /* Finds the next reply among what has come: 1, or 0 where more bytes are wanted. */
 static int next_reply(struct kr *connection, struct kr_reply *reply) {
     enum kr_decoded decoded = kr_decode_reply(connection->memory->in, connection->in_length, reply);
@@ -138,6 +145,7 @@ static int call(struct kr *connection, const struct kr_ask_form *form, uint32_t 
     kr_begin_call(connection);
     int result = exchange(connection, form, context, fields, reply);
     connection->given_up = connection->asked;
+    wipe_part(connection);
     return result;
 }
 
@@ -265,6 +273,7 @@ int64_t kr_receive(struct kr *connection, uint64_t *tag, void *buffer, size_t ro
     }
     ERRNO_STAYS;
     kr_wipe(connection);
+    wipe_part(connection);
     if (tag) *tag = answered;
     return answer;
 }

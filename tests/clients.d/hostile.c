@@ -170,14 +170,13 @@ static const char *look_for_secret(void) {
     return found ? "left" : "gone";
 }
 
-/* A reply of which a half has come. */
+/* A reply of which a half has come, and that isn't awaited any more; the connection goes on. */
 static const char *try_half(void) {
     char buffer[SECRET];
     mallopt(M_MMAP_THRESHOLD, 1 << 30);
     struct kr *connection = connect_to(answer_half, 700);
     int64_t context = kr_hello(connection, 0, 0, 0, NULL);
     if (context < 0 || kr_read(connection, (uint32_t)context, 5, buffer, sizeof buffer) >= 0) return "answered";
-    kr_close(connection);
     return look_for_secret();
 }
 

@@ -15,6 +15,7 @@ import threading
 import time
 
 import servers
+from keyretain import connection
 from servers import answer_all, client_of, compare, outcome, plain, reply, served
 import keyretain
 
@@ -160,6 +161,21 @@ def try_late_replies():
         client.send("READ", 1, 6)
         compare("a call that was interrupted", ["interrupted", b"6", b"7"],
                 [first, outcome(client.receive), outcome(client.read, 1, 7)])
+
+
+def try_parts():
+    """Nothing but its head stays of a reply that came in part, and that nobody awaits any more."""
+    def serve(end):
+        rest = b""
+        for tag, name, values in end.asks():
+            whole = rest + reply(tag, plain(name, values) * 9)
+            sent = len(whole) - 4 * (values == [5])
+            end.socket.sendall(whole[:sent])
+            rest = whole[sent:]
+
+    with client_of(serve, 1) as client:
+        compare("a reply that came in part", ["TimeoutError", bytes(5), b"6" * 9],
+                [outcome(client.read, 1, 5), bytes(client._connection._received[16:]), outcome(client.read, 1, 6)])
 
 
 class Steps:
@@ -375,15 +391,20 @@ def try_nonsense():
     cases = {
         "bytes behind a reply": lambda tag: reply(tag, b"5") + b"\0",
         "two replies": lambda tag: reply(tag, b"5") * 2,
+        "another's reply": lambda tag: reply(tag + 1, b"5"),
         "an unknown status": lambda tag: reply(tag, b"", 4),
         "an error with a body": lambda tag: reply(tag, b"x", 1),
         "a short length": lambda tag: b"\3\0\0\0" + bytes(20),
         "a great length": lambda tag: b"\x09\0\4\0" + bytes(20),
     }
+    decode, decoded = connection.decode_reply, []
+    connection.decode_reply = lambda *given: decoded.append(decode(*given)) or decoded[-1]
     for what, spelled in cases.items():
         with client_of(answering(spelled, lambda tag: reply(tag, b"6"))) as client:
             compare(f"{what}", ["Malformed", "Lost", "Lost"],
                     [outcome(client.read, 1, 5), outcome(client.read, 1, 6), outcome(client.read, 1, 7)])
+    connection.decode_reply = decode
+    compare("what is left of them", {b""}, {bytes(it.body).strip(b"\0") for it in decoded if it})
 
 
 def try_listings():
@@ -511,7 +532,7 @@ def try_words():
 
 
 if __name__ == "__main__":
-    for case in (try_children, try_children_ahead, try_held, try_cut_frames, try_late_replies, try_ahead,
+    for case in (try_children, try_children_ahead, try_held, try_cut_frames, try_late_replies, try_parts, try_ahead,
                  try_large_ahead, try_too_far, try_answered_then_gone, try_two_at_once, try_deadlines,
                  try_one_look, try_backlog, try_nonsense, try_listings, try_values, try_pickled, try_standard,
                  try_reused, try_pipe_signal, try_words):

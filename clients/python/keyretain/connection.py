@@ -19,7 +19,7 @@ from collections import deque
 from typing import Any, NamedTuple, Optional, Union
 
 from .errors import Lost, Malformed, TooFarAhead
-from .frames import Reply, decode_reply, make_ask
+from .frames import SHORTEST_REPLY, Reply, decode_reply, make_ask
 from .places import Peer, Place, check
 
 AHEAD = 256  # asks that may await receive(): each may be answered with some 256 KiB
@@ -312,6 +312,7 @@ class Connection:
     def _take_reply(self, reply: Reply) -> None:
         asked = self._waiting[0]
         if reply.tag != asked.tag:
+            wipe(reply.body)
             raise Malformed(f"a reply to {reply.tag}, not to {asked.tag}")
         self._waiting.popleft()
         if asked.is_ahead:
@@ -329,6 +330,8 @@ class Connection:
         except BaseException:
             if self._cut:
                 self.end(CUT)
+            elif self._waiting and not self._waiting[0].is_ahead:
+                wipe(memoryview(self._received)[4 + SHORTEST_REPLY:])  # nobody awaits it any more
             raise
 
     def reply_to(self, asked: Asked, deadline: Deadline) -> Reply:
