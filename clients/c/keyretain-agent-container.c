@@ -88,8 +88,8 @@ static bool limit_memory(unsigned long bytes) {
 }
 
 static _Noreturn void become_daemon(const struct container *container, const char *path, pid_t parent, int answers) {
-    static char one_arena[] = "MALLOC_ARENA_MAX=1";
-    char *environment[] = { one_arena, NULL };
+    static char one_arena[] = "MALLOC_ARENA_MAX=1", bound_now[] = "LD_BIND_NOW=1";
+    char *environment[] = { one_arena, bound_now, NULL };
     char *words[] = { "keyretaind", "--socket", (char *)path, "--lanes", "8", NULL };
     if (drop_capabilities() && end_with(parent) && limit_memory(all.settings.memory) &&
         dup2(answers, STDOUT_FILENO) >= 0) {

@@ -299,7 +299,8 @@ try_rights() {
   is 'signals that a daemon holds back' 0000000000000000 "$(field "$keeper" SigBlk)"
   is 'core files of a daemon' 0 "$(sed -n 's/^Max core file size *\([^ ]*\).*/\1/p' "/proc/$keeper/limits")"
   if [ "$(id -u)" = 0 ]; then
-    is 'environment of a daemon' 'MALLOC_ARENA_MAX=1 ' "$(tr '\0' ' ' <"/proc/$keeper/environ" 2>/dev/null)"
+    is 'environment of a daemon' 'MALLOC_ARENA_MAX=1 LD_BIND_NOW=1 ' \
+      "$(tr '\0' ' ' <"/proc/$keeper/environ" 2>/dev/null)"
     is "descriptors of a daemon that aren't its own" '' "$(foreign_descriptors "$keeper")"
   else
     is 'who looks into an agent' 'no no no' "$(looks_into "$agent") $(looks_into "$server") $(looks_into "$keeper")"

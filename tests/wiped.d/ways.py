@@ -162,6 +162,18 @@ def close(c, s):
     time.sleep(0.3)
 
 
+def close_readers(c, s):
+    """Eight that have read it close at once. The C library then gives the stacks of ended threads back."""
+    key, path, version = add(c, s), c.end.getpeername(), c.version
+    readers = [Raw(path, version) for _ in range(8)]
+    for reader in readers:
+        assert reader.ask("READ", key) == s.payload
+    for reader in readers:
+        reader.close()
+    time.sleep(0.3)
+    c.ask("REVOKE", key)
+
+
 def cut(c, s):
     """A connection that ends in the midst of an ADD."""
     whole = c.frame("ADD", "user", "token", s.payload, U)
@@ -268,6 +280,7 @@ WAYS = {"kept: ADD": kept, "kept: ADD in three parts": pieces, "kept: READ": rea
         "expired, ADD over it": displaced, "REVOKE": revoke, "REVOKE, UNLINK": revoke_unlink, "INVALIDATE": invalidate,
         "UNLINK": unlink, "CLEAR": clear, "MOVE over it": move_over, "expired, UNLINK": expire_unlink,
         "expired": expire, "JOIN": join, "EXEC": exec_, "EXIT": exit_, "LEAVE": leave, "close": close,
+        "readers close, REVOKE": close_readers,
         "close amid ADD": cut, "fault in ADD": refused_fault, "ADD: ENODEV": refused_add, "ADD: ENOKEY": refused_ring,
         "UPDATE: ENOKEY": refused_update, "READ, REVOKE": read_revoke, "READs not taken, close": read_unread,
         "READs, a long READ, REVOKE": read_behind, "UPDATE, REVOKE ahead": batch}
