@@ -83,3 +83,9 @@ int open_listener(const char *path, unsigned mode, enum descriptors descriptors)
     close(listener);
     return -1;
 }
+
+bool is_own_peer(int connection) {
+    struct ucred peer;
+    socklen_t length = sizeof peer;
+    return getsockopt(connection, SOL_SOCKET, SO_PEERCRED, &peer, &length) == 0 && peer.uid == geteuid();
+}

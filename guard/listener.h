@@ -27,4 +27,7 @@ void refuse_descriptors(int listener);
 /* A socket that listens at a path. A socket that nobody listens to is removed there first. -1 where there is none. */
 int open_listener(const char *path, unsigned mode, enum descriptors descriptors);
 
+/* Whether the other end of a connection is a process of the effective user's, by what the kernel says. */
+bool is_own_peer(int connection);
+
 #endif

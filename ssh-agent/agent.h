@@ -1,102 +1,106 @@
-/* agent.h: the parts of keyretain-ssh-agent(1). One process serves one client, and ends where memory is lacking. */
+/* agent.h: the parts of keyretain-ssh-agent(1). A process serves one client, by one connection to keyretaind(8). */
 #ifndef KEYRETAIN_SSH_AGENT_H
 #define KEYRETAIN_SSH_AGENT_H
 
-#include <openssl/buffer.h>
 #include <stdbool.h>
-#include <stddef.h>
 #include <stdint.h>
+#include <string.h>
 
-#include "keyretain.h"
+/* ---- Numbers and strings of RFC 4251, section 5 ---- */
 
-enum { MESSAGE_MOST = 256 * 1024, PAYLOAD_MOST = 32767, ENTRIES_MOST = 1024, NAME_ROOM = 80 };
+enum { BYTE = 1, NUMBER = 4 }; /* how many bytes a number has */
 
-/* ---- wire.c: strings and numbers of RFC 4251, section 5 ---- */
-
-/* Bytes of somebody else's. */
+/* Bytes of somebody else's. None, where `at` is NULL. */
 struct bytes {
     const unsigned char *at;
     size_t length;
 };
 
-/* Bytes that are read from the front. Once something was not there `is_bad` stays true, and all is empty or 0. */
-struct reader {
-    struct bytes left;
+/* Bytes that are put at the end. Once there was no room `is_bad` stays true, and nothing more is put. */
+struct writer {
+    unsigned char *at;
+    size_t length, room;
     bool is_bad;
 };
 
-unsigned char read_byte(struct reader *reader);
-uint32_t read_number(struct reader *reader);
-struct bytes read_string(struct reader *reader);
-bool is_text(struct bytes bytes, const char *text);
+static inline struct bytes text(const char *text) { return (struct bytes){ (const void *)text, strlen(text) }; }
 
-/* Buffers of OpenSSL's, which are wiped where they grow and where they are freed. */
-BUF_MEM *new_buffer(void);
-void put_bytes(BUF_MEM *buffer, struct bytes bytes);
-void put_byte(BUF_MEM *buffer, unsigned char byte);
-void put_number(BUF_MEM *buffer, uint32_t number);
-void put_string(BUF_MEM *buffer, struct bytes bytes);
-void put_text(BUF_MEM *buffer, const char *text);
-struct bytes written(const BUF_MEM *buffer);
+static inline bool is_same(struct bytes one, struct bytes other) {
+    return one.length == other.length && (!one.length || memcmp(one.at, other.at, one.length) == 0);
+}
 
-/* ---- key.c: private keys as SSH2_AGENTC_ADD_IDENTITY has them. The cryptography is OpenSSL's ---- */
+/* From the front. Once there were too few there are none from then on, and none are taken. */
+static inline struct bytes take(struct bytes *from, size_t length) {
+    struct bytes taken = { from->at, length };
+    if (!from->at || length > from->length) return *from = (struct bytes){ 0 };
+    from->at += length;
+    from->length -= length;
+    return taken;
+}
 
-/* A key whose parts lie in somebody else's memory. */
+static inline uint32_t take_number(struct bytes *from, size_t size) {
+    struct bytes number = take(from, size);
+    uint32_t value = 0;
+    for (size_t i = 0; i < number.length; i++) value = value << 8 | number.at[i];
+    return value;
+}
+
+static inline struct bytes take_string(struct bytes *from) { return take(from, take_number(from, NUMBER)); }
+
+static inline void put_bytes(struct writer *writer, struct bytes bytes) {
+    if (bytes.length > writer->room - writer->length) writer->is_bad = true;
+    if (writer->is_bad || !bytes.length) return;
+    memcpy(writer->at + writer->length, bytes.at, bytes.length);
+    writer->length += bytes.length;
+}
+
+static inline void put_number(struct writer *writer, size_t number, size_t size) {
+    unsigned char bytes[NUMBER];
+    for (size_t i = size; i-- > 0; number >>= 8) bytes[i] = (unsigned char)number;
+    put_bytes(writer, (struct bytes){ bytes, size });
+}
+
+static inline void put_string(struct writer *writer, struct bytes bytes) {
+    put_number(writer, bytes.length, NUMBER);
+    put_bytes(writer, bytes);
+}
+
+/* Changes a number of four bytes that was put there before. */
+static inline void set_number(struct writer *writer, size_t at, size_t number) {
+    struct writer there = { .at = writer->at + at, .room = NUMBER };
+    if (!writer->is_bad) put_number(&there, number, NUMBER);
+}
+
+/* ---- key.c: private keys, whose parts lie in somebody else's memory. The cryptography is OpenSSL's ---- */
+
 struct key {
     const struct key_type *type;
-    struct bytes certificate; /* empty where there is none */
-    struct bytes parts[6];    /* RSA: n e d iqmp p q; ECDSA: point, d; Ed25519: public, private */
-    struct bytes comment;
+    struct bytes certificate, parts[6], comment;
+    uint32_t lifetime; /* seconds; 0 where it has none */
+    bool is_confirmed; /* each use is to be confirmed */
 };
 
-/* Reads a key and its comment, and leaves the reader at the constraints. False for what is none of Ed25519, ECDSA and
- * RSA, with or without a certificate. */
-bool read_key(struct reader *reader, struct key *key);
+/* Takes a key and its comment, as SSH2_AGENTC_ADD_IDENTITY has them. False for what is none of Ed25519, ECDSA and RSA,
+ * with or without a certificate. */
+bool take_key(struct bytes *from, struct key *key);
 
 /* The public key, or the certificate: by which the agent's clients name it. */
-void put_public(BUF_MEM *buffer, const struct key *key);
+void put_public(struct writer *writer, const struct key *key);
 
 /* The signature of the data, as SSH_AGENT_SIGN_RESPONSE has it. False where it can't be made. */
 enum { SHA2_256_WANTED = 2, SHA2_512_WANTED = 4 };
-bool put_signature(BUF_MEM *buffer, const struct key *key, struct bytes data, uint32_t flags);
+bool put_signature(struct writer *writer, const struct key *key, struct bytes data, uint32_t flags);
 
-/* ---- ring.c: the keyring `ssh-agent` of the session, or of the user where there is none ---- */
+/* ---- answer.c ---- */
 
-/* The keyring is 0 where there is none yet. */
-struct ring {
-    struct kr *connection;
-    uint32_t context;
-    int32_t head, keyring;
-};
+/* Puts the answer to a message, with its length before it. `lifetime` is that of keys that are added without one. */
+enum { MESSAGE_MOST = 256 * 1024 };
+void answer(struct bytes message, uint32_t lifetime, struct writer *reply);
 
-/* False where no daemon answers, or the session is gone. close_ring() either way. */
-bool open_ring(struct ring *ring);
-void close_ring(struct ring *ring);
-
-/* The name under which the ring has a public key or certificate. */
-void name_entry(char name[NAME_ROOM], struct bytes public_key);
-
-/* Puts an entry in the place of one of its name, for so many seconds; for as long as the ring for 0. */
-bool put_entry(struct ring *ring, const char *name, struct bytes payload, uint32_t seconds);
-
-/* 0 with errno where there is none: ENOKEY, or EKEYREVOKED and so on. */
-int32_t find_entry(struct ring *ring, const char *name);
-
-/* The payload, which is the caller's to free. Empty for what can't be read. */
-BUF_MEM *read_entry(struct ring *ring, int32_t entry);
-
-/* The serials of what is in the ring. */
-size_t list_entries(struct ring *ring, int32_t entries[ENTRIES_MOST]);
-bool drop_entry(struct ring *ring, int32_t entry);
-bool drop_entries(struct ring *ring);
-
-/* ---- confirm.c, answer.c ---- */
-
-/* Asks by SSH_ASKPASS whether a key may be used, as ssh-agent(1) does: empty and `yes` mean yes. */
-bool is_confirmed(const char *question);
-
-/* Puts the answer to a message, with its length before it. `lifetime` is how many seconds a key is kept that was added
- * without a lifetime; 0 is for as long as its keyring. */
-void answer(struct bytes message, uint32_t lifetime, BUF_MEM *reply);
+/* Connects to the daemon, and has its keyring `ssh-agent`: that of the session, or of the user where there is none.
+ * Answers what tells of the connection's end; -1 where there is no daemon, or the session is gone. close_ring() wipes
+ * what was read, too. */
+int open_ring(void);
+void close_ring(void);
 
 #endif

@@ -1,182 +1,207 @@
 /* answer.c: see agent.h. Numbers and names are those of draft-ietf-sshm-ssh-agent. */
 #include <errno.h>
-#include <openssl/crypto.h>
+#include <linux/keyctl.h>
 #include <openssl/evp.h>
 #include <openssl/rand.h>
 #include <stdio.h>
+#include <stdlib.h>
 
 #include "agent.h"
+#include "session.h"
 
-enum {
-    FAILURE = 5, SUCCESS = 6, REQUEST_IDENTITIES = 11, IDENTITIES_ANSWER = 12, SIGN_REQUEST = 13, SIGN_RESPONSE = 14,
-    ADD_IDENTITY = 17, REMOVE_IDENTITY = 18, REMOVE_ALL_IDENTITIES = 19, LOCK = 22, UNLOCK = 23,
-    ADD_ID_CONSTRAINED = 25
-};
+enum { FAILURE = 5, SUCCESS, REQUEST_IDENTITIES = 11, IDENTITIES_ANSWER, SIGN_REQUEST, SIGN_RESPONSE, ADD_IDENTITY = 17,
+       REMOVE_IDENTITY, REMOVE_ALL_IDENTITIES, LOCK = 22, UNLOCK, ADD_ID_CONSTRAINED = 25 };
 enum { CONSTRAIN_LIFETIME = 1, CONSTRAIN_CONFIRM = 2 };
-enum { IS_CONFIRMED = 1 }; /* the first byte of a payload: whether each use is to be confirmed */
-enum { SALT_SIZE = 16, HASH_SIZE = 32, ROUNDS = 100000, COMMENT_MOST = 200, QUESTION_ROOM = 512 };
+enum { PATIENCE_MILLISECONDS = 10000, PAYLOAD_MOST = 32767, ENTRIES_MOST = 1024, NAME_ROOM = 80, COMMENT_MOST = 200,
+       QUESTION_ROOM = 512, ANSWER_ROOM = 16, SALT_SIZE = 16, HASH_SIZE = 32, ROUNDS = 100000 };
 
-static const char lock_name[] = "ssh-agent lock";
+static const char ring_name[] = "ssh-agent", lock_name[] = "ssh-agent lock";
+
+/* What the process has of the daemon. The keyring's serial is none where there is no keyring yet. */
+static struct kr *connection;
+static uint32_t context;
+static int32_t head, keyring;
+static unsigned char payload[PAYLOAD_MOST];
+
+/* ---- The keyring ---- */
+
+/* 0 where its user has none there, and -1 where the daemon doesn't tell. A search also finds what another user has put
+ * into a keyring that is linked there: who possesses that would possess private keys. */
+static int32_t find_ring(int32_t from) {
+    struct kr_attributes attributes;
+    int32_t found = kr_search(connection, context, from, "keyring", ring_name, 0);
+    if (found < 0) return errno == ENOKEY || errno == EKEYREVOKED || errno == EKEYEXPIRED ? 0 : -1;
+    return kr_read_attributes(connection, context, found, &attributes) == 0 && attributes.owner == geteuid() ? found : 0;
+}
+
+int open_ring(void) {
+    struct kr_identity identity;
+    close_ring();
+    kr_own_identity(&identity);
+    connection = kr_open_with(NULL, 0, PATIENCE_MILLISECONDS);
+    int64_t made = connection ? kr_hello_as(connection, &identity) : -1;
+    context = (uint32_t)made;
+    int entered = made < 0 ? -1 : kr_enter_session(connection, context, NULL);
+    if (entered < 0) return -1;
+    head = entered ? KEY_SPEC_SESSION_KEYRING : KEY_SPEC_USER_KEYRING;
+    keyring = find_ring(KEY_SPEC_SESSION_KEYRING);
+    if (keyring == 0) keyring = find_ring(KEY_SPEC_USER_KEYRING); /* behind one that isn't the user's */
+    return keyring < 0 ? -1 : kr_descriptor(connection);
+}
+
+void close_ring(void) {
+    OPENSSL_cleanse(payload, sizeof payload);
+    if (connection) kr_close(connection);
+    connection = NULL;
+}
+
+/* In the place of an entry of this name; for so many seconds, or for 0 as long as the ring. The ring has it once it has
+ * its timeout; till then it is this connection's alone. */
+static bool put_entry(const char *name, struct bytes bytes, uint32_t seconds) {
+    if (keyring <= 0) keyring = kr_add(connection, context, "keyring", ring_name, NULL, 0, head);
+    int32_t entry = kr_add(connection, context, "user", name, bytes.at, bytes.length, KEY_SPEC_PROCESS_KEYRING);
+    return keyring > 0 && entry > 0 && kr_set_timeout(connection, context, entry, seconds) == 0
+           && kr_link(connection, context, entry, keyring) == 0;
+}
+
+/* -1 with errno where there is none: ENOKEY, or EKEYREVOKED and so on. */
+static int32_t find_entry(const char *name) {
+    errno = ENOKEY;
+    return keyring > 0 ? kr_search(connection, context, keyring, "user", name, 0) : -1;
+}
+
+/* The payload, until another one is read; empty where there is none. */
+static struct bytes read_entry(int32_t entry) {
+    int64_t length = entry > 0 ? kr_read(connection, context, entry, payload, sizeof payload) : 0;
+    return (struct bytes){ payload, length > 0 && length <= PAYLOAD_MOST ? (size_t)length : 0 };
+}
+
+static bool drop_entry(int32_t entry) { return entry > 0 && kr_invalidate(connection, context, entry) == 0; }
 
 /* A lock that can't be read locks, too. */
-static bool is_locked(struct ring *ring) {
-    return find_entry(ring, lock_name) || errno != ENOKEY;
-}
+static bool is_locked(void) { return find_entry(lock_name) > 0 || errno != ENOKEY; }
 
-/* ---- Entries: a byte of marks, then what SSH2_AGENTC_ADD_IDENTITY had ---- */
+/* ---- Keys: an entry is the message that has added it ---- */
 
-static bool read_entry_key(const BUF_MEM *payload, struct key *key, unsigned char *marks) {
-    struct reader reader = { .left = written(payload) };
-    *marks = read_byte(&reader);
-    return read_key(&reader, key);
-}
-
-static void put_identities(struct ring *ring, BUF_MEM *reply) {
-    static int32_t entries[ENTRIES_MOST];
-    BUF_MEM *list = new_buffer();
-    uint32_t count = 0;
-    size_t all = is_locked(ring) ? 0 : list_entries(ring, entries);
-    for (size_t i = 0; i < all; i++) {
-        BUF_MEM *payload = read_entry(ring, entries[i]), *public_key = new_buffer();
-        struct key key;
-        unsigned char marks;
-        if (read_entry_key(payload, &key, &marks)) {
-            put_public(public_key, &key);
-            put_string(list, written(public_key));
-            put_string(list, key.comment);
-            count++;
-        }
-        BUF_MEM_free(payload);
-        BUF_MEM_free(public_key);
-    }
-    put_byte(reply, IDENTITIES_ANSWER);
-    put_number(reply, count);
-    put_bytes(reply, written(list));
-    BUF_MEM_free(list);
-}
-
-/* Whether a key may be used at once, or who is asked says so. Meanwhile neither the key nor a connection is held. */
-static bool may_be_used(struct ring *ring, const char *name) {
-    char question[QUESTION_ROOM] = "";
-    struct key key;
-    unsigned char marks;
-    BUF_MEM *payload = read_entry(ring, find_entry(ring, name));
-    bool is_key = read_entry_key(payload, &key, &marks);
-    int length = !is_key ? 0 : key.comment.length < COMMENT_MOST ? (int)key.comment.length : COMMENT_MOST;
-    if (is_key) snprintf(question, sizeof question, "Allow use of key %.*s?\n%s", length, key.comment.at, name);
-    BUF_MEM_free(payload);
-    if (!is_key || !(marks & IS_CONFIRMED)) return is_key;
-    close_ring(ring);
-    return is_confirmed(question) && open_ring(ring) && !is_locked(ring);
-}
-
-static bool sign(struct ring *ring, struct reader *asked, BUF_MEM *reply) {
-    struct bytes public_key = read_string(asked), data = read_string(asked);
-    uint32_t flags = read_number(asked);
-    char name[NAME_ROOM];
-    struct key key;
-    unsigned char marks;
-    name_entry(name, public_key);
-    if (asked->is_bad || !may_be_used(ring, name)) return false;
-    BUF_MEM *payload = read_entry(ring, find_entry(ring, name));
-    put_byte(reply, SIGN_RESPONSE);
-    bool is_signed = read_entry_key(payload, &key, &marks) && put_signature(reply, &key, data, flags);
-    BUF_MEM_free(payload);
-    return is_signed;
+/* Its name, until the next one is asked for: the sum is as ssh-add(1) shows it. */
+static const char *name_of(struct bytes public_key) {
+    static char name[NAME_ROOM];
+    unsigned char digest[HASH_SIZE] = { 0 };
+    int length = snprintf(name, sizeof name, "%s SHA256:", ring_name);
+    EVP_Q_digest(NULL, "SHA256", NULL, public_key.at, public_key.length, digest, NULL);
+    length += EVP_EncodeBlock((unsigned char *)name + length, digest, HASH_SIZE);
+    name[length - 1] = '\0'; /* in the place of what fills base64 up */
+    return name;
 }
 
 /* False for what isn't known here: a key is not kept with less than was asked for. */
-static bool read_constraints(struct reader *asked, uint32_t *lifetime, unsigned char *marks) {
-    while (asked->left.length && !asked->is_bad) {
-        unsigned char constraint = read_byte(asked);
-        if (constraint == CONSTRAIN_CONFIRM) *marks |= IS_CONFIRMED;
-        else if (constraint != CONSTRAIN_LIFETIME || (*lifetime = read_number(asked)) == 0) return false;
+static bool read_added(struct bytes message, struct key *key) {
+    bool is_constrained = take_number(&message, BYTE) == ADD_ID_CONSTRAINED;
+    if (!take_key(&message, key)) return false;
+    while (is_constrained && message.length) {
+        uint32_t constraint = take_number(&message, BYTE);
+        if (constraint == CONSTRAIN_CONFIRM) key->is_confirmed = true;
+        else if (constraint != CONSTRAIN_LIFETIME || !(key->lifetime = take_number(&message, NUMBER))) return false;
     }
-    return !asked->is_bad;
+    return message.at && !message.length;
 }
 
-static bool add(struct ring *ring, struct reader *asked, bool is_constrained, uint32_t lifetime) {
-    struct bytes given = asked->left;
+static bool put_identities(struct writer *reply) {
+    static int32_t entries[ENTRIES_MOST];
+    int64_t length = keyring > 0 && !is_locked() ? kr_read(connection, context, keyring, entries, sizeof entries) : 0;
+    size_t all = length > 0 ? (size_t)length / sizeof *entries : 0, count = 0, counted = reply->length + BYTE;
     struct key key;
-    unsigned char marks = 0;
-    char name[NAME_ROOM];
-    if (!read_key(asked, &key)) return false;
-    given.length -= asked->left.length;
-    if (is_constrained ? !read_constraints(asked, &lifetime, &marks) : asked->left.length != 0) return false;
-    BUF_MEM *payload = new_buffer(), *public_key = new_buffer(), *signature = new_buffer();
-    put_byte(payload, marks);
-    put_bytes(payload, given);
-    put_public(public_key, &key);
-    name_entry(name, written(public_key));
-    bool is_put = put_signature(signature, &key, key.comment, SHA2_512_WANTED)
-                  && put_entry(ring, name, written(payload), lifetime);
-    BUF_MEM_free(payload);
-    BUF_MEM_free(public_key);
-    BUF_MEM_free(signature);
-    return is_put;
+    put_number(reply, IDENTITIES_ANSWER, BYTE);
+    put_number(reply, 0, NUMBER);
+    for (size_t i = 0; i < all && all <= ENTRIES_MOST; i++) {
+        if (!read_added(read_entry(entries[i]), &key)) continue;
+        size_t begin = reply->length;
+        put_number(reply, 0, NUMBER);
+        put_public(reply, &key);
+        set_number(reply, begin, reply->length - begin - NUMBER);
+        put_string(reply, key.comment);
+        count++;
+    }
+    set_number(reply, counted, count);
+    return all <= ENTRIES_MOST;
 }
 
-static bool remove_one(struct ring *ring, struct reader *asked) {
-    char name[NAME_ROOM];
-    name_entry(name, read_string(asked));
-    return !asked->is_bad && drop_entry(ring, find_entry(ring, name));
+static bool find_key(struct bytes public_key, struct key *key) {
+    return read_added(read_entry(find_entry(name_of(public_key))), key);
 }
 
-/* ---- The lock: a salt, and the passphrase's hash ---- */
-
-static bool hash(struct bytes passphrase, const unsigned char *salt, unsigned char *hashed) {
-    return PKCS5_PBKDF2_HMAC((const char *)passphrase.at, (int)passphrase.length, salt, SALT_SIZE, ROUNDS, EVP_sha256(),
-                             HASH_SIZE, hashed) == 1;
+/* Whether the program of SSH_ASKPASS says yes, or nothing. Meanwhile neither a key nor a connection is held. */
+static bool is_allowed(struct bytes public_key, struct bytes comment) {
+    char question[QUESTION_ROOM], said[ANSWER_ROOM] = "";
+    int length = comment.length < COMMENT_MOST ? (int)comment.length : COMMENT_MOST;
+    snprintf(question, sizeof question, "Allow use of key %.*s?\n%s", length, comment.at, name_of(public_key));
+    close_ring();
+    setenv("SSH_ASKPASS_PROMPT", "confirm", 1);
+    setenv("KEYRETAIN_QUESTION", question, 1);
+    FILE *program = popen("exec \"${SSH_ASKPASS:-ssh-askpass}\" \"$KEYRETAIN_QUESTION\"", "re");
+    if (program && !fgets(said, sizeof said, program)) *said = '\0';
+    said[strcspn(said, "\r\n")] = '\0';
+    bool is_yes = program && pclose(program) == 0 && (!*said || strcasecmp(said, "yes") == 0);
+    return is_yes && open_ring() >= 0 && !is_locked();
 }
 
-static bool lock(struct ring *ring, struct reader *asked) {
-    unsigned char kept[SALT_SIZE + HASH_SIZE];
-    struct bytes passphrase = read_string(asked);
-    bool is_put = !asked->is_bad && RAND_bytes(kept, SALT_SIZE) == 1 && hash(passphrase, kept, kept + SALT_SIZE)
-                  && put_entry(ring, lock_name, (struct bytes){ kept, sizeof kept }, 0);
-    OPENSSL_cleanse(kept, sizeof kept);
-    return is_put;
+static bool sign(struct bytes asked, struct writer *reply) {
+    struct bytes public_key = take_string(&asked), data = take_string(&asked);
+    uint32_t flags = take_number(&asked, NUMBER);
+    struct key key;
+    if (!asked.at || !find_key(public_key, &key)) return false;
+    if (key.is_confirmed && !(is_allowed(public_key, key.comment) && find_key(public_key, &key))) return false;
+    put_number(reply, SIGN_RESPONSE, BYTE);
+    return put_signature(reply, &key, data, flags);
 }
 
-static bool unlock(struct ring *ring, struct reader *asked) {
-    unsigned char hashed[HASH_SIZE];
-    struct bytes passphrase = read_string(asked);
-    int32_t entry = find_entry(ring, lock_name);
-    BUF_MEM *buffer = read_entry(ring, entry);
-    struct bytes kept = written(buffer);
-    bool is_right = !asked->is_bad && kept.length == SALT_SIZE + HASH_SIZE && hash(passphrase, kept.at, hashed)
-                    && CRYPTO_memcmp(kept.at + SALT_SIZE, hashed, HASH_SIZE) == 0;
-    OPENSSL_cleanse(hashed, sizeof hashed);
-    BUF_MEM_free(buffer);
-    return is_right && drop_entry(ring, entry);
+/* A key that can't sign isn't kept. What is put into the reply to see that is taken out again. */
+static bool add(struct bytes message, uint32_t lifetime, struct writer *reply) {
+    size_t begin = reply->length;
+    struct key key;
+    if (!read_added(message, &key) || !put_signature(reply, &key, key.comment, SHA2_512_WANTED)) return false;
+    reply->length = begin;
+    put_public(reply, &key);
+    struct bytes public_key = { reply->at + begin, reply->length - begin };
+    reply->length = begin;
+    return !reply->is_bad && put_entry(name_of(public_key), message, key.lifetime ? key.lifetime : lifetime);
+}
+
+/* Locks, or unlocks by the same passphrase. The lock is a salt, and the passphrase's hash. */
+static bool turn_lock(bool unlocks, struct bytes passphrase) {
+    unsigned char made[SALT_SIZE + HASH_SIZE];
+    struct bytes lock = { made, sizeof made }, kept = unlocks ? read_entry(find_entry(lock_name)) : lock;
+    if (!passphrase.at || kept.length != lock.length) return false;
+    if (unlocks) memcpy(made, kept.at, SALT_SIZE);
+    else if (RAND_bytes(made, SALT_SIZE) != 1) return false;
+    if (PKCS5_PBKDF2_HMAC((const char *)passphrase.at, (int)passphrase.length, made, SALT_SIZE, ROUNDS, EVP_sha256(),
+                          HASH_SIZE, made + SALT_SIZE) != 1)
+        return false;
+    if (!unlocks) return put_entry(lock_name, lock, 0);
+    return CRYPTO_memcmp(kept.at, made, sizeof made) == 0 && drop_entry(find_entry(lock_name));
 }
 
 /* ---- Messages ---- */
 
 /* Whether the message is carried out; what it answers beyond that is in the reply. */
-static bool carry_out(struct ring *ring, struct reader *asked, uint32_t lifetime, BUF_MEM *reply) {
-    unsigned char kind = read_byte(asked);
-    if (kind == UNLOCK) return unlock(ring, asked);
-    if (kind == REQUEST_IDENTITIES) put_identities(ring, reply);
-    if (kind == REQUEST_IDENTITIES || is_locked(ring)) return kind == REQUEST_IDENTITIES;
-    switch (kind) {
-    case SIGN_REQUEST: return sign(ring, asked, reply);
-    case ADD_IDENTITY: return add(ring, asked, false, lifetime);
-    case ADD_ID_CONSTRAINED: return add(ring, asked, true, lifetime);
-    case REMOVE_IDENTITY: return remove_one(ring, asked);
-    case REMOVE_ALL_IDENTITIES: return drop_entries(ring);
-    case LOCK: return lock(ring, asked);
-    default: return false;
-    }
+static bool carry_out(struct bytes message, uint32_t lifetime, struct writer *reply) {
+    struct bytes asked = message;
+    uint32_t kind = take_number(&asked, BYTE);
+    if (kind == UNLOCK) return turn_lock(true, take_string(&asked));
+    if (kind == REQUEST_IDENTITIES) return put_identities(reply);
+    if (is_locked()) return false;
+    if (kind == SIGN_REQUEST) return sign(asked, reply);
+    if (kind == ADD_IDENTITY || kind == ADD_ID_CONSTRAINED) return add(message, lifetime, reply);
+    if (kind == REMOVE_IDENTITY) return drop_entry(find_entry(name_of(take_string(&asked))));
+    if (kind == REMOVE_ALL_IDENTITIES) return keyring <= 0 || kr_clear(connection, context, keyring) == 0;
+    return kind == LOCK && turn_lock(false, take_string(&asked));
 }
 
-void answer(struct bytes message, uint32_t lifetime, BUF_MEM *reply) {
-    struct reader asked = { .left = message };
-    struct ring ring;
-    BUF_MEM *body = new_buffer();
-    bool is_done = open_ring(&ring) && carry_out(&ring, &asked, lifetime, body) && body->length <= MESSAGE_MOST;
-    close_ring(&ring);
-    unsigned char end = is_done ? SUCCESS : FAILURE;
-    put_string(reply, is_done && body->length ? written(body) : (struct bytes){ &end, 1 });
-    BUF_MEM_free(body);
+void answer(struct bytes message, uint32_t lifetime, struct writer *reply) {
+    put_number(reply, 0, NUMBER);
+    bool is_done = open_ring() >= 0 && carry_out(message, lifetime, reply) && !reply->is_bad;
+    close_ring();
+    if (!is_done) *reply = (struct writer){ .at = reply->at, .length = NUMBER, .room = reply->room };
+    if (reply->length == NUMBER) put_number(reply, is_done ? SUCCESS : FAILURE, BYTE);
+    set_number(reply, 0, reply->length - NUMBER);
 }

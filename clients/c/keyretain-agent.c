@@ -202,20 +202,13 @@ static struct visitor *free_place(void) {
     return NULL;
 }
 
-/* Only who is the same user as this process may say which container is which. */
-static bool is_runtime(int connection) {
-    struct ucred peer;
-    socklen_t length = sizeof peer;
-    return getsockopt(connection, SOL_SOCKET, SO_PEERCRED, &peer, &length) == 0 && peer.uid == geteuid();
-}
-
 static void accept_visitor(void) {
     struct visitor *visitor = free_place();
     if (!visitor) return;
     int connection = accept4(listening, NULL, NULL, SOCK_NONBLOCK | SOCK_CLOEXEC);
     if (connection < 0) {
         if (errno != EAGAIN) poll(NULL, 0, PAUSE); /* no descriptors, or no memory */
-    } else if (is_runtime(connection)) {
+    } else if (is_own_peer(connection)) { /* only that user may say which container is which */
         begin_visit(visitor, connection);
     } else {
         fputs("keyretain-agent: a connection of another user is refused\n", stderr);

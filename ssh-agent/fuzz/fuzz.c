@@ -1,90 +1,149 @@
-/* fuzz.c: messages to the agent, over a keyring in memory. An input is messages with their lengths, as they come over
- * the socket. What the agent answers must be one whole message, and no private key. */
+/* fuzz.c: messages to the agent, over a daemon in memory. An input is messages with their lengths, as they come over the
+ * socket. What the agent answers must be one whole message, and its connection has ended by then. */
 #include <errno.h>
+#include <linux/keyctl.h>
 #include <stdio.h>
 #include <stdlib.h>
 #include <string.h>
 
 #include "agent.h"
+#include "session.h"
 
-enum { ENTRIES = 8, HEAD_SIZE = 4, IDENTITIES_ANSWER = 12, SIGN_RESPONSE = 14, FAILURE = 5, SUCCESS = 6 };
+enum { ENTRIES = 8, NAME_ROOM = 80, RING = 3, FIRST = 4, PAYLOAD_MOST = 32767, CONTEXT = 7 };
+enum { SUCCESS = 6, FAILURE = 5, IDENTITIES_ANSWER = 12, SIGN_RESPONSE = 14 };
 
 static struct entry {
     char name[NAME_ROOM];
     unsigned char *payload;
     size_t length;
-} entries[ENTRIES];
+} entries[ENTRIES], made;
 
-/* ---- The keyring, as agent.h has it: serials are places from 1 on ---- */
+static bool is_open, has_ring;
 
-bool open_ring(struct ring *ring) {
-    *ring = (struct ring){ .keyring = 1 };
-    return true;
+/* ---- The daemon: serials of entries are their places, from FIRST on. What is made is linked next ---- */
+
+struct kr *kr_open_with(const char *path, unsigned flags, int milliseconds) {
+    if (path || flags || milliseconds <= 0 || is_open) abort();
+    is_open = true;
+    return (struct kr *)entries;
 }
 
-void close_ring(struct ring *ring) {
-    *ring = (struct ring){ 0 };
+void kr_close(struct kr *connection) {
+    if (connection != (struct kr *)entries || !is_open) abort();
+    is_open = false;
 }
 
-bool is_confirmed(const char *question) {
-    return strlen(question) % 2;
+int kr_descriptor(const struct kr *connection) { return connection ? 0 : -1; }
+
+void kr_own_identity(struct kr_identity *identity) { memset(identity, 0, sizeof *identity); }
+
+int64_t kr_hello_as(struct kr *connection, const struct kr_identity *identity) {
+    return connection && identity ? CONTEXT : -1;
 }
 
-void name_entry(char name[NAME_ROOM], struct bytes public_key) {
-    uint64_t sum = 14695981039346656037u;
-    for (size_t i = 0; i < public_key.length; i++) sum = (sum ^ public_key.at[i]) * 1099511628211u;
-    snprintf(name, NAME_ROOM, "ssh-agent %016llx", (unsigned long long)sum);
+static void check(struct kr *connection, uint32_t context) {
+    if (connection != (struct kr *)entries || !is_open || context != CONTEXT) abort();
 }
 
-int32_t find_entry(struct ring *ring, const char *name) {
-    (void)ring;
-    for (int i = 0; i < ENTRIES; i++)
-        if (entries[i].payload && strcmp(entries[i].name, name) == 0) return i + 1;
+int kr_enter_session(struct kr *connection, uint32_t context, const char *session) {
+    check(connection, context);
+    return session != NULL;
+}
+
+static struct entry *entry_of(int32_t serial) {
+    if (serial < FIRST || serial >= FIRST + ENTRIES) abort();
+    return &entries[serial - FIRST];
+}
+
+static void let_go(struct entry *entry) {
+    free(entry->payload);
+    *entry = (struct entry){ .payload = NULL };
+}
+
+int32_t kr_search(struct kr *connection, uint32_t context, int32_t ring, const char *type, const char *name,
+                  int32_t destination) {
+    check(connection, context);
+    bool finds_ring = strcmp(type, "keyring") == 0;
+    if (destination || (!finds_ring && ring != RING)) abort();
+    if (finds_ring && has_ring) return RING;
+    for (int i = 0; i < ENTRIES && !finds_ring; i++)
+        if (entries[i].payload && strcmp(entries[i].name, name) == 0) return FIRST + i;
     errno = ENOKEY;
+    return -1;
+}
+
+int32_t kr_add(struct kr *connection, uint32_t context, const char *type, const char *name, const void *payload,
+               size_t length, int32_t ring) {
+    check(connection, context);
+    if (strcmp(type, "keyring") == 0) {
+        has_ring = true;
+        return RING;
+    }
+    if (ring != KEY_SPEC_PROCESS_KEYRING || strlen(name) >= NAME_ROOM) abort();
+    if (length > PAYLOAD_MOST) return -1;
+    let_go(&made);
+    strcpy(made.name, name);
+    made.payload = malloc(length);
+    made.length = length;
+    memcpy(made.payload, payload, length);
+    return FIRST + ENTRIES;
+}
+
+int kr_set_timeout(struct kr *connection, uint32_t context, int32_t id, uint32_t seconds) {
+    check(connection, context);
+    return id == FIRST + ENTRIES && seconds != UINT32_MAX ? 0 : -1;
+}
+
+int kr_link(struct kr *connection, uint32_t context, int32_t id, int32_t ring) {
+    check(connection, context);
+    if (id != FIRST + ENTRIES || ring != RING || !made.payload) abort();
+    struct entry *place = NULL;
+    for (int i = 0; i < ENTRIES; i++)
+        if (!entries[i].payload && !place) place = &entries[i];
+    for (int i = 0; i < ENTRIES; i++)
+        if (entries[i].payload && strcmp(entries[i].name, made.name) == 0) place = &entries[i];
+    if (!place) return -1;
+    let_go(place);
+    *place = made;
+    made.payload = NULL;
     return 0;
 }
 
-bool drop_entry(struct ring *ring, int32_t entry) {
-    (void)ring;
-    if (!entry) return false;
-    free(entries[entry - 1].payload);
-    entries[entry - 1] = (struct entry){ .payload = NULL };
-    return true;
-}
-
-bool drop_entries(struct ring *ring) {
-    for (int i = 1; i <= ENTRIES; i++) drop_entry(ring, i);
-    return true;
-}
-
-bool put_entry(struct ring *ring, const char *name, struct bytes payload, uint32_t seconds) {
-    (void)seconds;
-    if (payload.length > PAYLOAD_MOST) return false;
-    drop_entry(ring, find_entry(ring, name));
-    for (int i = 0; i < ENTRIES; i++) {
-        if (entries[i].payload) continue;
-        strcpy(entries[i].name, name);
-        entries[i].payload = malloc(payload.length);
-        entries[i].length = payload.length;
-        memcpy(entries[i].payload, payload.at, payload.length);
-        return true;
+int64_t kr_read(struct kr *connection, uint32_t context, int32_t id, void *buffer, size_t room) {
+    check(connection, context);
+    if (id == RING) {
+        for (int i = 0; i < ENTRIES; i++) ((int32_t *)buffer)[i] = FIRST + i;
+        return ENTRIES * (int64_t)sizeof(int32_t);
     }
-    return false;
+    struct entry *entry = entry_of(id);
+    if (!entry->payload) return -1;
+    if (entry->length <= room) memcpy(buffer, entry->payload, entry->length);
+    return (int64_t)entry->length;
 }
 
-BUF_MEM *read_entry(struct ring *ring, int32_t entry) {
-    (void)ring;
-    BUF_MEM *payload = new_buffer();
-    if (entry && entries[entry - 1].payload)
-        put_bytes(payload, (struct bytes){ entries[entry - 1].payload, entries[entry - 1].length });
-    return payload;
+int kr_invalidate(struct kr *connection, uint32_t context, int32_t id) {
+    check(connection, context);
+    let_go(entry_of(id));
+    return 0;
 }
 
-size_t list_entries(struct ring *ring, int32_t serials[ENTRIES_MOST]) {
-    (void)ring;
-    for (int i = 0; i < ENTRIES; i++) serials[i] = i + 1;
-    return ENTRIES;
+int kr_clear(struct kr *connection, uint32_t context, int32_t ring) {
+    check(connection, context);
+    for (int i = 0; i < ENTRIES && ring == RING; i++) let_go(&entries[i]);
+    return 0;
 }
+
+/* Who is asked says yes, no or nothing, by the question's length; and no key and no connection is there meanwhile. */
+FILE *__wrap_popen(const char *command, const char *mode);
+int __wrap_pclose(FILE *program);
+FILE *__wrap_popen(const char *command, const char *mode) {
+    static char answers[][8] = { "yes\n", "no\n", "" };
+    size_t length = strlen(getenv("KEYRETAIN_QUESTION"));
+    if (is_open || !strstr(command, "SSH_ASKPASS") || *mode != 'r') abort();
+    return fmemopen(answers[length % 3], sizeof answers[0], "r");
+}
+
+int __wrap_pclose(FILE *program) { return fclose(program); }
 
 /* A passphrase's hash takes too long for thousands of messages: this one is its first bytes. */
 int __wrap_PKCS5_PBKDF2_HMAC(const char *word, int length, const unsigned char *salt, int salt_length, int rounds,
@@ -99,29 +158,32 @@ int __wrap_PKCS5_PBKDF2_HMAC(const char *word, int length, const unsigned char *
 /* ---- Messages ---- */
 
 static void check_reply(struct bytes reply) {
-    struct reader reader = { .left = reply };
-    struct reader body = { .left = read_string(&reader) };
-    unsigned char kind = read_byte(&body);
-    if (reader.is_bad || reader.left.length || body.is_bad) abort();
+    struct bytes body = take_string(&reply);
+    uint32_t kind = take_number(&body, BYTE);
+    if (!reply.at || reply.length || !body.at) abort();
     if (kind == IDENTITIES_ANSWER)
-        for (uint32_t count = 2 * read_number(&body); count > 0; count--) read_string(&body);
-    else if (kind == SIGN_RESPONSE) read_string(&body);
+        for (uint32_t count = 2 * take_number(&body, NUMBER); count > 0; count--) take_string(&body);
+    else if (kind == SIGN_RESPONSE) take_string(&body);
     else if (kind != FAILURE && kind != SUCCESS) abort();
-    if (body.is_bad || body.left.length) abort();
+    if (!body.at || body.length) abort();
 }
 
 int LLVMFuzzerTestOneInput(const uint8_t *data, size_t size) {
-    struct reader input = { .left = { data, size } };
-    while (input.left.length && !input.is_bad) {
-        struct bytes message = read_string(&input);
+    static unsigned char replied[NUMBER + MESSAGE_MOST];
+    struct bytes input = { data, size };
+    while (input.at && input.length) {
+        struct bytes message = take_string(&input);
+        if (!message.length) continue; /* the agent has none that is empty */
         unsigned char *exact = malloc(message.length);
-        BUF_MEM *reply = new_buffer();
-        if (message.length) memcpy(exact, message.at, message.length);
-        answer((struct bytes){ exact, message.length }, 0, reply);
-        check_reply(written(reply));
-        BUF_MEM_free(reply);
+        struct writer reply = { .at = replied, .room = sizeof replied };
+        memcpy(exact, message.at, message.length);
+        answer((struct bytes){ exact, message.length }, 0, &reply);
+        check_reply((struct bytes){ reply.at, reply.length });
+        if (is_open || reply.is_bad) abort();
         free(exact);
     }
-    drop_entries(NULL);
+    for (int i = 0; i < ENTRIES; i++) let_go(&entries[i]);
+    let_go(&made);
+    has_ring = false;
     return 0;
 }
