@@ -25,7 +25,7 @@ enum { NOT_HELD = -1, NEVER_HELD = -2 };
 
 static const char usage[] = "usage: keyretain-ssh-agent [-Ds] [-a SOCKET] [-t LIFETIME]\n"
                             "       keyretain-ssh-agent [-s] -k\n";
-static char *path, folder[] = "/tmp/ssh-XXXXXXXXXX";
+static char *path, folder[] = "/tmp/ssh-XXXXXX";
 static bool stays, has_folder;
 static uint32_t lifetime;
 static pid_t listening;
@@ -102,7 +102,7 @@ static _Noreturn void kill_agent(void) {
 
 static void read_options(int count, char **words) {
     int option;
-    while ((option = getopt(count, words, "+a:Ddkst:")) != -1) {
+    while ((option = getopt(count, words, "+a:DdE:kP:st:")) != -1) {
         if (option == 'a') path = optarg;
         if (option == 'D' || option == 'd') stays = true;
         if (option == 'k') kill_agent();
@@ -117,27 +117,29 @@ static void read_options(int count, char **words) {
 static int begin_listening(void) {
     if (!path && (!(has_folder = mkdtemp(folder)) || asprintf(&path, "%s/agent.%d", folder, (int)getpid()) < 0))
         err(1, "%s", folder);
-    int listener = open_listener(path, 0600, DESCRIPTORS_REFUSED), out = fcntl(STDOUT_FILENO, F_DUPFD_CLOEXEC, 0);
+    int listener = open_listener(path, 0600, DESCRIPTORS_REFUSED), nothing = open("/dev/null", O_RDWR | O_CLOEXEC);
     if (listener < 0 && has_folder) rmdir(folder);
     if (listener < 0) err(1, "%s", path);
-    if (out < 0 || (!stays && daemon(1, 0) < 0)) err(1, "the background");
-    dprintf(out, "SSH_AUTH_SOCK=%s; export SSH_AUTH_SOCK;\n", path);
-    dprintf(out, "SSH_AGENT_PID=%1$d; export SSH_AGENT_PID;\necho Agent pid %1$d;\n", (int)getpid());
-    close(out);
+    pid_t agent = stays ? getpid() : fork();
+    if (agent < 0) err(1, "fork");
+    if (agent) dprintf(STDOUT_FILENO, "SSH_AUTH_SOCK=%s; export SSH_AUTH_SOCK;\n", path);
+    if (agent) dprintf(STDOUT_FILENO, "SSH_AGENT_PID=%1$d; export SSH_AGENT_PID;\necho Agent pid %1$d;\n", (int)agent);
+    if (stays) return listener;
+    if (agent) exit(0);
+    for (int standard = 0; standard <= STDERR_FILENO; standard++) dup2(nothing, standard);
+    setsid();
     return listener;
 }
 
 int main(int count, char **words) {
-    const struct rlimit none = { 0, 0 };
     if (count == 2 && strcmp(words[1], "--version") == 0) return puts("keyretain-ssh-agent " KEYRETAIN_VERSION) < 0;
     if (count == 2 && strcmp(words[1], "--help") == 0) return fputs(usage, stdout) < 0;
-    if (!fill_standard_descriptors() || close_range(STDERR_FILENO + 1, ~0U, CLOSE_RANGE_CLOEXEC) < 0)
-        err(1, "descriptors");
+    if (!fill_standard_descriptors() || close_range(STDERR_FILENO + 1, ~0U, CLOSE_RANGE_CLOEXEC) < 0) err(1, "files");
     read_options(count, words);
     int listener = take_passed_listener();
     if (listener >= 0) path = NULL, refuse_descriptors(listener);
     else listener = begin_listening();
-    if (prctl(PR_SET_DUMPABLE, 0) < 0 || setrlimit(RLIMIT_CORE, &none) < 0) err(1, "core files");
+    if (prctl(PR_SET_DUMPABLE, 0) < 0 || setrlimit(RLIMIT_CORE, &(struct rlimit){ 0, 0 }) < 0) err(1, "core files");
     listening = getpid();
     signal(SIGTERM, end);
     signal(SIGINT, end);
