@@ -45,7 +45,7 @@ def try_sizes(caller):
     compare("nothing is kept", ([], []), caller.search({}))
 
 
-def try_many(caller):
+def try_many(caller, process):
     with Caller() as many:
         opened = [many.call("OpenSession", "sv", "plain", ("s", "")) for _ in range(1000)]
         compare("sessions of one client", ["LimitsExceeded"] * (1000 - 64), opened[64:])
@@ -55,6 +55,18 @@ def try_many(caller):
         with Caller() as again:
             last = [again.call("OpenSession", "sv", "plain", ("s", "")) for _ in range(64)][-1]
     compare("a client that has gone has left none", True, last != "LimitsExceeded")
+    before, answers = memory_of(process), set()
+    for _ in range(1000):
+        with Caller() as one:
+            answers.add(one.call("ReadAlias", "s", "session"))
+    compare("1000 connections", {(SESSION_COLLECTION,)}, answers)
+    compare("nothing of them is kept", True, memory_of(process) < before + (4 << 10))
+
+
+def memory_of(process):
+    """KiB that are resident."""
+    with open(f"/proc/{process.pid}/status", encoding="ascii") as file:
+        return int(next(line.split()[1] for line in file if line.startswith("VmRSS")))
 
 
 def try_stalled(caller):
@@ -113,8 +125,9 @@ def try_other_user():
 with daemon(), bus() as broker:
     with secrets() as process:
         with Caller() as client:
-            for part in (try_types, try_sizes, try_many, try_stalled, try_forged):
+            for part in (try_types, try_sizes, try_stalled, try_forged):
                 part(client)
+            try_many(client, process)
         with open(f"/proc/{process.pid}/limits", encoding="ascii") as limits:
             cores = [line.split()[4:6] for line in limits if "core file" in line]
         compare("no core file", [["0", "0"]], cores)

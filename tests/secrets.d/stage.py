@@ -17,11 +17,13 @@ SERVICE, COLLECTION, ITEM, SESSION = (SECRET + it for it in ("Service", "Collect
 PROPERTIES = "org.freedesktop.DBus.Properties"
 SESSION_COLLECTION = f"{ROOT}/collection/session"
 RING = "secret-service"
-# One user's bus, or one that lets all in: then it is keyretain-secrets that looks who asks.
+# One user's bus, or one that lets all in: then it is keyretain-secrets that looks who asks. On a busy machine who connects
+# may take longer than the five seconds that a bus has for it, and what it starts longer than 25.
 CONFIGURATION = """<!DOCTYPE busconfig PUBLIC "-//freedesktop//DTD D-Bus Bus Configuration 1.0//EN"
  "http://www.freedesktop.org/standards/dbus/1.0/busconfig.dtd"><busconfig><type>session</type>
 <listen>unix:path={}/bus</listen><auth>EXTERNAL</auth><policy context="default"><allow send_destination="*"/>
-<allow receive_sender="*"/><allow own="*"/>{}</policy><servicedir>{}</servicedir></busconfig>"""
+<allow receive_sender="*"/><allow own="*"/>{}</policy><servicedir>{}</servicedir>
+<limit name="auth_timeout">60000</limit><limit name="service_start_timeout">60000</limit></busconfig>"""
 
 
 @contextmanager
