@@ -9,7 +9,7 @@ enum { SEED = 32, RSA_BITS_LEAST = 1024, PART_MOST = 2048, IS_LONG = 0x80 };
 enum { PUBLIC = 0, PRIVATE = 1, CURVE = 0, POINT = 1, SCALAR = 2 };
 enum { N, E, D, IQMP, P, Q, D_OF_P, D_OF_Q, RSA_PARTS };
 
-/* Only a certificate has a plain name. Parts are in the order of a public key, and of what is added behind all that. */
+/* `plain` is NULL where it is no certificate's. Digits name parts: as a public key has them, and as they are added. */
 struct key_type {
     const char *name, *plain, *in_public, *added, *algorithm, *curve, *group, *hash;
 };
