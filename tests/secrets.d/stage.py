@@ -17,8 +17,8 @@ SERVICE, COLLECTION, ITEM, SESSION = (SECRET + it for it in ("Service", "Collect
 PROPERTIES = "org.freedesktop.DBus.Properties"
 SESSION_COLLECTION = f"{ROOT}/collection/session"
 RING = "secret-service"
-# One user's bus, or one that lets all in: then it is keyretain-secrets that looks who asks. On a busy machine who connects
-# may take longer than the five seconds that a bus has for it, and what it starts longer than 25.
+# One user's bus, or one that lets all in: then it is keyretain-secrets that looks who asks. On a busy machine who
+# connects may take longer than the five seconds that a bus has for it, and what it starts longer than 25.
 CONFIGURATION = """<!DOCTYPE busconfig PUBLIC "-//freedesktop//DTD D-Bus Bus Configuration 1.0//EN"
  "http://www.freedesktop.org/standards/dbus/1.0/busconfig.dtd"><busconfig><type>session</type>
 <listen>unix:path={}/bus</listen><auth>EXTERNAL</auth><policy context="default"><allow send_destination="*"/>

@@ -1,15 +1,42 @@
 """with_secretstorage.py: Python's SecretStorage, which encrypts what it sends; with the collection `session` by its
 alias."""
-from stage import bus, compare, conclude, daemon, secrets
+import time
+
+from stage import SESSION_COLLECTION, bus, compare, conclude, daemon, secrets
+from jeepney import DBusErrorResponse
 import secretstorage
-from secretstorage.collection import get_collection_by_alias
+from secretstorage.collection import Collection, get_all_collections, get_any_collection, get_collection_by_alias
 
 
 def error_of(run, *words):
     try:
         return run(*words)
-    except secretstorage.exceptions.SecretStorageException as error:
+    except (secretstorage.exceptions.SecretStorageException, TypeError, DBusErrorResponse) as error:
         return type(error).__name__
+
+
+def try_collections(connection):
+    any_one = get_any_collection(connection)
+    compare("any collection", SESSION_COLLECTION, any_one.collection_path)
+    compare("all collections", ["session"], [one.get_label() for one in get_all_collections(connection)])
+    compare("its label stays", ("DBusErrorResponse", "session"),
+            (error_of(any_one.set_label, "new"), any_one.get_label()))
+    compare("another collection", "DBusErrorResponse", error_of(secretstorage.create_collection, connection, "new"))
+    compare("one that isn't there", "ItemNotFoundException", error_of(Collection, connection, f"{SESSION_COLLECTION}2"))
+    compare("it stays unlocked", (None, False), (any_one.lock(), any_one.is_locked()))
+    compare("it isn't deleted", ("DBusErrorResponse", False), (error_of(any_one.delete), any_one.is_locked()))
+
+
+def try_items(connection, collection):
+    empty = collection.create_item("", {}, b"")
+    compare("an empty item", (b"", "", {}), (empty.get_secret(), empty.get_label(), empty.get_attributes()))
+    compare("its times", True, time.time() - 600 < empty.get_created() <= empty.get_modified() < time.time() + 1)
+    compare("a secret of another type", "TypeError", error_of(empty.set_secret, True))
+    same = secretstorage.Item(connection, empty.item_path)
+    other = collection.create_item("", {"a": "b"}, b"")
+    compare("equal, and unequal", (True, False, True), (same == empty, other == empty, other != empty))
+    for item in (empty, other):
+        item.delete()
 
 
 with daemon(), bus(), secrets():
@@ -18,6 +45,8 @@ with daemon(), bus(), secrets():
     collection = get_collection_by_alias(connection, "session")
     compare("no default", "ItemNotFoundException", error_of(get_collection_by_alias, connection, "default"))
     compare("unlocked", (False, True), (collection.is_locked(), collection.ensure_not_locked() is None))
+    try_collections(connection)
+    try_items(connection, collection)
     item = collection.create_item("a label", {"a": "b"}, b"s3cret \xff", content_type="x/y")
     compare("encrypted", b"s3cret \xff", item.get_secret())
     compare("what it is", ("a label", {"a": "b"}, "x/y", False),
