@@ -103,7 +103,9 @@ def try_encrypted(caller, prime):
     cipher = Cipher(algorithms.AES(key), modes.CBC(parameters)).decryptor()
     compare("encrypted", b"eleven bits" + b"\5" * 5, cipher.update(value) + cipher.finalize())
     compare("another start each time", True, caller.secret(item, session)[1] != parameters)
-    for wrong in ((start, sealed[:-1]), (start[:-1], sealed), (start, b""), (start, bytes(16))):
+    cipher = Cipher(algorithms.AES(key), modes.CBC(start)).encryptor()
+    unpadded = cipher.update(bytes(16)) + cipher.finalize()
+    for wrong in ((start, sealed[:-1]), (start[:-1], sealed), (start, b""), (start, unpadded)):
         compare("what is not of the session", "InvalidArgs", caller.call(
             "SetSecret", "(oayays)", (session, *wrong, "text/plain"), path=item, interface=ITEM))
     compare("deleted", ("/",), caller.call("Delete", path=item, interface=ITEM))
