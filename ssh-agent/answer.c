@@ -21,7 +21,7 @@ static const char ring_name[] = "ssh-agent", lock_name[] = "ssh-agent lock";
 static struct kr *connection;
 static uint32_t context;
 static int32_t head, keyring;
-static unsigned char payload[PAYLOAD_MOST];
+static unsigned char payload[PAYLOAD_MOST], made[SALT_SIZE + HASH_SIZE]; /* the second is a lock */
 
 /* ---- The keyring ---- */
 
@@ -51,6 +51,7 @@ int open_ring(void) {
 
 void close_ring(void) {
     OPENSSL_cleanse(payload, sizeof payload);
+    OPENSSL_cleanse(made, sizeof made);
     if (connection) kr_close(connection);
     connection = NULL;
 }
@@ -169,7 +170,6 @@ static bool add(struct bytes message, uint32_t lifetime, struct writer *reply) {
 
 /* Locks, or unlocks by the same passphrase. The lock is a salt, and the passphrase's hash. */
 static bool turn_lock(bool unlocks, struct bytes passphrase) {
-    unsigned char made[SALT_SIZE + HASH_SIZE];
     struct bytes lock = { made, sizeof made }, kept = unlocks ? read_entry(find_entry(lock_name)) : lock;
     if (!passphrase.at || kept.length != lock.length) return false;
     if (unlocks) memcpy(made, kept.at, SALT_SIZE);
