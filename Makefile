@@ -24,7 +24,8 @@ PROGRAMS = keyretain keyretaind
 # there are processors, and says which, and how long the rest takes. It may be ended at any time, and then goes on where it was.
 build:
 	@tools/check-toolchain
-	@tools/proved >/dev/null || echo 'Each crate is proved first; it may be ended, and goes on later. Programs within minutes: make run'
+	@tools/proved >/dev/null || printf '%s\n' 'Each crate is proved first; it may be ended, and goes on later.' \
+	  'Programs within minutes: make run'
 	@sum=$$(tools/proved --sum) && tools/build $(PROGRAMS) krs_screen_c krs_admission_c && tools/proved --put "$$sum"
 	@echo 'proved and built: $(PROGRAMS:%=bin/%)'
 
