@@ -13,6 +13,7 @@ DATADIR = $(PREFIX)/share/keyretain
 COMPLETIONDIR = $(PREFIX)/share/bash-completion/completions
 COMPLETED = keyretain keyretaind keyretain-session keyretain-guard keyretain-agent keyretain-status
 ZSHDIR = $(PREFIX)/share/zsh/site-functions
+FISHDIR = $(PREFIX)/share/fish/vendor_completions.d
 PYTHON = python3
 
 PROGRAMS = keyretain keyretaind
@@ -123,8 +124,11 @@ install:
 	install -m 644 contrib/systemd/keyretain.conf "$(DESTDIR)$(SYSUSERSDIR)/"
 	install -m 644 contrib/bash-completion/* "$(DESTDIR)$(COMPLETIONDIR)/"
 	for name in guard agent status; do ln -sf keyretain-session "$(DESTDIR)$(COMPLETIONDIR)/keyretain-$$name"; done
-	install -d "$(DESTDIR)$(ZSHDIR)"
+	install -d "$(DESTDIR)$(ZSHDIR)" "$(DESTDIR)$(FISHDIR)"
 	install -m 644 contrib/zsh-completion/_keyretain "$(DESTDIR)$(ZSHDIR)/"
+	install -m 644 contrib/fish-completion/keyretain.fish "$(DESTDIR)$(FISHDIR)/"
+	for name in $(filter-out keyretain,$(COMPLETED)); do \
+	  ln -sf keyretain.fish "$(DESTDIR)$(FISHDIR)/$$name.fish"; done
 	install -d "$(DESTDIR)$(USERUNITDIR)"
 	sed -e '/^ExecStart=/s|@sbindir@|$(SBINDIR)|' -e '/^ExecCondition=/s|@bindir@|$(BINDIR)|' \
 	  contrib/systemd/user/keyretaind.service \
@@ -177,6 +181,7 @@ uninstall:
 	  "$(DESTDIR)$(MANDIR)/man7/keyretain-protocol.7" "$(DESTDIR)$(MANDIR)/man8/keyretaind.8" \
 	  "$(DESTDIR)$(UNITDIR)/keyretaind.service" "$(DESTDIR)$(SYSUSERSDIR)/keyretain.conf" \
 	  $(COMPLETED:%="$(DESTDIR)$(COMPLETIONDIR)/%") "$(DESTDIR)$(ZSHDIR)/_keyretain" \
+	  $(COMPLETED:%="$(DESTDIR)$(FISHDIR)/%.fish") \
 	  "$(DESTDIR)$(PRESETDIR)/system-preset/80-keyretain.preset" "$(DESTDIR)$(PRESETDIR)/user-preset/80-keyretain.preset"
 	@for folder in "$(DESTDIR)$(PREFIX)/lib" "$(DESTDIR)$(PREFIX)/libexec" "$(DESTDIR)$(PREFIX)/share"; do \
 	  [ ! -d "$$folder/keyretain" ] || rmdir --ignore-fail-on-non-empty "$$folder/keyretain"; done

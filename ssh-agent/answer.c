@@ -21,7 +21,7 @@ static const char ring_name[] = "ssh-agent", lock_name[] = "ssh-agent lock";
 static struct kr *connection;
 static uint32_t context;
 static int32_t head, keyring;
-static unsigned char payload[PAYLOAD_MOST], made[SALT_SIZE + HASH_SIZE]; /* the second is a lock */
+static unsigned char payload[PAYLOAD_MOST], made_lock[SALT_SIZE + HASH_SIZE]; /* the second is a lock */
 
 /* ---- The keyring ---- */
 
@@ -51,7 +51,7 @@ int open_ring(void) {
 
 void close_ring(void) {
     OPENSSL_cleanse(payload, sizeof payload);
-    OPENSSL_cleanse(made, sizeof made);
+    OPENSSL_cleanse(made_lock, sizeof made_lock);
     if (connection) kr_close(connection);
     connection = NULL;
 }
@@ -170,15 +170,15 @@ static bool add(struct bytes message, uint32_t lifetime, struct writer *reply) {
 
 /* Locks, or unlocks by the same passphrase. The lock is a salt, and the passphrase's hash. */
 static bool turn_lock(bool unlocks, struct bytes passphrase) {
-    struct bytes lock = { made, sizeof made }, kept = unlocks ? read_entry(find_entry(lock_name)) : lock;
+    struct bytes lock = { made_lock, sizeof made_lock }, kept = unlocks ? read_entry(find_entry(lock_name)) : lock;
     if (!passphrase.at || kept.length != lock.length) return false;
-    if (unlocks) memcpy(made, kept.at, SALT_SIZE);
-    else if (RAND_bytes(made, SALT_SIZE) != 1) return false;
-    if (PKCS5_PBKDF2_HMAC((const char *)passphrase.at, (int)passphrase.length, made, SALT_SIZE, ROUNDS, EVP_sha256(),
-                          HASH_SIZE, made + SALT_SIZE) != 1)
+    if (unlocks) memcpy(made_lock, kept.at, SALT_SIZE);
+    else if (RAND_bytes(made_lock, SALT_SIZE) != 1) return false;
+    if (PKCS5_PBKDF2_HMAC((const char *)passphrase.at, (int)passphrase.length, made_lock, SALT_SIZE, ROUNDS, EVP_sha256(),
+                          HASH_SIZE, made_lock + SALT_SIZE) != 1)
         return false;
     if (!unlocks) return put_entry(lock_name, lock, 0);
-    return CRYPTO_memcmp(kept.at, made, sizeof made) == 0 && drop_entry(find_entry(lock_name));
+    return CRYPTO_memcmp(kept.at, made_lock, sizeof made_lock) == 0 && drop_entry(find_entry(lock_name));
 }
 
 /* ---- Messages ---- */

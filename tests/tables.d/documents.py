@@ -1,4 +1,5 @@
 """What the pages, the completion and the bench say of asks and commands, each read into the form of the rows."""
+import contextlib
 import os
 import re
 import subprocess
@@ -122,6 +123,15 @@ def completion(program, each, *words):
     place = os.path.join(TOP, "contrib/bash-completion/keyretain")
     return subprocess.run(["bash", "-c", script, "bash", place, program, *words], stdout=subprocess.PIPE, text=True,
                           timeout=60, check=True).stdout.splitlines()
+
+
+def fish_completion(program):
+    """What the completion in fish offers behind the program alone: commands and options; None where there is no fish."""
+    script = "source $argv[1]; complete -C \"$argv[2] \""
+    words = ["fish", "--no-config", "-c", script, os.path.join(TOP, "contrib/fish-completion/keyretain.fish"), program]
+    with contextlib.suppress(FileNotFoundError):
+        return subprocess.run(words, stdout=subprocess.PIPE, text=True, timeout=60, check=True).stdout.splitlines()
+    return None
 
 
 def completion_words(program):

@@ -114,6 +114,12 @@ def try_completion():
     wanted = {f"{command.word} {place}": offered(command, word.strip("[]"))
               for command in known for place, word in enumerate([*command.usage.split(), ""], 1)}
     compare_all("completion", wanted, documents.completion_places(KEYRETAIN, wanted))
+    offered_in_fish = documents.fish_completion(KEYRETAIN)
+    if offered_in_fish is None:
+        print("skipped: the completion in fish: no fish")
+    else:
+        options = ["--gid", "--help", "--socket", "--uid", "--version"]
+        compare("completion in fish", sorted([*(command.word for command in known), *options]), sorted(offered_in_fish))
 
 
 def try_help():
