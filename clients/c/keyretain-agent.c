@@ -29,7 +29,8 @@ enum { MEMORY_MAX = 1024 * 1024, MEBIBYTE = 1024 * 1024, PAUSE = 20 /* milliseco
 static const char usage[] = "usage: keyretain-agent [--socket PATH] [--folder PATH] [--daemon PROGRAM]\n"
                             "         [--containers N] [--memory MEBIBYTES]\n";
 static const char help[] =
-    "\nAnswers the key calls of containers, each from a keyretaind of its own: an OCI seccomp agent.\n\n"
+    "\nAnswers the key calls of containers, each from a keyretaind of its own: an OCI\n"
+    "seccomp agent.\n\n"
     "  --socket PATH       where runtimes connect: " AGENT_SOCKET ", or what systemd passes\n"
     "  --folder PATH       where the daemons have their sockets: " AGENT_FOLDER "\n"
     "  --daemon PROGRAM    keyretaind: " KEYRETAIN_DAEMON "\n"

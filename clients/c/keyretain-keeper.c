@@ -17,14 +17,17 @@ enum { PATIENCE_MILLISECONDS = 10000, PATIENCE_DIGITS = 6, LOOK_MILLISECONDS = 1
 enum { SERIAL_WIDTH = 4, DECIMAL = 10 };
 
 static const char usage[] =
-    "usage: keyretain-keeper [--name NAME] [--socket PATH] [--patience MILLISECONDS] [--no-link] [--deaf]\n"
+    "usage: keyretain-keeper [--name NAME] [--socket PATH] [--patience MILLISECONDS]\n"
+    "                        [--no-link] [--deaf]\n"
     "       keyretain-keeper --hold RING [--socket PATH] [--patience MILLISECONDS]\n";
 static const char help[] =
-    "\nMakes a session of keyretaind and holds it until descriptor 0, a pipe, ends; it says which on descriptor 1.\n\n"
+    "\nMakes a session of keyretaind and holds it until descriptor 0, a pipe, ends.\n"
+    "It says which on descriptor 1.\n\n"
     "  --name NAME              the session of this name; without it a new one\n"
-    "  --hold RING              holds no session, but this keyring of the user keyring, while it has keys\n"
+    "  --hold RING              no session, but this keyring of the user keyring,\n"
+    "                           while it has keys\n"
     "  --socket PATH            the daemon's socket\n"
-    "  --patience MILLISECONDS  how long the daemon may take, 1 to 999999; 10000 without it\n"
+    "  --patience MILLISECONDS  how long the daemon may take, 1 to 999999; else 10000\n"
     "  --no-link                doesn't link the user keyring\n"
     "  --deaf                   reads nothing of the pipe\n"
     "  -h, --help               prints this\n"

@@ -25,15 +25,18 @@ static const char usage[] = "usage: keyretain-session [--env VARIABLE=KEY].. [NA
                             "       keyretain-session [--env VARIABLE=KEY].. --join [-- CMD [ARG ..]]\n"
                             "       keyretain-session --syscalls [NAME] [-- CMD [ARG ..]]\n";
 static const char help[] =
-    "\nRuns a command, or a shell, in a session of keyretaind, where keyctl(1) and the like find its keys.\n\n"
-    "  NAME         the session of this name, which is made where there is none; without it a new one\n"
-    "  --env V=KEY  gives the command what a key holds, in the variable V; a KEY is a serial or %user:DESCRIPTION\n"
+    "\nRuns a command, or a shell, in a session of keyretaind, where keyctl(1) and the\n"
+    "like find its keys.\n\n"
+    "  NAME         the session of this name, made if there is none; else a new one\n"
+    "  --env V=KEY  gives the command what a key holds, in the variable V; KEY is a\n"
+    "               serial or %user:DESCRIPTION\n"
     "  --join       the session that KEYRETAIN_SESSION names, as a login has it\n"
-    "  --syscalls   answers the system calls themselves: for programs that are static, or in Go or Rust\n"
+    "  --syscalls   answers the system calls themselves: static programs, Go, Rust\n"
     "  -- CMD ARG   what is run; without it the shell that SHELL names\n"
     "  -h, --help   prints this\n"
     "  --version    prints the version\n\n"
-    "The daemon's socket is KEYRETAIN_SOCKET, or is looked for where keyretain-session(1) says.\n";
+    "The daemon's socket is KEYRETAIN_SOCKET, or is looked for where\n"
+    "keyretain-session(1) says.\n";
 
 static char socket_path[KR_PATH_ROOM];
 static const char *session_name; /* NULL: none was given */

@@ -1,24 +1,28 @@
-"""A client of keyretaind(8), by Python's standard library alone: every ask, and notes.
+"""A client of keyretaind(8), by Python's standard library alone.
 
     import os, keyretain
     with keyretain.Client() as client:
         context = client.hello(os.geteuid(), os.getegid())
-        client.enter_session(context)  # that of keyretain-session(1) or of the login, if there is one
+        client.enter_session(context)  # of keyretain-session(1) or login
         serial = client.add(context, "user", "token", b"s3", keyretain.USER)
         print(client.read(context, serial))  # b's3'
 
-A call that the daemon refuses raises Refused, with the error's number; a connection that can't be used any more raises
-Lost, bytes that are no reply Malformed, and a daemon that takes too long TimeoutError: all are OSErrors. What fits no
-frame is a ValueError, and nothing is sent. A Client is one connection: its contexts and queues end with it. It isn't
-locked: one thread at a time, and never a handler of a signal. keyretain-protocol(7) has each ask with its errors.
+A call that the daemon refuses raises Refused, with the error's number; a
+connection that can't be used any more raises Lost, bytes that are no reply
+Malformed, and a daemon that takes too long TimeoutError: all are OSErrors.
+What fits no frame is a ValueError, and nothing is sent. A Client is one
+connection: its contexts and queues end with it. It isn't locked: one thread
+at a time, and never a handler of a signal. keyretain-protocol(7) has each
+ask with its errors.
 
-The client wipes its own copies of what it has sent and received. What the program gives it and gets of it are objects
-of Python: who wants none left gives payloads as a bytearray, reads by Client.read_into(), and wipes both.
+The client wipes its own copies of its asks and replies. The program's own
+are objects of Python: to leave none, give payloads as a bytearray, read by
+Client.read_into(), and wipe both.
 
     python3 -m keyretain KEY
 
-watches a key, by its serial or as @t, @p, @s, @u or @us, for the caller's uid in the session that it is in, and prints
-its notes as text.
+watches a key, by its serial or as @t, @p, @s, @u or @us, for the caller's
+uid in the session that it is in, and prints its notes as text.
 """
 from .client import PATIENCE, Client, notes_of
 from .connection import AHEAD
