@@ -42,7 +42,7 @@ start_kdc() {
     make_realm "$port" || return 1
     krb5kdc -n >>"$dir/realm/log" 2>&1 &
     kdc=$!
-    until_true has_answered "$kdc" && return 0
+    until_true has_answered "$kdc" && ! has_ended "$kdc" && return 0
   done
   return 1
 }
