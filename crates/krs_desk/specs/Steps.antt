@@ -8,6 +8,7 @@ use Rattle.krs_types.specs.declared.event.Event.{Event}
 use Rattle.krs_model.specs.State.{State}
 use Rattle.krs_model.specs.Lists.{Begins}
 use Rattle.krs_model.specs.History.{IsLegal, event_of}
+use Rattle.krs_store.specs.Told.{reply_of}
 use Rattle.krs_world.specs.declared.view.Part.{Part}
 use Rattle.krs_world.specs.declared.view.Standing.TheVariants.{Two}
 use Rattle.krs_world.specs.Knowing.{events_of, service, flight, view, taken, missed, put_own, put_none, loaded, kept}
@@ -22,7 +23,7 @@ use Rattle.krs_desk.specs.Parts.{cell_of, sight, sat, spent, part_of, second_of}
 
 -- the event of a served call
 abbrev pub event_in : ServedCall → Event
-event_in call = event_of call.lane call.moment call.ask.value call.reply.value
+event_in call = event_of call.lane call.moment call.ask.value (reply_of call.told.value)
 
 -- what a token knows, and the slots that it has
 abbrev pub Known : Type 0

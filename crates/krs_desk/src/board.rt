@@ -6,6 +6,7 @@ ghost use prog.Atomic.{either};
 ghost use Rattle.atomic_table.specs.Table.{step, Allows, Splits, Joins, rest, opening as opened};
 ghost use Rattle.krs_model.specs.State.{State, starting_at};
 ghost use Rattle.krs_model.specs.History.{event_of};
+ghost use Rattle.krs_store.specs.Told.{reply_of, bytes_of};
 ghost use Rattle.krs_desk.specs.Parts.{kept_sight, given_sight, both_sights, settled_sight, spent, AreOnes, IsSpentFor};
 ghost use Rattle.krs_desk.specs.Rule.{InOneOrder, first_sight};
 ghost use Rattle.krs_desk.specs.Moves.{moved_told, stored_told};
@@ -15,7 +16,7 @@ use crate::slot::SlotValue;
 use crate::steps::{Cut, Glue, OneOrder, Settle};
 use crate::token::{Sight, Token};
 use atomic_table::{Play, Refused, Table};
-use krs_store::Store;
+use krs_store::{Store, Taker, Told};
 use krs_types::{Ask, Reply};
 use std::alloc::Global;
 use std::marker::{Model, PhantomData};
@@ -171,6 +172,30 @@ impl Board {
         };
         home.mind_memory(wanted);
         home.apply(lane, moment, ask)
+    }
+
+    /// As `serve`, but a taker may have the payload that a READ finds.
+    #[inline(always)]
+    pub(crate) fn serve_into<T: Taker>(
+        &self,
+        seat: &mut Token,
+        wanted: u64,
+        lane: u32,
+        moment: u64,
+        ask: Ask,
+        taker: &mut T,
+    ) -> Told
+        requires table { seat.old.table_id ≡ self.now.id }
+        requires has { (store : State) × Has seat.old.me store }
+        ensures table { seat.new.table_id ≡ seat.old.table_id }
+        ensures served { Serves seat.old.me (event_of lane moment ask (reply_of result)) seat.new.me }
+        ensures taken { T.took taker.old (bytes_of result) taker.new }
+    {
+        let SlotValue::Home(home) = seat.slot_mut(&self.table.shared, 0) else {
+            unreachable!()
+        };
+        home.mind_memory(wanted);
+        home.apply_into(lane, moment, ask, taker)
     }
 
     /// The opener deals a lane, a token of two lanes is split, and one of one lane gives it away.

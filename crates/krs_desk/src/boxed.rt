@@ -2,8 +2,9 @@
 ghost use Rattle.std.specs.Prelude.{◌≡◌, IfOk, IfErr};
 ghost use Rattle.krs_model.specs.Step.{Step};
 ghost use Rattle.krs_model.specs.History.{event_of};
+ghost use Rattle.krs_store.specs.Told.{reply_of, bytes_of};
 
-use krs_store::Store;
+use krs_store::{Store, Taker, Told};
 use krs_types::{Ask, Reply};
 use std::alloc::Global;
 use std::marker::Model;
@@ -53,5 +54,14 @@ impl BoxedStore {
         ensures step { Step self.old (event_of lane moment ask result) self.new }
     {
         self.inner.apply(lane, moment, ask)
+    }
+
+    /// As `apply`, but a taker may have the payload that a READ finds.
+    #[inline(always)]
+    pub fn apply_into<T: Taker>(&mut self, lane: u32, moment: u64, ask: Ask, taker: &mut T) -> Told
+        ensures step { Step self.old (event_of lane moment ask (reply_of result)) self.new }
+        ensures taken { T.took taker.old (bytes_of result) taker.new }
+    {
+        self.inner.apply_into(lane, moment, ask, taker)
     }
 }

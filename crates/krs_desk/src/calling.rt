@@ -1,13 +1,16 @@
 //! A call that waits until it is answered.
-ghost use Rattle.std.specs.Prelude.{◌≡◌, IfOk, IfErr, None};
+ghost use Rattle.std.specs.Prelude.{◌≡◌, IfOk, IfErr, OnErr, None};
 ghost use Rattle.krs_model.specs.History.{event_of};
+ghost use Rattle.krs_store.specs.Told.{reply_of, bytes_of};
 ghost use Rattle.krs_desk.specs.Sitting.{Adds, missed_by};
 ghost use Rattle.krs_desk.specs.Helping.{HasLooked};
 
 use crate::desk::Desk;
+use crate::nobody::{Nobody, reply_in};
 use crate::seat::Seat;
 use crate::waiting::{FIRST_PAUSE, TRIES, pause};
 use crate::word::FREE;
+use krs_store::{Taker, Told};
 use krs_types::{Ask, Reply};
 use std::sync::Wait;
 
@@ -15,14 +18,23 @@ impl Desk {
     // Asks the store where the turn is free, after it has answered each call that is posted, and keeps the turn where
     // more calls follow. The ask comes back where the turn is found taken.
     #[inline(always)]
-    fn call_in_turn(&self, seat: &mut Seat, moment: u64, ask: Ask, more: bool) -> Result<Reply, Ask>
+    fn call_in_turn<T: Taker>(
+        &self,
+        seat: &mut Seat,
+        moment: u64,
+        ask: Ask,
+        more: bool,
+        taker: &mut T,
+    ) -> Result<Told, Ask>
         requires table { seat.old.table ≡ self.now }
         requires idle { seat.old.part.flight ≡ None }
         ensures table { seat.new.table ≡ seat.old.table }
         ensures idle { seat.new.part.flight ≡ None }
-        ensures added { IfOk result (λ reply. Adds seat.old (event_of seat.old.part.lane moment ask reply) seat.new) }
-        ensures looked { IfOk result (λ reply. HasLooked self.now seat.old seat.new) }
+        ensures added { IfOk result (λ told. Adds seat.old (event_of seat.old.part.lane moment ask (reply_of told)) seat.new) }
+        ensures taken { IfOk result (λ told. T.took taker.old (bytes_of told) taker.new) }
+        ensures looked { IfOk result (λ told. HasLooked self.now seat.old seat.new) }
         ensures missed { IfErr result (λ back. (back ≡ ask) × (seat.new ≡ missed_by seat.old)) }
+        ensures untaken { OnErr result (taker.new ≡ taker.old) }
     {
         self.give_back(&mut seat.served, &mut seat.token);
         if self.take(&mut seat.token) != FREE {
@@ -30,11 +42,11 @@ impl Desk {
         }
         let _answered = self.serve_all(&mut seat.token, true);
         if self.may_keep(more, 0) {
-            let reply = self.go_on(&mut seat.token, seat.lane, moment, ask);
+            let told = self.go_on(&mut seat.token, seat.lane, moment, ask, taker);
             seat.served = 1;
-            return Ok(reply);
+            return Ok(told);
         }
-        Ok(self.finish(&mut seat.token, seat.lane, moment, ask))
+        Ok(self.finish(&mut seat.token, seat.lane, moment, ask, taker))
     }
 
     // Posts a call, and helps or waits until it is answered.
@@ -79,19 +91,21 @@ impl Desk {
     // Pauses and tries again to have the turn, and at last posts the call. Apart from `call`, which moves the ask less
     // often so, and clears no room for it.
     #[inline(never)]
-    fn call_again<R: Wait>(
+    fn call_again<R: Wait, T: Taker>(
         &self,
         rt: &R,
         seat: &mut Seat,
         moment: u64,
         ask: Ask,
         more: bool,
-    ) -> Reply
+        taker: &mut T,
+    ) -> Told
         requires table { seat.old.table ≡ self.now }
         requires idle { seat.old.part.flight ≡ None }
         ensures table { seat.new.table ≡ seat.old.table }
         ensures idle { seat.new.part.flight ≡ None }
-        ensures added { Adds seat.old (event_of seat.old.part.lane moment ask result) seat.new }
+        ensures added { Adds seat.old (event_of seat.old.part.lane moment ask (reply_of result)) seat.new }
+        ensures taken { T.took taker.old (bytes_of result) taker.new }
         ensures looked { HasLooked self.now seat.old seat.new }
     {
         let mut ask = ask;
@@ -99,38 +113,65 @@ impl Desk {
         for _ in 0..TRIES {
             spins = pause(spins);
             if self.is_free() {
-                ask = match self.call_in_turn(seat, moment, ask, more) {
-                    Ok(reply) => return reply,
+                ask = match self.call_in_turn(seat, moment, ask, more, taker) {
+                    Ok(told) => return told,
                     Err(back) => back,
                 };
             }
         }
-        self.call_in_line(rt, seat, moment, ask)
+        Told::Reply(self.call_in_line(rt, seat, moment, ask))
     }
 
     // Asks the store in a turn that is taken for it, and keeps that where more calls follow.
     #[inline(always)]
-    fn call_anew<R: Wait>(
+    fn call_anew<R: Wait, T: Taker>(
         &self,
         rt: &R,
         seat: &mut Seat,
         moment: u64,
         ask: Ask,
         more: bool,
-    ) -> Reply
+        taker: &mut T,
+    ) -> Told
         requires table { seat.old.table ≡ self.now }
         requires idle { seat.old.part.flight ≡ None }
         ensures table { seat.new.table ≡ seat.old.table }
         ensures idle { seat.new.part.flight ≡ None }
-        ensures added { Adds seat.old (event_of seat.old.part.lane moment ask result) seat.new }
+        ensures added { Adds seat.old (event_of seat.old.part.lane moment ask (reply_of result)) seat.new }
+        ensures taken { T.took taker.old (bytes_of result) taker.new }
         ensures looked { HasLooked self.now seat.old seat.new }
     {
         if !self.is_free() {
-            return self.call_again(rt, seat, moment, ask, more);
+            return self.call_again(rt, seat, moment, ask, more, taker);
         }
-        match self.call_in_turn(seat, moment, ask, more) {
-            Ok(reply) => reply,
-            Err(back) => self.call_again(rt, seat, moment, back, more),
+        match self.call_in_turn(seat, moment, ask, more, taker) {
+            Ok(told) => told,
+            Err(back) => self.call_again(rt, seat, moment, back, more, taker),
+        }
+    }
+
+    /// As `call_on`, but a taker may have the payload that a READ finds where it lies, and then no reply is made. Where the
+    /// call is posted, its reply is whole.
+    pub fn call_into<R: Wait, T: Taker>(
+        &self,
+        rt: &R,
+        seat: &mut Seat,
+        moment: u64,
+        ask: Ask,
+        more: bool,
+        taker: &mut T,
+    ) -> Told
+        requires table { seat.old.table ≡ self.now }
+        requires idle { seat.old.part.flight ≡ None }
+        ensures table { seat.new.table ≡ seat.old.table }
+        ensures idle { seat.new.part.flight ≡ None }
+        ensures added { Adds seat.old (event_of seat.old.part.lane moment ask (reply_of result)) seat.new }
+        ensures taken { T.took taker.old (bytes_of result) taker.new }
+        ensures looked { HasLooked self.now seat.old seat.new }
+    {
+        match self.call_in_kept_turn(seat, moment, ask, more, taker) {
+            Ok(told) => told,
+            Err(back) => self.call_anew(rt, seat, moment, back, more, taker),
         }
     }
 
@@ -152,10 +193,7 @@ impl Desk {
         ensures added { Adds seat.old (event_of seat.old.part.lane moment ask result) seat.new }
         ensures looked { HasLooked self.now seat.old seat.new }
     {
-        match self.call_in_kept_turn(seat, moment, ask, more) {
-            Ok(reply) => reply,
-            Err(back) => self.call_anew(rt, seat, moment, back, more),
-        }
+        reply_in(self.call_into(rt, seat, moment, ask, more, &mut Nobody))
     }
 
     /// Asks the store in a turn of its own, after each call that is posted. Where the turn is taken again and again it

@@ -4,6 +4,7 @@ ghost use Rattle.atomic_table.specs.Table.{rest};
 ghost use Rattle.krs_types.specs.declared.event.Event.{Event};
 ghost use Rattle.krs_model.specs.State.{State};
 ghost use Rattle.krs_model.specs.History.{event_of};
+ghost use Rattle.krs_store.specs.Told.{reply_of, bytes_of};
 ghost use Rattle.krs_world.specs.Knowing.{events_of, missed, put_own};
 ghost use Rattle.krs_desk.specs.Parts.{sat};
 ghost use Rattle.krs_desk.specs.Steps.{event_in};
@@ -13,11 +14,13 @@ ghost use Rattle.krs_desk.specs.Seated.{IsResting, Holds, Has, Serves, HoldsBefo
 
 use crate::bells::Bells;
 use crate::board::Board;
+use crate::nobody::{Nobody, reply_in};
 use crate::seat::Seat;
 use crate::served_call::{Added, ServedCall};
 use crate::steps::Takes;
 use crate::token::Token;
 use crate::word::{FREE, OUT, TURN};
+use krs_store::{Taker, Told};
 use krs_types::{Ask, Reply};
 use std::marker::{Brand, Model};
 use std::snapshot::Snapshot;
@@ -83,6 +86,27 @@ impl Desk {
         self.table.serve(token, wanted, lane, moment, ask)
     }
 
+    // As `serve`, but a taker may have the payload that a READ finds.
+    #[inline(always)]
+    pub(crate) fn serve_into<T: Taker>(
+        &self,
+        token: &mut Token,
+        lane: u32,
+        moment: u64,
+        ask: Ask,
+        taker: &mut T,
+    ) -> Told
+        requires table { token.old.table_id ≡ self.now }
+        requires has { (store : State) × Has token.old.me store }
+        ensures table { token.new.table_id ≡ token.old.table_id }
+        ensures served { Serves token.old.me (event_of lane moment ask (reply_of result)) token.new.me }
+        ensures taken { T.took taker.old (bytes_of result) taker.new }
+    {
+        let wanted = self.lacking.load(Ordering::SeqCst);
+        self.table
+            .serve_into(token, wanted, lane, moment, ask, taker)
+    }
+
     /// Whether memory is lacking for a user of a seat.
     pub fn is_short(&self) -> bool {
         self.lacking.load(Ordering::SeqCst) > 0
@@ -119,24 +143,32 @@ impl Desk {
     }
 
     // Asks the store for the token's own lane, as the last of its turn, and gives the turn back.
-    pub(crate) fn finish(&self, token: &mut Token, lane: u32, moment: u64, ask: Ask) -> Reply
+    pub(crate) fn finish<T: Taker>(
+        &self,
+        token: &mut Token,
+        lane: u32,
+        moment: u64,
+        ask: Ask,
+        taker: &mut T,
+    ) -> Told
         requires table { token.old.table_id ≡ self.now }
         requires held { HoldsAll token.old.me }
         requires idle { (part token.old.me).flight ≡ None }
         requires lane { lane ≡ (part token.old.me).lane }
         ensures table { token.new.table_id ≡ token.old.table_id }
-        ensures finished { Finishes token.old.me (event_of lane moment ask result) token.new.me }
+        ensures finished { Finishes token.old.me (event_of lane moment ask (reply_of result)) token.new.me }
+        ensures taken { T.took taker.old (bytes_of result) taker.new }
     {
         let asked = Snapshot::of(&ask);
-        let reply = self.serve(token, lane, moment, ask);
+        let told = self.serve_into(token, lane, moment, ask, taker);
         let call = ServedCall {
             lane,
             moment,
             ask: asked,
-            reply: Snapshot::of(&reply),
+            told: Snapshot::of(&told),
         };
         self.put::<Brand>(token, call);
-        reply
+        told
     }
 
     /// Asks the store, where the turn is free, and answers no posted call. The ask comes back where the turn is found
@@ -154,6 +186,7 @@ impl Desk {
         if self.take(&mut seat.token) != FREE {
             return Err(ask);
         }
-        Ok(self.finish(&mut seat.token, seat.lane, moment, ask))
+        let told = self.finish(&mut seat.token, seat.lane, moment, ask, &mut Nobody);
+        Ok(reply_in(told))
     }
 }

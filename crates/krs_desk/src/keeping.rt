@@ -1,7 +1,8 @@
 //! A turn that a seat keeps for the calls that follow at once.
-ghost use Rattle.std.specs.Prelude.{◌≡◌, ◌≢◌, ◌<◌, true, List, [], ◌∷◌, IfOk, IfErr, Some, None};
+ghost use Rattle.std.specs.Prelude.{◌≡◌, ◌≢◌, ◌<◌, true, List, [], ◌∷◌, IfOk, IfErr, OnErr, Some, None};
 ghost use Rattle.krs_types.specs.declared.event.Event.{Event};
 ghost use Rattle.krs_model.specs.History.{event_of};
+ghost use Rattle.krs_store.specs.Told.{reply_of, bytes_of};
 ghost use Rattle.krs_world.specs.Knowing.{events_of, kept};
 ghost use Rattle.krs_desk.specs.Parts.{sat};
 ghost use Rattle.krs_desk.specs.Steps.{event_in};
@@ -16,7 +17,8 @@ use crate::served_call::{Added, ServedCall};
 use crate::steps::Keeps;
 use crate::token::Token;
 use crate::word::TURN;
-use krs_types::{Ask, Reply};
+use krs_store::{Taker, Told};
+use krs_types::Ask;
 use std::marker::Brand;
 use std::snapshot::Snapshot;
 
@@ -40,24 +42,32 @@ impl Desk {
     }
 
     // Asks the store for the token's own lane, and keeps the turn.
-    pub(crate) fn go_on(&self, token: &mut Token, lane: u32, moment: u64, ask: Ask) -> Reply
+    pub(crate) fn go_on<T: Taker>(
+        &self,
+        token: &mut Token,
+        lane: u32,
+        moment: u64,
+        ask: Ask,
+        taker: &mut T,
+    ) -> Told
         requires table { token.old.table_id ≡ self.now }
         requires held { HoldsAll token.old.me }
         requires idle { (part token.old.me).flight ≡ None }
         requires lane { lane ≡ (part token.old.me).lane }
         ensures table { token.new.table_id ≡ token.old.table_id }
-        ensures gone { GoesOn token.old.me (event_of lane moment ask result) token.new.me }
+        ensures gone { GoesOn token.old.me (event_of lane moment ask (reply_of result)) token.new.me }
+        ensures taken { T.took taker.old (bytes_of result) taker.new }
     {
         let asked = Snapshot::of(&ask);
-        let reply = self.serve(token, lane, moment, ask);
+        let told = self.serve_into(token, lane, moment, ask, taker);
         let call = ServedCall {
             lane,
             moment,
             ask: asked,
-            reply: Snapshot::of(&reply),
+            told: Snapshot::of(&told),
         };
         self.keep::<Brand>(token, call);
-        reply
+        told
     }
 
     // Gives the turn back, where the token has kept it for so many calls.
@@ -96,31 +106,34 @@ impl Desk {
 
     // Asks the store in the turn that the seat has kept. The ask comes back where it has none.
     #[inline(always)]
-    pub(crate) fn call_in_kept_turn(
+    pub(crate) fn call_in_kept_turn<T: Taker>(
         &self,
         seat: &mut Seat,
         moment: u64,
         ask: Ask,
         more: bool,
-    ) -> Result<Reply, Ask>
+        taker: &mut T,
+    ) -> Result<Told, Ask>
         requires table { seat.old.table ≡ self.now }
         requires idle { seat.old.part.flight ≡ None }
         ensures table { seat.new.table ≡ seat.old.table }
         ensures idle { seat.new.part.flight ≡ None }
-        ensures added { IfOk result (λ reply. Adds seat.old (event_of seat.old.part.lane moment ask reply) seat.new) }
-        ensures looked { IfOk result (λ reply. HasLooked self.now seat.old seat.new) }
+        ensures added { IfOk result (λ told. Adds seat.old (event_of seat.old.part.lane moment ask (reply_of told)) seat.new) }
+        ensures taken { IfOk result (λ told. T.took taker.old (bytes_of told) taker.new) }
+        ensures looked { IfOk result (λ told. HasLooked self.now seat.old seat.new) }
         ensures none { IfErr result (λ back. (back ≡ ask) × (seat.new ≡ seat.old)) }
+        ensures untaken { OnErr result (taker.new ≡ taker.old) }
     {
         if seat.served == 0 {
             return Err(ask);
         }
         if self.may_keep(more, seat.served) {
-            let reply = self.go_on(&mut seat.token, seat.lane, moment, ask);
+            let told = self.go_on(&mut seat.token, seat.lane, moment, ask, taker);
             seat.served += 1;
-            return Ok(reply);
+            return Ok(told);
         }
-        let reply = self.finish(&mut seat.token, seat.lane, moment, ask);
+        let told = self.finish(&mut seat.token, seat.lane, moment, ask, taker);
         seat.served = 0;
-        Ok(reply)
+        Ok(told)
     }
 }

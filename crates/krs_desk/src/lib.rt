@@ -16,6 +16,7 @@ mod integrity;
 mod keeping;
 mod laws;
 mod meeting;
+mod nobody;
 mod opening;
 mod posting;
 mod seat;

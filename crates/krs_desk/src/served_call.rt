@@ -1,5 +1,6 @@
 //! A call as clauses see it, and which events a step on the turn adds.
-use krs_types::{Ask, Reply};
+use krs_store::Told;
+use krs_types::Ask;
 use std::marker::Brand;
 use std::snapshot::Snapshot;
 
@@ -9,7 +10,7 @@ pub(crate) struct ServedCall {
     pub lane: u32,
     pub moment: u64,
     pub ask: Snapshot<Ask>,
-    pub reply: Snapshot<Reply>,
+    pub told: Snapshot<Told>,
 }
 
 /// Which events a step adds to the history. Each call of a program picks them.

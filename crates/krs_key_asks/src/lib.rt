@@ -4,7 +4,9 @@
 mod adding;
 mod changing;
 mod reading;
+mod taking;
 
 pub use adding::add;
 pub use changing::{chown, revoke, set_perm, set_timeout, update};
-pub use reading::{describe, read};
+pub use reading::{describe, read, read_into};
+pub use taking::{Given, Taker};

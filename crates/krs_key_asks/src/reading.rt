@@ -4,12 +4,15 @@ ghost use Rattle.krs_types.specs.Kind.{kind_name};
 ghost use Rattle.krs_model.specs.Outcome.{Leads};
 ghost use Rattle.krs_model.specs.Asks.Reading.{read, describe, description, hex_8, hex_digit};
 ghost use Rattle.krs_keys.specs.Keys.{seen};
+ghost use Rattle.krs_key_asks.specs.Taking.{answered, taken_of};
 
+use crate::{Given, Taker};
 use krs_keys::{Content, Key};
 use krs_tables::Tables;
 use krs_types::{Answer, Body, Errno, Fault, Kind, Rights, Want};
 use std::alloc::{AllocError, Global};
 use std::fmt::Write;
+use std::snapshot::Snapshot;
 
 /// The longest of what stands before a description: a type of 7 letters, two ids of 10 digits, a mask of 8, each with
 /// its semicolon.
@@ -26,6 +29,35 @@ pub fn read(tables: &Tables, client: u32, context: u32, id: i32) -> Result<Answe
         (Kind::User, Content::Payload(bytes)) => Ok(Answer::Bytes(bytes.copy(tables.alloc)?)),
         (Kind::Keyring, Content::Links(links)) => {
             Ok(Answer::Bytes(Body::new(links.serial_bytes(tables.alloc)?)))
+        }
+        _ => Err(Fault::Refused(Errno::EOPNOTSUPP)),
+    }
+}
+
+/// As `read`, but a taker may have the payload of a key where it lies.
+#[tactic(auto, unfolding(krs_model::specs::Asks::Reading::read))]
+pub fn read_into<T: Taker>(
+    tables: &Tables,
+    client: u32,
+    context: u32,
+    id: i32,
+    taker: &mut T,
+) -> Result<Given, Fault>
+    ensures told { Leads tables.now (answered result) tables.now (read tables.now client context id) }
+    ensures taken { T.took taker.old (taken_of result) taker.new }
+{
+    let context = tables.context_of(client, context)?;
+    let (_, key) = tables.look_up(context, id, Want::ToRead)?;
+    match (key.name.kind(), &key.content) {
+        (Kind::User, Content::Payload(bytes)) => {
+            if taker.take(bytes.as_slice()) {
+                return Ok(Given::Taken(Snapshot::of(bytes)));
+            }
+            Ok(Given::Answer(Answer::Bytes(bytes.copy(tables.alloc)?)))
+        }
+        (Kind::Keyring, Content::Links(links)) => {
+            let bytes = links.serial_bytes(tables.alloc)?;
+            Ok(Given::Answer(Answer::Bytes(Body::new(bytes))))
         }
         _ => Err(Fault::Refused(Errno::EOPNOTSUPP)),
     }

@@ -1,5 +1,5 @@
 -- Why commands break off over a connection.
-use Rattle.std.proofs.Common.{ℕ, ℤ, ◌≡◌, ◌⊎◌, inl, inr, List, Option, Result, Ok, Err, IfOk, IfErr, refl}
+use Rattle.std.proofs.Common.{ℕ, ℤ, inl, inr, List, Option, Result, Ok, Err, IfOk, IfErr, refl}
 use Rattle.krs_types.specs.declared.errno.Errno.{Errno}
 use Rattle.krs_types.specs.declared.ask.Answer.{Answer}
 use Rattle.krs_types.specs.declared.ask.Answer.TheVariants.{Nothing, Number, Bytes}

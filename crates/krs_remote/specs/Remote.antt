@@ -1,7 +1,6 @@
 -- What commands do over a connection: keyretain(1), "DESCRIPTION", "Commands" and "Single calls".
 use Rattle.std.specs.Prelude.{ℕ, ℤ, ◌≡◌, ◌+◌, ◌⊎◌, ◌||◌, Bool, false, List, Option, Result, Ok, Err}
 use Rattle.std.specs.Result.{is_err}
-use Rattle.std.specs.Io.Buffered.{reader_remaining}
 use Rattle.krs_types.specs.declared.errno.Errno.{Errno}
 use Rattle.krs_types.specs.declared.caller.Caller.{Caller}
 use Rattle.krs_types.specs.declared.ask.Ask.{Ask as AskIs}
@@ -36,8 +35,12 @@ talk_of remaining remote sent = record {
   refused = remote.refused;
   asked = remote.asked;
   sent = sent;
-  left = reader_remaining remaining remote.from;
+  left = remaining remote.from;
 }
+
+-- a client before its first ask
+abbrev pub unasked : {F : Type 0} → F → Remote F
+unasked from = record { from = from; context = 0; refused = false; asked = 0 }
 
 -- the tag of the next ask: 1, 2, 3 and so on over a connection
 abbrev pub next_tag : Talk → ℕ

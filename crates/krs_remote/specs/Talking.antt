@@ -1,6 +1,6 @@
 -- What goes over a connection: docs/FORMAT.md, "Frames"; keyretain(1), "DESCRIPTION". Frames are of version 2: each
 -- ask has a tag, and only a reply with that tag is one to it.
-use Rattle.std.specs.Prelude.{ℕ, ◌≡◌, ◌<◌, List, length, Option, Some, Result}
+use Rattle.std.specs.Prelude.{ℕ, ◌≡◌, ◌<◌, ◌++◌, List, length, Option, Some, Result}
 use Rattle.std.specs.Io.KnownBytes.{Appends, Consumes}
 use Rattle.krs_types.specs.declared.errno.Errno.{Errno}
 use Rattle.krs_types.specs.declared.ask.Answer.{Answer}
@@ -26,6 +26,12 @@ IsReply shape tag bytes reply = (bytes ≡ reply_frame (Some tag) reply) × HasS
 -- of what could be read just the frame of this reply was, and it has this tag
 abbrev pub GivesReply : Option (List ℕ) → Option (List ℕ) → Shape → (tag : ℕ) → Result Answer Errno → Type 0
 GivesReply left0 left1 shape tag reply = Consumes left0 left1 (reply_frame (Some tag) reply) × HasShape shape reply
+
+-- the same, where these bytes of it were read before
+abbrev pub FollowsHead : (head : List ℕ) → Option (List ℕ) → Option (List ℕ) → Shape → (tag : ℕ) → Result Answer Errno
+    → Type 0
+FollowsHead head left0 left1 shape tag reply =
+    (body : List ℕ) × Consumes left0 left1 body × IsReply shape tag (head ++ body) reply
 
 -- just the frame of the ask with this tag was sent, and just the frame of this reply to it was read
 abbrev pub Exchanges : Option (List ℕ) → Option (List ℕ) → (tag : ℕ) → Ask → Option (List ℕ) → Option (List ℕ)

@@ -1,36 +1,35 @@
 //! One ask over a connection, and its reply, in frames of version 2.
 
-ghost use Rattle.std.specs.Prelude.{◌≡◌, ◌⊎◌, ◌<◌, ◌++◌, true, false, length, vec_len, Some, Result, Err, OnOk, IfOk, IfErr};
-ghost use Rattle.std.specs.Prelude.{IsOk};
+ghost use Rattle.std.specs.Prelude.{◌≡◌, ◌⊎◌, ◌<◌, ◌≤◌, ◌+◌, ◌++◌, true, false, take, drop, length, vec_len, Some, Result, Err};
+ghost use Rattle.std.specs.Prelude.{OnOk, IfOk, IfErr, IsOk, All};
 ghost use Rattle.std.specs.Int.{w32, from_le_bytes};
-ghost use Rattle.std.specs.Io.Buffered.{reader_remaining};
 ghost use Rattle.std.specs.Io.KnownBytes.{Appends, Consumes};
 ghost use Rattle.krs_types.specs.declared.ask.Answer.{Answer};
 ghost use Rattle.krs_types.specs.declared.errno.Errno.{Errno};
 ghost use Rattle.krs_wire.specs.Encoding.{ask_frame, ask_text};
 ghost use Rattle.krs_wire.specs.Reply.{is_bad_reply_length, reply_frame, reply_front, shape_of, HasShape, IsFound};
-ghost use Rattle.krs_remote.specs.Talking.{Exchanges, GivesReply, GivesUp, IsReply, NotSent, cause_of};
+ghost use Rattle.krs_remote.specs.Talking.{Exchanges, FollowsHead, GivesReply, GivesUp, IsReply, NotSent, cause_of};
 
 use krs_types::{Ask, Blob, Op, Reply};
 use krs_wire::{WireFault, decode_reply2, encode_ask2};
 use krs_words::{Stop, write_text};
 use std::alloc::Global;
-use std::io::{BufReader, Read, Write};
+use std::io::{Read, Write};
 
 /// Sends an ask with this tag, and waits for its reply.
 pub fn ask_and_reply<F: Read, T: Write>(
     alloc: Global,
-    from: &mut BufReader<F>,
+    from: &mut F,
     to: &mut T,
     ask: &Ask,
     tag: u64,
 ) -> Result<Reply, Stop>
     ensures ok { IfOk result (Exchanges (T.contents to.old)
-        (reader_remaining F.remaining from.old) tag ask.now (T.contents to.new)
-        (reader_remaining F.remaining from.new)) }
+        (F.remaining from.old) tag ask.now (T.contents to.new)
+        (F.remaining from.new)) }
     ensures err { IfErr result (GivesUp (T.contents to.old)
-        (reader_remaining F.remaining from.old) tag ask.now (T.contents to.new)
-        (reader_remaining F.remaining from.new)) }
+        (F.remaining from.old) tag ask.now (T.contents to.new)
+        (F.remaining from.new)) }
 {
     send(alloc, to, ask, tag)?;
     receive(alloc, from, &ask.op, tag)
@@ -63,30 +62,76 @@ fn frame_of(alloc: Global, ask: &Ask, tag: u64) -> Result<Vec<u8>, Stop>
 }
 
 /// Reads the reply to an ask of this operation with this tag, and nothing behind it. A reply with another tag ends the
-/// connection.
-pub fn receive<F: Read>(
-    alloc: Global,
-    from: &mut BufReader<F>,
-    op: &Op,
-    tag: u64,
-) -> Result<Reply, Stop>
-    ensures ok { IfOk result (GivesReply (reader_remaining F.remaining from.old)
-        (reader_remaining F.remaining from.new) (shape_of op.now) tag) }
+/// connection. What was read is all zeros when its memory is given back.
+pub fn receive<F: Read>(alloc: Global, from: &mut F, op: &Op, tag: u64) -> Result<Reply, Stop>
+    ensures ok { IfOk result (GivesReply (F.remaining from.old) (F.remaining from.new) (shape_of op.now) tag) }
     ensures causes { IfErr result (λ stop. (stop ≡ Stop.Memory) ⊎ (stop ≡ Stop.Connection)) }
 {
     let mut head = [0; 4];
     fill(from, &mut head)?;
-    let mut body = announced(alloc, op, &head)?;
-    fill(from, body.as_mut_slice())?;
-    let mut frame = Vec::from_slice(alloc, &head)?;
-    frame.extend_from_slice(body.as_slice())?;
-    whole_reply(alloc, op, tag, frame.as_slice())
+    let mut frame = announced(alloc, op, &head)?;
+    let reply = taken(alloc, from, op, tag, &mut frame);
+    give_back(frame);
+    reply
+}
+
+/// Gives memory back that is all zeros.
+fn give_back(frame: Vec<u8>)
+    requires { All (λ b. b ≡ 0) frame.items }
+{
+    drop(frame);
+}
+
+/// The reply whose frame begins with these four bytes. It is read to where there is room for it, and then wiped.
+fn taken<F: Read>(
+    alloc: Global,
+    from: &mut F,
+    op: &Op,
+    tag: u64,
+    frame: &mut [u8],
+) -> Result<Reply, Stop>
+    requires { 4 ≤ length frame.old }
+    ensures ok { IfOk result (FollowsHead (take 4 frame.old) (F.remaining from.old) (F.remaining from.new)
+        (shape_of op.now) tag) }
+    ensures causes { IfErr result (λ stop. (stop ≡ Stop.Memory) ⊎ (stop ≡ Stop.Connection)) }
+    ensures wiped { All (λ b. b ≡ 0) frame.new }
+{
+    let reply = read_behind(alloc, from, op, tag, frame);
+    frame.fill(0);
+    reply
+}
+
+/// The same, which stays where it was read to.
+fn read_behind<F: Read>(
+    alloc: Global,
+    from: &mut F,
+    op: &Op,
+    tag: u64,
+    frame: &mut [u8],
+) -> Result<Reply, Stop>
+    requires { 4 ≤ length frame.old }
+    ensures ok { IfOk result (FollowsHead (take 4 frame.old) (F.remaining from.old) (F.remaining from.new)
+        (shape_of op.now) tag) }
+    ensures causes { IfErr result (λ stop. (stop ≡ Stop.Memory) ⊎ (stop ≡ Stop.Connection)) }
+{
+    fill_behind(from, frame)?;
+    whole_reply(alloc, op, tag, frame)
+}
+
+/// Reads what follows the first four bytes.
+fn fill_behind<F: Read>(from: &mut F, frame: &mut [u8]) -> Result<(), Stop>
+    requires { 4 ≤ length frame.old }
+    ensures ok { OnOk result (Consumes (F.remaining from.old) (F.remaining from.new) (drop 4 frame.new)) }
+    ensures head { OnOk result (take 4 frame.new ≡ take 4 frame.old) }
+    ensures causes { IfErr result (λ stop. stop ≡ Stop.Connection) }
+{
+    fill(from, &mut frame[4..])
 }
 
 /// Reads as many bytes as there is room for.
-fn fill<F: Read>(from: &mut BufReader<F>, room: &mut [u8]) -> Result<(), Stop>
-    ensures ok { OnOk result (Consumes (reader_remaining F.remaining from.old)
-        (reader_remaining F.remaining from.new) room.new) }
+fn fill<F: Read>(from: &mut F, room: &mut [u8]) -> Result<(), Stop>
+    ensures ok { OnOk result (Consumes (F.remaining from.old)
+        (F.remaining from.new) room.new) }
     ensures causes { IfErr result (λ stop. stop ≡ Stop.Connection) }
 {
     match from.read_exact(room) {
@@ -95,9 +140,10 @@ fn fill<F: Read>(from: &mut BufReader<F>, room: &mut [u8]) -> Result<(), Stop>
     }
 }
 
-/// Room for what follows the length of a reply. A length that no reply has ends the connection.
+/// Room for the frame of a reply, which begins with its length. A length that no reply has ends the connection.
 fn announced(alloc: Global, op: &Op, head: &[u8; 4]) -> Result<Vec<u8>, Stop>
-    ensures room { IfOk result (λ room. vec_len room ≡ from_le_bytes w32 head.now) }
+    ensures room { IfOk result (λ room. vec_len room ≡ 4 + from_le_bytes w32 head.now) }
+    ensures head { IfOk result (λ room. take 4 room.items ≡ head.now) }
     ensures causes { IfErr result (λ stop. (stop ≡ Stop.Memory) ⊎ (stop ≡ Stop.Connection)) }
     ensures bad { result ≡ Err Stop.Connection
         → is_bad_reply_length true (from_le_bytes w32 head.now) ≡ true }
@@ -106,8 +152,8 @@ fn announced(alloc: Global, op: &Op, head: &[u8; 4]) -> Result<Vec<u8>, Stop>
     if let Err(fault) = decode_reply2(alloc, op, head) {
         return Err(stop_of(fault));
     }
-    let mut room = Vec::new(alloc);
-    room.resize(u32::from_le_bytes(*head) as usize, 0)?;
+    let mut room = Vec::from_slice(alloc, head)?;
+    room.resize(u32::from_le_bytes(*head) as usize + 4, 0)?;
     Ok(room)
 }
 

@@ -2,7 +2,7 @@ ghost use Rattle.std.specs.Prelude.{◌≡◌, map};
 ghost use Rattle.krs_words.specs.Parsed.{Reads};
 ghost use Rattle.krs_remote.specs.Call.{EndsCall, call_of, is_single};
 
-use crate::remote::Remote;
+use crate::remote::{Remote, start};
 use krs_commands::{Command, parse};
 use krs_script::finish;
 use krs_types::{Caller, Op};
@@ -44,13 +44,8 @@ pub fn run_call<W: Write, F: Read + Drop, T: Write>(
     ensures { EndsCall caller command (W.contents writer.old) (W.contents writer.new)
         (T.contents to.old) (T.contents to.new) (F.remaining from) result }
 {
-    match Remote::start(alloc, from) {
-        Ok(mut remote) => remote.call_once(alloc, to, caller, command, writer),
-        Err(stop) => {
-            command.let_go();
-            finish(writer, &mut Vec::new(alloc), Err(stop), false)
-        }
-    }
+    let mut remote = start(from);
+    remote.call_once(alloc, to, caller, command, writer)
 }
 
 impl<F: Read> Remote<F> {

@@ -1,20 +1,20 @@
-ghost use Rattle.std.specs.Prelude.{◌≡◌, false, IfOk, IfErr};
-ghost use Rattle.std.specs.Io.Buffered.{reader_remaining};
+ghost use Rattle.std.specs.Prelude.{◌≡◌};
 ghost use Rattle.krs_remote.specs.Asked.{is_hello};
+ghost use Rattle.krs_remote.specs.Remote.{unasked};
 
 use crate::asking::ask_and_reply;
 use krs_commands::Command;
-use krs_script::{READ_AHEAD, listing, records};
+use krs_script::{listing, records};
 use krs_types::{Answer, Ask, Caller, Op, Reply};
 use krs_words::{Output, Stop};
 use std::alloc::Global;
-use std::io::{BufReader, Read, Write};
+use std::io::{Read, Write};
 
 /// A client over a connection, between two commands. The end that it writes to is passed with each command. How many
 /// asks were made is the tag of the last one.
 #[derive(Drop)]
 pub(crate) struct Remote<F> {
-    pub from: BufReader<F>,
+    pub from: F,
     pub context: u32,
     pub refused: bool,
     pub asked: u64,
@@ -26,29 +26,20 @@ fn is_hello(op: &Op) -> bool
     matches!(op, Op::Hello(_))
 }
 
-impl<F: Read + Drop> Remote<F> {
-    /// A client before its first ask.
-    pub(crate) fn start(alloc: Global, from: F) -> Result<Remote<F>, Stop>
-        ensures left { IfOk result (λ r. reader_remaining F.remaining r.from ≡ F.remaining from) }
-        ensures context { IfOk result (λ r. r.context ≡ 0) }
-        ensures refused { IfOk result (λ r. r.refused ≡ false) }
-        ensures asked { IfOk result (λ r. r.asked ≡ 0) }
-        ensures memory { IfErr result (λ stop. stop ≡ Stop.Memory) }
-    {
-        match BufReader::with_capacity(alloc, READ_AHEAD, from) {
-            Ok(from) => Ok(Remote {
-                from,
-                context: 0,
-                refused: false,
-                asked: 0,
-            }),
-            Err(_) => Err(Stop::Memory),
-        }
+/// A client before its first ask.
+pub(crate) fn start<F>(from: F) -> Remote<F>
+    ensures { result ≡ unasked from }
+{
+    Remote {
+        from,
+        context: 0,
+        refused: false,
+        asked: 0,
     }
 }
 
 impl<F: Read> Remote<F> {
-    ghost use Rattle.std.specs.Prelude.{◌||◌, ◌+◌, ◌<◌, ◌≤◌, ◌^◌};
+    ghost use Rattle.std.specs.Prelude.{◌||◌, ◌+◌, ◌<◌, ◌≤◌, ◌^◌, IfOk, IfErr};
     ghost use Rattle.std.specs.Result.{is_err};
     ghost use Rattle.krs_remote.specs.Remote.{Acts, AsksOver, AsksUnseen, Breaks, BreaksList, CallsFor, BreaksCall};
     ghost use Rattle.krs_remote.specs.Remote.{GivesUpAsk, Lists, ListsBy, StopsList, talk_of};

@@ -1,9 +1,9 @@
 ghost use Rattle.std.specs.Prelude.{◌≡◌, Ok};
 ghost use Rattle.krs_remote.specs.Remote.{EndsRemote};
 
-use crate::remote::Remote;
+use crate::remote::{Remote, start};
 use krs_commands::Command;
-use krs_script::{Carries, Place, finish, run_by};
+use krs_script::{Carries, Place, run_by};
 use krs_words::{Output, Stop};
 use std::alloc::Global;
 use std::io::{Read, Write};
@@ -39,22 +39,15 @@ pub fn run_remote_at<R: Read + Drop, W: Write, F: Read + Drop, T: Write>(
     ensures whole { result.0 ≡ 0 → result.1 ≡ Ok tt }
     ensures usage { result.0 ≡ 2 → result.1 ≡ Err Stop.Usage }
 {
-    match Remote::start(alloc, from) {
-        Ok(mut remote) => {
-            let mut client = Client {
-                remote: &mut remote,
-                to,
-            };
-            let ended = run_by(alloc, &mut client, reader, writer, place);
-            // Its parts are let go here, so that what they hold is known to be whose it was.
-            let Client { remote: _, to: _ } = client;
-            ended
-        }
-        Err(stop) => {
-            let status = finish(writer, &mut Vec::new(alloc), Err(stop), false);
-            (status, Err(stop))
-        }
-    }
+    let mut remote = start(from);
+    let mut client = Client {
+        remote: &mut remote,
+        to,
+    };
+    let ended = run_by(alloc, &mut client, reader, writer, place);
+    // Its parts are let go here, so that what they hold is known to be whose it was.
+    let Client { remote: _, to: _ } = client;
+    ended
 }
 
 /// A client with the end that it writes to.

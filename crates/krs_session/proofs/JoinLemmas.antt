@@ -1,10 +1,18 @@
 -- How what was read, asked and written joins.
 use Rattle.std.proofs.Common.{◌≡◌, ℕ, List, [], ◌∷◌, ◌++◌, take, drop, sym, ap, subst, ◌∙◌, append_assoc, refl}
 use Rattle.std.proofs.lemmas.List.{append-nil, map-append, take-append-drop}
-use Rattle.std.specs.Prelude.{Option, Some, None}
+use Rattle.std.specs.Prelude.{Option, Some, None, Ok}
 use Rattle.krs_wire.specs.declared.framed.Framed.{Framed}
 use Rattle.krs_types.specs.declared.event.Event.{Event}
 use Rattle.krs_types.specs.declared.ask.Ask.{Ask}
+use Rattle.krs_types.specs.declared.ask.Answer.TheVariants.{Bytes}
+use Rattle.krs_model.specs.History.{event_of}
+use Rattle.krs_store.specs.declared.told.Told.{Told}
+use Rattle.krs_store.specs.declared.told.Told.TheVariants as tolds
+use Rattle.krs_store.specs.Told.{reply_of, bytes_of}
+use Rattle.krs_wire.specs.Reply.{reply_frame}
+use Rattle.krs_session.specs.declared.replies.Replies.{Replies}
+use Rattle.krs_session.specs.Replies.{HoldsFrame, TellsNext}
 use Rattle.krs_session.specs.declared.ended.Ended.{Ended}
 use Rattle.krs_session.specs.declared.ended.Ended.TheVariants.{Closed, Wire, Read, Write, Memory, Turns}
 use Rattle.krs_model.specs.Lists.{Begins}
@@ -122,6 +130,13 @@ module _ {W : Type 0} (took : W → List ℕ → W → Type 0) (joins : Joins to
       subst (λ (r : Option Ended). Pending took w0 w2 held2 (xs ++ ys) r) (sym b.2)
       (subst (λ (w : W). Wrote took w0 w (xs ++ ys) (Some stop)) (sym b.0) (wrote_stopped w0 w1 xs ys stop a))
 
+  -- one more text is held at once, where nothing stopped the writing before
+  pub pending_taken : (w0 w1 : W) (held1 held2 xs ys : List ℕ) (stop : Option Ended) → held2 ≡ held1 ++ ys
+      → Pending took w0 w1 held1 xs stop → Pending took w0 w1 held2 (xs ++ ys) stop
+  pending_taken w0 w1 held1 held2 xs ys None is a =
+      (a.0, ap (λ (x : List ℕ). a.0 ++ x) is ∙ held_text a.0 held1 xs ys a.1, a.2)
+  pending_taken w0 w1 held1 held2 xs ys (Some stop) is a = wrote_stopped w0 w1 xs ys stop a
+
   -- what was held is written
   pub pending_wrote : (w0 w1 w2 : W) (held text : List ℕ) (result : Option Ended) → Pending took w0 w1 held text None
       → Wrote took w1 w2 held result → Wrote took w0 w2 text result
@@ -134,6 +149,10 @@ stops_next old mid new None result a b = subst (λ (n : ℕ). StopsBy n new resu
 stops_next old mid new (Some stop) result a b =
     subst (λ (r : Option Ended). StopsBy old new r) (sym b.1)
     (subst (λ (n : ℕ). StopsBy old n (Some stop)) (sym b.0) a)
+
+pub stops_same : (count : ℕ) (stop : Option Ended) → StopsNext count count stop stop
+stops_same count None = refl
+stops_same count (Some stop) = (refl, refl)
 
 -- the text of one reply to each of these frames, and then of more
 pub text_joins : (fs gs : List Framed) (xs ys : List Event) → asks_of xs ≡ asks_in fs
@@ -153,13 +172,14 @@ module _ {S C W : Type 0} (leads : S → List Event → S → Type 0) (ticked : 
     (took : W → List ℕ → W → Type 0)
     (led : (a b c : S) (p q : List Event) → leads a p b → leads b q c → leads a (p ++ q) c) (ticks : Joins ticked)
     (joins : Joins took) where
-  pub holds_more : (lane : ℕ) (s0 s1 s2 : S) (c0 c1 c2 : C) (w0 w1 w2 : W) (held1 held2 : List ℕ)
+  holds_by : (lane : ℕ) (s0 s1 s2 : S) (c0 c1 c2 : C) (w0 w1 w2 : W) (held1 held2 : List ℕ)
       (frames : List Framed) (framed : Framed) (event : Event) (stop result : Option Ended)
       → Holds leads ticked took lane s0 s1 c0 c1 w0 w1 held1 frames stop → event.ask ≡ framed.ask
       → Asked leads ticked lane s1 s2 c1 c2 (event ∷ [])
-      → PendingNext took w1 w2 held1 held2 (reply_text framed event.reply) stop result
+      → ((xs : List ℕ) → Pending took w0 w1 held1 xs stop
+      → Pending took w0 w2 held2 (xs ++ reply_text framed event.reply) result)
       → Holds leads ticked took lane s0 s2 c0 c2 w0 w2 held2 (frames ++ framed ∷ []) result
-  holds_more lane s0 s1 s2 c0 c1 c2 w0 w1 w2 held1 held2 frames framed event stop result a same one next =
+  holds_by lane s0 s1 s2 c0 c1 c2 w0 w1 w2 held1 held2 frames framed event stop result a same one next =
       let before : List ℕ = session_text frames (replies_of a.events) in
       let text : session_text (frames ++ framed ∷ []) (replies_of (a.events ++ event ∷ []))
       ≡ before ++ reply_text framed event.reply =
@@ -172,9 +192,51 @@ module _ {S C W : Type 0} (leads : S → List Event → S → Type 0) (ticked : 
             ∙ sym (map-append (λ (x : Framed). x.ask) frames (framed ∷ []));
         asked = asked_joins leads ticked lane s0 s1 s2 c0 c1 c2 a.events (event ∷ []) led ticks a.asked one;
         pending = subst (λ (x : List ℕ). Pending took w0 w2 held2 x result) (sym text)
-            (pending_next took joins w0 w1 w2 held1 held2 before (reply_text framed event.reply) stop result
-            a.pending next);
+            (next before a.pending);
       }
+
+  pub holds_more : (lane : ℕ) (s0 s1 s2 : S) (c0 c1 c2 : C) (w0 w1 w2 : W) (held1 held2 : List ℕ)
+      (frames : List Framed) (framed : Framed) (event : Event) (stop result : Option Ended)
+      → Holds leads ticked took lane s0 s1 c0 c1 w0 w1 held1 frames stop → event.ask ≡ framed.ask
+      → Asked leads ticked lane s1 s2 c1 c2 (event ∷ [])
+      → PendingNext took w1 w2 held1 held2 (reply_text framed event.reply) stop result
+      → Holds leads ticked took lane s0 s2 c0 c2 w0 w2 held2 (frames ++ framed ∷ []) result
+  holds_more lane s0 s1 s2 c0 c1 c2 w0 w1 w2 held1 held2 frames framed event stop result a same one next =
+      holds_by lane s0 s1 s2 c0 c1 c2 w0 w1 w2 held1 held2 frames framed event stop result a same one
+      (λ xs pending. pending_next took joins w0 w1 w2 held1 held2 xs (reply_text framed event.reply) stop result
+      pending next)
+
+  -- the reply is held at once
+  pub holds_taken : (lane : ℕ) (s0 s1 s2 : S) (c0 c1 c2 : C) (w0 w1 : W) (held1 held2 : List ℕ)
+      (frames : List Framed) (framed : Framed) (event : Event) (stop : Option Ended)
+      → Holds leads ticked took lane s0 s1 c0 c1 w0 w1 held1 frames stop → event.ask ≡ framed.ask
+      → Asked leads ticked lane s1 s2 c1 c2 (event ∷ [])
+      → held2 ≡ held1 ++ reply_text framed event.reply
+      → Holds leads ticked took lane s0 s2 c0 c2 w0 w1 held2 (frames ++ framed ∷ []) stop
+  holds_taken lane s0 s1 s2 c0 c1 c2 w0 w1 held1 held2 frames framed event stop a same one is =
+      holds_by lane s0 s1 s2 c0 c1 c2 w0 w1 w1 held1 held2 frames framed event stop stop a same one
+      (λ xs pending. pending_taken took joins w0 w1 held1 held2 xs (reply_text framed event.reply) stop is pending)
+
+  pub holds_told : (lane at moment : ℕ) (s0 s1 s2 : S) (c0 c1 c2 : C) (w0 w1 w2 : W) (out0 out1 out2 : Replies)
+      (frames : List Framed) (framed : Framed) (told : Told) (stop result : Option Ended)
+      → Holds leads ticked took lane s0 s1 c0 c1 w0 w1 out0.bytes.items frames stop
+      → Asked leads ticked lane s1 s2 c1 c2 (event_of at moment framed.ask (reply_of told) ∷ [])
+      → HoldsFrame out0 (bytes_of told) out1 → out0.tag ≡ framed.tag
+      → TellsNext took w1 w2 out1 out2 framed.tag told stop result
+      → Holds leads ticked took lane s0 s2 c0 c2 w0 w2 out2.bytes.items (frames ++ framed ∷ []) result
+  holds_told lane at moment s0 s1 s2 c0 c1 c2 w0 w1 w2 out0 out1 out2 frames framed (tolds.Reply reply) stop result a one held
+      tag next =
+      holds_more lane s0 s1 s2 c0 c1 c2 w0 w1 w2 out0.bytes.items out2.bytes.items frames framed
+      (event_of at moment framed.ask reply) stop result a refl one
+      (subst (λ (h : List ℕ). PendingNext took w1 w2 h out2.bytes.items (reply_frame framed.tag reply) stop result)
+      held next)
+  holds_told lane at moment s0 s1 s2 c0 c1 c2 w0 w1 w2 out0 out1 out2 frames framed (tolds.Taken bytes) stop result a one held
+      tag next =
+      subst (λ (z : W × Option Ended). Holds leads ticked took lane s0 s2 c0 c2 w0 z.0 out2.bytes.items
+      (frames ++ framed ∷ []) z.1) (λ i. (sym next.0 i, sym next.2 i))
+      (holds_taken lane s0 s1 s2 c0 c1 c2 w0 w1 out0.bytes.items out2.bytes.items frames framed
+      (event_of at moment framed.ask (Ok (Bytes bytes.value))) stop a refl one
+      (next.1 ∙ (held ∙ ap (λ (t : Option ℕ). out0.bytes.items ++ reply_frame t (Ok (Bytes bytes.value))) tag)))
 
   pub holds_none : (lane : ℕ) (s0 : S) (c0 : C) (w0 : W) (held : List ℕ) → leads s0 [] s0 → ticked c0 [] c0
       → took w0 [] w0 → held ≡ [] → Holds leads ticked took lane s0 s0 c0 c0 w0 w0 held [] None

@@ -4,3 +4,4 @@ pub mod Leads
 pub mod Alike
 pub mod Serving
 pub mod Over
+pub mod Replies

@@ -2,11 +2,14 @@
 ghost use Rattle.std.specs.Prelude.{◌≡◌, ◌<◌, [], ◌∷◌, Some, None};
 ghost use Rattle.krs_types.specs.declared.event.Event.{Event};
 ghost use Rattle.krs_model.specs.History.{event_of};
+ghost use Rattle.krs_store.specs.Told.{reply_of, bytes_of};
 ghost use Rattle.krs_wire.specs.Reply.{reply_frame};
+ghost use Rattle.krs_session.specs.Replies.{HoldsFrame, TellsNext};
 ghost use Rattle.krs_session.specs.Serving.{Asked, Answers, Holds, PendingNext, StopsBy, StopsNext};
 
 use crate::writing::{can_hold, flush, forget, send_reply};
-use crate::{Clock, Ended, Gate, Keeper, Point, Sink};
+use crate::{Clock, Ended, Gate, Keeper, Point, Replies, Sink};
+use krs_store::Told;
 use krs_types::{Ask, Op, Reply};
 use krs_wire::Framed;
 use std::alloc::Global;
@@ -23,24 +26,28 @@ pub(crate) struct Setting<'a, H, D, G> {
     pub turns: u64,
 }
 
-/// One ask at a moment, and its reply. Where more follow, others may have to wait for them.
-pub(crate) fn ask_at<H, S, D: Keeper<S, H>, G: Gate>(
+/// One ask at a moment, and its reply, which may be held then. Where more follow, others may have to wait for them.
+fn ask_at<H, S, D: Keeper<S, H>, G: Gate>(
     setting: &Setting<'_, H, D, G>,
     seat: &mut S,
     moment: u64,
     ask: Ask,
     more: bool,
-) -> Reply
+    out: &mut Replies,
+) -> Told
     requires { D.ready setting.now.desk.now seat.old }
-    ensures led { D.leads seat.old (event_of (D.lane_of seat.old) moment ask result ∷ []) seat.new }
+    ensures led { D.leads seat.old (event_of (D.lane_of seat.old) moment ask (reply_of result) ∷ []) seat.new }
+    ensures taken { HoldsFrame out.old (bytes_of result) out.new }
     ensures ready { D.ready setting.now.desk.now seat.new }
     ensures lane { D.lane_of seat.new ≡ D.lane_of seat.old }
 {
     let lane = setting.desk.lane(seat);
     setting.gate.pass(lane, Point::Asked);
-    let reply = setting.desk.call_on(setting.rt, seat, moment, ask, more);
+    let told = setting
+        .desk
+        .call_into(setting.rt, seat, moment, ask, more, out);
     setting.gate.pass(lane, Point::Answered);
-    reply
+    told
 }
 
 /// One ask at the clock's moment, and its reply.
@@ -57,7 +64,11 @@ pub(crate) fn ask_one<H, S, D: Keeper<S, H>, C: Clock, G: Gate>(
     ensures lane { D.lane_of seat.new ≡ D.lane_of seat.old }
 {
     let moment = clock.now();
-    ask_at(setting, seat, moment, ask, false)
+    let lane = setting.desk.lane(seat);
+    setting.gate.pass(lane, Point::Asked);
+    let reply = setting.desk.call(setting.rt, seat, moment, ask);
+    setting.gate.pass(lane, Point::Answered);
+    reply
 }
 
 /// Whether an ask may walk far, or make or drop much: behind such a one others don't wait for more.
@@ -79,28 +90,29 @@ fn is_long(op: &Op) -> bool {
     )
 }
 
-/// One ask at a moment among those of a piece, and its reply. Nobody waits for those that follow where that reply can't
+/// One ask at a moment among those of a piece, and its reply, which may be held then. Nobody waits for those that follow where that reply can't
 /// be held behind the others: what is held is written then, which may block.
 fn ask_among<H, S, D: Keeper<S, H>, G: Gate>(
     setting: &Setting<'_, H, D, G>,
     seat: &mut S,
     moment: u64,
     ask: Ask,
-    out: &Vec<u8>,
     more: bool,
-) -> Reply
+    out: &mut Replies,
+) -> Told
     requires { D.ready setting.now.desk.now seat.old }
-    ensures led { D.leads seat.old (event_of (D.lane_of seat.old) moment ask result ∷ []) seat.new }
+    ensures led { D.leads seat.old (event_of (D.lane_of seat.old) moment ask (reply_of result) ∷ []) seat.new }
+    ensures taken { HoldsFrame out.old (bytes_of result) out.new }
     ensures ready { D.ready setting.now.desk.now seat.new }
     ensures lane { D.lane_of seat.new ≡ D.lane_of seat.old }
 {
     let goes_on = more && !setting.gate.may_hold() && !is_long(&ask.op);
-    let reply = ask_at(setting, seat, moment, ask, goes_on);
-    if can_hold(out, &reply) {
-        return reply;
+    let told = ask_at(setting, seat, moment, ask, goes_on, out);
+    if can_hold(&out.bytes, &told) {
+        return told;
     }
     setting.desk.rest(seat);
-    reply
+    told
 }
 
 /// The moment of an ask: the clock's next answer, or the one before again, where it was asked for this piece already.
@@ -135,21 +147,39 @@ fn reply_behind<W: Sink>(
     }
 }
 
+/// The same of a reply that may be held already.
+fn told_behind<W: Sink>(
+    writer: &mut W,
+    out: &mut Replies,
+    tag: Option<u64>,
+    told: Told,
+    stop: Option<Ended>,
+) -> Option<Ended>
+    requires { stop ≡ None → W.failures writer.old < u64.MAX }
+    ensures sent { TellsNext W.took writer.old writer.new out.old out.new tag told stop result }
+    ensures count { StopsNext (W.failures writer.old) (W.failures writer.new) stop result }
+{
+    match told {
+        Told::Taken(_) => stop,
+        Told::Reply(reply) => reply_behind(writer, &mut out.bytes, tag, reply, stop),
+    }
+}
+
 /// Asks what all the frames ask, which are taken out: the clock is asked once for all of them. The replies are held or
 /// written while nothing stops the writing.
 fn ask_all<H, W: Sink, S, D: Keeper<S, H>, C: Clock, G: Gate>(
     setting: &Setting<'_, H, D, G>,
     writer: &mut W,
-    out: &mut Vec<u8>,
+    out: &mut Replies,
     seat: &mut S,
     clock: &mut C,
     frames: &mut VecDeque<Framed>,
 ) -> Option<Ended>
     requires ready { D.ready setting.now.desk.now seat.old }
     requires failures { W.failures writer.old < u64.MAX }
-    requires empty { out.old.items ≡ [] }
+    requires empty { out.old.bytes.items ≡ [] }
     ensures holds { Holds D.leads C.ticked W.took (D.lane_of seat.old) seat.old seat.new clock.old clock.new
-        writer.old writer.new out.new.items frames.old.items result }
+        writer.old writer.new out.new.bytes.items frames.old.items result }
     ensures count { StopsBy (W.failures writer.old) (W.failures writer.new) result }
     ensures ready { D.ready setting.now.desk.now seat.new }
     ensures lane { D.lane_of seat.new ≡ D.lane_of seat.old }
@@ -161,8 +191,9 @@ fn ask_all<H, W: Sink, S, D: Keeper<S, H>, C: Clock, G: Gate>(
         let moment = moment_of(clock, was_asked);
         was_asked = true;
         let more = !frames.is_empty();
-        let reply = ask_among(setting, seat, moment, ask, out, more);
-        stop = reply_behind(writer, out, tag, reply, stop);
+        out.tag = tag;
+        let told = ask_among(setting, seat, moment, ask, more, out);
+        stop = told_behind(writer, out, tag, told, stop);
     }
     stop
 }
@@ -172,7 +203,7 @@ fn ask_all<H, W: Sink, S, D: Keeper<S, H>, C: Clock, G: Gate>(
 pub(crate) fn answer_all<H, W: Sink, S, D: Keeper<S, H>, C: Clock, G: Gate>(
     setting: &Setting<'_, H, D, G>,
     writer: &mut W,
-    out: &mut Vec<u8>,
+    out: &mut Replies,
     seat: &mut S,
     clock: &mut C,
     frames: &mut VecDeque<Framed>,
@@ -185,11 +216,11 @@ pub(crate) fn answer_all<H, W: Sink, S, D: Keeper<S, H>, C: Clock, G: Gate>(
     ensures ready { D.ready setting.now.desk.now seat.new }
     ensures lane { D.lane_of seat.new ≡ D.lane_of seat.old }
 {
-    out.clear();
+    out.bytes.clear();
     match ask_all(setting, writer, out, seat, clock, frames) {
-        None => flush(writer, out),
+        None => flush(writer, &mut out.bytes),
         Some(stop) => {
-            forget(out);
+            forget(&mut out.bytes);
             Some(stop)
         }
     }

@@ -1,8 +1,9 @@
 //! The desk of many seats.
 ghost use Rattle.krs_desk.specs.Sitting.{IsIdleAt};
 
-use crate::Keeper;
+use crate::{Keeper, Replies};
 use krs_desk::{Desk, Seat};
+use krs_store::Told;
 use krs_types::{Ask, Reply};
 use std::sync::Wait;
 
@@ -24,8 +25,16 @@ impl<R: Wait> Keeper<Seat, R> for Desk {
         Desk::call(self, rt, seat, moment, ask)
     }
 
-    fn call_on(&self, rt: &R, seat: &mut Seat, moment: u64, ask: Ask, more: bool) -> Reply {
-        Desk::call_on(self, rt, seat, moment, ask, more)
+    fn call_into(
+        &self,
+        rt: &R,
+        seat: &mut Seat,
+        moment: u64,
+        ask: Ask,
+        more: bool,
+        replies: &mut Replies,
+    ) -> Told {
+        Desk::call_into(self, rt, seat, moment, ask, more, replies)
     }
 
     fn rest(&self, seat: &mut Seat) {

@@ -1,7 +1,11 @@
 ghost use Rattle.std.specs.Prelude.{◌≡◌, ℕ, List, [], ◌∷◌, ◌++◌};
 ghost use Rattle.krs_types.specs.declared.event.Event.{Event};
 ghost use Rattle.krs_model.specs.History.{event_of};
+ghost use Rattle.krs_store.specs.Told.{reply_of, bytes_of};
+ghost use Rattle.krs_session.specs.Replies.{HoldsFrame};
 
+use crate::Replies;
+use krs_store::Told;
 use krs_types::{Ask, Reply};
 
 /// A desk, whose seats `S` it answers. `R` is the runtime under which a call may wait.
@@ -26,16 +30,26 @@ pub trait Keeper<S, R> {
         ensures lane { lane_of seat.new ≡ lane_of seat.old }
         ensures led { leads seat.old (event_of (lane_of seat.old) moment ask result ∷ []) seat.new };
 
-    /// As `call`. Where more calls of the seat follow at once, all others may have to wait for them, until a call with
-    /// no more, or `rest`.
-    fn call_on(&self, rt: &R, seat: &mut S, moment: u64, ask: Ask, more: bool) -> Reply
+    /// As `call`, but a payload may come to be held among the replies at once. Where more calls of the seat follow, all
+    /// others may have to wait for them, until a call with no more, or `rest`.
+    fn call_into(
+        &self,
+        rt: &R,
+        seat: &mut S,
+        moment: u64,
+        ask: Ask,
+        more: bool,
+        replies: &mut Replies,
+    ) -> Told
         requires { ready self.now seat.old }
         ensures ready { ready self.now seat.new }
         ensures lane { lane_of seat.new ≡ lane_of seat.old }
-        ensures led { leads seat.old (event_of (lane_of seat.old) moment ask result ∷ []) seat.new }
+        ensures led { leads seat.old (event_of (lane_of seat.old) moment ask (reply_of result) ∷ []) seat.new }
+        ensures taken { HoldsFrame replies.old (bytes_of result) replies.new }
     {
         let _ = more;
-        self.call(rt, seat, moment, ask)
+        let _ = replies;
+        Told::Reply(self.call(rt, seat, moment, ask))
     }
 
     /// Nobody has to wait for calls of the seat that would follow. What may block comes behind it.

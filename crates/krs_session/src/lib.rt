@@ -12,6 +12,7 @@ mod keeper;
 mod lack;
 mod laws;
 mod over;
+mod replies;
 mod session;
 mod source_and_sink;
 mod writing;
@@ -24,5 +25,6 @@ pub use laws::{
     a_seat_gains_its_calls, a_session_is_its_asks_and_leave, a_session_tells_by_its_reads_alone,
 };
 pub use over::Over;
+pub use replies::Replies;
 pub use session::run;
 pub use source_and_sink::{Failed, Sink, Source};

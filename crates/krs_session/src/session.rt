@@ -7,7 +7,7 @@ ghost use Rattle.krs_session.specs.Serving.{Answers, Served, StopsBy, PieceEndsB
 
 use crate::asking::{Setting, answer_all, ask_one};
 use crate::lack::Lack;
-use crate::{Clock, Ended, Gate, Keeper, Sink, Source};
+use crate::{Clock, Ended, Gate, Keeper, Replies, Sink, Source};
 use krs_types::{Ask, Op};
 use krs_wire::{Feed, Framed, RESERVE, Warned, WireFault};
 use std::alloc::Global;
@@ -31,7 +31,7 @@ const UNMET: u64 = 1 << 40;
 struct Held {
     feed: Feed,
     lack: Lack,
-    out: Vec<u8>,
+    out: Replies,
 }
 
 impl Held {
@@ -42,12 +42,12 @@ impl Held {
     {
         let mut feed = Feed::new(alloc);
         feed.restock();
-        let mut out = Vec::new(alloc);
-        let _ = out.reserve(REPLY_ROOM);
+        let mut bytes = Vec::new(alloc);
+        let _ = bytes.reserve(REPLY_ROOM);
         Held {
             feed,
             lack: Lack::new(),
-            out,
+            out: Replies { bytes, tag: None },
         }
     }
 
@@ -262,7 +262,7 @@ fn turn<H, R: Source, W: Sink, S, D: Keeper<S, H>, C: Clock, G: Gate>(
     ensures ready { D.ready setting.now.desk.now seat.new }
     ensures lane { D.lane_of seat.new ≡ D.lane_of seat.old }
 {
-    reading.held.out.shrink_to(REPLY_ROOM);
+    reading.held.out.bytes.shrink_to(REPLY_ROOM);
     match reader.read(&mut reading.room) {
         Err(_) => Some(Ended::Read),
         Ok(n) => {

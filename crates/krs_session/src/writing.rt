@@ -5,6 +5,7 @@ ghost use Rattle.krs_session.specs.Session.{TookFront};
 ghost use Rattle.krs_session.specs.Serving.{Wrote, Pending, StopsBy};
 
 use crate::{Ended, Failed, Sink};
+use krs_store::Told;
 use krs_types::{Answer, Reply};
 use krs_wire::append_reply;
 
@@ -14,14 +15,19 @@ const FLUSH_SIZE: usize = 65_536;
 /// So many bytes stand before the body of a reply at most.
 const HEAD_SIZE: usize = 16;
 
-/// Whether a reply can be held behind those that are, with no write and no memory taken.
-pub(crate) fn can_hold(out: &Vec<u8>, reply: &Reply) -> bool {
-    let body = match reply {
-        Ok(Answer::Bytes(bytes)) => bytes.as_slice().len(),
-        _ => 4,
-    };
+/// Whether a reply with a body of so many bytes can be held behind those that are, with no write and no memory taken.
+pub(crate) fn has_room(out: &Vec<u8>, body: usize) -> bool {
     let size = out.len().saturating_add(HEAD_SIZE).saturating_add(body);
     size < FLUSH_SIZE && size <= out.capacity()
+}
+
+/// Whether that is so of a reply, or it is held.
+pub(crate) fn can_hold(out: &Vec<u8>, told: &Told) -> bool {
+    match told {
+        Told::Taken(_) => true,
+        Told::Reply(Ok(Answer::Bytes(bytes))) => has_room(out, bytes.as_slice().len()),
+        Told::Reply(_) => has_room(out, 4),
+    }
 }
 
 /// Writes all the bytes, or as many as the writer took before it failed.

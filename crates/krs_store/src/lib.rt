@@ -5,8 +5,11 @@
 mod serving;
 mod store;
 mod telling;
+mod told;
 mod watching;
 
+pub use krs_key_asks::Taker;
 pub use krs_links::Seed;
 pub use krs_tables::KEEP_NOTHING;
 pub use store::Store;
+pub use told::Told;

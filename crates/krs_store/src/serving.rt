@@ -2,13 +2,16 @@ ghost use Rattle.std.specs.Prelude.{◌≡◌, IsErrOf, true};
 ghost use Rattle.krs_types.specs.Growth.{grows};
 ghost use Rattle.krs_tables.specs.Serving.{LeadsTold};
 ghost use Rattle.krs_model.specs.Sound.{IsSound};
+ghost use Rattle.krs_key_asks.specs.Taking.{answered, taken_of};
 ghost use Rattle.krs_store.specs.Telling.{Runs};
 
 use crate::telling::{foretell, may_tell, tell};
 use crate::watching;
 use crate::watching::{close_queue, open_queue, read_queue, set_filter};
 use krs_context_asks::{exec, exit, fork, hello, join, leave, thread};
-use krs_key_asks::{add, chown, describe, read, revoke, set_perm, set_timeout, update};
+use krs_key_asks::{
+    Given, Taker, add, chown, describe, read, read_into, revoke, set_perm, set_timeout, update,
+};
 use krs_ring_asks::{
     clear, get_id, invalidate, link, move_link, request, restrict_keyring, search, unlink,
 };
@@ -33,6 +36,28 @@ pub(crate) fn serve(tables: &mut Tables, client: u32, ask: Ask) -> Result<Answer
         return run(tables, client, ask);
     }
     serve_watched(tables, client, ask)
+}
+
+/// As `serve`, but a taker may have the payload that a READ finds.
+#[inline(always)]
+pub(crate) fn serve_into<T: Taker>(
+    tables: &mut Tables,
+    client: u32,
+    ask: Ask,
+    taker: &mut T,
+) -> Result<Given, Fault>
+    requires sound { IsSound tables.old }
+    ensures told { LeadsTold tables.old client ask.context ask.op (answered result) tables.new }
+    ensures taken { T.took taker.old (taken_of result) taker.new }
+    ensures memory { IsErrOf result Fault.Memory → grows ask.op ≡ true }
+{
+    if let Op::Read { id } = ask.op {
+        return read_into(tables, client, ask.context, id, taker);
+    }
+    match serve(tables, client, ask) {
+        Ok(answer) => Ok(Given::Answer(answer)),
+        Err(fault) => Err(fault),
+    }
 }
 
 /// The same in a store that watches keys. It has a function of its own, so that others don't clear room for notes.

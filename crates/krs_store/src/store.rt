@@ -1,4 +1,5 @@
 ghost use Rattle.std.specs.Prelude.{◌≡◌, ◌≤◌, ◌≢◌, ℕ, List, Bool, false};
+ghost use Rattle.krs_store.specs.Told.{reply_of, bytes_of};
 ghost use Rattle.krs_types.specs.declared.errno.Errno.TheVariants.{ENOMEM};
 ghost use Rattle.krs_types.specs.declared.event.Event.{Event};
 ghost use Rattle.krs_types.specs.Growth.{grows};
@@ -12,7 +13,9 @@ ghost use Rattle.krs_model.specs.Secrecy.{KeepsSecrets, ReadsByRight};
 ghost use Rattle.krs_model.specs.Confidentiality.{HasToItself, KeepsPrivate, ReadsAlone};
 ghost use Rattle.krs_model.specs.Confidentiality.{LeavesAlone, TellsNoStranger};
 
-use crate::serving::serve;
+use crate::Told;
+use crate::serving::{serve, serve_into};
+use krs_key_asks::Taker;
 use krs_links::Seed;
 use krs_tables::Tables;
 use krs_types::{Ask, Errno, Fault, Reply};
@@ -99,6 +102,31 @@ impl Store {
             }
             Err(Fault::Memory) => Err(Errno::ENOMEM),
             Err(Fault::Refused(errno)) => Err(errno),
+        }
+    }
+
+    /// As `apply`, but a taker may have the payload that a READ finds, where it lies.
+    #[tactic(auto, unfolding(krs_model::specs::Step::Step))]
+    #[inline(always)]
+    pub fn apply_into<T: Taker>(
+        &mut self,
+        client: u32,
+        moment: u64,
+        ask: Ask,
+        taker: &mut T,
+    ) -> Told
+        ensures step { Step self.old (event_of client moment ask (reply_of result)) self.new }
+        ensures taken { T.took taker.old (bytes_of result) taker.new }
+        ensures memory { grows ask.op ≡ false → reply_of result ≢ Err ENOMEM }
+    {
+        self.tables.raise(moment);
+        match serve_into(&mut self.tables, client, ask, taker) {
+            Ok(given) => {
+                self.tables.sweep();
+                Told::accepted(given)
+            }
+            Err(Fault::Memory) => Told::Reply(Err(Errno::ENOMEM)),
+            Err(Fault::Refused(errno)) => Told::Reply(Err(errno)),
         }
     }
 

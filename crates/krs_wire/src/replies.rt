@@ -1,5 +1,6 @@
 ghost use Rattle.std.specs.Prelude.{◌≡◌, ◌≤◌, ◌+◌, ◌++◌, false, true, length, take, None, Some, option_map};
-ghost use Rattle.std.specs.Prelude.{IfOk, IfErr, IfSome, IsOk, OnOk, OnErr};
+ghost use Rattle.std.specs.Prelude.{Ok, IfOk, IfErr, IfSome, IsOk, OnOk, OnErr};
+ghost use Rattle.krs_types.specs.declared.ask.Answer.TheVariants.{Bytes};
 ghost use Rattle.std.specs.Int.{w32, to_le_bytes};
 ghost use Rattle.krs_wire.specs.Faulting.{GivesRead};
 ghost use Rattle.krs_wire.specs.Tag.{tag_text, tag_size};
@@ -80,6 +81,15 @@ pub fn append_reply(out: &mut Vec<u8>, tag: Option<u64>, reply: &Reply) -> Resul
         Ok(Answer::Bytes(bytes)) => put_frame(out, tag, 0, bytes.as_slice()),
         Err(error) => put_frame(out, tag, error.number(), &[]),
     }
+}
+
+/// As `append_reply`, of a reply that is these bytes.
+pub fn append_bytes(out: &mut Vec<u8>, tag: Option<u64>, bytes: &[u8]) -> Result<(), AllocError>
+    requires { length bytes.now ≤ 262140 }
+    ensures ok { OnOk result (out.new.items ≡ out.old.items ++ reply_frame tag (Ok (Bytes bytes.now))) }
+    ensures err { OnErr result (out.new.items ≡ out.old.items) }
+{
+    put_frame(out, tag, 0, bytes)
 }
 
 /// The frame of a reply in version 1.

@@ -3,7 +3,8 @@ use Rattle.krs_types.specs.declared.event.Event.{Event}
 use Rattle.krs_model.specs.History.{event_of}
 use Rattle.krs_wire.specs.declared.framed.Framed.{Framed}
 use Rattle.krs_session.specs.Serving.{Asked}
-use Rattle.krs_session.proofs.JoinLemmas.{holds_more, holds_none, stops_next}
+use Rattle.krs_store.specs.Told.{reply_of}
+use Rattle.krs_session.proofs.JoinLemmas.{holds_none, holds_told, stops_next}
 use Rattle.krs_session.proofs.asking.ask_all.Goals as goal
 
 pub frames-init : goal.frames-init
@@ -26,21 +27,23 @@ frames-preserved g c =
     let done : List Framed = i.state.0 in
     let framed : Framed = c.in-Some.framed in
     let event : Event =
-    event_of (g.D.Keeper.lane_of c.frames.seat) c.moment_of-moment.result framed.ask c.ask_among-reply.result in
+    event_of (g.D.Keeper.lane_of c.frames.seat) c.moment_of-moment.result framed.ask (reply_of c.ask_among-told.result) in
     let one =
-    subst (λ (n : ℕ). Asked g.D.Keeper.leads g.C.Clock.ticked n c.frames.seat c.ask_among-reply.new.seat
+    subst (λ (n : ℕ). Asked g.D.Keeper.leads g.C.Clock.ticked n c.frames.seat c.ask_among-told.new.seat
     c.frames.clock c.moment_of-moment.new.clock (event ∷ [])) i.lane
-    (record { led = c.ask_among-reply.ensures.led; moments = c.moment_of-moment.ensures; lanes = (refl, tt) }) in
+    (record { led = c.ask_among-told.ensures.led; moments = c.moment_of-moment.ensures; lanes = (refl, tt) }) in
     record {
       state = (
         done ++ framed ∷ [],
         append_assoc done (framed ∷ []) c.pop_front.new.self.items
-            ∙ (ap (λ (l : List Framed). done ++ l) (sym c.in-Some.ensures.items) ∙ i.state.1),
-        holds_more g.D.Keeper.leads g.C.Clock.ticked g.W.Sink.took g.met.D.Keeper.joins g.met.C.Clock.joins
+            ∙ (ap (λ (l : List Framed). done ++ l) (sym {A = List Framed} c.in-Some.ensures.items) ∙ i.state.1),
+        holds_told g.D.Keeper.leads g.C.Clock.ticked g.W.Sink.took g.met.D.Keeper.joins g.met.C.Clock.joins
             g.met.W.Sink.joins
-            _ _ _ _ _ _ _ _ _ _ _ _ _ _ event _ _ i.state.2 refl one c.reply_behind-stop.ensures.sent,
+            _ _ _ _ _ _ _ _ _ _ _ _ (record c.frames.out { tag = framed.tag }) c.ask_among-told.new.out
+            c.told_behind-stop.new.out _ framed c.ask_among-told.result _ _ i.state.2 one
+            c.ask_among-told.ensures.taken refl c.told_behind-stop.ensures.sent,
       );
-      count = stops_next _ _ _ _ _ i.count c.reply_behind-stop.ensures.count;
-      ready = c.ask_among-reply.ensures.ready;
-      lane = c.ask_among-reply.ensures.lane ∙ i.lane;
+      count = stops_next _ _ _ _ _ i.count c.told_behind-stop.ensures.count;
+      ready = c.ask_among-told.ensures.ready;
+      lane = c.ask_among-told.ensures.lane ∙ i.lane;
     }

@@ -7,7 +7,7 @@ abbrev pub invariant-frames : goal.invariant-frames
 invariant-frames g l = record {
   state : (done : List Framed) × (done ++ l.frames.items ≡ l.initial.frames.items)
       × Holds g.D.Keeper.leads g.C.Clock.ticked g.W.Sink.took (g.D.Keeper.lane_of l.initial.seat) l.initial.seat
-      l.seat l.initial.clock l.clock l.initial.writer l.writer l.out.items done l.stop;
+      l.seat l.initial.clock l.clock l.initial.writer l.writer l.out.bytes.items done l.stop;
   count : StopsBy (g.W.Sink.failures l.initial.writer) (g.W.Sink.failures l.writer) l.stop;
   ready : g.D.Keeper.ready l.setting.desk.now l.seat;
   lane : g.D.Keeper.lane_of l.seat ≡ g.D.Keeper.lane_of l.initial.seat;

@@ -4,8 +4,8 @@ use Rattle.krs_session.proofs.asking.ask_one.Goals as goal
 
 pub returns-clause-asked : goal.returns-clause-asked
 returns-clause-asked g c = (
-  event_of (g.D.Keeper.lane_of c.args.seat.now) c.now-moment.result c.args.ask c.ask_at.result,
+  event_of (g.D.Keeper.lane_of c.args.seat.now) c.now-moment.result c.args.ask c.call-reply.result,
   refl,
   refl,
-  record { led = c.ask_at.ensures.led; moments = c.now-moment.ensures; lanes = (refl, tt) },
+  record { led = c.call-reply.ensures.led; moments = c.now-moment.ensures; lanes = (refl, tt) },
 )

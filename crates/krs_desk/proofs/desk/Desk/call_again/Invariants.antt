@@ -5,5 +5,6 @@ use Rattle.krs_desk.proofs.desk.Desk.call_again.Given as goal
 abbrev pub invariant-loop : goal.invariant-loop
 invariant-loop g l = record {
   asks : l.ask ≡ l.fn.ask;
+  taker : l.taker ≡ l.fn.taker;
   seat : l.seat ≡ found_taken l.fn.seat l.seat.part.found;
 }

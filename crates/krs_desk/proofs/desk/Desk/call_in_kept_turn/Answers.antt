@@ -1,87 +1,88 @@
 use Rattle.std.proofs.Common.{rules, arith}
+use Rattle.krs_store.specs.Told.{reply_of}
 use Rattle.krs_desk.specs.Keeping.{given_back}
 use Rattle.krs_desk.proofs.KeptTurns.{placed, placed_kept, goes_finished, goes_kept, kept_seated, kept_told, kept_idle}
 use Rattle.krs_desk.proofs.KeptTurns.{kept_looked, knows}
 use Rattle.krs_desk.proofs.desk.Desk.call_in_kept_turn.Goals as goal
 
-pub go_on-reply-requires-clause-held : goal.go_on-reply-requires-clause-held
-go_on-reply-requires-clause-held c = (c.seat.invariant.0.keeps (search rules)).holds
+pub go_on-told-requires-clause-held : goal.go_on-told-requires-clause-held
+go_on-told-requires-clause-held g c = (c.seat.invariant.0.keeps (search rules)).holds
 
-pub go_on-reply-requires-clause-idle : goal.go_on-reply-requires-clause-idle
-go_on-reply-requires-clause-idle c = (c.seat.invariant.0.keeps (search rules)).quiet
+pub go_on-told-requires-clause-idle : goal.go_on-told-requires-clause-idle
+go_on-told-requires-clause-idle g c = (c.seat.invariant.0.keeps (search rules)).quiet
 
-pub go_on-reply-requires-clause-lane : goal.go_on-reply-requires-clause-lane
-go_on-reply-requires-clause-lane c =
+pub go_on-told-requires-clause-lane : goal.go_on-told-requires-clause-lane
+go_on-told-requires-clause-lane g c =
     let seat = c.seat.inside in (knows seat.lane seat.idle seat.served seat.token.me c.seat.invariant.0).numbered
 
 pub invariant_of-seat : goal.invariant_of-seat
-invariant_of-seat c =
+invariant_of-seat g c =
     let seat = c.seat.inside in
-    let w = c.go_on-reply.new.token.me in
+    let w = c.go_on-told.new.token.me in
     let kept = c.seat.invariant.0.keeps (search rules) in (
       placed_kept seat.lane seat.idle _ w (λ no. absurd (omega arith))
           (kept_seated seat.lane seat.idle seat.served seat.token.me (given_back w) _ (search rules)
-          c.seat.invariant.0 (goes_finished seat.token.me w _ c.go_on-reply.ensures.gone))
-          (goes_kept seat.token.me w _ kept.holds kept.quiet c.go_on-reply.ensures.gone),
+          c.seat.invariant.0 (goes_finished seat.token.me w _ c.go_on-told.ensures.gone))
+          (goes_kept seat.token.me w _ kept.holds kept.quiet c.go_on-told.ensures.gone),
       search rules,
     )
 
 pub returns-then-may_keep-clause-added : goal.returns-then-may_keep-clause-added
-returns-then-may_keep-clause-added c =
+returns-then-may_keep-clause-added g c =
     let seat = c.seat.inside in
-    let w = c.go_on-reply.new.token.me in
-    kept_told seat.token.table_id c.go_on-reply.new.token.table_id seat.token.me (given_back w) c.args.seat.now seat.lane
-    seat.idle seat.served c.args.moment c.args.ask c.go_on-reply.result c.seat.view_is (search rules) (search rules)
-    c.seat.invariant.0 (goes_finished seat.token.me w _ c.go_on-reply.ensures.gone)
+    let w = c.go_on-told.new.token.me in
+    kept_told seat.token.table_id c.go_on-told.new.token.table_id seat.token.me (given_back w) c.args.seat.now seat.lane
+    seat.idle seat.served c.args.moment c.args.ask (reply_of c.go_on-told.result) c.seat.view_is (search rules) (search rules)
+    c.seat.invariant.0 (goes_finished seat.token.me w _ c.go_on-told.ensures.gone)
 
 pub returns-then-may_keep-clause-idle : goal.returns-then-may_keep-clause-idle
-returns-then-may_keep-clause-idle c =
+returns-then-may_keep-clause-idle g c =
     let seat = c.seat.inside in
-    let w = c.go_on-reply.new.token.me in
+    let w = c.go_on-told.new.token.me in
     kept_idle seat.token.me (given_back w) _ (c.seat.invariant.0.keeps (search rules))
-    (goes_finished seat.token.me w _ c.go_on-reply.ensures.gone)
+    (goes_finished seat.token.me w _ c.go_on-told.ensures.gone)
 
 pub returns-then-may_keep-clause-looked : goal.returns-then-may_keep-clause-looked
-returns-then-may_keep-clause-looked c =
+returns-then-may_keep-clause-looked g c =
     let seat = c.seat.inside in
-    let w = c.go_on-reply.new.token.me in
-    kept_looked c.args.self.now seat.token.table_id c.go_on-reply.new.token.table_id seat.token.me (given_back w)
-    c.args.seat.now _ c.seat.view_is (goes_finished seat.token.me w _ c.go_on-reply.ensures.gone)
+    let w = c.go_on-told.new.token.me in
+    kept_looked c.args.self.now seat.token.table_id c.go_on-told.new.token.table_id seat.token.me (given_back w)
+    c.args.seat.now _ c.seat.view_is (goes_finished seat.token.me w _ c.go_on-told.ensures.gone)
 
-pub finish-reply-requires-clause-held : goal.finish-reply-requires-clause-held
-finish-reply-requires-clause-held c = (c.seat.invariant.0.keeps (search rules)).holds
+pub finish-told-requires-clause-held : goal.finish-told-requires-clause-held
+finish-told-requires-clause-held g c = (c.seat.invariant.0.keeps (search rules)).holds
 
-pub finish-reply-requires-clause-idle : goal.finish-reply-requires-clause-idle
-finish-reply-requires-clause-idle c = (c.seat.invariant.0.keeps (search rules)).quiet
+pub finish-told-requires-clause-idle : goal.finish-told-requires-clause-idle
+finish-told-requires-clause-idle g c = (c.seat.invariant.0.keeps (search rules)).quiet
 
-pub finish-reply-requires-clause-lane : goal.finish-reply-requires-clause-lane
-finish-reply-requires-clause-lane c =
+pub finish-told-requires-clause-lane : goal.finish-told-requires-clause-lane
+finish-told-requires-clause-lane g c =
     let seat = c.seat.inside in (knows seat.lane seat.idle seat.served seat.token.me c.seat.invariant.0).numbered
 
 pub invariant_of-seat-2 : goal.invariant_of-seat-2
-invariant_of-seat-2 c =
+invariant_of-seat-2 g c =
     let seat = c.seat.inside in (
-      placed seat.lane seat.idle 0 c.finish-reply.new.token.me (search rules)
-          (kept_seated seat.lane seat.idle seat.served seat.token.me c.finish-reply.new.token.me _ (search rules)
-          c.seat.invariant.0 c.finish-reply.ensures.finished),
+      placed seat.lane seat.idle 0 c.finish-told.new.token.me (search rules)
+          (kept_seated seat.lane seat.idle seat.served seat.token.me c.finish-told.new.token.me _ (search rules)
+          c.seat.invariant.0 c.finish-told.ensures.finished),
       search rules,
     )
 
 pub returns-clause-added : goal.returns-clause-added
-returns-clause-added c =
+returns-clause-added g c =
     let seat = c.seat.inside in
-    kept_told seat.token.table_id c.finish-reply.new.token.table_id seat.token.me c.finish-reply.new.token.me
-    c.args.seat.now seat.lane seat.idle seat.served c.args.moment c.args.ask c.finish-reply.result c.seat.view_is
-    (search rules) (search rules) c.seat.invariant.0 c.finish-reply.ensures.finished
+    kept_told seat.token.table_id c.finish-told.new.token.table_id seat.token.me c.finish-told.new.token.me
+    c.args.seat.now seat.lane seat.idle seat.served c.args.moment c.args.ask (reply_of c.finish-told.result) c.seat.view_is
+    (search rules) (search rules) c.seat.invariant.0 c.finish-told.ensures.finished
 
 pub returns-clause-idle : goal.returns-clause-idle
-returns-clause-idle c =
+returns-clause-idle g c =
     let seat = c.seat.inside in
-    kept_idle seat.token.me c.finish-reply.new.token.me _ (c.seat.invariant.0.keeps (search rules))
-    c.finish-reply.ensures.finished
+    kept_idle seat.token.me c.finish-told.new.token.me _ (c.seat.invariant.0.keeps (search rules))
+    c.finish-told.ensures.finished
 
 pub returns-clause-looked : goal.returns-clause-looked
-returns-clause-looked c =
+returns-clause-looked g c =
     let seat = c.seat.inside in
-    kept_looked c.args.self.now seat.token.table_id c.finish-reply.new.token.table_id seat.token.me
-    c.finish-reply.new.token.me c.args.seat.now _ c.seat.view_is c.finish-reply.ensures.finished
+    kept_looked c.args.self.now seat.token.table_id c.finish-told.new.token.table_id seat.token.me
+    c.finish-told.new.token.me c.args.seat.now _ c.seat.view_is c.finish-told.ensures.finished

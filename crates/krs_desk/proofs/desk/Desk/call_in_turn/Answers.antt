@@ -1,5 +1,6 @@
 use Rattle.std.proofs.Common.{rules, sym, ap, ◌∙◌, arith}
 use Rattle.krs_desk.specs.Sitting.{Sitting}
+use Rattle.krs_store.specs.Told.{reply_of}
 use Rattle.krs_desk.specs.Seated.{Me, part, is_free}
 use Rattle.krs_desk.specs.Keeping.{given_back}
 use Rattle.krs_desk.proofs.Seats.{missed_seated}
@@ -9,10 +10,10 @@ use Rattle.krs_desk.proofs.KeptTurns.{given_seated, given_view, placed, placed_k
 use Rattle.krs_desk.proofs.desk.Desk.call_in_turn.Goals as goal
 
 pub give_back-requires-clause-kept : goal.give_back-requires-clause-kept
-give_back-requires-clause-kept c = c.seat.invariant.0.keeps
+give_back-requires-clause-kept g c = c.seat.invariant.0.keeps
 
 pub take-requires-clause-rests : goal.take-requires-clause-rests
-take-requires-clause-rests c =
+take-requires-clause-rests g c =
     let seat = c.seat.inside in
     let m = c.give_back.new.token.me in
     let seated =
@@ -20,7 +21,7 @@ take-requires-clause-rests c =
     seated.rests
 
 pub invariant_of-seat : goal.invariant_of-seat
-invariant_of-seat c =
+invariant_of-seat g c =
     let seat = c.seat.inside in
     let m = c.give_back.new.token.me in
     let seated =
@@ -31,7 +32,7 @@ invariant_of-seat c =
     )
 
 pub serve_all-answered-requires-clause-held : goal.serve_all-answered-requires-clause-held
-serve_all-answered-requires-clause-held c =
+serve_all-answered-requires-clause-held g c =
     let seat = c.seat.inside in
     let m = c.give_back.new.token.me in
     let seated =
@@ -40,7 +41,7 @@ serve_all-answered-requires-clause-held c =
     (had_held seat.lane seat.idle m _ seated had).0
 
 pub serve_all-answered-requires-clause-unlooked : goal.serve_all-answered-requires-clause-unlooked
-serve_all-answered-requires-clause-unlooked c =
+serve_all-answered-requires-clause-unlooked g c =
     let seat = c.seat.inside in
     let m = c.give_back.new.token.me in
     let seated =
@@ -49,7 +50,7 @@ serve_all-answered-requires-clause-unlooked c =
     (had_held seat.lane seat.idle m _ seated had).1
 
 pub serve_all-answered-requires-clause-hand : goal.serve_all-answered-requires-clause-hand
-serve_all-answered-requires-clause-hand c =
+serve_all-answered-requires-clause-hand g c =
     let seat = c.seat.inside in
     let m = c.give_back.new.token.me in
     let view =
@@ -58,8 +59,8 @@ serve_all-answered-requires-clause-hand c =
     sym (ap (λ (k : Me). is_free (part k).flight) (c.take.ensures.had c.if-take-ne-FREE.false).has
     ∙ ap (λ f. is_free f) (ap (λ (s : Sitting). s.part.flight) view ∙ c.requires.idle))
 
-pub go_on-reply-requires-clause-held : goal.go_on-reply-requires-clause-held
-go_on-reply-requires-clause-held c =
+pub go_on-told-requires-clause-held : goal.go_on-told-requires-clause-held
+go_on-told-requires-clause-held g c =
     let seat = c.seat.inside in
     let m = c.give_back.new.token.me in
     let seated =
@@ -68,8 +69,8 @@ go_on-reply-requires-clause-held c =
     held_at c.take.new.token.me c.serve_all-answered.new.token.me _ _ (had_held seat.lane seat.idle m _ seated had).0
     c.serve_all-answered.ensures.gone
 
-pub go_on-reply-requires-clause-idle : goal.go_on-reply-requires-clause-idle
-go_on-reply-requires-clause-idle c =
+pub go_on-told-requires-clause-idle : goal.go_on-told-requires-clause-idle
+go_on-told-requires-clause-idle g c =
     let seat = c.seat.inside in
     let m = c.give_back.new.token.me in
     let view =
@@ -79,8 +80,8 @@ go_on-reply-requires-clause-idle c =
     ∙ (ap (λ (k : Me). (part k).flight) (c.take.ensures.had c.if-take-ne-FREE.false).has
     ∙ (ap (λ (s : Sitting). s.part.flight) view ∙ c.requires.idle))
 
-pub go_on-reply-requires-clause-lane : goal.go_on-reply-requires-clause-lane
-go_on-reply-requires-clause-lane c =
+pub go_on-told-requires-clause-lane : goal.go_on-told-requires-clause-lane
+go_on-told-requires-clause-lane g c =
     let seat = c.seat.inside in
     let m = c.give_back.new.token.me in
     let seated =
@@ -90,7 +91,7 @@ go_on-reply-requires-clause-lane c =
     ∙ ap (λ (k : Me). (part k).lane) (c.take.ensures.had c.if-take-ne-FREE.false).has)
 
 pub finish-requires-clause-held : goal.finish-requires-clause-held
-finish-requires-clause-held c =
+finish-requires-clause-held g c =
     let seat = c.seat.inside in
     let m = c.give_back.new.token.me in
     let seated =
@@ -100,7 +101,7 @@ finish-requires-clause-held c =
     c.serve_all-answered.ensures.gone
 
 pub finish-requires-clause-idle : goal.finish-requires-clause-idle
-finish-requires-clause-idle c =
+finish-requires-clause-idle g c =
     let seat = c.seat.inside in
     let m = c.give_back.new.token.me in
     let view =
@@ -111,7 +112,7 @@ finish-requires-clause-idle c =
     ∙ (ap (λ (s : Sitting). s.part.flight) view ∙ c.requires.idle))
 
 pub finish-requires-clause-lane : goal.finish-requires-clause-lane
-finish-requires-clause-lane c =
+finish-requires-clause-lane g c =
     let seat = c.seat.inside in
     let m = c.give_back.new.token.me in
     let seated =
@@ -121,7 +122,7 @@ finish-requires-clause-lane c =
     ∙ ap (λ (k : Me). (part k).lane) (c.take.ensures.had c.if-take-ne-FREE.false).has)
 
 pub invariant_of-seat-then-may_keep : goal.invariant_of-seat-then-may_keep
-invariant_of-seat-then-may_keep c =
+invariant_of-seat-then-may_keep g c =
     let seat = c.seat.inside in
     let m = c.give_back.new.token.me in
     let seated =
@@ -136,17 +137,17 @@ invariant_of-seat-then-may_keep c =
     let quiet =
     c.serve_all-answered.ensures.gone.2.stays.flight
     ∙ (ap (λ (k : Me). (part k).flight) had.has ∙ (ap (λ (s : Sitting). s.part.flight) view ∙ c.requires.idle)) in
-    let w = c.go_on-reply.new.token.me in (
+    let w = c.go_on-told.new.token.me in (
       placed_kept seat.lane seat.idle 1 w (λ no. absurd (omega arith))
           (turn_seated seat.lane seat.idle m c.take.new.token.me c.serve_all-answered.new.token.me (given_back w) _ _ _
           seated had c.serve_all-answered.ensures.gone
-          (goes_finished c.serve_all-answered.new.token.me w _ c.go_on-reply.ensures.gone))
-          (goes_kept c.serve_all-answered.new.token.me w _ held quiet c.go_on-reply.ensures.gone),
+          (goes_finished c.serve_all-answered.new.token.me w _ c.go_on-told.ensures.gone))
+          (goes_kept c.serve_all-answered.new.token.me w _ held quiet c.go_on-told.ensures.gone),
       search rules,
     )
 
 pub returns-then-may_keep-clause-added : goal.returns-then-may_keep-clause-added
-returns-then-may_keep-clause-added c =
+returns-then-may_keep-clause-added g c =
     let seat = c.seat.inside in
     let m = c.give_back.new.token.me in
     let seated =
@@ -155,14 +156,14 @@ returns-then-may_keep-clause-added c =
     given_view seat.token.table_id c.give_back.new.token.table_id seat.served seat.token.me m c.args.seat.now
     c.seat.view_is c.give_back.ensures.table c.give_back.ensures.given in
     let had = c.take.ensures.had c.if-take-ne-FREE.false in
-    let w = c.go_on-reply.new.token.me in
-    turn_adds c.give_back.new.token.table_id c.go_on-reply.new.token.table_id m c.take.new.token.me
+    let w = c.go_on-told.new.token.me in
+    turn_adds c.give_back.new.token.table_id c.go_on-told.new.token.table_id m c.take.new.token.me
     c.serve_all-answered.new.token.me (given_back w) c.args.seat.now seat.lane seat.idle _ _ c.args.moment c.args.ask
-    c.go_on-reply.result view (search rules) seated had c.serve_all-answered.ensures.gone
-    (goes_finished c.serve_all-answered.new.token.me w _ c.go_on-reply.ensures.gone)
+    (reply_of c.go_on-told.result) view (search rules) seated had c.serve_all-answered.ensures.gone
+    (goes_finished c.serve_all-answered.new.token.me w _ c.go_on-told.ensures.gone)
 
 pub returns-then-may_keep-clause-idle : goal.returns-then-may_keep-clause-idle
-returns-then-may_keep-clause-idle c =
+returns-then-may_keep-clause-idle g c =
     let seat = c.seat.inside in
     let m = c.give_back.new.token.me in
     let seated =
@@ -171,20 +172,20 @@ returns-then-may_keep-clause-idle c =
     given_view seat.token.table_id c.give_back.new.token.table_id seat.served seat.token.me m c.args.seat.now
     c.seat.view_is c.give_back.ensures.table c.give_back.ensures.given in
     let had = c.take.ensures.had c.if-take-ne-FREE.false in
-    let w = c.go_on-reply.new.token.me in
+    let w = c.go_on-told.new.token.me in
     turn_idle m c.take.new.token.me c.serve_all-answered.new.token.me (given_back w) _ _ _
     (ap (λ (s : Sitting). s.part.flight) view ∙ c.requires.idle) had c.serve_all-answered.ensures.gone
-    (goes_finished c.serve_all-answered.new.token.me w _ c.go_on-reply.ensures.gone)
+    (goes_finished c.serve_all-answered.new.token.me w _ c.go_on-told.ensures.gone)
 
 pub returns-then-may_keep-clause-looked : goal.returns-then-may_keep-clause-looked
-returns-then-may_keep-clause-looked c =
-    let w = c.go_on-reply.new.token.me in
-    turn_looked c.args.self.now c.go_on-reply.new.token.table_id c.args.seat.now c.take.new.token.me
+returns-then-may_keep-clause-looked g c =
+    let w = c.go_on-told.new.token.me in
+    turn_looked c.args.self.now c.go_on-told.new.token.table_id c.args.seat.now c.take.new.token.me
     c.serve_all-answered.new.token.me (given_back w) _ _ c.serve_all-answered.ensures.gone
-    (goes_finished c.serve_all-answered.new.token.me w _ c.go_on-reply.ensures.gone)
+    (goes_finished c.serve_all-answered.new.token.me w _ c.go_on-told.ensures.gone)
 
 pub invariant_of-seat-2 : goal.invariant_of-seat-2
-invariant_of-seat-2 c =
+invariant_of-seat-2 g c =
     let seat = c.seat.inside in
     let m = c.give_back.new.token.me in
     let seated =
@@ -197,7 +198,7 @@ invariant_of-seat-2 c =
     )
 
 pub returns-clause-added : goal.returns-clause-added
-returns-clause-added c =
+returns-clause-added g c =
     let seat = c.seat.inside in
     let m = c.give_back.new.token.me in
     let seated =
@@ -208,11 +209,11 @@ returns-clause-added c =
     let had = c.take.ensures.had c.if-take-ne-FREE.false in
     turn_adds c.give_back.new.token.table_id c.finish.new.token.table_id m c.take.new.token.me
     c.serve_all-answered.new.token.me c.finish.new.token.me c.args.seat.now seat.lane seat.idle _ _ c.args.moment
-    c.args.ask c.finish.result view (search rules) seated had c.serve_all-answered.ensures.gone
+    c.args.ask (reply_of c.finish.result) view (search rules) seated had c.serve_all-answered.ensures.gone
     c.finish.ensures.finished
 
 pub returns-clause-idle : goal.returns-clause-idle
-returns-clause-idle c =
+returns-clause-idle g c =
     let seat = c.seat.inside in
     let m = c.give_back.new.token.me in
     let seated =
@@ -226,7 +227,7 @@ returns-clause-idle c =
     c.finish.ensures.finished
 
 pub returns-clause-looked : goal.returns-clause-looked
-returns-clause-looked c =
+returns-clause-looked g c =
     turn_looked c.args.self.now c.finish.new.token.table_id c.args.seat.now c.take.new.token.me
     c.serve_all-answered.new.token.me c.finish.new.token.me _ _ c.serve_all-answered.ensures.gone
     c.finish.ensures.finished

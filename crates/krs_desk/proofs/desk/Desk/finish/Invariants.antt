@@ -3,4 +3,4 @@ use Rattle.krs_desk.specs.Steps.{event_in}
 use Rattle.krs_desk.proofs.desk.Desk.finish.Given as goal
 
 abbrev pub ghosts-put : goal.ghosts-put
-ghosts-put a = record { events = event_in a.call ∷ [] }
+ghosts-put g a = record { events = event_in a.call ∷ [] }

@@ -1,5 +1,6 @@
 use Rattle.std.proofs.Common.{rules, sym, ap, ◌∙◌}
 use Rattle.krs_desk.specs.Sitting.{Sitting}
+use Rattle.krs_store.specs.Told.{reply_of}
 use Rattle.krs_desk.specs.Seated.{Me, part}
 use Rattle.krs_desk.proofs.Seats.{missed_seated}
 use Rattle.krs_desk.proofs.Helps.{had_held, starts}
@@ -29,8 +30,8 @@ invariant_of-seat c =
       search rules,
     )
 
-pub finish-requires-clause-held : goal.finish-requires-clause-held
-finish-requires-clause-held c =
+pub finish-told-requires-clause-held : goal.finish-told-requires-clause-held
+finish-told-requires-clause-held c =
     let seat = c.seat.inside in
     let m = c.give_back.new.token.me in
     let seated =
@@ -38,8 +39,8 @@ finish-requires-clause-held c =
     let had = c.take.ensures.had c.if-take-ne-FREE.false in
     (had_held seat.lane seat.idle m _ seated had).0
 
-pub finish-requires-clause-idle : goal.finish-requires-clause-idle
-finish-requires-clause-idle c =
+pub finish-told-requires-clause-idle : goal.finish-told-requires-clause-idle
+finish-told-requires-clause-idle c =
     let seat = c.seat.inside in
     let m = c.give_back.new.token.me in
     let view =
@@ -48,8 +49,8 @@ finish-requires-clause-idle c =
     ap (λ (k : Me). (part k).flight) (c.take.ensures.had c.if-take-ne-FREE.false).has
     ∙ (ap (λ (s : Sitting). s.part.flight) view ∙ c.requires.idle)
 
-pub finish-requires-clause-lane : goal.finish-requires-clause-lane
-finish-requires-clause-lane c =
+pub finish-told-requires-clause-lane : goal.finish-told-requires-clause-lane
+finish-told-requires-clause-lane c =
     let seat = c.seat.inside in
     let m = c.give_back.new.token.me in
     let seated =
@@ -64,9 +65,9 @@ invariant_of-seat-2 c =
     given_seated seat.lane seat.idle seat.served seat.token.me m c.seat.invariant.0 c.give_back.ensures.given in
     let had = c.take.ensures.had c.if-take-ne-FREE.false in
     let held = had_held seat.lane seat.idle m _ seated had in (
-      placed seat.lane seat.idle c.give_back.new.served c.finish.new.token.me c.give_back.ensures.none
-          (turn_seated seat.lane seat.idle m c.take.new.token.me c.take.new.token.me c.finish.new.token.me 0 0 _ seated
-          had (starts _ held.0 held.1) c.finish.ensures.finished),
+      placed seat.lane seat.idle c.give_back.new.served c.finish-told.new.token.me c.give_back.ensures.none
+          (turn_seated seat.lane seat.idle m c.take.new.token.me c.take.new.token.me c.finish-told.new.token.me 0 0 _ seated
+          had (starts _ held.0 held.1) c.finish-told.ensures.finished),
       search rules,
     )
 
@@ -81,9 +82,10 @@ returns-clause-added c =
     c.seat.view_is c.give_back.ensures.table c.give_back.ensures.given in
     let had = c.take.ensures.had c.if-take-ne-FREE.false in
     let held = had_held seat.lane seat.idle m _ seated had in
-    turn_adds c.give_back.new.token.table_id c.finish.new.token.table_id m c.take.new.token.me c.take.new.token.me
-    c.finish.new.token.me c.args.seat.now seat.lane seat.idle 0 0 c.args.moment c.args.ask c.finish.result view
-    (search rules) seated had (starts _ held.0 held.1) c.finish.ensures.finished
+    rw c.reply_in.ensures
+    (turn_adds c.give_back.new.token.table_id c.finish-told.new.token.table_id m c.take.new.token.me c.take.new.token.me
+    c.finish-told.new.token.me c.args.seat.now seat.lane seat.idle 0 0 c.args.moment c.args.ask
+    (reply_of c.finish-told.result) view (search rules) seated had (starts _ held.0 held.1) c.finish-told.ensures.finished)
 
 pub returns-clause-idle : goal.returns-clause-idle
 returns-clause-idle c =
@@ -96,11 +98,11 @@ returns-clause-idle c =
     c.seat.view_is c.give_back.ensures.table c.give_back.ensures.given in
     let had = c.take.ensures.had c.if-take-ne-FREE.false in
     let held = had_held seat.lane seat.idle m _ seated had in
-    turn_idle m c.take.new.token.me c.take.new.token.me c.finish.new.token.me 0 0 _
-    (ap (λ (s : Sitting). s.part.flight) view ∙ c.requires.idle) had (starts _ held.0 held.1) c.finish.ensures.finished
+    turn_idle m c.take.new.token.me c.take.new.token.me c.finish-told.new.token.me 0 0 _
+    (ap (λ (s : Sitting). s.part.flight) view ∙ c.requires.idle) had (starts _ held.0 held.1) c.finish-told.ensures.finished
 
 pub returns-clause-alone : goal.returns-clause-alone
 returns-clause-alone c =
     let had = c.take.ensures.had c.if-take-ne-FREE.false in
-    ap (λ (k : Me). (part k).checked) c.finish.ensures.finished.has
+    ap (λ (k : Me). (part k).checked) c.finish-told.ensures.finished.has
     ∙ ap (λ (k : Me). (part k).checked) had.has

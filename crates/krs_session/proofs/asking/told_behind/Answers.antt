@@ -1,0 +1,5 @@
+use Rattle.krs_session.proofs.JoinLemmas.{stops_same}
+use Rattle.krs_session.proofs.asking.told_behind.Goals as goal
+
+pub returns-in-Taken-clause-count : goal.returns-in-Taken-clause-count
+returns-in-Taken-clause-count g c = stops_same _ _
