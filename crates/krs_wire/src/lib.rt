@@ -23,6 +23,8 @@ pub use fault::WireFault;
 pub use feed::Feed;
 pub use framed::Framed;
 pub use laws::{one_cut, one_encoding};
-pub use replies::{append_bytes, append_reply, decode_reply, decode_reply2, encode_reply, encode_reply2};
+pub use replies::{
+    append_bytes, append_reply, decode_reply, decode_reply2, encode_reply, encode_reply2,
+};
 pub use reserve::RESERVE;
 pub use warned::Warned;
