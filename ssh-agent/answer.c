@@ -23,8 +23,6 @@ static uint32_t context;
 static int32_t head, keyring;
 static unsigned char payload[PAYLOAD_MOST], made_lock[SALT_SIZE + HASH_SIZE]; /* the second is a lock */
 
-/* ---- The keyring ---- */
-
 /* 0 where its user has none there, and -1 where the daemon doesn't tell. A search also finds what another user has put
  * into a keyring that is linked there: who possesses that would possess private keys. */
 static int32_t find_ring(int32_t from) {
@@ -180,8 +178,6 @@ static bool turn_lock(bool unlocks, struct bytes passphrase) {
     if (!unlocks) return put_entry(lock_name, lock, 0);
     return CRYPTO_memcmp(kept.at, made_lock, sizeof made_lock) == 0 && drop_entry(find_entry(lock_name));
 }
-
-/* ---- Messages ---- */
 
 /* Whether the message is carried out; what it answers beyond that is in the reply. */
 static bool carry_out(struct bytes message, uint32_t lifetime, struct writer *reply) {

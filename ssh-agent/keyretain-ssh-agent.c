@@ -50,8 +50,6 @@ static bool serve_message(int client) {
     return send(client, replied, reply.length, MSG_NOSIGNAL) == (ssize_t)reply.length;
 }
 
-/* ---- The process that listens ---- */
-
 static void end(int number) {
     (void)number;
     if (getpid() == listening && path) unlink(path);
