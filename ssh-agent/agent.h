@@ -91,7 +91,7 @@ void put_public(struct writer *writer, const struct key *key);
 enum { SHA2_256_WANTED = 2, SHA2_512_WANTED = 4 };
 bool put_signature(struct writer *writer, const struct key *key, struct bytes data, uint32_t flags);
 
-/* answer.c: puts the answer to a message, with its length before it. `lifetime` is that of keys that are added without one. */
+/* answer.c: puts the answer to a message, with its length before it. `lifetime` is for keys added without one. */
 void answer(struct bytes message, uint32_t lifetime, struct writer *reply);
 
 /* Connects to the daemon, and has its keyring `ssh-agent`: that of the session, or of the user where there is none.

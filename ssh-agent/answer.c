@@ -26,10 +26,10 @@ static unsigned char payload[PAYLOAD_MOST], made_lock[SALT_SIZE + HASH_SIZE]; /*
 /* 0 where its user has none there, and -1 where the daemon doesn't tell. A search also finds what another user has put
  * into a keyring that is linked there: who possesses that would possess private keys. */
 static int32_t find_ring(int32_t from) {
-    struct kr_attributes attributes;
+    struct kr_attributes told;
     int32_t found = kr_search(connection, context, from, "keyring", ring_name, 0);
     if (found < 0) return errno == ENOKEY || errno == EKEYREVOKED || errno == EKEYEXPIRED ? 0 : -1;
-    return kr_read_attributes(connection, context, found, &attributes) == 0 && attributes.owner == geteuid() ? found : 0;
+    return kr_read_attributes(connection, context, found, &told) == 0 && told.owner == geteuid() ? found : 0;
 }
 
 int open_ring(void) {
@@ -172,8 +172,8 @@ static bool turn_lock(bool unlocks, struct bytes passphrase) {
     if (!passphrase.at || kept.length != lock.length) return false;
     if (unlocks) memcpy(made_lock, kept.at, SALT_SIZE);
     else if (RAND_bytes(made_lock, SALT_SIZE) != 1) return false;
-    if (PKCS5_PBKDF2_HMAC((const char *)passphrase.at, (int)passphrase.length, made_lock, SALT_SIZE, ROUNDS, EVP_sha256(),
-                          HASH_SIZE, made_lock + SALT_SIZE) != 1)
+    if (PKCS5_PBKDF2_HMAC((const char *)passphrase.at, (int)passphrase.length, made_lock, SALT_SIZE, ROUNDS,
+                          EVP_sha256(), HASH_SIZE, made_lock + SALT_SIZE) != 1)
         return false;
     if (!unlocks) return put_entry(lock_name, lock, 0);
     return CRYPTO_memcmp(kept.at, made_lock, sizeof made_lock) == 0 && drop_entry(find_entry(lock_name));
