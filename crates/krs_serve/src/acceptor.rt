@@ -1,9 +1,9 @@
 ghost use Rattle.std.specs.Prelude.{◌≡◌, ◌<◌, ◌+◌, ℕ, OnOk, IfErr, OnErr};
 ghost use Rattle.krs_listen.specs.Accepting.{accepted_by, failed_at};
 
-use crate::{AtDesk, Guest, Sitting};
-use krs_listen::{AwaitsEnd, SocketAcceptor, SocketReader, SocketWriter};
-use krs_session::Over;
+use crate::connection::guest_of;
+use crate::{AtDesk, Sitting, SocketGuest};
+use krs_listen::{AwaitsEnd, SocketAcceptor};
 use std::sync::Wait;
 use std::time::Clock;
 
@@ -26,9 +26,6 @@ pub trait Acceptor<G, F> {
         ensures failed { OnErr result (failures self.new ≡ failures self.old + 1) };
 }
 
-/// The ends of a connection that was accepted, as a session meets them.
-pub type SocketGuest<'d, N> = Guest<'d, N, Over<SocketReader>, Over<SocketWriter>>;
-
 impl<'a, 'd, R: Wait + Clock, F: AwaitsEnd<R>, N: AtDesk> Acceptor<
     SocketGuest<'d, N>,
     Sitting<'d, N>,
@@ -39,7 +36,7 @@ impl<'a, 'd, R: Wait + Clock, F: AwaitsEnd<R>, N: AtDesk> Acceptor<
 
     fn accept(&mut self, free: Sitting<'d, N>) -> Result<SocketGuest<'d, N>, Sitting<'d, N>> {
         match SocketAcceptor::accept(self) {
-            Some((reader, writer)) => Ok(Guest::new(free, Over::new(reader), Over::new(writer))),
+            Some((reader, writer)) => Ok(guest_of(free, reader, writer)),
             None => Err(free),
         }
     }

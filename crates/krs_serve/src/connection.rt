@@ -12,7 +12,8 @@ ghost use Rattle.krs_serve.specs.Sessions.{ServesAtDesk, entry};
 
 use crate::{Entry, OpenGate, serve_entry};
 use krs_desk::{Desk, Seat};
-use krs_session::{Clock, Sink, Source, a_session_is_its_asks_and_leave};
+use krs_listen::{SocketReader, SocketWriter};
+use krs_session::{Clock, Over, Sink, Source, a_session_is_its_asks_and_leave};
 use std::alloc::{AllocError, Global};
 use std::marker::{Brand, PhantomData};
 use std::sync::Wait;
@@ -94,7 +95,7 @@ pub struct Guest<'d, N: AtDesk, R: Source + Drop, W: Sink + Drop> {
 }
 
 impl<'d, N: AtDesk, R: Source + Drop, W: Sink + Drop> Guest<'d, N, R, W> {
-    pub(crate) fn new(sitting: Sitting<'d, N>, reader: R, writer: W) -> Guest<'d, N, R, W>
+    fn new(sitting: Sitting<'d, N>, reader: R, writer: W) -> Guest<'d, N, R, W>
         requires room { HaveRoom 16777216 (counts_of R.reads R.empties R.failures W.failures reader writer) }
         ensures sitting { result.sitting ≡ sitting.entry }
         ensures reader { result.reader ≡ reader }
@@ -106,6 +107,20 @@ impl<'d, N: AtDesk, R: Source + Drop, W: Sink + Drop> Guest<'d, N, R, W> {
             writer,
         }
     }
+}
+
+/// The ends of a connection that was accepted, as a session meets them.
+pub type SocketGuest<'d, N> = Guest<'d, N, Over<SocketReader>, Over<SocketWriter>>;
+
+/// Who came over a socket, at the seat that was free. No guest is made elsewhere, so that a daemon has none of its own.
+pub(crate) fn guest_of<'d, N: AtDesk>(
+    sitting: Sitting<'d, N>,
+    reader: SocketReader,
+    writer: SocketWriter,
+) -> SocketGuest<'d, N>
+    ensures { result.sitting ≡ sitting.entry }
+{
+    Guest::new(sitting, Over::new(reader), Over::new(writer))
 }
 
 /// Serves a connection to its end, which closes it: docs/FORMAT.md, "A connection". Its asks are those of the bytes that

@@ -11,9 +11,9 @@ mod listening;
 mod meeting;
 mod sessions;
 
-pub use acceptor::{Acceptor, SocketGuest};
+pub use acceptor::Acceptor;
 pub use clock::SystemClock;
-pub use connection::{AtDesk, Guest, Sitting, seated, serve_connection};
+pub use connection::{AtDesk, Guest, Sitting, SocketGuest, seated, serve_connection};
 pub use daemon::{listen, run_daemon};
 pub use entry::{Entry, serve_entry};
 pub use gate::OpenGate;
