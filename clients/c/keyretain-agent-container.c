@@ -30,6 +30,7 @@ enum { LISTENERS = 3, COPY = 4, KEPT = 5 }; /* descriptors of a server */
 struct container {
     char id[CONTAINER_ID_MAX + 1];
     pid_t server, first;
+    int process; /* the first one, as pidfd_open(2) opens it, or -1 */
     int in, out; /* what is sent to `in` comes out for the server */
 };
 
@@ -217,23 +218,44 @@ static void say(const struct container *container, const char *what) {
     fprintf(stderr, "keyretain-agent: container %s: %s\n", container->id, what);
 }
 
-static struct container *find(const char *id) {
+/* False too where its first process isn't known, or had ended before the agent heard of it. */
+static bool is_running(const struct container *container) {
+    struct pollfd end = { .fd = container->process, .events = POLLIN };
+    return container->process >= 0 && poll(&end, 1, 0) == 0;
+}
+
+/* The container of this id and this first process, or 0 where that isn't told. The server of one that has ended may
+ * still be there when another has its id, or its first process that one's number: so only one that runs is found. NULL
+ * too where there are two. */
+static struct container *find(const char *id, pid_t first) {
+    struct container *found = NULL;
+    for (struct container *at = all.containers; at < all.containers + all.settings.most; at++) {
+        if (strcmp(at->id, id) != 0 || (first > 0 && at->first != first) || !is_running(at)) continue;
+        if (found) return NULL;
+        found = at;
+    }
+    return found;
+}
+
+static struct container *free_place(void) {
     for (unsigned i = 0; i < all.settings.most; i++)
-        if (strcmp(all.containers[i].id, id) == 0) return &all.containers[i];
+        if (!*all.containers[i].id) return &all.containers[i];
     return NULL;
 }
 
 static struct container *begin(const char *id, pid_t first) {
-    struct container *container = find("");
+    struct container *container = free_place();
     int ends[2];
     if (!container || socketpair(AF_UNIX, SOCK_SEQPACKET | SOCK_CLOEXEC | SOCK_NONBLOCK, 0, ends) < 0) return NULL;
-    *container = (struct container){ .first = first, .in = ends[0], .out = ends[1] };
+    int process = first > 0 ? proc_open(first) : -1;
+    *container = (struct container){ .first = first, .process = process, .in = ends[0], .out = ends[1] };
     strcpy(container->id, id);
     return container;
 }
 
 static void forget(struct container *container) {
     remove_socket(container);
+    close_one(&container->process);
     close(container->in);
     close(container->out);
     *container = (struct container){ 0 };
@@ -262,7 +284,7 @@ static bool start_server(struct container *container) {
 }
 
 void containers_take(const char *id, int first, int listener) {
-    struct container *container = find(id);
+    struct container *container = find(id, first);
     if (!container) container = begin(id, first);
     bool is_sent = container && send_listener(container, listener);
     close(listener);

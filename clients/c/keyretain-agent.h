@@ -54,7 +54,7 @@ struct containers_settings {
 bool containers_begin(const struct containers_settings *settings);
 
 /* Gives a listener to the server of its container, which is started where there is none. It is closed here. `first` is
- * the container's first process, whose ids are served, or 0. */
+ * the container's first process, whose ids are served; or 0, for the one that runs under the id. */
 void containers_take(const char *id, int first, int listener);
 
 /* Looks which servers have ended. */

@@ -6,7 +6,7 @@
  *   describe RING         its type, uid, gid, mask and description
  *   join NAME             joins a session: `ok`
  *   unlink DESC RING      requests a key, and unlinks it
- *   put FILE, await FILE  makes a file; waits until it is there, for a minute at most
+ *   put FILE, await FILE  makes a file that has its process id; waits until it is there, for a minute at most
  *   chgrp GID, mode MASK  changes the group or the permissions of the key that was added last: `ok`
  *   read                  its payload
  *   to-parent             gives the session to the parent: `ok`
@@ -79,6 +79,12 @@ static void unlink_key(const char *description, const char *ring) {
     say(key < 0 ? key : call(KEYCTL_UNLINK, key, id_of(ring), 0));
 }
 
+static void put(const char *file) {
+    int made = open(file, O_CREAT | O_WRONLY, 0600);
+    dprintf(made, "%d\n", (int)getpid());
+    close(made);
+}
+
 static void await(const char *file) {
     for (int i = 0; i < STEPS && access(file, F_OK) < 0; i++) usleep(STEP_MICROSECONDS);
 }
@@ -108,7 +114,7 @@ int main(int count, char **words) {
         else if (IS("describe")) describe(*++at);
         else if (IS("join")) say(call(KEYCTL_JOIN_SESSION_KEYRING, (long)*++at, 0, 0));
         else if (IS("unlink") && end - at > 2) unlink_key(at[1], at[2]), at += 2;
-        else if (IS("put")) close(open(*++at, O_CREAT | O_WRONLY, 0600));
+        else if (IS("put")) put(*++at);
         else if (IS("await")) await(*++at);
         else if (IS("chgrp")) say(call(KEYCTL_CHOWN, added, -1, atoi(*++at)));
         else if (IS("mode")) say(call(KEYCTL_SETPERM, added, strtol(*++at, NULL, 16), 0));

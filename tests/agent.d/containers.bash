@@ -49,6 +49,13 @@ calls() {
   contain "$id" -- "$dir/calls" "$@"
 }
 
+# executes ID WORD ..: key calls of what is executed in the container whose first process is $first, as runc(8) tells it
+executes() {
+  local id=$1
+  shift
+  contain "$id" --pid "$first" -- "$dir/calls" "$@"
+}
+
 # says NAME LINES COMMAND ..: what a command prints, its lines side by side
 says() {
   local name=$1 wanted=$2
@@ -75,15 +82,17 @@ has_none() {
   esac
 }
 
-# with_container ID COMMAND ..: a command while a container of this id has a key `kept` in its session and user keyring
+# with_container ID COMMAND ..: a command while a container of this id has a key `kept` in its session and user keyring.
+# $first is its first process.
 with_container() {
-  local id=$1 container
+  local id=$1 container first
   rm -f "$dir/$id.go" "$dir/$id.ready"
   shift
   calls "$id" add kept "of-$id" @s add kept "of-$id" @u put "$dir/$id.ready" await "$dir/$id.go" print kept \
     >"$dir/$id.out" &
   container=$!
-  until_true [ -e "$dir/$id.ready" ]
+  until_true [ -s "$dir/$id.ready" ]
+  first=$(<"$dir/$id.ready")
   "$@"
   : >"$dir/$id.go"
   finish "$container"
@@ -140,7 +149,7 @@ try_two() {
   says 'another container has none of its keys' 'ENOKEY ok ok own ' \
     calls b print kept add kept own @u add kept own @s print kept
   with_container bc says 'nor has one whose id its own begins with' 'ENOKEY ' calls b print kept
-  with_container b says 'each has its own of one name' 'of-a ' calls a print kept
+  with_container b says 'each has its own of one name' 'of-a ' contain a --pid "$first" -- "$dir/calls" print kept
 }
 
 # As root of another container may be that has the host's uids and sees the host's processes.
@@ -158,10 +167,26 @@ try_apart() {
 }
 
 try_exec() {
-  says 'what is executed in a container has its session' 'of-a ' calls a print kept
+  says 'what is executed in a container has its session' 'of-a ' executes a print kept
   says 'and one of which no process id is told' 'of-a ' contain a --pid 0 -- "$dir/calls" print kept
-  says 'and what adds a key' 'ok more ' calls a add later more @s print later
-  says 'which stays when it has ended' 'more ' calls a print later
+  says 'and what adds a key' 'ok more ' executes a add later more @s print later
+  says 'which stays when it has ended' 'more ' executes a print later
+}
+
+# Two runtimes may have given one id each.
+try_same_id() {
+  local outer=$first
+  says 'another container of its id has none of its keys' 'ENOKEY ' calls a print kept
+  with_container a try_two_of_id
+}
+
+try_two_of_id() {
+  says 'what is executed in the other one adds a key' 'ok ' executes a add later w @s
+  says 'which it has' 'w ' executes a print later
+  says 'what is executed in the first one has none of that' 'ENOKEY of-a ' \
+    contain a --pid "$outer" -- "$dir/calls" print later print kept
+  says 'and what has no process id of either, no key' 'ENOKEY ENOKEY ' \
+    contain a --pid 0 -- "$dir/calls" print later print kept
 }
 
 # What one listener tells is waited for once, or what is executed would wait for the next call of the first process.
@@ -173,8 +198,9 @@ try_twice() {
   until_true grep -q 'container t: one more' "$dir/$variant.err"
   sleep 0.2 # the server may still have to take it
   touch "$dir/told"
-  until_true test -e "$dir/asked"
-  says 'a listener that is told twice' 'v ' timeout 20 "$dir/runtime" "$socket" t -- "$dir/calls" print k
+  until_true test -s "$dir/asked"
+  says 'a listener that is told twice' 'v ' \
+    timeout 20 "$dir/runtime" "$socket" t --pid "$(<"$dir/asked")" -- "$dir/calls" print k
   touch "$dir/end"
   finish "$first"
 }
@@ -183,10 +209,10 @@ try_twice() {
 try_held() {
   local holder
   rm -f "$dir/held" "$dir/freed"
-  contain a --held "$dir/held" "$dir/freed" -- "$dir/calls" print kept >"$dir/held.out" &
+  contain a --held "$dir/held" "$dir/freed" --pid "$first" -- "$dir/calls" print kept >"$dir/held.out" &
   holder=$!
   until_true [ -e "$dir/held" ]
-  says 'a container where a listener is held for which nobody is left' 'of-a ' calls a print kept
+  says 'a container where a listener is held for which nobody is left' 'of-a ' executes a print kept
   : >"$dir/freed"
   finish "$holder"
   says 'what had that listener' 'of-a ' cat "$dir/held.out"
@@ -201,11 +227,11 @@ try_limits() {
   says 'a third, where the second has ended' 'ok ' calls c add k v @s
 }
 
-# Containers of one id, one soon after the other: a listener may be on its way to a server that ends.
+# Containers of one id, one soon after the other: the server of the one before may still be there.
 try_again() {
   local i wrong=0
   for i in $(seq 60); do
-    [ "$(calls same add "k$i" v @s print "k$i" | tr '\n' ' ')" = 'ok v ' ] || wrong=$((wrong + 1))
+    [ "$(calls same print k add k v @s print k | tr '\n' ' ')" = 'ENOKEY ok v ' ] || wrong=$((wrong + 1))
   done
   is '60 containers of one id' 0 "$wrong"
 }
@@ -289,6 +315,7 @@ try_containers() {
   try_sending
   with_container a try_two
   with_container a try_exec
+  with_container a try_same_id
   with_container a try_apart
   try_twice
   with_container a try_held

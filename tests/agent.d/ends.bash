@@ -16,14 +16,18 @@ find_processes() {
   read -r keeper < <(children "$server")
 }
 
-# begin_container ID WORD ..: a container that has a key, waits, and then makes these calls
+options=() # of the runtime that begins it
+
+# begin_container ID WORD ..: a container that has a key, waits, and then makes these calls. $first is its first process
 begin_container() {
   local id=$1
   shift
   rm -f "$dir/go" "$dir/ready"
-  calls "$id" add kept v @s put "$dir/ready" await "$dir/go" "$@" >"$dir/container.out" &
+  contain "$id" "${options[@]}" -- "$dir/calls" add kept v @s put "$dir/ready" await "$dir/go" "$@" \
+    >"$dir/container.out" &
   container=$!
-  until_true [ -e "$dir/ready" ]
+  until_true [ -s "$dir/ready" ]
+  first=$(<"$dir/ready")
   find_processes
 }
 
@@ -87,16 +91,34 @@ try_agent_ended() {
 # ---- A listener that is on its way while the server ends
 
 try_stopped_server() {
+  local next before
   begin_container a
   kill -STOP "$server"
   until_true is_in_state "$server" T
+  before=$(count_more)
+  executes a await "$dir/go" print kept >"$dir/next.out" &
+  next=$!
+  until_true has_more "$before"
   end_container 'a container that ends while its server is stopped' ''
-  calls a add k v @s print k >"$dir/next.out" &
-  container=$!
-  until_true grep -q 'container a: one more' "$dir/$variant.err"
+  try_old_id
   kill -CONT "$server"
-  finish "$container"
-  says 'the next one, which has begun before it goes on' 'ok v ' cat "$dir/next.out"
+  finish "$next"
+  says 'what was executed in it, and is left behind' 'v ' cat "$dir/next.out"
+}
+
+count_more() { grep -c 'container a: one more' "$dir/$variant.err"; }
+
+has_more() { [ "$(count_more)" -gt "$1" ]; }
+
+# The server of a container that has ended is there: another one of its id isn't served by that.
+try_old_id() {
+  says 'another of its id, while its server is there' 'ENOKEY ok v ' calls a print kept add k v @s print k
+  says "one whose first process has that one's number" 'ENOKEY ' executes a print kept
+  says 'one of which no process id is told' 'ENOKEY ' contain a --pid 0 -- "$dir/calls" print kept
+  if unshare -U true 2>/dev/null; then
+    says 'one that has a user namespace' 'keyring;0;0;1f3f0000;_uid.0 ' \
+      contain a --uids own -- "$dir/calls" describe @u
+  fi
 }
 
 # What a server that goes no further isn't given any more, and the agent waits for nothing.
@@ -104,7 +126,7 @@ try_full_server() {
   begin_container a
   kill -STOP "$server"
   until_true is_in_state "$server" T
-  is 'more listeners than a stopped server can be given' '' "$(contain a --often 500 -- true)"
+  is 'more listeners than a stopped server can be given' '' "$(contain a --often 500 --pid "$first" -- true)"
   one_goes 'another container, beside a server that takes none'
   is 'the others are refused' 1 "$(grep -q 'container a: there are too many' "$dir/$variant.err" && echo 1)"
   kill -KILL "$server"
@@ -112,13 +134,15 @@ try_full_server() {
   end_container 'a container whose server takes none' ''
 }
 
-# The server has ended, and the agent takes the next listener before it learns of that.
+# The server has ended, and the agent takes the next listener before it learns of that. The first process that the
+# runtime tells lives on.
 try_ended_server() {
-  local next before
+  local next before options=(--pid "$$")
   rm -f "$dir/half" "$dir/rest"
   begin_container a
   before=$(count_descriptors)
-  contain a --halves "$dir/half" "$dir/rest" -- "$dir/calls" add k v @s print k >"$dir/next.out" &
+  contain a "${options[@]}" --halves "$dir/half" "$dir/rest" -- \
+    "$dir/calls" print kept add k v @s print k >"$dir/next.out" &
   next=$!
   until_true [ -e "$dir/half" ]
   until_true has_more_descriptors "$before" # it has taken the connection, where that can be seen
@@ -130,7 +154,7 @@ try_ended_server() {
   until_true [ ! -e "$dir/rest" ] # the other bytes are sent
   kill -CONT "$agent"
   finish "$next"
-  says 'the next one, of which the agent hears first' 'ok v ' cat "$dir/next.out"
+  says 'the next one, of which the agent hears first' 'ENOKEY ok v ' cat "$dir/next.out"
 }
 
 # ---- How it is started, and ended

@@ -1,6 +1,6 @@
 /* runtime.c SOCKET ID [OPTION ..] -- CMD ..: the least that a runtime of containers does. A child makes itself a
  * container and hands its listener to its parent, which gives it to the agent; then the child executes CMD.
- *   --pid N          the process that it tells; 0 for none
+ *   --pid N          the container's first process, as it tells; 0 for none. Without this it is the one that it starts
  *   --state TEXT     what it sends in place of a state
  *   --names TEXT     the list of descriptors that it sends
  *   --count N        how many descriptors it sends; the last is the listener
@@ -132,7 +132,7 @@ static int run_parent(const char *agent, const char *id, pid_t child, int socket
     if (uids && write(socket, "m", 1) != 1) return FAILED;
     int listener = receive_listener(socket);
     snprintf(text, sizeof text, "{\"ociVersion\":\"1.0.2\",\"fds\":%s,\"pid\":%d,\"metadata\":\"\",\"state\":"
-             "{\"id\":\"%s\",\"pid\":%d}}", names, pid < 0 ? (int)child : pid, id, (int)child);
+             "{\"id\":\"%s\",\"pid\":%d}}", names, (int)child, id, pid < 0 ? (int)child : pid);
     for (int i = 0; i < often; i++) {
         int connection = connect_to(agent);
         tell(connection, state ? state : text, listener);
